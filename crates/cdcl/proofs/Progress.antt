@@ -21,7 +21,8 @@ use Rattle.cdcl.proofs.SearchingLemmas.{IsOver-learn}
 abbrev pub remaining : ℕ → ℕ → ℕ → Trail → ℕ
 remaining V budget conflicts T = (budget - conflicts) * (V + 2) + (V + 1 - length T)
 
-IsDistinctFrom-lawful : (K : List Clause) (before T : Trail) → IsLawfulAfter K before T → IsDistinctFrom (literals before) (literals T)
+-- the literals of a lawful trail are of distinct variables
+pub IsDistinctFrom-lawful : (K : List Clause) (before T : Trail) → IsLawfulAfter K before T → IsDistinctFrom (literals before) (literals T)
 IsDistinctFrom-lawful K before [] h = tt
 IsDistinctFrom-lawful K before (e ∷ T) h =
     (h.0.is_new, subst (λ P. IsDistinctFrom P (literals T)) (map-append (λ (d : Entry). d.lit) before (e ∷ [])) (IsDistinctFrom-lawful K (before ++ e ∷ []) T h.1))

@@ -1,6 +1,6 @@
 -- A step of a search, as the definition of a search has it.
-use Rattle.std.proofs.Common.{◌≡◌, ℕ, ◌<◌, ◌≤◌, ◌*◌, false, List, All, ap, ◌+◌, ◌-◌, length, Some, None, sym, subst, refl, arith}
-use Rattle.theory.specs.Literals.{Literal}
+use Rattle.std.proofs.Common.{◌≡◌, ℕ, ◌<◌, ◌≤◌, ◌*◌, false, List, [], All, ap, ◌+◌, ◌-◌, length, Some, None, sym, subst, refl, arith}
+use Rattle.theory.specs.Literals.{Literal, IsDistinctFrom}
 use Rattle.theory.specs.Truth.{Formula, IsOver}
 use Rattle.theory.specs.Trails.{literals, cube_trail}
 use Rattle.theory.specs.Reading.{max_vars}
@@ -13,12 +13,15 @@ use Rattle.theory.proofs.OverVariables.{AreOver, AreOver-from_IsOver, IsOver-fro
 use Rattle.theory.proofs.RefutedCubes.{AreOver-Closes}
 use Rattle.theory.proofs.LawfulTrails.{IsLawful-Closes}
 use Rattle.theory.proofs.OpenTrails.{IsOpenBelow-cube_trail, kept-step}
+use Rattle.theory.specs.Results.{OutcomeSays}
+use Rattle.theory.proofs.OutcomeLemmas.{Runs-says}
+use Rattle.kernel.proofs.Cubes.{literals-cube_trail}
 use Rattle.kernel.specs.State.{State}
 use Rattle.cdcl.specs.Outcome.{outcome_of}
 use Rattle.cdcl.specs.Searching.{IsSearching, IsStep, search_of}
 use Rattle.cdcl.specs.declared.outcome.Outcome.{Outcome}
 use Rattle.cdcl.specs.declared.solve.Search.{Search}
-use Rattle.cdcl.proofs.Progress.{Progresses, after-Progresses, length-Closes, remaining}
+use Rattle.cdcl.proofs.Progress.{Progresses, after-Progresses, length-Closes, remaining, IsDistinctFrom-lawful}
 
 -- a step that ends
 pub IsStep-ends : (V budget : ℕ) (s t : Search) (o : Outcome) → s.kernel.vars ≡ V → IsStep budget s (Some o) t → RunsFrom V budget (search_of s) (outcome_of o)
@@ -73,3 +76,10 @@ IsSearching-begin F Q k opened lawful few = record {
 
 pub begin-leads : (F : Formula) (B : ℕ) (Q : List Literal) (s : definition.Search) (o : definition.Outcome) → s ≡ definition.begin F Q → RunsFrom F.vars B s o → definition.Runs F B Q o
 begin-leads F B Q s o same h = subst (λ (t : definition.Search). RunsFrom F.vars B t o) same h
+
+-- what the outcome says, as the search was begun from a kernel of the formula and the cube
+pub begun-says : (F : Formula) (B : ℕ) (Q : List Literal) (k : State) (o : definition.Outcome) → k ≡ record { vars = F.vars; clauses = first_clauses F; trail = cube_trail Q; short = false }
+    → IsLawful k.clauses k.trail × IsOver k.vars (literals k.trail) × All (IsOver k.vars) k.clauses → IsOver F.vars Q → definition.Runs F B Q o → OutcomeSays F Q o
+begun-says F B Q k o opened lawful over runs =
+    let all = rw opened at lawful in
+    Runs-says F B Q o all.2 (subst (IsDistinctFrom []) (literals-cube_trail Q) (IsDistinctFrom-lawful (first_clauses F) [] (cube_trail Q) all.0)) over runs

@@ -7,6 +7,7 @@ ghost use Rattle.theory.specs.Lawful.{IsLawful};
 ghost use Rattle.theory.specs.Learning.{learn};
 ghost use Rattle.theory.specs.Search.{Runs, values, after, learnt_next, refuted};
 ghost use Rattle.theory.specs.Search as definition;
+ghost use Rattle.theory.specs.Results.{OutcomeSays};
 ghost use Rattle.cdcl.specs.Outcome.{outcome_of};
 ghost use Rattle.cdcl.specs.Searching.{IsSearching, IsStep, search_of, next_of};
 
@@ -136,7 +137,8 @@ fn step(alloc: Global, search: &mut Search, budget: u32) -> Result<Option<Outcom
 pub fn solve_cube(alloc: Global, formula: &Formula, cube: &Cube, budget: u32) -> Result<Outcome, AllocError>
     requires budget { (1 ≤ budget) × (budget ≤ 100000) }
     requires over { IsOver formula.now.vars cube.now }
-    ensures { IfOk result (λ o. Runs formula.now budget cube.now (outcome_of o)) }
+    ensures runs { IfOk result (λ o. Runs formula.now budget cube.now (outcome_of o)) }
+    ensures says { IfOk result (λ o. OutcomeSays formula.now cube.now (outcome_of o)) }
 {
     let mut search = Search {
         kernel: Kernel::open(alloc, formula, cube)?,
