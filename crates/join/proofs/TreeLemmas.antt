@@ -1,0 +1,91 @@
+-- The numbers and variables in a tree that is a formula's.
+use Rattle.std.proofs.Common.{◌≡◌, ℕ, ◌+◌, ◌<◌, ◌≤◌, Bool, true, false, List, [], ◌∷◌, ◌++◌, map, length, length-append, Option, Some, None, refl, ap, sym, subst, ◌∙◌, cond, nat_eq, nat_le, eqb-true, arith, All}
+use Rattle.std.proofs.lemmas.List.Elements.{All-nil, All-cons, All-weaker}
+use Rattle.theory.specs.Literals.{Literal, Clause, IsCube, IsVariable, has_var, positive, negative, negations}
+use Rattle.theory.specs.Truth.{Formula, IsOver}
+use Rattle.theory.specs.Reading.{IsWithinLimits, max_vars}
+use Rattle.theory.specs.Learning.{Line}
+use Rattle.theory.specs.Search.{Runs, refuted, exhausted, first_clauses}
+use Rattle.theory.specs.Trees.{Tree, satisfied, refutation, split, IsTree, Node, nodes_of, false_half, true_half}
+use Rattle.theory.specs.Checking.{Numbered, clause_of, Hint, missing, false_clause, not_unit, unit_in, hint, Taken, conflicts, holds, fails, end_at_conflict, no_such_clause, hint_not_unit, take_hints}
+use Rattle.theory.specs.Replaying.{carrying_from, IsReplayed, AreReplayed, AreRefutation}
+use Rattle.theory.proofs.OverVariables.{AreOver, AreOver-from_IsOver, IsOver-from_AreOver, AreOver-snoc, IsOver-left}
+use Rattle.theory.proofs.OutcomeLemmas.{Runs-says}
+use Rattle.theory.proofs.TrailEntries.{are_distinct-push, IsCube-distinct}
+use Rattle.theory.specs.Lawful.{are_distinct}
+use Rattle.join.specs.Numbered.{AreUpTo, AreLines, AreNodes}
+
+-- a number that is there is one of those given away
+clause_of-numbered : (m N : ℕ) (Q : List Literal) (K : List Clause) (n : ℕ) (c : Clause) → clause_of (carrying_from m N Q K) n ≡ Some c → (m ≤ n) × (n < m + length K)
+clause_of-numbered m N Q [] n c h = absurd (cc)
+clause_of-numbered m N Q (d ∷ K) n c h = go (nat_eq m n) refl h (clause_of-numbered (m + 1) N Q K n c)
+  where
+    go : (b : Bool) → nat_eq m n ≡ b → cond b (Some (cond (nat_le m N) d (d ++ negations Q))) (clause_of (carrying_from (m + 1) N Q K) n) ≡ Some c → (clause_of (carrying_from (m + 1) N Q K) n ≡ Some c → (m + 1 ≤ n) × (n < m + 1 + length K))
+        → (m ≤ n) × (n < m + length (d ∷ K))
+    go true e k more = let same = eqb-true m n e in (omega arith, omega arith)
+    go false e k more = let low = (more k).0 in let high = (more k).1 in (omega arith, omega arith)
+
+-- hints that come to a conflict are numbers that are there
+hints-numbered : (N : ℕ) (Q : List Literal) (K : List Clause) (P : List Literal) (ns : List ℕ) → take_hints (carrying_from 1 N Q K) P ns ≡ conflicts → AreUpTo (length K) ns
+hints-numbered N Q K P [] h = All-nil (λ n. (1 ≤ n) × (n ≤ length K))
+hints-numbered N Q K P (n ∷ ns) h = go (clause_of (carrying_from 1 N Q K) n) refl h (λ R. hints-numbered N Q K R ns)
+  where
+    here : (c : Clause) → clause_of (carrying_from 1 N Q K) n ≡ Some c → AreUpTo (length K) ns → AreUpTo (length K) (n ∷ ns)
+    here c e rest =
+        let at = clause_of-numbered 1 N Q K n c e in
+        let low = at.0 in
+        let high = at.1 in
+        All-cons (λ m. (1 ≤ m) × (m ≤ length K)) n ns (low, omega arith) rest
+
+    after : (c : Clause) (t : Hint) → clause_of (carrying_from 1 N Q K) n ≡ Some c
+        → elim t [ missing ↦ fails no_such_clause | false_clause ↦ end_at_conflict ns | not_unit ↦ fails hint_not_unit | unit_in l ↦ take_hints (carrying_from 1 N Q K) (l ∷ P) ns ] ≡ conflicts
+        → ((R : List Literal) → take_hints (carrying_from 1 N Q K) R ns ≡ conflicts → AreUpTo (length K) ns) → AreUpTo (length K) (n ∷ ns)
+    after c missing e k more = absurd (cc)
+    after c false_clause e k more = last ns k e
+      where
+        last : (ms : List ℕ) → end_at_conflict ms ≡ conflicts → clause_of (carrying_from 1 N Q K) n ≡ Some c → AreUpTo (length K) (n ∷ ms)
+        last [] q e = let at = clause_of-numbered 1 N Q K n c e in let low = at.0 in let high = at.1 in All-cons (λ m. (1 ≤ m) × (m ≤ length K)) n [] (low, omega arith) (All-nil (λ m. (1 ≤ m) × (m ≤ length K)))
+        last (m ∷ ms) q e = absurd (cc)
+    after c not_unit e k more = absurd (cc)
+    after c (unit_in l) e k more = here c e (more (l ∷ P) k)
+
+    go : (o : Option Clause) → clause_of (carrying_from 1 N Q K) n ≡ o
+        → elim (hint P o) [ missing ↦ fails no_such_clause | false_clause ↦ end_at_conflict ns | not_unit ↦ fails hint_not_unit | unit_in l ↦ take_hints (carrying_from 1 N Q K) (l ∷ P) ns ] ≡ conflicts
+        → ((R : List Literal) → take_hints (carrying_from 1 N Q K) R ns ≡ conflicts → AreUpTo (length K) ns) → AreUpTo (length K) (n ∷ ns)
+    go None e k more = absurd (cc)
+    go (Some c) e k more = after c (hint P (Some c)) e k more
+
+replayed-lines : (V N n : ℕ) (Q : List Literal) (K : List Clause) (lines : List Line) → V ≤ max_vars → length K ≡ n → AreReplayed V N Q K lines → AreLines n lines
+replayed-lines V N n Q K [] few count h = tt
+replayed-lines V N n Q K (line ∷ lines) few count h =
+    let longer : length (K ++ line.clause ∷ []) ≡ n + 1 = length-append K (line.clause ∷ []) ∙ ap (λ m. m + 1) count in
+    (
+      All-weaker (λ (l : Literal). IsVariable V l.var) (λ l. IsVariable max_vars l.var) (λ l v. let low = v.0 in let high = v.1 in (low, omega arith)) line.clause
+          (IsOver-left V line.clause (negations Q) h.0.over),
+      subst (λ m. AreUpTo m line.hints) count (hints-numbered N Q K (negations (line.clause ++ negations Q)) line.hints h.0.passes),
+      replayed-lines V N (n + 1) Q (K ++ line.clause ∷ []) lines few longer h.1
+    )
+
+refutation-lines : (F : Formula) (Q : List Literal) (lines : List Line) → IsWithinLimits F → AreRefutation F.vars (length (first_clauses F)) Q (first_clauses F) lines
+    → (0 < length lines) × AreLines (length (first_clauses F)) lines
+refutation-lines F Q lines within h =
+    let long = ap length h.ends ∙ length-append h.before (h.last ∷ []) in
+    (omega arith, replayed-lines F.vars (length (first_clauses F)) (length (first_clauses F)) Q (first_clauses F) lines within.vars refl h.replayed)
+
+nodes-append : (N : ℕ) (ns ms : List Node) → AreNodes N ns → AreNodes N ms → AreNodes N (ns ++ ms)
+nodes-append N [] ms h k = k
+nodes-append N (n ∷ ns) ms h k = (h.0, nodes-append N ns ms h.1 k)
+
+-- the nodes of a cube's tree
+pub tree-nodes : (F : Formula) (B : ℕ) (Q : List Literal) (t : Tree) → IsWithinLimits F → are_distinct Q ≡ true → AreOver F.vars Q → IsTree F B Q t → AreNodes (length (first_clauses F)) (nodes_of t)
+tree-nodes F B Q (satisfied M) within distinct over h = tt
+tree-nodes F B Q (refutation lines) within distinct over h =
+    (refutation-lines F Q lines within (Runs-says F B Q (refuted lines) within.formula (IsCube-distinct Q distinct) (IsOver-from_AreOver F.vars Q over) h).1, tt)
+tree-nodes F B Q (split x l r) within distinct over h =
+    let says = Runs-says F B Q (exhausted x) within.formula (IsCube-distinct Q distinct) (IsOver-from_AreOver F.vars Q over) h.0 in
+    let low = says.0.0 in
+    let high = says.0.1 in
+    let few = within.vars in
+    ((low, omega arith), nodes-append (length (first_clauses F)) (nodes_of l) (nodes_of r)
+        (tree-nodes F B (false_half Q x) l within (are_distinct-push Q (negative x) distinct says.1) (AreOver-snoc F.vars Q (negative x) over says.0) h.1)
+        (tree-nodes F B (true_half Q x) r within (are_distinct-push Q (positive x) distinct says.1) (AreOver-snoc F.vars Q (positive x) over says.0) h.2))

@@ -1,0 +1,53 @@
+-- The numbers and variables in a tree and in its lines are within their limits.
+use Rattle.std.specs.Prelude.{◌≡◌, ℕ, ◌+◌, ◌<◌, ◌≤◌, ◌^◌, List, [], ◌∷◌, map, length, Option, Some, None, All}
+use Rattle.theory.specs.Literals.{IsVariable}
+use Rattle.theory.specs.Truth.{Formula, IsOver}
+use Rattle.theory.specs.Reading.{max_vars, max_clauses}
+use Rattle.theory.specs.Learning.{Line}
+use Rattle.theory.specs.Trees as trees
+use Rattle.theory.specs.Steps.{Step}
+use Rattle.theory.specs.Proofs.{proof}
+use Rattle.cubes.specs.Result.{node_of}
+use Rattle.cubes.specs.declared.tree.Tree.{Tree}
+use Rattle.cubes.specs.declared.tree.Tree.TheVariants.{Model, Refuted}
+use Rattle.join.specs.declared.joiner.Half.{Half}
+use Rattle.join.specs.declared.joiner.Joiner.{Joiner}
+
+-- each hint is a number from 1 to n
+abbrev pub AreUpTo : ℕ → List ℕ → Type 0
+AreUpTo n hints = All (λ h. (1 ≤ h) × (h ≤ n)) hints
+
+-- a cube's lines, of which the first has number n + 1, name clauses before them
+abbrev pub AreLines : ℕ → List Line → Type 0
+AreLines n [] = Unit {0}
+AreLines n (line ∷ lines) = IsOver max_vars line.clause × AreUpTo n line.hints × AreLines (n + 1) lines
+
+-- a node, where a search begins with N clauses
+abbrev pub IsNode : ℕ → trees.Node → Type 0
+IsNode N (trees.split_on x) = IsVariable max_vars x
+IsNode N (trees.refuted_leaf lines) = (0 < length lines) × AreLines N lines
+
+abbrev pub AreNodes : ℕ → List trees.Node → Type 0
+AreNodes N [] = Unit {0}
+AreNodes N (n ∷ ns) = IsNode N n × AreNodes N ns
+
+-- the left half's last line, where it is known, stands before number n
+abbrev pub IsBefore : ℕ → Option ℕ → Type 0
+IsBefore n None = Unit {0}
+IsBefore n (Some left) = (1 ≤ left) × (left < n)
+
+pub record IsHalf (n : ℕ) (h : Half) : Type 0 where
+  pub variable : IsVariable max_vars h.var
+  pub left : IsBefore n h.left
+
+-- what a joiner keeps
+pub record IsJoiner (j : Joiner) : Type 0 where
+  pub clauses : j.clauses ≤ max_clauses
+  pub begun : j.clauses < j.next
+  pub fits : j.next ≤ 2 ^ 63
+  pub halves : All (IsHalf j.next) j.halves.items
+
+-- the steps for a result: none for a model, and else the proof of the tree whose nodes they are
+abbrev pub AreStepsOf : Formula → Tree → List Step → Type 0
+AreStepsOf F (Model values) steps = steps ≡ []
+AreStepsOf F (Refuted nodes) steps = (t : trees.Tree) → trees.first_model t ≡ None → trees.nodes_of t ≡ map node_of nodes.items → steps ≡ proof F t

@@ -1,0 +1,84 @@
+//! The text of an answer: the status line, and the value lines of a satisfiable formula.
+ghost use Rattle.std.specs.Prelude.{◌≡◌, ◌≤◌, ◌+◌, ◌<◌, ◌^◌, ◌++◌, ◌∷◌, [], length, IfOk, OnOk, Some};
+ghost use Rattle.std.specs.Option.{option_map, ForSome};
+ghost use Rattle.theory.specs.Texts.{lf, answer_text, clause_words, assigned_literals};
+ghost use Rattle.join.specs.Lines.{piece, pieces, width_behind};
+
+use cnf::Formula;
+use itoa::Buffer;
+use std::alloc::{AllocError, Global};
+
+/// The most bytes that a value line has before its LF.
+const WIDTH: usize = 78;
+
+/// A text that ends inside a value line, of which `width` bytes are there.
+#[derive(Drop)]
+struct ValueLines {
+    text: Vec<u8>,
+    width: usize,
+}
+
+impl ValueLines {
+    /// Puts a number behind the line, or on the next one where it doesn't fit.
+    fn put(&mut self, sign: &[u8], digits: &[u8]) -> Result<(), AllocError>
+        requires { (self.old.width ≤ 78) × (length sign.now + length digits.now ≤ 60) }
+        ensures text { OnOk result (self.new.text.items ≡ self.old.text.items ++ piece self.old.width (sign.now ++ digits.now)) }
+        ensures width { OnOk result (self.new.width ≡ width_behind self.old.width (sign.now ++ digits.now)) }
+    {
+        let word = 1 + sign.len() + digits.len();
+        if self.width + word > WIDTH {
+            self.text.extend_from_slice(b"\nv")?;
+            self.width = 1;
+        }
+        self.text.push(b' ')?;
+        self.text.extend_from_slice(sign)?;
+        self.text.extend_from_slice(digits)?;
+        self.width += word;
+        Ok(())
+    }
+
+    /// Puts the literals of the variables 1, 2 and so on.
+    fn put_values(&mut self, values: &[bool]) -> Result<(), AllocError>
+        requires { (self.old.width ≤ 78) × (length values.now < 2 ^ 32) }
+        ensures text { OnOk result (self.new.text.items ++ pieces self.new.width (clause_words [])
+            ≡ self.old.text.items ++ pieces self.old.width (clause_words (assigned_literals 1 values.now))) }
+        ensures width { OnOk result (self.new.width ≤ 78) }
+    {
+        let mut buffer = Buffer::new();
+        for (index, value) in values.iter().enumerate() {
+            let sign: &[u8] = if *value { b"" } else { b"-" };
+            self.put(sign, buffer.format(index + 1).as_bytes())?;
+        }
+        Ok(())
+    }
+}
+
+/// The answer of a satisfiable formula.
+fn satisfiable(alloc: Global, values: &[bool]) -> Result<Vec<u8>, AllocError>
+    requires { length values.now < 2 ^ 32 }
+    ensures { IfOk result (λ v. v.items ≡ answer_text (Some values.now)) }
+{
+    let mut lines = ValueLines {
+        text: Vec::from_slice(alloc, b"s SATISFIABLE\nv")?,
+        width: 1,
+    };
+    lines.put_values(values)?;
+    lines.put(b"", b"0")?;
+    lines.text.push(b'\n')?;
+    Ok(lines.text)
+}
+
+/// The text of the answer: `s SATISFIABLE` and the truth values of the variables 1, 2 and so on, in lines of at most 78 bytes, or
+/// `s UNSATISFIABLE`. It fails only where a request for memory is refused.
+pub fn answer_bytes(alloc: Global, formula: &Formula, values: Option<&[bool]>) -> Result<Vec<u8>, AllocError>
+    requires { ForSome values (λ v. length v.now ≡ formula.now.vars) }
+    ensures { IfOk result (λ v. v.items ≡ answer_text (option_map (λ v. v.now) values.entry)) }
+{
+    match values {
+        None => Vec::from_slice(alloc, b"s UNSATISFIABLE\n"),
+        Some(values) => {
+            let _vars = formula.vars();
+            satisfiable(alloc, values)
+        }
+    }
+}
