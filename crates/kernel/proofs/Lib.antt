@@ -1,0 +1,7 @@
+pub mod Cubes
+pub mod Falling
+pub mod LeastFree
+pub mod Levels
+pub mod Numbering
+pub mod Ordered
+pub mod Room

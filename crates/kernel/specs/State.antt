@@ -1,0 +1,11 @@
+-- What a kernel is seen as.
+use Rattle.std.specs.Prelude.{ℕ, Bool, List}
+use Rattle.theory.specs.Literals.{Clause}
+use Rattle.theory.specs.Trails.{Trail}
+
+-- the number of variables, the clauses in the order of their numbers, the trail, and whether the kernel has met want of memory
+pub record State : Type 0 where
+  pub vars : ℕ
+  pub clauses : List Clause
+  pub trail : Trail
+  pub short : Bool

@@ -1,0 +1,215 @@
+//! The kernel: the clauses and the trail of one cube's search.
+ghost use Rattle.std.specs.Prelude.{◌≡◌, ◌≢◌, ℕ, ◌+◌, ◌-◌, ◌<◌, ◌≤◌, true, false, None, List, [], ◌∷◌, ◌++◌, length, map, All, IfOk, OnOk, OnErr, IsErr, if◌then◌else◌};
+ghost use Rattle.std.specs.Option.{option_map};
+ghost use Rattle.theory.specs.Literals.{IsVariable, IsCube, has_var};
+ghost use Rattle.theory.specs.Truth.{IsOver};
+ghost use Rattle.theory.specs.Trails.{literals, current_level, entry_of, cube_trail, up_to, least_free};
+ghost use Rattle.theory.specs.Propagation.{clause_at, Closes, quiet};
+ghost use Rattle.theory.specs.Lawful.{IsLawful};
+ghost use Rattle.theory.specs.Learnable.{IsLearnable};
+ghost use Rattle.theory.specs.Search.{first_clauses};
+ghost use Rattle.kernel.specs.Answer.{closed_of};
+
+use crate::clauses::Clauses;
+use crate::closed::Closed;
+use crate::cube::Cube;
+use crate::entry::Entry;
+use crate::scan;
+use crate::trail::Trail;
+use cnf::{Formula, Lit};
+use std::alloc::{AllocError, Global};
+use std::marker::Model;
+
+/// The clauses and the trail of the search in one cube. Once a call has met want of memory, `close` and `learn` answer it from then
+/// on, `decide` and `back_to` change nothing, and the other calls answer of the trail as it stands.
+#[derive(Drop)]
+pub struct Kernel {
+    clauses: Clauses,
+    trail: Trail,
+    // whether a call has met want of memory
+    short: bool,
+}
+
+impl Model for Kernel {
+    ghost use Rattle.std.specs.Prelude.{All};
+    ghost use Rattle.theory.specs.Truth.{IsOver};
+    ghost use Rattle.theory.specs.Trails.{literals};
+    ghost use Rattle.theory.specs.Lawful.{IsLawful};
+    ghost use Rattle.kernel.specs.State.{State};
+
+    ghost Value = { State };
+
+    ghost view = { λ a. record { vars = a.trail.vars; clauses = a.clauses; trail = a.trail.entries; short = a.short } };
+
+    ghost invariant = { λ a. IsLawful a.clauses a.trail.entries × All (IsOver a.trail.vars) a.clauses };
+}
+
+/// The clauses of a formula.
+fn clauses_of(alloc: Global, formula: &Formula) -> Result<Clauses, AllocError>
+    ensures { IfOk result (λ c. c ≡ first_clauses formula.now) }
+{
+    let mut clauses = Clauses::new(alloc);
+    for clause in formula.clauses() {
+        clauses.push(clause)?;
+    }
+    Ok(clauses)
+}
+
+/// The trail of a cube's literals.
+fn trail_of(alloc: Global, vars: u32, lits: &[Lit]) -> Result<Trail, AllocError>
+    requires cube { IsCube lits.now }
+    requires over { IsOver vars lits.now }
+    ensures { IfOk result (λ t. t ≡ record { vars = vars; entries = cube_trail lits.now }) }
+{
+    let mut trail = Trail::with_room(alloc, vars)?;
+    for lit in lits {
+        trail.push(Entry {
+            lit: *lit,
+            reason: None,
+            level: 0,
+        });
+    }
+    Ok(trail)
+}
+
+impl Kernel {
+    /// The kernel of a formula and a cube: the formula's clauses, and the cube's literals on the trail at level 0. It takes time by the
+    /// literals, and memory for them and for one entry of each variable; it fails where that is refused.
+    pub fn open(alloc: Global, formula: &Formula, cube: &Cube) -> Result<Kernel, AllocError>
+        requires { IsOver formula.now.vars cube.now }
+        ensures { IfOk result (λ k. k ≡ record { vars = formula.now.vars; clauses = first_clauses formula.now; trail = cube_trail cube.now; short = false }) }
+    {
+        let clauses = clauses_of(alloc, formula)?;
+        let trail = trail_of(alloc, formula.vars(), cube.lits())?;
+        Ok(Kernel {
+            clauses,
+            trail,
+            short: false,
+        })
+    }
+
+    /// Propagation: while no clause is false, the unit clause of least number puts its literal on the trail, with that number as
+    /// reason, at the current level. The answer is the false clause of least number, or `Quiet` where none is false or unit. It
+    /// fails only where an earlier call has met want of memory.
+    pub fn close(&mut self) -> Result<Closed, AllocError>
+        ensures ok { IfOk result (λ a. Closes self.old.clauses self.old.trail (closed_of a) self.new.trail) }
+        ensures kept { (self.new.vars ≡ self.old.vars) × (self.new.clauses ≡ self.old.clauses) }
+        ensures short { OnOk result (self.new.short ≡ false) }
+        ensures refused { OnErr result (self.new.short ≡ true) }
+        ensures stays { self.old.short ≡ true → IsErr result }
+        ensures unchanged { self.old.short ≡ true → self.new.trail ≡ self.old.trail }
+        ensures was { OnOk result (self.old.short ≡ false) }
+    {
+        if self.short {
+            return Err(AllocError);
+        }
+        Ok(scan::close(&self.clauses, &mut self.trail))
+    }
+
+    /// Makes a free literal true at the next level, without a reason, after propagation came to rest. It takes no memory.
+    pub fn decide(&mut self, lit: Lit)
+        requires { self.old.short ≡ false →
+            IsVariable self.old.vars lit.var × (has_var (literals self.old.trail) lit.var ≡ false) × Closes self.old.clauses self.old.trail quiet self.old.trail }
+        ensures { self.new ≡ (if self.old.short then self.old else record self.old { trail = self.old.trail ++ record { lit = lit; reason = None; level = current_level self.old.trail + 1 } ∷ [] }) }
+    {
+        if self.short {
+            return;
+        }
+        let level = self.trail.level() + 1;
+        self.trail.push(Entry {
+            lit,
+            reason: None,
+            level,
+        });
+    }
+
+    /// Takes the entries above a level off, which is below the current one. It takes no memory, and time by the entries taken off.
+    pub fn back_to(&mut self, level: u32)
+        requires { self.old.short ≡ false → level < current_level self.old.trail }
+        ensures { self.new ≡ (if self.old.short then self.old else record self.old { trail = up_to self.old.trail level }) }
+    {
+        if !self.short {
+            self.trail.back_to(level);
+        }
+    }
+
+    /// Puts a clause behind the others, and answers its number. Its variables are distinct and of the formula; one of its literals is
+    /// free and the others are false, one of these at the current level unless that is 0. It fails where a request for memory is
+    /// refused, and from then on; the clauses and the trail are then as they were.
+    pub fn learn(&mut self, clause: &[Lit]) -> Result<u64, AllocError>
+        requires { self.old.short ≡ false → IsOver self.old.vars clause.now × IsLearnable self.old.trail clause.now }
+        ensures ok { IfOk result (λ n. n ≡ length self.old.clauses + 1) }
+        ensures learnt { OnOk result (self.new ≡ record self.old { clauses = self.old.clauses ++ clause.now ∷ [] }) }
+        ensures refused { OnErr result (self.new ≡ record self.old { short = true }) }
+        ensures stays { self.old.short ≡ true → IsErr result }
+        ensures was { OnOk result (self.old.short ≡ false) }
+    {
+        if self.short {
+            return Err(AllocError);
+        }
+        match self.clauses.push(clause) {
+            Ok(()) => Ok(self.clauses.len() as u64),
+            Err(error) => {
+                self.short = true;
+                Err(error)
+            }
+        }
+    }
+
+    /// The truth value of a variable: none while it is free, and none for a number that is no variable.
+    pub fn value(&self, var: u32) -> Option<bool>
+        ensures { result ≡ option_map (λ e. e.lit.positive) (entry_of self.now.trail var) }
+    {
+        match self.trail.entry(var) {
+            Some(entry) => Some(entry.lit.positive()),
+            None => None,
+        }
+    }
+
+    /// The entry of a variable: none while it is free, and none for a number that is no variable.
+    pub fn entry(&self, var: u32) -> Option<Entry>
+        ensures { result ≡ entry_of self.now.trail var }
+    {
+        self.trail.entry(var)
+    }
+
+    /// The least free variable.
+    pub fn least_free(&self) -> Option<u32>
+        ensures { result ≡ least_free self.now.vars self.now.trail }
+    {
+        self.trail.least_free()
+    }
+
+    /// The current level: that of the last entry, or 0.
+    pub fn level(&self) -> u32
+        ensures { result ≡ current_level self.now.trail }
+    {
+        self.trail.level()
+    }
+
+    /// The number of variables: they are 1 up to it.
+    pub fn vars(&self) -> u32
+        ensures { result ≡ self.now.vars }
+    {
+        self.trail.vars()
+    }
+
+    /// The entries, in the order in which they came.
+    pub fn trail(&self) -> &[Entry]
+        ensures trail { result.now ≡ self.now.trail }
+        ensures lawful { IsLawful self.now.clauses self.now.trail }
+        ensures over { IsOver self.now.vars (literals self.now.trail) }
+        ensures clauses_over { All (IsOver self.now.vars) self.now.clauses }
+    {
+        let _ = &self.clauses;
+        self.trail.entries()
+    }
+
+    /// The literals of the clause of a number, which is one from 1 up to the number of clauses.
+    pub fn clause(&self, number: u64) -> &[Lit]
+        requires { (1 ≤ number) × (number ≤ length self.now.clauses) }
+        ensures { result.now ≡ clause_at self.now.clauses number }
+    {
+        self.clauses.get(number as usize - 1)
+    }
+}
