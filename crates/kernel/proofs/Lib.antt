@@ -4,4 +4,5 @@ pub mod LeastFree
 pub mod Levels
 pub mod Numbering
 pub mod Ordered
+pub mod Pieces
 pub mod Room

@@ -44,17 +44,6 @@ impl Model for Kernel {
     ghost invariant = { λ a. IsLawful a.clauses a.trail.entries × All (IsOver a.trail.vars) a.clauses };
 }
 
-/// The clauses of a formula.
-fn clauses_of(alloc: Global, formula: &Formula) -> Result<Clauses, AllocError>
-    ensures { IfOk result (λ c. c ≡ first_clauses formula.now) }
-{
-    let mut clauses = Clauses::new(alloc);
-    for clause in formula.clauses() {
-        clauses.push(clause)?;
-    }
-    Ok(clauses)
-}
-
 /// The trail of a cube's literals.
 fn trail_of(alloc: Global, vars: u32, lits: &[Lit]) -> Result<Trail, AllocError>
     requires cube { IsCube lits.now }
@@ -79,7 +68,7 @@ impl Kernel {
         requires { IsOver formula.now.vars cube.now }
         ensures { IfOk result (λ k. k ≡ record { vars = formula.now.vars; clauses = first_clauses formula.now; trail = cube_trail cube.now; short = false }) }
     {
-        let clauses = clauses_of(alloc, formula)?;
+        let clauses = Clauses::copied(alloc, formula.clauses())?;
         let trail = trail_of(alloc, formula.vars(), cube.lits())?;
         Ok(Kernel {
             clauses,
