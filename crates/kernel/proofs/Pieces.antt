@@ -21,7 +21,7 @@ pub AreEnds-push : (from : ℕ) (ends : List ℕ) (n m : ℕ) → AreEnds from e
 AreEnds-push from [] n m h more = (omega arith, refl)
 AreEnds-push from (end ∷ ends) n m h more = (h.0, AreEnds-push end ends n m h.1 more)
 
-take-whole : {X : Type 0} (n : ℕ) (xs : List X) → length xs ≡ n → take n xs ≡ xs
+pub take-whole : {X : Type 0} (n : ℕ) (xs : List X) → length xs ≡ n → take n xs ≡ xs
 take-whole zero [] h = refl
 take-whole zero (x ∷ xs) h = absurd (omega arith)
 take-whole (suc n) [] h = refl

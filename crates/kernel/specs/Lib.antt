@@ -2,4 +2,6 @@
 pub mod Answer
 pub mod Held
 pub mod Pieces
+pub mod Scan
 pub mod State
+pub mod Tables

@@ -1,5 +1,5 @@
 //! The kernel: the clauses and the trail of one cube's search.
-ghost use Rattle.std.specs.Prelude.{◌≡◌, ◌≢◌, ℕ, ◌+◌, ◌-◌, ◌<◌, ◌≤◌, true, false, None, List, [], ◌∷◌, ◌++◌, length, map, All, IfOk, OnOk, OnErr, IsErr, if◌then◌else◌};
+ghost use Rattle.std.specs.Prelude.{◌≡◌, ◌≢◌, ℕ, ◌+◌, ◌-◌, ◌^◌, ◌<◌, ◌≤◌, true, false, None, List, [], ◌∷◌, ◌++◌, length, map, All, IfOk, OnOk, OnErr, IsErr, if◌then◌else◌};
 ghost use Rattle.std.specs.Option.{option_map};
 ghost use Rattle.theory.specs.Literals.{IsVariable, IsCube, has_var};
 ghost use Rattle.theory.specs.Truth.{IsOver};
@@ -46,6 +46,7 @@ impl Model for Kernel {
 
 /// The trail of a cube's literals.
 fn trail_of(alloc: Global, vars: u32, lits: &[Lit]) -> Result<Trail, AllocError>
+    requires small { vars < 2 ^ 31 }
     requires cube { IsCube lits.now }
     requires over { IsOver vars lits.now }
     ensures { IfOk result (λ t. t ≡ record { vars = vars; entries = cube_trail lits.now }) }
@@ -149,9 +150,10 @@ impl Kernel {
     pub fn value(&self, var: u32) -> Option<bool>
         ensures { result ≡ option_map (λ e. e.lit.positive) (entry_of self.now.trail var) }
     {
-        match self.trail.entry(var) {
-            Some(entry) => Some(entry.lit.positive()),
-            None => None,
+        if var <= self.trail.vars() {
+            self.trail.value(var)
+        } else {
+            None
         }
     }
 
@@ -159,7 +161,11 @@ impl Kernel {
     pub fn entry(&self, var: u32) -> Option<Entry>
         ensures { result ≡ entry_of self.now.trail var }
     {
-        self.trail.entry(var)
+        if var <= self.trail.vars() {
+            self.trail.entry(var)
+        } else {
+            None
+        }
     }
 
     /// The least free variable.
