@@ -1,5 +1,6 @@
 -- Cubes: one literal more, and the trail of a cube's first literals.
-use Rattle.std.proofs.Common.{◌≡◌, ℕ, zero, suc, ◌+◌, ◌<◌, false, List, [], ◌∷◌, ◌++◌, length, take, get_or, None, refl, ap, subst, ◌∙◌, append_assoc, append-nil, arith}
+use Rattle.std.proofs.Common.{◌≡◌, ℕ, zero, suc, ◌+◌, ◌<◌, false, List, [], ◌∷◌, ◌++◌, length, take, get_or, None, Some, Option, MatchOption, refl, ap, sym, subst, ◌∙◌, append_assoc, append-nil, arith}
+use Rattle.std.specs.Option.{option_to_list}
 use Rattle.std.proofs.lemmas.List.{take_more, map-append}
 use Rattle.theory.specs.Literals.{Literal, has_var, IsDistinctFrom, IsCube}
 use Rattle.theory.specs.Trails.{Entry, literals, cube_trail}
@@ -8,6 +9,24 @@ use Rattle.theory.proofs.TrailEntries.{are_distinct-cube, are_distinct-push, IsC
 pub IsCube-push : (Q : List Literal) (l : Literal) → IsCube Q → has_var Q l.var ≡ false → IsCube (Q ++ l ∷ [])
 IsCube-push Q l h free = IsCube-distinct (Q ++ l ∷ []) (are_distinct-push Q l (are_distinct-cube Q h) free)
 
+front-IsDistinctFrom : (P Q R : List Literal) → IsDistinctFrom P (Q ++ R) → IsDistinctFrom P Q
+front-IsDistinctFrom P [] R h = tt
+front-IsDistinctFrom P (l ∷ Q) R h = (h.0, front-IsDistinctFrom (P ++ l ∷ []) Q R h.1)
+
+last-is_new : (P Q : List Literal) (l : Literal) → IsDistinctFrom P (Q ++ l ∷ []) → has_var (P ++ Q) l.var ≡ false
+last-is_new P [] l h = subst (λ R. has_var R l.var ≡ false) (sym (append-nil P)) h.0
+last-is_new P (k ∷ Q) l h = subst (λ R. has_var R l.var ≡ false) (append_assoc P (k ∷ []) Q) (last-is_new (P ++ k ∷ []) Q l h.1)
+
+-- a cube without its last literal is a cube
+pub IsCube-popped : (Q R : List Literal) (o : Option Literal) → IsCube Q → Q ≡ R ++ option_to_list o → IsCube R
+IsCube-popped Q R o h e = front-IsDistinctFrom [] R (option_to_list o) (subst IsCube e h)
+
+-- and the last literal is of another variable
+pub popped-is_new : (Q R : List Literal) (o : Option Literal) → IsCube Q → Q ≡ R ++ option_to_list o → (o ≡ None → Q ≡ [])
+    → MatchOption o ((Q ≡ []) × (R ≡ [])) (λ l. (Q ≡ R ++ l ∷ []) × (has_var R l.var ≡ false))
+popped-is_new Q R (Some l) h e empty = (e, last-is_new [] R l (subst IsCube e h))
+popped-is_new Q R None h e empty = (empty refl, sym (append-nil R) ∙ (sym e ∙ empty refl))
+
 -- the entry of a cube's literal
 abbrev pub given : Literal → Entry
 given l = record { lit = l; reason = None; level = 0 }
@@ -15,7 +34,7 @@ given l = record { lit = l; reason = None; level = 0 }
 pub cube_trail-more : (Q : List Literal) (i : ℕ) (d : Literal) → i < length Q → cube_trail (take (i + 1) Q) ≡ cube_trail (take i Q) ++ given (get_or Q i d) ∷ []
 cube_trail-more Q i d less = ap cube_trail (take_more Q i d less) ∙ map-append given (take i Q) (get_or Q i d ∷ [])
 
-literals-cube_trail : (Q : List Literal) → literals (cube_trail Q) ≡ Q
+pub literals-cube_trail : (Q : List Literal) → literals (cube_trail Q) ≡ Q
 literals-cube_trail [] = refl
 literals-cube_trail (l ∷ Q) = ap (λ c. l ∷ c) (literals-cube_trail Q)
 

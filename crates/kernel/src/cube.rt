@@ -1,5 +1,5 @@
 //! Cubes: the parts into which a search is split.
-ghost use Rattle.std.specs.Prelude.{◌≡◌, [], ◌∷◌, ◌++◌, false, IfOk};
+ghost use Rattle.std.specs.Prelude.{◌≡◌, [], ◌∷◌, ◌++◌, false, IfOk, OnOk, OnErr, MatchOption};
 ghost use Rattle.theory.specs.Literals.{IsCube, has_var};
 
 use cnf::Lit;
@@ -52,5 +52,24 @@ impl Cube {
         lits.extend_from_slice(&self.lits)?;
         lits.push(lit)?;
         Ok(Cube { lits })
+    }
+
+    /// Puts a literal at the end, whose variable isn't in the cube yet. It fails where a request for memory is refused, and leaves the
+    /// cube as it was then.
+    pub fn push(&mut self, lit: Lit) -> Result<(), AllocError>
+        requires { has_var self.old lit.var ≡ false }
+        ensures ok { OnOk result (self.new ≡ self.old ++ lit ∷ []) }
+        ensures err { OnErr result (self.new ≡ self.old) }
+    {
+        self.lits.push(lit)?;
+        Ok(())
+    }
+
+    /// Takes the last literal off, if there is one.
+    pub fn pop(&mut self) -> Option<Lit>
+        ensures { MatchOption result ((self.old ≡ []) × (self.new ≡ []))
+            (λ l. (self.old ≡ self.new ++ l ∷ []) × (has_var self.new l.var ≡ false)) }
+    {
+        self.lits.pop()
     }
 }

@@ -7,6 +7,7 @@ ghost use Rattle.theory.specs.Trails.{literals, current_level, entry_of, cube_tr
 ghost use Rattle.theory.specs.Propagation.{clause_at, Closes, quiet};
 ghost use Rattle.theory.specs.Lawful.{IsLawful};
 ghost use Rattle.theory.specs.Learnable.{IsLearnable};
+ghost use Rattle.theory.specs.Reading.{max_vars};
 ghost use Rattle.theory.specs.Search.{first_clauses};
 ghost use Rattle.kernel.specs.Answer.{closed_of};
 
@@ -67,7 +68,9 @@ impl Kernel {
     /// literals, and memory for them and for one entry of each variable; it fails where that is refused.
     pub fn open(alloc: Global, formula: &Formula, cube: &Cube) -> Result<Kernel, AllocError>
         requires { IsOver formula.now.vars cube.now }
-        ensures { IfOk result (λ k. k ≡ record { vars = formula.now.vars; clauses = first_clauses formula.now; trail = cube_trail cube.now; short = false }) }
+        ensures opened { IfOk result (λ k. k ≡ record { vars = formula.now.vars; clauses = first_clauses formula.now; trail = cube_trail cube.now; short = false }) }
+        ensures lawful { IfOk result (λ k. IsLawful k.clauses k.trail × IsOver k.vars (literals k.trail) × All (IsOver k.vars) k.clauses) }
+        ensures few { IfOk result (λ k. k.vars ≤ max_vars) }
     {
         let clauses = Clauses::copied(alloc, formula.clauses())?;
         let trail = trail_of(alloc, formula.vars(), cube.lits())?;

@@ -1,0 +1,5 @@
+pub mod WalkLemmas
+pub mod TrailValues
+pub mod SearchingLemmas
+pub mod Progress
+pub mod Steps

@@ -1,0 +1,64 @@
+-- What a search keeps from step to step, and why it ends: with each step a conflict more is counted, or the trail is longer.
+use Rattle.std.proofs.Common.{◌≡◌, ℕ, ◌≤◌, false, Result, Ok, Err, IfOk, OnOk, if◌then◌else◌, List, [], ◌∷◌, ◌++◌, Option, Some, None, refl, ap, sym, subst, ◌∙◌, All}
+use Rattle.theory.specs.Literals.{Literal, Clause, negations}
+use Rattle.theory.specs.Truth.{IsOver}
+use Rattle.theory.specs.Trails.{Trail, literals, current_level, up_to}
+use Rattle.theory.specs.Propagation.{Closed, quiet, Closes, grows, rests, unit_entry, least_false}
+use Rattle.theory.specs.Lawful.{IsLawful, cube_of}
+use Rattle.theory.specs.Learnable.{IsOpenBelow, IsLearnable}
+use Rattle.theory.specs.Learning.{learn, back_level}
+use Rattle.theory.specs.Search.{after}
+use Rattle.theory.proofs.LawfulTrails.{IsLawful-Closes, least_false-at}
+use Rattle.theory.proofs.LearnableLines.{IsLearnable-learn}
+use Rattle.theory.proofs.LearntLines.{IsVariable-learn}
+use Rattle.theory.proofs.OpenTrails.{IsOpenBelow-Closes}
+use Rattle.theory.proofs.OverVariables.{AreOver, AreOver-from_IsOver, IsOver-from_AreOver, IsOver-left}
+use Rattle.theory.proofs.RefutedCubes.{AreOver-Closes}
+use Rattle.kernel.specs.State.{State}
+use Rattle.cdcl.specs.Searching.{IsSearching, IsStep, search_of, next_of}
+use Rattle.cdcl.specs.declared.outcome.Outcome.{Outcome}
+use Rattle.cdcl.specs.declared.solve.Search.{Search}
+
+-- propagation that came to rest stays there
+pub Closes-rested : (K : List Clause) (T U : Trail) → Closes K T quiet U → Closes K U quiet U
+Closes-rested K T U (rests h i) = rests h i
+Closes-rested K T U (grows {u = u} h i more) = Closes-rested K (T ++ unit_entry T u ∷ []) U more
+
+-- propagation keeps it
+pub IsSearching-Closes : (k l : State) (a : Closed) → IsSearching k → l.vars ≡ k.vars → l.clauses ≡ k.clauses → l.short ≡ false → Closes k.clauses k.trail a l.trail → IsSearching l
+IsSearching-Closes k l a h vars clauses memory closes = record {
+  has_memory = memory;
+  few = rw vars h.few;
+  lawful = rw clauses (IsLawful-Closes k.clauses k.trail l.trail a closes h.lawful);
+  open_below = rw clauses (IsOpenBelow-Closes k.clauses k.trail l.trail a closes h.open_below);
+  clauses_over = rw (vars, clauses) h.clauses_over;
+  trail_over = rw vars (IsOver-from_AreOver k.vars (literals l.trail) (AreOver-Closes k.vars k.clauses k.trail l.trail a h.clauses_over closes (AreOver-from_IsOver k.vars (literals k.trail) h.trail_over)));
+}
+
+-- the learnt clause is over the variables
+pub IsOver-learn : (V : ℕ) (K : List Clause) (T : Trail) (n : ℕ) → IsLawful K T → IsOver V (literals T) → least_false (literals T) K ≡ Some n → IsOver V (learn K T n).clause
+IsOver-learn V K T n lawful over h =
+    let at = least_false-at (literals T) K n h in
+    IsOver-left V (learn K T n).clause (negations (cube_of T)) (IsOver-from_AreOver V _ (IsVariable-learn V K T n lawful (AreOver-from_IsOver V (literals T) over) at.2))
+
+-- the kernel after going back may learn the clause
+pub may_learn : (k l : State) (c : Clause) (level n : ℕ) → IsSearching k → 1 ≤ current_level k.trail → least_false (literals k.trail) k.clauses ≡ Some n → c ≡ (learn k.clauses k.trail n).clause
+    → level ≡ back_level k.trail (learn k.clauses k.trail n).clause → l ≡ (if k.short then k else record k { trail = up_to k.trail level }) → IsOver l.vars c × IsLearnable l.trail c
+may_learn k l c level n h above clash clause back went =
+    rw (rw (h.has_memory, back) at went, clause)
+    (IsOver-learn k.vars k.clauses k.trail n h.lawful h.trail_over clash, IsLearnable-learn k.clauses k.trail n h.lawful h.open_below above clash)
+
+-- a step from what propagation left
+pub IsStep-from : {E : Type 0} (budget : ℕ) (old new middle : Search) (a : Closed) (r : Result (Option Outcome) E) → Closes old.kernel.clauses old.kernel.trail a middle.kernel.trail
+    → middle.kernel.vars ≡ old.kernel.vars → search_of middle ≡ record (search_of old) { trail = middle.kernel.trail }
+    → IfOk r (λ o. after middle.kernel.vars budget (search_of middle) a ≡ next_of o new) → OnOk r ((new.kernel.vars ≡ middle.kernel.vars) × (new.kernel.short ≡ false))
+    → IfOk r (λ o. IsStep budget old o new)
+IsStep-from budget old new middle a (Ok o) closes vars same next kept = record {
+  answer = a;
+  trail = middle.kernel.trail;
+  closes = closes;
+  next = rw (vars, same) at next;
+  vars = kept.0 ∙ vars;
+  has_memory = kept.1;
+}
+IsStep-from budget old new middle a (Err e) closes vars same next kept = tt

@@ -1,0 +1,4 @@
+-- What the answers of analysis and search mean.
+pub mod Learnt
+pub mod Outcome
+pub mod Searching

@@ -1,0 +1,16 @@
+//! Conflict-driven clause learning inside one cube: analysis of a conflict, the search of a cube up to a budget of conflicts, and
+//! the two halves of a cube.
+#![tactic(auto)]
+
+mod analysis;
+mod halves;
+mod level;
+mod literal_set;
+mod outcome;
+mod solve;
+
+
+pub use analysis::{Learnt, analyze};
+pub use outcome::{Line, Outcome, Refutation};
+pub use solve::solve_cube;
+pub use halves::split;

@@ -1,0 +1,68 @@
+//! The outcomes of cubes, and the lines of a refuted one.
+ghost use Rattle.std.specs.Prelude.{◌≡◌};
+
+use cnf::Lit;
+use std::marker::Model;
+
+/// A learnt clause without the cube's literals, by rising variable, and the numbers of the clauses that it was resolved from. Inside
+/// a cube the numbers above the formula's count the cube's own lines.
+#[derive(Drop)]
+pub struct Line {
+    clause: Vec<Lit>,
+    hints: Vec<u64>,
+}
+
+impl Model for Line {
+    ghost use Rattle.theory.specs.Learning as learning;
+
+    ghost Value = { learning.Line };
+
+    ghost view = { λ l. record { clause = l.clause.items; hints = l.hints.items } };
+}
+
+impl Line {
+    pub(crate) fn new(clause: Vec<Lit>, hints: Vec<u64>) -> Line
+        ensures { result ≡ record { clause = clause.items; hints = hints.items } }
+    {
+        Line { clause, hints }
+    }
+
+    /// The clause.
+    pub fn clause(&self) -> &[Lit]
+        ensures { result.now ≡ self.now.clause }
+    {
+        &self.clause
+    }
+
+    /// The hints.
+    pub fn hints(&self) -> &[u64]
+        ensures { result.now ≡ self.now.hints }
+    {
+        &self.hints
+    }
+
+    /// The clause and the hints, by value.
+    pub fn into_parts(self) -> (Vec<Lit>, Vec<u64>)
+        ensures clause { result.0.items ≡ self.clause }
+        ensures hints { result.1.items ≡ self.hints }
+    {
+        (self.clause, self.hints)
+    }
+}
+
+/// The lines of a refuted cube, in the order in which they were learnt; the last one's clause is empty.
+#[derive(Drop)]
+pub struct Refutation {
+    pub lines: Vec<Line>,
+}
+
+/// What the search in a cube comes to.
+#[derive(Drop)]
+pub enum Outcome {
+    /// The truth values of the variables 1, 2 and so on: the first assignment that satisfies the formula and the cube.
+    Model(Vec<bool>),
+    /// No assignment satisfies the formula and the cube.
+    Refuted(Refutation),
+    /// The budget of conflicts is used up; the variable is the first one that was decided.
+    Exhausted(u32),
+}

@@ -1,0 +1,143 @@
+-- How a cube was reached from the root: the splits on the way, and of those whose right half it lies in, the left subtree.
+use Rattle.std.proofs.Common.{◌≡◌, ℕ, ◌<◌, ◌≤◌, length, length-append, arith, Bool, true, false, List, [], ◌∷◌, ◌++◌, Option, Some, None, refl, ap, sym, subst, ◌∙◌, append_assoc, append-nil}
+use Rattle.theory.specs.Literals.{Literal, IsVariable, has_var, positive, negative}
+use Rattle.theory.specs.Truth.{Formula, Assignment, IsOver}
+use Rattle.theory.specs.Search.{Runs, exhausted, model}
+use Rattle.theory.specs.Trees.{Tree, split, IsTree, first_model, or_else, IsFirstLeaf, here, on_left, on_right, Node, split_on, nodes_of, false_half, true_half}
+use Rattle.theory.specs.Lawful.{are_distinct}
+use Rattle.theory.proofs.OverVariables.{AreOver, AreOver-snoc, IsOver-from_AreOver, AreOver-from_IsOver}
+use Rattle.theory.proofs.Room.{length-distinct}
+use Rattle.theory.proofs.TrailEntries.{are_distinct-push}
+use Rattle.cubes.specs.Next.{next_cube}
+use Rattle.cubes.proofs.NextLemmas.{next_cube-positive, next_cube-negative}
+
+-- a split on the way; the left subtree, if the way goes on in the right half
+pub record Frame : Type 0 where
+  pub var : ℕ
+  pub left : Option Tree
+
+abbrev pub half : ℕ → Option Tree → Literal
+half x None = negative x
+half x (Some t) = positive x
+
+abbrev pub left_nodes : Option Tree → List Node
+left_nodes None = []
+left_nodes (Some t) = nodes_of t
+
+-- the cube that is reached, where the last split stands first
+abbrev pub cube_at : List Frame → List Literal
+cube_at [] = []
+cube_at (f ∷ fs) = cube_at fs ++ half f.var f.left ∷ []
+
+-- the nodes before it
+abbrev pub nodes_before : List Frame → List Node
+nodes_before [] = []
+nodes_before (f ∷ fs) = nodes_before fs ++ split_on f.var ∷ left_nodes f.left
+
+abbrev pub IsLeft : Formula → ℕ → List Literal → ℕ → Option Tree → Type 0
+IsLeft F B Q x None = Unit {0}
+IsLeft F B Q x (Some t) = IsTree F B (false_half Q x) t × (first_model t ≡ None)
+
+-- a split of the cube Q: it is exhausted in the variable, and the left subtree has no model
+pub record IsSplit (F : Formula) (B : ℕ) (Q : List Literal) (f : Frame) : Type 0 where
+  pub runs : Runs F B Q (exhausted f.var)
+  pub variable : IsVariable F.vars f.var
+  pub free : has_var Q f.var ≡ false
+  pub left : IsLeft F B Q f.var f.left
+
+abbrev pub AreReached : Formula → ℕ → List Frame → Type 0
+AreReached F B [] = Unit {0}
+AreReached F B (f ∷ fs) = IsSplit F B (cube_at fs) f × AreReached F B fs
+
+-- a cube so reached is one, and over the variables
+cube_at-formed : (F : Formula) (B : ℕ) (fs : List Frame) → AreReached F B fs → (are_distinct (cube_at fs) ≡ true) × AreOver F.vars (cube_at fs)
+cube_at-formed F B [] h = (refl, λ l a. absurd (cc))
+cube_at-formed F B (f ∷ fs) h = go f.left (cube_at-formed F B fs h.1)
+  where
+    go : (o : Option Tree) → (are_distinct (cube_at fs) ≡ true) × AreOver F.vars (cube_at fs)
+        → (are_distinct (cube_at fs ++ half f.var o ∷ []) ≡ true) × AreOver F.vars (cube_at fs ++ half f.var o ∷ [])
+    go None r = (are_distinct-push (cube_at fs) (negative f.var) r.0 h.0.free, AreOver-snoc F.vars (cube_at fs) (negative f.var) r.1 h.0.variable)
+    go (Some t) r = (are_distinct-push (cube_at fs) (positive f.var) r.0 h.0.free, AreOver-snoc F.vars (cube_at fs) (positive f.var) r.1 h.0.variable)
+
+-- the first model leaf of the cube is the root's
+pub reached-leaf : (F : Formula) (B : ℕ) (fs : List Frame) (M : Assignment) → AreReached F B fs → IsFirstLeaf F B (cube_at fs) M → IsFirstLeaf F B [] M
+reached-leaf F B [] M h leaf = leaf
+reached-leaf F B (f ∷ fs) M h leaf = reached-leaf F B fs M h.1 (go f.left h.0.left leaf)
+  where
+    go : (o : Option Tree) → IsLeft F B (cube_at fs) f.var o → IsFirstLeaf F B (cube_at fs ++ half f.var o ∷ []) M → IsFirstLeaf F B (cube_at fs) M
+    go None l below = on_left h.0.runs below
+    go (Some t) l below = on_right t h.0.runs l.0 l.1 below
+
+-- the cube Q is reached, with these nodes before it
+pub record IsReached (F : Formula) (B : ℕ) (Q : List Literal) (nodes : List Node) : Type 0 where
+  pub frames : List Frame
+  pub reached : AreReached F B frames
+  pub cube_is : cube_at frames ≡ Q
+  pub nodes_are : nodes_before frames ≡ nodes
+
+pub IsReached-root : (F : Formula) (B : ℕ) → IsReached F B [] []
+IsReached-root F B = record { frames = []; reached = tt; cube_is = refl; nodes_are = refl }
+
+pub IsReached-over : (F : Formula) (B : ℕ) (Q : List Literal) (nodes : List Node) → IsReached F B Q nodes → IsOver F.vars Q
+IsReached-over F B Q nodes r = subst (IsOver F.vars) r.cube_is (IsOver-from_AreOver F.vars (cube_at r.frames) (cube_at-formed F B r.frames r.reached).1)
+
+pub IsReached-distinct : (F : Formula) (B : ℕ) (Q : List Literal) (nodes : List Node) → IsReached F B Q nodes → are_distinct Q ≡ true
+IsReached-distinct F B Q nodes r = subst (λ R. are_distinct R ≡ true) r.cube_is (cube_at-formed F B r.frames r.reached).0
+
+-- the left half of an exhausted cube
+pub IsReached-left : (F : Formula) (B : ℕ) (Q : List Literal) (nodes : List Node) (x : ℕ) → IsReached F B Q nodes → Runs F B Q (exhausted x) → IsVariable F.vars x × (has_var Q x ≡ false)
+    → IsReached F B (false_half Q x) (nodes ++ split_on x ∷ [])
+IsReached-left F B Q nodes x r runs says = record {
+  frames = record { var = x; left = None } ∷ r.frames;
+  reached = (record { runs = rw r.cube_is runs; variable = says.0; free = rw r.cube_is says.1; left = tt }, r.reached);
+  cube_is = rw r.cube_is refl;
+  nodes_are = rw r.nodes_are refl;
+}
+
+-- what is reached behind a subtree: the next cube, or the whole tree is done
+abbrev pub ReachesNext : Formula → ℕ → List Node → Option (List Literal) → Type 0
+ReachesNext F B nodes (Some R) = IsReached F B R nodes
+ReachesNext F B nodes None = (t : Tree) × IsTree F B [] t × (first_model t ≡ None) × (nodes ≡ nodes_of t)
+
+climb : (F : Formula) (B : ℕ) (fs : List Frame) (t : Tree) → AreReached F B fs → IsTree F B (cube_at fs) t → first_model t ≡ None
+    → ReachesNext F B (nodes_before fs ++ nodes_of t) (next_cube (cube_at fs))
+climb F B [] t h tree none = (t, tree, none, refl)
+climb F B (f ∷ fs) t h tree none = go f.left h.0.left tree (λ w. climb F B fs w h.1)
+  where
+    right : (u : Tree) → IsTree F B (true_half (cube_at fs) f.var) t → IsTree F B (false_half (cube_at fs) f.var) u → first_model u ≡ None → IsTree F B (cube_at fs) (split f.var u t)
+    right u now left empty = (h.0.runs, left, now)
+
+    go : (o : Option Tree) → IsLeft F B (cube_at fs) f.var o → IsTree F B (cube_at fs ++ half f.var o ∷ []) t
+        → ((w : Tree) → IsTree F B (cube_at fs) w → first_model w ≡ None → ReachesNext F B (nodes_before fs ++ nodes_of w) (next_cube (cube_at fs)))
+        → ReachesNext F B ((nodes_before fs ++ split_on f.var ∷ left_nodes o) ++ nodes_of t) (next_cube (cube_at fs ++ half f.var o ∷ []))
+    go None l now up =
+        rw (next_cube-negative (cube_at fs) (negative f.var) refl) (record {
+          frames = record { var = f.var; left = Some t } ∷ fs;
+          reached = (record { runs = h.0.runs; variable = h.0.variable; free = h.0.free; left = (now, none) }, h.1);
+          cube_is = refl;
+          nodes_are = sym (append_assoc (nodes_before fs) (split_on f.var ∷ []) (nodes_of t));
+        })
+    go (Some u) l now up =
+        rw (next_cube-positive (cube_at fs) (positive f.var) refl, append_assoc)
+        (up (split f.var u t) (right u now l.0 l.1) (rw (l.1, none) refl))
+
+-- behind the subtree of the cube Q
+pub IsReached-next : (F : Formula) (B : ℕ) (Q : List Literal) (nodes : List Node) (t : Tree) (next : Option (List Literal)) → IsReached F B Q nodes → IsTree F B Q t → first_model t ≡ None
+    → next_cube Q ≡ next → ReachesNext F B (nodes ++ nodes_of t) next
+IsReached-next F B Q nodes t next r tree none e =
+    rw (← e, ← r.nodes_are, ← r.cube_is) (climb F B r.frames t r.reached (rw r.cube_is tree) none)
+
+-- the first model leaf of a reached cube is the root's
+pub IsReached-leaf : (F : Formula) (B : ℕ) (Q : List Literal) (nodes : List Node) (M : Assignment) → IsReached F B Q nodes → Runs F B Q (model M) → IsFirstLeaf F B [] M
+IsReached-leaf F B Q nodes M r runs = reached-leaf F B r.frames M r.reached (here (rw r.cube_is runs))
+
+-- a reached cube has room for a variable that isn't in it
+pub IsReached-room : (F : Formula) (B : ℕ) (Q : List Literal) (nodes : List Node) (x : ℕ) → IsReached F B Q nodes → IsVariable F.vars x × (has_var Q x ≡ false) → length Q < F.vars
+IsReached-room F B Q nodes x r says =
+    let more = length-distinct F.vars (Q ++ negative x ∷ []) (are_distinct-push Q (negative x) (IsReached-distinct F B Q nodes r) says.1)
+        (AreOver-snoc F.vars Q (negative x) (AreOver-from_IsOver F.vars Q (IsReached-over F B Q nodes r)) says.0) in
+    let one = length-append Q (negative x ∷ []) in
+    omega arith
+
+pub length-reached : (F : Formula) (B : ℕ) (Q : List Literal) (nodes : List Node) → IsReached F B Q nodes → length Q ≤ F.vars
+length-reached F B Q nodes r = length-distinct F.vars Q (IsReached-distinct F B Q nodes r) (AreOver-from_IsOver F.vars Q (IsReached-over F B Q nodes r))

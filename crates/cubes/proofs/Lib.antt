@@ -1,0 +1,3 @@
+pub mod NextLemmas
+pub mod Remaining
+pub mod Frames

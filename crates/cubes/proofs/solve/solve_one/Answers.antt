@@ -1,0 +1,54 @@
+use Rattle.std.proofs.Common.{◌≡◌, ◌≤◌, ◌<◌, ◌+◌, ◌++◌, ◌∷◌, [], length, length-append, map, Some, None, true, false, ap, sym, subst, refl, ◌∙◌, arith, IsTrue}
+use Rattle.std.proofs.lemmas.List.{map-append}
+use Rattle.theory.specs.Literals.{IsVariable, has_var, negative}
+use Rattle.theory.specs.Search.{Runs, exhausted, refuted}
+use Rattle.theory.specs.Trees.{refutation, false_half}
+use Rattle.cdcl.specs.Outcome.{outcome_of}
+use Rattle.cubes.specs.Result.{node_of}
+use Rattle.cubes.specs.Next.{next_cube}
+use Rattle.cubes.proofs.Frames.{IsReached, IsReached-root, IsReached-over, IsReached-left, IsReached-room, IsReached-next, IsReached-leaf, length-reached}
+use Rattle.cubes.proofs.Remaining.{left_from-half, left_from-next}
+use Rattle.cubes.proofs.solve.solve_one.Goals as goal
+
+pub solve_cube-requires-clause-over : goal.solve_cube-requires-clause-over
+solve_cube-requires-clause-over c = IsReached-over c.args.formula.now c.args.budget c.loop-cube.cube _ c.loop-cube.invariant
+
+pub returns-in-Model : goal.returns-in-Model
+returns-in-Model c = IsReached-leaf c.args.formula.now c.args.budget c.loop-cube.cube _ c.in-Model.values.items c.loop-cube.invariant (rw c.in-Model.is at c.in_ok-values.ensures.runs)
+
+pub negative-requires : goal.negative-requires
+negative-requires c =
+    let says : IsVariable c.args.formula.now.vars c.in-Exhausted.var × (has_var c.loop-cube.cube c.in-Exhausted.var ≡ false) = rw c.in-Exhausted.is at c.in_ok-values.ensures.says in
+    let low = says.0.0 in
+    let high = says.0.1 in
+    let few = c.vars-vars.ensures.within.vars in
+    (low, omega arith)
+
+pub loop-cube-smaller-in_ok-push-in-Exhausted-2 : goal.loop-cube-smaller-in_ok-push-in-Exhausted-2
+loop-cube-smaller-in_ok-push-in-Exhausted-2 c =
+    let says : IsVariable c.args.formula.now.vars c.in-Exhausted.var × (has_var c.loop-cube.cube c.in-Exhausted.var ≡ false) = rw c.in-Exhausted.is at c.in_ok-values.ensures.says in
+    rw (c.in_ok-push-in-Exhausted-2.ensures.ok, c.negative.ensures)
+    (left_from-half c.args.formula.now.vars c.loop-cube.cube c.in-Exhausted.var (IsReached-room c.args.formula.now c.args.budget c.loop-cube.cube _ c.in-Exhausted.var c.loop-cube.invariant says))
+
+pub loop-cube-preserved-in_ok-push-in-Exhausted-2 : goal.loop-cube-preserved-in_ok-push-in-Exhausted-2
+loop-cube-preserved-in_ok-push-in-Exhausted-2 c =
+    rw (c.in_ok-push-in-Exhausted-2.ensures.ok, c.negative.ensures, c.in_ok-push-in-Exhausted.ensures.items, map-append)
+    (IsReached-left c.args.formula.now c.args.budget c.loop-cube.cube _ c.in-Exhausted.var c.loop-cube.invariant (rw c.in-Exhausted.is at c.in_ok-values.ensures.runs) (rw c.in-Exhausted.is at c.in_ok-values.ensures.says))
+
+pub returns-then-not-branch : goal.returns-then-not-branch
+returns-then-not-branch c =
+    let none : next_cube c.loop-cube.cube ≡ None = rw c.if-not-branch.true at c.in_ok-go_right-in-Refuted.ensures in
+    let whole = IsReached-next c.args.formula.now c.args.budget c.loop-cube.cube _ (refutation c.in-Refuted.refutation.lines.items) None c.loop-cube.invariant
+        (rw c.in-Refuted.is at c.in_ok-values.ensures.runs) refl none in
+    (whole.0, (whole.1, whole.2), rw (c.in_ok-push-in-Refuted.ensures.items, map-append) whole.3)
+
+pub loop-cube-smaller : goal.loop-cube-smaller
+loop-cube-smaller c =
+    left_from-next c.args.formula.now.vars c.loop-cube.cube c.go_right.new.cube (length-reached c.args.formula.now c.args.budget c.loop-cube.cube _ c.loop-cube.invariant)
+    (rw c.if-not-branch.false at c.in_ok-go_right-in-Refuted.ensures)
+
+pub loop-cube-preserved : goal.loop-cube-preserved
+loop-cube-preserved c =
+    rw (c.in_ok-push-in-Refuted.ensures.items, map-append)
+    (IsReached-next c.args.formula.now c.args.budget c.loop-cube.cube _ (refutation c.in-Refuted.refutation.lines.items) (Some c.go_right.new.cube) c.loop-cube.invariant
+    (rw c.in-Refuted.is at c.in_ok-values.ensures.runs) refl (rw c.if-not-branch.false at c.in_ok-go_right-in-Refuted.ensures))

@@ -1,0 +1,3 @@
+-- The order of a tree's cubes, and what a result is.
+pub mod Next
+pub mod Result

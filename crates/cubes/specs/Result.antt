@@ -1,0 +1,17 @@
+-- What the result of a formula is.
+use Rattle.std.specs.Prelude.{◌≡◌, ℕ, map}
+use Rattle.theory.specs.Truth.{Formula}
+use Rattle.theory.specs.Trees as trees
+use Rattle.cubes.specs.declared.tree.Node.{Node}
+use Rattle.cubes.specs.declared.tree.Node.TheVariants.{Split, Leaf}
+use Rattle.cubes.specs.declared.tree.Tree.{Tree}
+use Rattle.cubes.specs.declared.tree.Tree.TheVariants.{Model, Refuted}
+
+abbrev pub node_of : Node → trees.Node
+node_of (Split var) = trees.split_on var
+node_of (Leaf refutation) = trees.refuted_leaf refutation.lines.items
+
+-- the tree is the formula's result: its model, or the nodes of its tree
+abbrev pub IsResultOf : Formula → ℕ → Tree → Type 0
+IsResultOf F B (Model values) = trees.IsResult F B (trees.model_of values.items)
+IsResultOf F B (Refuted nodes) = (t : trees.Tree) × trees.IsResult F B (trees.tree_of t) × (map node_of nodes.items ≡ trees.nodes_of t)

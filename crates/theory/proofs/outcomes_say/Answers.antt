@@ -1,0 +1,5 @@
+use Rattle.theory.proofs.OutcomeLemmas.{Runs-says}
+use Rattle.theory.proofs.outcomes_say.Goals as goal
+
+pub returns : goal.returns
+returns c = Runs-says
