@@ -1,7 +1,12 @@
 pub mod Cubes
 pub mod Falling
+pub mod GoingBack
 pub mod LeastFree
 pub mod Levels
+pub mod NextFree
 pub mod Numbering
 pub mod Ordered
+pub mod Pieces
 pub mod Room
+pub mod Statuses
+pub mod Tables

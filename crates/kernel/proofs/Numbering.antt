@@ -1,5 +1,6 @@
 -- The least numbers of false and of unit clauses, found by looking at one clause after the other.
-use Rattle.std.proofs.Common.{◌≡◌, ℕ, zero, suc, ◌+◌, ◌≤◌, true, false, List, [], ◌∷◌, length, drop, Option, Some, None, option_map, slice_get, refl, ap, sym, ◌∙◌, arith}
+use Rattle.std.proofs.Common.{◌≡◌, ℕ, zero, suc, ◌+◌, ◌≤◌, true, false, List, [], ◌∷◌, length, drop, Option, Some, None, option_map, slice_get, refl, ap, sym, ◌∙◌, arith, All, is_some, subst}
+use Rattle.std.proofs.lemmas.List.Elements.{All-head, All-tail}
 use Rattle.theory.specs.Literals.{Literal, Clause}
 use Rattle.theory.specs.Status.{is_false, unit_literal}
 use Rattle.theory.specs.Propagation.{least_false, least_unit}
@@ -87,3 +88,32 @@ IsUnitLeft-end P K i past left = sym left ∙ ap (λ x. option_map further (leas
   where
     further : ℕ × Literal → ℕ × Literal
     further u = (u.0 + i, u.1)
+
+-- the unit clause of least number so far, or else what is left gives it
+abbrev pub IsUnitSoFar : List Literal → List Clause → ℕ → Option (ℕ × Literal) → Type 0
+IsUnitSoFar P K i None = IsUnitLeft P K i
+IsUnitSoFar P K i (Some u) = least_unit P K ≡ Some u
+
+pub IsUnitSoFar-more : (P : List Literal) (K : List Clause) (i : ℕ) (c : Clause) (o : Option (ℕ × Literal)) → slice_get K i ≡ Some c → unit_literal P c ≡ None
+    → IsUnitSoFar P K i o → IsUnitSoFar P K (i + 1) o
+IsUnitSoFar-more P K i c None at h left = IsUnitLeft-more P K i c at h left
+IsUnitSoFar-more P K i c (Some u) at h found = found
+
+pub IsUnitSoFar-end : (P : List Literal) (K : List Clause) (i : ℕ) (o : Option (ℕ × Literal)) → length K ≤ i → IsUnitSoFar P K i o → least_unit P K ≡ o
+IsUnitSoFar-end P K i None past left = IsUnitLeft-end P K i past left
+IsUnitSoFar-end P K i (Some u) past found = found
+
+-- a fact on each clause, at one that is there
+pub All-slice_get : (Q : Clause → Type 0) (K : List Clause) (i : ℕ) (c : Clause) → All Q K → slice_get K i ≡ Some c → Q c
+All-slice_get Q [] i c h at = absurd (cc)
+All-slice_get Q (d ∷ K) zero c h at = let e : d ≡ c = cc in subst Q e (All-head Q d K h)
+All-slice_get Q (d ∷ K) (suc i) c h at = All-slice_get Q K i c (All-tail Q d K h) at
+
+pub IsUnitSoFar-kept : (P : List Literal) (K : List Clause) (i j : ℕ) (o : Option (ℕ × Literal)) → is_some o ≡ true → IsUnitSoFar P K i o → IsUnitSoFar P K j o
+IsUnitSoFar-kept P K i j None s h = absurd (cc)
+IsUnitSoFar-kept P K i j (Some u) s h = h
+
+pub IsUnitSoFar-found : (P : List Literal) (K : List Clause) (i : ℕ) (c : Clause) (l : Literal) (o : Option (ℕ × Literal)) → slice_get K i ≡ Some c → unit_literal P c ≡ Some l → is_some o ≡ false
+    → IsUnitSoFar P K i o → least_unit P K ≡ Some (i + 1, l)
+IsUnitSoFar-found P K i c l None at h s left = IsUnitLeft-found P K i c l at h left
+IsUnitSoFar-found P K i c l (Some u) at h s found = absurd (cc)

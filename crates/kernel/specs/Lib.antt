@@ -1,4 +1,7 @@
--- What a kernel is seen as. Trails and propagation are said in the crate `theory`.
+-- What a kernel and its parts are seen as. Trails and propagation are said in the crate `theory`.
 pub mod Answer
 pub mod Held
+pub mod Pieces
+pub mod Scan
 pub mod State
+pub mod Tables

@@ -1,13 +1,13 @@
 //! The kernel: the clauses and the trail of one cube's search.
-ghost use Rattle.std.specs.Prelude.{◌≡◌, ◌≢◌, ℕ, ◌+◌, ◌-◌, ◌<◌, ◌≤◌, true, false, None, List, [], ◌∷◌, ◌++◌, length, map, All, IfOk, OnOk, OnErr, IsErr, if◌then◌else◌};
+ghost use Rattle.std.specs.Prelude.{◌≡◌, ◌≢◌, ℕ, ◌+◌, ◌-◌, ◌^◌, ◌<◌, ◌≤◌, true, false, None, List, [], ◌∷◌, ◌++◌, length, map, All, IfOk, OnOk, OnErr, IsErr, if◌then◌else◌};
 ghost use Rattle.std.specs.Option.{option_map};
 ghost use Rattle.theory.specs.Literals.{IsVariable, IsCube, has_var};
 ghost use Rattle.theory.specs.Truth.{IsOver};
 ghost use Rattle.theory.specs.Trails.{literals, current_level, entry_of, cube_trail, up_to, least_free};
 ghost use Rattle.theory.specs.Propagation.{clause_at, Closes, quiet};
 ghost use Rattle.theory.specs.Lawful.{IsLawful};
-ghost use Rattle.theory.specs.Reading.{max_vars};
 ghost use Rattle.theory.specs.Learnable.{IsLearnable};
+ghost use Rattle.theory.specs.Reading.{max_vars};
 ghost use Rattle.theory.specs.Search.{first_clauses};
 ghost use Rattle.kernel.specs.Answer.{closed_of};
 
@@ -45,19 +45,9 @@ impl Model for Kernel {
     ghost invariant = { λ a. IsLawful a.clauses a.trail.entries × All (IsOver a.trail.vars) a.clauses };
 }
 
-/// The clauses of a formula.
-fn clauses_of(alloc: Global, formula: &Formula) -> Result<Clauses, AllocError>
-    ensures { IfOk result (λ c. c ≡ first_clauses formula.now) }
-{
-    let mut clauses = Clauses::new(alloc);
-    for clause in formula.clauses() {
-        clauses.push(clause)?;
-    }
-    Ok(clauses)
-}
-
 /// The trail of a cube's literals.
 fn trail_of(alloc: Global, vars: u32, lits: &[Lit]) -> Result<Trail, AllocError>
+    requires small { vars < 2 ^ 31 }
     requires cube { IsCube lits.now }
     requires over { IsOver vars lits.now }
     ensures { IfOk result (λ t. t ≡ record { vars = vars; entries = cube_trail lits.now }) }
@@ -82,7 +72,7 @@ impl Kernel {
         ensures lawful { IfOk result (λ k. IsLawful k.clauses k.trail × IsOver k.vars (literals k.trail) × All (IsOver k.vars) k.clauses) }
         ensures few { IfOk result (λ k. k.vars ≤ max_vars) }
     {
-        let clauses = clauses_of(alloc, formula)?;
+        let clauses = Clauses::copied(alloc, formula.clauses())?;
         let trail = trail_of(alloc, formula.vars(), cube.lits())?;
         Ok(Kernel {
             clauses,
@@ -163,9 +153,10 @@ impl Kernel {
     pub fn value(&self, var: u32) -> Option<bool>
         ensures { result ≡ option_map (λ e. e.lit.positive) (entry_of self.now.trail var) }
     {
-        match self.trail.entry(var) {
-            Some(entry) => Some(entry.lit.positive()),
-            None => None,
+        if var <= self.trail.vars() {
+            self.trail.value(var)
+        } else {
+            None
         }
     }
 
@@ -173,7 +164,11 @@ impl Kernel {
     pub fn entry(&self, var: u32) -> Option<Entry>
         ensures { result ≡ entry_of self.now.trail var }
     {
-        self.trail.entry(var)
+        if var <= self.trail.vars() {
+            self.trail.entry(var)
+        } else {
+            None
+        }
     }
 
     /// The least free variable.

@@ -1,10 +1,10 @@
 //! Propagation by looking at each clause.
 ghost use Rattle.std.specs.Prelude.{◌≡◌, ◌+◌, All};
 ghost use Rattle.theory.specs.Truth.{IsOver};
-ghost use Rattle.theory.specs.Status.{is_false, others_false, unit_literal};
 ghost use Rattle.theory.specs.Trails.{literals};
-ghost use Rattle.theory.specs.Propagation.{least_false, least_unit, Closes};
+ghost use Rattle.theory.specs.Propagation.{Closes};
 ghost use Rattle.kernel.specs.Answer.{closed_of};
+ghost use Rattle.kernel.specs.Scan.{IsStatus, IsStep};
 
 use crate::clauses::Clauses;
 use crate::closed::Closed;
@@ -12,64 +12,72 @@ use crate::entry::Entry;
 use crate::trail::Trail;
 use cnf::Lit;
 
-/// Whether the negation of each literal is on the trail.
-fn is_false(trail: &Trail, clause: &[Lit]) -> bool
-    ensures { result ≡ is_false (literals trail.now.entries) clause.now }
-{
-    for lit in clause {
-        if !trail.has(lit.negated()) {
-            return false;
-        }
-    }
-    true
+/// What a clause is on a trail: false, unit in a literal, or neither.
+pub enum Status {
+    False,
+    Unit(Lit),
+    Open,
 }
 
-/// Whether the negation of each literal but one is on the trail.
-fn others_false(trail: &Trail, clause: &[Lit], unit: Lit) -> bool
-    ensures { result ≡ others_false (literals trail.now.entries) clause.now unit }
-{
-    for lit in clause {
-        if !unit.same(lit) && !trail.has(lit.negated()) {
-            return false;
-        }
-    }
-    true
+/// What propagation does next: it ends at a false clause, puts the literal of a unit clause on the trail, or comes to rest. Clauses
+/// are named by their numbers.
+pub enum Step {
+    Conflict(u64),
+    Unit(u64, Lit),
+    Rest,
 }
 
-/// The literal in which the clause is unit.
-fn unit_literal(trail: &Trail, clause: &[Lit]) -> Option<Lit>
-    ensures { result ≡ unit_literal (literals trail.now.entries) clause.now }
+/// What a clause is, in one walk over its literals.
+fn status_of(trail: &Trail, clause: &[Lit]) -> Status
+    requires { IsOver trail.now.vars clause.now }
+    ensures { IsStatus (literals trail.now.entries) clause.now result }
 {
+    let mut free = None;
     for lit in clause {
-        if !trail.has_var(lit.var()) && others_false(trail, clause, *lit) {
-            return Some(*lit);
+        let lit = *lit;
+        match trail.value(lit.var()) {
+            Some(value) => {
+                if value == lit.positive() {
+                    return Status::Open;
+                }
+            }
+            None => match free {
+                None => free = Some(lit),
+                Some(other) => {
+                    if !lit.same(&other) {
+                        return Status::Open;
+                    }
+                }
+            },
         }
     }
-    None
+    match free {
+        Some(lit) => Status::Unit(lit),
+        None => Status::False,
+    }
 }
 
-/// The least number of a false clause.
-fn least_false(trail: &Trail, clauses: &Clauses) -> Option<u64>
-    ensures { result ≡ least_false (literals trail.now.entries) clauses.now }
+/// What propagation does next, in one walk over the clauses.
+fn next_step(trail: &Trail, clauses: &Clauses) -> Step
+    requires { All (IsOver trail.now.vars) clauses.now }
+    ensures { IsStep (literals trail.now.entries) clauses.now result }
 {
+    let mut unit = None;
     for index in 0..clauses.len() {
-        if is_false(trail, clauses.get(index)) {
-            return Some(index as u64 + 1);
+        match status_of(trail, clauses.get(index)) {
+            Status::False => return Step::Conflict(index as u64 + 1),
+            Status::Unit(lit) => {
+                if unit.is_none() {
+                    unit = Some((index as u64 + 1, lit));
+                }
+            }
+            Status::Open => {}
         }
     }
-    None
-}
-
-/// The least number of a unit clause, with its literal.
-fn least_unit(trail: &Trail, clauses: &Clauses) -> Option<(u64, Lit)>
-    ensures { result ≡ least_unit (literals trail.now.entries) clauses.now }
-{
-    for index in 0..clauses.len() {
-        if let Some(lit) = unit_literal(trail, clauses.get(index)) {
-            return Some((index as u64 + 1, lit));
-        }
+    match unit {
+        Some(found) => Step::Unit(found.0, found.1),
+        None => Step::Rest,
     }
-    None
 }
 
 /// Puts the literals of unit clauses on the trail, the clause of least number first, until a clause is false or none is unit.
@@ -78,17 +86,15 @@ pub fn close(clauses: &Clauses, trail: &mut Trail) -> Closed
     ensures closes { Closes clauses.now trail.old.entries (closed_of result) trail.new.entries }
     ensures vars { trail.new.vars ≡ trail.old.vars }
 {
-    loop {
-        if let Some(number) = least_false(trail, clauses) {
-            return Closed::Conflict(number);
-        }
-        match least_unit(trail, clauses) {
-            None => return Closed::Quiet,
-            Some(unit) => {
+    'steps: loop {
+        match next_step(trail, clauses) {
+            Step::Conflict(number) => return Closed::Conflict(number),
+            Step::Rest => return Closed::Quiet,
+            Step::Unit(number, lit) => {
                 let level = trail.level();
                 trail.push(Entry {
-                    lit: unit.1,
-                    reason: Some(unit.0),
+                    lit,
+                    reason: Some(number),
                     level,
                 });
             }

@@ -1,11 +1,11 @@
-//! The trail, with the look-ups by which propagation reads it.
-ghost use Rattle.std.specs.Prelude.{◌≡◌, ◌≤◌, ◌<◌, ◌^◌, [], ◌∷◌, ◌++◌, false, take, IfOk};
-ghost use Rattle.theory.specs.Literals.{IsVariable, has, has_var};
+//! The trail, with tables by variable, so that each look-up is one step.
+ghost use Rattle.std.specs.Prelude.{◌≡◌, ◌≤◌, ◌<◌, ◌^◌, ◌+◌, ℕ, [], ◌∷◌, ◌++◌, true, false, length, take, IfOk, None, Some, slice_index, slice_index_or, if◌then◌else◌, ◌⊎◌, is_some};
+ghost use Rattle.theory.specs.Literals.{IsVariable, has_var};
 ghost use Rattle.theory.specs.Trails.{literals, current_level, entry_of, least_free, up_to};
 ghost use Rattle.kernel.specs.Held.{IsOrdered, IsRisingFrom};
+ghost use Rattle.kernel.specs.Tables.{value_in};
 
 use crate::entry::Entry;
-use cnf::Lit;
 use std::alloc::{AllocError, Global};
 use std::marker::Model;
 
@@ -14,82 +14,31 @@ use std::marker::Model;
 pub struct Trail {
     vars: u32,
     entries: Vec<Entry>,
+    // by variable: its truth value, and none while it is free
+    values: Vec<Option<bool>>,
+    // by variable: how many entries there are up to its own, and 0 while it is free
+    places: Vec<u32>,
+    // the least free variable, or the number behind the last one
+    next_free: u32,
 }
 
 impl Model for Trail {
     ghost use Rattle.std.specs.Prelude.{◌<◌, ◌≤◌, ◌^◌, vec_capacity};
     ghost use Rattle.kernel.specs.Held.{Held, IsOrdered};
+    ghost use Rattle.kernel.specs.Tables.{AreTables, IsNextFree};
 
     ghost Value = { Held };
 
     ghost view = { λ a. record { vars = a.vars; entries = a.entries.items } };
 
-    ghost invariant = { λ a. IsOrdered a.vars a.entries.items × (a.vars ≤ vec_capacity a.entries) × (a.vars < 2 ^ 32) };
-}
-
-fn has(entries: &[Entry], lit: Lit) -> bool
-    ensures { result ≡ has (literals entries.now) lit }
-{
-    for entry in entries {
-        let entry = *entry;
-        if lit.same(&entry.lit) {
-            return true;
-        }
-    }
-    false
-}
-
-fn has_var(entries: &[Entry], var: u32) -> bool
-    ensures { result ≡ has_var (literals entries.now) var }
-{
-    for entry in entries {
-        let entry = *entry;
-        if var == entry.lit.var() {
-            return true;
-        }
-    }
-    false
-}
-
-fn entry_of(entries: &[Entry], var: u32) -> Option<Entry>
-    ensures { result ≡ entry_of entries.now var }
-{
-    for entry in entries {
-        let entry = *entry;
-        if entry.lit.var() == var {
-            return Some(entry);
-        }
-    }
-    None
-}
-
-fn least_free(entries: &[Entry], vars: u32) -> Option<u32>
-    ensures { result ≡ least_free vars entries.now }
-{
-    for index in 0..vars {
-        if !has_var(entries, index + 1) {
-            return Some(index + 1);
-        }
-    }
-    None
-}
-
-fn current_level(entries: &[Entry]) -> u32
-    ensures { result ≡ current_level entries.now }
-{
-    match entries.last() {
-        Some(entry) => {
-            let entry = *entry;
-            entry.level
-        }
-        None => 0,
-    }
+    ghost invariant = { λ a. IsOrdered a.vars a.entries.items × (a.vars ≤ vec_capacity a.entries) × (a.vars < 2 ^ 31) × AreTables a.vars a.entries.items a.values.items a.places.items × IsNextFree a.vars a.entries.items a.next_free };
 }
 
 /// How many entries there are up to a level.
 fn count_up_to(entries: &[Entry], level: u32) -> usize
     requires { IsRisingFrom 0 entries.now }
-    ensures { take result entries.now ≡ up_to entries.now level }
+    ensures within { result ≤ length entries.now }
+    ensures entries { take result entries.now ≡ up_to entries.now level }
 {
     let mut count = entries.len();
     while count > 0 {
@@ -102,18 +51,70 @@ fn count_up_to(entries: &[Entry], level: u32) -> usize
     0
 }
 
+/// Makes the variables of entries free in the tables.
+fn free_all(values: &mut [Option<bool>], places: &mut [u32], dropped: &[Entry])
+    requires { (v : ℕ) → has_var (literals dropped.now) v ≡ true → (v < length values.old) × (v < length places.old) }
+    ensures values { (v : ℕ) → slice_index_or values.new v None ≡ (if has_var (literals dropped.now) v then None else slice_index_or values.old v None) }
+    ensures places { (v : ℕ) → slice_index places.new v ≡ (if has_var (literals dropped.now) v then 0 else slice_index places.old v) }
+{
+    for entry in dropped {
+        let entry = *entry;
+        let var = entry.lit.var() as usize;
+        values[var] = None;
+        places[var] = 0;
+    }
+}
+
+/// The least of a bound and the variables of entries.
+fn least_var(dropped: &[Entry], bound: u32) -> u32
+    ensures most { result ≤ bound }
+    ensures least { (v : ℕ) → has_var (literals dropped.now) v ≡ true → result ≤ v }
+    ensures there { (result ≡ bound) ⊎ (has_var (literals dropped.now) result ≡ true) }
+{
+    let mut least = bound;
+    for entry in dropped {
+        let entry = *entry;
+        least = least.min(entry.lit.var());
+    }
+    least
+}
+
+/// The first number, from one on, that has no value.
+fn first_without_value(values: &[Option<bool>], from: u32) -> u32
+    requires within { from ≤ length values.now }
+    requires small { length values.now < 2 ^ 32 }
+    ensures low { from ≤ result }
+    ensures high { result ≤ length values.now }
+    ensures before { (v : ℕ) → from ≤ v → v < result → is_some (slice_index_or values.now v None) ≡ true }
+    ensures found { slice_index_or values.now result None ≡ None }
+{
+    let mut var = from;
+    while (var as usize) < values.len() && values[var as usize].is_some() {
+        var += 1;
+    }
+    var
+}
+
 impl Trail {
     /// No entries, and room for one of each variable.
     pub fn with_room(alloc: Global, vars: u32) -> Result<Trail, AllocError>
+        requires { vars < 2 ^ 31 }
         ensures { IfOk result (λ t. t ≡ record { vars = vars; entries = [] }) }
     {
-        let entries = Vec::with_capacity(alloc, vars as usize)?;
-        Ok(Trail { vars, entries })
+        let count = vars as usize;
+        Ok(Trail {
+            vars,
+            entries: Vec::with_capacity(alloc, count)?,
+            values: vec![in alloc; None; count + 1]?,
+            places: vec![in alloc; 0; count + 1]?,
+            next_free: 1,
+        })
     }
 
     /// The number of variables.
     pub fn vars(&self) -> u32
-        ensures { result ≡ self.now.vars }
+        ensures vars { result ≡ self.now.vars }
+        ensures ordered { IsOrdered self.now.vars self.now.entries }
     {
         self.vars
     }
@@ -130,40 +131,51 @@ impl Trail {
     pub fn level(&self) -> u32
         ensures level { result ≡ current_level self.now.entries }
         ensures ordered { IsOrdered self.now.vars self.now.entries }
-        ensures small { self.now.vars < 2 ^ 32 }
+        ensures small { self.now.vars < 2 ^ 31 }
     {
-        current_level(&self.entries)
+        match self.entries.last() {
+            Some(entry) => {
+                let entry = *entry;
+                entry.level
+            }
+            None => 0,
+        }
     }
 
-    /// The entry of a variable. Any other number has none.
+    /// The truth value of a variable, and none while it is free.
+    pub fn value(&self, var: u32) -> Option<bool>
+        requires { var ≤ self.now.vars }
+        ensures value { result ≡ value_in self.now.entries var }
+        ensures ordered { IsOrdered self.now.vars self.now.entries }
+    {
+        self.values[var as usize]
+    }
+
+    /// The entry of a variable, and none while it is free.
     pub fn entry(&self, var: u32) -> Option<Entry>
+        requires { var ≤ self.now.vars }
         ensures { result ≡ entry_of self.now.entries var }
     {
-        entry_of(&self.entries, var)
-    }
-
-    /// Whether a variable has an entry.
-    pub fn has_var(&self, var: u32) -> bool
-        ensures { result ≡ has_var (literals self.now.entries) var }
-    {
-        has_var(&self.entries, var)
-    }
-
-    /// Whether a literal is on the trail.
-    pub fn has(&self, lit: Lit) -> bool
-        ensures { result ≡ has (literals self.now.entries) lit }
-    {
-        has(&self.entries, lit)
+        let place = self.places[var as usize] as usize;
+        if place == 0 {
+            None
+        } else {
+            Some(self.entries[place - 1])
+        }
     }
 
     /// The least variable without an entry.
     pub fn least_free(&self) -> Option<u32>
         ensures { result ≡ least_free self.now.vars self.now.entries }
     {
-        least_free(&self.entries, self.vars)
+        if self.next_free <= self.vars {
+            Some(self.next_free)
+        } else {
+            None
+        }
     }
 
-    /// Puts an entry at the end. It takes no memory.
+    /// Puts an entry at the end. It takes no memory, and time by the variables that the least free one moves on by.
     pub fn push(&mut self, entry: Entry)
         requires is_variable { IsVariable self.old.vars entry.lit.var }
         requires is_free { has_var (literals self.old.entries) entry.lit.var ≡ false }
@@ -175,6 +187,10 @@ impl Trail {
             Ok(()) => {}
             Err(_) => unreachable!(),
         }
+        let var = entry.lit.var();
+        self.values[var as usize] = Some(entry.lit.positive());
+        self.places[var as usize] = self.entries.len() as u32;
+        self.next_free = first_without_value(&self.values, self.next_free);
     }
 
     /// Takes the entries above a level off. It takes time by them.
@@ -183,6 +199,9 @@ impl Trail {
         ensures vars { self.new.vars ≡ self.old.vars }
     {
         let count = count_up_to(&self.entries, level);
+        let dropped = &self.entries[count..];
+        free_all(&mut self.values, &mut self.places, dropped);
+        self.next_free = least_var(dropped, self.next_free);
         self.entries.truncate(count);
     }
 }

@@ -1,4 +1,4 @@
-use Rattle.std.proofs.Common.{◌≡◌, length, arith, None}
+use Rattle.std.proofs.Common.{arith}
 use Rattle.std.proofs.lemmas.List.{nil_from_length}
 use Rattle.kernel.proofs.Cubes.{IsCube-popped, popped-is_new}
 use Rattle.kernel.proofs.cube.Cube.pop.Goals as goal
@@ -10,4 +10,4 @@ pub returns : goal.returns
 returns c =
     rw (← c.self.view_is)
     (popped-is_new c.self.inside.lits.items c.pop.new.self.items c.pop.result c.self.invariant c.pop.ensures.items
-        (λ e. let none = rw e at c.pop.ensures.cases in let ok = c.self.inside.lits.ok in nil_from_length _ (omega arith)))
+    (λ e. let none = rw e at c.pop.ensures.cases in let ok = c.self.inside.lits.ok in nil_from_length _ (omega arith)))

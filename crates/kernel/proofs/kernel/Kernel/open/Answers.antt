@@ -1,28 +1,29 @@
-use Rattle.std.proofs.Common.{◌≡◌, All, ap, sym, subst, ◌∙◌}
-use Rattle.theory.specs.Truth.{IsOver}
-use Rattle.theory.specs.Trails.{cube_trail, literals}
-use Rattle.theory.specs.Lawful.{IsLawful}
+use Rattle.std.proofs.Common.{◌≡◌, ap, ◌∙◌}
+use Rattle.theory.specs.Trails.{cube_trail}
 use Rattle.theory.proofs.TrailEntries.{IsLawful-cube}
 use Rattle.kernel.specs.Held.{Held}
 use Rattle.kernel.proofs.Cubes.{literals-cube_trail}
 use Rattle.kernel.proofs.kernel.Kernel.open.Goals as goal
 
+-- the parts of the kernel, as the calls have told them
+vars_of : (c : goal.In_ok-trail) → c.in_ok-trail.trail.vars ≡ c.args.formula.now.vars
+vars_of c = ap (λ (t : Held). t.vars) c.in_ok-trail.ensures ∙ c.vars.ensures.vars
+
+entries_of : (c : goal.In_ok-trail) → c.in_ok-trail.trail.entries ≡ cube_trail c.args.cube.now
+entries_of c = ap (λ (t : Held). t.entries) c.in_ok-trail.ensures ∙ ap cube_trail c.lits.ensures.lits
+
+clauses_are : (c : goal.In_ok-trail) → c.in_ok-clauses.clauses ≡ c.args.formula.now.clauses
+clauses_are c = c.in_ok-clauses.ensures ∙ c.clauses.ensures.clauses
 
 pub invariant_of-result : goal.invariant_of-result
-invariant_of-result c =
-    let vars : c.in_ok-trail.trail.vars ≡ c.args.formula.now.vars = ap (λ (t : Held). t.vars) c.in_ok-trail.ensures ∙ c.vars.ensures.vars in
-    let entries : c.in_ok-trail.trail.entries ≡ cube_trail c.args.cube.now = ap (λ (t : Held). t.entries) c.in_ok-trail.ensures ∙ ap cube_trail c.lits.ensures.lits in
-    (rw entries (IsLawful-cube _ _ c.lits.ensures.cube), rw (vars, c.in_ok-clauses.ensures) c.vars.ensures.within.formula)
+invariant_of-result c = (rw (entries_of c) (IsLawful-cube _ _ c.lits.ensures.cube), rw (vars_of c, clauses_are c) c.vars.ensures.within.formula)
 
 pub returns-clause-lawful : goal.returns-clause-lawful
-returns-clause-lawful c =
-    let vars : c.in_ok-trail.trail.vars ≡ c.args.formula.now.vars = ap (λ (t : Held). t.vars) c.in_ok-trail.ensures ∙ c.vars.ensures.vars in
-    let entries : c.in_ok-trail.trail.entries ≡ cube_trail c.args.cube.now = ap (λ (t : Held). t.entries) c.in_ok-trail.ensures ∙ ap cube_trail c.lits.ensures.lits in
-    (
-      rw entries (IsLawful-cube _ _ c.lits.ensures.cube),
-      rw (vars, entries, literals-cube_trail c.args.cube.now) c.requires,
-      rw (vars, c.in_ok-clauses.ensures) c.vars.ensures.within.formula
-    )
+returns-clause-lawful c = (
+  rw (entries_of c) (IsLawful-cube _ _ c.lits.ensures.cube),
+  rw (vars_of c, entries_of c, literals-cube_trail c.args.cube.now) c.requires,
+  rw (vars_of c, clauses_are c) c.vars.ensures.within.formula,
+)
 
 pub returns-clause-few : goal.returns-clause-few
-returns-clause-few c = rw (ap (λ (t : Held). t.vars) c.in_ok-trail.ensures ∙ c.vars.ensures.vars) c.vars.ensures.within.vars
+returns-clause-few c = rw (vars_of c) c.vars.ensures.within.vars

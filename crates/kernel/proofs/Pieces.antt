@@ -1,0 +1,63 @@
+-- Lists that lie one behind the other: one more at the end, and the one at a place.
+use Rattle.std.proofs.Common.{◌≡◌, ℕ, zero, suc, ◌+◌, ◌-◌, ◌<◌, ◌≤◌, List, [], ◌∷◌, ◌++◌, length, take, drop, get_or, Some, slice_get, refl, ap, sym, ◌∙◌, arith}
+use Rattle.std.specs.List.{slice_range}
+use Rattle.std.proofs.lemmas.List.{take-append-le, drop-append-le, length-drop}
+use Rattle.std.proofs.Math.Seq.{drop-append_seam}
+use Rattle.kernel.specs.Pieces.{pieces, AreEnds, start_at}
+
+pub start_at-behind : (from : ℕ) (ends : List ℕ) (i : ℕ) → 0 < i → start_at from ends i ≡ get_or ends (i - 1) 0
+start_at-behind from ends zero some = absurd (omega arith)
+start_at-behind from ends (suc i) some = let down : suc i - 1 ≡ i = omega arith in ap (λ n. get_or ends n 0) (sym down)
+
+pub length-pieces : {X : Type 0} (from : ℕ) (xs : List X) (ends : List ℕ) → length (pieces from xs ends) ≡ length ends
+length-pieces from xs [] = refl
+length-pieces from xs (end ∷ ends) = ap suc (length-pieces end xs ends)
+
+ends-last : (from : ℕ) (ends : List ℕ) (n : ℕ) → AreEnds from ends n → from ≤ n
+ends-last from [] n h = omega arith
+ends-last from (end ∷ ends) n h = let low = h.0 in let more : end ≤ n = ends-last end ends n h.1 in omega arith
+
+pub AreEnds-push : (from : ℕ) (ends : List ℕ) (n m : ℕ) → AreEnds from ends n → n ≤ m → AreEnds from (ends ++ m ∷ []) m
+AreEnds-push from [] n m h more = (omega arith, refl)
+AreEnds-push from (end ∷ ends) n m h more = (h.0, AreEnds-push end ends n m h.1 more)
+
+pub take-whole : {X : Type 0} (n : ℕ) (xs : List X) → length xs ≡ n → take n xs ≡ xs
+take-whole zero [] h = refl
+take-whole zero (x ∷ xs) h = absurd (omega arith)
+take-whole (suc n) [] h = refl
+take-whole (suc n) (x ∷ xs) h = ap (λ ys. x ∷ ys) (take-whole n xs (omega arith))
+
+-- what lies before the end of xs is there in a longer list
+range-front : {X : Type 0} (xs ys : List X) (a b : ℕ) → a ≤ b → b ≤ length xs → slice_range (xs ++ ys) a b ≡ slice_range xs a b
+range-front xs ys a b low high =
+    let here : drop a (xs ++ ys) ≡ drop a xs ++ ys = drop-append-le a xs ys (omega arith) in
+    let long : length (drop a xs) ≡ length xs - a = length-drop a xs in
+    ap (take (b - a)) here ∙ take-append-le (b - a) (drop a xs) ys (omega arith)
+
+range-back : {X : Type 0} (xs ys : List X) (m : ℕ) → m ≡ length xs + length ys → slice_range (xs ++ ys) (length xs) m ≡ ys
+range-back xs ys m e = ap (take (m - length xs)) (drop-append_seam xs ys) ∙ take-whole (m - length xs) ys (omega arith)
+
+pub pieces-push : {X : Type 0} (from : ℕ) (xs ys : List X) (ends : List ℕ) (m : ℕ) → AreEnds from ends (length xs) → m ≡ length xs + length ys
+    → pieces from (xs ++ ys) (ends ++ m ∷ []) ≡ pieces from xs ends ++ ys ∷ []
+pieces-push from xs ys [] m h e = ap (λ zs. zs ∷ []) (ap (λ n. slice_range (xs ++ ys) n m) h ∙ range-back xs ys m e)
+pieces-push {X} from xs ys (end ∷ ends) m h e =
+    let here : slice_range (xs ++ ys) from end ≡ slice_range xs from end = range-front xs ys from end h.0 (ends-last end ends (length xs) h.1) in
+    ap (λ zs. zs ∷ pieces end (xs ++ ys) (ends ++ m ∷ [])) here ∙ ap (λ (k : List (List X)). slice_range xs from end ∷ k) (pieces-push end xs ys ends m h.1 e)
+
+pub pieces-at : {X : Type 0} (from : ℕ) (xs : List X) (ends : List ℕ) (i : ℕ) → i < length ends
+    → slice_get (pieces from xs ends) i ≡ Some (slice_range xs (start_at from ends i) (get_or ends i 0))
+pieces-at from xs [] i less = absurd (omega arith)
+pieces-at from xs (end ∷ ends) zero less = refl
+pieces-at from xs (end ∷ ends) (suc zero) less = pieces-at end xs ends zero (omega arith)
+pieces-at from xs (end ∷ ends) (suc (suc i)) less = pieces-at end xs ends (suc i) (omega arith)
+
+pub start-le : (from : ℕ) (ends : List ℕ) (n i : ℕ) → AreEnds from ends n → i < length ends → start_at from ends i ≤ get_or ends i 0
+start-le from [] n i h less = absurd (omega arith)
+start-le from (end ∷ ends) n zero h less = h.0
+start-le from (end ∷ ends) n (suc zero) h less = start-le end ends n zero h.1 (omega arith)
+start-le from (end ∷ ends) n (suc (suc i)) h less = start-le end ends n (suc i) h.1 (omega arith)
+
+pub end-le : (from : ℕ) (ends : List ℕ) (n i : ℕ) → AreEnds from ends n → i < length ends → get_or ends i 0 ≤ n
+end-le from [] n i h less = absurd (omega arith)
+end-le from (end ∷ ends) n zero h less = ends-last end ends n h.1
+end-le from (end ∷ ends) n (suc i) h less = end-le end ends n i h.1 (omega arith)

@@ -1,7 +1,0 @@
-use Rattle.theory.specs.Trails.{literals}
-use Rattle.kernel.proofs.Numbering.{IsFalseLeft}
-use Rattle.kernel.proofs.scan.least_false.Given as goal
-
--- what is left gives the answer
-abbrev pub invariant-loop-index : goal.invariant-loop-index
-invariant-loop-index l = IsFalseLeft (literals l.trail.entries) l.clauses l.index
