@@ -1,0 +1,10 @@
+use crate::{Formula, ReadFault, read_formula};
+use std::test::Fail;
+
+#[test]
+fn reads(rt: HostRuntime) -> Result<(), Fail> {
+    let formula = read_formula(rt.alloc(), b"c x\np cnf 2 1\n1\nc mid\n2 0\n")?;
+    assert_eq!(rt; formula.vars(), 2);
+    assert_eq!(rt; formula.clauses().len(), 1);
+    Ok(())
+}
