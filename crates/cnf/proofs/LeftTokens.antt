@@ -9,6 +9,7 @@ use Rattle.theory.specs.Reading.{Placed, word, header_end, is_comment, tokens_af
 use Rattle.cnf.specs.Tokens.{Part, before_header, in_header, behind_header, is_word_byte, place_after, place_behind, place_at, lines_tokens, rest_tokens, tokens_left}
 use Rattle.cnf.specs.Words.{IsWordAt, word_at}
 use Rattle.cnf.proofs.TokenLemmas.{HasLines, lines_of-some, lines_of-lf, lines_of-other, lines_of-front, has_no_lf, is_word, is_word-no_lf, other_byte, at_column, behind_word, rest-word, rest-blank, no_word-first, lines-plain, lines-comment, lines-newline}
+use Rattle.cnf.proofs.SliceLemmas.{slice_append, length-slice, get_or-slice}
 use Rattle.cnf.proofs.PlaceLemmas.{not_lf, place_behind-append, place_at-more, place_after-lf, place_after-other, place_behind-no_lf}
 
 -- a blank
@@ -93,18 +94,6 @@ comment-rest part n p (b ∷ w) bs no_lf some first end h e l =
     ∙ lines-comment part n (b ∷ w ++ l.first) l.others p (comment-first b w l.first first) h e
     ∙ ap (λ (line : List ℕ). rest_tokens part p (line ∷ l.others)) (sym none)
     ∙ ap (rest_tokens part p) (sym l.are)
-
--- bytes from i on, below j
-pub slice_append : (bytes : List ℕ) (i j : ℕ) → i ≤ j → slice_range bytes i j ++ drop j bytes ≡ drop i bytes
-slice_append bytes i j h =
-    ap (λ (r : List ℕ). slice_range bytes i j ++ r) (ap (λ k. drop k bytes) (let e : j ≡ i + (j - i) = omega arith in e) ∙ sym (drop-drop (j - i) i bytes))
-    ∙ take-append-drop (j - i) (drop i bytes)
-
-pub length-slice : (bytes : List ℕ) (i j : ℕ) → i ≤ j → j ≤ length bytes → length (slice_range bytes i j) ≡ j - i
-length-slice bytes i j h within = length-take (j - i) (drop i bytes) ∙ (let e : Prim.Native.Nat.min (j - i) (length (drop i bytes)) ≡ j - i = omega (arith, length-drop i bytes) in e)
-
-pub get_or-slice : (bytes : List ℕ) (i j k : ℕ) → i + k < j → get_or (slice_range bytes i j) k 0 ≡ get_or bytes (i + k) 0
-get_or-slice bytes i j k h = get_or-take (j - i) (drop i bytes) k 0 (omega arith) ∙ get_or-drop i bytes k 0
 
 no_lf-from : (w : List ℕ) → ((k : ℕ) → k < length w → get_or w k 0 ≡ 10 → ⊥) → has_no_lf w ≡ true
 no_lf-from [] h = refl

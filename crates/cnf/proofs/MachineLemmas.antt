@@ -179,10 +179,20 @@ run-read s before [] end k = same-end s before end k
 run-read s before (t ∷ ts) end k = go (step s t.token) refl (λ next. run-read next (before ++ t.token ∷ []) ts end)
   where
     go : (o : Option State) → step s t.token ≡ o → ((next : State) → Knows next (before ++ t.token ∷ []) → read_on next (before ++ t.token ∷ []) ts end ≡ run next ts end)
-        → (elim o [ Some next ↦ read_on next (before ++ t.token ∷ []) ts end | None ↦ refusal (fault_at before t.token) t.place ])
-          ≡ (elim o [ Some next ↦ run next ts end | None ↦ refusal (fault_in s t.token) t.place ])
+        → ◌≡◌ {A = Reading} (elim o [ Some next ↦ read_on next (before ++ t.token ∷ []) ts end | None ↦ refusal (fault_at before t.token) t.place ])
+          (elim o [ Some next ↦ run next ts end | None ↦ refusal (fault_in s t.token) t.place ])
     go (Some next) e more = more next (knows-step s next before t.token k e)
     go None e more = ap (λ f. refusal f t.place) (same-fault s before t.token k)
 
 pub reading_of-read : (bytes : List ℕ) → read bytes ≡ reading_of bytes
 reading_of-read bytes = run-read at_p [] (tokens_of bytes) (end_of bytes) refl
+
+-- one step
+abbrev after_step : State → Placed → List Placed → Place → Option State → Reading
+after_step s t ts end o = elim o [ Some next ↦ run next ts end | None ↦ refusal (fault_in s t.token) t.place ]
+
+pub run-step : (s next : State) (t : Placed) (ts : List Placed) (end : Place) → step s t.token ≡ Some next → run s (t ∷ ts) end ≡ run next ts end
+run-step s next t ts end e = ap (after_step s t ts end) e
+
+pub run-fault : (s : State) (t : Placed) (ts : List Placed) (end : Place) → step s t.token ≡ None → run s (t ∷ ts) end ≡ refusal (fault_in s t.token) t.place
+run-fault s t ts end e = ap (after_step s t ts end) e
