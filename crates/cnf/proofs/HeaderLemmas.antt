@@ -147,9 +147,14 @@ module _ (vars : Option ℕ) (bytes : List ℕ) (i j : ℕ) (w : IsWordAt bytes 
 pub header_end-read : (V C : ℕ) (bytes : List ℕ) (i : ℕ) → (i < length bytes → get_or bytes i 0 ≡ 10) → reads_from (at_header_end V C) in_header bytes i ≡ reads_from (at_body V C [] []) behind_header bytes i
 header_end-read V C bytes i e = ap (λ (ts : List Placed). run (at_header_end V C) ts (end_of bytes)) (tokens_left-header_end bytes i e)
 
-pub fifth-refused : (V C : ℕ) (bytes : List ℕ) (i : ℕ) (ts : List Placed) (text : List ℕ) → tokens_left in_header bytes i ≡ record { token = word text; place = place_at bytes i } ∷ ts
-    → reads_from (at_header_end V C) in_header bytes i ≡ refusal bad_header (place_at bytes i)
-fifth-refused V C bytes i ts text e = ap (λ (us : List Placed). run (at_header_end V C) us (end_of bytes)) e
+pub fifth-refused : (V C : ℕ) (bytes : List ℕ) (i j : ℕ) → IsRun bytes i j → i < j → reads_from (at_header_end V C) in_header bytes i ≡ refusal bad_header (place_at bytes i)
+fifth-refused V C bytes i j r l = ap (λ (us : List Placed). run (at_header_end V C) us (end_of bytes)) (tokens_left-word in_header bytes i j (record { some = l; all = r.all }) r.within r.end)
+
+pub line-ends : (bytes : List ℕ) (i j : ℕ) → IsRun bytes i j → j ≤ i → (i < length bytes → (get_or bytes i 0 ≡ 10 → ⊥) → is_word_byte (get_or bytes i 0) ≡ true) → i < length bytes → get_or bytes i 0 ≡ 10
+line-ends bytes i j r le h l = elim (cases_eq (get_or bytes i 0) 10) [
+  | inl e ↦ e
+  | inr n ↦ absurd (let above = r.above in let w : is_word_byte (get_or bytes i 0) ≡ true = h l n in let same : is_word_byte (get_or bytes i 0) ≡ is_word_byte (get_or bytes j 0) = ap (λ k. is_word_byte (get_or bytes k 0)) (let e : i ≡ j = omega arith in e) in let f = r.end (omega arith) in cc)
+]
 
 pub not-true : (r : Bool) → not r ≡ true → r ≡ false
 not-true true h = absurd (cc)

@@ -89,7 +89,7 @@ pub fn read_header(bytes: &[u8]) -> Result<Header, ReadFault>
     let vars = read_limited(bytes, cnf, MAX_VARS)?;
     let clauses = read_limited(bytes, vars.end, MAX_CLAUSES)?;
     let end = skip_blanks(bytes, clauses.end);
-    if end < bytes.len() && bytes[end] != b'\n' {
+    if end < word_end(bytes, end) {
         return Err(ReadFault::BadHeader(place_at(bytes, end)));
     }
     Ok(Header {
