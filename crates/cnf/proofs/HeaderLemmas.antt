@@ -1,16 +1,16 @@
 -- The header's tokens and the machine.
-use Rattle.std.proofs.Common.{◌≡◌, ℕ, zero, suc, ◌+◌, ◌-◌, ◌<◌, ◌≤◌, min, Bool, true, false, not, ◌&&◌, ◌||◌, ◌⊎◌, inl, inr, List, [], ◌∷◌, ◌++◌, length, get_or, Option, Some, None, nat_le, cond, codes, refl, sym, ap, subst, ◌∙◌, arith, le-leb, leb-true}
+use Rattle.std.proofs.Common.{◌≡◌, ℕ, ◌-◌, ◌<◌, ◌≤◌, min, Bool, true, false, not, ◌⊎◌, inl, inr, List, [], ◌∷◌, length, get_or, Option, Some, None, nat_le, codes, refl, sym, ap, ◌∙◌, arith, le-leb, leb-true}
 use Rattle.std.specs.List.{slice_range}
 use Rattle.std.proofs.lemmas.Bool.{cases_lt, cases_eq}
 use Rattle.theory.specs.Tokens.{Place, is_text, is_natural_text, size_of}
-use Rattle.theory.specs.Reading.{Token, word, header_end, Placed, tokens_of, end_of, max_vars, max_clauses, ReadFault, no_header, bad_header, over_limit, header_number_fault, Reading, refusal}
-use Rattle.theory.proofs.ReadingMachine.{State, at_p, at_cnf, at_vars, at_clauses, at_header_end, at_body, on_p, on_cnf, on_vars, on_clauses}
-use Rattle.cnf.specs.Tokens.{Part, before_header, in_header, behind_header, is_word_byte, place_at, tokens_left}
+use Rattle.theory.specs.Reading.{word, Placed, tokens_of, end_of, no_header, bad_header, over_limit, header_number_fault, refusal}
+use Rattle.theory.proofs.ReadingMachine.{at_p, at_cnf, at_vars, at_clauses, at_header_end, at_body, on_p, on_cnf, on_vars, on_clauses}
+use Rattle.cnf.specs.Tokens.{before_header, in_header, behind_header, is_word_byte, place_at, tokens_left}
 use Rattle.cnf.specs.Words.{IsWordAt, word_at}
 use Rattle.cnf.specs.Machine.{run, reads_from, reading_of, number_limit, at_number, behind_number}
 use Rattle.cnf.proofs.PlaceLemmas.{end_of-place}
 use Rattle.cnf.proofs.MachineLemmas.{run-step, run-fault}
-use Rattle.cnf.proofs.LeftTokens.{tokens_left-word, tokens_left-header_end, tokens_left-end, tokens_of-left}
+use Rattle.cnf.proofs.LeftTokens.{tokens_left-word, tokens_left-header_end, tokens_left-end}
 use Rattle.cnf.proofs.SliceLemmas.{length-slice}
 
 -- a longest run of word bytes: where it begins and ends
@@ -58,9 +58,9 @@ pub p-refused : (bytes : List ℕ) (i j : ℕ) → tokens_left before_header byt
     → is_text (slice_range bytes i j) (codes "p") ≡ false → reading_of bytes ≡ refusal no_header (place_at bytes i)
 p-refused bytes i j e r w h = elim (cases_lt i (length bytes)) [
   | inl l ↦ ap (λ (ts : List Placed). run at_p ts (end_of bytes)) (sym e ∙ tokens_left-word before_header bytes i j (word-run bytes i j r l (w l)) r.within r.end)
-    ∙ p-fault (slice_range bytes i j) (place_at bytes i) (tokens_left in_header bytes j) (end_of bytes) h
+      ∙ p-fault (slice_range bytes i j) (place_at bytes i) (tokens_left in_header bytes j) (end_of bytes) h
   | inr g ↦ ap (λ (ts : List Placed). run at_p ts (end_of bytes)) (sym e ∙ tokens_left-end before_header bytes i g (λ x. cc))
-    ∙ ap (λ (p : Place). refusal no_header p) (end_of-place bytes ∙ ap (place_at bytes) (let a = r.above in let b = r.within in let s : length bytes ≡ i = omega arith in s))
+      ∙ ap (λ (p : Place). refusal no_header p) (end_of-place bytes ∙ ap (place_at bytes) (let a = r.above in let b = r.within in let s : length bytes ≡ i = omega arith in s))
 ]
 
 -- the second
@@ -88,7 +88,7 @@ pub cnf-refused : (bytes : List ℕ) (i j : ℕ) → IsRun bytes i j → (i < le
     → is_text (slice_range bytes i j) (codes "cnf") ≡ false → reads_from at_cnf in_header bytes i ≡ refusal bad_header (place_at bytes i)
 cnf-refused bytes i j r w h = elim (line-cases bytes i w) [
   | inl s ↦ ap (λ (ts : List Placed). run at_cnf ts (end_of bytes)) (tokens_left-word in_header bytes i j (word-run bytes i j r s.0 s.1) r.within r.end)
-    ∙ cnf-fault (slice_range bytes i j) (place_at bytes i) (tokens_left in_header bytes j) (end_of bytes) h
+      ∙ cnf-fault (slice_range bytes i j) (place_at bytes i) (tokens_left in_header bytes j) (end_of bytes) h
   | inr e ↦ ap (λ (ts : List Placed). run at_cnf ts (end_of bytes)) (tokens_left-header_end bytes i e)
 ]
 

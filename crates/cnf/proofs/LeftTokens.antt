@@ -1,12 +1,12 @@
 -- The tokens of what is left of a text, from one of its bytes to a later one.
-use Rattle.std.proofs.Common.{◌≡◌, ℕ, zero, suc, ◌+◌, ◌-◌, ◌<◌, ◌≤◌, Bool, true, false, ◌⊎◌, inl, inr, not, ◌||◌, List, [], ◌∷◌, ◌++◌, length, get_or, take, drop, nat_eq, eqb-true, eq-eqb, refl, sym, ap, ap₂, subst, ◌∙◌, arith, length-drop, length-take-le, get_or-take}
+use Rattle.std.proofs.Common.{◌≡◌, ℕ, suc, ◌+◌, ◌-◌, ◌<◌, ◌≤◌, Bool, true, false, inl, inr, List, [], ◌∷◌, ◌++◌, length, get_or, take, drop, nat_eq, eqb-true, eq-eqb, refl, sym, ap, subst, ◌∙◌, arith, length-drop}
 use Rattle.std.specs.List.{slice_range}
-use Rattle.std.proofs.lemmas.List.{take_more, drop_more, drop_all, take-append-drop, drop-drop, get_or-drop, length-take}
+use Rattle.std.proofs.lemmas.List.{drop_more, drop_all, get_or-drop}
 use Rattle.std.proofs.Math.Seq.{take-add}
 use Rattle.std.proofs.lemmas.Bool.{cases_lt}
 use Rattle.theory.specs.Tokens.{Place, lines_of, is_blank}
-use Rattle.theory.specs.Reading.{Placed, word, header_end, is_comment, tokens_after_header, tokens_of, end_of}
-use Rattle.cnf.specs.Tokens.{Part, before_header, in_header, behind_header, is_word_byte, place_after, place_behind, place_at, lines_tokens, rest_tokens, tokens_left}
+use Rattle.theory.specs.Reading.{word, header_end, is_comment, tokens_after_header, tokens_of}
+use Rattle.cnf.specs.Tokens.{Part, before_header, in_header, behind_header, is_word_byte, place_behind, place_at, lines_tokens, rest_tokens, tokens_left}
 use Rattle.cnf.specs.Words.{IsWordAt, word_at}
 use Rattle.cnf.proofs.TokenLemmas.{HasLines, lines_of-some, lines_of-lf, lines_of-other, lines_of-front, has_no_lf, is_word, is_word-no_lf, other_byte, at_column, behind_word, rest-word, rest-blank, no_word-first, lines-plain, lines-comment, lines-newline}
 use Rattle.cnf.proofs.SliceLemmas.{slice_append, length-slice, get_or-slice}
@@ -118,9 +118,9 @@ unfolding tokens_left
 tokens_left-comment part bytes i j some first above within none end h =
     sym (ap (λ (bs : List ℕ). lines_tokens part (place_at bytes i).line (lines_of bs)) (sym (slice_append bytes i j above))
     ∙ comment-rest part (place_at bytes i).line (place_at bytes j) (slice_range bytes i j) (drop j bytes) no_lf
-      (let f = above_first in omega (arith, length-slice bytes i j above within)) (get_or-slice bytes i j 0 (let f = above_first in omega arith) ∙ ap (λ k. get_or bytes k 0) (let e : i + 0 ≡ i = omega arith in e) ∙ first)
-      (λ l. get_or-drop j bytes 0 0 ∙ ap (λ k. get_or bytes k 0) (let e : j + 0 ≡ j = omega arith in e) ∙ end (omega (arith, length-drop j bytes))) h
-      (ap (λ (p : Place). p.line) (place_at-slice bytes i j above within no_lf)) (lines_of-some (drop j bytes)))
+    (let f = above_first in omega (arith, length-slice bytes i j above within)) (get_or-slice bytes i j 0 (let f = above_first in omega arith) ∙ ap (λ k. get_or bytes k 0) (let e : i + 0 ≡ i = omega arith in e) ∙ first)
+    (λ l. get_or-drop j bytes 0 0 ∙ ap (λ k. get_or bytes k 0) (let e : j + 0 ≡ j = omega arith in e) ∙ end (omega (arith, length-drop j bytes))) h
+    (ap (λ (p : Place). p.line) (place_at-slice bytes i j above within no_lf)) (lines_of-some (drop j bytes)))
   where
     above_first : i < j
     above_first = elim (cases_lt i j) [ inl l ↦ l | inr g ↦ absurd (let same : j ≡ i = omega arith in (let e = end (omega arith) in (let f : get_or bytes i 0 ≡ 10 = ap (λ k. get_or bytes k 0) (sym same) ∙ e in (omega arith)))) ]
@@ -155,8 +155,8 @@ tokens_left-plain part bytes i other first h =
     go l bs e =
         ap (lines_tokens part (place_at bytes i).line) l.are
         ∙ lines-plain part (place_at bytes i).line l.first l.others (plain bs l.first l.others (ap lines_of (sym e) ∙ l.are)
-          (λ some f. other (subst (λ (r : List ℕ). 0 < length r → i < length bytes) e (λ m. omega (arith, length-drop i bytes)) some)
-            (ap (λ k. get_or bytes k 0) (let z : i ≡ i + 0 = omega arith in z) ∙ sym (get_or-drop i bytes 0 0) ∙ ap (λ (r : List ℕ). get_or r 0 0) e ∙ f))) h
+        (λ some f. other (subst (λ (r : List ℕ). 0 < length r → i < length bytes) e (λ m. omega (arith, length-drop i bytes)) some)
+        (ap (λ k. get_or bytes k 0) (let z : i ≡ i + 0 = omega arith in z) ∙ sym (get_or-drop i bytes 0 0) ∙ ap (λ (r : List ℕ). get_or r 0 0) e ∙ f))) h
         ∙ ap (rest_tokens part (record { line = (place_at bytes i).line; column = 1 })) (sym l.are)
 
 -- a word
@@ -178,7 +178,7 @@ unfolding tokens_left
 tokens_left-word part bytes i j w within end =
     ap (λ (bs : List ℕ). rest_tokens part (place_at bytes i) (lines_of bs)) (sym (slice_append bytes i j above))
     ∙ word-rest part (place_at bytes i) (slice_range bytes i j) (drop j bytes) (let s = w.some in omega (arith, size)) all
-      (λ l. ap is_word_byte (get_or-drop j bytes 0 0 ∙ ap (λ k. get_or bytes k 0) (let e : j + 0 ≡ j = omega arith in e)) ∙ end (omega (arith, length-drop j bytes))) (lines_of-some (drop j bytes))
+    (λ l. ap is_word_byte (get_or-drop j bytes 0 0 ∙ ap (λ k. get_or bytes k 0) (let e : j + 0 ≡ j = omega arith in e)) ∙ end (omega (arith, length-drop j bytes))) (lines_of-some (drop j bytes))
     ∙ ap (λ (q : Place). word_at bytes i j ∷ rest_tokens (behind_word part) q (lines_of (drop j bytes))) (sym (place_at-slice bytes i j above within (is_word-no_lf (slice_range bytes i j) all)))
   where
     above : i ≤ j

@@ -1,11 +1,11 @@
 -- The machine without the tokens before says what the machine with them says.
-use Rattle.std.proofs.Common.{◌≡◌, ℕ, zero, suc, ◌+◌, ◌<◌, ◌≤◌, Bool, true, false, not, ◌&&◌, List, [], ◌∷◌, ◌++◌, length, Option, Some, None, nat_eq, nat_lt, nat_le, if◌then◌else◌, cond, codes, refl, sym, ap, ap₂, subst, ◌∙◌, arith, append_assoc, count_by, length-append, sum_by, zero-add}
+use Rattle.std.proofs.Common.{◌≡◌, ℕ, ◌+◌, Bool, true, false, not, ◌&&◌, List, [], ◌∷◌, ◌++◌, length, Option, Some, None, nat_eq, nat_lt, nat_le, if◌then◌else◌, cond, codes, refl, sym, ap, subst, ◌∙◌, arith, length-append, sum_by, zero-add}
 use Rattle.std.proofs.lemmas.List.Sums.{sum_by-append}
 use Rattle.theory.specs.Literals.{Literal, Clause}
 use Rattle.theory.specs.Tokens.{Place, is_text, is_zero_text, is_natural_text, is_number_text, size_of}
 use Rattle.theory.specs.Reading.{Token, word, header_end, Placed, tokens_of, end_of, max_vars, max_clauses, max_literals, is_zero, ended, number_in, body_fault, fault_at, fault_at_end, ends_inside, ReadFault, clause_not_ended, too_few_clauses, Reading, formula, refusal}
 use Rattle.theory.proofs.NumberTexts.{literal_of_text}
-use Rattle.theory.proofs.ReadingMachine.{State, at_p, at_cnf, at_vars, at_clauses, at_header_end, at_body, step, on_p, on_cnf, on_vars, on_clauses, on_body, on_literal, at_end, read_on, read}
+use Rattle.theory.proofs.ReadingMachine.{State, at_p, at_cnf, at_vars, at_clauses, at_header_end, at_body, step, on_body, on_literal, at_end, read_on, read}
 use Rattle.cnf.specs.Machine.{clause_fault, fault_in, ends_in, run, reading_of}
 
 -- whether a clause is begun
@@ -92,7 +92,12 @@ on_clause V C cs part before text next k h = go (nat_lt (length cs) C) (is_zero_
         let value : on_body V C cs part text ≡ Some (at_body V C (cs ++ part ∷ []) []) = rw (e, f) refl in
         let same : at_body V C (cs ++ part ∷ []) [] ≡ next = cc in
         subst (λ (s : State). Knows s (before ++ word text ∷ [])) same (record {
-          p = k.p; cnf = k.cnf; vars = k.vars; clauses = k.clauses; end = k.end; body = k.body ++ word text ∷ [];
+          p = k.p;
+          cnf = k.cnf;
+          vars = k.vars;
+          clauses = k.clauses;
+          end = k.end;
+          body = k.body ++ word text ∷ [];
           are = sym more;
           vars_is = k.vars_is;
           clauses_is = k.clauses_is;
@@ -103,7 +108,12 @@ on_clause V C cs part before text next k h = go (nat_lt (length cs) C) (is_zero_
         let value : on_body V C cs part text ≡ on_literal V C cs part text = rw (e, f) refl in
         let w = when (is_number_text text && (nat_le (size_of text) V && nat_lt (sum_by length cs + length part) max_literals)) (at_body V C cs (part ++ literal_of_text text ∷ [])) next (sym value ∙ h) in
         subst (λ (s : State). Knows s (before ++ word text ∷ [])) w.1 (record {
-          p = k.p; cnf = k.cnf; vars = k.vars; clauses = k.clauses; end = k.end; body = k.body ++ word text ∷ [];
+          p = k.p;
+          cnf = k.cnf;
+          vars = k.vars;
+          clauses = k.clauses;
+          end = k.end;
+          body = k.body ++ word text ∷ [];
           are = sym more;
           vars_is = k.vars_is;
           clauses_is = k.clauses_is;
@@ -134,7 +144,12 @@ knows-step (at_clauses V) next before header_end k h = absurd (cc)
 knows-step (at_header_end V C) next before header_end k h =
     let same : at_body V C [] [] ≡ next = cc in
     subst (λ (s : State). Knows s (before ++ header_end ∷ [])) same (record {
-      p = k.p; cnf = k.cnf; vars = k.vars; clauses = k.clauses; end = header_end; body = [];
+      p = k.p;
+      cnf = k.cnf;
+      vars = k.vars;
+      clauses = k.clauses;
+      end = header_end;
+      body = [];
       are = ap (λ (b : List Token). b ++ header_end ∷ []) k.are;
       vars_is = k.vars_is;
       clauses_is = k.clauses_is;
@@ -180,7 +195,7 @@ run-read s before (t ∷ ts) end k = go (step s t.token) refl (λ next. run-read
   where
     go : (o : Option State) → step s t.token ≡ o → ((next : State) → Knows next (before ++ t.token ∷ []) → read_on next (before ++ t.token ∷ []) ts end ≡ run next ts end)
         → ◌≡◌ {A = Reading} (elim o [ Some next ↦ read_on next (before ++ t.token ∷ []) ts end | None ↦ refusal (fault_at before t.token) t.place ])
-          (elim o [ Some next ↦ run next ts end | None ↦ refusal (fault_in s t.token) t.place ])
+        (elim o [ Some next ↦ run next ts end | None ↦ refusal (fault_in s t.token) t.place ])
     go (Some next) e more = more next (knows-step s next before t.token k e)
     go None e more = ap (λ f. refusal f t.place) (same-fault s before t.token k)
 

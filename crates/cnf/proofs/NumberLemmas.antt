@@ -1,5 +1,5 @@
 -- Digits, and words as numbers.
-use Rattle.std.proofs.Common.{◌≡◌, ℕ, zero, suc, ◌+◌, ◌-◌, ◌*◌, ◌<◌, ◌≤◌, min, Bool, true, false, not, ◌&&◌, ◌||◌, ◌⊎◌, inl, inr, List, [], ◌∷◌, ◌++◌, length, get_or, nat_eq, eqb-true, eq-eqb, refl, sym, ap, subst, ◌∙◌, arith, cond, leb-true, nat_le}
+use Rattle.std.proofs.Common.{◌≡◌, ℕ, zero, suc, ◌+◌, ◌-◌, ◌*◌, ◌<◌, ◌≤◌, min, Bool, true, false, not, ◌&&◌, ◌||◌, List, [], ◌∷◌, ◌++◌, length, get_or, nat_eq, eqb-true, eq-eqb, refl, sym, ap, ◌∙◌, arith}
 use Rattle.std.specs.List.{slice_range}
 use Rattle.std.specs.Char.{is_ascii_digit, digit_value}
 use Rattle.std.specs.Str.{all_ascii_digits}
@@ -7,7 +7,7 @@ use Rattle.std.specs.Str.Parse.{digits_value}
 use Rattle.std.proofs.lemmas.Int.Digits.{digits_value_push}
 use Rattle.std.proofs.lemmas.Str.Parse.{tells_all_ascii_digits}
 use Rattle.std.proofs.lemmas.Str.{digit_value_digit}
-use Rattle.theory.specs.Tokens.{is_positive_text, is_zero_text, is_natural_text, is_negative_text, size_of, is_blank}
+use Rattle.theory.specs.Tokens.{is_positive_text, is_zero_text, is_natural_text}
 use Rattle.theory.proofs.LiteralLemmas.{and-left, and-right, or-right}
 use Rattle.cnf.specs.Tokens.{is_word_byte}
 use Rattle.cnf.specs.Words.{is_plain_text, IsNumberOf}
@@ -35,12 +35,13 @@ pub digits-more : (bytes : List ℕ) (i j size next : ℕ) → i ≤ j → j < l
     → size ≡ min 100000000 (digits_value 10 (slice_range bytes i j)) → next ≡ min 100000000 (size * 10 + (get_or bytes j 0 - 48))
     → (all_ascii_digits (slice_range bytes i (j + 1)) ≡ true) × (next ≡ min 100000000 (digits_value 10 (slice_range bytes i (j + 1))))
 digits-more bytes i j size next above within digits digit s n =
-    let more = slice-more bytes i j above within in
-    (ap all_ascii_digits more ∙ digits-push (slice_range bytes i j) (get_or bytes j 0) digits digit,
+    let more = slice-more bytes i j above within in (
+      ap all_ascii_digits more ∙ digits-push (slice_range bytes i j) (get_or bytes j 0) digits digit,
       (let v = digits_value_push 10 (slice_range bytes i j) (get_or bytes j 0) in
-      let d = digit_value-is (get_or bytes j 0) digit in
-      let e : next ≡ min 100000000 (digits_value 10 (slice_range bytes i j ++ get_or bytes j 0 ∷ [])) = omega arith in
-      e ∙ ap (λ (w : List ℕ). min 100000000 (digits_value 10 w)) (sym more)))
+          let d = digit_value-is (get_or bytes j 0) digit in
+          let e : next ≡ min 100000000 (digits_value 10 (slice_range bytes i j ++ get_or bytes j 0 ∷ [])) = omega arith in
+          e ∙ ap (λ (w : List ℕ). min 100000000 (digits_value 10 w)) (sym more)),
+    )
 
 digits-at : (w : List ℕ) (k : ℕ) → all_ascii_digits w ≡ true → k < length w → is_ascii_digit (get_or w k 0) ≡ true
 digits-at [] k h l = absurd (omega arith)
@@ -116,7 +117,7 @@ pub plain-ended : (m : Bool) (bytes : List ℕ) (i k j : ℕ) → i ≤ k → k 
 plain-ended m bytes i k j from to within h =
     plain-other m (slice_range bytes i j)
     (other-digits (slice_range bytes i j) (k - i) (let n = length-slice bytes i j (omega arith) within in omega arith)
-      (ap is_ascii_digit (get_or-slice bytes i j (k - i) (omega arith) ∙ ap (λ n. get_or bytes n 0) (let e : i + (k - i) ≡ k = omega arith in e)) ∙ h))
+    (ap is_ascii_digit (get_or-slice bytes i j (k - i) (omega arith) ∙ ap (λ n. get_or bytes n 0) (let e : i + (k - i) ≡ k = omega arith in e)) ∙ h))
 
 -- a word as a number
 plain-number : (b : ℕ) (w : List ℕ) (plain : Bool) (size : ℕ) → (b ≡ 45 → ⊥) → plain ≡ is_plain_text false (b ∷ w) → (plain ≡ true → size ≡ min 100000000 (digits_value 10 (b ∷ w)))

@@ -1,6 +1,6 @@
 -- Places of bytes: from byte to byte, over a word, and the end's.
-use Rattle.std.proofs.Common.{◌≡◌, ℕ, zero, suc, ◌+◌, ◌-◌, ◌<◌, ◌≤◌, Bool, true, false, List, [], ◌∷◌, ◌++◌, length, get_or, take, drop, nat_eq, eq-eqb, eqb-true, refl, sym, ap, ap₂, ◌∙◌, arith, get_or-take}
-use Rattle.std.proofs.lemmas.List.{take_more, take_all, drop_all, take-append-drop, length-take}
+use Rattle.std.proofs.Common.{◌≡◌, ℕ, ◌+◌, ◌<◌, Bool, true, false, List, [], ◌∷◌, ◌++◌, length, get_or, take, nat_eq, eq-eqb, eqb-true, refl, sym, ap, ap₂, ◌∙◌, arith, get_or-take}
+use Rattle.std.proofs.lemmas.List.{take_more, take_all, length-take}
 use Rattle.theory.specs.Tokens.{Place, lines_of}
 use Rattle.theory.specs.Reading.{end_of, end_from}
 use Rattle.cnf.specs.Tokens.{place_after, place_behind, place_at}

@@ -1,9 +1,8 @@
 -- The tokens of what is left of a line and of the lines behind it, by the first bytes.
-use Rattle.std.proofs.Common.{◌≡◌, ℕ, zero, suc, ◌+◌, ◌-◌, ◌<◌, ◌≤◌, Bool, true, false, not, ◌||◌, List, [], ◌∷◌, ◌++◌, map, length, get_or, take, drop, nat_eq, eqb-true, eq-eqb, refl, sym, ap, ap₂, subst, ◌∙◌, arith, add-one, cond, length-append, if◌then◌else◌}
-use Rattle.std.proofs.lemmas.List.{take_more, drop_more, drop_all}
+use Rattle.std.proofs.Common.{◌≡◌, ℕ, ◌+◌, ◌<◌, Bool, true, false, not, ◌||◌, List, [], ◌∷◌, ◌++◌, map, length, get_or, nat_eq, refl, sym, ap, ap₂, ◌∙◌, arith, length-append, if◌then◌else◌}
 use Rattle.theory.specs.Tokens.{Place, Word, lines_of, words_from, is_blank}
-use Rattle.theory.specs.Reading.{Placed, word, header_end, is_comment, line_tokens, tokens_after_header, tokens_from, tokens_of, end_of, end_from}
-use Rattle.cnf.specs.Tokens.{Part, before_header, in_header, behind_header, is_word_byte, place_after, place_behind, place_at, placed, lines_tokens, header_tokens, line_rest, rest_tokens, tokens_left}
+use Rattle.theory.specs.Reading.{Placed, word, header_end, is_comment, line_tokens, tokens_after_header, tokens_from}
+use Rattle.cnf.specs.Tokens.{Part, before_header, in_header, behind_header, is_word_byte, placed, lines_tokens, line_rest, rest_tokens}
 
 -- a text has a first line
 pub record HasLines (lines : List (List ℕ)) : Type 0 where
@@ -127,7 +126,7 @@ at_column p k = record { line = p.line; column = k }
 
 pub rest-word : (part : Part) (p : Place) (b : ℕ) (w line : List ℕ) (lines : List (List ℕ)) → is_word (b ∷ w) ≡ true → begins_no_word line ≡ true
     → rest_tokens part p ((b ∷ w ++ line) ∷ lines)
-      ≡ record { token = word (b ∷ w); place = p } ∷ rest_tokens (behind_word part) (at_column p (p.column + length (b ∷ w))) (line ∷ lines)
+    ≡ record { token = word (b ∷ w); place = p } ∷ rest_tokens (behind_word part) (at_column p (p.column + length (b ∷ w))) (line ∷ lines)
 rest-word part p b w line lines h e =
     ap₂ (λ (words : List Word) (n : ℕ). line_rest part (map (placed p.line) words) (at_column p n) lines) (words_from-word p.column b w line h e)
     (let l : p.column + length (b ∷ w ++ line) ≡ p.column + length (b ∷ w) + length line = omega (arith, length-append w line) in l)

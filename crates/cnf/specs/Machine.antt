@@ -1,5 +1,5 @@
 -- The machine that takes tokens one by one, without the tokens before: its state knows of them what a fault asks.
-use Rattle.std.specs.Prelude.{ℕ, ◌+◌, List, [], ◌∷◌, length, Option, Some, None, nat_eq, nat_lt, not, codes, if◌then◌else◌}
+use Rattle.std.specs.Prelude.{◌≡◌, ℕ, List, [], ◌∷◌, length, Option, Some, None, nat_eq, nat_lt, not, codes, if◌then◌else◌}
 use Rattle.theory.specs.Tokens.{Place, is_text, is_number_text, size_of}
 use Rattle.theory.specs.Reading.{Token, word, header_end, Placed, ReadFault, no_header, bad_header, second_header, bad_number, variable_out_of_range, too_many_clauses, too_few_clauses, clause_not_ended, over_limit, header_number_fault, Reading, formula, refusal, tokens_of, end_of, max_vars, max_clauses}
 use Rattle.cnf.specs.Tokens.{Part, tokens_left}
@@ -34,6 +34,15 @@ ends_in s end = refusal no_header end
 abbrev pub run : State → List Placed → Place → Reading
 run s [] end = ends_in s end
 run s (t ∷ ts) end = elim (step s t.token) [ Some next ↦ run next ts end | None ↦ refusal (fault_in s t.token) t.place ]
+
+-- a state goes on with a token
+pub record Takes (s : State) (t : Placed) (next : State) : Type 0 where
+  pub step_is : step s t.token ≡ Some next
+
+-- a state can't go on with a token, so a text is read as its refusal
+pub record Refuses (s : State) (t : Placed) (r : Reading) : Type 0 where
+  pub none : step s t.token ≡ None
+  pub is : r ≡ refusal (fault_in s t.token) t.place
 
 -- what a text is read as, where the machine is in a state and stands at the byte i
 abbrev pub reads_from : State → Part → List ℕ → ℕ → Reading

@@ -1,12 +1,11 @@
 //! The clauses of a text, token by token.
-ghost use Rattle.std.specs.Prelude.{◌≡◌, ◌+◌, ◌≤◌, ◌<◌, List, [], ◌∷◌, ◌++◌, map, sum_by, length, slice_range, MatchResult};
-ghost use Rattle.theory.specs.Tokens.{Place};
-ghost use Rattle.theory.specs.Reading.{Placed, end_of, max_bytes};
+ghost use Rattle.std.specs.Prelude.{◌≡◌, ◌+◌, ◌≤◌, ◌<◌, [], ◌∷◌, ◌++◌, map, sum_by, length, slice_range, vec_len, MatchResult};
+ghost use Rattle.theory.specs.Reading.{end_of, max_bytes};
 ghost use Rattle.theory.proofs.ReadingMachine.{at_body};
 ghost use Rattle.cnf.specs.Faults.{IsRefusal, IsReadAs};
 ghost use Rattle.cnf.specs.Tokens.{behind_header};
 ghost use Rattle.cnf.specs.Words.{word_at, IsWordAt, IsNumberOf};
-ghost use Rattle.cnf.specs.Machine.{run, reads_from, reading_of};
+ghost use Rattle.cnf.specs.Machine.{Takes, Refuses, run, reads_from, reading_of};
 
 use crate::fault::ReadFault;
 use crate::formula::Formula;
@@ -41,6 +40,7 @@ struct Clauses {
     ghost counted: { literals ≡ sum_by length (map (λ c. c.items) whole.items) + length begun.items },
     ghost few: { literals ≤ 8000000 },
     ghost small: { vars ≤ 65535 },
+    ghost room: { vec_len whole ≤ wanted },
 }
 
 impl Clauses {
@@ -63,9 +63,10 @@ impl Clauses {
     /// Ends the clause begun. After an error it is as it was.
     #[inline]
     fn end_clause(&mut self, alloc: Global) -> Result<(), ReadFault>
+        requires { vec_len self.old.whole < self.old.wanted }
         ensures { MatchResult result
             (λ _. state_of self.new
-                ≡ at_body self.old.vars self.old.wanted (map (λ c. c.items) self.old.whole.items ++ self.old.begun.items ∷ []) [])
+            ≡ at_body self.old.vars self.old.wanted (map (λ c. c.items) self.old.whole.items ++ self.old.begun.items ∷ []) [])
             (λ e. e ≡ ReadFault.NoMemory) }
     {
         let clause = mem::replace(&mut self.begun, Vec::new(alloc));
@@ -84,7 +85,7 @@ impl Clauses {
         requires { self.old.literals < 8000000 }
         ensures { MatchResult result
             (λ _. state_of self.new
-                ≡ at_body self.old.vars self.old.wanted (map (λ c. c.items) self.old.whole.items) (self.old.begun.items ++ lit ∷ []))
+            ≡ at_body self.old.vars self.old.wanted (map (λ c. c.items) self.old.whole.items) (self.old.begun.items ++ lit ∷ []))
             (λ e. e ≡ ReadFault.NoMemory) }
     {
         self.begun.push(lit).map_err(|_| ReadFault::NoMemory)?;
@@ -94,13 +95,19 @@ impl Clauses {
 
     /// Takes the word that begins at `start`, and which is this number or none.
     #[inline]
-    fn take(&mut self, alloc: Global, bytes: &[u8], start: usize, number: &Number) -> Result<(), ReadFault>
+    fn take(
+        &mut self,
+        alloc: Global,
+        bytes: &[u8],
+        start: usize,
+        number: &Number,
+    ) -> Result<(), ReadFault>
         requires word { IsWordAt bytes.now start number.now.end }
         requires within { number.now.end ≤ length bytes.now }
         requires number { IsNumberOf (slice_range bytes.now start number.now.end) number.now.natural number.now.negative number.now.size }
         ensures { MatchResult result
-            (λ _. (ts : List Placed) (end : Place) → run (state_of self.old) (word_at bytes.now start number.now.end ∷ ts) end ≡ run (state_of self.new) ts end)
-            (IsRefusal (λ r. (ts : List Placed) (end : Place) → run (state_of self.old) (word_at bytes.now start number.now.end ∷ ts) end ≡ r)) }
+            (λ _. Takes (state_of self.old) (word_at bytes.now start number.now.end) (state_of self.new))
+            (IsRefusal (Refuses (state_of self.old) (word_at bytes.now start number.now.end))) }
     {
         if !number.natural && !number.negative {
             let place = place_at(bytes, start);

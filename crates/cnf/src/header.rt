@@ -60,7 +60,7 @@ fn read_limited(bytes: &[u8], from: usize, most: u32) -> Result<Number, ReadFaul
     requires small { most ≤ 1000000 }
     ensures { (vars : Option ℕ) → most ≡ number_limit vars → MatchResult result
         (λ n. (n.end ≤ length bytes.now) × (n.size ≤ most)
-            × (reads_from (at_number vars) in_header bytes.now from ≡ reads_from (behind_number vars n.size) in_header bytes.now n.end))
+        × (reads_from (at_number vars) in_header bytes.now from ≡ reads_from (behind_number vars n.size) in_header bytes.now n.end))
         (IsRefusal (λ r. reads_from (at_number vars) in_header bytes.now from ≡ r)) }
 {
     let start = skip_blanks(bytes, from);
@@ -81,7 +81,7 @@ fn read_limited(bytes: &[u8], from: usize, most: u32) -> Result<Number, ReadFaul
 pub fn read_header(bytes: &[u8]) -> Result<Header, ReadFault>
     ensures { MatchResult result
         (λ h. (h.end ≤ length bytes.now) × (h.vars ≤ 65535) × (h.clauses ≤ 1000000)
-            × (reading_of bytes.now ≡ reads_from (at_body h.vars h.clauses [] []) behind_header bytes.now h.end))
+        × (reading_of bytes.now ≡ reads_from (at_body h.vars h.clauses [] []) behind_header bytes.now h.end))
         (IsRefusal (λ r. reading_of bytes.now ≡ r)) }
 {
     let p = read_p(bytes)?;

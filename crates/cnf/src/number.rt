@@ -71,7 +71,13 @@ fn read_plain(bytes: &[u8], from: usize, minus: bool) -> (Digits, bool)
     let digits = read_digits(bytes, from);
     let end = word_end(bytes, digits.end);
     let whole = end == digits.end && is_plain(bytes, from, digits.end, minus);
-    (Digits { end, size: digits.size }, whole)
+    (
+        Digits {
+            end,
+            size: digits.size,
+        },
+        whole,
+    )
 }
 
 /// The word from an index on, and what it says as a number.

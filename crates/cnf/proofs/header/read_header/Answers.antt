@@ -1,9 +1,9 @@
-use Rattle.std.proofs.Common.{◌≡◌, ◌≤◌, ◌∙◌, List, [], length, Some, None, sym, ap, refl}
+use Rattle.std.proofs.Common.{◌≡◌, ◌∙◌, List, Some, None, sym, ap, refl}
 use Rattle.std.proofs.lemmas.Result.{err_from_is_err_and}
 use Rattle.theory.specs.Tokens.{Place}
 use Rattle.theory.specs.Reading.{Placed, refusal, bad_header, end_of}
-use Rattle.theory.proofs.ReadingMachine.{at_cnf, at_vars, at_clauses, at_header_end, at_body}
-use Rattle.cnf.specs.Tokens.{in_header, behind_header}
+use Rattle.theory.proofs.ReadingMachine.{at_vars, at_clauses, at_header_end}
+use Rattle.cnf.specs.Tokens.{in_header}
 use Rattle.cnf.specs.Machine.{run, reads_from, reading_of}
 use Rattle.cnf.proofs.FaultLemmas.{IsRefusal-same}
 use Rattle.cnf.proofs.HeaderLemmas.{fifth-refused, line-ends, header_end-read}
@@ -46,9 +46,12 @@ returns c =
     let b = c.args.bytes.now in
     let V = c.in_ok-vars.vars.size in
     let C = c.in_ok-clauses.clauses.size in
-    let w = c.word_end.ensures in
-    (c.skip_blanks-end.ensures.within, (c.in_ok-vars.ensures None refl).1, (c.in_ok-clauses.ensures (Some V) refl).1,
+    let w = c.word_end.ensures in (
+      c.skip_blanks-end.ensures.within,
+      (c.in_ok-vars.ensures None refl).1,
+      (c.in_ok-clauses.ensures (Some V) refl).1,
       c.in_ok-p.ensures.1 ∙ c.in_ok-cnf.ensures.1 ∙ (c.in_ok-vars.ensures None refl).2 ∙ (c.in_ok-clauses.ensures (Some V) refl).2
-      ∙ ap (λ (ts : List Placed). run (at_header_end V C) ts (end_of b)) (sym c.skip_blanks-end.ensures.tokens)
-      ∙ header_end-read V C b c.skip_blanks-end.result
-        (line-ends b c.skip_blanks-end.result c.word_end.result (record { above = w.above; within = w.within; all = w.all; end = w.end }) c.if-end-word_end.false c.skip_blanks-end.ensures.end))
+          ∙ ap (λ (ts : List Placed). run (at_header_end V C) ts (end_of b)) (sym c.skip_blanks-end.ensures.tokens)
+          ∙ header_end-read V C b c.skip_blanks-end.result
+          (line-ends b c.skip_blanks-end.result c.word_end.result (record { above = w.above; within = w.within; all = w.all; end = w.end }) c.if-end-word_end.false c.skip_blanks-end.ensures.end),
+    )

@@ -29,15 +29,17 @@ returns-then-number-most c = λ vars limit.
     let natural : r.natural ≡ true = not-false r.natural c.if-not-number.false in
     ap (λ (ts : List Placed). run (at_number vars) ts (end_of c.args.bytes.now)) (sym c.skip_blanks-start.ensures.tokens)
     ∙ number-above vars c.args.bytes.now c.skip_blanks-start.result r.end e.word e.within e.end c.args.most r.size limit c.requires.small (sym e.number.natural_is ∙ natural)
-      (e.number.size_is (rw natural refl)) c.if-number-most.true
+    (e.number.size_is (rw natural refl)) c.if-number-most.true
     ∙ ap (λ (p : Place). refusal over_limit p) (sym c.place_at-then-number-most.ensures)
 
 pub returns : goal.returns
 returns c = λ vars limit.
     let e = c.read_number-number.ensures in
     let r = c.read_number-number.result in
-    let natural : r.natural ≡ true = not-false r.natural c.if-not-number.false in
-    (e.within, c.if-number-most.false,
+    let natural : r.natural ≡ true = not-false r.natural c.if-not-number.false in (
+      e.within,
+      c.if-number-most.false,
       ap (λ (ts : List Placed). run (at_number vars) ts (end_of c.args.bytes.now)) (sym c.skip_blanks-start.ensures.tokens)
-      ∙ number-read vars c.args.bytes.now c.skip_blanks-start.result r.end e.word e.within e.end c.args.most r.size limit c.requires.small (sym e.number.natural_is ∙ natural)
-        (e.number.size_is (rw natural refl)) c.if-number-most.false)
+          ∙ number-read vars c.args.bytes.now c.skip_blanks-start.result r.end e.word e.within e.end c.args.most r.size limit c.requires.small (sym e.number.natural_is ∙ natural)
+          (e.number.size_is (rw natural refl)) c.if-number-most.false,
+    )

@@ -1,4 +1,4 @@
-use Rattle.std.proofs.Common.{◌∙◌, sym, arith, ◌<◌, ◌≤◌, inl, inr}
+use Rattle.std.proofs.Common.{◌∙◌, sym, arith, ◌<◌, inl, inr}
 use Rattle.std.proofs.lemmas.Bool.{cases_lt}
 use Rattle.cnf.proofs.NumberLemmas.{digits-word, plain-ended, not_byte}
 use Rattle.cnf.proofs.number.read_plain.Goals as goal
