@@ -1,11 +1,11 @@
 -- The numbers and places of the reader's faults, and what a text is read as.
-use Rattle.std.specs.Prelude.{ℕ, List, Option, Some, None, Result, MatchResult}
+use Rattle.std.specs.Prelude.{◌≡◌, ℕ, ◌+◌, List, take, Option, Some, None, IfSome, Result, MatchResult}
 use Rattle.cnf.specs.declared.fault.Place.{Place}
 use Rattle.cnf.specs.declared.fault.ReadFault.{ReadFault}
 use Rattle.cnf.specs.declared.fault.ReadFault.TheVariants.{NoHeader, BadHeader, SecondHeader, BadNumber, VariableOutOfRange, TooManyClauses, TooFewClauses, ClauseNotEnded, OverLimit, ReadFailed, NoMemory}
 use Rattle.theory.specs.Tokens as tokens
 use Rattle.theory.specs.Truth as truth
-use Rattle.theory.specs.Reading.{Reading, Reads, formula, refusal, no_header, bad_header, second_header, bad_number, variable_out_of_range, too_many_clauses, too_few_clauses, clause_not_ended, over_limit}
+use Rattle.theory.specs.Reading.{max_bytes, Reading, Reads, formula, refusal, no_header, bad_header, second_header, bad_number, variable_out_of_range, too_many_clauses, too_few_clauses, clause_not_ended, over_limit}
 
 abbrev pub number_of_fault : ReadFault → ℕ
 number_of_fault (NoHeader p) = 1
@@ -54,3 +54,9 @@ IsRefusal P NoMemory = Unit {0}
 -- the answer is what the text is read as, or want of memory
 abbrev pub IsReadAs : List ℕ → Result truth.Formula ReadFault → Type 0
 IsReadAs bytes answer = MatchResult answer (λ F. Reads bytes (formula F)) (IsRefusal (Reads bytes))
+
+-- the answer is what the bytes of a reader are read as, up to the first byte above the limit, where the reader tells them
+pub record IsReadOf (known : Option (List ℕ)) (answer : Result truth.Formula ReadFault) : Type 0 where
+  pub bytes : List ℕ
+  pub are : IfSome known (λ xs. bytes ≡ take (max_bytes + 1) xs)
+  pub is_read : IsReadAs bytes answer

@@ -1,4 +1,4 @@
-//! A formula from its DIMACS text, from memory or from a reader.
+//! A formula from its DIMACS text.
 ghost use Rattle.std.specs.Prelude.{◌≡◌};
 ghost use Rattle.cnf.specs.Faults.{IsReadAs};
 
@@ -9,7 +9,7 @@ use crate::header::read_header;
 use std::alloc::Global;
 
 /// The most bytes of a text.
-const MAX_BYTES: usize = 67_108_864;
+pub const MAX_BYTES: usize = 67_108_864;
 
 /// The formula of a DIMACS text, in one pass over it. The first token that no formula's text has there is refused, or the end. `NoMemory`
 /// comes where a growth was refused. `ReadFailed` doesn't come.
