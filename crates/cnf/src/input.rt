@@ -25,7 +25,11 @@ fn zeros(alloc: Global, count: usize) -> Result<Vec<u8>, ReadFault>
 }
 
 /// One read into `chunk`, which then stands behind `text`. Whether it gave bytes.
-fn read_chunk<R: Read>(input: &mut R, chunk: &mut [u8], text: &mut Vec<u8>) -> Result<bool, ReadFault>
+fn read_chunk<R: Read>(
+    input: &mut R,
+    chunk: &mut [u8],
+    text: &mut Vec<u8>,
+) -> Result<bool, ReadFault>
     requires { 0 < length chunk.old }
     ensures { MatchResult result
         (λ more. ReadsOn (R.remaining input.old) (R.remaining input.new) text.old.items text.new.items (length chunk.old) more)
