@@ -1,0 +1,167 @@
+//! The clauses of a text, token by token.
+ghost use Rattle.std.specs.Prelude.{◌≡◌, ◌+◌, ◌≤◌, ◌<◌, [], ◌∷◌, ◌++◌, map, sum_by, length, slice_range, vec_len, MatchResult};
+ghost use Rattle.theory.specs.Reading.{end_of, max_bytes};
+ghost use Rattle.theory.proofs.ReadingMachine.{at_body};
+ghost use Rattle.cnf.specs.Faults.{IsRefusal, IsReadAs};
+ghost use Rattle.cnf.specs.Tokens.{behind_header};
+ghost use Rattle.cnf.specs.Words.{word_at, IsWordAt, IsNumberOf};
+ghost use Rattle.cnf.specs.Machine.{Takes, Refuses, run, reads_from, reading_of};
+
+use crate::fault::ReadFault;
+use crate::formula::Formula;
+use crate::header::Header;
+use crate::lit::Lit;
+use crate::number::{Number, read_number};
+use crate::scan::{is_text, place_at, skip_to_token};
+use std::alloc::Global;
+use std::mem;
+
+/// The most literals in all clauses.
+const MAX_LITERALS: u32 = 8_000_000;
+
+/// The clauses read so far.
+#[derive(Drop)]
+struct Clauses {
+    /// The header's number of variables.
+    vars: u32,
+
+    /// The header's number of clauses.
+    wanted: u32,
+
+    /// The clauses that are ended.
+    whole: Vec<Vec<Lit>>,
+
+    /// The literals behind the last of them.
+    begun: Vec<Lit>,
+
+    /// How many literals all these are.
+    literals: u32,
+
+    ghost counted: { literals ≡ sum_by length (map (λ c. c.items) whole.items) + length begun.items },
+    ghost few: { literals ≤ 8000000 },
+    ghost small: { vars ≤ 65535 },
+    ghost room: { vec_len whole ≤ wanted },
+}
+
+impl Clauses {
+    ghost use Rattle.cnf.specs.Clauses.{state_of};
+
+    /// No clauses, behind a header.
+    fn new(alloc: Global, header: &Header) -> Clauses
+        requires { header.now.vars ≤ 65535 }
+        ensures { state_of result ≡ at_body header.now.vars header.now.clauses [] [] }
+    {
+        Clauses {
+            vars: header.vars,
+            wanted: header.clauses,
+            whole: Vec::new(alloc),
+            begun: Vec::new(alloc),
+            literals: 0,
+        }
+    }
+
+    /// Ends the clause begun. After an error it is as it was.
+    #[inline]
+    fn end_clause(&mut self, alloc: Global) -> Result<(), ReadFault>
+        requires { vec_len self.old.whole < self.old.wanted }
+        ensures { MatchResult result
+            (λ _. state_of self.new
+            ≡ at_body self.old.vars self.old.wanted (map (λ c. c.items) self.old.whole.items ++ self.old.begun.items ∷ []) [])
+            (λ e. e ≡ ReadFault.NoMemory) }
+    {
+        let clause = mem::replace(&mut self.begun, Vec::new(alloc));
+        match self.whole.push(clause) {
+            Ok(()) => Ok(()),
+            Err(refused) => {
+                self.begun = refused.value;
+                Err(ReadFault::NoMemory)
+            }
+        }
+    }
+
+    /// Puts a literal behind those of the clause begun. After an error it is as it was.
+    #[inline]
+    fn push(&mut self, lit: Lit) -> Result<(), ReadFault>
+        requires { self.old.literals < 8000000 }
+        ensures { MatchResult result
+            (λ _. state_of self.new
+            ≡ at_body self.old.vars self.old.wanted (map (λ c. c.items) self.old.whole.items) (self.old.begun.items ++ lit ∷ []))
+            (λ e. e ≡ ReadFault.NoMemory) }
+    {
+        self.begun.push(lit).map_err(|_| ReadFault::NoMemory)?;
+        self.literals += 1;
+        Ok(())
+    }
+
+    /// Takes the word that begins at `start`, and which is this number or none.
+    #[inline]
+    fn take(
+        &mut self,
+        alloc: Global,
+        bytes: &[u8],
+        start: usize,
+        number: &Number,
+    ) -> Result<(), ReadFault>
+        requires word { IsWordAt bytes.now start number.now.end }
+        requires within { number.now.end ≤ length bytes.now }
+        requires number { IsNumberOf (slice_range bytes.now start number.now.end) number.now.natural number.now.negative number.now.size }
+        ensures { MatchResult result
+            (λ _. Takes (state_of self.old) (word_at bytes.now start number.now.end) (state_of self.new))
+            (IsRefusal (Refuses (state_of self.old) (word_at bytes.now start number.now.end))) }
+    {
+        if !number.natural && !number.negative {
+            let place = place_at(bytes, start);
+            return if is_text(&bytes[start..number.end], b"p") {
+                Err(ReadFault::SecondHeader(place))
+            } else {
+                Err(ReadFault::BadNumber(place))
+            };
+        }
+        if self.whole.len() == self.wanted as usize {
+            return Err(ReadFault::TooManyClauses(place_at(bytes, start)));
+        }
+        if number.size == 0 {
+            return self.end_clause(alloc);
+        }
+        if number.size > self.vars {
+            return Err(ReadFault::VariableOutOfRange(place_at(bytes, start)));
+        }
+        if self.literals == MAX_LITERALS {
+            return Err(ReadFault::OverLimit(place_at(bytes, start)));
+        }
+        self.push(Lit::of(number.size, !number.negative))
+    }
+
+    /// The formula at the end of the text.
+    fn finish(self, bytes: &[u8]) -> Result<Formula, ReadFault>
+        requires short { length bytes.now ≤ max_bytes }
+        requires all { reading_of bytes.now ≡ run (state_of self) [] (end_of bytes.now) }
+        ensures { IsReadAs bytes.now result }
+    {
+        if !self.begun.is_empty() {
+            return Err(ReadFault::ClauseNotEnded(place_at(bytes, bytes.len())));
+        }
+        if self.whole.len() != self.wanted as usize {
+            return Err(ReadFault::TooFewClauses(place_at(bytes, bytes.len())));
+        }
+        Ok(Formula::new(self.vars, self.whole))
+    }
+}
+
+/// The formula of a text, behind its header.
+pub fn read_clauses(alloc: Global, bytes: &[u8], header: &Header) -> Result<Formula, ReadFault>
+    requires short { length bytes.now ≤ max_bytes }
+    requires within { header.now.end ≤ length bytes.now }
+    requires vars { header.now.vars ≤ 65535 }
+    requires so_far { reading_of bytes.now ≡ reads_from (at_body header.now.vars header.now.clauses [] []) behind_header bytes.now header.now.end }
+    ensures { IsReadAs bytes.now result }
+{
+    let mut clauses = Clauses::new(alloc, header);
+    let mut at = skip_to_token(bytes, header.end);
+    while at < bytes.len() {
+        let number = read_number(bytes, at);
+        clauses.take(alloc, bytes, at, &number)?;
+        at = skip_to_token(bytes, number.end);
+    }
+    clauses.finish(bytes)
+}

@@ -1,0 +1,73 @@
+//! A formula from a reader.
+ghost use Rattle.std.specs.Prelude.{◌≡◌, ◌+◌, ◌<◌, ◌≤◌, ◌⊎◌, List, ◌++◌, length, take, vec_len, true, false, Ok, Err, IfOk, IfErr, IfSome, MatchResult};
+ghost use Rattle.std.specs.Io.KnownBytes.{Consumes};
+ghost use Rattle.theory.specs.Reading.{max_bytes};
+ghost use Rattle.cnf.specs.Faults.{IsReadOf};
+ghost use Rattle.cnf.specs.Input.{IsReadFault, ReadsOn};
+
+use crate::fault::ReadFault;
+use crate::formula::Formula;
+use crate::read::{MAX_BYTES, read_formula};
+use std::alloc::Global;
+use std::io::Read;
+
+/// How many bytes a read is given room for.
+const CHUNK: usize = 65_536;
+
+/// Room for bytes.
+fn zeros(alloc: Global, count: usize) -> Result<Vec<u8>, ReadFault>
+    ensures { MatchResult result (λ bytes. vec_len bytes ≡ count) IsReadFault }
+{
+    match vec![in alloc; 0u8; count] {
+        Ok(bytes) => Ok(bytes),
+        Err(_) => Err(ReadFault::NoMemory),
+    }
+}
+
+/// One read into `chunk`, which then stands behind `text`. Whether it gave bytes.
+fn read_chunk<R: Read>(
+    input: &mut R,
+    chunk: &mut [u8],
+    text: &mut Vec<u8>,
+) -> Result<bool, ReadFault>
+    requires { 0 < length chunk.old }
+    ensures { MatchResult result
+        (λ more. ReadsOn (R.remaining input.old) (R.remaining input.new) text.old.items text.new.items (length chunk.old) more)
+        IsReadFault }
+{
+    match input.read(chunk) {
+        Ok(0) => Ok(false),
+        Ok(count) => match text.extend_from_slice(&chunk[..count]) {
+            Ok(()) => Ok(true),
+            Err(_) => Err(ReadFault::NoMemory),
+        },
+        Err(_) => Err(ReadFault::ReadFailed),
+    }
+}
+
+/// The bytes of a reader, at most one more than a text may have.
+fn read_text<R: Read>(alloc: Global, input: &mut R) -> Result<Vec<u8>, ReadFault>
+    ensures { MatchResult result
+        (λ text. IfSome (R.remaining input.old) (λ bytes. text.items ≡ take (max_bytes + 1) bytes))
+        IsReadFault }
+{
+    let mut text = Vec::new(alloc);
+    let mut chunk = zeros(alloc, CHUNK)?;
+    while text.len() <= MAX_BYTES {
+        let most = CHUNK.min(MAX_BYTES + 1 - text.len());
+        let room = &mut chunk[..most];
+        if !read_chunk(input, room, &mut text)? {
+            break;
+        }
+    }
+    Ok(text)
+}
+
+/// The formula of a reader's DIMACS text. It reads until a read gives no bytes, until an error, or until 67,108,865 bytes are there. Any
+/// error of the reader is `ReadFailed`, and no read is tried again; otherwise the answer is that of `read_formula` on the bytes read.
+pub fn read_from<R: Read + Drop>(alloc: Global, mut input: R) -> Result<Formula, ReadFault>
+    ensures { (result ≡ Err ReadFault.ReadFailed) ⊎ IsReadOf (R.remaining input) result }
+{
+    let text = read_text(alloc, &mut input)?;
+    read_formula(alloc, &text)
+}

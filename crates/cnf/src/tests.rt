@@ -1,0 +1,4 @@
+//! Worked rows of the reader, and fake readers.
+mod inputs;
+mod literals;
+mod texts;
