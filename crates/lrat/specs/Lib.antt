@@ -1,0 +1,3 @@
+-- What steps are seen as is said in the crate `theory`.
+pub mod Steps
+pub mod Words

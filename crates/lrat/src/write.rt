@@ -1,0 +1,123 @@
+//! The text of a step.
+ghost use Rattle.std.specs.Prelude.{◌≡◌, [], ◌∷◌, ◌++◌, map, codes, decimal, OnOk, OnErr};
+ghost use Rattle.theory.specs.Texts.{space, literal_text, group_words, groups_words, step_text};
+ghost use Rattle.lrat.specs.Steps.{step_of};
+ghost use Rattle.lrat.specs.Words.{spaced, Extends};
+
+use crate::step::{Addition, Deletion, Group, Step};
+use cnf::Lit;
+use itoa::Buffer;
+use std::alloc::AllocError;
+
+/// Appends a number and a space.
+fn append_number(n: u64, out: &mut Vec<u8>) -> Result<(), AllocError>
+    ensures ok { OnOk result (out.new.items ≡ out.old.items ++ decimal n ++ space ∷ []) }
+    ensures extends { Extends out.old.items out.new.items }
+{
+    let mut buffer = Buffer::new();
+    out.extend_from_slice(buffer.format(n).as_bytes())?;
+    out.push(b' ')?;
+    Ok(())
+}
+
+/// Appends a literal and a space.
+fn append_literal(lit: Lit, out: &mut Vec<u8>) -> Result<(), AllocError>
+    ensures ok { OnOk result (out.new.items ≡ out.old.items ++ literal_text lit ++ space ∷ []) }
+    ensures extends { Extends out.old.items out.new.items }
+{
+    if !lit.positive() {
+        out.push(b'-')?;
+    }
+    append_number(lit.var() as u64, out)
+}
+
+/// Appends literals, each with a space behind it.
+fn append_literals(lits: &[Lit], out: &mut Vec<u8>) -> Result<(), AllocError>
+    ensures ok { OnOk result (out.new.items ≡ out.old.items ++ spaced (map literal_text lits.now)) }
+    ensures extends { Extends out.old.items out.new.items }
+{
+    for lit in lits {
+        append_literal(*lit, out)?;
+    }
+    Ok(())
+}
+
+/// Appends numbers, each with a space behind it.
+fn append_numbers(numbers: &[u64], out: &mut Vec<u8>) -> Result<(), AllocError>
+    ensures ok { OnOk result (out.new.items ≡ out.old.items ++ spaced (map decimal numbers.now)) }
+    ensures extends { Extends out.old.items out.new.items }
+{
+    for number in numbers {
+        append_number(*number, out)?;
+    }
+    Ok(())
+}
+
+/// Appends a group: the candidate behind a minus, then the hints, each with a space behind it.
+fn append_group(group: &Group, out: &mut Vec<u8>) -> Result<(), AllocError>
+    ensures ok { OnOk result (out.new.items ≡ out.old.items ++ spaced (group_words group.now)) }
+    ensures extends { Extends out.old.items out.new.items }
+{
+    out.push(b'-')?;
+    append_number(group.candidate(), out)?;
+    append_numbers(group.hints(), out)
+}
+
+/// Appends groups, one after the other.
+fn append_groups(groups: &[Group], out: &mut Vec<u8>) -> Result<(), AllocError>
+    ensures ok { OnOk result (out.new.items ≡ out.old.items ++ spaced (groups_words groups.now)) }
+    ensures extends { Extends out.old.items out.new.items }
+{
+    for group in groups {
+        append_group(group, out)?;
+    }
+    Ok(())
+}
+
+/// Appends the end of a line.
+fn append_end(out: &mut Vec<u8>) -> Result<(), AllocError>
+    ensures ok { OnOk result (out.new.items ≡ out.old.items ++ codes "0\n") }
+    ensures extends { Extends out.old.items out.new.items }
+{
+    out.extend_from_slice(b"0\n")
+}
+
+/// Appends the line of an addition.
+fn append_addition(addition: &Addition, out: &mut Vec<u8>) -> Result<(), AllocError>
+    ensures ok { OnOk result (out.new.items ≡ out.old.items ++ step_text (step_of (Step.Add addition.now))) }
+    ensures extends { Extends out.old.items out.new.items }
+{
+    append_number(addition.id(), out)?;
+    append_literals(addition.clause(), out)?;
+    out.extend_from_slice(b"0 ")?;
+    append_numbers(addition.hints(), out)?;
+    append_groups(addition.groups(), out)?;
+    append_end(out)
+}
+
+/// Appends the line of a deletion.
+fn append_deletion(deletion: &Deletion, out: &mut Vec<u8>) -> Result<(), AllocError>
+    ensures ok { OnOk result (out.new.items ≡ out.old.items ++ step_text (step_of (Step.Delete deletion.now))) }
+    ensures extends { Extends out.old.items out.new.items }
+{
+    append_number(deletion.id(), out)?;
+    out.extend_from_slice(b"d ")?;
+    append_numbers(deletion.ids(), out)?;
+    append_end(out)
+}
+
+/// Appends the step's line. A refused growth leaves the vector as it was; no other memory is taken.
+pub fn write_step(step: &Step, out: &mut Vec<u8>) -> Result<(), AllocError>
+    ensures ok { OnOk result (out.new.items ≡ out.old.items ++ step_text (step_of step.now)) }
+    ensures err { OnErr result (out.new.items ≡ out.old.items) }
+{
+    let start = out.len();
+    let written = match step {
+        Step::Add(addition) => append_addition(addition, out),
+        Step::Delete(deletion) => append_deletion(deletion, out),
+    };
+    if written.is_err() {
+        out.truncate(start);
+    }
+    written
+}
