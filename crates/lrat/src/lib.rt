@@ -1,10 +1,16 @@
 //! Proofs in LRAT: their steps, and the text of these, both ways.
 #![tactic(auto)]
 
+mod fault;
+mod line;
+mod read;
 mod step;
 #[cfg(test)]
 mod tests;
+mod word;
 mod write;
 
+pub use fault::TextFault;
+pub use read::read_proof;
 pub use step::{Addition, Deletion, Group, Step};
 pub use write::write_step;
