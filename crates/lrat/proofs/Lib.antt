@@ -10,3 +10,4 @@ pub mod LineLaws
 pub mod ProofTexts
 pub mod LinePlaces
 pub mod ReadSteps
+pub mod WrittenTexts

@@ -92,7 +92,7 @@ no_blank b h = go (nat_eq b lf) h
     go true e = absurd (cc)
     go false e = e
 
-no_lf : (b : ℕ) → ends_word b ≡ false → nat_eq b lf ≡ false
+pub no_lf : (b : ℕ) → ends_word b ≡ false → nat_eq b lf ≡ false
 no_lf b h = go (nat_eq b lf) h
   where
     go : (r : Bool) → r || is_blank b ≡ false → r ≡ false

@@ -2,6 +2,7 @@
 #![tactic(auto)]
 
 mod fault;
+mod laws;
 mod line;
 mod read;
 mod step;
@@ -11,6 +12,7 @@ mod word;
 mod write;
 
 pub use fault::TextFault;
+pub use laws::{one_reading, written_is_read};
 pub use read::read_proof;
 pub use step::{Addition, Deletion, Group, Step};
 pub use write::write_step;
