@@ -1,5 +1,9 @@
 //! Worked rows of steps and their text.
+<<<<<<< HEAD
 use crate::{Addition, Deletion, Group, Step, write_step};
+=======
+use crate::{Addition, Deletion, Group, Step, TextFault, read_proof, write_step};
+>>>>>>> 1e832e5de2c451299cfa96ac4e8f437695da278c
 use cnf::Lit;
 use std::test::Fail;
 
@@ -28,3 +32,35 @@ fn addition_is_written(rt: HostRuntime) -> Result<(), Fail> {
     assert_eq!(rt; out.as_slice(), b"5 1 -2 0 7 -3 1 -4 0\n".as_slice());
     Ok(())
 }
+<<<<<<< HEAD
+=======
+
+fn fault_of(rt: &HostRuntime, bytes: &[u8]) -> Option<TextFault> {
+    read_proof(rt.alloc(), bytes).err()
+}
+
+fn is_kept(rt: &HostRuntime, bytes: &[u8]) -> Result<bool, Fail> {
+    let mut out = Vec::new(rt.alloc());
+    for step in &read_proof(rt.alloc(), bytes)? {
+        write_step(step, &mut out)?;
+    }
+    Ok(out.as_slice() == bytes)
+}
+
+#[test]
+fn text_is_read(rt: HostRuntime) -> Result<(), Fail> {
+    assert!(rt; is_kept(&rt, b"")?);
+    assert!(rt; is_kept(&rt, b"5 1 0 1 2 0\n5 d 1 2 0\n6 0 5 3 4 0\n")?);
+    assert!(rt;
+        is_kept(
+            &rt,
+            b"5 1 0 -3 1 -4 2 0\n5 1 -2 0 7 8 -3 -4 0\n7 d 0\n8 0 0\n"
+        )?
+    );
+    assert_eq!(rt;
+        fault_of(&rt, b"5 1 0 1 2 0"),
+        Some(TextFault::LineNotEnded(1))
+    );
+    Ok(())
+}
+>>>>>>> 1e832e5de2c451299cfa96ac4e8f437695da278c

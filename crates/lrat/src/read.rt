@@ -1,0 +1,97 @@
+//! The text of a proof, as it is read.
+ghost use Rattle.std.specs.Prelude.{◌≡◌, ◌+◌, ◌<◌, ◌≤◌, length, drop, map, MatchResult, if◌then◌else◌};
+ghost use Rattle.theory.specs.ProofReading.{steps, line_fault, line_not_ended, ProofReads};
+ghost use Rattle.theory.specs.Tokens.{lines_of};
+ghost use Rattle.lrat.specs.Steps.{step_of};
+ghost use Rattle.lrat.specs.Faults.{HasFault};
+ghost use Rattle.lrat.specs.LineMachine.{has_line_feed, fault_in, read_lines, with_step};
+ghost use Rattle.lrat.specs.LineStates.{state_of, IsFault};
+
+use crate::fault::TextFault;
+use crate::line::Line;
+use crate::step::Step;
+use crate::word::{LINE_FEED, Word, is_blank, read_word};
+use std::alloc::Global;
+
+/// The greatest length of a text.
+const MAX_BYTES: usize = 4_294_967_296;
+
+/// Whether a line feed is among the bytes.
+fn has_line_feed(bytes: &[u8]) -> bool
+    ensures { result ≡ has_line_feed bytes.now }
+{
+    for byte in bytes {
+        if *byte == LINE_FEED {
+            return true;
+        }
+    }
+    false
+}
+
+/// The fault of a word that can't stand next, where `rest` follows it: a line that isn't ended is at fault for that alone.
+fn refusal(line: &Line, word: Word, rest: &[u8], number: u64) -> TextFault
+    ensures { IsFault result (line_fault (if has_line_feed rest.now then fault_in (state_of line.now) word else line_not_ended) number) }
+{
+    if has_line_feed(rest) {
+        line.fault(word, number)
+    } else {
+        TextFault::LineNotEnded(number)
+    }
+}
+
+/// Reads the line that begins at `start`, and says where the next one begins.
+fn read_line(
+    line: &mut Line,
+    bytes: &[u8],
+    start: usize,
+    number: u64,
+) -> Result<(Step, usize), TextFault>
+    requires { start < length bytes.now }
+    ensures read { MatchResult result
+        (λ r. read_lines number (lines_of (drop start bytes.now)) ≡ with_step (step_of r.0) (read_lines (number + 1) (lines_of (drop r.1 bytes.now))))
+        (λ e. IsFault e (read_lines number (lines_of (drop start bytes.now)))) }
+    ensures forward { MatchResult result (λ r. (start < r.1) × (r.1 ≤ length bytes.now)) (λ _. Unit {0}) }
+{
+    line.begin();
+    let mut at = start;
+    while at < bytes.len() {
+        let byte = bytes[at];
+        if byte == LINE_FEED {
+            let Some(step) = line.finish()? else {
+                return Err(TextFault::BadShape(number));
+            };
+            return Ok((step, at + 1));
+        }
+        if is_blank(byte) {
+            at += 1;
+        } else {
+            let (word, end) = read_word(bytes, at);
+            if !line.take(word)? {
+                return Err(refusal(line, word, &bytes[end..], number));
+            }
+            at = end;
+        }
+    }
+    Err(TextFault::LineNotEnded(number))
+}
+
+/// Reads the text of a proof, in one pass: its steps, or the fault of the first line at fault. It takes memory for the steps, and
+/// for the lists of one line.
+pub fn read_proof(alloc: Global, bytes: &[u8]) -> Result<Vec<Step>, TextFault>
+    ensures { MatchResult result (λ v. ProofReads bytes.now (steps (map step_of v.items))) (λ e. HasFault bytes.now e) }
+{
+    if bytes.len() > MAX_BYTES {
+        return Err(TextFault::TooLong);
+    }
+    let mut line = Line::new(alloc);
+    let mut steps = Vec::new(alloc);
+    let mut at = 0;
+    let mut number = 1;
+    while at < bytes.len() {
+        let (step, end) = read_line(&mut line, bytes, at, number)?;
+        steps.push(step)?;
+        at = end;
+        number += 1;
+    }
+    Ok(steps)
+}
