@@ -1,6 +1,3 @@
-<<<<<<< HEAD
-pub mod WordLemmas
-=======
 pub mod DigitLemmas
 pub mod WordTexts
 pub mod WordLemmas
@@ -14,4 +11,3 @@ pub mod ProofTexts
 pub mod LinePlaces
 pub mod ReadSteps
 pub mod WrittenTexts
->>>>>>> 1e832e5de2c451299cfa96ac4e8f437695da278c

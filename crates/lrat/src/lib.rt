@@ -1,13 +1,6 @@
 //! Proofs in LRAT: their steps, and the text of these, both ways.
 #![tactic(auto)]
 
-<<<<<<< HEAD
-mod step;
-#[cfg(test)]
-mod tests;
-mod write;
-
-=======
 mod fault;
 mod laws;
 mod line;
@@ -21,6 +14,5 @@ mod write;
 pub use fault::TextFault;
 pub use laws::{one_reading, written_is_read};
 pub use read::read_proof;
->>>>>>> 1e832e5de2c451299cfa96ac4e8f437695da278c
 pub use step::{Addition, Deletion, Group, Step};
 pub use write::write_step;

@@ -1,9 +1,5 @@
 //! Worked rows of steps and their text.
-<<<<<<< HEAD
-use crate::{Addition, Deletion, Group, Step, write_step};
-=======
 use crate::{Addition, Deletion, Group, Step, TextFault, read_proof, write_step};
->>>>>>> 1e832e5de2c451299cfa96ac4e8f437695da278c
 use cnf::Lit;
 use std::test::Fail;
 
@@ -32,8 +28,6 @@ fn addition_is_written(rt: HostRuntime) -> Result<(), Fail> {
     assert_eq!(rt; out.as_slice(), b"5 1 -2 0 7 -3 1 -4 0\n".as_slice());
     Ok(())
 }
-<<<<<<< HEAD
-=======
 
 fn fault_of(rt: &HostRuntime, bytes: &[u8]) -> Option<TextFault> {
     read_proof(rt.alloc(), bytes).err()
@@ -63,4 +57,3 @@ fn text_is_read(rt: HostRuntime) -> Result<(), Fail> {
     );
     Ok(())
 }
->>>>>>> 1e832e5de2c451299cfa96ac4e8f437695da278c
