@@ -1,6 +1,7 @@
 -- What the result of a formula is.
 use Rattle.std.specs.Prelude.{◌≡◌, ℕ, map}
-use Rattle.theory.specs.Truth.{Formula}
+use Rattle.theory.specs.Truth.{Formula, Satisfiable}
+use Rattle.theory.specs.FirstModel.{IsFirst}
 use Rattle.theory.specs.Trees as trees
 use Rattle.cubes.specs.declared.tree.Node.{Node}
 use Rattle.cubes.specs.declared.tree.Node.TheVariants.{Split, Leaf}
@@ -15,3 +16,8 @@ node_of (Leaf refutation) = trees.refuted_leaf refutation.lines.items
 abbrev pub IsResultOf : Formula → ℕ → Tree → Type 0
 IsResultOf F B (Model values) = trees.IsResult F B (trees.model_of values.items)
 IsResultOf F B (Refuted nodes) = (t : trees.Tree) × trees.IsResult F B (trees.tree_of t) × (map node_of nodes.items ≡ trees.nodes_of t)
+
+-- what a result says of its formula: a model is the first one; without a model, the formula isn't satisfiable
+abbrev pub Says : Formula → Tree → Type 0
+Says F (Model values) = IsFirst F values.items
+Says F (Refuted nodes) = ¬ (Satisfiable F)

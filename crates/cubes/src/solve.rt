@@ -1,6 +1,6 @@
 //! The tree of a formula, solved from left to right.
 ghost use Rattle.std.specs.Prelude.{◌≡◌, ◌≤◌, ◌<◌, ◌^◌, false, IfOk};
-ghost use Rattle.cubes.specs.Result.{IsResultOf};
+ghost use Rattle.cubes.specs.Result.{IsResultOf, Says};
 
 use crate::next::go_right;
 use crate::tree::{Node, Tree};
@@ -21,7 +21,8 @@ fn negative(var: u32) -> Lit
 /// one it is at and the nodes; it fails only where a request for memory is refused.
 pub fn solve_one(alloc: Global, formula: &Formula, budget: u32) -> Result<Tree, AllocError>
     requires { (1 ≤ budget) × (budget ≤ 100000) }
-    ensures { IfOk result (λ t. IsResultOf formula.now budget t) }
+    ensures result { IfOk result (λ t. IsResultOf formula.now budget t) }
+    ensures says { IfOk result (λ t. Says formula.now t) }
 {
     let vars = formula.vars();
     let mut nodes = Vec::new(alloc);

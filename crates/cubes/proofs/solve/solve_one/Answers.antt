@@ -2,7 +2,8 @@ use Rattle.std.proofs.Common.{◌≡◌, ◌≤◌, ◌<◌, ◌+◌, ◌++◌, 
 use Rattle.std.proofs.lemmas.List.{map-append}
 use Rattle.theory.specs.Literals.{IsVariable, has_var, negative}
 use Rattle.theory.specs.Search.{Runs, exhausted, refuted}
-use Rattle.theory.specs.Trees.{refutation, false_half}
+use Rattle.theory.specs.Trees.{refutation, false_half, model_of, tree_of}
+use Rattle.theory.proofs.ResultLemmas.{IsResult-says}
 use Rattle.cdcl.specs.Outcome.{outcome_of}
 use Rattle.cubes.specs.Result.{node_of}
 use Rattle.cubes.specs.Next.{next_cube}
@@ -13,8 +14,8 @@ use Rattle.cubes.proofs.solve.solve_one.Goals as goal
 pub solve_cube-requires-clause-over : goal.solve_cube-requires-clause-over
 solve_cube-requires-clause-over c = IsReached-over c.args.formula.now c.args.budget c.loop-cube.cube _ c.loop-cube.invariant
 
-pub returns-in-Model : goal.returns-in-Model
-returns-in-Model c = IsReached-leaf c.args.formula.now c.args.budget c.loop-cube.cube _ c.in-Model.values.items c.loop-cube.invariant (rw c.in-Model.is at c.in_ok-values.ensures.runs)
+pub returns-in-Model-clause-result : goal.returns-in-Model-clause-result
+returns-in-Model-clause-result c = IsReached-leaf c.args.formula.now c.args.budget c.loop-cube.cube _ c.in-Model.values.items c.loop-cube.invariant (rw c.in-Model.is at c.in_ok-values.ensures.runs)
 
 pub negative-requires : goal.negative-requires
 negative-requires c =
@@ -35,8 +36,19 @@ loop-cube-preserved-in_ok-push-in-Exhausted-2 c =
     rw (c.in_ok-push-in-Exhausted-2.ensures.ok, c.negative.ensures, c.in_ok-push-in-Exhausted.ensures.items, map-append)
     (IsReached-left c.args.formula.now c.args.budget c.loop-cube.cube _ c.in-Exhausted.var c.loop-cube.invariant (rw c.in-Exhausted.is at c.in_ok-values.ensures.runs) (rw c.in-Exhausted.is at c.in_ok-values.ensures.says))
 
-pub returns-then-not-branch : goal.returns-then-not-branch
-returns-then-not-branch c =
+pub returns-in-Model-clause-says : goal.returns-in-Model-clause-says
+returns-in-Model-clause-says c =
+    IsResult-says c.args.formula.now c.args.budget (model_of c.in-Model.values.items) c.vars-vars.ensures.within.formula
+    (IsReached-leaf c.args.formula.now c.args.budget c.loop-cube.cube _ c.in-Model.values.items c.loop-cube.invariant (rw c.in-Model.is at c.in_ok-values.ensures.runs))
+
+pub returns-then-not-branch-clause-says : goal.returns-then-not-branch-clause-says
+returns-then-not-branch-clause-says c =
+    let whole = IsReached-next c.args.formula.now c.args.budget c.loop-cube.cube _ (refutation c.in-Refuted.refutation.lines.items) None c.loop-cube.invariant
+        (rw c.in-Refuted.is at c.in_ok-values.ensures.runs) refl (rw c.if-not-branch.true at c.in_ok-go_right-in-Refuted.ensures) in
+    IsResult-says c.args.formula.now c.args.budget (tree_of whole.0) c.vars-vars.ensures.within.formula (whole.1, whole.2)
+
+pub returns-then-not-branch-clause-result : goal.returns-then-not-branch-clause-result
+returns-then-not-branch-clause-result c =
     let none : next_cube c.loop-cube.cube ≡ None = rw c.if-not-branch.true at c.in_ok-go_right-in-Refuted.ensures in
     let whole = IsReached-next c.args.formula.now c.args.budget c.loop-cube.cube _ (refutation c.in-Refuted.refutation.lines.items) None c.loop-cube.invariant
         (rw c.in-Refuted.is at c.in_ok-values.ensures.runs) refl none in

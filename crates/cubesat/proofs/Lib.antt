@@ -1,0 +1,3 @@
+pub mod WrittenLemmas
+pub mod TextLemmas
+pub mod RunLemmas

@@ -1,0 +1,49 @@
+-- What a run says, by what its parts answered.
+use Rattle.std.proofs.Common.{◌≡◌, ℕ, ◌+◌, Bool, true, false, List, take, Option, Result, Ok, Err, MatchResult, refl, sym, subst, inl, inr, ◌⊎◌, IfSome}
+use Rattle.std.specs.Result.{is_err}
+use Rattle.std.specs.Io.KnownBytes.{Appends, Keeps}
+use Rattle.theory.specs.Truth as truth
+use Rattle.theory.specs.Reading.{max_bytes, Reads, formula}
+use Rattle.cnf.specs.declared.fault.ReadFault.{ReadFault}
+use Rattle.cnf.specs.declared.fault.ReadFault.TheVariants as reading
+use Rattle.cnf.specs.Faults.{IsReadOf}
+use Rattle.cubesat.specs.declared.fault.RunFault.{RunFault}
+use Rattle.cubesat.specs.declared.verdict.Verdict.{Verdict}
+use Rattle.cubesat.specs.Faults.{fault_of_read}
+use Rattle.cubesat.specs.Run.{AreTexts, IsRunOf, IsUnreadable, RunSays}
+use Rattle.cubesat.proofs.WrittenLemmas.{Keeps-same}
+
+-- where a write failed, and where it didn't
+pub failed : {X E : Type 0} (r : Result X E) (P Q : Type 0) → MatchResult r (λ _. P) (λ _. Q) → is_err r ≡ true → Q
+failed (Ok x) P Q h e = absurd (cc)
+failed (Err x) P Q h e = h
+
+pub went_well : {X E : Type 0} (r : Result X E) (P Q : Type 0) → MatchResult r (λ _. P) (λ _. Q) → is_err r ≡ false → P
+went_well (Ok x) P Q h e = h
+went_well (Err x) P Q h e = absurd (cc)
+
+-- a formula that was read, and the texts for it
+pub IsRunOf-made : (known : Option (List ℕ)) (B : ℕ) (F : truth.Formula) (verdict : Verdict) (proof answer : List ℕ) → ◌≡◌ {A = Result truth.Formula ReadFault} (Ok F) (Err reading.ReadFailed) ⊎ IsReadOf known (Ok F)
+    → AreTexts F B verdict proof answer → IsRunOf known B verdict proof answer
+IsRunOf-made known B F verdict proof answer (inl e) texts = absurd (cc)
+IsRunOf-made known B F verdict proof answer (inr r) texts = record { bytes = r.bytes; are = r.are; value = F; reads = r.is_read; texts = texts }
+
+-- a formula that wasn't read
+unreadable : (known p a : Option (List ℕ)) (fault : ReadFault) → ◌≡◌ {A = Result truth.Formula ReadFault} (Err fault) (Err reading.ReadFailed) ⊎ IsReadOf known (Err fault) → (fault ≡ reading.NoMemory → ⊥)
+    → IsUnreadable known p p a a fault
+unreadable known p a fault (inl e) other = record { refused = inl (cc); not_memory = other; proof_kept = Keeps-same p; answer_kept = Keeps-same a }
+unreadable known p a fault (inr r) other = record { refused = inr r; not_memory = other; proof_kept = Keeps-same p; answer_kept = Keeps-same a }
+
+pub RunSays-unread : (known p a : Option (List ℕ)) (B : ℕ) (fault : ReadFault) → ◌≡◌ {A = Result truth.Formula ReadFault} (Err fault) (Err reading.ReadFailed) ⊎ IsReadOf known (Err fault)
+    → RunSays known B p p a a (Err (fault_of_read fault))
+RunSays-unread known p a B reading.NoMemory h = (Keeps-same p, Keeps-same a)
+RunSays-unread known p a B reading.ReadFailed h = unreadable known p a reading.ReadFailed h (λ e. cc)
+RunSays-unread known p a B (reading.NoHeader x) h = unreadable known p a (reading.NoHeader x) h (λ e. cc)
+RunSays-unread known p a B (reading.BadHeader x) h = unreadable known p a (reading.BadHeader x) h (λ e. cc)
+RunSays-unread known p a B (reading.SecondHeader x) h = unreadable known p a (reading.SecondHeader x) h (λ e. cc)
+RunSays-unread known p a B (reading.BadNumber x) h = unreadable known p a (reading.BadNumber x) h (λ e. cc)
+RunSays-unread known p a B (reading.VariableOutOfRange x) h = unreadable known p a (reading.VariableOutOfRange x) h (λ e. cc)
+RunSays-unread known p a B (reading.TooManyClauses x) h = unreadable known p a (reading.TooManyClauses x) h (λ e. cc)
+RunSays-unread known p a B (reading.TooFewClauses x) h = unreadable known p a (reading.TooFewClauses x) h (λ e. cc)
+RunSays-unread known p a B (reading.ClauseNotEnded x) h = unreadable known p a (reading.ClauseNotEnded x) h (λ e. cc)
+RunSays-unread known p a B (reading.OverLimit x) h = unreadable known p a (reading.OverLimit x) h (λ e. cc)
