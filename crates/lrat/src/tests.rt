@@ -47,8 +47,10 @@ fn deletion_is_written(rt: HostRuntime) -> Result<(), Fail> {
 #[test]
 fn addition_is_written(rt: HostRuntime) -> Result<(), Fail> {
     let mut out = Vec::new(rt.alloc());
-    let clause =
-        vec![in rt.alloc(); Lit::new(1).ok_or("literal")?, Lit::new(-2).ok_or("literal")?]?;
+    let clause = vec![in rt.alloc();
+        Lit::new(1).ok_or("literal")?,
+        Lit::new(-2).ok_or("literal")?,
+    ]?;
     let hints = vec![in rt.alloc(); 7u64]?;
     let group = Group::new(3, vec![in rt.alloc(); 1u64]?);
     let empty_group = Group::new(4, Vec::new(rt.alloc()));
@@ -127,14 +129,29 @@ fn numbers_above_their_limits_are_refused(rt: HostRuntime) {
 #[test]
 fn long_numbers_are_refused(rt: HostRuntime) -> Result<(), Fail> {
     let number = Some(TextFault::BadNumber(1));
-    assert_eq!(rt; fault_of(&rt, &with_long_number(&rt, b"", b" 0 0\n")?), number);
-    assert_eq!(rt; fault_of(&rt, &with_long_number(&rt, b"5 -", b" 0 0\n")?), number);
-    assert_eq!(rt; fault_of(&rt, &with_long_number(&rt, b"5 0 ", b" 0\n")?), number);
-    assert_eq!(rt; fault_of(&rt, &with_long_number(&rt, b"5 0 0", b" 0\n")?), number);
+    assert_eq!(rt;
+        fault_of(&rt, &with_long_number(&rt, b"", b" 0 0\n")?),
+        number
+    );
+    assert_eq!(rt;
+        fault_of(&rt, &with_long_number(&rt, b"5 -", b" 0 0\n")?),
+        number
+    );
+    assert_eq!(rt;
+        fault_of(&rt, &with_long_number(&rt, b"5 0 ", b" 0\n")?),
+        number
+    );
+    assert_eq!(rt;
+        fault_of(&rt, &with_long_number(&rt, b"5 0 0", b" 0\n")?),
+        number
+    );
 
     // Behind the last 0 any number stands where it can't, of whatever size.
     let shape = Some(TextFault::BadShape(1));
-    assert_eq!(rt; fault_of(&rt, &with_long_number(&rt, b"5 0 0 ", b"\n")?), shape);
+    assert_eq!(rt;
+        fault_of(&rt, &with_long_number(&rt, b"5 0 0 ", b"\n")?),
+        shape
+    );
     Ok(())
 }
 
@@ -174,18 +191,30 @@ fn wrong_shapes_are_refused(rt: HostRuntime) {
 
 #[test]
 fn lines_without_end_are_refused(rt: HostRuntime) {
-    assert_eq!(rt; fault_of(&rt, b"5 1 0 1 2 0"), Some(TextFault::LineNotEnded(1)));
+    assert_eq!(rt;
+        fault_of(&rt, b"5 1 0 1 2 0"),
+        Some(TextFault::LineNotEnded(1))
+    );
     assert_eq!(rt; fault_of(&rt, b" "), Some(TextFault::LineNotEnded(1)));
     assert_eq!(rt; fault_of(&rt, b"5 x"), Some(TextFault::LineNotEnded(1)));
-    assert_eq!(rt; fault_of(&rt, b"8 0 0\n5 1"), Some(TextFault::LineNotEnded(2)));
+    assert_eq!(rt;
+        fault_of(&rt, b"8 0 0\n5 1"),
+        Some(TextFault::LineNotEnded(2))
+    );
     assert_eq!(rt; fault_of(&rt, b"5 x\n5 1"), Some(TextFault::BadNumber(1)));
 }
 
 #[test]
 fn first_faults_decide(rt: HostRuntime) {
-    assert_eq!(rt; fault_of(&rt, b"5 1 0 1 2\n6 01 0 0\n"), Some(TextFault::BadShape(1)));
+    assert_eq!(rt;
+        fault_of(&rt, b"5 1 0 1 2\n6 01 0 0\n"),
+        Some(TextFault::BadShape(1))
+    );
     assert_eq!(rt; fault_of(&rt, b"5 0 0 7 x\n"), Some(TextFault::BadShape(1)));
-    assert_eq!(rt; fault_of(&rt, b"5 x 0 0 7\n"), Some(TextFault::BadNumber(1)));
+    assert_eq!(rt;
+        fault_of(&rt, b"5 x 0 0 7\n"),
+        Some(TextFault::BadNumber(1))
+    );
 }
 
 #[test]
