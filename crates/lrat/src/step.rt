@@ -67,7 +67,10 @@ impl Model for Deletion {
 /// A line of a proof.
 #[derive(Debug, Drop)]
 pub enum Step {
+    /// A clause is put to those there.
     Add(Addition),
+
+    /// Clauses are taken away.
     Delete(Deletion),
 }
 
