@@ -1,3 +1,5 @@
 pub mod NextLemmas
 pub mod Remaining
 pub mod Frames
+pub mod PlaceLemmas
+pub mod SolvedLemmas

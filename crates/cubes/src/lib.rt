@@ -2,8 +2,12 @@
 #![tactic(auto)]
 
 mod next;
-mod solve;
+mod place;
+mod results;
+mod solved;
 mod tree;
 
-pub use solve::solve_one;
+pub use place::place_of;
+pub use results::{gather, solve_one};
+pub use solved::{Solved, What};
 pub use tree::{Node, Tree};
