@@ -21,7 +21,7 @@ pub takes-zero : (V C : ℕ) (cs : List Clause) (part : Clause) (text : List ℕ
     → Takes (at_body V C cs part) (record { token = word text; place = place }) (at_body V C (cs ++ part ∷ []) [])
 takes-zero V C cs part text place number room s = record {
   step_is = (let l : nat_lt (length cs) C ≡ true = lt-ltb (length cs) C room in let z = size-zero text number s in
-    let e : on_body V C cs part text ≡ Some (at_body V C (cs ++ part ∷ []) []) = rw (l, z) refl in e);
+      let e : on_body V C cs part text ≡ Some (at_body V C (cs ++ part ∷ []) []) = rw (l, z) refl in e);
 }
 
 either : (r s : Bool) → (r ≡ true) ⊎ (s ≡ true) → (r || s) ≡ true
