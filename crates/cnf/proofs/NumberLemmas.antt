@@ -48,6 +48,7 @@ digits-at [] k h l = absurd (omega arith)
 digits-at (b ∷ w) zero h l = and-left (is_ascii_digit b) (all_ascii_digits w) h
 digits-at (b ∷ w) (suc k) h l = digits-at w k (and-right (is_ascii_digit b) (all_ascii_digits w) h) (omega arith)
 
+-- numbers that differ
 pub not_byte : (b k : ℕ) → (b ≡ k → ⊥) → nat_eq b k ≡ false
 not_byte b k h = go (nat_eq b k) refl
   where

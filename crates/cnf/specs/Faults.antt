@@ -55,8 +55,10 @@ IsRefusal P NoMemory = Unit {0}
 abbrev pub IsReadAs : List ℕ → Result truth.Formula ReadFault → Type 0
 IsReadAs bytes answer = MatchResult answer (λ F. Reads bytes (formula F)) (IsRefusal (Reads bytes))
 
--- the answer is what the bytes of a reader are read as, up to the first byte above the limit, where the reader tells them
+-- the answer is what the bytes that were read are read as. Where the reader tells its bytes, these are its first up to one above the
+-- limit, and all its bytes are read as that too
 pub record IsReadOf (known : Option (List ℕ)) (answer : Result truth.Formula ReadFault) : Type 0 where
   pub bytes : List ℕ
   pub are : IfSome known (λ xs. bytes ≡ take (max_bytes + 1) xs)
   pub is_read : IsReadAs bytes answer
+  pub whole : IfSome known (λ xs. IsReadAs xs answer)

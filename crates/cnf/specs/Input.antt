@@ -1,5 +1,5 @@
 -- What reading a text in pieces keeps.
-use Rattle.std.specs.Prelude.{◌≡◌, ℕ, ◌+◌, ◌<◌, ◌≤◌, ◌⊎◌, Bool, true, false, List, ◌++◌, length, Option}
+use Rattle.std.specs.Prelude.{◌≡◌, ℕ, ◌<◌, ◌≤◌, ◌⊎◌, Bool, true, false, List, ◌++◌, length, Option}
 use Rattle.std.specs.Io.KnownBytes.{Consumes, IsAtEnd}
 use Rattle.cnf.specs.declared.fault.ReadFault.{ReadFault}
 use Rattle.cnf.specs.declared.fault.ReadFault.TheVariants.{ReadFailed, NoMemory}

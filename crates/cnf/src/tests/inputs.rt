@@ -51,7 +51,7 @@ impl Read for Endless {
 }
 
 #[test]
-fn single_bytes(rt: HostRuntime) -> Result<(), Fail> {
+fn pieces(rt: HostRuntime) -> Result<(), Fail> {
     let mut reader = Failing {
         at: 0,
         left: 100,
@@ -63,6 +63,8 @@ fn single_bytes(rt: HostRuntime) -> Result<(), Fail> {
     assert_eq!(rt; formula.vars(), 2);
     assert_eq!(rt; formula.clauses().len(), 1);
     assert_eq!(rt; reader.calls, 17);
+    let whole = read_from(rt.alloc(), TEXT)?;
+    assert_eq!(rt; whole.clauses().len(), 1);
     Ok(())
 }
 

@@ -1,4 +1,4 @@
-use Rattle.std.proofs.Common.{arith, ap, ◌∙◌}
+use Rattle.std.proofs.Common.{arith}
 use Rattle.cnf.proofs.InputLemmas.{full-read, last-read}
 use Rattle.cnf.proofs.input.read_text.Goals as goal
 use Rattle.cnf.proofs.input.read_text.Goals.{else-loop-text-test, then-loop-text-test+in_ok-read_chunk+then-not-branch}
