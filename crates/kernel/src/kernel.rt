@@ -83,7 +83,7 @@ impl Kernel {
 
     /// Propagation: while no clause is false, the unit clause of least number puts its literal on the trail, with that number as
     /// reason, at the current level. The answer is the false clause of least number, or `Quiet` where none is false or unit. It
-    /// fails only where an earlier call has met want of memory.
+    /// takes time by all literals for each entry, and fails only where an earlier call has met want of memory.
     pub fn close(&mut self) -> Result<Closed, AllocError>
         ensures ok { IfOk result (λ a. Closes self.old.clauses self.old.trail (closed_of a) self.new.trail) }
         ensures kept { (self.new.vars ≡ self.old.vars) × (self.new.clauses ≡ self.old.clauses) }
@@ -149,7 +149,7 @@ impl Kernel {
         }
     }
 
-    /// The truth value of a variable: none while it is free, and none for a number that is no variable.
+    /// The truth value of a variable, in one step: none while it is free, and none for a number that is no variable.
     pub fn value(&self, var: u32) -> Option<bool>
         ensures { result ≡ option_map (λ e. e.lit.positive) (entry_of self.now.trail var) }
     {
@@ -160,7 +160,7 @@ impl Kernel {
         }
     }
 
-    /// The entry of a variable: none while it is free, and none for a number that is no variable.
+    /// The entry of a variable, in one step: none while it is free, and none for a number that is no variable.
     pub fn entry(&self, var: u32) -> Option<Entry>
         ensures { result ≡ entry_of self.now.trail var }
     {
@@ -171,7 +171,7 @@ impl Kernel {
         }
     }
 
-    /// The least free variable.
+    /// The least free variable, in one step; none where each has an entry.
     pub fn least_free(&self) -> Option<u32>
         ensures { result ≡ least_free self.now.vars self.now.trail }
     {
@@ -199,7 +199,6 @@ impl Kernel {
         ensures over { IsOver self.now.vars (literals self.now.trail) }
         ensures clauses_over { All (IsOver self.now.vars) self.now.clauses }
     {
-        let _ = &self.clauses;
         self.trail.entries()
     }
 

@@ -1,4 +1,4 @@
-use Rattle.std.proofs.Common.{◌≡◌, ◌∙◌, ap, sym, arith}
+use Rattle.std.proofs.Common.{◌∙◌, ap, sym, arith}
 use Rattle.kernel.specs.Tables.{value_in}
 use Rattle.kernel.proofs.Statuses.{value-none}
 use Rattle.kernel.proofs.tests.is_free.Goals as goal

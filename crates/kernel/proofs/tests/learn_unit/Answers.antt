@@ -1,4 +1,4 @@
-use Rattle.std.proofs.Common.{◌≡◌, sym, ◌∙◌, arith}
+use Rattle.std.proofs.Common.{◌≡◌, arith}
 use Rattle.theory.specs.Trails.{current_level}
 use Rattle.kernel.proofs.Runs.{IsOver-one, IsLearnable-one}
 use Rattle.kernel.proofs.tests.learn_unit.Goals as goal
