@@ -1,3 +1,4 @@
--- The numbers of faults, and what a run has read and written.
+-- The numbers of faults, what a run has read and written, and what the command line asks for.
 pub mod Faults
 pub mod Run
+pub mod Arguments

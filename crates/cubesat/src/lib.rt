@@ -1,11 +1,16 @@
-//! The solver: from the bytes of a formula to the bytes of its proof and answer.
+//! The solver: from the bytes of a formula to the bytes of its proof and answer, and the program.
 #![tactic(auto)]
 
+mod arguments;
 mod fault;
 mod output;
+mod program;
 mod run;
+#[cfg(test)]
+mod tests;
 mod verdict;
 
 pub use fault::RunFault;
+pub use program::command;
 pub use run::run_one;
 pub use verdict::Verdict;

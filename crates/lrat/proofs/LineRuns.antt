@@ -6,7 +6,7 @@ use Rattle.theory.specs.Texts.{literal_text, groups_words, step_words, zero_text
 use Rattle.theory.specs.ProofReading.{max_literal, max_number, IsNumber, IsLiteral, IsGroup, IsAddition, IsStep, LineCanGoOn}
 use Rattle.lrat.specs.declared.word.Word.{Word}
 use Rattle.lrat.specs.declared.word.Word.TheVariants.{Positive, Negative}
-use Rattle.lrat.specs.LineWords.{word_of, number_in, candidate_in}
+use Rattle.lrat.specs.LineWords.{word_of, number_in}
 use Rattle.lrat.specs.LineMachine.{State, at_id, at_clause, at_hints, at_group, at_ids, ended, with_group, without_groups, on, on_candidate, IsWithin}
 use Rattle.lrat.proofs.WordTexts.{word_of-decimal, word_of-minus}
 use Rattle.lrat.proofs.LineMachineLemmas.{All-none, All-push, All-first, All-rest, front, so_far}
@@ -31,12 +31,6 @@ runs-None (t ∷ ts) = runs-None ts
 -- a number, a literal and a candidate are taken where they may stand
 number-in : (n : ℕ) → IsNumber n → number_in (word_of (decimal n)) ≡ Some n
 number-in n h = let small : nat_le n max_number ≡ true = le-leb n max_number h.1 in ap number_in (word_of-decimal n h.0 h.1) ∙ ap (λ b. cond b (Some n) None) small
-
-number-out : (n : ℕ) → IsNumber n → number_in (word_of (minus ∷ decimal n)) ≡ None
-number-out n h = ap number_in (word_of-minus n h.0 h.1)
-
-candidate-in : (n : ℕ) → IsNumber n → candidate_in (word_of (minus ∷ decimal n)) ≡ Some n
-candidate-in n h = let small : nat_le n max_number ≡ true = le-leb n max_number h.1 in ap candidate_in (word_of-minus n h.0 h.1) ∙ ap (λ b. cond b (Some n) None) small
 
 on-id : (n : ℕ) → IsNumber n → on at_id (word_of (decimal n)) ≡ Some (at_clause n [])
 on-id n h = ap (λ o. elim o [ Some m ↦ Some (at_clause m []) | None ↦ None ]) (number-in n h)
@@ -131,9 +125,6 @@ runs-ids id hs (n ∷ ns) ts h =
     ∙ ap (λ k. runs (Some (at_ids (record { id = id; ids = k }))) ts) (append_assoc hs (n ∷ []) ns)
 
 -- groups behind a group, then the last 0
-groups_end : List (List ℕ)
-groups_end = zero_text ∷ []
-
 with_groups : Addition → List Group → Addition
 with_groups a gs = record { id = a.id; clause = a.clause; hints = a.hints; groups = a.groups ++ gs }
 
@@ -179,9 +170,6 @@ whole words s h e = record { more = []; step = s; readable = record { within = h
 
 addition-goes_on : (a : Addition) (words more : List (List ℕ)) → IsAddition a → words ++ more ≡ step_words (add a) → LineCanGoOn words
 addition-goes_on a words more h e = record { more = more; step = add a; readable = record { within = h; are = e } }
-
-only_id : ℕ → Addition
-only_id n = record { id = n; clause = []; hints = []; groups = [] }
 
 clause_only : (id : ℕ) (c : Clause) → (decimal id ∷ map literal_text c) ++ zero_text ∷ zero_text ∷ [] ≡ step_words (add (without_groups id c []))
 clause_only id c = simp append_assoc

@@ -116,10 +116,6 @@ texts-word b (c ∷ word) line s l =
     two = let h = no_blank b s.0 in let k = no_blank c s.1.0 in rw (h, k) refl
 
 -- the lines of a word's bytes and what follows them
-abbrev pub onto : List ℕ → List (List ℕ) → List (List ℕ)
-onto word [] = word ∷ []
-onto word (line ∷ lines) = (word ++ line) ∷ lines
-
 pub lines_of-solid : (word bytes line : List ℕ) (ls : List (List ℕ)) → Solid word → lines_of bytes ≡ line ∷ ls → lines_of (word ++ bytes) ≡ (word ++ line) ∷ ls
 lines_of-solid [] bytes line ls s e = e
 lines_of-solid (b ∷ word) bytes line ls s e = lines_of-byte b (word ++ bytes) (no_lf b s.0) ∙ ap (onto_first b) (lines_of-solid word bytes line ls s.1 e)

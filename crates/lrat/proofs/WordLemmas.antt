@@ -1,24 +1,14 @@
 -- How a line grows, word by word.
-use Rattle.std.proofs.Common.{◌≡◌, ℕ, ◌+◌, ◌<◌, List, [], ◌∷◌, ◌++◌, map, length, take, drop, get_or, decimal, refl, sym, ap, ◌∙◌, append_assoc, append-nil}
-use Rattle.std.proofs.lemmas.List.{take_at, drop_more}
+use Rattle.std.proofs.Common.{◌≡◌, ℕ, ◌+◌, ◌<◌, List, [], ◌∷◌, ◌++◌, map, length, drop, get_or, decimal, refl, sym, ap, ◌∙◌, append_assoc}
+use Rattle.std.proofs.lemmas.List.{drop_more}
 use Rattle.std.specs.List.{join_with_byte}
 use Rattle.theory.specs.Steps.{Group, Addition, Deletion, add, delete}
 use Rattle.theory.specs.Texts.{space, lf, literal_text, zero_text, group_words, groups_words, step_text, step_words}
 use Rattle.lrat.specs.Words.{spaced, Extends}
 
 -- more bytes, and once more
-pub Extends-refl : (old : List ℕ) → Extends old old
-Extends-refl old = record { more = []; are = sym (append-nil old) }
-
-pub Extends-by : (old new more : List ℕ) → new ≡ old ++ more → Extends old new
-Extends-by old new more e = record { more = more; are = e }
-
 pub Extends-trans : (old mid new : List ℕ) → Extends old mid → Extends mid new → Extends old new
 Extends-trans old mid new e f = record { more = e.more ++ f.more; are = f.are ∙ ap (λ x. x ++ f.more) e.are ∙ append_assoc old e.more f.more }
-
--- what was cut back is as it was
-pub take-Extends : (old new : List ℕ) → Extends old new → take (length old) new ≡ old
-take-Extends old new e = ap (λ x. take (length old) x) e.are ∙ take_at old e.more (length old) refl
 
 pub spaced-append : (xs ys : List (List ℕ)) → spaced (xs ++ ys) ≡ spaced xs ++ spaced ys
 spaced-append [] ys = refl

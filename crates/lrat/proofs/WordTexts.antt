@@ -120,12 +120,6 @@ text-Mark t =
     (λ z p m k e. is_text-eq t (codes "d") k) (λ z p m k e. absurd (cc))
 
 -- and back
-pub word_of-zero : word_of zero_text ≡ Zero
-word_of-zero = refl
-
-pub word_of-mark : word_of (codes "d") ≡ Mark
-word_of-mark = refl
-
 pub not_zero : (t : List ℕ) → is_positive_text t ≡ true → is_zero_text t ≡ false
 not_zero [] h = refl
 not_zero (b ∷ []) h = grind arith

@@ -1,6 +1,6 @@
 -- What a line is seen as while it is read, and its faults.
 use Rattle.std.specs.Prelude.{◌≡◌, Bool, true, false, Option, Some, None}
-use Rattle.theory.specs.Steps.{Addition, Deletion, add, delete}
+use Rattle.theory.specs.Steps.{Group, Addition, Deletion, add, delete}
 use Rattle.theory.specs.ProofReading.{ProofReading, line_fault, too_long}
 use Rattle.theory.specs.ProofReading as theory
 use Rattle.lrat.specs.declared.line.Line.{Line}
@@ -15,6 +15,9 @@ use Rattle.lrat.specs.declared.step.Step.{Step}
 abbrev pub addition_of : Line → Addition
 addition_of l = record { id = l.id; clause = l.clause.items; hints = l.hints.items; groups = l.groups.items }
 
+abbrev pub group_of : Line → Group
+group_of l = record { candidate = l.candidate; hints = l.group_hints.items }
+
 abbrev pub deletion_of : Line → Deletion
 deletion_of l = record { id = l.id; ids = l.hints.items }
 
@@ -23,7 +26,7 @@ abbrev pub state_at : Part → Line → State
 state_at Id l = at_id
 state_at Literals l = at_clause l.id l.clause.items
 state_at Hints l = at_hints l.id l.clause.items l.hints.items
-state_at GroupHints l = at_group (addition_of l) (record { candidate = l.candidate; hints = l.group_hints.items })
+state_at GroupHints l = at_group (addition_of l) (group_of l)
 state_at Ids l = at_ids (deletion_of l)
 state_at AdditionEnd l = ended (add (addition_of l))
 state_at DeletionEnd l = ended (delete (deletion_of l))

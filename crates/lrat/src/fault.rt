@@ -20,6 +20,7 @@ pub enum TextFault {
     #[error("line {0}: not of a step's shape")]
     BadShape(u64),
 
+    /// A growth was refused.
     #[error("out of memory")]
     NoMemory,
 

@@ -11,7 +11,8 @@ pub fn one_reading()
 
 /// The text of steps is read as these steps, and as nothing else, where it is no longer than a text may be.
 pub fn written_is_read()
-    ensures read { (ss : List Step) → All IsStep ss → length (proof_text ss) ≤ max_proof_bytes → ProofReads (proof_text ss) (steps ss) }
+    ensures read { (ss : List Step) → All IsStep ss → length (proof_text ss) ≤ max_proof_bytes →
+        ProofReads (proof_text ss) (steps ss) }
     ensures only { (ss : List Step) (r : ProofReading) → All IsStep ss → length (proof_text ss) ≤ max_proof_bytes →
         ProofReads (proof_text ss) r → r ≡ steps ss }
 {}

@@ -3,7 +3,7 @@ ghost use Rattle.std.specs.Prelude.{◌≡◌, [], ◌∷◌, ◌++◌, IfOk, On
 ghost use Rattle.theory.specs.ProofReading.{line_fault, IsGroup, IsAddition, IsDeletion};
 ghost use Rattle.lrat.specs.LineWords.{IsCounting};
 ghost use Rattle.lrat.specs.LineMachine.{at_id, on, fault_in, at_end, IsWithin};
-ghost use Rattle.lrat.specs.LineStates.{addition_of, deletion_of, state_at, state_of, Takes, IsFault, reading_of};
+ghost use Rattle.lrat.specs.LineStates.{addition_of, group_of, deletion_of, state_at, state_of, Takes, IsFault, reading_of};
 
 use crate::fault::TextFault;
 use crate::step::{Addition, Deletion, Group, Step};
@@ -24,7 +24,8 @@ pub enum Part {
     DeletionEnd,
 }
 
-/// The parts of a line so far. Its lists are used again for each line, so that a step's own are made once, in their size.
+/// The parts of a line so far. Its lists are used again for each line, so that a step's own are made once, in their
+/// size.
 #[derive(Drop)]
 pub struct Line {
     alloc: Global,
@@ -97,7 +98,8 @@ impl Line {
 
     /// Begins the group of a candidate.
     fn begin_group(&mut self, candidate: u64)
-        ensures others { self.new ≡ record self.old { part = Part.GroupHints; candidate = candidate; group_hints = self.new.group_hints } }
+        ensures others { self.new
+            ≡ record self.old { part = Part.GroupHints; candidate = candidate; group_hints = self.new.group_hints } }
         ensures empty { self.new.group_hints.items ≡ [] }
     {
         self.candidate = candidate;
@@ -107,9 +109,8 @@ impl Line {
 
     /// Puts the group that was read behind the others.
     fn end_group(&mut self) -> Result<(), AllocError>
-        requires { IsGroup (record { candidate = self.old.candidate; hints = self.old.group_hints.items }) }
-        ensures groups { OnOk result (self.new.groups.items
-            ≡ self.old.groups.items ++ record { candidate = self.old.candidate; hints = self.old.group_hints.items } ∷ []) }
+        requires { IsGroup (group_of self.old) }
+        ensures groups { OnOk result (self.new.groups.items ≡ self.old.groups.items ++ group_of self.old ∷ []) }
         ensures others { OnOk result (self.new ≡ record self.old { groups = self.new.groups }) }
     {
         let hints = Vec::from_slice(self.alloc, &self.group_hints)?;

@@ -28,9 +28,11 @@ fn has_line_feed(bytes: &[u8]) -> bool
     false
 }
 
-/// The fault of a word that can't stand next, where `rest` follows it: a line that isn't ended is at fault for that alone.
+/// The fault of a word that can't stand next, where `rest` follows it: a line that isn't ended is at fault for that
+/// alone.
 fn refusal(line: &Line, word: Word, rest: &[u8], number: u64) -> TextFault
-    ensures { IsFault result (line_fault (if has_line_feed rest.now then fault_in (state_of line.now) word else line_not_ended) number) }
+    ensures { let fault = (if has_line_feed rest.now then fault_in (state_of line.now) word else line_not_ended) in
+        IsFault result (line_fault fault number) }
 {
     if has_line_feed(rest) {
         line.fault(word, number)
@@ -47,9 +49,10 @@ fn read_line(
     number: u64,
 ) -> Result<(Step, usize), TextFault>
     requires { start < length bytes.now }
-    ensures read { MatchResult result
-        (λ r. read_lines number (lines_of (drop start bytes.now)) ≡ with_step (step_of r.0) (read_lines (number + 1) (lines_of (drop r.1 bytes.now))))
-        (λ e. IsFault e (read_lines number (lines_of (drop start bytes.now)))) }
+    ensures read { let reading = read_lines number (lines_of (drop start bytes.now)) in
+        MatchResult result
+        (λ r. reading ≡ with_step (step_of r.0) (read_lines (number + 1) (lines_of (drop r.1 bytes.now))))
+        (λ e. IsFault e reading) }
     ensures forward { MatchResult result (λ r. (start < r.1) × (r.1 ≤ length bytes.now)) (λ _. Unit {0}) }
 {
     line.begin();
@@ -75,10 +78,13 @@ fn read_line(
     Err(TextFault::LineNotEnded(number))
 }
 
-/// Reads the text of a proof, in one pass: its steps, or the fault of the first line at fault. It takes memory for the steps, and
-/// for the lists of one line.
+/// Reads the text of a proof, in one pass: its steps, in their order, or the fault of the first line at fault. A text of
+/// more than 4,294,967,296 bytes is too long, whatever it holds. It takes memory for the steps, and for the lists of one
+/// line; where memory is refused, what was read is let go.
 pub fn read_proof(alloc: Global, bytes: &[u8]) -> Result<Vec<Step>, TextFault>
-    ensures { MatchResult result (λ v. ProofReads bytes.now (steps (map step_of v.items))) (λ e. HasFault bytes.now e) }
+    ensures { MatchResult result
+        (λ v. ProofReads bytes.now (steps (map step_of v.items)))
+        (λ e. HasFault bytes.now e) }
 {
     if bytes.len() > MAX_BYTES {
         return Err(TextFault::TooLong);

@@ -1,5 +1,5 @@
-//! The steps of a proof. A clause's number lies between 1 and 9,223,372,036,854,775,807, and a literal's size between 1 and
-//! 2,147,483,647.
+//! The steps of a proof. A clause's number lies between 1 and 9,223,372,036,854,775,807, and a literal's size between 1
+//! and 2,147,483,647.
 ghost use Rattle.std.specs.Prelude.{◌≡◌};
 ghost use Rattle.theory.specs.ProofReading.{IsGroup, IsAddition, IsDeletion};
 
@@ -39,9 +39,11 @@ impl Model for Addition {
 
     ghost Value = { theory.Addition };
 
-    ghost view = { λ a. record { id = a.id; clause = a.clause.items; hints = a.hints.items; groups = a.groups.items } };
+    ghost view = { λ a.
+        record { id = a.id; clause = a.clause.items; hints = a.hints.items; groups = a.groups.items } };
 
-    ghost invariant = { λ a. IsAddition (record { id = a.id; clause = a.clause.items; hints = a.hints.items; groups = a.groups.items }) };
+    ghost invariant = { λ a. IsAddition
+        (record { id = a.id; clause = a.clause.items; hints = a.hints.items; groups = a.groups.items }) };
 }
 
 /// Numbers of clauses that are taken away.
@@ -65,7 +67,10 @@ impl Model for Deletion {
 /// A line of a proof.
 #[derive(Debug, Drop)]
 pub enum Step {
+    /// A clause is put to those there.
     Add(Addition),
+
+    /// Clauses are taken away.
     Delete(Deletion),
 }
 

@@ -96,7 +96,8 @@ fn negative_word(bytes: &[u8], start: usize, digits: &Digits) -> Word
     requires all { digits.now.all ≡ all_ascii_digits (first_word (drop start bytes.now)) }
     requires end { digits.now.end ≡ start + length (first_word (drop start bytes.now)) }
     requires within { digits.now.end ≤ length bytes.now }
-    ensures { result ≡ (if is_positive_text (first_word (drop start bytes.now)) then Word.Negative digits.now.size else Word.Other) }
+    ensures { let is_negative = is_positive_text (first_word (drop start bytes.now)) in
+        result ≡ (if is_negative then Word.Negative digits.now.size else Word.Other) }
 {
     if digits.all && digits.end > start && bytes[start] != b'0' {
         Word::Negative(digits.size)

@@ -106,7 +106,8 @@ fn append_deletion(deletion: &Deletion, out: &mut Vec<u8>) -> Result<(), AllocEr
     append_end(out)
 }
 
-/// Appends the step's line. A refused growth leaves the vector as it was; no other memory is taken.
+/// Appends the step's line: its words with single spaces, and a line feed. A refused growth leaves the vector as it was.
+/// No other memory is taken.
 pub fn write_step(step: &Step, out: &mut Vec<u8>) -> Result<(), AllocError>
     ensures ok { OnOk result (out.new.items ≡ out.old.items ++ step_text (step_of step.now)) }
     ensures err { OnErr result (out.new.items ≡ out.old.items) }

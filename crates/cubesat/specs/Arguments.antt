@@ -1,0 +1,11 @@
+-- What the command line asks for is within the limits.
+use Rattle.std.specs.Prelude.{ℕ, ◌≤◌, Option, Some, None}
+use Rattle.cubesat.specs.declared.arguments.Request.{Request}
+use Rattle.cubesat.specs.declared.arguments.Request.TheVariants.{Solve}
+
+abbrev pub IsRequest : Request → Type 0
+IsRequest (Solve budget proof file) = (1 ≤ budget) × (budget ≤ 100000)
+
+abbrev pub IsWithin : Option Request → Type 0
+IsWithin None = Unit {0}
+IsWithin (Some r) = IsRequest r

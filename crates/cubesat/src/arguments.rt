@@ -1,0 +1,82 @@
+//! The command line.
+ghost use Rattle.std.specs.Prelude.{◌≤◌, IfOk};
+ghost use Rattle.cubesat.specs.Arguments.{IsRequest, IsWithin};
+
+use clap::error::ErrorKind;
+use clap::{Arg, ArgMatches, Command, Error};
+use std::alloc::{AllocError, Global};
+
+/// The largest budget.
+const MAX_BUDGET: u32 = 100_000;
+
+/// What the command line asks for.
+#[derive(Clone, Copy, Debug)]
+pub(crate) enum Request<'a> {
+    /// Decide the formula in `file`, and write its proof to `proof`.
+    Solve {
+        budget: u32,
+        proof: &'a str,
+        file: &'a str,
+    },
+}
+
+fn solve_command<'a>(alloc: Global) -> Result<Command<'a>, AllocError> {
+    let budget = Arg::new(alloc, "budget")
+        .long("budget")
+        .value_name("N")
+        .value_parser(clap::value_parser!(u32).range(1..=100_000))
+        .default_value("1000")
+        .help("Conflicts that a cube may have before it is split, 1 to 100000");
+    let proof = Arg::new(alloc, "proof")
+        .long("proof")
+        .value_name("PATH")
+        .required(true)
+        .help("Where the LRAT proof is written");
+    let file = Arg::new(alloc, "FILE")
+        .required(true)
+        .help("The formula, in DIMACS CNF");
+    Command::new(alloc, "solve")
+        .about("Decide a formula: status 10 satisfiable, 20 unsatisfiable, 1 on a fault")
+        .arg(budget)?
+        .arg(proof)?
+        .arg(file)
+}
+
+fn whole_command<'a>(alloc: Global) -> Result<Command<'a>, AllocError> {
+    Command::new(alloc, "cubesat")
+        .about("A SAT solver with LRAT proofs")
+        .subcommand_required(true)
+        .subcommand(solve_command(alloc)?)
+}
+
+/// The request of a subcommand's matches. The command has been built so that each value is there and in its range; this is tested again,
+/// since no clause of the parser's says it of a subcommand.
+fn solve_request<'a>(matches: &ArgMatches<'a>) -> Option<Request<'a>>
+    ensures { IsWithin result }
+{
+    let budget = matches.get_one::<u32>("budget")?;
+    let proof = matches.get_str("proof")?;
+    let file = matches.get_str("FILE")?;
+    if budget < 1 || budget > MAX_BUDGET {
+        return None;
+    }
+    Some(Request::Solve {
+        budget,
+        proof,
+        file,
+    })
+}
+
+/// What the words ask for; the program's name is the first one. An error is the parser's, with its message.
+pub(crate) fn request_of<'a>(alloc: Global, words: &'a [&'a str]) -> Result<Request<'a>, Error>
+    ensures { IfOk result IsRequest }
+{
+    let mut command = whole_command(alloc)?;
+    let matches = command.try_get_matches_from_mut(words)?;
+    if let Some((_, matches)) = matches.subcommand() {
+        if let Some(request) = solve_request(matches) {
+            return Ok(request);
+        }
+    }
+    Err(command.error(ErrorKind::InvalidValue, "no request")?)
+}

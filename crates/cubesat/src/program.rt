@@ -1,0 +1,105 @@
+//! The program: a command line, its files, and what is printed.
+ghost use Rattle.std.specs.Prelude.{◌≤◌};
+
+use crate::arguments::{Request, request_of};
+use crate::fault::RunFault;
+use crate::run::run_one;
+use crate::verdict::Verdict;
+use clap::error::ErrorKind;
+use std::alloc::Global;
+use std::fs;
+use std::fs::Files;
+use std::io::Write;
+
+/// The status of a satisfiable formula.
+const SATISFIABLE: u8 = 10;
+
+/// The status of an unsatisfiable formula.
+const UNSATISFIABLE: u8 = 20;
+
+/// The status of a request for help.
+const SHOWN: u8 = 0;
+
+/// The status of a fault and of a wrong command line.
+const FAILED: u8 = 1;
+
+/// Prints the line of a fault. A failed write changes nothing.
+fn print_fault<E: Write>(faults: &mut E, fault: RunFault) {
+    let number = fault.number();
+    let _ = match fault {
+        RunFault::Read(read) => {
+            let refusal = read.number();
+            match read.place() {
+                Some(place) => writeln!(faults, "fault {number}: refusal {refusal} at {place}"),
+                None => writeln!(faults, "fault {number}: refusal {refusal}"),
+            }
+        }
+        _ => writeln!(faults, "fault {number}"),
+    };
+}
+
+/// Prints that a file can't be opened or created; the status.
+fn print_no_file<E: Write>(faults: &mut E) -> u8 {
+    let _ = writeln!(faults, "fault 56");
+    FAILED
+}
+
+/// Decides the formula in the file, with its proof written to the other; the status.
+fn solve<R: Files, W: Write, E: Write>(
+    rt: &R,
+    alloc: Global,
+    budget: u32,
+    proof: &str,
+    file: &str,
+    answer: &mut W,
+    faults: &mut E,
+) -> u8
+    requires { (1 ≤ budget) × (budget ≤ 100000) }
+{
+    let Ok(input) = fs::open(rt, file) else {
+        return print_no_file(faults);
+    };
+    let Ok(mut proof) = fs::create(rt, proof) else {
+        return print_no_file(faults);
+    };
+    match run_one(alloc, input, answer, &mut proof, budget) {
+        Ok(Verdict::Satisfiable) => SATISFIABLE,
+        Ok(Verdict::Unsatisfiable) => UNSATISFIABLE,
+        Err(fault) => {
+            print_fault(faults, fault);
+            FAILED
+        }
+    }
+}
+
+/// Does all that the program does for a command line, of which the first word is the program's name: reads and writes its files, writes
+/// the answer to `answer` and faults to `faults`, and answers the exit status: 10 satisfiable, 20 unsatisfiable, 0 for help, 1 on a fault
+/// or a wrong command line. A failed write to `faults` changes nothing else.
+pub fn command<R: Files, W: Write, E: Write>(
+    rt: &R,
+    alloc: Global,
+    words: &[&str],
+    answer: &mut W,
+    faults: &mut E,
+) -> u8
+{
+    match request_of(alloc, words) {
+        Ok(Request::Solve {
+            budget,
+            proof,
+            file,
+        }) => solve(rt, alloc, budget, proof, file, answer, faults),
+        Err(error) if error.kind() == ErrorKind::OutOfMemory => {
+            print_fault(faults, RunFault::NoMemory);
+            FAILED
+        }
+        Err(error) if error.use_stderr() => {
+            let _ = write!(faults, "{error}");
+            FAILED
+        }
+        Err(help) => {
+            let _ = write!(answer, "{help}");
+            SHOWN
+        }
+    }
+}
