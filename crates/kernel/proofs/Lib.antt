@@ -8,5 +8,6 @@ pub mod Numbering
 pub mod Ordered
 pub mod Pieces
 pub mod Room
+pub mod Runs
 pub mod Statuses
 pub mod Tables

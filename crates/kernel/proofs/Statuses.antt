@@ -134,7 +134,7 @@ consistent (k ∷ P) l d a = false_unless (has (k ∷ P) (negated l)) (λ b. bot
     both (inr s) (inr t) rest = rest s t
 
 -- the value of a variable says which of its literals is on the trail
-value-literal : (T : Trail) (l : Literal) (b : Bool) → value_in T l.var ≡ Some b → l.positive ≡ b → has (literals T) l ≡ true
+pub value-literal : (T : Trail) (l : Literal) (b : Bool) → value_in T l.var ≡ Some b → l.positive ≡ b → has (literals T) l ≡ true
 value-literal [] l b h p = absurd (cc)
 value-literal (e ∷ T) l b h p = go (nat_eq e.lit.var l.var) refl h (value-literal T l b)
   where

@@ -1,5 +1,5 @@
 //! The kernel: the clauses and the trail of one cube's search.
-ghost use Rattle.std.specs.Prelude.{◌≡◌, ◌≢◌, ℕ, ◌+◌, ◌-◌, ◌^◌, ◌<◌, ◌≤◌, true, false, None, List, [], ◌∷◌, ◌++◌, length, map, All, IfOk, OnOk, OnErr, IsErr, if◌then◌else◌};
+ghost use Rattle.std.specs.Prelude.{◌≡◌, ◌+◌, ◌^◌, ◌<◌, ◌≤◌, true, false, None, [], ◌∷◌, ◌++◌, length, All, IfOk, OnOk, OnErr, IsErr, if◌then◌else◌};
 ghost use Rattle.std.specs.Option.{option_map};
 ghost use Rattle.theory.specs.Literals.{IsVariable, IsCube, has_var};
 ghost use Rattle.theory.specs.Truth.{IsOver};
@@ -40,7 +40,12 @@ impl Model for Kernel {
 
     ghost Value = { State };
 
-    ghost view = { λ a. record { vars = a.trail.vars; clauses = a.clauses; trail = a.trail.entries; short = a.short } };
+    ghost view = { λ a. record {
+      vars = a.trail.vars;
+      clauses = a.clauses;
+      trail = a.trail.entries;
+      short = a.short;
+    } };
 
     ghost invariant = { λ a. IsLawful a.clauses a.trail.entries × All (IsOver a.trail.vars) a.clauses };
 }
@@ -68,8 +73,14 @@ impl Kernel {
     /// literals, and memory for them and for one entry of each variable; it fails where that is refused.
     pub fn open(alloc: Global, formula: &Formula, cube: &Cube) -> Result<Kernel, AllocError>
         requires { IsOver formula.now.vars cube.now }
-        ensures opened { IfOk result (λ k. k ≡ record { vars = formula.now.vars; clauses = first_clauses formula.now; trail = cube_trail cube.now; short = false }) }
-        ensures lawful { IfOk result (λ k. IsLawful k.clauses k.trail × IsOver k.vars (literals k.trail) × All (IsOver k.vars) k.clauses) }
+        ensures opened { IfOk result (λ k. k ≡ record {
+          vars = formula.now.vars;
+          clauses = first_clauses formula.now;
+          trail = cube_trail cube.now;
+          short = false;
+        }) }
+        ensures lawful { IfOk result (λ k.
+            IsLawful k.clauses k.trail × IsOver k.vars (literals k.trail) × All (IsOver k.vars) k.clauses) }
         ensures few { IfOk result (λ k. k.vars ≤ max_vars) }
     {
         let clauses = Clauses::copied(alloc, formula.clauses())?;
@@ -83,7 +94,7 @@ impl Kernel {
 
     /// Propagation: while no clause is false, the unit clause of least number puts its literal on the trail, with that number as
     /// reason, at the current level. The answer is the false clause of least number, or `Quiet` where none is false or unit. It
-    /// fails only where an earlier call has met want of memory.
+    /// takes time by all literals for each entry, and fails only where an earlier call has met want of memory.
     pub fn close(&mut self) -> Result<Closed, AllocError>
         ensures ok { IfOk result (λ a. Closes self.old.clauses self.old.trail (closed_of a) self.new.trail) }
         ensures kept { (self.new.vars ≡ self.old.vars) × (self.new.clauses ≡ self.old.clauses) }
@@ -102,8 +113,12 @@ impl Kernel {
     /// Makes a free literal true at the next level, without a reason, after propagation came to rest. It takes no memory.
     pub fn decide(&mut self, lit: Lit)
         requires { self.old.short ≡ false →
-            IsVariable self.old.vars lit.var × (has_var (literals self.old.trail) lit.var ≡ false) × Closes self.old.clauses self.old.trail quiet self.old.trail }
-        ensures { self.new ≡ (if self.old.short then self.old else record self.old { trail = self.old.trail ++ record { lit = lit; reason = None; level = current_level self.old.trail + 1 } ∷ [] }) }
+            IsVariable self.old.vars lit.var × (has_var (literals self.old.trail) lit.var ≡ false)
+            × Closes self.old.clauses self.old.trail quiet self.old.trail }
+        ensures { self.new ≡ (if self.old.short then self.old else record self.old {
+          trail =
+              self.old.trail ++ record { lit = lit; reason = None; level = current_level self.old.trail + 1 } ∷ [];
+        }) }
     {
         if self.short {
             return;
@@ -119,7 +134,8 @@ impl Kernel {
     /// Takes the entries above a level off, which is below the current one. It takes no memory, and time by the entries taken off.
     pub fn back_to(&mut self, level: u32)
         requires { self.old.short ≡ false → level < current_level self.old.trail }
-        ensures { self.new ≡ (if self.old.short then self.old else record self.old { trail = up_to self.old.trail level }) }
+        ensures { self.new ≡
+            (if self.old.short then self.old else record self.old { trail = up_to self.old.trail level }) }
     {
         if !self.short {
             self.trail.back_to(level);
@@ -132,7 +148,9 @@ impl Kernel {
     pub fn learn(&mut self, clause: &[Lit]) -> Result<u64, AllocError>
         requires { self.old.short ≡ false → IsOver self.old.vars clause.now × IsLearnable self.old.trail clause.now }
         ensures ok { IfOk result (λ n. n ≡ length self.old.clauses + 1) }
-        ensures learnt { OnOk result (self.new ≡ record self.old { clauses = self.old.clauses ++ clause.now ∷ [] }) }
+        ensures learnt { OnOk result (self.new ≡ record self.old {
+          clauses = self.old.clauses ++ clause.now ∷ [];
+        }) }
         ensures refused { OnErr result (self.new ≡ record self.old { short = true }) }
         ensures stays { self.old.short ≡ true → IsErr result }
         ensures was { OnOk result (self.old.short ≡ false) }
@@ -149,7 +167,7 @@ impl Kernel {
         }
     }
 
-    /// The truth value of a variable: none while it is free, and none for a number that is no variable.
+    /// The truth value of a variable, in one step: none while it is free, and none for a number that is no variable.
     pub fn value(&self, var: u32) -> Option<bool>
         ensures { result ≡ option_map (λ e. e.lit.positive) (entry_of self.now.trail var) }
     {
@@ -160,7 +178,7 @@ impl Kernel {
         }
     }
 
-    /// The entry of a variable: none while it is free, and none for a number that is no variable.
+    /// The entry of a variable, in one step: none while it is free, and none for a number that is no variable.
     pub fn entry(&self, var: u32) -> Option<Entry>
         ensures { result ≡ entry_of self.now.trail var }
     {
@@ -171,7 +189,7 @@ impl Kernel {
         }
     }
 
-    /// The least free variable.
+    /// The least free variable, in one step; none where each has an entry.
     pub fn least_free(&self) -> Option<u32>
         ensures { result ≡ least_free self.now.vars self.now.trail }
     {
@@ -199,7 +217,6 @@ impl Kernel {
         ensures over { IsOver self.now.vars (literals self.now.trail) }
         ensures clauses_over { All (IsOver self.now.vars) self.now.clauses }
     {
-        let _ = &self.clauses;
         self.trail.entries()
     }
 

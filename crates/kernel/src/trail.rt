@@ -31,7 +31,9 @@ impl Model for Trail {
 
     ghost view = { λ a. record { vars = a.vars; entries = a.entries.items } };
 
-    ghost invariant = { λ a. IsOrdered a.vars a.entries.items × (a.vars ≤ vec_capacity a.entries) × (a.vars < 2 ^ 31) × AreTables a.vars a.entries.items a.values.items a.places.items × IsNextFree a.vars a.entries.items a.next_free };
+    ghost invariant = { λ a. IsOrdered a.vars a.entries.items × (a.vars ≤ vec_capacity a.entries)
+        × (a.vars < 2 ^ 31) × AreTables a.vars a.entries.items a.values.items a.places.items
+        × IsNextFree a.vars a.entries.items a.next_free };
 }
 
 /// How many entries there are up to a level.
@@ -53,9 +55,12 @@ fn count_up_to(entries: &[Entry], level: u32) -> usize
 
 /// Makes the variables of entries free in the tables.
 fn free_all(values: &mut [Option<bool>], places: &mut [u32], dropped: &[Entry])
-    requires { (v : ℕ) → has_var (literals dropped.now) v ≡ true → (v < length values.old) × (v < length places.old) }
-    ensures values { (v : ℕ) → slice_index_or values.new v None ≡ (if has_var (literals dropped.now) v then None else slice_index_or values.old v None) }
-    ensures places { (v : ℕ) → slice_index places.new v ≡ (if has_var (literals dropped.now) v then 0 else slice_index places.old v) }
+    requires { (v : ℕ) → has_var (literals dropped.now) v ≡ true →
+        (v < length values.old) × (v < length places.old) }
+    ensures values { (v : ℕ) → slice_index_or values.new v None ≡
+        (if has_var (literals dropped.now) v then None else slice_index_or values.old v None) }
+    ensures places { (v : ℕ) → slice_index places.new v ≡
+        (if has_var (literals dropped.now) v then 0 else slice_index places.old v) }
 {
     for entry in dropped {
         let entry = *entry;

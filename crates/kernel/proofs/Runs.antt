@@ -1,0 +1,69 @@
+-- What the tests ask before a decision and before a clause is learnt.
+use Rattle.std.proofs.Common.{◌≡◌, ℕ, Bool, true, false, not, ◌||◌, List, [], ◌∷◌, Some, is_some, option_map, refl, ap, sym, subst, ◌∙◌, nat_eq, eqb-true, inl, inr}
+use Rattle.std.proofs.lemmas.List.Elements.{All-nil, All-cons}
+use Rattle.theory.specs.Literals.{Literal, Clause, negated, same, has, has_var, IsVariable}
+use Rattle.theory.specs.Truth.{IsOver}
+use Rattle.theory.specs.Trails.{Entry, Trail, literals, level_at, current_level, entry_of}
+use Rattle.theory.specs.Propagation.{quiet, Closes, grows, rests}
+use Rattle.theory.specs.Learnable.{IsLearnable}
+use Rattle.theory.proofs.LiteralLemmas.{same-eq, same-refl}
+use Rattle.theory.proofs.LiteralSets.{true_false, false_unless, has-head, has_var-has}
+use Rattle.kernel.specs.Tables.{value_in}
+use Rattle.kernel.proofs.NextFree.{is_some-value_in}
+use Rattle.kernel.proofs.Statuses.{value-literal}
+
+-- where propagation came to rest, it rests
+pub Closes-rests : (K : List Clause) (T U : Trail) → Closes K T quiet U → Closes K U quiet U
+Closes-rests K T U (rests h i) = rests h i
+Closes-rests K T U (grows h i more) = Closes-rests K _ U more
+
+-- a variable without a value is free
+pub value-free : (T : Trail) (v : ℕ) → is_some (value_in T v) ≡ false → has_var (literals T) v ≡ false
+value-free T v h = sym (is_some-value_in T v) ∙ h
+
+pub IsOver-one : (V : ℕ) (l : Literal) → IsVariable V l.var → IsOver V (l ∷ [])
+IsOver-one V l h = All-cons (λ (k : Literal). IsVariable V k.var) l [] h (All-nil (λ (k : Literal). IsVariable V k.var))
+
+pub IsOver-two : (V : ℕ) (l k : Literal) → IsVariable V l.var → IsVariable V k.var → IsOver V (l ∷ k ∷ [])
+IsOver-two V l k h i = All-cons (λ (x : Literal). IsVariable V x.var) l (k ∷ []) h (IsOver-one V k i)
+
+-- one free literal, at level 0
+pub IsLearnable-one : (T : Trail) (l : Literal) → has_var (literals T) l.var ≡ false → current_level T ≡ 0 → IsLearnable T (l ∷ [])
+IsLearnable-one T l free none = record {
+  distinct = refl;
+  free = l;
+  unit = rw (free, same-refl l) refl;
+  latest = inl none;
+}
+
+-- a literal that is false at the current level, and a free one
+pub IsLearnable-two : (T : Trail) (l f : Literal) (e : Entry) → entry_of T l.var ≡ Some e → same e.lit (negated l) ≡ true → e.level ≡ current_level T
+    → has_var (literals T) f.var ≡ false → IsLearnable T (l ∷ f ∷ [])
+IsLearnable-two T l f e at one level free = record {
+  distinct = rw apart refl;
+  free = f;
+  unit = rw (taken, free, there, same-refl f, or-any (same f l)) refl;
+  latest = inr (l, has-head l (f ∷ []), other, ap level_at at ∙ level);
+}
+  where
+    lit : e.lit ≡ negated l
+    lit = same-eq e.lit (negated l) one
+
+    there : has (literals T) (negated l) ≡ true
+    there = value-literal T (negated l) (not l.positive) (ap (option_map (λ (x : Entry). x.lit.positive)) at ∙ ap (λ (x : Literal). Some x.positive) lit) refl
+
+    taken : has_var (literals T) l.var ≡ true
+    taken = has_var-has (literals T) (negated l) there
+
+    differ : f.var ≡ l.var → ⊥
+    differ v = true_false (has_var (literals T) l.var) taken (subst (λ v. has_var (literals T) v ≡ false) v free)
+
+    apart : nat_eq l.var f.var ≡ false
+    apart = false_unless (nat_eq l.var f.var) (λ t. differ (sym (eqb-true l.var f.var t)))
+
+    other : same f l ≡ false
+    other = false_unless (same f l) (λ t. differ (ap (λ (x : Literal). x.var) (same-eq f l t)))
+
+    or-any : (b : Bool) → b || true ≡ true
+    or-any true = refl
+    or-any false = refl

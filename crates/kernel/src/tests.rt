@@ -1,0 +1,200 @@
+//! Runs of the kernel that tests make: each step asks for what the kernel's contracts want, and tells whether it could be done.
+ghost use Rattle.std.specs.Prelude.{◌≡◌, true, false, IfOk};
+ghost use Rattle.theory.specs.Literals.{IsVariable, has_var};
+ghost use Rattle.theory.specs.Truth.{IsOver};
+ghost use Rattle.theory.specs.Trails.{literals};
+
+use crate::{Closed, Cube, Kernel};
+use cnf::{Lit, read_formula};
+use std::alloc::{AllocError, Global};
+use std::test::Fail;
+
+mod look_ups;
+mod rows;
+
+fn has_var(lits: &[Lit], var: u32) -> bool
+    ensures { result ≡ has_var lits.now var }
+{
+    for lit in lits {
+        if var == lit.var() {
+            return true;
+        }
+    }
+    false
+}
+
+/// The cube of these numbers, without those that aren't of a new variable of 1 to `vars`.
+fn cube_of(alloc: Global, vars: u32, numbers: &[i32]) -> Result<Cube, AllocError>
+    ensures { IfOk result (λ q. IsOver vars q) }
+{
+    let mut cube = Cube::root(alloc);
+    for number in numbers {
+        if let Some(lit) = Lit::new(*number) {
+            if lit.var() <= vars && !has_var(cube.lits(), lit.var()) {
+                cube = cube.with(lit)?;
+            }
+        }
+    }
+    Ok(cube)
+}
+
+fn opened(alloc: Global, text: &[u8], numbers: &[i32]) -> Result<Kernel, Fail> {
+    let formula = read_formula(alloc, text)?;
+    let cube = cube_of(alloc, formula.vars(), numbers)?;
+    Ok(Kernel::open(alloc, &formula, &cube)?)
+}
+
+/// Whether the trail has these entries: number, reason or 0, level.
+fn stands(kernel: &Kernel, wanted: &[(i32, u64, u32)]) -> bool {
+    let trail = kernel.trail();
+    if trail.len() != wanted.len() {
+        return false;
+    }
+    for (entry, want) in trail.iter().zip(wanted) {
+        let entry = *entry;
+        let same = entry.lit.number() == want.0 && entry.reason.unwrap_or(0) == want.1;
+        if !same || entry.level != want.2 {
+            return false;
+        }
+    }
+    true
+}
+
+/// Whether a clause has these literals.
+fn reads(clause: &[Lit], wanted: &[i32]) -> bool {
+    if clause.len() != wanted.len() {
+        return false;
+    }
+    for (lit, number) in clause.iter().zip(wanted) {
+        if lit.number() != *number {
+            return false;
+        }
+    }
+    true
+}
+
+/// Whether the variables have these values.
+fn has_values(kernel: &Kernel, wanted: &[(u32, Option<bool>)]) -> bool {
+    for want in wanted {
+        let value = kernel.value(want.0);
+        let positive = kernel.entry(want.0).map(|entry| entry.lit.positive());
+        if value != want.1 || positive != want.1 {
+            return false;
+        }
+    }
+    true
+}
+
+/// What comes before the next propagation.
+#[derive(Clone, Copy)]
+enum Act {
+    Nothing,
+    /// A decision of a free variable.
+    Decide(i32),
+    BackTo(u32),
+    /// Going back to level 0, and a clause of one literal.
+    LearnUnit(i32),
+    /// Going back, and a clause of a literal that is false at the level and a free one.
+    LearnPair(u32, i32, i32),
+}
+
+/// Whether the literal is of a free variable.
+fn is_free(kernel: &Kernel, lit: Lit) -> bool
+    ensures { result ≡ true → IsVariable kernel.now.vars lit.var × (has_var (literals kernel.now.trail) lit.var ≡ false) }
+{
+    if lit.var() > kernel.vars() {
+        return false;
+    }
+    match kernel.value(lit.var()) {
+        Some(_) => false,
+        None => true,
+    }
+}
+
+fn decide(kernel: &mut Kernel, number: i32) -> Result<bool, AllocError> {
+    let Some(lit) = Lit::new(number) else {
+        return Ok(false);
+    };
+    match kernel.close()? {
+        Closed::Conflict(_) => Ok(false),
+        Closed::Quiet => {
+            if !is_free(kernel, lit) {
+                return Ok(false);
+            }
+            kernel.decide(lit);
+            Ok(true)
+        }
+    }
+}
+
+fn back_to(kernel: &mut Kernel, level: u32) -> bool {
+    let lower = level < kernel.level();
+    if lower {
+        kernel.back_to(level);
+    }
+    lower
+}
+
+fn learn_unit(kernel: &mut Kernel, number: i32) -> Result<bool, AllocError> {
+    let Some(lit) = Lit::new(number) else {
+        return Ok(false);
+    };
+    if kernel.level() > 0 || !is_free(kernel, lit) {
+        return Ok(false);
+    }
+    let learnt = kernel.learn(&[lit])?;
+    Ok(reads(kernel.clause(learnt), &[number]))
+}
+
+fn learn_pair(kernel: &mut Kernel, number: i32, free: i32) -> Result<bool, AllocError> {
+    let Some(lit) = Lit::new(number) else {
+        return Ok(false);
+    };
+    let Some(free) = Lit::new(free) else {
+        return Ok(false);
+    };
+    if lit.var() > kernel.vars() || !is_free(kernel, free) {
+        return Ok(false);
+    }
+    let Some(entry) = kernel.entry(lit.var()) else {
+        return Ok(false);
+    };
+    if !entry.lit.same(&lit.negated()) || entry.level != kernel.level() {
+        return Ok(false);
+    }
+    let learnt = kernel.learn(&[lit, free])?;
+    Ok(reads(kernel.clause(learnt), &[number, free.number()]))
+}
+
+fn acts(kernel: &mut Kernel, act: Act) -> Result<bool, AllocError> {
+    match act {
+        Act::Nothing => Ok(true),
+        Act::Decide(number) => decide(kernel, number),
+        Act::BackTo(level) => Ok(back_to(kernel, level)),
+        Act::LearnUnit(number) => {
+            if kernel.level() > 0 && !back_to(kernel, 0) {
+                return Ok(false);
+            }
+            learn_unit(kernel, number)
+        }
+        Act::LearnPair(level, number, free) => {
+            if !back_to(kernel, level) {
+                return Ok(false);
+            }
+            learn_pair(kernel, number, free)
+        }
+    }
+}
+
+/// Whether an act can be done, and propagation then answers this and leaves these entries.
+fn row(
+    kernel: &mut Kernel,
+    act: Act,
+    answer: Closed,
+    wanted: &[(i32, u64, u32)],
+) -> Result<bool, AllocError> {
+    if !acts(kernel, act)? {
+        return Ok(false);
+    }
+    Ok(kernel.close()? == answer && stands(kernel, wanted))
+}
