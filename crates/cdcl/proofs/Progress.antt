@@ -14,7 +14,7 @@ use Rattle.theory.proofs.OverVariables.{AreOver, AreOver-push, AreOver-from_IsOv
 use Rattle.theory.proofs.RefutedCubes.{AreOver-up_to}
 use Rattle.theory.proofs.LiteralSets.{true_false}
 use Rattle.theory.proofs.TrailEntries.{are_distinct-cube}
-use Rattle.theory.proofs.Room.{length-distinct}
+use Rattle.theory.proofs.DistinctLiterals.{length-distinct}
 use Rattle.cdcl.proofs.SearchingLemmas.{IsOver-learn}
 
 -- the conflicts and the variables that are left

@@ -7,7 +7,7 @@ use Rattle.theory.specs.Trees.{Tree, split, IsTree, first_model, or_else, IsFirs
 use Rattle.theory.specs.Lawful.{are_distinct}
 use Rattle.theory.proofs.OverVariables.{AreOver, AreOver-snoc, IsOver-from_AreOver, AreOver-from_IsOver}
 use Rattle.theory.proofs.RefutedCubes.{Runs-exhausted}
-use Rattle.theory.proofs.Room.{length-distinct}
+use Rattle.theory.proofs.DistinctLiterals.{length-distinct}
 use Rattle.theory.proofs.TrailEntries.{are_distinct-push}
 use Rattle.cubes.specs.Next.{next_cube}
 use Rattle.cubes.proofs.NextLemmas.{next_cube-positive, next_cube-negative}

@@ -7,7 +7,6 @@ pub mod NextFree
 pub mod Numbering
 pub mod Ordered
 pub mod Pieces
-pub mod Room
 pub mod Runs
 pub mod Statuses
 pub mod Tables

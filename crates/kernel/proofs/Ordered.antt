@@ -11,7 +11,7 @@ use Rattle.theory.proofs.TrailEntries.{literals-at, are_distinct-push}
 use Rattle.theory.proofs.OverVariables.{AreOver-from_IsOver, IsOver-from_AreOver, AreOver-push, IsOver-left}
 use Rattle.theory.proofs.TrailLevels.{up_to-push}
 use Rattle.kernel.specs.Held.{IsRisingFrom, IsOrdered}
-use Rattle.kernel.proofs.Room.{length-distinct}
+use Rattle.theory.proofs.DistinctLiterals.{length-distinct}
 
 -- the last level, or the given one
 abbrev last_level : ℕ → Trail → ℕ

@@ -1,0 +1,47 @@
+-- The bytes and the budget fix the proof and the answer.
+use Rattle.std.proofs.Common.{◌≡◌, ℕ, List, [], ◌⊎◌, inl, inr, refl, sym, ap, ◌∙◌, subst, Option, Some, None}
+use Rattle.theory.specs.Truth.{Formula, Assignment}
+use Rattle.theory.specs.FirstModel.{IsFirst}
+use Rattle.theory.specs.Trees.{Tree, IsTree}
+use Rattle.theory.specs.Proofs.{proof}
+use Rattle.theory.specs.Texts.{proof_text, answer_text}
+use Rattle.theory.specs.Reading.{Token, IsReadable, Reads, formula, tokens_in, tokens_of, formula_tokens}
+use Rattle.theory.specs.Written.{IsSatisfiableText, IsUnsatisfiableText, IsWritten}
+use Rattle.theory.proofs.ReadingMachine.{State, at_p, at_body}
+use Rattle.theory.proofs.ReadingLemmas.{states, formula-states}
+use Rattle.theory.proofs.FirstModelLemmas.{IsFirst-unique}
+use Rattle.theory.proofs.SearchLemmas.{IsTree-unique}
+
+formula_in : Option State → Formula
+formula_in (Some (at_body V C cs part)) = record { vars = V; clauses = cs }
+formula_in o = record { vars = 0; clauses = [] }
+
+IsReadable-unique : (ts : List Token) (F G : Formula) → IsReadable ts F → IsReadable ts G → F ≡ G
+unfolding formula_in
+IsReadable-unique ts F G f g = ap formula_in (sym (formula-states F f.within) ∙ ap (states (Some at_p)) (sym f.tokens ∙ g.tokens) ∙ formula-states G g.within)
+
+pub Reads-one_formula : (bytes : List ℕ) (F G : Formula) → Reads bytes (formula F) → Reads bytes (formula G) → F ≡ G
+Reads-one_formula bytes F G f g = IsReadable-unique (tokens_in (tokens_of bytes)) F G f.1 g.1
+
+-- two proofs and two answers are the same
+abbrev Same : (p a q b : List ℕ) → Type 0
+Same p a q b = (p ≡ q) × (a ≡ b)
+
+satisfiable-same : (F : Formula) (p a q b : List ℕ) → IsSatisfiableText F p a → IsSatisfiableText F q b → Same p a q b
+satisfiable-same F p a q b s t =
+    (s.proof_is ∙ sym t.proof_is, s.answer_is ∙ ap (λ m. answer_text (Some m)) (IsFirst-unique F s.model t.model s.first t.first) ∙ sym t.answer_is)
+
+unsatisfiable-same : (F : Formula) (B : ℕ) (p a q b : List ℕ) → IsUnsatisfiableText F B p a → IsUnsatisfiableText F B q b → Same p a q b
+unsatisfiable-same F B p a q b s t =
+    (s.proof_is ∙ ap (λ u. proof_text (proof F u)) (IsTree-unique F B [] s.tree t.tree s.is_tree t.is_tree) ∙ sym t.proof_is, s.answer_is ∙ sym t.answer_is)
+
+texts-same : (F : Formula) (B : ℕ) (p a q b : List ℕ) → IsSatisfiableText F p a ⊎ IsUnsatisfiableText F B p a
+    → IsSatisfiableText F q b ⊎ IsUnsatisfiableText F B q b → Same p a q b
+texts-same F B p a q b (inl s) (inl t) = satisfiable-same F p a q b s t
+texts-same F B p a q b (inl s) (inr t) = absurd (t.unsatisfiable (s.model, s.first.satisfies))
+texts-same F B p a q b (inr s) (inl t) = absurd (s.unsatisfiable (t.model, t.first.satisfies))
+texts-same F B p a q b (inr s) (inr t) = unsatisfiable-same F B p a q b s t
+
+pub IsWritten-one : (bytes : List ℕ) (B : ℕ) (p a q b : List ℕ) → IsWritten bytes B p a → IsWritten bytes B q b → Same p a q b
+IsWritten-one bytes B p a q b s t =
+    texts-same t.value B p a q b (subst (λ F. IsSatisfiableText F p a ⊎ IsUnsatisfiableText F B p a) (Reads-one_formula bytes s.value t.value s.reads t.reads) s.texts) t.texts

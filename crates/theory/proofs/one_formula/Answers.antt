@@ -1,0 +1,5 @@
+use Rattle.theory.proofs.OneText.{Reads-one_formula}
+use Rattle.theory.proofs.one_formula.Goals as goal
+
+pub returns : goal.returns
+returns c = Reads-one_formula

@@ -1,0 +1,5 @@
+use Rattle.theory.proofs.OneText.{IsWritten-one}
+use Rattle.theory.proofs.one_text.Goals as goal
+
+pub returns : goal.returns
+returns c = IsWritten-one
