@@ -1,7 +1,7 @@
 -- The numbers and variables in a proof's lines.
 use Rattle.std.proofs.Common.{◌≡◌, ℕ, ◌+◌, ◌-◌, ◌<◌, ◌≤◌, Bool, true, false, List, [], ◌∷◌, ◌++◌, map, reverse, take, drop, length, refl, ap, sym, subst, ◌∙◌, cond, nat_le, Option, Some, None, arith, append-nil, All}
-use Rattle.std.proofs.lemmas.List.{length-map}
-use Rattle.std.proofs.lemmas.List.Elements.{All-append, All-map, All-weaker, All-pop, All-push}
+use Rattle.std.proofs.lemmas.List.{length-map, map-append}
+use Rattle.std.proofs.lemmas.List.Elements.{All-append, All-map, All-weaker, All-pop, All-push, All-nil}
 use Rattle.std.proofs.lemmas.Bool.{leb-true, leb-false}
 use Rattle.std.proofs.Math.Seq.{take-append_seam}
 use Rattle.theory.specs.Literals.{Literal, IsVariable, negations}
@@ -11,7 +11,11 @@ use Rattle.theory.specs.Proofs.{renumbered}
 use Rattle.join.specs.declared.joiner.Half.{Half}
 use Rattle.join.specs.declared.joiner.Joiner.{Joiner}
 use Rattle.join.specs.Joining.{cube_of}
-use Rattle.join.specs.Numbered.{IsHalf, AreUpTo, IsJoiner}
+use Rattle.theory.specs.Steps.{add}
+use Rattle.theory.specs.ProofReading.{IsStep, IsNumber, IsLiteral, IsGroup, IsAddition, max_number}
+use Rattle.lrat.specs.declared.step.Step.{Step}
+use Rattle.lrat.specs.Steps.{step_of}
+use Rattle.join.specs.Numbered.{IsHalf, IsBefore, AreUpTo, IsJoiner}
 use Rattle.join.proofs.CubeLemmas.{opposite, negations-reversed}
 
 -- the negations of the cube are over the variables
@@ -42,13 +46,14 @@ AreHalves-popped n hs left h e all = let parts = All-pop (IsHalf n) hs left (Som
 
 -- what a joiner keeps where a subtree's last line is known
 pub IsJoiner-pushed : (j k : Joiner) (left : List Half) (h : Half) → IsJoiner j → j.clauses + 1 < j.next → j.halves.items ≡ left ++ h ∷ []
-    → k.halves.items ≡ left ++ record { var = h.var; left = Some (j.next - 1) } ∷ [] → k.clauses ≡ j.clauses → k.next ≡ j.next → IsJoiner k
-IsJoiner-pushed j k left h keeps added popped pushed clauses next = record {
+    → k.halves.items ≡ left ++ record { var = h.var; left = Some (j.next - 1) } ∷ [] → k.clauses ≡ j.clauses → k.next ≡ j.next → k.steps.items ≡ j.steps.items → IsJoiner k
+IsJoiner-pushed j k left h keeps added popped pushed clauses next steps = record {
   clauses = rw clauses keeps.clauses;
   begun = rw (clauses, next) keeps.begun;
   fits = rw next keeps.fits;
   halves = let parts = AreHalves-popped j.next j.halves.items left h popped keeps.halves in
       rw (pushed, next) (All-push (IsHalf j.next) left (record { var = h.var; left = Some (j.next - 1) }) parts.0 (record { variable = parts.1.variable; left = (omega arith, omega arith) }));
+  steps = rw steps keeps.steps;
 }
 
 -- a clause behind which the negations of the cube were put is over the variables
@@ -63,3 +68,33 @@ AreUpTo-put N first k len hints old lent new begun h same borrowed count made =
     let long : length new ≡ length old = ap length made ∙ (length-map lent (renumbered N first) ∙ ap length borrowed) in
     let whole : len ≡ length old = sym count ∙ ap length borrowed in
     rw (written_back len new old long whole, made, borrowed, same) (AreUpTo-renumbered N first k hints begun h)
+
+-- a line's numbers and literals are within the limits
+IsAddition-line : (n : ℕ) (clause : List Literal) (hints : List ℕ) → 1 ≤ n → n ≤ max_number → IsOver max_vars clause → AreUpTo (n - 1) hints
+    → IsAddition (record { id = n; clause = clause; hints = hints; groups = [] })
+IsAddition-line n clause hints from to over up_to = record {
+  id = (from, to);
+  clause = All-weaker (λ (l : Literal). IsVariable max_vars l.var) IsLiteral (λ l v. (v.0, omega (arith, v.1))) clause over;
+  hints = All-weaker (λ h. (1 ≤ h) × (h ≤ n - 1)) IsNumber (λ h w. (w.0, omega (arith, w.1))) hints up_to;
+  groups = All-nil IsGroup;
+}
+
+IsBefore-later : (n : ℕ) (left : Option ℕ) → IsBefore n left → IsBefore (n + 1) left
+IsBefore-later n None h = h
+IsBefore-later n (Some left) h = let below = h.1 in (h.0, omega arith)
+
+-- what a joiner keeps where a line is added
+pub IsJoiner-put : (j k : Joiner) (clause : List Literal) (hints : List ℕ) (step : Step) → IsJoiner j → j.next ≤ max_number → IsOver max_vars clause → AreUpTo (j.next - 1) hints
+    → k.steps.items ≡ j.steps.items ++ step ∷ [] → step_of step ≡ add (record { id = j.next; clause = clause; hints = hints; groups = [] })
+    → k.clauses ≡ j.clauses → k.next ≡ j.next + 1 → k.halves.items ≡ j.halves.items → IsJoiner k
+IsJoiner-put j k clause hints step keeps fits over up_to added is clauses next halves =
+    let begun = keeps.begun in
+    let line : IsAddition (record { id = j.next; clause = clause; hints = hints; groups = [] }) = IsAddition-line j.next clause hints (omega arith) fits over up_to in
+    record {
+      clauses = rw clauses keeps.clauses;
+      begun = omega arith;
+      fits = omega arith;
+      halves = rw (halves, next)
+          (All-weaker (IsHalf j.next) (IsHalf (j.next + 1)) (λ h w. record { variable = w.variable; left = IsBefore-later j.next h.left w.left }) j.halves.items keeps.halves);
+      steps = rw (added, map-append, is) (All-push IsStep (map step_of j.steps.items) (add (record { id = j.next; clause = clause; hints = hints; groups = [] })) keeps.steps line);
+    }

@@ -7,6 +7,9 @@ use Rattle.theory.specs.Learning.{Line}
 use Rattle.theory.specs.Trees as trees
 use Rattle.theory.specs.Steps.{Step}
 use Rattle.theory.specs.Proofs.{proof}
+use Rattle.theory.specs.Checking.{checks, accepted}
+use Rattle.theory.specs.ProofReading.{IsStep}
+use Rattle.lrat.specs.Steps.{step_of}
 use Rattle.cubes.specs.Result.{node_of}
 use Rattle.cubes.specs.declared.tree.Tree.{Tree}
 use Rattle.cubes.specs.declared.tree.Tree.TheVariants.{Model, Refuted}
@@ -46,8 +49,14 @@ pub record IsJoiner (j : Joiner) : Type 0 where
   pub begun : j.clauses < j.next
   pub fits : j.next ≤ 2 ^ 63
   pub halves : All (IsHalf j.next) j.halves.items
+  pub steps : All IsStep (map step_of j.steps.items)
 
 -- the steps for a result: none for a model, and else the proof of the tree whose nodes they are
 abbrev pub AreStepsOf : Formula → Tree → List Step → Type 0
 AreStepsOf F (Model values) steps = steps ≡ []
 AreStepsOf F (Refuted nodes) steps = (t : trees.Tree) → trees.first_model t ≡ None → trees.nodes_of t ≡ map node_of nodes.items → steps ≡ proof F t
+
+-- the checker accepts the steps for a result that is no model
+abbrev pub AreAccepted : Formula → Tree → List Step → Type 0
+AreAccepted F (Model values) steps = Unit {0}
+AreAccepted F (Refuted nodes) steps = checks F steps ≡ accepted

@@ -6,10 +6,11 @@ ghost use Rattle.theory.specs.Trees.{refuted_leaf};
 ghost use Rattle.theory.specs.Steps.{add};
 ghost use Rattle.theory.specs.Reading.{max_vars};
 ghost use Rattle.theory.specs.Proofs.{renumbered, leaf_steps};
+ghost use Rattle.theory.specs.ProofReading.{IsStep};
 ghost use Rattle.lrat.specs.Steps.{step_of};
 ghost use Rattle.cubes.specs.Result.{IsResultOf, node_of};
 ghost use Rattle.join.specs.Joining.{state_of, cube_of, climb, on_node};
-ghost use Rattle.join.specs.Numbered.{AreUpTo, AreLines, IsNode, IsJoiner, AreStepsOf};
+ghost use Rattle.join.specs.Numbered.{AreUpTo, AreLines, IsNode, IsJoiner, AreStepsOf, AreAccepted};
 
 use cdcl::Refutation;
 use cnf::{Formula, Lit};
@@ -167,10 +168,12 @@ impl Joiner {
 }
 
 /// The proof of a formula's tree of splits that has no satisfied leaf; a model has no proof. It takes the lines out of the tree. It fails
-/// only where a request for memory is refused, or where a number would be above its limit.
+/// only where a request for memory is refused, or where a number would be above its limit. The checker accepts the steps of a refuted tree.
 pub fn join(alloc: Global, formula: &Formula, tree: Tree) -> Result<Vec<Step>, AllocError>
     requires { (budget : ℕ) × IsResultOf formula.now budget tree }
-    ensures { IfOk result (λ steps. AreStepsOf formula.now tree (map step_of steps.items)) }
+    ensures steps { IfOk result (λ steps. AreStepsOf formula.now tree (map step_of steps.items)) }
+    ensures within { IfOk result (λ steps. All IsStep (map step_of steps.items)) }
+    ensures accepted { IfOk result (λ steps. AreAccepted formula.now tree (map step_of steps.items)) }
 {
     let Tree::Refuted(nodes) = tree else {
         return Ok(Vec::new(alloc));

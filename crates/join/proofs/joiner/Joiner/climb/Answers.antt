@@ -8,7 +8,7 @@ use Rattle.join.proofs.joiner.Joiner.climb.Goals as goal
 
 pub returns-in-None-clause-joiner : goal.returns-in-None-clause-joiner
 returns-in-None-clause-joiner c =
-    IsJoiner-pushed c.loop-half.self _ c.pop.new.self.items c.in-Some.half c.loop-half.invariant.joiner c.loop-half.invariant.added c.in-Some.ensures.items c.in_ok-push-in-None.ensures.items refl refl
+    IsJoiner-pushed c.loop-half.self _ c.pop.new.self.items c.in-Some.half c.loop-half.invariant.joiner c.loop-half.invariant.added c.in-Some.ensures.items c.in_ok-push-in-None.ensures.items refl refl refl
 
 pub put-requires-clause-clause : goal.put-requires-clause-clause
 put-requires-clause-clause c =
