@@ -1,5 +1,5 @@
 -- The texts that a formula's result gives.
-use Rattle.std.proofs.Common.{◌≡◌, ℕ, Bool, List, [], map, Some, None, refl, ap, sym, ◌∙◌}
+use Rattle.std.proofs.Common.{◌≡◌, ℕ, Bool, List, [], map, Some, None, All, refl, ap, sym, ◌∙◌}
 use Rattle.theory.specs.Truth.{Formula}
 use Rattle.theory.specs.FirstModel.{IsFirst}
 use Rattle.theory.specs.Steps.{Step}
@@ -8,7 +8,10 @@ use Rattle.theory.specs.Written.{IsSatisfiableText, IsUnsatisfiableText}
 use Rattle.cubes.specs.declared.tree.Tree.{Tree}
 use Rattle.cubes.specs.declared.tree.Tree.TheVariants.{Model, Refuted}
 use Rattle.cubes.specs.Result.{IsResultOf, Says}
-use Rattle.join.specs.Numbered.{AreStepsOf}
+use Rattle.join.specs.Numbered.{AreStepsOf, AreAccepted}
+use Rattle.theory.specs.ProofReading.{IsStep}
+use Rattle.lrat.proofs.WrittenTexts.{proof_text-ProofReads}
+use Rattle.cubesat.specs.Run.{IsAccepted}
 
 pub model-texts : (F : Formula) (M lent : List Bool) (proof answer : List ℕ) → IsFirst F M → lent ≡ M → proof ≡ [] → answer ≡ answer_text (Some lent) → IsSatisfiableText F proof answer
 model-texts F M lent proof answer first same empty text = record { model = M; first = first; proof_is = empty; answer_is = text ∙ ap (λ m. answer_text (Some m)) same }
@@ -23,3 +26,10 @@ refuted-texts F B (Refuted nodes) steps lent proof answer other result says are 
   proof_is = text ∙ ap proof_text (same ∙ are result.0 result.1.1 (sym result.2));
   answer_is = none;
 }
+
+pub refuted-accepted : (F : Formula) (tree : Tree) (steps lent : List Step) (proof : List ℕ) → ((values : _) → tree ≡ Model values → ⊥) → AreAccepted F tree steps → All IsStep steps
+    → lent ≡ steps → proof ≡ proof_text lent → IsAccepted F proof
+refuted-accepted F (Model values) steps lent proof other accepts within same text = absurd (other values refl)
+refuted-accepted F (Refuted nodes) steps lent proof other accepts within same text =
+    let is : proof ≡ proof_text steps = text ∙ ap proof_text same in
+    rw is (λ short. (steps, proof_text-ProofReads steps within short, accepts))

@@ -2,7 +2,7 @@ use Rattle.std.proofs.Common.{◌≡◌, List, Bool, length, map, ap, sym, ◌�
 use Rattle.theory.specs.Truth.{Formula}
 use Rattle.theory.specs.FirstModel.{IsFirst}
 use Rattle.lrat.specs.Steps.{step_of}
-use Rattle.cubesat.proofs.TextLemmas.{model-texts, refuted-texts}
+use Rattle.cubesat.proofs.TextLemmas.{model-texts, refuted-texts, refuted-accepted}
 use Rattle.cubesat.proofs.run.texts_of.Goals as goal
 
 pub answer_bytes-requires : goal.answer_bytes-requires
@@ -17,5 +17,8 @@ returns-in_ok-answer_bytes-in-Model c =
 
 pub returns-in_ok-answer_bytes-in_default : goal.returns-in_ok-answer_bytes-in_default
 returns-in_ok-answer_bytes-in_default c =
-    refuted-texts c.args.formula.now c.args.budget c.in_ok-refuted.refuted (map step_of c.in_ok-steps-in_default.steps.items) (map step_of c.deref-in_default.result.now) _ _ c.in_default.not-Model
-    c.in_ok-refuted.ensures.result c.in_ok-refuted.ensures.says c.in_ok-steps-in_default.ensures (ap (map step_of) c.deref-in_default.ensures.value) c.in_ok-proof_bytes-in_default.ensures c.in_ok-answer_bytes-in_default.ensures
+    let same = ap (map step_of) c.deref-in_default.ensures.value in
+    (refuted-texts c.args.formula.now c.args.budget c.in_ok-refuted.refuted (map step_of c.in_ok-steps-in_default.steps.items) (map step_of c.deref-in_default.result.now) _ _ c.in_default.not-Model
+        c.in_ok-refuted.ensures.result c.in_ok-refuted.ensures.says c.in_ok-steps-in_default.ensures.steps same c.in_ok-proof_bytes-in_default.ensures c.in_ok-answer_bytes-in_default.ensures,
+    refuted-accepted c.args.formula.now c.in_ok-refuted.refuted (map step_of c.in_ok-steps-in_default.steps.items) (map step_of c.deref-in_default.result.now) _ c.in_default.not-Model
+        c.in_ok-steps-in_default.ensures.accepted c.in_ok-steps-in_default.ensures.within same c.in_ok-proof_bytes-in_default.ensures)
