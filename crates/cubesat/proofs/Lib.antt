@@ -1,3 +1,4 @@
 pub mod WrittenLemmas
 pub mod TextLemmas
 pub mod RunLemmas
+pub mod OneRun

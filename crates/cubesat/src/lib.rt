@@ -3,6 +3,7 @@
 
 mod arguments;
 mod fault;
+mod laws;
 mod output;
 mod program;
 mod run;
@@ -11,6 +12,7 @@ mod tests;
 mod verdict;
 
 pub use fault::RunFault;
+pub use laws::runs_write_the_same;
 pub use program::command;
 pub use run::run_one;
 pub use verdict::Verdict;

@@ -24,14 +24,14 @@ pub Reads-one_formula : (bytes : List ℕ) (F G : Formula) → Reads bytes (form
 Reads-one_formula bytes F G f g = IsReadable-unique (tokens_in (tokens_of bytes)) F G f.1 g.1
 
 -- two proofs and two answers are the same
-abbrev Same : (p a q b : List ℕ) → Type 0
+abbrev pub Same : (p a q b : List ℕ) → Type 0
 Same p a q b = (p ≡ q) × (a ≡ b)
 
-satisfiable-same : (F : Formula) (p a q b : List ℕ) → IsSatisfiableText F p a → IsSatisfiableText F q b → Same p a q b
+pub satisfiable-same : (F : Formula) (p a q b : List ℕ) → IsSatisfiableText F p a → IsSatisfiableText F q b → Same p a q b
 satisfiable-same F p a q b s t =
     (s.proof_is ∙ sym t.proof_is, s.answer_is ∙ ap (λ m. answer_text (Some m)) (IsFirst-unique F s.model t.model s.first t.first) ∙ sym t.answer_is)
 
-unsatisfiable-same : (F : Formula) (B : ℕ) (p a q b : List ℕ) → IsUnsatisfiableText F B p a → IsUnsatisfiableText F B q b → Same p a q b
+pub unsatisfiable-same : (F : Formula) (B : ℕ) (p a q b : List ℕ) → IsUnsatisfiableText F B p a → IsUnsatisfiableText F B q b → Same p a q b
 unsatisfiable-same F B p a q b s t =
     (s.proof_is ∙ ap (λ u. proof_text (proof F u)) (IsTree-unique F B [] s.tree t.tree s.is_tree t.is_tree) ∙ sym t.proof_is, s.answer_is ∙ sym t.answer_is)
 
