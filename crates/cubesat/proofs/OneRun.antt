@@ -1,8 +1,7 @@
 -- Runs on the same bytes, with the same budget, write the same.
-use Rattle.std.proofs.Common.{◌≡◌, ℕ, List, Some, refl, sym, ap, subst, ◌∙◌}
+use Rattle.std.proofs.Common.{◌≡◌, ℕ, List, Some, refl, sym, subst, ◌∙◌}
 use Rattle.theory.specs.Truth.{Formula}
 use Rattle.theory.specs.Reading.{Reads, formula}
-use Rattle.theory.specs.Written.{IsWritten}
 use Rattle.theory.proofs.OneText.{Reads-one_formula, satisfiable-same, unsatisfiable-same}
 use Rattle.cubesat.specs.Run.{AreTexts, IsRunOf}
 use Rattle.cubesat.specs.declared.verdict.Verdict.{Verdict}

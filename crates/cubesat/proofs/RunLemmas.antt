@@ -1,13 +1,10 @@
 -- What a run says, by what its parts answered.
-use Rattle.std.proofs.Common.{◌≡◌, ℕ, ◌+◌, Bool, true, false, List, take, Option, Result, Ok, Err, MatchResult, refl, sym, subst, inl, inr, ◌⊎◌, IfSome}
+use Rattle.std.proofs.Common.{◌≡◌, ℕ, true, false, List, Option, Result, Ok, Err, MatchResult, inl, inr, ◌⊎◌}
 use Rattle.std.specs.Result.{is_err}
-use Rattle.std.specs.Io.KnownBytes.{Appends, Keeps}
 use Rattle.theory.specs.Truth as truth
-use Rattle.theory.specs.Reading.{max_bytes, Reads, formula}
 use Rattle.cnf.specs.declared.fault.ReadFault.{ReadFault}
 use Rattle.cnf.specs.declared.fault.ReadFault.TheVariants as reading
 use Rattle.cnf.specs.Faults.{IsReadOf}
-use Rattle.cubesat.specs.declared.fault.RunFault.{RunFault}
 use Rattle.cubesat.specs.declared.verdict.Verdict.{Verdict}
 use Rattle.cubesat.specs.Faults.{fault_of_read}
 use Rattle.cubesat.specs.Run.{AreTexts, IsRunOf, IsUnreadable, RunSays}

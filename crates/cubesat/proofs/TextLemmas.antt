@@ -1,5 +1,5 @@
 -- The texts that a formula's result gives.
-use Rattle.std.proofs.Common.{◌≡◌, ℕ, Bool, List, [], map, Some, None, All, refl, ap, sym, ◌∙◌}
+use Rattle.std.proofs.Common.{◌≡◌, ℕ, Bool, List, [], Some, None, All, refl, ap, sym, ◌∙◌}
 use Rattle.theory.specs.Truth.{Formula}
 use Rattle.theory.specs.FirstModel.{IsFirst}
 use Rattle.theory.specs.Steps.{Step}

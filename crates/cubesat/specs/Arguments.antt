@@ -1,5 +1,5 @@
 -- What the command line asks for is within the limits.
-use Rattle.std.specs.Prelude.{ℕ, ◌≤◌, Option, Some, None}
+use Rattle.std.specs.Prelude.{◌≤◌, Option, Some, None}
 use Rattle.cubesat.specs.declared.arguments.Request.{Request}
 use Rattle.cubesat.specs.declared.arguments.Request.TheVariants.{Solve}
 

@@ -7,7 +7,11 @@ use std::io::Write;
 
 /// Writes the text and flushes the writer. A write that answers an error, or takes no byte of a text that isn't empty, has failed, as has a
 /// flush that answers an error; then a beginning of the text is written, and the answer is `fault`.
-pub(crate) fn write_text<W: Write>(writer: &mut W, text: &[u8], fault: RunFault) -> Result<(), RunFault>
+pub(crate) fn write_text<W: Write>(
+    writer: &mut W,
+    text: &[u8],
+    fault: RunFault,
+) -> Result<(), RunFault>
     ensures { MatchResult result (λ _. Appends (W.contents writer.old) (W.contents writer.new) text.now)
         (λ e. (e ≡ fault) × (count : ℕ) × Appends (W.contents writer.old) (W.contents writer.new) (take count text.now)) }
 {

@@ -81,14 +81,15 @@ pub fn command<R: Files, W: Write, E: Write>(
     words: &[&str],
     answer: &mut W,
     faults: &mut E,
-) -> u8
-{
+) -> u8 {
     match request_of(alloc, words) {
-        Ok(Request::Solve {
-            budget,
-            proof,
-            file,
-        }) => solve(rt, alloc, budget, proof, file, answer, faults),
+        Ok(
+            Request::Solve {
+                budget,
+                proof,
+                file,
+            },
+        ) => solve(rt, alloc, budget, proof, file, answer, faults),
         Err(error) if error.kind() == ErrorKind::OutOfMemory => {
             print_fault(faults, RunFault::NoMemory);
             FAILED

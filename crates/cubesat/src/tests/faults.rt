@@ -111,7 +111,13 @@ fn an_answer_writer_that_fails(rt: HostRuntime) {
     }
     let mut proof = Limited::new(rt.alloc(), 1000);
     let mut answer = Limited::new(rt.alloc(), 3);
-    let result = run_one(rt.alloc(), b"p cnf 2 1\n1 2 0\n".as_slice(), &mut answer, &mut proof, 1);
+    let result = run_one(
+        rt.alloc(),
+        b"p cnf 2 1\n1 2 0\n".as_slice(),
+        &mut answer,
+        &mut proof,
+        1,
+    );
     assert_eq!(rt; result, Err(RunFault::AnswerWriteFailed));
     assert!(rt; proof.taken.is_empty());
     assert_eq!(rt; answer.taken.as_slice(), b"s S".as_slice());
@@ -138,7 +144,13 @@ fn a_flush_that_fails(rt: HostRuntime) {
     let mut proof = Limited::new(rt.alloc(), 1000);
     proof.flushes = false;
     let mut answer = Limited::new(rt.alloc(), 1000);
-    let result = run_one(rt.alloc(), b"p cnf 2 1\n1 2 0\n".as_slice(), &mut answer, &mut proof, 1);
+    let result = run_one(
+        rt.alloc(),
+        b"p cnf 2 1\n1 2 0\n".as_slice(),
+        &mut answer,
+        &mut proof,
+        1,
+    );
     assert_eq!(rt; result, Err(RunFault::ProofWriteFailed));
     assert!(rt; proof.taken.is_empty() && answer.taken.is_empty());
 }
@@ -162,7 +174,11 @@ fn a_reader_that_fails(rt: HostRuntime) {
             left: &FOUR.as_bytes()[..count],
         };
         let result = run_one(rt.alloc(), input, &mut answer, &mut proof, 1);
-        assert_eq!(rt; result, Err(RunFault::Read(ReadFault::ReadFailed)), "after {count}");
+        assert_eq!(rt;
+            result,
+            Err(RunFault::Read(ReadFault::ReadFailed)),
+            "after {count}"
+        );
         assert!(rt; proof.taken.is_empty() && answer.taken.is_empty());
     }
 }
@@ -174,7 +190,10 @@ fn a_formula_that_is_refused(rt: HostRuntime) {
     let text = b"p cnf 2 1\n1 3 0\n".as_slice();
     let result = run_one(rt.alloc(), text, &mut answer, &mut proof, 1);
     let place = Place { line: 2, column: 3 };
-    assert_eq!(rt; result, Err(RunFault::Read(ReadFault::VariableOutOfRange(place))));
+    assert_eq!(rt;
+        result,
+        Err(RunFault::Read(ReadFault::VariableOutOfRange(place)))
+    );
     assert!(rt; proof.taken.is_empty() && answer.taken.is_empty());
 }
 

@@ -35,19 +35,46 @@ fn run<R: Files + AllocGlobal>(rt: &R, words: &[&str]) -> Printed {
 fn a_formula_is_decided(rt: HostRuntime) -> Result<(), Fail> {
     let formula = path_of(&rt, "decided.cnf")?;
     let proof = path_of(&rt, "decided.lrat")?;
-    fs::write(&rt, formula.as_str(), "p cnf 2 4\n1 2 0\n1 -2 0\n-1 2 0\n-1 -2 0\n")?;
-    let words = ["cubesat", "solve", "--budget", "1", "--proof", proof.as_str(), formula.as_str()];
+    fs::write(
+        &rt,
+        formula.as_str(),
+        "p cnf 2 4\n1 2 0\n1 -2 0\n-1 2 0\n-1 -2 0\n",
+    )?;
+    let words = [
+        "cubesat",
+        "solve",
+        "--budget",
+        "1",
+        "--proof",
+        proof.as_str(),
+        formula.as_str(),
+    ];
     let printed = run(&rt, &words);
     assert_eq!(rt; printed.status, 20);
     assert_eq!(rt; printed.answer.as_slice(), b"s UNSATISFIABLE\n".as_slice());
     assert!(rt; printed.faults.is_empty());
     let text = fs::read(&rt, proof.as_str())?;
-    assert_eq!(rt; text.as_slice(), b"5 1 0 1 2 0\n6 -1 0 3 4 0\n7 0 5 6 0\n".as_slice());
+    assert_eq!(rt;
+        text.as_slice(),
+        b"5 1 0 1 2 0\n6 -1 0 3 4 0\n7 0 5 6 0\n".as_slice()
+    );
 
     fs::write(&rt, formula.as_str(), "p cnf 2 1\n1 2 0\n")?;
-    let printed = run(&rt, &["cubesat", "solve", "--proof", proof.as_str(), formula.as_str()]);
+    let printed = run(
+        &rt,
+        &[
+            "cubesat",
+            "solve",
+            "--proof",
+            proof.as_str(),
+            formula.as_str(),
+        ],
+    );
     assert_eq!(rt; printed.status, 10);
-    assert_eq!(rt; printed.answer.as_slice(), b"s SATISFIABLE\nv -1 2 0\n".as_slice());
+    assert_eq!(rt;
+        printed.answer.as_slice(),
+        b"s SATISFIABLE\nv -1 2 0\n".as_slice()
+    );
     assert!(rt; fs::read(&rt, proof.as_str())?.is_empty());
     Ok(())
 }
@@ -58,12 +85,24 @@ fn an_unreadable_formula(rt: HostRuntime) -> Result<(), Fail> {
     let proof = path_of(&rt, "unreadable.lrat")?;
     fs::write(&rt, formula.as_str(), "p cnf 2 1\n1 3 0\n")?;
     fs::write(&rt, proof.as_str(), "old")?;
-    let printed = run(&rt, &["cubesat", "solve", "--proof", proof.as_str(), formula.as_str()]);
+    let printed = run(
+        &rt,
+        &[
+            "cubesat",
+            "solve",
+            "--proof",
+            proof.as_str(),
+            formula.as_str(),
+        ],
+    );
     assert_eq!(rt; printed.status, 1);
     assert!(rt; printed.answer.is_empty());
     let wanted = b"fault 51: refusal 5 at line 2, column 3\n";
     assert_eq!(rt; printed.faults.as_slice(), wanted.as_slice());
-    assert!(rt; fs::read(&rt, proof.as_str())?.is_empty(), "the proof is there, and empty");
+    assert!(rt;
+        fs::read(&rt, proof.as_str())?.is_empty(),
+        "the proof is there, and empty"
+    );
     Ok(())
 }
 
@@ -74,12 +113,33 @@ fn files_that_cannot_be_opened(rt: HostRuntime) -> Result<(), Fail> {
     let proof = path_of(&rt, "opened.lrat")?;
     fs::write(&rt, formula.as_str(), "p cnf 0 0\n")?;
     fs::write(&rt, proof.as_str(), "old")?;
-    let printed = run(&rt, &["cubesat", "solve", "--proof", proof.as_str(), missing.as_str()]);
+    let printed = run(
+        &rt,
+        &[
+            "cubesat",
+            "solve",
+            "--proof",
+            proof.as_str(),
+            missing.as_str(),
+        ],
+    );
     assert_eq!(rt; printed.status, 1);
     assert_eq!(rt; printed.faults.as_slice(), b"fault 56\n".as_slice());
     assert!(rt; printed.answer.is_empty());
-    assert_eq!(rt; fs::read(&rt, proof.as_str())?.as_slice(), b"old".as_slice());
-    let printed = run(&rt, &["cubesat", "solve", "--proof", missing.as_str(), formula.as_str()]);
+    assert_eq!(rt;
+        fs::read(&rt, proof.as_str())?.as_slice(),
+        b"old".as_slice()
+    );
+    let printed = run(
+        &rt,
+        &[
+            "cubesat",
+            "solve",
+            "--proof",
+            missing.as_str(),
+            formula.as_str(),
+        ],
+    );
     assert_eq!(rt; printed.status, 1);
     assert_eq!(rt; printed.faults.as_slice(), b"fault 56\n".as_slice());
     assert!(rt; printed.answer.is_empty());
@@ -92,7 +152,10 @@ fn a_folder_is_no_formula(rt: HostRuntime) -> Result<(), Fail> {
     let proof = path_of(&rt, "folder.lrat")?;
     let printed = run(&rt, &["cubesat", "solve", "--proof", proof.as_str(), "."]);
     assert_eq!(rt; printed.status, 1);
-    assert_eq!(rt; printed.faults.as_slice(), b"fault 51: refusal 10\n".as_slice());
+    assert_eq!(rt;
+        printed.faults.as_slice(),
+        b"fault 51: refusal 10\n".as_slice()
+    );
     Ok(())
 }
 
@@ -108,9 +171,15 @@ fn wrong_command_lines(rt: HostRuntime) {
     is_wrong(&rt, &run(&rt, &[]), "no words");
     is_wrong(&rt, &run(&rt, &["cubesat", "guess"]), "another subcommand");
     is_wrong(&rt, &run(&rt, &["cubesat", "solve", "x.cnf"]), "no proof");
-    is_wrong(&rt, &run(&rt, &["cubesat", "solve", "--proof", "x.lrat"]), "no formula");
+    is_wrong(
+        &rt,
+        &run(&rt, &["cubesat", "solve", "--proof", "x.lrat"]),
+        "no formula",
+    );
     for budget in ["0", "100001", "x", "-1", "4294967297"] {
-        let words = ["cubesat", "solve", "--budget", budget, "--proof", "x.lrat", "x.cnf"];
+        let words = [
+            "cubesat", "solve", "--budget", budget, "--proof", "x.lrat", "x.cnf",
+        ];
         is_wrong(&rt, &run(&rt, &words), budget);
     }
 }
@@ -120,5 +189,9 @@ fn help_is_shown(rt: HostRuntime) {
     let printed = run(&rt, &["cubesat", "--help"]);
     assert_eq!(rt; printed.status, 0);
     assert!(rt; printed.faults.is_empty());
-    assert!(rt; printed.answer.starts_with(b"A SAT solver with LRAT proofs\n"));
+    assert!(rt;
+        printed
+            .answer
+            .starts_with(b"A SAT solver with LRAT proofs\n")
+    );
 }

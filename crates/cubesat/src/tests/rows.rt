@@ -1,5 +1,5 @@
 //! Worked rows of runs with memory, readers and writers that serve.
-use crate::{Verdict, run_one};
+use crate::{Verdict, run_one, runs_write_the_same};
 use std::alloc::Global;
 use std::process::Abort;
 use std::test::Fail;
@@ -13,7 +13,8 @@ struct Row {
     answer: &'static str,
 }
 
-const EIGHT: &str = "p cnf 3 8\n1 2 3 0\n1 2 -3 0\n1 -2 3 0\n1 -2 -3 0\n-1 2 3 0\n-1 2 -3 0\n-1 -2 3 0\n-1 -2 -3 0\n";
+const EIGHT: &str =
+    "p cnf 3 8\n1 2 3 0\n1 2 -3 0\n1 -2 3 0\n1 -2 -3 0\n-1 2 3 0\n-1 2 -3 0\n-1 -2 3 0\n-1 -2 -3 0\n";
 
 const FOUR: &str = "p cnf 2 4\n1 2 0\n1 -2 0\n-1 2 0\n-1 -2 0\n";
 
@@ -31,9 +32,18 @@ fn check(rt: &impl Abort, alloc: Global, row: &Row) -> Result<(), Fail> {
     assert_eq!(rt; proof.as_slice(), row.proof.as_bytes(), "proof of {at}");
     assert_eq!(rt; answer.as_slice(), row.answer.as_bytes(), "answer of {at}");
     let refuted = row.answer == UNSATISFIABLE;
-    let wanted = if refuted { Verdict::Unsatisfiable } else { Verdict::Satisfiable };
+    let wanted = if refuted {
+        Verdict::Unsatisfiable
+    } else {
+        Verdict::Satisfiable
+    };
     assert_eq!(rt; verdict, wanted, "verdict of {at}");
     Ok(())
+}
+
+#[test]
+fn laws_can_be_called() {
+    runs_write_the_same();
 }
 
 #[test]
@@ -43,12 +53,33 @@ fn refuted_formulas(rt: HostRuntime) -> Result<(), Fail> {
         ("p cnf 1 2\n1 0\n-1 0\n", 1, "3 0 1 2 0\n"),
         (FOUR, 1, "5 1 0 1 2 0\n6 -1 0 3 4 0\n7 0 5 6 0\n"),
         (FOUR, 2, "5 1 0 1 2 0\n6 0 5 3 4 0\n"),
-        (EIGHT, 1, "9 1 2 0 1 2 0\n10 1 -2 0 3 4 0\n11 1 0 9 10 0\n12 -1 2 0 5 6 0\n13 -1 -2 0 7 8 0\n14 -1 0 12 13 0\n15 0 11 14 0\n"),
-        (EIGHT, 2, "9 2 1 0 1 2 0\n10 1 0 9 3 4 0\n11 2 -1 0 5 6 0\n12 -1 0 11 7 8 0\n13 0 10 12 0\n"),
-        (EIGHT, 4, "9 1 2 0 1 2 0\n10 1 0 9 3 4 0\n11 2 0 10 5 6 0\n12 0 10 11 7 8 0\n"),
+        (
+            EIGHT,
+            1,
+            "9 1 2 0 1 2 0\n10 1 -2 0 3 4 0\n11 1 0 9 10 0\n12 -1 2 0 5 6 0\n13 -1 -2 0 7 8 0\n14 -1 0 12 13 0\n15 0 11 14 0\n",
+        ),
+        (
+            EIGHT,
+            2,
+            "9 2 1 0 1 2 0\n10 1 0 9 3 4 0\n11 2 -1 0 5 6 0\n12 -1 0 11 7 8 0\n13 0 10 12 0\n",
+        ),
+        (
+            EIGHT,
+            4,
+            "9 1 2 0 1 2 0\n10 1 0 9 3 4 0\n11 2 0 10 5 6 0\n12 0 10 11 7 8 0\n",
+        ),
     ];
     for (text, budget, proof) in rows {
-        check(&rt, rt.alloc(), &Row { text, budget, proof, answer: UNSATISFIABLE })?;
+        check(
+            &rt,
+            rt.alloc(),
+            &Row {
+                text,
+                budget,
+                proof,
+                answer: UNSATISFIABLE,
+            },
+        )?;
     }
     Ok(())
 }
@@ -59,40 +90,95 @@ fn satisfiable_formulas(rt: HostRuntime) -> Result<(), Fail> {
         ("p cnf 0 0\n", 1, "s SATISFIABLE\nv 0\n"),
         ("p cnf 2 1\n1 2 0\n", 1, "s SATISFIABLE\nv -1 2 0\n"),
         ("p cnf 2 2\n1 2 0\n1 -2 0\n", 1, "s SATISFIABLE\nv 1 -2 0\n"),
-        ("p cnf 2 2\n1 -1 0\n2 2 0\n", 1000, "s SATISFIABLE\nv -1 2 0\n"),
-        ("c x\np cnf 2 1\n1\nc mid\n2 0\n", 1000, "s SATISFIABLE\nv -1 2 0\n"),
+        (
+            "p cnf 2 2\n1 -1 0\n2 2 0\n",
+            1000,
+            "s SATISFIABLE\nv -1 2 0\n",
+        ),
+        (
+            "c x\np cnf 2 1\n1\nc mid\n2 0\n",
+            1000,
+            "s SATISFIABLE\nv -1 2 0\n",
+        ),
         ("p cnf 2 1\r\n1 2 0\r\n", 1000, "s SATISFIABLE\nv -1 2 0\n"),
         ("p cnf 1 1\n1 0\nc", 1000, "s SATISFIABLE\nv 1 0\n"),
-        ("p cnf 4 2\n1 3 4 0\n1 3 -4 0\n", 1, "s SATISFIABLE\nv -1 -2 3 -4 0\n"),
-        ("p cnf 4 2\n1 3 4 0\n1 3 -4 0\n", 2, "s SATISFIABLE\nv -1 -2 3 -4 0\n"),
-        ("p cnf 3 2\n1 2 3 0\n1 2 -3 0\n", 1, "s SATISFIABLE\nv -1 2 -3 0\n"),
-        ("p cnf 3 4\n1 2 3 0\n1 2 -3 0\n-1 2 3 0\n-1 2 -3 0\n", 1, "s SATISFIABLE\nv -1 2 -3 0\n"),
+        (
+            "p cnf 4 2\n1 3 4 0\n1 3 -4 0\n",
+            1,
+            "s SATISFIABLE\nv -1 -2 3 -4 0\n",
+        ),
+        (
+            "p cnf 4 2\n1 3 4 0\n1 3 -4 0\n",
+            2,
+            "s SATISFIABLE\nv -1 -2 3 -4 0\n",
+        ),
+        (
+            "p cnf 3 2\n1 2 3 0\n1 2 -3 0\n",
+            1,
+            "s SATISFIABLE\nv -1 2 -3 0\n",
+        ),
+        (
+            "p cnf 3 4\n1 2 3 0\n1 2 -3 0\n-1 2 3 0\n-1 2 -3 0\n",
+            1,
+            "s SATISFIABLE\nv -1 2 -3 0\n",
+        ),
     ];
     for (text, budget, answer) in rows {
-        check(&rt, rt.alloc(), &Row { text, budget, proof: "", answer })?;
+        check(
+            &rt,
+            rt.alloc(),
+            &Row {
+                text,
+                budget,
+                proof: "",
+                answer,
+            },
+        )?;
     }
     Ok(())
 }
 
 #[test]
 fn value_lines_have_78_bytes(rt: HostRuntime) -> Result<(), Fail> {
-    let full = "s SATISFIABLE\nv -1 -2 -3 -4 -5 -6 -7 -8 -9 -10 -11 -12 -13 -14 -15 -16 -17 -18 -19 -20 -21 0\n";
-    check(&rt, rt.alloc(), &Row { text: "p cnf 21 0\n", budget: 1000, proof: "", answer: full })?;
-    let two = "s SATISFIABLE\nv -1 -2 -3 -4 -5 -6 -7 -8 -9 -10 -11 -12 -13 -14 -15 -16 -17 -18 -19 -20 -21\nv -22 0\n";
-    check(&rt, rt.alloc(), &Row { text: "p cnf 22 0\n", budget: 1000, proof: "", answer: two })
+    let full =
+        "s SATISFIABLE\nv -1 -2 -3 -4 -5 -6 -7 -8 -9 -10 -11 -12 -13 -14 -15 -16 -17 -18 -19 -20 -21 0\n";
+    check(
+        &rt,
+        rt.alloc(),
+        &Row {
+            text: "p cnf 21 0\n",
+            budget: 1000,
+            proof: "",
+            answer: full,
+        },
+    )?;
+    let two =
+        "s SATISFIABLE\nv -1 -2 -3 -4 -5 -6 -7 -8 -9 -10 -11 -12 -13 -14 -15 -16 -17 -18 -19 -20 -21\nv -22 0\n";
+    check(
+        &rt,
+        rt.alloc(),
+        &Row {
+            text: "p cnf 22 0\n",
+            budget: 1000,
+            proof: "",
+            answer: two,
+        },
+    )
 }
 
 /// At budget 1 the cubes go 39 literals deep: only the variable 39 is true.
 #[test]
 fn a_deep_tree(rt: HostRuntime) -> Result<(), Fail> {
-    let front = "1 2 3 4 5 6 7 8 9 10 11 12 13 14 15 16 17 18 19 20 21 22 23 24 25 26 27 28 29 30 31 32 33 34 35 36 37 38 39";
+    let front =
+        "1 2 3 4 5 6 7 8 9 10 11 12 13 14 15 16 17 18 19 20 21 22 23 24 25 26 27 28 29 30 31 32 33 34 35 36 37 38 39";
     let text = format!(in rt.alloc(); "p cnf 40 2\n{front} 40 0\n{front} -40 0\n")?;
     let mut proof = Vec::new(rt.alloc());
     let mut answer = Vec::new(rt.alloc());
     let verdict = run_one(rt.alloc(), text.as_bytes(), &mut answer, &mut proof, 1)?;
     assert_eq!(rt; verdict, Verdict::Satisfiable);
     assert!(rt; proof.is_empty());
-    let wanted = "s SATISFIABLE\nv -1 -2 -3 -4 -5 -6 -7 -8 -9 -10 -11 -12 -13 -14 -15 -16 -17 -18 -19 -20 -21\nv -22 -23 -24 -25 -26 -27 -28 -29 -30 -31 -32 -33 -34 -35 -36 -37 -38 39 -40 0\n";
+    let wanted =
+        "s SATISFIABLE\nv -1 -2 -3 -4 -5 -6 -7 -8 -9 -10 -11 -12 -13 -14 -15 -16 -17 -18 -19 -20 -21\nv -22 -23 -24 -25 -26 -27 -28 -29 -30 -31 -32 -33 -34 -35 -36 -37 -38 39 -40 0\n";
     assert_eq!(rt; answer.as_slice(), wanted.as_bytes());
     Ok(())
 }

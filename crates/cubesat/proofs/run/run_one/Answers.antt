@@ -1,4 +1,3 @@
-use Rattle.std.proofs.Common.{◌≡◌, sym, subst}
 use Rattle.cubesat.proofs.RunLemmas.{IsRunOf-made, RunSays-unread}
 use Rattle.cubesat.proofs.run.run_one.Goals as goal
 

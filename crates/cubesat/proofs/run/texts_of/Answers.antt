@@ -1,5 +1,4 @@
-use Rattle.std.proofs.Common.{◌≡◌, List, Bool, length, map, ap, sym, ◌∙◌, refl}
-use Rattle.theory.specs.Truth.{Formula}
+use Rattle.std.proofs.Common.{◌≡◌, map, ap}
 use Rattle.theory.specs.FirstModel.{IsFirst}
 use Rattle.lrat.specs.Steps.{step_of}
 use Rattle.cubesat.proofs.TextLemmas.{model-texts, refuted-texts, refuted-accepted}
@@ -17,8 +16,9 @@ returns-in_ok-answer_bytes-in-Model c =
 
 pub returns-in_ok-answer_bytes-in_default : goal.returns-in_ok-answer_bytes-in_default
 returns-in_ok-answer_bytes-in_default c =
-    let same = ap (map step_of) c.deref-in_default.ensures.value in
-    (refuted-texts c.args.formula.now c.args.budget c.in_ok-refuted.refuted (map step_of c.in_ok-steps-in_default.steps.items) (map step_of c.deref-in_default.result.now) _ _ c.in_default.not-Model
-        c.in_ok-refuted.ensures.result c.in_ok-refuted.ensures.says c.in_ok-steps-in_default.ensures.steps same c.in_ok-proof_bytes-in_default.ensures c.in_ok-answer_bytes-in_default.ensures,
-    refuted-accepted c.args.formula.now c.in_ok-refuted.refuted (map step_of c.in_ok-steps-in_default.steps.items) (map step_of c.deref-in_default.result.now) _ c.in_default.not-Model
-        c.in_ok-steps-in_default.ensures.accepted c.in_ok-steps-in_default.ensures.within same c.in_ok-proof_bytes-in_default.ensures)
+    let same = ap (map step_of) c.deref-in_default.ensures.value in (
+      refuted-texts c.args.formula.now c.args.budget c.in_ok-refuted.refuted (map step_of c.in_ok-steps-in_default.steps.items) (map step_of c.deref-in_default.result.now) _ _ c.in_default.not-Model
+          c.in_ok-refuted.ensures.result c.in_ok-refuted.ensures.says c.in_ok-steps-in_default.ensures.steps same c.in_ok-proof_bytes-in_default.ensures c.in_ok-answer_bytes-in_default.ensures,
+      refuted-accepted c.args.formula.now c.in_ok-refuted.refuted (map step_of c.in_ok-steps-in_default.steps.items) (map step_of c.deref-in_default.result.now) _ c.in_default.not-Model
+          c.in_ok-steps-in_default.ensures.accepted c.in_ok-steps-in_default.ensures.within same c.in_ok-proof_bytes-in_default.ensures,
+    )
