@@ -15,7 +15,7 @@ use Rattle.theory.proofs.LawfulTrails.{IsLawful-Closes}
 use Rattle.theory.proofs.OpenTrails.{IsOpenBelow-cube_trail, kept-step}
 use Rattle.theory.specs.Results.{OutcomeSays}
 use Rattle.theory.proofs.OutcomeLemmas.{Runs-says}
-use Rattle.kernel.proofs.Cubes.{literals-cube_trail}
+use Rattle.theory.proofs.SearchSoundness.{literals-cube}
 use Rattle.kernel.specs.State.{State}
 use Rattle.cdcl.specs.Outcome.{outcome_of}
 use Rattle.cdcl.specs.Searching.{IsSearching, IsStep, search_of}
@@ -82,4 +82,4 @@ pub begun-says : (F : Formula) (B : ℕ) (Q : List Literal) (k : State) (o : def
     → IsLawful k.clauses k.trail × IsOver k.vars (literals k.trail) × All (IsOver k.vars) k.clauses → IsOver F.vars Q → definition.Runs F B Q o → OutcomeSays F Q o
 begun-says F B Q k o opened lawful over runs =
     let all = rw opened at lawful in
-    Runs-says F B Q o all.2 (subst (IsDistinctFrom []) (literals-cube_trail Q) (IsDistinctFrom-lawful (first_clauses F) [] (cube_trail Q) all.0)) over runs
+    Runs-says F B Q o all.2 (subst (IsDistinctFrom []) (literals-cube Q) (IsDistinctFrom-lawful (first_clauses F) [] (cube_trail Q) all.0)) over runs
