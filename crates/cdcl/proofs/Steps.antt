@@ -34,14 +34,18 @@ IsStep-leads V budget s t o vars step more = steps step.closes (rw vars at step.
 -- what such a step keeps
 pub IsStep-keeps : (budget : ℕ) (s t : Search) → IsSearching s.kernel → s.conflicts < budget → IsStep budget s None t
     → IsSearching t.kernel × (t.conflicts < budget) × (remaining s.kernel.vars budget t.conflicts t.kernel.trail < remaining s.kernel.vars budget s.conflicts s.kernel.trail)
-IsStep-keeps budget s t h counted step = (record {
-  has_memory = step.has_memory;
-  few = rw step.vars h.few;
-  lawful = kept.0;
-  open_below = kept.1;
-  clauses_over = rw step.vars made.clauses_over;
-  trail_over = rw step.vars (IsOver-from_AreOver s.kernel.vars (literals t.kernel.trail) made.trail_over);
-}, made.counted, less)
+IsStep-keeps budget s t h counted step = (
+  record {
+    has_memory = step.has_memory;
+    few = rw step.vars h.few;
+    lawful = kept.0;
+    open_below = kept.1;
+    clauses_over = rw step.vars made.clauses_over;
+    trail_over = rw step.vars (IsOver-from_AreOver s.kernel.vars (literals t.kernel.trail) made.trail_over);
+  },
+  made.counted,
+  less,
+)
   where
     middle : definition.Search
     middle = record (search_of s) { trail = step.trail }

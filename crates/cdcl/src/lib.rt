@@ -9,8 +9,10 @@ mod literal_set;
 mod outcome;
 mod solve;
 
-
 pub use analysis::{Learnt, analyze};
+pub use halves::split;
 pub use outcome::{Line, Outcome, Refutation};
 pub use solve::solve_cube;
-pub use halves::split;
+
+#[cfg(test)]
+mod tests;

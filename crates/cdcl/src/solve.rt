@@ -103,7 +103,12 @@ fn go_back(alloc: Global, search: &mut Search, number: u64) -> Result<(), AllocE
 }
 
 /// A conflict above level 0 is counted; the last one that the budget allows exhausts the cube.
-fn on_conflict(alloc: Global, search: &mut Search, number: u64, budget: u32) -> Result<Option<Outcome>, AllocError>
+fn on_conflict(
+    alloc: Global,
+    search: &mut Search,
+    number: u64,
+    budget: u32,
+) -> Result<Option<Outcome>, AllocError>
     requires searching { IsSearching search.old.kernel }
     requires conflict { least_false (literals search.old.kernel.trail) search.old.kernel.clauses ≡ Some number }
     requires counted { search.old.conflicts < budget }
@@ -134,7 +139,12 @@ fn step(alloc: Global, search: &mut Search, budget: u32) -> Result<Option<Outcom
 
 /// The outcome of a cube over the formula's variables, with a budget of 1 to 100,000 conflicts. An error comes only where memory was
 /// refused.
-pub fn solve_cube(alloc: Global, formula: &Formula, cube: &Cube, budget: u32) -> Result<Outcome, AllocError>
+pub fn solve_cube(
+    alloc: Global,
+    formula: &Formula,
+    cube: &Cube,
+    budget: u32,
+) -> Result<Outcome, AllocError>
     requires budget { (1 ≤ budget) × (budget ≤ 100000) }
     requires over { IsOver formula.now.vars cube.now }
     ensures runs { IfOk result (λ o. Runs formula.now budget cube.now (outcome_of o)) }

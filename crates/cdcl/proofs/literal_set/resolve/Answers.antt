@@ -6,5 +6,5 @@ use Rattle.cdcl.proofs.literal_set.resolve.Goals as goal
 pub returns : goal.returns
 returns c =
     let kept : c.retain.new.self.items ≡ without c.args.set.now.items (negated c.args.lit) =
-        filter_same _ (λ k. not (same (negated c.args.lit) k)) _ (λ x b f t. search rules) _ _ c.retain.ensures.filtered in
+    filter_same _ (λ k. not (same (negated c.args.lit) k)) _ (λ x b f t. search rules) _ _ c.retain.ensures.filtered in
     rw kept at c.put_others.ensures

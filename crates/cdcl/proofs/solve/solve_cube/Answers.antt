@@ -32,7 +32,7 @@ went_on c = rw c.in_default.is at c.in_ok-outcome.ensures
 
 kept : (c : goal.In_default) → IsSearching c.step.new.search.kernel × (c.step.new.search.conflicts < c.args.budget)
     × (remaining c.loop-search.search.kernel.vars c.args.budget c.step.new.search.conflicts c.step.new.search.kernel.trail
-        < remaining c.loop-search.search.kernel.vars c.args.budget c.loop-search.search.conflicts c.loop-search.search.kernel.trail)
+    < remaining c.loop-search.search.kernel.vars c.args.budget c.loop-search.search.conflicts c.loop-search.search.kernel.trail)
 kept c = IsStep-keeps c.args.budget c.loop-search.search c.step.new.search c.loop-search.invariant.searching c.loop-search.invariant.counted (went_on c)
 
 pub loop-search-smaller : goal.loop-search-smaller
