@@ -1,5 +1,5 @@
 -- A step of a search, as the definition of a search has it.
-use Rattle.std.proofs.Common.{◌≡◌, ℕ, ◌<◌, ◌≤◌, ◌*◌, false, List, [], All, ap, ◌+◌, ◌-◌, length, Some, None, sym, subst, refl, arith}
+use Rattle.std.proofs.Common.{◌≡◌, ℕ, ◌<◌, ◌≤◌, false, List, [], All, ap, Some, None, subst, refl, arith}
 use Rattle.theory.specs.Literals.{Literal, IsDistinctFrom}
 use Rattle.theory.specs.Truth.{Formula, IsOver}
 use Rattle.theory.specs.Trails.{literals, cube_trail}

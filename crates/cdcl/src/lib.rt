@@ -5,7 +5,7 @@
 mod analysis;
 mod halves;
 mod level;
-mod literal_set;
+mod marks;
 mod outcome;
 mod solve;
 

@@ -1,4 +1,4 @@
-use Rattle.std.proofs.Common.{◌≡◌, ◌<◌, None, ap, ◌∙◌, refl}
+use Rattle.std.proofs.Common.{◌<◌, None, ap, ◌∙◌, refl}
 use Rattle.theory.specs.Search.{Runs}
 use Rattle.kernel.specs.State.{State}
 use Rattle.cdcl.specs.Outcome.{outcome_of}

@@ -1,4 +1,3 @@
-use Rattle.std.proofs.Common.{rules}
 use Rattle.theory.proofs.LawfulTrails.{Closes-conflict}
 use Rattle.cdcl.proofs.tests.learnt.Goals as goal
 
