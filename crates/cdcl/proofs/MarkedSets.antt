@@ -169,18 +169,13 @@ reason-other k S marked n e h above few =
     go true p false q true = refl
     go true p true q true = absurd (few (eqb-true e.level (current_level k.trail) p) (let two = leb-true 2 (at_current_level k.trail S) q in let is = h.counted in omega arith))
 
--- no mark stands for the empty set
-none-marked : (m v : ℕ) → get_or (replicate m false) v false ≡ false
+-- room without a mark
+pub none-marked : (m v : ℕ) → get_or (replicate m false) v false ≡ false
 none-marked m v = elim (true_or_false (nat_lt v m)) [
   | inl e ↦ get_or-replicate m v false false (ltb-true v m e)
   | inr e ↦ get_or-eq_default (replicate m false) false (let most = ltb-false v m e in let long = length-replicate {A = Bool} m false in omega arith)
 ]
 
-pub IsMarked-none : (k : State) (marked : List Bool) (n : ℕ) → n ≡ k.vars → marked ≡ replicate (n + 1) false → IsMarked k [] marked 0
-IsMarked-none k marked n vars items = record {
-  long = rw (items, length-replicate, vars) (omega arith);
-  rising = tt;
-  false_on = λ l a. absurd (cc);
-  marks = λ v. rw items (none-marked (n + 1) v);
-  counted = refl;
-}
+-- no mark stands for the empty set
+pub IsMarked-none : (k : State) (marked : List Bool) (n : ℕ) → k.vars < length marked → ((v : ℕ) → slice_index_or marked v false ≡ false) → n ≡ 0 → IsMarked k [] marked n
+IsMarked-none k marked n long none count = record { long = long; rising = tt; false_on = λ l a. absurd (cc); marks = none; counted = count }

@@ -1,5 +1,5 @@
 //! Analysis of a conflict: resolution back to the first unique implication point.
-ghost use Rattle.std.specs.Prelude.{◌≡◌, ◌<◌, ◌^◌, ◌++◌, ◌∷◌, [], IfOk, OnOk, Some, length, reverse, not, filter};
+ghost use Rattle.std.specs.Prelude.{◌≡◌, ℕ, false, slice_index_or, ◌<◌, ◌^◌, ◌++◌, ◌∷◌, [], IfOk, OnOk, Some, length, reverse, not, filter};
 ghost use Rattle.theory.specs.Literals.{Clause};
 ghost use Rattle.theory.specs.Trails.{literals, entry_of};
 ghost use Rattle.theory.specs.Propagation.{least_false, clause_at};
@@ -8,7 +8,7 @@ ghost use Rattle.cdcl.specs.Marks.{IsMarked, negation_of};
 ghost use Rattle.cdcl.specs.Learnt.{line_of};
 
 use crate::level::back_level;
-use crate::marks::{Marks, put_all, reason_used, resolve};
+use crate::marks::{Marks, Room, put_all, reason_used, resolve};
 use cnf::Lit;
 use kernel::Kernel;
 use std::alloc::{AllocError, Global};
@@ -25,16 +25,17 @@ pub struct Learnt {
 }
 
 /// The set of a conflict's literals.
-fn marks_of(alloc: Global, kernel: &Kernel, conflict: u64) -> Result<Marks, AllocError>
+fn marks_of(
+    alloc: Global,
+    kernel: &Kernel,
+    room: &mut Room,
+    conflict: u64,
+) -> Result<Marks, AllocError>
     requires { least_false (literals kernel.now.trail) kernel.now.clauses ≡ Some conflict }
     ensures few { OnOk result (kernel.now.vars < 2 ^ 32) }
     ensures set { IfOk result (λ m. IsMarked kernel.now (with_literals (clause_at kernel.now.clauses conflict) []) m.marked.items m.current) }
 {
-    let vars = kernel.vars() as usize;
-    let mut marks = Marks {
-        marked: vec![in alloc; false; vars + 1]?,
-        current: 0,
-    };
+    let mut marks = room.take(alloc, kernel.vars())?;
     let _trail = kernel.trail();
     put_all(kernel, &mut marks, kernel.clause(conflict));
     Ok(marks)
@@ -83,8 +84,10 @@ fn put_negation(kernel: &Kernel, clause: &mut Vec<Lit>, var: u32) -> Result<(), 
 /// The literals of the set without those of the cube. It leaves no mark.
 fn take_clause(alloc: Global, kernel: &Kernel, marks: &mut Marks) -> Result<Vec<Lit>, AllocError>
     requires { kernel.now.vars < length marks.old.marked.items }
-    ensures { IfOk result (λ c. (S : Clause) → IsMarked kernel.now S marks.old.marked.items marks.old.current
+    ensures clause { IfOk result (λ c. (S : Clause) → IsMarked kernel.now S marks.old.marked.items marks.old.current
         → c.items ≡ filter (λ l. not (is_of_cube kernel.now.trail l)) S) }
+    ensures clear { OnOk result ((S : Clause) → IsMarked kernel.now S marks.old.marked.items marks.old.current
+        → (v : ℕ) → slice_index_or marks.new.marked.items v false ≡ false) }
 {
     let _trail = kernel.trail();
     let mut clause = Vec::new(alloc);
@@ -99,6 +102,32 @@ fn take_clause(alloc: Global, kernel: &Kernel, marks: &mut Marks) -> Result<Vec<
     Ok(clause)
 }
 
+/// What `analyze` answers, in room that is used again.
+pub(crate) fn analyze_in(
+    alloc: Global,
+    kernel: &Kernel,
+    room: &mut Room,
+    conflict: u64,
+) -> Result<Learnt, AllocError>
+    requires { least_false (literals kernel.now.trail) kernel.now.clauses ≡ Some conflict }
+    ensures line { IfOk result (λ r. line_of r ≡ learn kernel.now.clauses kernel.now.trail conflict) }
+    ensures level { IfOk result (λ r. r.level ≡ back_level kernel.now.trail (learn kernel.now.clauses kernel.now.trail conflict).clause) }
+{
+    let mut marks = marks_of(alloc, kernel, room, conflict)?;
+    let mut hints = Vec::new(alloc);
+    hints.push(conflict)?;
+    walk(kernel, &mut marks, &mut hints, conflict)?;
+    hints.reverse();
+    let clause = take_clause(alloc, kernel, &mut marks)?;
+    room.put_back(marks);
+    let level = back_level(kernel, &clause);
+    Ok(Learnt {
+        clause,
+        hints,
+        level,
+    })
+}
+
 /// The line that the conflict with the clause of this number teaches, and the level to go back to. The last `close` answered this
 /// conflict, and nothing was changed since. An error comes only where memory was refused.
 pub fn analyze(alloc: Global, kernel: &Kernel, conflict: u64) -> Result<Learnt, AllocError>
@@ -106,16 +135,5 @@ pub fn analyze(alloc: Global, kernel: &Kernel, conflict: u64) -> Result<Learnt, 
     ensures line { IfOk result (λ r. line_of r ≡ learn kernel.now.clauses kernel.now.trail conflict) }
     ensures level { IfOk result (λ r. r.level ≡ back_level kernel.now.trail (learn kernel.now.clauses kernel.now.trail conflict).clause) }
 {
-    let mut marks = marks_of(alloc, kernel, conflict)?;
-    let mut hints = Vec::new(alloc);
-    hints.push(conflict)?;
-    walk(kernel, &mut marks, &mut hints, conflict)?;
-    hints.reverse();
-    let clause = take_clause(alloc, kernel, &mut marks)?;
-    let level = back_level(kernel, &clause);
-    Ok(Learnt {
-        clause,
-        hints,
-        level,
-    })
+    analyze_in(alloc, kernel, &mut Room::new(alloc), conflict)
 }

@@ -1,6 +1,6 @@
 //! Sets of literals that are false on the trail, as marks of their variables: what resolution works on. Each step costs what it
 //! looks at.
-ghost use Rattle.std.specs.Prelude.{◌≡◌, true, false, Some, slice_index_or};
+ghost use Rattle.std.specs.Prelude.{◌≡◌, ◌<◌, ℕ, IfOk, length, true, false, Some, slice_index_or};
 ghost use Rattle.theory.specs.Literals.{Clause, has, negated, without};
 ghost use Rattle.theory.specs.Trails.{literals, entry_of};
 ghost use Rattle.theory.specs.Status.{is_false};
@@ -10,6 +10,9 @@ ghost use Rattle.cdcl.specs.Marks.{IsMarked, AreMarks};
 use crate::level::level_of;
 use cnf::Lit;
 use kernel::{Entry, Kernel};
+use std::alloc::{AllocError, Global};
+use std::marker::Model;
+use std::mem;
 
 /// A set of literals that are false on the trail.
 #[derive(Drop)]
@@ -106,5 +109,52 @@ pub(crate) fn reason_used(kernel: &Kernel, marks: &Marks, entry: Entry) -> Optio
         entry.reason
     } else {
         None
+    }
+}
+
+/// Room for marks, none of which is set, that is used again and again.
+#[derive(Drop)]
+pub(crate) struct Room {
+    marked: Vec<bool>,
+}
+
+impl Model for Room {
+    ghost use Rattle.std.specs.Prelude.{◌≡◌, ℕ, false, length, slice_index_or};
+
+    ghost Value = { ℕ };
+
+    ghost view = { λ a. length a.marked.items };
+
+    ghost invariant = { λ a. (v : ℕ) → slice_index_or a.marked.items v false ≡ false };
+}
+
+impl Room {
+    /// No room yet. It takes no memory.
+    pub(crate) fn new(alloc: Global) -> Room {
+        Room {
+            marked: Vec::new(alloc),
+        }
+    }
+
+    /// The empty set over the variables, in the room that there is, or else in new one.
+    pub(crate) fn take(&mut self, alloc: Global, vars: u32) -> Result<Marks, AllocError>
+        ensures long { IfOk result (λ m. vars < length m.marked.items) }
+        ensures none { IfOk result (λ m. (v : ℕ) → slice_index_or m.marked.items v false ≡ false) }
+        ensures counted { IfOk result (λ m. m.current ≡ 0) }
+    {
+        let count = vars as usize + 1;
+        let marked = if self.marked.len() < count {
+            vec![in alloc; false; count]?
+        } else {
+            mem::replace(&mut self.marked, Vec::new(alloc))
+        };
+        Ok(Marks { marked, current: 0 })
+    }
+
+    /// Puts the room back, without a mark, for the next use.
+    pub(crate) fn put_back(&mut self, marks: Marks)
+        requires { (v : ℕ) → slice_index_or marks.marked.items v false ≡ false }
+    {
+        self.marked = marks.marked;
     }
 }

@@ -11,7 +11,8 @@ ghost use Rattle.theory.specs.Results.{OutcomeSays};
 ghost use Rattle.cdcl.specs.Outcome.{outcome_of};
 ghost use Rattle.cdcl.specs.Searching.{IsSearching, IsStep, search_of, next_of};
 
-use crate::analysis::analyze;
+use crate::analysis::analyze_in;
+use crate::marks::Room;
 use crate::outcome::{Line, Outcome, Refutation};
 use cnf::{Formula, Lit};
 use kernel::{Closed, Cube, Kernel};
@@ -28,6 +29,8 @@ struct Search {
     decided: Option<u32>,
     /// The lines learnt.
     lines: Vec<Line>,
+    /// Room for the analysis of conflicts.
+    room: Room,
 }
 
 /// The literal that makes the variable false.
@@ -78,7 +81,7 @@ fn refute(alloc: Global, search: &mut Search, number: u64) -> Result<Outcome, Al
     ensures refuted { IfOk result (λ o. outcome_of o
         ≡ refuted (search.old.lines.items ++ learn search.old.kernel.clauses search.old.kernel.trail number ∷ [])) }
 {
-    let learnt = analyze(alloc, &search.kernel, number)?;
+    let learnt = analyze_in(alloc, &search.kernel, &mut search.room, number)?;
     search.lines.push(Line::new(learnt.clause, learnt.hints))?;
     let lines = mem::replace(&mut search.lines, Vec::new(alloc));
     Ok(Outcome::Refuted(Refutation { lines }))
@@ -94,7 +97,7 @@ fn go_back(alloc: Global, search: &mut Search, number: u64) -> Result<(), AllocE
         ≡ learnt_next (search_of search.old) (learn search.old.kernel.clauses search.old.kernel.trail number)) }
     ensures kept { OnOk result ((search.new.kernel.vars ≡ search.old.kernel.vars) × (search.new.kernel.short ≡ false)) }
 {
-    let learnt = analyze(alloc, &search.kernel, number)?;
+    let learnt = analyze_in(alloc, &search.kernel, &mut search.room, number)?;
     search.kernel.back_to(learnt.level);
     search.kernel.learn(&learnt.clause)?;
     search.conflicts += 1;
@@ -155,6 +158,7 @@ pub fn solve_cube(
         conflicts: 0,
         decided: None,
         lines: Vec::new(alloc),
+        room: Room::new(alloc),
     };
     loop {
         if let Some(outcome) = step(alloc, &mut search, budget)? {

@@ -15,7 +15,7 @@ loop-search-init c = record {
   leads = λ o h. begin-leads c.args.formula.now c.args.budget c.args.cube.now _ o (rw (c.in_ok-open.ensures.opened, c.new.ensures.items) refl) h;
 }
 
-runs : (c : goal.After-drop-search-in-Some-6) → Runs c.args.formula.now c.args.budget c.args.cube.now (outcome_of c.in-Some.outcome)
+runs : (c : goal.After-drop-search-in-Some-7) → Runs c.args.formula.now c.args.budget c.args.cube.now (outcome_of c.in-Some.outcome)
 runs c =
     c.loop-search.invariant.leads _
     (IsStep-ends c.args.formula.now.vars c.args.budget c.loop-search.search c.step.new.search c.in-Some.outcome c.loop-search.invariant.vars (rw c.in-Some.is at c.in_ok-outcome.ensures))
