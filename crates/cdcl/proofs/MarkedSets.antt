@@ -1,5 +1,5 @@
 -- Sets of literals that are false on the trail, as marks of their variables: literals come, and go as they are resolved on.
-use Rattle.std.proofs.Common.{◌≡◌, ℕ, ◌+◌, ◌-◌, ◌<◌, ◌≤◌, Bool, true, false, ◌||◌, ◌&&◌, if◌then◌else◌, nat_le, le-leb, leb-true, Option, None, List, [], ◌∷◌, length, Some, refl, ap, sym, subst, ◌∙◌, nat_eq, eqb-true, eq-eqb, cond, inl, inr, ◌⊎◌, slice_index_or, slice_set, get_or, replicate, nat_lt, ltb-true, ltb-false, arith}
+use Rattle.std.proofs.Common.{◌≡◌, ℕ, ◌+◌, ◌-◌, ◌<◌, ◌≤◌, Bool, true, false, ◌||◌, if◌then◌else◌, nat_le, le-leb, None, List, [], ◌∷◌, length, Some, refl, ap, sym, subst, ◌∙◌, nat_eq, eqb-true, eq-eqb, cond, inl, inr, ◌⊎◌, slice_index_or, slice_set, get_or, replicate, nat_lt, ltb-true, ltb-false, arith}
 use Rattle.std.proofs.Math.ListN.{get_or-eq_default}
 use Rattle.std.proofs.lemmas.List.{get_or_default, get_or-replicate, length-replicate, get_or-set_same, get_or-set_other, length-set}
 use Rattle.theory.specs.Literals.{Literal, Clause, negated, has, has_var, without}
@@ -155,22 +155,8 @@ reason-current k S marked n e lawful there h m level two =
     go : (b : Bool) → reason_used k.trail S e ≡ (if nat_eq e.level 0 || true then e.reason else None) → e.reason ≡ reason_used k.trail S e
     go b q = sym (q ∙ ap (λ x. if x then e.reason else None) (or-true (nat_eq e.level 0)))
 
--- it is that of no clause, where the level doesn't allow it
-pub reason-other : (k : State) (S : Clause) (marked : List Bool) (n : ℕ) (e : Entry) → IsMarked k S marked n → ¬ (e.level ≡ 0)
-    → (e.level ≡ current_level k.trail → ¬ (2 ≤ n)) → None ≡ reason_used k.trail S e
-reason-other k S marked n e h above few =
-    let one : nat_eq e.level 0 ≡ false = false_unless (nat_eq e.level 0) (λ t. above (eqb-true e.level 0 t)) in
-    rw one (go (nat_eq e.level (current_level k.trail)) refl (nat_le 2 (at_current_level k.trail S)) refl (has S (negated e.lit)))
-  where
-    go : (b : Bool) → nat_eq e.level (current_level k.trail) ≡ b → (m : Bool) → nat_le 2 (at_current_level k.trail S) ≡ m → (a : Bool)
-        → ◌≡◌ {A = Option ℕ} None (if a && (b && m) then e.reason else None)
-    go b p m q false = refl
-    go false p m q true = refl
-    go true p false q true = refl
-    go true p true q true = absurd (few (eqb-true e.level (current_level k.trail) p) (let two = leb-true 2 (at_current_level k.trail S) q in let is = h.counted in omega arith))
-
 -- room without a mark
-pub none-marked : (m v : ℕ) → get_or (replicate m false) v false ≡ false
+none-marked : (m v : ℕ) → get_or (replicate m false) v false ≡ false
 none-marked m v = elim (true_or_false (nat_lt v m)) [
   | inl e ↦ get_or-replicate m v false false (ltb-true v m e)
   | inr e ↦ get_or-eq_default (replicate m false) false (let most = ltb-false v m e in let long = length-replicate {A = Bool} m false in omega arith)

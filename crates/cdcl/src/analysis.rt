@@ -36,7 +36,7 @@ fn marks_of(
     ensures set { IfOk result (λ m. IsMarked kernel.now (with_literals (clause_at kernel.now.clauses conflict) []) m.marked.items m.current) }
 {
     let mut marks = room.take(alloc, kernel.vars())?;
-    let _trail = kernel.trail();
+    let _trail = kernel.trail(); // it ensures what the proof needs of the trail
     put_all(kernel, &mut marks, kernel.clause(conflict));
     Ok(marks)
 }
@@ -89,7 +89,7 @@ fn take_clause(alloc: Global, kernel: &Kernel, marks: &mut Marks) -> Result<Vec<
     ensures clear { OnOk result ((S : Clause) → IsMarked kernel.now S marks.old.marked.items marks.old.current
         → (v : ℕ) → slice_index_or marks.new.marked.items v false ≡ false) }
 {
-    let _trail = kernel.trail();
+    let _trail = kernel.trail(); // it ensures what the proof needs of the trail
     let mut clause = Vec::new(alloc);
     for index in 0..kernel.vars() {
         let var = index + 1;
@@ -129,7 +129,8 @@ pub(crate) fn analyze_in(
 }
 
 /// The line that the conflict with the clause of this number teaches, and the level to go back to. The last `close` answered this
-/// conflict, and nothing was changed since. An error comes only where memory was refused.
+/// conflict, and nothing was changed since. It takes time by the entries, the variables and the literals of the clauses resolved with.
+/// An error comes only where memory was refused.
 pub fn analyze(alloc: Global, kernel: &Kernel, conflict: u64) -> Result<Learnt, AllocError>
     requires { least_false (literals kernel.now.trail) kernel.now.clauses ≡ Some conflict }
     ensures line { IfOk result (λ r. line_of r ≡ learn kernel.now.clauses kernel.now.trail conflict) }
