@@ -1,14 +1,14 @@
 -- A search ends: with each step one more conflict is counted, or the trail is longer.
-use Rattle.std.proofs.Common.{◌≡◌, ℕ, zero, suc, ◌+◌, ◌-◌, ◌*◌, ◌<◌, ◌≤◌, Bool, true, false, List, [], ◌∷◌, ◌++◌, map, length, length-append, Option, Some, None, refl, ap, sym, subst, ◌∙◌, nat_eq, eq-eqb, if◌then◌else◌, unwrap_or, arith, All}
+use Rattle.std.proofs.Common.{◌≡◌, ℕ, ◌+◌, ◌-◌, ◌*◌, ◌<◌, ◌≤◌, Bool, true, false, List, [], ◌∷◌, ◌++◌, length, length-append, Some, None, refl, sym, subst, nat_eq, eq-eqb, if◌then◌else◌, unwrap_or, arith, All}
 use Rattle.std.proofs.lemmas.List.{map-append, length-map}
 use Rattle.std.proofs.lemmas.List.Elements.{All-push}
-use Rattle.theory.specs.Literals.{Literal, Clause, IsDistinctFrom, negative}
+use Rattle.theory.specs.Literals.{Clause, IsDistinctFrom, negative}
 use Rattle.theory.specs.Truth.{IsOver}
 use Rattle.theory.specs.Trails.{Trail, Entry, literals, current_level, up_to}
 use Rattle.theory.specs.Propagation.{Closed, quiet, conflict, Closes, clashes, grows, rests, unit_entry, least_false}
-use Rattle.theory.specs.Lawful.{IsLawful, IsLawfulAfter, are_distinct}
+use Rattle.theory.specs.Lawful.{IsLawful, IsLawfulAfter}
 use Rattle.theory.specs.Learning.{learn, back_level}
-use Rattle.theory.specs.Search.{Search, Next, ends, goes_on, refuted, exhausted, after, decided_next, learnt_next}
+use Rattle.theory.specs.Search.{Search, Next, ends, goes_on, refuted, exhausted, after, decided_next}
 use Rattle.theory.proofs.SearchSteps.{Answers, after-quiet, after-conflict, conflict_next}
 use Rattle.theory.proofs.OverVariables.{AreOver, AreOver-push, AreOver-from_IsOver}
 use Rattle.theory.proofs.RefutedCubes.{AreOver-up_to}

@@ -1,18 +1,18 @@
 -- What a search keeps from step to step, and why it ends: with each step a conflict more is counted, or the trail is longer.
-use Rattle.std.proofs.Common.{◌≡◌, ℕ, ◌≤◌, false, Result, Ok, Err, IfOk, OnOk, if◌then◌else◌, List, [], ◌∷◌, ◌++◌, Option, Some, None, refl, ap, sym, subst, ◌∙◌, All}
-use Rattle.theory.specs.Literals.{Literal, Clause, negations}
+use Rattle.std.proofs.Common.{◌≡◌, ℕ, ◌≤◌, false, Result, Ok, Err, IfOk, OnOk, if◌then◌else◌, List, [], ◌∷◌, ◌++◌, Option, Some, ◌∙◌}
+use Rattle.theory.specs.Literals.{Clause, negations}
 use Rattle.theory.specs.Truth.{IsOver}
 use Rattle.theory.specs.Trails.{Trail, literals, current_level, up_to}
 use Rattle.theory.specs.Propagation.{Closed, quiet, Closes, grows, rests, unit_entry, least_false}
 use Rattle.theory.specs.Lawful.{IsLawful, cube_of}
-use Rattle.theory.specs.Learnable.{IsOpenBelow, IsLearnable}
+use Rattle.theory.specs.Learnable.{IsLearnable}
 use Rattle.theory.specs.Learning.{learn, back_level}
 use Rattle.theory.specs.Search.{after}
 use Rattle.theory.proofs.LawfulTrails.{IsLawful-Closes, least_false-at}
 use Rattle.theory.proofs.LearnableLines.{IsLearnable-learn}
 use Rattle.theory.proofs.LearntLines.{IsVariable-learn}
 use Rattle.theory.proofs.OpenTrails.{IsOpenBelow-Closes}
-use Rattle.theory.proofs.OverVariables.{AreOver, AreOver-from_IsOver, IsOver-from_AreOver, IsOver-left}
+use Rattle.theory.proofs.OverVariables.{AreOver-from_IsOver, IsOver-from_AreOver, IsOver-left}
 use Rattle.theory.proofs.RefutedCubes.{AreOver-Closes}
 use Rattle.kernel.specs.State.{State}
 use Rattle.cdcl.specs.Searching.{IsSearching, IsStep, search_of, next_of}

@@ -1,5 +1,5 @@
 -- A step of a search, as the definition of a search has it.
-use Rattle.std.proofs.Common.{◌≡◌, ℕ, ◌<◌, ◌≤◌, ◌*◌, false, List, [], All, ap, ◌+◌, ◌-◌, length, Some, None, sym, subst, refl, arith}
+use Rattle.std.proofs.Common.{◌≡◌, ℕ, ◌<◌, ◌≤◌, false, List, [], All, ap, Some, None, subst, refl, arith}
 use Rattle.theory.specs.Literals.{Literal, IsDistinctFrom}
 use Rattle.theory.specs.Truth.{Formula, IsOver}
 use Rattle.theory.specs.Trails.{literals, cube_trail}
@@ -15,7 +15,7 @@ use Rattle.theory.proofs.LawfulTrails.{IsLawful-Closes}
 use Rattle.theory.proofs.OpenTrails.{IsOpenBelow-cube_trail, kept-step}
 use Rattle.theory.specs.Results.{OutcomeSays}
 use Rattle.theory.proofs.OutcomeLemmas.{Runs-says}
-use Rattle.kernel.proofs.Cubes.{literals-cube_trail}
+use Rattle.theory.proofs.SearchSoundness.{literals-cube}
 use Rattle.kernel.specs.State.{State}
 use Rattle.cdcl.specs.Outcome.{outcome_of}
 use Rattle.cdcl.specs.Searching.{IsSearching, IsStep, search_of}
@@ -34,14 +34,18 @@ IsStep-leads V budget s t o vars step more = steps step.closes (rw vars at step.
 -- what such a step keeps
 pub IsStep-keeps : (budget : ℕ) (s t : Search) → IsSearching s.kernel → s.conflicts < budget → IsStep budget s None t
     → IsSearching t.kernel × (t.conflicts < budget) × (remaining s.kernel.vars budget t.conflicts t.kernel.trail < remaining s.kernel.vars budget s.conflicts s.kernel.trail)
-IsStep-keeps budget s t h counted step = (record {
-  has_memory = step.has_memory;
-  few = rw step.vars h.few;
-  lawful = kept.0;
-  open_below = kept.1;
-  clauses_over = rw step.vars made.clauses_over;
-  trail_over = rw step.vars (IsOver-from_AreOver s.kernel.vars (literals t.kernel.trail) made.trail_over);
-}, made.counted, less)
+IsStep-keeps budget s t h counted step = (
+  record {
+    has_memory = step.has_memory;
+    few = rw step.vars h.few;
+    lawful = kept.0;
+    open_below = kept.1;
+    clauses_over = rw step.vars made.clauses_over;
+    trail_over = rw step.vars (IsOver-from_AreOver s.kernel.vars (literals t.kernel.trail) made.trail_over);
+  },
+  made.counted,
+  less,
+)
   where
     middle : definition.Search
     middle = record (search_of s) { trail = step.trail }
@@ -82,4 +86,4 @@ pub begun-says : (F : Formula) (B : ℕ) (Q : List Literal) (k : State) (o : def
     → IsLawful k.clauses k.trail × IsOver k.vars (literals k.trail) × All (IsOver k.vars) k.clauses → IsOver F.vars Q → definition.Runs F B Q o → OutcomeSays F Q o
 begun-says F B Q k o opened lawful over runs =
     let all = rw opened at lawful in
-    Runs-says F B Q o all.2 (subst (IsDistinctFrom []) (literals-cube_trail Q) (IsDistinctFrom-lawful (first_clauses F) [] (cube_trail Q) all.0)) over runs
+    Runs-says F B Q o all.2 (subst (IsDistinctFrom []) (literals-cube Q) (IsDistinctFrom-lawful (first_clauses F) [] (cube_trail Q) all.0)) over runs

@@ -1,6 +1,6 @@
 -- The truth values of variables on a lawful trail.
 use Rattle.std.proofs.Common.{◌≡◌, ℕ, suc, ◌+◌, add-one, Bool, true, false, List, [], ◌∷◌, ◌++◌, map, Option, Some, None, refl, ap, sym, subst, ◌∙◌, cond, nat_eq, eqb-true, option_map, unwrap_or}
-use Rattle.theory.specs.Literals.{Literal, Clause, has, same, positive}
+use Rattle.theory.specs.Literals.{Literal, Clause, has, positive}
 use Rattle.theory.specs.Trails.{Trail, Entry, literals, entry_of, variables}
 use Rattle.theory.specs.Lawful.{IsLawful}
 use Rattle.std.proofs.lemmas.List.{map-append}
@@ -8,7 +8,7 @@ use Rattle.theory.proofs.LiteralSets.{has-head, has-tail, true_false}
 use Rattle.theory.proofs.TrailEntries.{entry_of_literal, entry_of-at}
 
 -- the entry of a variable is on the trail
-entry_of-there : (T : Trail) (v : ℕ) (e : Entry) → entry_of T v ≡ Some e → (e.lit.var ≡ v) × (has (literals T) e.lit ≡ true)
+pub entry_of-there : (T : Trail) (v : ℕ) (e : Entry) → entry_of T v ≡ Some e → (e.lit.var ≡ v) × (has (literals T) e.lit ≡ true)
 entry_of-there [] v e h = absurd (cc)
 entry_of-there (d ∷ T) v e h = go (nat_eq d.lit.var v) refl h (entry_of-there T v e)
   where

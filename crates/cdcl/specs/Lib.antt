@@ -2,3 +2,4 @@
 pub mod Learnt
 pub mod Outcome
 pub mod Searching
+pub mod Marks

@@ -1,5 +1,5 @@
 -- The state of a search, as the definition of a search has it, and its steps.
-use Rattle.std.specs.Prelude.{◌≡◌, ℕ, ◌<◌, ◌^◌, false, List, Option, Some, None, All}
+use Rattle.std.specs.Prelude.{◌≡◌, ℕ, ◌<◌, ◌^◌, false, Option, Some, None, All}
 use Rattle.theory.specs.Truth.{IsOver}
 use Rattle.theory.specs.Trails.{Trail, literals}
 use Rattle.theory.specs.Propagation.{Closed, Closes}

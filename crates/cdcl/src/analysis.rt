@@ -1,14 +1,16 @@
 //! Analysis of a conflict: resolution back to the first unique implication point.
-ghost use Rattle.std.specs.Prelude.{◌≡◌, IfOk, OnOk, Some, reverse, not, filter};
-ghost use Rattle.theory.specs.Trails.{literals};
-ghost use Rattle.theory.specs.Propagation.{least_false};
-ghost use Rattle.theory.specs.Learning.{reason_used, walk, learn, is_of_cube, back_level};
+ghost use Rattle.std.specs.Prelude.{◌≡◌, ℕ, false, slice_index_or, ◌<◌, ◌^◌, ◌++◌, ◌∷◌, [], IfOk, OnOk, Some, length, reverse, not, filter};
+ghost use Rattle.theory.specs.Literals.{Clause};
+ghost use Rattle.theory.specs.Trails.{literals, entry_of};
+ghost use Rattle.theory.specs.Propagation.{least_false, clause_at};
+ghost use Rattle.theory.specs.Learning.{with_literals, walk, learn, is_of_cube, back_level};
+ghost use Rattle.cdcl.specs.Marks.{IsMarked, negation_of};
 ghost use Rattle.cdcl.specs.Learnt.{line_of};
 
-use crate::level::{at_current_level, back_level, is_of_cube};
-use crate::literal_set::{has, put_all, resolve};
+use crate::level::back_level;
+use crate::marks::{Marks, Room, put_all, reason_used, resolve};
 use cnf::Lit;
-use kernel::{Entry, Kernel};
+use kernel::Kernel;
 use std::alloc::{AllocError, Global};
 
 /// What a conflict teaches.
@@ -22,64 +24,117 @@ pub struct Learnt {
     pub level: u32,
 }
 
-/// The clause with which the set is resolved at an entry of the trail.
-fn reason_used(kernel: &Kernel, set: &[Lit], entry: Entry) -> Option<u64>
-    ensures { result ≡ reason_used kernel.now.trail set.now entry }
+/// The set of a conflict's literals.
+fn marks_of(
+    alloc: Global,
+    kernel: &Kernel,
+    room: &mut Room,
+    conflict: u64,
+) -> Result<Marks, AllocError>
+    requires { least_false (literals kernel.now.trail) kernel.now.clauses ≡ Some conflict }
+    ensures few { OnOk result (kernel.now.vars < 2 ^ 32) }
+    ensures set { IfOk result (λ m. IsMarked kernel.now (with_literals (clause_at kernel.now.clauses conflict) []) m.marked.items m.current) }
 {
-    if !has(set, entry.lit.negated()) {
-        return None;
-    }
-    if entry.level == 0 || (entry.level == kernel.level() && at_current_level(kernel, set) >= 2) {
-        entry.reason
-    } else {
-        None
-    }
+    let mut marks = room.take(alloc, kernel.vars())?;
+    let _trail = kernel.trail(); // it ensures what the proof needs of the trail
+    put_all(kernel, &mut marks, kernel.clause(conflict));
+    Ok(marks)
 }
 
 /// Walks the trail from its end, resolves the set with reasons, and puts these behind the hints.
-fn walk(kernel: &Kernel, set: &mut Vec<Lit>, hints: &mut Vec<u64>) -> Result<(), AllocError>
-    ensures set { OnOk result (set.new.items
-        ≡ (walk kernel.now.clauses kernel.now.trail kernel.now.trail set.old.items (reverse hints.old.items)).0) }
+fn walk(
+    kernel: &Kernel,
+    marks: &mut Marks,
+    hints: &mut Vec<u64>,
+    conflict: u64,
+) -> Result<(), AllocError>
+    requires few { kernel.now.vars < 2 ^ 32 }
+    requires set { IsMarked kernel.now (with_literals (clause_at kernel.now.clauses conflict) []) marks.old.marked.items marks.old.current }
+    requires hints { hints.old.items ≡ conflict ∷ [] }
+    ensures set { OnOk result (IsMarked kernel.now
+        (walk kernel.now.clauses kernel.now.trail kernel.now.trail (with_literals (clause_at kernel.now.clauses conflict) []) (conflict ∷ [])).0
+        marks.new.marked.items marks.new.current) }
     ensures hints { OnOk result (reverse hints.new.items
-        ≡ (walk kernel.now.clauses kernel.now.trail kernel.now.trail set.old.items (reverse hints.old.items)).1) }
+        ≡ (walk kernel.now.clauses kernel.now.trail kernel.now.trail (with_literals (clause_at kernel.now.clauses conflict) []) (conflict ∷ [])).1) }
 {
     let trail = kernel.trail();
     let count = trail.len();
     for done in 0..count {
         let entry = trail[count - 1 - done];
-        if let Some(number) = reason_used(kernel, set, entry) {
-            resolve(set, entry.lit, kernel.clause(number))?;
+        if let Some(number) = reason_used(kernel, marks, entry) {
+            resolve(kernel, marks, entry, kernel.clause(number));
             hints.push(number)?;
         }
     }
     Ok(())
 }
 
-/// Drops the literals of the cube.
-fn leave_cube_out(kernel: &Kernel, clause: &mut Vec<Lit>)
-    ensures { clause.new.items ≡ filter (λ l. not (is_of_cube kernel.now.trail l)) clause.old.items }
+/// Puts the negation of a variable's literal on the trail behind the others, unless it is the cube's.
+fn put_negation(kernel: &Kernel, clause: &mut Vec<Lit>, var: u32) -> Result<(), AllocError>
+    ensures { OnOk result (clause.new.items ≡ clause.old.items ++ negation_of (entry_of kernel.now.trail var)) }
 {
-    clause.retain(|lit| !is_of_cube(kernel, *lit));
+    if let Some(entry) = kernel.entry(var) {
+        if entry.level > 0 || entry.reason.is_some() {
+            clause.push(entry.lit.negated())?;
+        }
+    }
+    Ok(())
 }
 
-/// The line that the conflict with the clause of this number teaches, and the level to go back to. The last `close` answered this
-/// conflict, and nothing was changed since. An error comes only where memory was refused.
-pub fn analyze(alloc: Global, kernel: &Kernel, conflict: u64) -> Result<Learnt, AllocError>
+/// The literals of the set without those of the cube. It leaves no mark.
+fn take_clause(alloc: Global, kernel: &Kernel, marks: &mut Marks) -> Result<Vec<Lit>, AllocError>
+    requires { kernel.now.vars < length marks.old.marked.items }
+    ensures clause { IfOk result (λ c. (S : Clause) → IsMarked kernel.now S marks.old.marked.items marks.old.current
+        → c.items ≡ filter (λ l. not (is_of_cube kernel.now.trail l)) S) }
+    ensures clear { OnOk result ((S : Clause) → IsMarked kernel.now S marks.old.marked.items marks.old.current
+        → (v : ℕ) → slice_index_or marks.new.marked.items v false ≡ false) }
+{
+    let _trail = kernel.trail(); // it ensures what the proof needs of the trail
+    let mut clause = Vec::new(alloc);
+    for index in 0..kernel.vars() {
+        let var = index + 1;
+        if marks.marked[var as usize] {
+            marks.marked[var as usize] = false;
+            put_negation(kernel, &mut clause, var)?;
+        }
+    }
+    marks.current = 0;
+    Ok(clause)
+}
+
+/// What `analyze` answers, in room that is used again.
+pub(crate) fn analyze_in(
+    alloc: Global,
+    kernel: &Kernel,
+    room: &mut Room,
+    conflict: u64,
+) -> Result<Learnt, AllocError>
     requires { least_false (literals kernel.now.trail) kernel.now.clauses ≡ Some conflict }
     ensures line { IfOk result (λ r. line_of r ≡ learn kernel.now.clauses kernel.now.trail conflict) }
     ensures level { IfOk result (λ r. r.level ≡ back_level kernel.now.trail (learn kernel.now.clauses kernel.now.trail conflict).clause) }
 {
-    let mut clause = Vec::new(alloc);
-    put_all(&mut clause, kernel.clause(conflict))?;
+    let mut marks = marks_of(alloc, kernel, room, conflict)?;
     let mut hints = Vec::new(alloc);
     hints.push(conflict)?;
-    walk(kernel, &mut clause, &mut hints)?;
+    walk(kernel, &mut marks, &mut hints, conflict)?;
     hints.reverse();
-    leave_cube_out(kernel, &mut clause);
+    let clause = take_clause(alloc, kernel, &mut marks)?;
+    room.put_back(marks);
     let level = back_level(kernel, &clause);
     Ok(Learnt {
         clause,
         hints,
         level,
     })
+}
+
+/// The line that the conflict with the clause of this number teaches, and the level to go back to. The last `close` answered this
+/// conflict, and nothing was changed since. It takes time by the entries, the variables and the literals of the clauses resolved with.
+/// An error comes only where memory was refused.
+pub fn analyze(alloc: Global, kernel: &Kernel, conflict: u64) -> Result<Learnt, AllocError>
+    requires { least_false (literals kernel.now.trail) kernel.now.clauses ≡ Some conflict }
+    ensures line { IfOk result (λ r. line_of r ≡ learn kernel.now.clauses kernel.now.trail conflict) }
+    ensures level { IfOk result (λ r. r.level ≡ back_level kernel.now.trail (learn kernel.now.clauses kernel.now.trail conflict).clause) }
+{
+    analyze_in(alloc, kernel, &mut Room::new(alloc), conflict)
 }

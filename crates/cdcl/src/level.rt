@@ -1,7 +1,7 @@
 //! The levels of literals on the trail.
-ghost use Rattle.std.specs.Prelude.{◌≡◌, ◌≤◌, length};
+ghost use Rattle.std.specs.Prelude.{◌≡◌};
 ghost use Rattle.theory.specs.Trails.{level_of};
-ghost use Rattle.theory.specs.Learning.{at_current_level, back_level, is_of_cube};
+ghost use Rattle.theory.specs.Learning.{back_level};
 
 use cnf::Lit;
 use kernel::Kernel;
@@ -14,20 +14,6 @@ pub(crate) fn level_of(kernel: &Kernel, lit: Lit) -> u32
         Some(entry) => entry.level,
         None => 0,
     }
-}
-
-/// How many literals of the set are of the current level.
-pub(crate) fn at_current_level(kernel: &Kernel, set: &[Lit]) -> usize
-    ensures { result ≡ at_current_level kernel.now.trail set.now }
-{
-    let current = kernel.level();
-    let mut count = 0usize;
-    for lit in set {
-        if level_of(kernel, *lit) == current {
-            count += 1;
-        }
-    }
-    count
 }
 
 /// The greatest level of the literals that aren't of the current level, or 0.
@@ -43,14 +29,4 @@ pub(crate) fn back_level(kernel: &Kernel, clause: &[Lit]) -> u32
         }
     }
     greatest
-}
-
-/// Whether the literal's variable stands at level 0 without a reason, as a cube's do.
-pub(crate) fn is_of_cube(kernel: &Kernel, lit: Lit) -> bool
-    ensures { result ≡ is_of_cube kernel.now.trail lit }
-{
-    match kernel.entry(lit.var()) {
-        Some(entry) => entry.level == 0 && entry.reason.is_none(),
-        None => false,
-    }
 }

@@ -5,12 +5,14 @@
 mod analysis;
 mod halves;
 mod level;
-mod literal_set;
+mod marks;
 mod outcome;
 mod solve;
 
-
 pub use analysis::{Learnt, analyze};
+pub use halves::split;
 pub use outcome::{Line, Outcome, Refutation};
 pub use solve::solve_cube;
-pub use halves::split;
+
+#[cfg(test)]
+mod tests;

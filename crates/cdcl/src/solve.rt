@@ -11,7 +11,8 @@ ghost use Rattle.theory.specs.Results.{OutcomeSays};
 ghost use Rattle.cdcl.specs.Outcome.{outcome_of};
 ghost use Rattle.cdcl.specs.Searching.{IsSearching, IsStep, search_of, next_of};
 
-use crate::analysis::analyze;
+use crate::analysis::analyze_in;
+use crate::marks::Room;
 use crate::outcome::{Line, Outcome, Refutation};
 use cnf::{Formula, Lit};
 use kernel::{Closed, Cube, Kernel};
@@ -28,6 +29,8 @@ struct Search {
     decided: Option<u32>,
     /// The lines learnt.
     lines: Vec<Line>,
+    /// Room for the analysis of conflicts.
+    room: Room,
 }
 
 /// The literal that makes the variable false.
@@ -78,7 +81,7 @@ fn refute(alloc: Global, search: &mut Search, number: u64) -> Result<Outcome, Al
     ensures refuted { IfOk result (λ o. outcome_of o
         ≡ refuted (search.old.lines.items ++ learn search.old.kernel.clauses search.old.kernel.trail number ∷ [])) }
 {
-    let learnt = analyze(alloc, &search.kernel, number)?;
+    let learnt = analyze_in(alloc, &search.kernel, &mut search.room, number)?;
     search.lines.push(Line::new(learnt.clause, learnt.hints))?;
     let lines = mem::replace(&mut search.lines, Vec::new(alloc));
     Ok(Outcome::Refuted(Refutation { lines }))
@@ -94,7 +97,7 @@ fn go_back(alloc: Global, search: &mut Search, number: u64) -> Result<(), AllocE
         ≡ learnt_next (search_of search.old) (learn search.old.kernel.clauses search.old.kernel.trail number)) }
     ensures kept { OnOk result ((search.new.kernel.vars ≡ search.old.kernel.vars) × (search.new.kernel.short ≡ false)) }
 {
-    let learnt = analyze(alloc, &search.kernel, number)?;
+    let learnt = analyze_in(alloc, &search.kernel, &mut search.room, number)?;
     search.kernel.back_to(learnt.level);
     search.kernel.learn(&learnt.clause)?;
     search.conflicts += 1;
@@ -103,7 +106,12 @@ fn go_back(alloc: Global, search: &mut Search, number: u64) -> Result<(), AllocE
 }
 
 /// A conflict above level 0 is counted; the last one that the budget allows exhausts the cube.
-fn on_conflict(alloc: Global, search: &mut Search, number: u64, budget: u32) -> Result<Option<Outcome>, AllocError>
+fn on_conflict(
+    alloc: Global,
+    search: &mut Search,
+    number: u64,
+    budget: u32,
+) -> Result<Option<Outcome>, AllocError>
     requires searching { IsSearching search.old.kernel }
     requires conflict { least_false (literals search.old.kernel.trail) search.old.kernel.clauses ≡ Some number }
     requires counted { search.old.conflicts < budget }
@@ -134,7 +142,12 @@ fn step(alloc: Global, search: &mut Search, budget: u32) -> Result<Option<Outcom
 
 /// The outcome of a cube over the formula's variables, with a budget of 1 to 100,000 conflicts. An error comes only where memory was
 /// refused.
-pub fn solve_cube(alloc: Global, formula: &Formula, cube: &Cube, budget: u32) -> Result<Outcome, AllocError>
+pub fn solve_cube(
+    alloc: Global,
+    formula: &Formula,
+    cube: &Cube,
+    budget: u32,
+) -> Result<Outcome, AllocError>
     requires budget { (1 ≤ budget) × (budget ≤ 100000) }
     requires over { IsOver formula.now.vars cube.now }
     ensures runs { IfOk result (λ o. Runs formula.now budget cube.now (outcome_of o)) }
@@ -145,6 +158,7 @@ pub fn solve_cube(alloc: Global, formula: &Formula, cube: &Cube, budget: u32) ->
         conflicts: 0,
         decided: None,
         lines: Vec::new(alloc),
+        room: Room::new(alloc),
     };
     loop {
         if let Some(outcome) = step(alloc, &mut search, budget)? {

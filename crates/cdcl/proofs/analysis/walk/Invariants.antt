@@ -1,9 +1,7 @@
-use Rattle.std.proofs.Common.{◌≡◌, ◌-◌, take, reverse}
-use Rattle.theory.specs.Learning.{walk}
+use Rattle.std.proofs.Common.{◌-◌, take}
+use Rattle.cdcl.proofs.WalkLemmas.{IsWalked}
 use Rattle.cdcl.proofs.analysis.walk.Given as goal
 
 -- the entries that are left give the answer
 abbrev pub invariant-loop-done : goal.invariant-loop-done
-invariant-loop-done l =
-    walk l.kernel.clauses l.kernel.trail (take (l.count - l.done) l.trail) l.set.items (reverse l.hints.items)
-    ≡ walk l.kernel.clauses l.kernel.trail l.kernel.trail l.initial.set.items (reverse l.initial.hints.items)
+invariant-loop-done l = IsWalked l.kernel l.conflict (take (l.count - l.done) l.trail) l.marks.marked.items l.marks.current l.hints.items

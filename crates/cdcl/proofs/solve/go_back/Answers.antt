@@ -1,4 +1,4 @@
-use Rattle.std.proofs.Common.{◌≡◌, ◌∙◌, ap}
+use Rattle.std.proofs.Common.{◌∙◌, ap}
 use Rattle.theory.specs.Learning.{Line}
 use Rattle.theory.proofs.LearnableLines.{back_level-learn}
 use Rattle.cdcl.proofs.SearchingLemmas.{may_learn}

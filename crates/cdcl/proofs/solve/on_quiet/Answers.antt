@@ -1,4 +1,4 @@
-use Rattle.std.proofs.Common.{arith, ◌≡◌, sym, ◌∙◌, Some, rules}
+use Rattle.std.proofs.Common.{arith, sym}
 use Rattle.theory.proofs.SearchSteps.{least_free-variable}
 use Rattle.cdcl.proofs.solve.on_quiet.Goals as goal
 

@@ -1,4 +1,4 @@
-use Rattle.std.proofs.Common.{◌≡◌, ◌<◌, None, ap, ◌∙◌, refl}
+use Rattle.std.proofs.Common.{◌<◌, None, ap, ◌∙◌, refl}
 use Rattle.theory.specs.Search.{Runs}
 use Rattle.kernel.specs.State.{State}
 use Rattle.cdcl.specs.Outcome.{outcome_of}
@@ -15,7 +15,7 @@ loop-search-init c = record {
   leads = λ o h. begin-leads c.args.formula.now c.args.budget c.args.cube.now _ o (rw (c.in_ok-open.ensures.opened, c.new.ensures.items) refl) h;
 }
 
-runs : (c : goal.After-drop-search-in-Some-6) → Runs c.args.formula.now c.args.budget c.args.cube.now (outcome_of c.in-Some.outcome)
+runs : (c : goal.After-drop-search-in-Some-7) → Runs c.args.formula.now c.args.budget c.args.cube.now (outcome_of c.in-Some.outcome)
 runs c =
     c.loop-search.invariant.leads _
     (IsStep-ends c.args.formula.now.vars c.args.budget c.loop-search.search c.step.new.search c.in-Some.outcome c.loop-search.invariant.vars (rw c.in-Some.is at c.in_ok-outcome.ensures))
@@ -32,7 +32,7 @@ went_on c = rw c.in_default.is at c.in_ok-outcome.ensures
 
 kept : (c : goal.In_default) → IsSearching c.step.new.search.kernel × (c.step.new.search.conflicts < c.args.budget)
     × (remaining c.loop-search.search.kernel.vars c.args.budget c.step.new.search.conflicts c.step.new.search.kernel.trail
-        < remaining c.loop-search.search.kernel.vars c.args.budget c.loop-search.search.conflicts c.loop-search.search.kernel.trail)
+    < remaining c.loop-search.search.kernel.vars c.args.budget c.loop-search.search.conflicts c.loop-search.search.kernel.trail)
 kept c = IsStep-keeps c.args.budget c.loop-search.search c.step.new.search c.loop-search.invariant.searching c.loop-search.invariant.counted (went_on c)
 
 pub loop-search-smaller : goal.loop-search-smaller

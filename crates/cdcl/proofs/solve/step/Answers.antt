@@ -1,7 +1,6 @@
-use Rattle.std.proofs.Common.{◌≡◌, sym, ◌∙◌, refl}
-use Rattle.theory.specs.Propagation.{Closed, Closes, quiet, conflict}
+use Rattle.std.proofs.Common.{refl}
+use Rattle.theory.specs.Propagation.{Closes, quiet, conflict}
 use Rattle.theory.proofs.LawfulTrails.{Closes-conflict}
-use Rattle.kernel.specs.Answer.{closed_of}
 use Rattle.cdcl.proofs.SearchingLemmas.{IsSearching-Closes, Closes-rested, IsStep-from}
 use Rattle.cdcl.proofs.solve.step.Goals as goal
 

@@ -1,0 +1,158 @@
+//! Worked searches of cubes, and the halves of a cube.
+use super::{EIGHT, FOUR, LEVEL_LEFT_OUT, cube_of, has_line, has_var, outcome, reads};
+use crate::{Outcome, split};
+use std::test::Fail;
+
+/// Whether the outcome is this model.
+fn is_model(outcome: Outcome, wanted: &[bool]) -> bool {
+    match outcome {
+        Outcome::Model(values) => &values[..] == wanted,
+        _ => false,
+    }
+}
+
+/// Whether the cube is refuted by one line, without a clause, from these hints.
+fn is_refuted_from(outcome: Outcome, hints: &[u64]) -> bool {
+    match outcome {
+        Outcome::Refuted(refutation) => refutation.lines.len() == 1
+            && has_line(&refutation, 0, &[], hints),
+        _ => false,
+    }
+}
+
+/// Whether the cube is refuted by two lines: a clause from its hints, and the empty clause from the others.
+fn is_refuted_by(outcome: Outcome, clause: &[i32], hints: &[u64], last: &[u64]) -> bool {
+    match outcome {
+        Outcome::Refuted(refutation) => {
+            refutation.lines.len() == 2
+                && has_line(&refutation, 0, clause, hints)
+                && has_line(&refutation, 1, &[], last)
+        }
+        _ => false,
+    }
+}
+
+#[test]
+fn without_a_decision(rt: HostRuntime) -> Result<(), Fail> {
+    let none = outcome(rt.alloc(), b"p cnf 0 0\n", &[], 1)?;
+    assert!(rt; is_model(none, &[]));
+    let empty = outcome(rt.alloc(), b"p cnf 0 1\n0\n", &[], 1)?;
+    assert!(rt; is_refuted_from(empty, &[1]));
+    let both = outcome(rt.alloc(), b"p cnf 1 2\n1 0\n-1 0\n", &[], 1)?;
+    assert!(rt; is_refuted_from(both, &[1, 2]));
+    Ok(())
+}
+
+#[test]
+fn the_first_model(rt: HostRuntime) -> Result<(), Fail> {
+    let model = outcome(rt.alloc(), b"p cnf 2 1\n1 2 0\n", &[], 1)?;
+    assert!(rt; is_model(model, &[false, true]));
+    let model = outcome(rt.alloc(), b"p cnf 2 2\n1 -1 0\n2 2 0\n", &[], 1)?;
+    assert!(rt; is_model(model, &[false, true]));
+    Ok(())
+}
+
+#[test]
+fn two_variables(rt: HostRuntime) -> Result<(), Fail> {
+    let refuted = outcome(rt.alloc(), FOUR, &[], 2)?;
+    assert!(rt; is_refuted_by(refuted, &[1], &[1, 2], &[5, 3, 4]));
+    let exhausted = outcome(rt.alloc(), FOUR, &[], 1)?;
+    assert!(rt; matches!(exhausted, Outcome::Exhausted(1)));
+    let left = outcome(rt.alloc(), FOUR, &[-1], 1)?;
+    assert!(rt; is_refuted_from(left, &[1, 2]));
+    let right = outcome(rt.alloc(), FOUR, &[1], 1)?;
+    assert!(rt; is_refuted_from(right, &[3, 4]));
+    Ok(())
+}
+
+#[test]
+fn a_level_left_out(rt: HostRuntime) -> Result<(), Fail> {
+    let exhausted = outcome(rt.alloc(), LEVEL_LEFT_OUT, &[], 1)?;
+    assert!(rt; matches!(exhausted, Outcome::Exhausted(1)));
+    let model = outcome(rt.alloc(), LEVEL_LEFT_OUT, &[], 2)?;
+    assert!(rt; is_model(model, &[false, false, true, false]));
+    Ok(())
+}
+
+#[test]
+fn four_conflicts(rt: HostRuntime) -> Result<(), Fail> {
+    let Outcome::Refuted(refutation) = outcome(rt.alloc(), EIGHT, &[], 4)? else {
+        assert!(rt; false);
+        return Ok(());
+    };
+    assert_eq!(rt; refutation.lines.len(), 4);
+    assert!(rt; has_line(&refutation, 0, &[1, 2], &[1, 2]));
+    assert!(rt; has_line(&refutation, 1, &[1], &[9, 3, 4]));
+    assert!(rt; has_line(&refutation, 2, &[2], &[10, 5, 6]));
+    assert!(rt; has_line(&refutation, 3, &[], &[10, 11, 7, 8]));
+    Ok(())
+}
+
+#[test]
+fn two_conflicts(rt: HostRuntime) -> Result<(), Fail> {
+    let root = outcome(rt.alloc(), EIGHT, &[], 2)?;
+    assert!(rt; matches!(root, Outcome::Exhausted(1)));
+    let left = outcome(rt.alloc(), EIGHT, &[-1], 2)?;
+    assert!(rt; is_refuted_by(left, &[2], &[1, 2], &[9, 3, 4]));
+    let right = outcome(rt.alloc(), EIGHT, &[1], 2)?;
+    assert!(rt; is_refuted_by(right, &[2], &[5, 6], &[9, 7, 8]));
+    Ok(())
+}
+
+#[test]
+fn one_conflict(rt: HostRuntime) -> Result<(), Fail> {
+    let root = outcome(rt.alloc(), EIGHT, &[], 1)?;
+    assert!(rt; matches!(root, Outcome::Exhausted(1)));
+    for half in [-1, 1] {
+        let exhausted = outcome(rt.alloc(), EIGHT, &[half], 1)?;
+        assert!(rt; matches!(exhausted, Outcome::Exhausted(2)));
+    }
+    let quarters = [
+        ([-1, -2], [1, 2]),
+        ([-1, 2], [3, 4]),
+        ([1, -2], [5, 6]),
+        ([1, 2], [7, 8]),
+    ];
+    for (cube, hints) in quarters {
+        let refuted = outcome(rt.alloc(), EIGHT, &cube, 1)?;
+        assert!(rt; is_refuted_from(refuted, &hints));
+    }
+    Ok(())
+}
+
+#[test]
+fn models_of_some_cubes(rt: HostRuntime) -> Result<(), Fail> {
+    let text = b"p cnf 3 4\n1 2 3 0\n1 2 -3 0\n-1 2 3 0\n-1 2 -3 0\n";
+    let left = outcome(rt.alloc(), text, &[-1], 1)?;
+    assert!(rt; matches!(left, Outcome::Exhausted(2)));
+    let refuted = outcome(rt.alloc(), text, &[-1, -2], 1)?;
+    assert!(rt; is_refuted_from(refuted, &[1, 2]));
+    let model = outcome(rt.alloc(), text, &[-1, 2], 1)?;
+    assert!(rt; is_model(model, &[false, true, false]));
+    Ok(())
+}
+
+#[test]
+fn parts_of_a_line(rt: HostRuntime) -> Result<(), Fail> {
+    let Outcome::Refuted(refutation) = outcome(rt.alloc(), FOUR, &[], 2)? else {
+        assert!(rt; false);
+        return Ok(());
+    };
+    let mut lines = refutation.lines;
+    assert_eq!(rt; lines.len(), 2);
+    if let Some(line) = lines.pop() {
+        let (clause, hints) = line.into_parts();
+        assert!(rt; reads(&clause, &[]) && hints.as_slice() == [5, 3, 4].as_slice());
+    }
+    Ok(())
+}
+
+#[test]
+fn halves(rt: HostRuntime) -> Result<(), Fail> {
+    let cube = cube_of(rt.alloc(), 9, &[3, -1])?;
+    assert!(rt; !has_var(cube.lits(), 2));
+    let (left, right) = split(&cube, 2)?;
+    assert!(rt; reads(left.lits(), &[3, -1, -2]));
+    assert!(rt; reads(right.lits(), &[3, -1, 2]));
+    Ok(())
+}
