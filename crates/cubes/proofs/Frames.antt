@@ -136,7 +136,7 @@ IsReached-leaf F B Q nodes M r runs = reached-leaf F B r.frames M r.reached (her
 pub IsReached-room : (F : Formula) (B : ℕ) (Q : List Literal) (nodes : List Node) (x : ℕ) → IsReached F B Q nodes → IsVariable F.vars x × (has_var Q x ≡ false) → length Q < F.vars
 IsReached-room F B Q nodes x r says =
     let more = length-distinct F.vars (Q ++ negative x ∷ []) (are_distinct-push Q (negative x) (IsReached-distinct F B Q nodes r) says.1)
-        (AreOver-snoc F.vars Q (negative x) (AreOver-from_IsOver F.vars Q (IsReached-over F B Q nodes r)) says.0) in
+    (AreOver-snoc F.vars Q (negative x) (AreOver-from_IsOver F.vars Q (IsReached-over F B Q nodes r)) says.0) in
     let one = length-append Q (negative x ∷ []) in
     omega arith
 
