@@ -12,7 +12,7 @@ value_lines-pieces line (word ∷ words) =
     go : (b : Bool) → value_lines (line ++ space ∷ word) words ≡ (line ++ space ∷ word) ++ pieces (length (line ++ space ∷ word)) words
         → value_lines (codes "v" ++ space ∷ word) words ≡ (codes "v" ++ space ∷ word) ++ pieces (length (codes "v" ++ space ∷ word)) words
         → elim b [ true ↦ value_lines (line ++ space ∷ word) words | false ↦ line ++ lf ∷ value_lines (codes "v" ++ space ∷ word) words ]
-            ≡ line ++ ((if b then space ∷ word else lf ∷ codes "v" ++ space ∷ word) ++ pieces (if b then length line + 1 + length word else 2 + length word) words)
+        ≡ line ++ ((if b then space ∷ word else lf ∷ codes "v" ++ space ∷ word) ++ pieces (if b then length line + 1 + length word else 2 + length word) words)
     go true more next =
         let width : length (line ++ space ∷ word) ≡ length line + 1 + length word = length-append line (space ∷ word) ∙ (omega arith) in
         more ∙ (append_assoc line (space ∷ word) (pieces (length (line ++ space ∷ word)) words) ∙ ap (λ n. line ++ (space ∷ word ++ pieces n words)) width)

@@ -13,9 +13,8 @@ left-same xs ys i h =
 -- one element more
 pub replaced-more : (f : ℕ → ℕ) (xs ys : List ℕ) (i y : ℕ) → i < length xs → i < length ys → take i xs ≡ map f (take i ys) → drop i xs ≡ drop i ys → y ≡ f (get_or xs i 0)
     → (take (i + 1) (set xs i y) ≡ map f (take (i + 1) ys)) × (drop (i + 1) (set xs i y) ≡ drop (i + 1) ys)
-replaced-more f xs ys i y inside within passed left is =
-    (
-      take_more_set xs i y inside ∙ (ap (λ zs. zs ++ y ∷ []) passed
+replaced-more f xs ys i y inside within passed left is = (
+  take_more_set xs i y inside ∙ (ap (λ zs. zs ++ y ∷ []) passed
       ∙ (ap (λ z. map f (take i ys) ++ z ∷ []) (is ∙ ap f (left-same xs ys i left)) ∙ sym (map_more f ys i 0 within))),
-      drop-set-lt (i + 1) xs i y (omega arith) ∙ drop_more_same xs ys i left
-    )
+  drop-set-lt (i + 1) xs i y (omega arith) ∙ drop_more_same xs ys i left,
+)

@@ -47,7 +47,11 @@ fn put_negations(halves: &[Half], clause: &mut Vec<Lit>) -> Result<(), AllocErro
 {
     for half in halves {
         let positive = Lit::new(half.var as i32).unwrap();
-        let lit = if half.left.is_none() { positive } else { positive.negated() };
+        let lit = if half.left.is_none() {
+            positive
+        } else {
+            positive.negated()
+        };
         clause.push(lit)?;
     }
     Ok(())
