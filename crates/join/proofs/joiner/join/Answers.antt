@@ -27,6 +27,6 @@ returns c =
     let none : into_iter_items c.loop-node.node-iterator ≡ [] = nil_from_length _ (omega arith) in
     rw c.in-Refuted.is
     (λ t model nodes. joined-proof c.args.formula.now t (length c.clauses.result.now)
-    (record { halves = reverse c.new-2.result.items; next = length c.clauses.result.now + 1; steps = map step_of c.new-3.result.items }) (state_of c.loop-node.joiner) (map node_of c.in-Refuted.nodes.items) count
-    (rw (c.new-2.ensures.items, c.new-3.ensures.items) refl)
+    (record { halves = reverse c.new-2.result.items; next = length c.clauses.result.now + 1; steps = map step_of c.in_ok-steps.steps.items }) (state_of c.loop-node.joiner) (map node_of c.in-Refuted.nodes.items) count
+    (rw (c.new-2.ensures.items, c.in_ok-steps.ensures.items) refl)
     (rw (← c.into_iter-node-iterator.ensures.into_iter_gives.0) (rw none at c.loop-node.invariant.state)) model nodes)
