@@ -1,18 +1,14 @@
 -- Joining begins with the nodes of the formula's tree, and ends with its proof.
-use Rattle.std.proofs.Common.{◌≡◌, ℕ, ◌+◌, ◌≤◌, ◌<◌, List, [], ◌∷◌, ◌++◌, map, reverse, length, Some, None, refl, ap, sym, subst, ◌∙◌, arith, All}
-use Rattle.std.proofs.lemmas.List.{length-map}
+use Rattle.std.proofs.Common.{◌≡◌, ℕ, ◌+◌, List, [], map, length, None, refl, ap, sym, subst, ◌∙◌, arith, All}
 use Rattle.std.proofs.lemmas.List.Elements.{All-nil}
 use Rattle.theory.specs.Truth.{Formula}
 use Rattle.theory.specs.Reading.{IsWithinLimits}
 use Rattle.theory.specs.Trees as trees
-use Rattle.theory.specs.Steps.{Step}
 use Rattle.theory.specs.Proofs.{proof}
-use Rattle.lrat.specs.Steps.{step_of}
 use Rattle.cubes.specs.declared.tree.Node.{Node}
 use Rattle.cubes.specs.Result.{node_of}
-use Rattle.join.specs.declared.joiner.Half.{Half}
 use Rattle.join.specs.declared.joiner.Joiner.{Joiner}
-use Rattle.join.specs.Joining.{State, state_of, on_nodes}
+use Rattle.join.specs.Joining.{State, on_nodes}
 use Rattle.join.specs.Numbered.{AreNodes, IsHalf, IsJoiner}
 use Rattle.join.proofs.TreeLemmas.{tree-nodes}
 use Rattle.join.proofs.TreeSteps.{on_nodes-tree}

@@ -2,7 +2,7 @@
 use Rattle.std.proofs.Common.{◌≡◌, ℕ, ◌+◌, Bool, true, false, List, [], ◌∷◌, ◌++◌, length, length-append, nat_le, refl, ap, sym, ◌∙◌, append_assoc, codes, Some, arith, if◌then◌else◌}
 use Rattle.theory.specs.Truth.{Assignment}
 use Rattle.theory.specs.Texts.{lf, space, value_lines, clause_words, assigned_literals, answer_text}
-use Rattle.join.specs.Lines.{piece, pieces, width_behind}
+use Rattle.join.specs.Lines.{piece, pieces}
 
 pub value_lines-pieces : (line : List ℕ) (words : List (List ℕ)) → value_lines line words ≡ line ++ pieces (length line) words
 value_lines-pieces line [] = refl

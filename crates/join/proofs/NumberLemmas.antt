@@ -1,5 +1,5 @@
 -- The numbers and variables in a proof's lines.
-use Rattle.std.proofs.Common.{◌≡◌, ℕ, ◌+◌, ◌-◌, ◌<◌, ◌≤◌, Bool, true, false, List, [], ◌∷◌, ◌++◌, map, reverse, take, drop, length, refl, ap, sym, subst, ◌∙◌, cond, nat_le, Option, Some, None, arith, append-nil, All}
+use Rattle.std.proofs.Common.{◌≡◌, ℕ, ◌+◌, ◌-◌, ◌<◌, ◌≤◌, Bool, true, false, List, [], ◌∷◌, ◌++◌, map, reverse, take, drop, length, refl, ap, sym, subst, ◌∙◌, cond, nat_le, Some, arith, All}
 use Rattle.std.proofs.lemmas.List.{length-map}
 use Rattle.std.proofs.lemmas.List.Elements.{All-append, All-map, All-weaker, All-pop, All-push}
 use Rattle.std.proofs.lemmas.Bool.{leb-true, leb-false}

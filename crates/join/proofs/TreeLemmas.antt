@@ -1,15 +1,15 @@
 -- The numbers and variables in a tree that is a formula's.
-use Rattle.std.proofs.Common.{◌≡◌, ℕ, ◌+◌, ◌<◌, ◌≤◌, Bool, true, false, List, [], ◌∷◌, ◌++◌, map, length, length-append, Option, Some, None, refl, ap, sym, subst, ◌∙◌, cond, nat_eq, nat_le, eqb-true, arith, All}
+use Rattle.std.proofs.Common.{◌≡◌, ℕ, ◌+◌, ◌<◌, ◌≤◌, Bool, true, false, List, [], ◌∷◌, ◌++◌, length, length-append, Option, Some, None, refl, ap, subst, ◌∙◌, cond, nat_eq, nat_le, eqb-true, arith}
 use Rattle.std.proofs.lemmas.List.Elements.{All-nil, All-cons, All-weaker}
-use Rattle.theory.specs.Literals.{Literal, Clause, IsCube, IsVariable, has_var, positive, negative, negations}
-use Rattle.theory.specs.Truth.{Formula, IsOver}
+use Rattle.theory.specs.Literals.{Literal, Clause, IsVariable, positive, negative, negations}
+use Rattle.theory.specs.Truth.{Formula}
 use Rattle.theory.specs.Reading.{IsWithinLimits, max_vars}
 use Rattle.theory.specs.Learning.{Line}
-use Rattle.theory.specs.Search.{Runs, refuted, exhausted, first_clauses}
+use Rattle.theory.specs.Search.{refuted, exhausted, first_clauses}
 use Rattle.theory.specs.Trees.{Tree, satisfied, refutation, split, IsTree, Node, nodes_of, false_half, true_half}
-use Rattle.theory.specs.Checking.{Numbered, clause_of, Hint, missing, false_clause, not_unit, unit_in, hint, Taken, conflicts, holds, fails, end_at_conflict, no_such_clause, hint_not_unit, take_hints}
-use Rattle.theory.specs.Replaying.{carrying_from, IsReplayed, AreReplayed, AreRefutation}
-use Rattle.theory.proofs.OverVariables.{AreOver, AreOver-from_IsOver, IsOver-from_AreOver, AreOver-snoc, IsOver-left}
+use Rattle.theory.specs.Checking.{clause_of, Hint, missing, false_clause, not_unit, unit_in, hint, conflicts, fails, end_at_conflict, no_such_clause, hint_not_unit, take_hints}
+use Rattle.theory.specs.Replaying.{carrying_from, AreReplayed, AreRefutation}
+use Rattle.theory.proofs.OverVariables.{AreOver, IsOver-from_AreOver, AreOver-snoc, IsOver-left}
 use Rattle.theory.proofs.OutcomeLemmas.{Runs-says}
 use Rattle.theory.proofs.TrailEntries.{are_distinct-push, IsCube-distinct}
 use Rattle.theory.specs.Lawful.{are_distinct}

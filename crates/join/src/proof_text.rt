@@ -38,7 +38,9 @@ fn groups_size(groups: &[Group]) -> usize {
     let mut size = 0usize;
     for group in groups {
         let candidate = 1 + number_size(group.candidate());
-        size = size.saturating_add(candidate).saturating_add(numbers_size(group.hints()));
+        size = size
+            .saturating_add(candidate)
+            .saturating_add(numbers_size(group.hints()));
     }
     size
 }

@@ -3,7 +3,8 @@ ghost use Rattle.std.specs.Prelude.{◌≤◌};
 
 use crate::{answer_bytes, join, proof_bytes};
 use cnf::{Formula, read_formula};
-use cubes::{Tree, solve_one};
+use cubes::solve_one;
+use lrat::read_proof;
 use std::alloc::{AllocError, Global};
 use std::test::Fail;
 
@@ -63,6 +64,16 @@ fn proofs_of_eight_clauses(rt: HostRuntime) -> Result<(), Fail> {
 #[test]
 fn a_model_has_no_proof(rt: HostRuntime) -> Result<(), Fail> {
     assert!(rt; has_proof(rt.alloc(), b"p cnf 2 1\n1 2 0\n", 1000, b"")?);
+    Ok(())
+}
+
+#[test]
+fn text_fills_its_room(rt: HostRuntime) -> Result<(), Fail> {
+    let text = b"5 1 0 -3 1 -4 2 0\n5 d 1 2 0\n106 -9 10 -99 1000 0 5 3 99 100 0\n";
+    let steps = read_proof(rt.alloc(), text)?;
+    let bytes = proof_bytes(rt.alloc(), &steps)?;
+    assert_eq!(rt; bytes.as_slice(), text.as_slice());
+    assert_eq!(rt; bytes.capacity(), text.len());
     Ok(())
 }
 

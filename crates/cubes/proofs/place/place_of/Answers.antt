@@ -1,4 +1,4 @@
-use Rattle.std.proofs.Common.{◌≡◌, ◌<◌, ◌+◌, ◌-◌, ◌^◌, if◌then◌else◌, arith, refl, ◌∙◌, sym}
+use Rattle.std.proofs.Common.{◌≡◌, ◌<◌, ◌+◌, ◌-◌, ◌^◌, if◌then◌else◌, arith}
 use Rattle.cubes.proofs.PlaceLemmas.{place_in-more, shifted}
 use Rattle.cubes.proofs.place.place_of.Goals as goal
 use Rattle.cubes.proofs.place.place_of.Goals.{then-positive, else-positive}

@@ -1,13 +1,11 @@
-use Rattle.std.proofs.Common.{◌≡◌, ◌≤◌, ◌<◌, ◌+◌, ◌++◌, ◌∷◌, [], length, length-append, map, Some, None, true, false, ap, sym, subst, refl, ◌∙◌, arith, IsTrue}
+use Rattle.std.proofs.Common.{◌≡◌, map, Some, None, false, refl, arith}
 use Rattle.std.proofs.lemmas.List.{map-append}
-use Rattle.theory.specs.Literals.{IsVariable, has_var, negative}
-use Rattle.theory.specs.Search.{Runs, exhausted, refuted}
-use Rattle.theory.specs.Trees.{refutation, false_half, model_of, tree_of}
+use Rattle.theory.specs.Literals.{IsVariable, has_var}
+use Rattle.theory.specs.Trees.{refutation, model_of, tree_of}
 use Rattle.theory.proofs.ResultLemmas.{IsResult-says}
-use Rattle.cdcl.specs.Outcome.{outcome_of}
 use Rattle.cubes.specs.Result.{node_of}
 use Rattle.cubes.specs.Next.{next_cube}
-use Rattle.cubes.proofs.Frames.{IsReached, IsReached-root, IsReached-over, IsReached-left, IsReached-room, IsReached-next, IsReached-leaf, length-reached, IsReached-exhausted}
+use Rattle.cubes.proofs.Frames.{IsReached-over, IsReached-left, IsReached-room, IsReached-next, IsReached-leaf, length-reached, IsReached-exhausted}
 use Rattle.cubes.proofs.Remaining.{left_from-half, left_from-next}
 use Rattle.cubes.proofs.results.gather.Goals as goal
 

@@ -3,7 +3,7 @@ use Rattle.std.proofs.lemmas.List.{length-map, nil_from_length}
 use Rattle.std.specs.Vec.Iter.{into_iter_items}
 use Rattle.theory.specs.Literals.{Clause}
 use Rattle.lrat.specs.Steps.{step_of}
-use Rattle.cubes.specs.Result.{node_of, IsResultOf}
+use Rattle.cubes.specs.Result.{node_of}
 use Rattle.join.specs.Joining.{state_of}
 use Rattle.join.proofs.JoinLemmas.{result-nodes, IsJoiner-begin, joined-proof}
 use Rattle.join.proofs.joiner.join.Goals as goal

@@ -1,7 +1,7 @@
-use Rattle.std.proofs.Common.{arith, ap, ◌≡◌, ◌+◌, ◌-◌, ◌<◌, ◌∙◌, sym, subst, length}
+use Rattle.std.proofs.Common.{arith, ◌≡◌, ◌+◌, ◌-◌, ◌<◌, sym, subst, length}
 use Rattle.theory.specs.Truth.{IsOver}
 use Rattle.theory.specs.Reading.{max_vars}
-use Rattle.join.specs.Numbered.{AreLines, AreUpTo}
+use Rattle.join.specs.Numbered.{AreLines}
 use Rattle.join.proofs.NumberLemmas.{IsOver-put, AreUpTo-put}
 use Rattle.join.proofs.joiner.Joiner.put_leaf.Goals as goal
 
