@@ -1,9 +1,9 @@
 -- How a cube was reached from the root: the splits on the way, and of those whose right half it lies in, the left subtree.
-use Rattle.std.proofs.Common.{◌≡◌, ℕ, ◌<◌, ◌≤◌, length, length-append, arith, Bool, true, false, List, [], ◌∷◌, ◌++◌, Option, Some, None, refl, ap, sym, subst, ◌∙◌, append_assoc, append-nil}
+use Rattle.std.proofs.Common.{◌≡◌, ℕ, ◌<◌, ◌≤◌, length, length-append, arith, true, false, List, [], ◌∷◌, ◌++◌, Option, Some, None, refl, sym, subst, append_assoc}
 use Rattle.theory.specs.Literals.{Literal, IsVariable, has_var, positive, negative}
 use Rattle.theory.specs.Truth.{Formula, Assignment, IsOver, IsFormula}
 use Rattle.theory.specs.Search.{Runs, exhausted, model}
-use Rattle.theory.specs.Trees.{Tree, split, IsTree, first_model, or_else, IsFirstLeaf, here, on_left, on_right, Node, split_on, nodes_of, false_half, true_half}
+use Rattle.theory.specs.Trees.{Tree, split, IsTree, first_model, IsFirstLeaf, here, on_left, on_right, Node, split_on, nodes_of, false_half, true_half}
 use Rattle.theory.specs.Lawful.{are_distinct}
 use Rattle.theory.proofs.OverVariables.{AreOver, AreOver-snoc, IsOver-from_AreOver, AreOver-from_IsOver}
 use Rattle.theory.proofs.RefutedCubes.{Runs-exhausted}
@@ -136,7 +136,7 @@ IsReached-leaf F B Q nodes M r runs = reached-leaf F B r.frames M r.reached (her
 pub IsReached-room : (F : Formula) (B : ℕ) (Q : List Literal) (nodes : List Node) (x : ℕ) → IsReached F B Q nodes → IsVariable F.vars x × (has_var Q x ≡ false) → length Q < F.vars
 IsReached-room F B Q nodes x r says =
     let more = length-distinct F.vars (Q ++ negative x ∷ []) (are_distinct-push Q (negative x) (IsReached-distinct F B Q nodes r) says.1)
-        (AreOver-snoc F.vars Q (negative x) (AreOver-from_IsOver F.vars Q (IsReached-over F B Q nodes r)) says.0) in
+    (AreOver-snoc F.vars Q (negative x) (AreOver-from_IsOver F.vars Q (IsReached-over F B Q nodes r)) says.0) in
     let one = length-append Q (negative x ∷ []) in
     omega arith
 

@@ -1,5 +1,5 @@
 -- The next cube, by the last literal.
-use Rattle.std.proofs.Common.{◌≡◌, Bool, true, false, List, [], ◌∷◌, ◌++◌, Option, Some, None, refl, ap, ◌∙◌, if◌then◌else◌}
+use Rattle.std.proofs.Common.{◌≡◌, true, false, List, [], ◌∷◌, ◌++◌, Some, refl, ap}
 use Rattle.theory.specs.Literals.{Literal, negated}
 use Rattle.cubes.specs.Next.{next_cube, behind}
 

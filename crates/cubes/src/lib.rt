@@ -5,6 +5,8 @@ mod next;
 mod place;
 mod results;
 mod solved;
+#[cfg(test)]
+mod tests;
 mod tree;
 
 pub use place::place_of;

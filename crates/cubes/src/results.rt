@@ -23,7 +23,13 @@ fn negative(var: u32) -> Lit
 }
 
 /// The outcome of a cube: the one that is known, or what solving it on the spot gives.
-fn outcome(alloc: Global, formula: &Formula, cube: &Cube, budget: u32, known: &mut Known) -> Result<Outcome, AllocError>
+fn outcome(
+    alloc: Global,
+    formula: &Formula,
+    cube: &Cube,
+    budget: u32,
+    known: &mut Known,
+) -> Result<Outcome, AllocError>
     requires budget { (1 ≤ budget) × (budget ≤ 100000) }
     requires over { IsOver formula.now.vars cube.now }
     requires known { AreTrue formula.now budget known.old.results.items }
@@ -39,7 +45,12 @@ fn outcome(alloc: Global, formula: &Formula, cube: &Cube, budget: u32, known: &m
 /// The result of the formula with a budget of 1 to 100,000 conflicts a cube, from results of cubes that are true: in any order, with cubes
 /// missing, skipped, repeated or foreign to the tree. It goes through the cubes from left to right and solves those on the spot that it
 /// needs and that have no outcome among the results. It fails only where a request for memory is refused.
-pub fn gather(alloc: Global, formula: &Formula, budget: u32, results: Vec<Solved>) -> Result<Tree, AllocError>
+pub fn gather(
+    alloc: Global,
+    formula: &Formula,
+    budget: u32,
+    results: Vec<Solved>,
+) -> Result<Tree, AllocError>
     requires budget { (1 ≤ budget) × (budget ≤ 100000) }
     requires results { AreTrue formula.now budget results.items }
     ensures result { IfOk result (λ t. IsResultOf formula.now budget t) }

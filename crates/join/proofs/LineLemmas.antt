@@ -2,7 +2,7 @@
 use Rattle.std.proofs.Common.{◌≡◌, ℕ, ◌+◌, Bool, true, false, List, [], ◌∷◌, ◌++◌, length, length-append, nat_le, refl, ap, sym, ◌∙◌, append_assoc, codes, Some, arith, if◌then◌else◌}
 use Rattle.theory.specs.Truth.{Assignment}
 use Rattle.theory.specs.Texts.{lf, space, value_lines, clause_words, assigned_literals, answer_text}
-use Rattle.join.specs.Lines.{piece, pieces, width_behind}
+use Rattle.join.specs.Lines.{piece, pieces}
 
 pub value_lines-pieces : (line : List ℕ) (words : List (List ℕ)) → value_lines line words ≡ line ++ pieces (length line) words
 value_lines-pieces line [] = refl
@@ -12,7 +12,7 @@ value_lines-pieces line (word ∷ words) =
     go : (b : Bool) → value_lines (line ++ space ∷ word) words ≡ (line ++ space ∷ word) ++ pieces (length (line ++ space ∷ word)) words
         → value_lines (codes "v" ++ space ∷ word) words ≡ (codes "v" ++ space ∷ word) ++ pieces (length (codes "v" ++ space ∷ word)) words
         → elim b [ true ↦ value_lines (line ++ space ∷ word) words | false ↦ line ++ lf ∷ value_lines (codes "v" ++ space ∷ word) words ]
-            ≡ line ++ ((if b then space ∷ word else lf ∷ codes "v" ++ space ∷ word) ++ pieces (if b then length line + 1 + length word else 2 + length word) words)
+        ≡ line ++ ((if b then space ∷ word else lf ∷ codes "v" ++ space ∷ word) ++ pieces (if b then length line + 1 + length word else 2 + length word) words)
     go true more next =
         let width : length (line ++ space ∷ word) ≡ length line + 1 + length word = length-append line (space ∷ word) ∙ (omega arith) in
         more ∙ (append_assoc line (space ∷ word) (pieces (length (line ++ space ∷ word)) words) ∙ ap (λ n. line ++ (space ∷ word ++ pieces n words)) width)

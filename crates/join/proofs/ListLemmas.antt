@@ -1,5 +1,5 @@
 -- A list whose elements are replaced in their order.
-use Rattle.std.proofs.Common.{◌≡◌, ℕ, ◌+◌, ◌<◌, List, [], ◌∷◌, ◌++◌, map, take, drop, length, get_or, refl, ap, sym, subst, ◌∙◌, add-zero, arith}
+use Rattle.std.proofs.Common.{◌≡◌, ℕ, ◌+◌, ◌<◌, List, [], ◌∷◌, ◌++◌, map, take, drop, length, get_or, ap, sym, ◌∙◌, add-zero, arith}
 use Rattle.std.proofs.Math.ListN.{set}
 use Rattle.std.proofs.lemmas.List.{map_more, take_more_set, get_or-drop, drop-set-lt}
 use Rattle.std.proofs.lemmas.Grind.{drop_more_same}
@@ -13,9 +13,8 @@ left-same xs ys i h =
 -- one element more
 pub replaced-more : (f : ℕ → ℕ) (xs ys : List ℕ) (i y : ℕ) → i < length xs → i < length ys → take i xs ≡ map f (take i ys) → drop i xs ≡ drop i ys → y ≡ f (get_or xs i 0)
     → (take (i + 1) (set xs i y) ≡ map f (take (i + 1) ys)) × (drop (i + 1) (set xs i y) ≡ drop (i + 1) ys)
-replaced-more f xs ys i y inside within passed left is =
-    (
-      take_more_set xs i y inside ∙ (ap (λ zs. zs ++ y ∷ []) passed
+replaced-more f xs ys i y inside within passed left is = (
+  take_more_set xs i y inside ∙ (ap (λ zs. zs ++ y ∷ []) passed
       ∙ (ap (λ z. map f (take i ys) ++ z ∷ []) (is ∙ ap f (left-same xs ys i left)) ∙ sym (map_more f ys i 0 within))),
-      drop-set-lt (i + 1) xs i y (omega arith) ∙ drop_more_same xs ys i left
-    )
+  drop-set-lt (i + 1) xs i y (omega arith) ∙ drop_more_same xs ys i left,
+)

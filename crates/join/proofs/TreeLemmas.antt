@@ -1,15 +1,15 @@
 -- The numbers and variables in a tree that is a formula's.
-use Rattle.std.proofs.Common.{◌≡◌, ℕ, ◌+◌, ◌<◌, ◌≤◌, Bool, true, false, List, [], ◌∷◌, ◌++◌, map, length, length-append, Option, Some, None, refl, ap, sym, subst, ◌∙◌, cond, nat_eq, nat_le, eqb-true, arith, All}
+use Rattle.std.proofs.Common.{◌≡◌, ℕ, ◌+◌, ◌<◌, ◌≤◌, Bool, true, false, List, [], ◌∷◌, ◌++◌, length, length-append, Option, Some, None, refl, ap, subst, ◌∙◌, cond, nat_eq, nat_le, eqb-true, arith}
 use Rattle.std.proofs.lemmas.List.Elements.{All-nil, All-cons, All-weaker}
-use Rattle.theory.specs.Literals.{Literal, Clause, IsCube, IsVariable, has_var, positive, negative, negations}
-use Rattle.theory.specs.Truth.{Formula, IsOver}
+use Rattle.theory.specs.Literals.{Literal, Clause, IsVariable, positive, negative, negations}
+use Rattle.theory.specs.Truth.{Formula}
 use Rattle.theory.specs.Reading.{IsWithinLimits, max_vars}
 use Rattle.theory.specs.Learning.{Line}
-use Rattle.theory.specs.Search.{Runs, refuted, exhausted, first_clauses}
+use Rattle.theory.specs.Search.{refuted, exhausted, first_clauses}
 use Rattle.theory.specs.Trees.{Tree, satisfied, refutation, split, IsTree, Node, nodes_of, false_half, true_half}
-use Rattle.theory.specs.Checking.{Numbered, clause_of, Hint, missing, false_clause, not_unit, unit_in, hint, Taken, conflicts, holds, fails, end_at_conflict, no_such_clause, hint_not_unit, take_hints}
-use Rattle.theory.specs.Replaying.{carrying_from, IsReplayed, AreReplayed, AreRefutation}
-use Rattle.theory.proofs.OverVariables.{AreOver, AreOver-from_IsOver, IsOver-from_AreOver, AreOver-snoc, IsOver-left}
+use Rattle.theory.specs.Checking.{clause_of, Hint, missing, false_clause, not_unit, unit_in, hint, conflicts, fails, end_at_conflict, no_such_clause, hint_not_unit, take_hints}
+use Rattle.theory.specs.Replaying.{carrying_from, AreReplayed, AreRefutation}
+use Rattle.theory.proofs.OverVariables.{AreOver, IsOver-from_AreOver, AreOver-snoc, IsOver-left}
 use Rattle.theory.proofs.OutcomeLemmas.{Runs-says}
 use Rattle.theory.proofs.TrailEntries.{are_distinct-push, IsCube-distinct}
 use Rattle.theory.specs.Lawful.{are_distinct}
@@ -58,12 +58,11 @@ hints-numbered N Q K P (n ∷ ns) h = go (clause_of (carrying_from 1 N Q K) n) r
 replayed-lines : (V N n : ℕ) (Q : List Literal) (K : List Clause) (lines : List Line) → V ≤ max_vars → length K ≡ n → AreReplayed V N Q K lines → AreLines n lines
 replayed-lines V N n Q K [] few count h = tt
 replayed-lines V N n Q K (line ∷ lines) few count h =
-    let longer : length (K ++ line.clause ∷ []) ≡ n + 1 = length-append K (line.clause ∷ []) ∙ ap (λ m. m + 1) count in
-    (
+    let longer : length (K ++ line.clause ∷ []) ≡ n + 1 = length-append K (line.clause ∷ []) ∙ ap (λ m. m + 1) count in (
       All-weaker (λ (l : Literal). IsVariable V l.var) (λ l. IsVariable max_vars l.var) (λ l v. let low = v.0 in let high = v.1 in (low, omega arith)) line.clause
           (IsOver-left V line.clause (negations Q) h.0.over),
       subst (λ m. AreUpTo m line.hints) count (hints-numbered N Q K (negations (line.clause ++ negations Q)) line.hints h.0.passes),
-      replayed-lines V N (n + 1) Q (K ++ line.clause ∷ []) lines few longer h.1
+      replayed-lines V N (n + 1) Q (K ++ line.clause ∷ []) lines few longer h.1,
     )
 
 refutation-lines : (F : Formula) (Q : List Literal) (lines : List Line) → IsWithinLimits F → AreRefutation F.vars (length (first_clauses F)) Q (first_clauses F) lines
@@ -85,7 +84,9 @@ tree-nodes F B Q (split x l r) within distinct over h =
     let says = Runs-says F B Q (exhausted x) within.formula (IsCube-distinct Q distinct) (IsOver-from_AreOver F.vars Q over) h.0 in
     let low = says.0.0 in
     let high = says.0.1 in
-    let few = within.vars in
-    ((low, omega arith), nodes-append (length (first_clauses F)) (nodes_of l) (nodes_of r)
-        (tree-nodes F B (false_half Q x) l within (are_distinct-push Q (negative x) distinct says.1) (AreOver-snoc F.vars Q (negative x) over says.0) h.1)
-        (tree-nodes F B (true_half Q x) r within (are_distinct-push Q (positive x) distinct says.1) (AreOver-snoc F.vars Q (positive x) over says.0) h.2))
+    let few = within.vars in (
+      (low, omega arith),
+      nodes-append (length (first_clauses F)) (nodes_of l) (nodes_of r)
+          (tree-nodes F B (false_half Q x) l within (are_distinct-push Q (negative x) distinct says.1) (AreOver-snoc F.vars Q (negative x) over says.0) h.1)
+          (tree-nodes F B (true_half Q x) r within (are_distinct-push Q (positive x) distinct says.1) (AreOver-snoc F.vars Q (positive x) over says.0) h.2),
+    )

@@ -1,10 +1,9 @@
 -- The nodes of a tree give its lines.
-use Rattle.std.proofs.Common.{◌≡◌, ℕ, ◌+◌, ◌-◌, Bool, List, [], ◌∷◌, ◌++◌, length, Option, Some, None, refl, ap, sym, subst, ◌∙◌, append_assoc, append-nil, arith}
-use Rattle.theory.specs.Literals.{Literal}
+use Rattle.std.proofs.Common.{◌≡◌, ℕ, ◌+◌, ◌-◌, List, [], ◌∷◌, ◌++◌, Option, Some, None, refl, ap, ◌∙◌, append_assoc, arith}
 use Rattle.theory.specs.Truth.{Assignment}
 use Rattle.theory.specs.Trees.{Tree, satisfied, refutation, split, first_model, or_else, Node, nodes_of}
 use Rattle.theory.specs.Steps.{Step}
-use Rattle.theory.specs.Proofs.{tree_steps, split_steps, additions}
+use Rattle.theory.specs.Proofs.{tree_steps, additions}
 use Rattle.join.specs.declared.joiner.Half.{Half}
 use Rattle.join.specs.Joining.{State, on_node, on_nodes, climb, cube_of}
 

@@ -1,5 +1,5 @@
 -- How a tree's nodes, one after the other, give the lines of its proof.
-use Rattle.std.specs.Prelude.{ℕ, ◌+◌, ◌-◌, List, [], ◌∷◌, ◌++◌, map, reverse, length, Option, Some, None, is_none}
+use Rattle.std.specs.Prelude.{ℕ, ◌+◌, ◌-◌, List, [], ◌∷◌, ◌++◌, map, reverse, length, Option, Some, None}
 use Rattle.theory.specs.Literals.{Literal, positive, negative}
 use Rattle.theory.specs.Trees as trees
 use Rattle.theory.specs.Steps.{Step}

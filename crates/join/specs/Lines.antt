@@ -1,5 +1,5 @@
 -- The value lines, word by word: only the width of the line begun decides where the next word goes.
-use Rattle.std.specs.Prelude.{ℕ, ◌+◌, nat_le, List, [], ◌∷◌, ◌++◌, length, codes, if◌then◌else◌, true, false}
+use Rattle.std.specs.Prelude.{ℕ, ◌+◌, nat_le, List, [], ◌∷◌, ◌++◌, length, codes, if◌then◌else◌}
 use Rattle.theory.specs.Texts.{lf, space}
 
 -- what a word adds behind a line of so many bytes: itself behind a space, on a line of its own where the line would have over 78 bytes

@@ -70,7 +70,11 @@ fn satisfiable(alloc: Global, values: &[bool]) -> Result<Vec<u8>, AllocError>
 
 /// The text of the answer: `s SATISFIABLE` and the truth values of the variables 1, 2 and so on, in lines of at most 78 bytes, or
 /// `s UNSATISFIABLE`. It fails only where a request for memory is refused.
-pub fn answer_bytes(alloc: Global, formula: &Formula, values: Option<&[bool]>) -> Result<Vec<u8>, AllocError>
+pub fn answer_bytes(
+    alloc: Global,
+    formula: &Formula,
+    values: Option<&[bool]>,
+) -> Result<Vec<u8>, AllocError>
     requires { ForSome values (λ v. length v.now ≡ formula.now.vars) }
     ensures { IfOk result (λ v. v.items ≡ answer_text (option_map (λ v. v.now) values.entry)) }
 {

@@ -46,9 +46,14 @@ fn put_negations(halves: &[Half], clause: &mut Vec<Lit>) -> Result<(), AllocErro
     requires { All (λ h. (1 ≤ h.var) × (h.var < 2 ^ 31)) halves.now }
     ensures { OnOk result (clause.new.items ≡ clause.old.items ++ negations (cube_of (reverse halves.now))) }
 {
+    clause.reserve_exact(halves.len())?;
     for half in halves {
         let positive = Lit::new(half.var as i32).unwrap();
-        let lit = if half.left.is_none() { positive } else { positive.negated() };
+        let lit = if half.left.is_none() {
+            positive
+        } else {
+            positive.negated()
+        };
         clause.push(lit)?;
     }
     Ok(())
@@ -167,6 +172,19 @@ impl Joiner {
     }
 }
 
+/// How many lines nodes give: those of their leaves, and one a split.
+fn line_count(nodes: &[Node]) -> usize {
+    let mut count = 0usize;
+    for node in nodes {
+        let more = match node {
+            Node::Split(_) => 1,
+            Node::Leaf(refutation) => refutation.lines.len(),
+        };
+        count = count.saturating_add(more);
+    }
+    count
+}
+
 /// The proof of a formula's tree of splits that has no satisfied leaf; a model has no proof. It takes the lines out of the tree. It fails
 /// only where a request for memory is refused, or where a number would be above its limit. The checker accepts the steps of a refuted tree.
 pub fn join(alloc: Global, formula: &Formula, tree: Tree) -> Result<Vec<Step>, AllocError>
@@ -179,11 +197,12 @@ pub fn join(alloc: Global, formula: &Formula, tree: Tree) -> Result<Vec<Step>, A
         return Ok(Vec::new(alloc));
     };
     let clauses = formula.clauses().len() as u64;
+    let steps = Vec::with_capacity(alloc, line_count(&nodes))?;
     let mut joiner = Joiner {
         clauses,
         next: clauses + 1,
         halves: Vec::new(alloc),
-        steps: Vec::new(alloc),
+        steps,
     };
     for node in nodes {
         joiner.put_node(alloc, node)?;

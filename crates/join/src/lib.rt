@@ -4,6 +4,8 @@
 mod answer;
 mod joiner;
 mod proof_text;
+#[cfg(test)]
+mod tests;
 
 pub use answer::answer_bytes;
 pub use joiner::join;

@@ -1,4 +1,4 @@
-use Rattle.std.proofs.Common.{◌≡◌, ◌∙◌, sym, ap, refl, Some}
+use Rattle.std.proofs.Common.{◌∙◌, sym, ap, refl}
 use Rattle.cubes.specs.Next.{next_cube}
 use Rattle.cubes.proofs.NextLemmas.{next_cube-positive, next_cube-negative}
 use Rattle.cubes.proofs.next.go_right.Goals as goal

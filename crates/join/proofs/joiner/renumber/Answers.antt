@@ -1,4 +1,4 @@
-use Rattle.std.proofs.Common.{arith, length, map, ap, ◌≡◌, ◌+◌, ◌∙◌, sym}
+use Rattle.std.proofs.Common.{arith}
 use Rattle.join.proofs.ListLemmas.{left-same, replaced-more}
 use Rattle.join.proofs.joiner.renumber.Goals as goal
 

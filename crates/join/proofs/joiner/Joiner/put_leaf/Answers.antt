@@ -1,7 +1,7 @@
-use Rattle.std.proofs.Common.{arith, ap, ◌≡◌, ◌+◌, ◌-◌, ◌<◌, ◌∙◌, sym, subst, length}
+use Rattle.std.proofs.Common.{arith, ◌≡◌, ◌+◌, ◌-◌, ◌<◌, sym, subst, length}
 use Rattle.theory.specs.Truth.{IsOver}
 use Rattle.theory.specs.Reading.{max_vars}
-use Rattle.join.specs.Numbered.{AreLines, AreUpTo}
+use Rattle.join.specs.Numbered.{AreLines}
 use Rattle.join.proofs.NumberLemmas.{IsOver-put, AreUpTo-put}
 use Rattle.join.proofs.joiner.Joiner.put_leaf.Goals as goal
 
@@ -18,4 +18,4 @@ put-requires-clause-hints c =
     let number : c.loop-line.self.next - 1 ≡ c.args.self.now.next + length c.loop-line.yielded - 1 = omega (arith, c.loop-line.invariant.next) in
     rw number
     (AreUpTo-put c.loop-line.self.clauses c.args.self.now.next (length c.loop-line.yielded) c.into_parts-clause.result.1.len c.in-Some.line.hints c.into_parts-clause.result.1.items c.deref_mut.result.now c.renumber.new.hints
-        begun lines.1 c.into_parts-clause.ensures.hints c.deref_mut.ensures.value c.deref_mut.ensures.len c.renumber.ensures)
+    begun lines.1 c.into_parts-clause.ensures.hints c.deref_mut.ensures.value c.deref_mut.ensures.len c.renumber.ensures)
