@@ -11,3 +11,7 @@ pub mod ProofTexts
 pub mod LinePlaces
 pub mod ReadSteps
 pub mod WrittenTexts
+pub mod SlotLemmas
+pub mod HeldLemmas
+pub mod Statuses
+pub mod Assumptions

@@ -1,7 +1,12 @@
 //! Proofs in LRAT: their steps, and the text of these, both ways.
 #![tactic(auto)]
 
+mod assume;
+mod check_fault;
+mod clauses;
 mod fault;
+mod held;
+mod hints;
 mod laws;
 mod line;
 mod read;
@@ -11,6 +16,7 @@ mod tests;
 mod word;
 mod write;
 
+pub use check_fault::CheckFault;
 pub use fault::TextFault;
 pub use laws::{one_reading, written_is_read};
 pub use read::read_proof;
