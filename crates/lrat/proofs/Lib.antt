@@ -15,3 +15,5 @@ pub mod SlotLemmas
 pub mod HeldLemmas
 pub mod Statuses
 pub mod Assumptions
+pub mod SameLiterals
+pub mod GroupLemmas

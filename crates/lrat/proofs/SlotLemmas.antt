@@ -1,11 +1,13 @@
 -- The clauses that are there, by the slots: one more, one found by its number, one taken away.
 use Rattle.std.proofs.Common.{◌≡◌, ℕ, zero, suc, ◌+◌, ◌<◌, ◌≤◌, Bool, true, false, not, List, [], ◌∷◌, ◌++◌, length, take, get_or, Option, Some, None, is_some, cond, nat_eq, eqb-true, eq-eqb, refl, ap, sym, subst, ◌∙◌, slice_get, slice_set, ◌⊎◌, inl, inr, filter, arith, All}
+use Rattle.std.specs.List.{list_all}
 use Rattle.std.proofs.lemmas.List.{take_more}
 use Rattle.std.proofs.lemmas.List.Elements.{All-append}
 use Rattle.std.proofs.lemmas.Option.{slice_get_within, slice_get_read, get_or_from_slice_get}
 use Rattle.theory.specs.Literals.{Clause}
 use Rattle.theory.specs.Truth.{IsOver}
 use Rattle.theory.specs.Checking.{Numbered, clause_of, without_number}
+use Rattle.theory.proofs.LiteralLemmas.{and-left, and-right}
 use Rattle.theory.proofs.LiteralSets.{true_false, false_unless}
 use Rattle.lrat.specs.Slots.{Slot, put, there_before, ArePlaces}
 
@@ -204,3 +206,26 @@ pub without-read : (ss : List Slot) (place : ℕ → Option ℕ) (n i : ℕ) (s 
     → there_before [] (slice_set ss i (record t { is_there = false })) ≡ without_number (there_before [] ss) n
 without-read ss place n i s t p at e same =
     ap (λ (x : Slot). there_before [] (slice_set ss i (record x { is_there = false }))) same ∙ without-place ss place n i s p (sym at) (read ss place n i s p at e)
+
+pub over-at : (V : ℕ) (ss : List Slot) (i : ℕ) (s t : Slot) → i < length ss → s ≡ get_or ss i s → t ≡ s → All (λ (x : Slot). IsOver V x.clause) ss → IsOver V t.clause
+over-at V ss i s t less e same all = subst (λ (x : Slot). IsOver V x.clause) (sym (same ∙ e)) (all i s less)
+
+-- what holds of the clauses there holds of those in the first slots
+pub all-first : (p : ℕ × Clause → Bool) (ss : List Slot) (K : Numbered) (n : ℕ) → list_all p (there_before K ss) ≡ true → list_all p (there_before K (take n ss)) ≡ true
+all-first p ss K zero h = rest p ss K h
+  where
+    rest : (p : ℕ × Clause → Bool) (ss : List Slot) (K : Numbered) → list_all p (there_before K ss) ≡ true → list_all p K ≡ true
+    rest p [] K h = h
+    rest p (s ∷ ss) K h = go s.is_there (rest p ss (put s K) h)
+      where
+        go : (b : Bool) → list_all p (cond b ((s.id, s.clause) ∷ K) K) ≡ true → list_all p K ≡ true
+        go true t = and-right (p (s.id, s.clause)) (list_all p K) t
+        go false t = t
+all-first p [] K (suc n) h = h
+all-first p (s ∷ ss) K (suc n) h = all-first p ss (put s K) n h
+
+-- what doesn't hold of a slot's clause doesn't hold of all
+pub not_all : (p : ℕ × Clause → Bool) (ss : List Slot) (i : ℕ) (e : ℕ × Clause) → ((K : Numbered) → there_before K (take (i + 1) ss) ≡ e ∷ there_before K (take i ss)) → p e ≡ false
+    → list_all p (there_before [] ss) ≡ false
+not_all p ss i e h fails = false_unless (list_all p (there_before [] ss)) (λ t.
+    true_false (p e) (and-left (p e) (list_all p (there_before [] (take i ss))) (sym (ap (list_all p) (h [])) ∙ all-first p ss [] (i + 1) t)) fails)

@@ -10,3 +10,7 @@ pub record IsAssumed (P : List Literal) (q : Literal) (c : Clause) (Q : List Lit
   pub no_more : (k : Literal) → has Q k ≡ true → (has P k ≡ true) ⊎ ((has c (negated k) ≡ true) × (same q (negated k) ≡ false))
   pub not_held : (k : Literal) → has c k ≡ true → same q k ≡ false → has Q k ≡ false
   pub alone : (k : Literal) → has c k ≡ true → k.var ≡ q.var → k ≡ q
+
+-- the literals are the same as sets
+abbrev pub AreSame : List Literal → List Literal → Type 0
+AreSame P Q = has P ≡ has Q

@@ -10,3 +10,5 @@ pub mod Held
 pub mod Slots
 pub mod Taken
 pub mod Assumed
+pub mod Named
+pub mod Tested

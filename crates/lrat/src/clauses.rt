@@ -85,7 +85,8 @@ impl<'a> Clauses<'a> {
     /// The number and the literals of the clause in the slot at a place, if it is there.
     pub(crate) fn at(&self, place: usize) -> Option<(u64, &'a [Lit])>
         requires { place < length self.now.slots }
-        ensures { MatchOption result
+        ensures over { MatchOption result (Unit {0}) (λ e. IsOver self.now.vars e.1.now) }
+        ensures clause { MatchOption result
             ((K : Numbered) → there_before K (take (place + 1) self.now.slots) ≡ there_before K (take place self.now.slots))
             (λ e. (K : Numbered) → there_before K (take (place + 1) self.now.slots) ≡ (e.0, e.1.now) ∷ there_before K (take place self.now.slots)) }
     {

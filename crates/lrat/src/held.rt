@@ -43,6 +43,13 @@ impl Held {
         })
     }
 
+    /// The number of variables.
+    pub(crate) fn vars(&self) -> u32
+        ensures { result ≡ self.now.vars }
+    {
+        self.vars
+    }
+
     /// How many literals there are.
     pub(crate) fn len(&self) -> usize
         ensures { result ≡ length self.now.literals }

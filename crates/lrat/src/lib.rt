@@ -2,9 +2,11 @@
 #![tactic(auto)]
 
 mod assume;
+mod check;
 mod check_fault;
 mod clauses;
 mod fault;
+mod groups;
 mod held;
 mod hints;
 mod laws;
