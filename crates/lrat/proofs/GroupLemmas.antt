@@ -20,7 +20,7 @@ pub group_fault-taken : (K : Numbered) (P : List Literal) (q : Literal) (L : Lis
     → theory.fault_of (taken_of t R) ≡ group_fault K P q L g (clause_of K g.candidate)
 group_fault-taken K P q L g d Q R t there candidate new open_ assumed taken =
     let same = fault_of-same (take_hints K (negations (without d q) ++ P) g.hints) (take_hints K Q g.hints)
-        (take_hints-same K (negations (without d q) ++ P) Q g.hints (AreSame-assumed P q d Q assumed)) in
+    (take_hints-same K (negations (without d q) ++ P) Q g.hints (AreSame-assumed P q d Q assumed)) in
     let first : not (has d q) || list_any (nat_eq g.candidate) L ≡ false = or-none (not (has d q)) (list_any (nat_eq g.candidate) L) (ap not candidate) new in
     ap theory.fault_of taken ∙ (sym same
     ∙ (sym (ap (λ b. cond b (closed_fault g.hints) (theory.fault_of (take_hints K (negations (without d q) ++ P) g.hints))) open_)

@@ -1,5 +1,5 @@
 -- Literals held true, and their table.
-use Rattle.std.proofs.Common.{◌≡◌, ℕ, zero, suc, ◌+◌, ◌<◌, ◌≤◌, Bool, true, false, not, ◌&&◌, List, [], ◌∷◌, ◌++◌, length, get_or, Option, Some, None, cond, nat_eq, eqb-true, eq-eqb, refl, ap, sym, subst, ◌∙◌, slice_set, reverse, arith, get_or-set_other, get_or-set_same, append_assoc, MatchOption}
+use Rattle.std.proofs.Common.{◌≡◌, ℕ, zero, suc, ◌+◌, ◌<◌, ◌≤◌, Bool, true, false, not, ◌&&◌, List, [], ◌∷◌, ◌++◌, length, get_or, Option, Some, None, cond, nat_eq, eqb-true, eq-eqb, refl, ap, sym, subst, ◌∙◌, slice_set, reverse, arith, get_or-set_other, get_or-set_same, append_assoc, append-nil, MatchOption}
 use Rattle.std.proofs.lemmas.List.{reverse-append, length-set}
 use Rattle.theory.specs.Literals.{Literal, has_var}
 use Rattle.theory.specs.Truth.{IsOver}
@@ -62,3 +62,6 @@ Extends-pop P Q l h less = go h.later h.whole
 pub Extends-popped : (P Q R : List Literal) (o : Option Literal) → MatchOption o ((Q ≡ []) × (R ≡ [])) (λ l. Q ≡ l ∷ R) → length P < length Q → Extends P Q → Extends P R
 Extends-popped P Q R None m less h = absurd (let n : length Q ≡ length {A = Literal} [] = ap length m.0 in omega arith)
 Extends-popped P Q R (Some l) m less h = Extends-pop P R l (subst (Extends P) m h) (let n : length Q ≡ length (l ∷ R) = ap length m in omega arith)
+
+pub Extends-nothing : (P : List Literal) → Extends [] P
+Extends-nothing P = record { later = P; whole = sym (append-nil P) }

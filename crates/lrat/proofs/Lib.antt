@@ -17,3 +17,5 @@ pub mod Statuses
 pub mod Assumptions
 pub mod SameLiterals
 pub mod GroupLemmas
+pub mod AdditionLemmas
+pub mod CheckLemmas

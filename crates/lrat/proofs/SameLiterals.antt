@@ -37,8 +37,8 @@ hint-same P Q None h = refl
 hint-same P Q (Some c) h =
     let a : is_false P c ≡ is_false Q c = ap (λ (f : Literal → Bool). list_all (λ l. f (negated l)) c) h in
     let b : unit_literal P c ≡ unit_literal Q c =
-        ap (λ (f : Literal → Bool). find (λ l. not (has_var P l.var) && list_all (λ k. same l k || f (negated k)) c) c) h
-        ∙ ap (λ (g : ℕ → Bool). find (λ l. not (g l.var) && list_all (λ k. same l k || has Q (negated k)) c) c) (has_var-same P Q h) in
+    ap (λ (f : Literal → Bool). find (λ l. not (has_var P l.var) && list_all (λ k. same l k || f (negated k)) c) c) h
+    ∙ ap (λ (g : ℕ → Bool). find (λ l. not (g l.var) && list_all (λ k. same l k || has Q (negated k)) c) c) (has_var-same P Q h) in
     ap (λ x. cond x false_clause (unit_hint (unit_literal P c))) a ∙ ap (λ x. cond (is_false Q c) false_clause (unit_hint x)) b
 
 -- the same, but for the order and the repetition of the literals held true
@@ -96,7 +96,7 @@ pub group_fault-same : (K : Numbered) (P Q : List Literal) (q : Literal) (named 
 group_fault-same K P Q q named g None h = refl
 group_fault-same K P Q q named g (Some d) h =
     let t = fault_of-same (take_hints K (negations (without d q) ++ P) g.hints) (take_hints K (negations (without d q) ++ Q) g.hints)
-        (take_hints-same K (negations (without d q) ++ P) (negations (without d q) ++ Q) g.hints (append-same (negations (without d q)) P Q h)) in
+    (take_hints-same K (negations (without d q) ++ P) (negations (without d q) ++ Q) g.hints (append-same (negations (without d q)) P Q h)) in
     ap (λ x. cond (not (has d q) || list_any (nat_eq g.candidate) named) (Some bad_candidate) (cond x (closed_fault g.hints) (fault_of (take_hints K (negations (without d q) ++ P) g.hints)))) (is_closed-same P Q q d h)
     ∙ ap (λ x. cond (not (has d q) || list_any (nat_eq g.candidate) named) (Some bad_candidate) (cond (is_closed Q q d) (closed_fault g.hints) x)) t
 

@@ -100,7 +100,7 @@ clause_of-place ss place n i s p at g =
 pub clause_of-no_place : (ss : List Slot) (place : ℕ → Option ℕ) (n : ℕ) → ArePlaces ss place → place n ≡ None → clause_of (there_before [] ss) n ≡ None
 clause_of-no_place ss place n p none =
     clause_of-none n ss [] (NoneHas-from_places n ss (λ j t g b e. let there : place t.id ≡ Some j = p.place_of j t g b in
-        let both : Some j ≡ None = sym there ∙ (ap place e ∙ none) in cc))
+    let both : Some j ≡ None = sym there ∙ (ap place e ∙ none) in cc))
 
 pub without-place : (ss : List Slot) (place : ℕ → Option ℕ) (n i : ℕ) (s : Slot) → ArePlaces ss place → place n ≡ Some i → slice_get ss i ≡ Some s
     → there_before [] (slice_set ss i (record s { is_there = false })) ≡ without_number (there_before [] ss) n

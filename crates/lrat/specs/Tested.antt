@@ -1,8 +1,9 @@
 -- What a step leaves of a checker.
-use Rattle.std.specs.Prelude.{◌≡◌, ℕ, ◌<◌, Bool, true, false, [], Option, Some, None}
+use Rattle.std.specs.Prelude.{◌≡◌, ℕ, ◌<◌, Bool, true, false, [], length, Option, Some, None}
+use Rattle.theory.specs.Truth.{Formula}
 use Rattle.theory.specs.Checking as theory
 use Rattle.theory.specs.Checking.{Numbered, clause_of}
-use Rattle.lrat.specs.declared.check.Checker.{Checker}
+use Rattle.lrat.specs.declared.checker.Checker.{Checker}
 use Rattle.lrat.specs.declared.check_fault.Fault.{Fault}
 use Rattle.lrat.specs.CheckFaults.{fault_of}
 use Rattle.lrat.specs.Slots.{there}
@@ -14,6 +15,10 @@ IsDeleted None b L = b ≡ false
 
 abbrev pub checker_of : Checker → theory.Checker
 checker_of s = record { clauses = there s.clauses; last = s.last; empty = s.empty }
+
+-- the checker of a formula before the first step
+abbrev pub start : Formula → theory.Checker
+start F = record { clauses = theory.numbered_from 1 F.clauses; last = length F.clauses; empty = false }
 
 -- between two steps nothing is held true, and no number above the last is given away
 pub record IsReady (V : ℕ) (s : Checker) : Type 0 where

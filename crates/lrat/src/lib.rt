@@ -2,8 +2,10 @@
 #![tactic(auto)]
 
 mod assume;
-mod check;
 mod check_fault;
+mod checker;
+#[cfg(test)]
+mod checker_tests;
 mod clauses;
 mod fault;
 mod groups;
@@ -19,6 +21,7 @@ mod word;
 mod write;
 
 pub use check_fault::CheckFault;
+pub use checker::check;
 pub use fault::TextFault;
 pub use laws::{one_reading, written_is_read};
 pub use read::read_proof;

@@ -1,7 +1,7 @@
 use Rattle.std.proofs.Common.{◌≡◌, drop}
 use Rattle.theory.specs.Checking.{deleted}
 use Rattle.lrat.specs.Slots.{there}
-use Rattle.lrat.proofs.check.delete.Given as goal
+use Rattle.lrat.proofs.checker.delete.Given as goal
 
 -- the numbers that are left give the answer
 abbrev pub invariant-loop-id : goal.invariant-loop-id
