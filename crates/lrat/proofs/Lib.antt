@@ -11,3 +11,11 @@ pub mod ProofTexts
 pub mod LinePlaces
 pub mod ReadSteps
 pub mod WrittenTexts
+pub mod SlotLemmas
+pub mod HeldLemmas
+pub mod Statuses
+pub mod Assumptions
+pub mod SameLiterals
+pub mod GroupLemmas
+pub mod AdditionLemmas
+pub mod CheckLemmas

@@ -5,3 +5,10 @@ pub mod Faults
 pub mod LineWords
 pub mod LineMachine
 pub mod LineStates
+pub mod CheckFaults
+pub mod Held
+pub mod Slots
+pub mod Taken
+pub mod Assumed
+pub mod Named
+pub mod Tested

@@ -1,7 +1,16 @@
 //! Proofs in LRAT: their steps, and the text of these, both ways.
 #![tactic(auto)]
 
+mod assume;
+mod check_fault;
+mod checker;
+#[cfg(test)]
+mod checker_tests;
+mod clauses;
 mod fault;
+mod groups;
+mod held;
+mod hints;
 mod laws;
 mod line;
 mod read;
@@ -11,6 +20,8 @@ mod tests;
 mod word;
 mod write;
 
+pub use check_fault::CheckFault;
+pub use checker::check;
 pub use fault::TextFault;
 pub use laws::{one_reading, written_is_read};
 pub use read::read_proof;

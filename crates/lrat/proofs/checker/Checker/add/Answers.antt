@@ -1,0 +1,49 @@
+use Rattle.std.proofs.Common.{◌≡◌, ◌∙◌, ◌||◌, [], Bool, true, false, ap, sym, refl}
+use Rattle.std.proofs.lemmas.Bool.{leb-false}
+use Rattle.lrat.specs.CheckFaults.{faults_of}
+use Rattle.lrat.specs.Tested.{checker_of}
+use Rattle.lrat.proofs.AdditionLemmas.{passed, is_empty-length, unused-added}
+use Rattle.lrat.proofs.CheckLemmas.{add-leaves}
+use Rattle.lrat.proofs.GroupLemmas.{no_fault}
+use Rattle.lrat.proofs.HeldLemmas.{Extends-nothing}
+use Rattle.lrat.proofs.checker.Checker.add.Goals as goal
+
+or-true : (a b : Bool) → b ≡ true → true ≡ a || b
+or-true true b h = refl
+or-true false b h = sym h
+
+or-false : (a b : Bool) → b ≡ false → a ≡ a || b
+or-false true b h = refl
+or-false false b h = sym h
+
+pub returns-then-is_empty : goal.returns-then-is_empty
+returns-then-is_empty c =
+    let s = checker_of c.args.self.now in
+    let a = c.args.addition.now in
+    let none = ap faults_of (sym (no_fault c.in_ok-fault.fault (sym c.is_some.ensures ∙ c.if-is_some.false))) ∙ c.in_ok-fault.ensures.fault in
+    let clauses = rw (c.id.ensures.id, c.clause-clause.ensures.clause) at c.in_ok-push.ensures.ok in
+    let empty = sym (is_empty-length a.clause) ∙ (rw c.clause-clause.ensures.clause at (sym c.is_empty.ensures ∙ c.if-is_empty.true)) in (
+      add-leaves c.args.self.now.held.vars s _ a none clauses c.id-self.ensures.id (or-true c.args.self.now.empty _ empty),
+      record {
+        clauses_vars = c.push.ensures.vars ∙ c.requires.clauses_vars;
+        held_vars = c.go_back.ensures.vars ∙ c.addition_fault.ensures.vars;
+        none_held = c.go_back.ensures.left [] refl (Extends-nothing c.addition_fault.new.held.literals);
+        unused = λ n more. rw clauses (unused-added _ a.id c.args.self.now.last a.clause (leb-false a.id c.args.self.now.last (passed _ _ _ a none).0) c.requires.unused n (rw c.id-self.ensures.id at more));
+      },
+    )
+
+pub returns-else-is_empty : goal.returns-else-is_empty
+returns-else-is_empty c =
+    let s = checker_of c.args.self.now in
+    let a = c.args.addition.now in
+    let none = ap faults_of (sym (no_fault c.in_ok-fault.fault (sym c.is_some.ensures ∙ c.if-is_some.false))) ∙ c.in_ok-fault.ensures.fault in
+    let clauses = rw (c.id.ensures.id, c.clause-clause.ensures.clause) at c.in_ok-push.ensures.ok in
+    let empty = sym (is_empty-length a.clause) ∙ (rw c.clause-clause.ensures.clause at (sym c.is_empty.ensures ∙ c.if-is_empty.false)) in (
+      add-leaves c.args.self.now.held.vars s _ a none clauses c.id-self.ensures.id (or-false c.args.self.now.empty _ empty),
+      record {
+        clauses_vars = c.push.ensures.vars ∙ c.requires.clauses_vars;
+        held_vars = c.go_back.ensures.vars ∙ c.addition_fault.ensures.vars;
+        none_held = c.go_back.ensures.left [] refl (Extends-nothing c.addition_fault.new.held.literals);
+        unused = λ n more. rw clauses (unused-added _ a.id c.args.self.now.last a.clause (leb-false a.id c.args.self.now.last (passed _ _ _ a none).0) c.requires.unused n (rw c.id-self.ensures.id at more));
+      },
+    )

@@ -1,0 +1,18 @@
+use Rattle.std.proofs.Common.{◌∙◌, sym}
+use Rattle.lrat.specs.Slots.{there}
+use Rattle.lrat.specs.Tested.{checker_of}
+use Rattle.lrat.proofs.AdditionLemmas.{unused-deleted}
+use Rattle.lrat.proofs.CheckLemmas.{deleted-all, delete-leaves}
+use Rattle.lrat.proofs.checker.Checker.remove.Goals as goal
+
+pub returns-then-delete : goal.returns-then-delete
+returns-then-delete c =
+    let all = deleted-all _ _ _ (rw c.ids.ensures.ids at c.delete.ensures.deleted) c.if-delete.true in (
+      delete-leaves c.args.self.now.held.vars (checker_of c.args.self.now) c.args.deletion.now (there c.delete.new.clauses) all,
+      record {
+        clauses_vars = c.delete.ensures.vars ∙ c.requires.clauses_vars;
+        held_vars = c.requires.held_vars;
+        none_held = c.requires.none_held;
+        unused = λ n more. unused-deleted _ _ c.args.deletion.now.ids n all (c.requires.unused n more);
+      },
+    )

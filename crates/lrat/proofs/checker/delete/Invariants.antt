@@ -1,0 +1,11 @@
+use Rattle.std.proofs.Common.{◌≡◌, drop}
+use Rattle.theory.specs.Checking.{deleted}
+use Rattle.lrat.specs.Slots.{there}
+use Rattle.lrat.proofs.checker.delete.Given as goal
+
+-- the numbers that are left give the answer
+abbrev pub invariant-loop-id : goal.invariant-loop-id
+invariant-loop-id l = record {
+  left : deleted (there l.clauses) (drop l.id-index l.ids) ≡ deleted (there l.fn.clauses) l.ids;
+  vars : l.clauses.vars ≡ l.fn.clauses.vars;
+}

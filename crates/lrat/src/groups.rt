@@ -1,0 +1,160 @@
+//! Resolution asymmetric tautologies: the candidates of an addition, which are the clauses that have its negated pivot,
+//! and the groups of hints for them.
+ghost use Rattle.std.specs.Prelude.{◌≡◌, ℕ, List, [], ◌∷◌, true, false, None, Some, IfOk, OnOk, MatchOption, if◌then◌else◌, nat_eq};
+ghost use Rattle.std.specs.HashSet.{contains};
+ghost use Rattle.theory.specs.Literals.{has};
+ghost use Rattle.theory.specs.Truth.{IsOver};
+ghost use Rattle.theory.specs.Checking.{clause_of, is_closed, are_dealt_with, group_fault, groups_fault, rat_fault};
+ghost use Rattle.lrat.specs.CheckFaults.{faults_of};
+ghost use Rattle.lrat.specs.Held.{Extends};
+ghost use Rattle.lrat.specs.Slots.{there};
+ghost use Rattle.lrat.specs.Named.{IsNamed, LeavesNamed};
+
+use crate::assume::assume;
+use crate::check_fault::Fault;
+use crate::clauses::Clauses;
+use crate::held::Held;
+use crate::hints::{Taken, take_hints};
+use crate::step::Group;
+use cnf::Lit;
+use std::alloc::{AllocError, Global};
+use std::collections::HashSet;
+
+/// Whether a clause has a literal.
+fn has(clause: &[Lit], lit: Lit) -> bool
+    ensures { result ≡ has clause.now lit }
+{
+    for other in clause {
+        if lit.same(other) {
+            return true;
+        }
+    }
+    false
+}
+
+/// Whether a candidate is closed. What is held true stays.
+fn is_closed(held: &mut Held, clause: &[Lit], pivot: Lit) -> Result<bool, AllocError>
+    requires over { IsOver held.old.vars clause.now }
+    requires pivot { has clause.now pivot ≡ true }
+    ensures closed { IfOk result (λ b. b ≡ is_closed held.old.literals pivot clause.now) }
+    ensures kept { OnOk result (held.new.literals ≡ held.old.literals) }
+    ensures vars { held.new.vars ≡ held.old.vars }
+{
+    let mark = held.len();
+    let closed = assume(held, clause, pivot)?;
+    held.go_back(mark);
+    Ok(closed)
+}
+
+/// Whether each candidate is closed or among those named. It walks over the clauses.
+fn are_dealt_with(
+    held: &mut Held,
+    clauses: &Clauses,
+    pivot: Lit,
+    named: &HashSet<u64>,
+) -> Result<bool, AllocError>
+    requires { clauses.now.vars ≡ held.old.vars }
+    ensures dealt_with { (L : List ℕ) → IsNamed (contains nat_eq named.now) L →
+        IfOk result (λ b. b ≡ are_dealt_with (there clauses.now) held.old.literals pivot L) }
+    ensures kept { OnOk result (held.new.literals ≡ held.old.literals) }
+    ensures vars { held.new.vars ≡ held.old.vars }
+{
+    for place in 0..clauses.len() {
+        if let Some((id, clause)) = clauses.at(place) {
+            if has(clause, pivot) && !named.contains(&id) && !is_closed(held, clause, pivot)? {
+                return Ok(false);
+            }
+        }
+    }
+    Ok(true)
+}
+
+/// The fault of a group, where earlier groups named others. What is held true has its candidate's negations and the
+/// units of its hints then.
+fn group_fault(
+    held: &mut Held,
+    clauses: &Clauses,
+    pivot: Lit,
+    named: &HashSet<u64>,
+    group: &Group,
+) -> Result<Option<Fault>, AllocError>
+    requires { clauses.now.vars ≡ held.old.vars }
+    ensures fault { (L : List ℕ) → IsNamed (contains nat_eq named.now) L → let K = there clauses.now in
+        IfOk result (λ o. faults_of o ≡ group_fault K held.old.literals pivot L group.now (clause_of K group.now.candidate)) }
+    ensures extends { Extends held.old.literals held.new.literals }
+    ensures vars { held.new.vars ≡ held.old.vars }
+{
+    let Some(clause) = clauses.get(group.candidate()) else {
+        return Ok(Some(Fault::NoSuchClause));
+    };
+    if !has(clause, pivot) || named.contains(&group.candidate()) {
+        return Ok(Some(Fault::BadCandidate));
+    }
+    if assume(held, clause, pivot)? {
+        return Ok(if group.hints().is_empty() {
+            None
+        } else {
+            Some(Fault::BadCandidate)
+        });
+    }
+    Ok(match take_hints(held, clauses, group.hints())? {
+        Taken::Conflict => None,
+        Taken::Open => Some(Fault::NoConflict),
+        Taken::Fails(fault) => Some(fault),
+    })
+}
+
+/// The fault of the first group at fault, each taken from what is held true before the first. With none, `named` has the
+/// candidates of all.
+fn first_fault(
+    held: &mut Held,
+    clauses: &Clauses,
+    pivot: Lit,
+    named: &mut HashSet<u64>,
+    groups: &[Group],
+) -> Result<Option<Fault>, AllocError>
+    requires vars { clauses.now.vars ≡ held.old.vars }
+    requires none { IsNamed (contains nat_eq named.old) [] }
+    ensures fault { IfOk result (λ o. LeavesNamed (there clauses.now) held.old.literals pivot groups.now (contains nat_eq named.new) o) }
+    ensures kept { IfOk result (λ o. o ≡ None → held.new.literals ≡ held.old.literals) }
+    ensures vars { held.new.vars ≡ held.old.vars }
+{
+    let mark = held.len();
+    for group in groups {
+        let fault = group_fault(held, clauses, pivot, named, group)?;
+        if fault.is_some() {
+            return Ok(fault);
+        }
+        held.go_back(mark);
+        named.insert(group.candidate())?;
+    }
+    Ok(None)
+}
+
+/// The fault of an addition whose hints end without a conflict.
+pub(crate) fn rat_fault(
+    alloc: Global,
+    held: &mut Held,
+    clauses: &Clauses,
+    clause: &[Lit],
+    groups: &[Group],
+) -> Result<Option<Fault>, AllocError>
+    requires vars { clauses.now.vars ≡ held.old.vars }
+    ensures fault { IfOk result (λ o. faults_of o ≡ rat_fault (there clauses.now) held.old.literals clause.now groups.now) }
+    ensures vars { held.new.vars ≡ held.old.vars }
+{
+    if clause.is_empty() {
+        return Ok(Some(Fault::NoConflict));
+    }
+    let pivot = clause[0].negated();
+    let mut named = HashSet::new(alloc);
+    let fault = first_fault(held, clauses, pivot, &mut named, groups)?;
+    if fault.is_some() {
+        return Ok(fault);
+    }
+    if are_dealt_with(held, clauses, pivot, &named)? {
+        Ok(None)
+    } else {
+        Ok(Some(Fault::MissingCandidate))
+    }
+}
