@@ -10,7 +10,7 @@ use Rattle.theory.proofs.LiteralLemmas.{true_or_false}
 use Rattle.theory.proofs.LiteralSets.{true_false, false_unless, negated-negated, other-same, has-cases, has-from_with_literal, has-from_without, has_var-has, has_var-none, literal_of_var}
 use Rattle.theory.proofs.OverVariables.{AreOver-from_IsOver}
 use Rattle.theory.proofs.RisingSets.{IsOneSigned, IsRising-filter, IsRising-with_literals, are_distinct-rising}
-use Rattle.theory.proofs.Room.{length-distinct}
+use Rattle.theory.proofs.DistinctLiterals.{length-distinct}
 use Rattle.theory.proofs.TrailEntries.{literals-distinct}
 use Rattle.kernel.specs.State.{State}
 use Rattle.cdcl.specs.Marks.{IsMarked, AreMarks}
