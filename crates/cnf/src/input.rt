@@ -45,17 +45,22 @@ fn read_chunk<R: Read>(
     }
 }
 
-/// The bytes of a reader, at most one more than a text may have.
-fn read_text<R: Read>(alloc: Global, input: &mut R) -> Result<Vec<u8>, ReadFault>
+/// The bytes of a reader, `most` of them at most: it reads until a read gives no bytes, until an error, or until so many are there. Any error
+/// of the reader is `ReadFailed`, and no read is tried again; where memory is refused, the answer is `NoMemory`, and what was read is let go.
+pub fn read_bytes<R: Read>(
+    alloc: Global,
+    input: &mut R,
+    most: usize,
+) -> Result<Vec<u8>, ReadFault>
     ensures { MatchResult result
-        (λ text. IfSome (R.remaining input.old) (λ bytes. text.items ≡ take (max_bytes + 1) bytes))
+        (λ text. IfSome (R.remaining input.old) (λ bytes. text.items ≡ take most bytes))
         IsReadFault }
 {
     let mut text = Vec::new(alloc);
     let mut chunk = zeros(alloc, CHUNK)?;
-    while text.len() <= MAX_BYTES {
-        let most = CHUNK.min(MAX_BYTES + 1 - text.len());
-        let room = &mut chunk[..most];
+    while text.len() < most {
+        let left = CHUNK.min(most - text.len());
+        let room = &mut chunk[..left];
         if !read_chunk(input, room, &mut text)? {
             break;
         }
@@ -68,6 +73,6 @@ fn read_text<R: Read>(alloc: Global, input: &mut R) -> Result<Vec<u8>, ReadFault
 pub fn read_from<R: Read + Drop>(alloc: Global, mut input: R) -> Result<Formula, ReadFault>
     ensures { (result ≡ Err ReadFault.ReadFailed) ⊎ IsReadOf (R.remaining input) result }
 {
-    let text = read_text(alloc, &mut input)?;
+    let text = read_bytes(alloc, &mut input, MAX_BYTES + 1)?;
     read_formula(alloc, &text)
 }

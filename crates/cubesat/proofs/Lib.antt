@@ -2,3 +2,5 @@ pub mod WrittenLemmas
 pub mod TextLemmas
 pub mod RunLemmas
 pub mod OneRun
+pub mod CheckLemmas
+pub mod CheckRuns

@@ -1,10 +1,11 @@
 -- What the command line asks for is within the limits.
 use Rattle.std.specs.Prelude.{◌≤◌, Option, Some, None}
 use Rattle.cubesat.specs.declared.arguments.Request.{Request}
-use Rattle.cubesat.specs.declared.arguments.Request.TheVariants.{Solve}
+use Rattle.cubesat.specs.declared.arguments.Request.TheVariants.{Solve, Check}
 
 abbrev pub IsRequest : Request → Type 0
 IsRequest (Solve budget proof file) = (1 ≤ budget) × (budget ≤ 100000)
+IsRequest (Check formula proof) = Unit {0}
 
 abbrev pub IsWithin : Option Request → Type 0
 IsWithin None = Unit {0}

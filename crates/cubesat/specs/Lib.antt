@@ -2,3 +2,4 @@
 pub mod Faults
 pub mod Run
 pub mod Arguments
+pub mod Check

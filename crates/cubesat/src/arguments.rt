@@ -18,6 +18,8 @@ pub(crate) enum Request<'a> {
         proof: &'a str,
         file: &'a str,
     },
+    /// Check the proof in `proof` against the formula in `formula`.
+    Check { formula: &'a str, proof: &'a str },
 }
 
 fn solve_command<'a>(alloc: Global) -> Result<Command<'a>, AllocError> {
@@ -42,11 +44,25 @@ fn solve_command<'a>(alloc: Global) -> Result<Command<'a>, AllocError> {
         .arg(file)
 }
 
+fn check_command<'a>(alloc: Global) -> Result<Command<'a>, AllocError> {
+    let formula = Arg::new(alloc, "FORMULA")
+        .required(true)
+        .help("The formula, in DIMACS CNF");
+    let proof = Arg::new(alloc, "PROOF")
+        .required(true)
+        .help("The proof, in LRAT");
+    Command::new(alloc, "check")
+        .about("Check a proof: status 0 accepted, 1 refused or on a fault")
+        .arg(formula)?
+        .arg(proof)
+}
+
 fn whole_command<'a>(alloc: Global) -> Result<Command<'a>, AllocError> {
     Command::new(alloc, "cubesat")
         .about("A SAT solver with LRAT proofs")
         .subcommand_required(true)
-        .subcommand(solve_command(alloc)?)
+        .subcommand(solve_command(alloc)?)?
+        .subcommand(check_command(alloc)?)
 }
 
 /// The request of a subcommand's matches. The command has been built so that each value is there and in its range; this is tested again,
@@ -67,14 +83,26 @@ fn solve_request<'a>(matches: &ArgMatches<'a>) -> Option<Request<'a>>
     })
 }
 
+fn check_request<'a>(matches: &ArgMatches<'a>) -> Option<Request<'a>>
+    ensures { IsWithin result }
+{
+    let formula = matches.get_str("FORMULA")?;
+    let proof = matches.get_str("PROOF")?;
+    Some(Request::Check { formula, proof })
+}
+
 /// What the words ask for; the program's name is the first one. An error is the parser's, with its message.
 pub(crate) fn request_of<'a>(alloc: Global, words: &'a [&'a str]) -> Result<Request<'a>, Error>
     ensures { IfOk result IsRequest }
 {
     let mut command = whole_command(alloc)?;
     let matches = command.try_get_matches_from_mut(words)?;
-    if let Some((_, matches)) = matches.subcommand() {
-        if let Some(request) = solve_request(matches) {
+    if let Some((name, matches)) = matches.subcommand() {
+        let request = match name {
+            "check" => check_request(matches),
+            _ => solve_request(matches),
+        };
+        if let Some(request) = request {
             return Ok(request);
         }
     }

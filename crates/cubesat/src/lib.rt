@@ -2,6 +2,8 @@
 #![tactic(auto)]
 
 mod arguments;
+mod check;
+mod checked_line;
 mod fault;
 mod laws;
 mod output;
@@ -11,6 +13,8 @@ mod run;
 mod tests;
 mod verdict;
 
+pub use check::check_run;
+pub use checked_line::Checked;
 pub use fault::RunFault;
 pub use laws::runs_write_the_same;
 pub use program::command;

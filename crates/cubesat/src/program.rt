@@ -2,6 +2,8 @@
 ghost use Rattle.std.specs.Prelude.{◌≤◌};
 
 use crate::arguments::{Request, request_of};
+use crate::check::check_run;
+use crate::checked_line::Checked;
 use crate::fault::RunFault;
 use crate::run::run_one;
 use crate::verdict::Verdict;
@@ -17,10 +19,13 @@ const SATISFIABLE: u8 = 10;
 /// The status of an unsatisfiable formula.
 const UNSATISFIABLE: u8 = 20;
 
+/// The status of a proof that is accepted.
+const ACCEPTED: u8 = 0;
+
 /// The status of a request for help.
 const SHOWN: u8 = 0;
 
-/// The status of a fault and of a wrong command line.
+/// The status of a fault, of a proof that is refused and of a wrong command line.
 const FAILED: u8 = 1;
 
 /// Prints the line of a fault. A failed write changes nothing.
@@ -72,9 +77,34 @@ fn solve<R: Files, W: Write, E: Write>(
     }
 }
 
+/// Checks the proof in the file against the formula in the other; the status.
+fn check<R: Files, W: Write, E: Write>(
+    rt: &R,
+    alloc: Global,
+    formula: &str,
+    proof: &str,
+    answer: &mut W,
+    faults: &mut E,
+) -> u8 {
+    let Ok(formula) = fs::open(rt, formula) else {
+        return print_no_file(faults);
+    };
+    let Ok(proof) = fs::open(rt, proof) else {
+        return print_no_file(faults);
+    };
+    match check_run(alloc, formula, proof, answer) {
+        Ok(Checked::Accepted) => ACCEPTED,
+        Ok(Checked::Refused) => FAILED,
+        Err(fault) => {
+            print_fault(faults, fault);
+            FAILED
+        }
+    }
+}
+
 /// Does all that the program does for a command line, of which the first word is the program's name: reads and writes its files, writes
-/// the answer to `answer` and faults to `faults`, and answers the exit status: 10 satisfiable, 20 unsatisfiable, 0 for help, 1 on a fault
-/// or a wrong command line. A failed write to `faults` changes nothing else.
+/// the answer to `answer` and faults to `faults`, and answers the exit status: 10 satisfiable, 20 unsatisfiable, 0 for help and
+/// for a proof that is accepted, 1 for one that is refused, on a fault or a wrong command line. A failed write to `faults` changes nothing else.
 pub fn command<R: Files, W: Write, E: Write>(
     rt: &R,
     alloc: Global,
@@ -90,6 +120,9 @@ pub fn command<R: Files, W: Write, E: Write>(
                 file,
             },
         ) => solve(rt, alloc, budget, proof, file, answer, faults),
+        Ok(Request::Check { formula, proof }) => {
+            check(rt, alloc, formula, proof, answer, faults)
+        }
         Err(error) if error.kind() == ErrorKind::OutOfMemory => {
             print_fault(faults, RunFault::NoMemory);
             FAILED

@@ -6,7 +6,7 @@ use std::test::Fail;
 use std::{env, fs};
 
 /// Paths in a folder for files that don't last, of this test alone.
-fn path_of<R: Env + AllocGlobal>(rt: &R, name: &str) -> Result<String, Fail> {
+pub(crate) fn path_of<R: Env + AllocGlobal>(rt: &R, name: &str) -> Result<String, Fail> {
     let folder = env::temp_dir(rt)?;
     let folder = folder.as_path().display();
     Ok(format!(in rt.alloc(); "{folder}/cubesat_{name}")?)
@@ -14,13 +14,13 @@ fn path_of<R: Env + AllocGlobal>(rt: &R, name: &str) -> Result<String, Fail> {
 
 /// What a command line printed, and its status.
 #[derive(Drop)]
-struct Printed {
-    status: u8,
-    answer: Vec<u8>,
-    faults: Vec<u8>,
+pub(crate) struct Printed {
+    pub(crate) status: u8,
+    pub(crate) answer: Vec<u8>,
+    pub(crate) faults: Vec<u8>,
 }
 
-fn run<R: Files + AllocGlobal>(rt: &R, words: &[&str]) -> Printed {
+pub(crate) fn run<R: Files + AllocGlobal>(rt: &R, words: &[&str]) -> Printed {
     let mut answer = Vec::new(rt.alloc());
     let mut faults = Vec::new(rt.alloc());
     let status = command(rt, rt.alloc(), words, &mut answer, &mut faults);

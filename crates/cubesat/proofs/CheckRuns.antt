@@ -1,0 +1,36 @@
+-- What a run of the checker says where the formula isn't read.
+use Rattle.std.proofs.Common.{◌≡◌, ℕ, List, ◌+◌, take, Option, Result, Ok, Err, inl, inr, ◌⊎◌, IfSome}
+use Rattle.theory.specs.Truth as truth
+use Rattle.cnf.specs.declared.fault.ReadFault.{ReadFault}
+use Rattle.cnf.specs.declared.fault.ReadFault.TheVariants as reading
+use Rattle.cnf.specs.Faults.{IsReadOf}
+use Rattle.cubesat.specs.Faults.{fault_of_read}
+use Rattle.theory.specs.ProofReading.{max_proof_bytes}
+use Rattle.cubesat.specs.declared.checked_line.Checked.{Checked}
+use Rattle.cubesat.specs.Check.{IsUnchecked, IsLine, IsCheckOf, CheckSays}
+use Rattle.cubesat.proofs.WrittenLemmas.{Keeps-same}
+
+unchecked : (known a : Option (List ℕ)) (fault : ReadFault) → ◌≡◌ {A = Result truth.Formula ReadFault} (Err fault) (Err reading.ReadFailed) ⊎ IsReadOf known (Err fault) → (fault ≡ reading.NoMemory → ⊥)
+    → IsUnchecked known a a fault
+unchecked known a fault (inl e) other = record { refused = inl (cc); not_memory = other; kept = Keeps-same a }
+unchecked known a fault (inr r) other = record { refused = inr r; not_memory = other; kept = Keeps-same a }
+
+pub CheckSays-unread : (known proof a : Option (List ℕ)) (fault : ReadFault) → ◌≡◌ {A = Result truth.Formula ReadFault} (Err fault) (Err reading.ReadFailed) ⊎ IsReadOf known (Err fault)
+    → CheckSays known proof a a (Err (fault_of_read fault))
+CheckSays-unread known proof a reading.NoMemory h = Keeps-same a
+CheckSays-unread known proof a reading.ReadFailed h = unchecked known a reading.ReadFailed h (λ e. cc)
+CheckSays-unread known proof a (reading.NoHeader x) h = unchecked known a (reading.NoHeader x) h (λ e. cc)
+CheckSays-unread known proof a (reading.BadHeader x) h = unchecked known a (reading.BadHeader x) h (λ e. cc)
+CheckSays-unread known proof a (reading.SecondHeader x) h = unchecked known a (reading.SecondHeader x) h (λ e. cc)
+CheckSays-unread known proof a (reading.BadNumber x) h = unchecked known a (reading.BadNumber x) h (λ e. cc)
+CheckSays-unread known proof a (reading.VariableOutOfRange x) h = unchecked known a (reading.VariableOutOfRange x) h (λ e. cc)
+CheckSays-unread known proof a (reading.TooManyClauses x) h = unchecked known a (reading.TooManyClauses x) h (λ e. cc)
+CheckSays-unread known proof a (reading.TooFewClauses x) h = unchecked known a (reading.TooFewClauses x) h (λ e. cc)
+CheckSays-unread known proof a (reading.ClauseNotEnded x) h = unchecked known a (reading.ClauseNotEnded x) h (λ e. cc)
+CheckSays-unread known proof a (reading.OverLimit x) h = unchecked known a (reading.OverLimit x) h (λ e. cc)
+
+-- a formula and a proof that were read, and the line for them
+pub IsCheckOf-made : (known proofs : Option (List ℕ)) (F : truth.Formula) (proof : List ℕ) (checked : Checked) (line : List ℕ) → ◌≡◌ {A = Result truth.Formula ReadFault} (Ok F) (Err reading.ReadFailed) ⊎ IsReadOf known (Ok F)
+    → IfSome proofs (λ xs. proof ≡ take (max_proof_bytes + 1) xs) → IsLine F proof checked line → IsCheckOf known proofs checked line
+IsCheckOf-made known proofs F proof checked line (inl e) is says = absurd (cc)
+IsCheckOf-made known proofs F proof checked line (inr r) is says = record { bytes = r.bytes; are = r.are; value = F; reads = r.is_read; proof = proof; proof_is = is; says = says }

@@ -1,0 +1,118 @@
+//! The line that the checker writes of a proof.
+ghost use Rattle.std.specs.Prelude.{◌≡◌, true, is_some, IfOk, IfSome};
+ghost use Rattle.cubesat.specs.Check.{IsLine, place_in_text, place_in_steps, refused_text};
+
+use cnf::Formula;
+use itoa::Buffer;
+use lrat::{CheckFault, TextFault, check, read_proof};
+use std::alloc::{AllocError, Global};
+
+/// What the checker says of a proof.
+#[derive(Clone, Copy, Debug, PartialEq, Eq)]
+pub enum Checked {
+    Accepted,
+    Refused,
+}
+
+/// Where a proof is at fault.
+#[derive(Clone, Copy)]
+enum Place {
+    Step(u64),
+    Line(u64),
+}
+
+/// The verdict on a proof, and its line.
+#[derive(Drop)]
+pub(crate) struct CheckedLine {
+    pub(crate) checked: Checked,
+    pub(crate) text: Vec<u8>,
+}
+
+/// The line of a proof that is refused.
+fn refused_text(alloc: Global, number: u32, place: Place) -> Result<Vec<u8>, AllocError>
+    ensures { IfOk result (λ v. v.items ≡ refused_text number place) }
+{
+    let mut buffer = Buffer::new();
+    let mut line = Vec::from_slice(alloc, b"refused ")?;
+    line.extend_from_slice(buffer.format(number).as_bytes())?;
+    match place {
+        Place::Step(step) => {
+            line.extend_from_slice(b" step ")?;
+            line.extend_from_slice(buffer.format(step).as_bytes())?;
+        }
+        Place::Line(number) => {
+            line.extend_from_slice(b" line ")?;
+            line.extend_from_slice(buffer.format(number).as_bytes())?;
+        }
+    }
+    line.push(b'\n')?;
+    Ok(line)
+}
+
+/// The line of the text at fault, where there is one.
+fn place_in_text(fault: TextFault) -> Option<Place>
+    ensures { result ≡ place_in_text fault }
+{
+    match fault {
+        TextFault::BadNumber(line)
+        | TextFault::LineNotEnded(line)
+        | TextFault::BadShape(line) => Some(Place::Line(line)),
+        TextFault::TooLong | TextFault::NoMemory => None,
+    }
+}
+
+/// The step at fault, where there is one.
+fn place_in_steps(fault: CheckFault) -> Option<Place>
+    ensures { result ≡ place_in_steps fault }
+{
+    match fault.step() {
+        Some(step) => Some(Place::Step(step)),
+        None => None,
+    }
+}
+
+/// The line of a proof that is at fault at a place. Without one, memory was refused.
+fn refused(alloc: Global, number: u32, place: Option<Place>) -> Result<CheckedLine, AllocError>
+    ensures { IfOk result (λ l. (l.checked ≡ Checked.Refused) × IfSome place (λ p. l.text.items ≡ refused_text number p) × (is_some place ≡ true)) }
+{
+    match place {
+        None => Err(AllocError),
+        Some(place) => Ok(CheckedLine {
+            checked: Checked::Refused,
+            text: refused_text(alloc, number, place)?,
+        }),
+    }
+}
+
+/// The line of a proof that is refused as a whole.
+fn refused_whole(alloc: Global, line: &[u8]) -> Result<CheckedLine, AllocError>
+    ensures { IfOk result (λ l. (l.checked ≡ Checked.Refused) × (l.text.items ≡ line.now)) }
+{
+    Ok(CheckedLine {
+        checked: Checked::Refused,
+        text: Vec::from_slice(alloc, line)?,
+    })
+}
+
+/// The verdict on the text of a proof, and its line. It fails only where a request for memory is refused.
+pub(crate) fn checked_line(
+    alloc: Global,
+    formula: &Formula,
+    proof: &[u8],
+) -> Result<CheckedLine, AllocError>
+    ensures { IfOk result (λ l. IsLine formula.now proof.now l.checked l.text.items) }
+{
+    let steps = match read_proof(alloc, proof) {
+        Ok(steps) => steps,
+        Err(TextFault::TooLong) => return refused_whole(alloc, b"refused 45\n"),
+        Err(fault) => return refused(alloc, fault.number(), place_in_text(fault)),
+    };
+    match check(alloc, formula, &steps) {
+        Ok(()) => Ok(CheckedLine {
+            checked: Checked::Accepted,
+            text: Vec::from_slice(alloc, b"accepted\n")?,
+        }),
+        Err(CheckFault::NoEmptyClause) => refused_whole(alloc, b"refused 30\n"),
+        Err(fault) => refused(alloc, fault.number(), place_in_steps(fault)),
+    }
+}
