@@ -13,6 +13,7 @@ mod held;
 mod hints;
 mod laws;
 mod line;
+mod occurrences;
 mod read;
 mod step;
 #[cfg(test)]
