@@ -1,4 +1,4 @@
-//! Proofs in LRAT: their steps, and the text of these, both ways.
+//! Proofs in LRAT: their steps, the text of these, both ways, and the checker.
 #![tactic(auto)]
 
 mod assume;
