@@ -1,14 +1,14 @@
 -- Additions: what is held true at first, and what the hints come to.
-use Rattle.std.proofs.Common.{◌≡◌, ℕ, zero, suc, ◌+◌, ◌<◌, ◌≤◌, Bool, true, false, not, ◌||◌, List, [], ◌∷◌, ◌++◌, length, Option, Some, None, is_some, cond, nat_eq, nat_le, eqb-true, eq-eqb, refl, ap, sym, subst, ◌∙◌, ◌⊎◌, inl, inr, filter, get_or, arith}
+use Rattle.std.proofs.Common.{◌≡◌, ℕ, zero, suc, ◌<◌, Bool, true, false, not, ◌||◌, List, [], ◌∷◌, length, Option, Some, None, is_some, cond, nat_eq, nat_le, eqb-true, refl, ap, sym, subst, ◌∙◌, inl, inr, get_or, arith}
 use Rattle.std.specs.List.{list_any}
 use Rattle.std.proofs.lemmas.Bool.{leb-true}
 use Rattle.theory.specs.Literals.{Literal, Clause, same, has, has_var, has_both_signs, negated, negations, without}
 use Rattle.theory.specs.Truth.{IsOver}
 use Rattle.theory.specs.Steps.{Group, Addition}
-use Rattle.theory.specs.ProofReading.{IsLiteral, IsAddition}
+use Rattle.theory.specs.ProofReading.{IsLiteral}
 use Rattle.theory.specs.Checking.{Numbered, Fault, clause_of, without_number, take_hints, is_closed, rup_fault, hints_fault, hint_after_conflict, id_not_rising, literal_out_of_range, both_signs, addition_fault, deleted, is_empty}
-use Rattle.theory.proofs.LiteralLemmas.{or-cases, same-eq, same-refl}
-use Rattle.theory.proofs.LiteralSets.{true_false, false_unless, or-none, or-false_left, or-false_right, has-head, has-tail, has-cases, has-equal, has_var-none, other-same, negated-negated, has-negations, has-from_negations, list_any-none}
+use Rattle.theory.proofs.LiteralLemmas.{same-eq}
+use Rattle.theory.proofs.LiteralSets.{false_unless, or-false_left, or-false_right, has-tail, has-cases, has-equal, has_var-none, other-same, negated-negated, has-negations, has-from_negations}
 use Rattle.lrat.specs.Assumed.{IsAssumed, AreSame}
 use Rattle.lrat.proofs.SameLiterals.{AreSame-by, take_hints-same, hints_fault-same}
 

@@ -1,14 +1,12 @@
 -- The walk that puts the negations of a clause's literals.
-use Rattle.std.proofs.Common.{◌≡◌, ℕ, zero, suc, ◌+◌, ◌<◌, ◌≤◌, Bool, true, false, not, ◌||◌, List, [], ◌∷◌, ◌++◌, length, take, get_or, Option, Some, None, refl, ap, sym, subst, ◌∙◌, ◌⊎◌, inl, inr, arith}
+use Rattle.std.proofs.Common.{◌≡◌, ℕ, zero, suc, ◌+◌, ◌<◌, ◌≤◌, Bool, true, false, List, [], ◌∷◌, ◌++◌, length, take, get_or, refl, ap, sym, subst, ◌∙◌, ◌⊎◌, inl, inr, arith}
 use Rattle.std.specs.List.{list_any}
 use Rattle.std.proofs.lemmas.List.{take_more}
 use Rattle.theory.specs.Literals.{Literal, Clause, same, has, has_var, has_both_signs, negated, without}
-use Rattle.theory.specs.Lawful.{are_distinct}
 use Rattle.theory.specs.Checking.{is_closed}
 use Rattle.theory.proofs.LiteralLemmas.{or-left, or-right, same-eq, same-refl}
-use Rattle.theory.proofs.LiteralSets.{true_false, false_unless, or-none, has-head, has-equal, has-tail, has-cases, has-append_left, has-append_right, has-append_cases, has_var-has, negated-negated, negated-other, same-other, other-same, same_variable, has-without, has-from_without, has_both_signs-none, list_any-none}
+use Rattle.theory.proofs.LiteralSets.{true_false, false_unless, or-none, has-head, has-tail, has-cases, has-append_left, has-append_right, has-append_cases, has_var-has, negated-negated, negated-other, same-other, same_variable, has-without, has-from_without, has_both_signs-none, list_any-none}
 use Rattle.lrat.specs.Assumed.{IsAssumed}
-use Rattle.lrat.proofs.Statuses.{has-at, has-before, IsMet-end}
 
 pub IsAssumed-none : (P : List Literal) (q : Literal) → IsAssumed P q [] P
 IsAssumed-none P q = record {

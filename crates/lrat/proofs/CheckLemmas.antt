@@ -1,5 +1,5 @@
 -- Steps, as they are tested one after the other.
-use Rattle.std.proofs.Common.{◌≡◌, ℕ, zero, suc, ◌+◌, ◌-◌, ◌<◌, ◌≤◌, Bool, true, false, ◌||◌, List, [], ◌∷◌, length, drop, get_or, map, Option, Some, None, cond, nat_eq, eqb-true, refl, ap, sym, subst, ◌∙◌, arith, add-one, All}
+use Rattle.std.proofs.Common.{◌≡◌, ℕ, zero, suc, ◌+◌, ◌<◌, ◌≤◌, Bool, true, false, ◌||◌, List, [], ◌∷◌, length, drop, get_or, map, Option, Some, None, cond, nat_eq, eqb-true, refl, ap, sym, subst, ◌∙◌, arith, add-one, All}
 use Rattle.std.proofs.Math.Seq.{drop-cons}
 use Rattle.std.proofs.lemmas.List.{drop-map, length-map}
 use Rattle.theory.specs.Literals.{Clause}

@@ -19,3 +19,5 @@ pub mod SameLiterals
 pub mod GroupLemmas
 pub mod AdditionLemmas
 pub mod CheckLemmas
+pub mod OccurrenceLemmas
+pub mod CandidateLemmas

@@ -1,7 +1,6 @@
 -- The clauses that are there, by the slots: one more, one found by its number, one taken away.
-use Rattle.std.proofs.Common.{◌≡◌, ℕ, zero, suc, ◌+◌, ◌<◌, ◌≤◌, Bool, true, false, not, List, [], ◌∷◌, ◌++◌, length, take, get_or, Option, Some, None, is_some, cond, nat_eq, eqb-true, eq-eqb, refl, ap, sym, subst, ◌∙◌, slice_get, slice_set, ◌⊎◌, inl, inr, filter, arith, All}
+use Rattle.std.proofs.Common.{◌≡◌, ℕ, zero, suc, ◌<◌, Bool, true, false, not, List, [], ◌∷◌, ◌++◌, length, get_or, Option, Some, None, cond, nat_eq, eqb-true, eq-eqb, refl, ap, sym, subst, ◌∙◌, slice_get, slice_set, ◌⊎◌, inl, inr, arith, All}
 use Rattle.std.specs.List.{list_all}
-use Rattle.std.proofs.lemmas.List.{take_more}
 use Rattle.std.proofs.lemmas.List.Elements.{All-append}
 use Rattle.std.proofs.lemmas.Option.{slice_get_within, slice_get_read, get_or_from_slice_get}
 use Rattle.theory.specs.Literals.{Clause}
@@ -114,10 +113,6 @@ pub there_before-push : (ss : List Slot) (K : Numbered) (s : Slot) → there_bef
 there_before-push [] K s = refl
 there_before-push (r ∷ ss) K s = there_before-push ss (put r K) s
 
-pub there_before-take : (ss : List Slot) (K : Numbered) (i : ℕ) (s : Slot) → i < length ss → s ≡ get_or ss i s → there_before K (take (i + 1) ss) ≡ put s (there_before K (take i ss))
-there_before-take ss K i s less e =
-    ap (there_before K) (take_more ss i s less) ∙ (there_before-push (take i ss) K (get_or ss i s) ∙ ap (λ (x : Slot). put x (there_before K (take i ss))) (sym e))
-
 slice_get-last : (ss : List Slot) (s : Slot) → slice_get (ss ++ s ∷ []) (length ss) ≡ Some s
 slice_get-last [] s = refl
 slice_get-last (r ∷ ss) s = slice_get-last ss s
@@ -168,17 +163,11 @@ no_place ss place n p none = go (place n) refl
         let there : clause_of (there_before [] ss) n ≡ Some found.0.clause = clause_of-place ss place n i found.0 p e found.1 in absurd (cc)
 
 -- what is read at a place
-pub there-at : (ss : List Slot) (i : ℕ) (s t : Slot) → i < length ss → s ≡ get_or ss i s → t ≡ s → t.is_there ≡ true
-    → (K : Numbered) → there_before K (take (i + 1) ss) ≡ (t.id, t.clause) ∷ there_before K (take i ss)
-there-at ss i s t less e same b K =
-    there_before-take ss K i s less e ∙ (ap (λ (x : Slot). put x (there_before K (take i ss))) (sym same)
-    ∙ ap (λ b. cond b ((t.id, t.clause) ∷ there_before K (take i ss)) (there_before K (take i ss))) b)
+pub get-at : (ss : List Slot) (i : ℕ) (s : Slot) → i < length ss → s ≡ get_or ss i s → slice_get ss i ≡ Some s
+get-at ss i s less e = slice_get_read ss (length ss) i s refl less e
 
-pub gone-at : (ss : List Slot) (i : ℕ) (s t : Slot) → i < length ss → s ≡ get_or ss i s → t ≡ s → t.is_there ≡ false
-    → (K : Numbered) → there_before K (take (i + 1) ss) ≡ there_before K (take i ss)
-gone-at ss i s t less e same b K =
-    there_before-take ss K i s less e ∙ (ap (λ (x : Slot). put x (there_before K (take i ss))) (sym same)
-    ∙ ap (λ b. cond b ((t.id, t.clause) ∷ there_before K (take i ss)) (there_before K (take i ss))) b)
+pub slot-at : (ss : List Slot) (i : ℕ) (r s t : Slot) → slice_get ss i ≡ Some r → s ≡ get_or ss i s → t ≡ s → (Q : Slot → Type 0) → Q t → Q r
+slot-at ss i r s t g e same Q h = subst Q (same ∙ (e ∙ get_or_from_slice_get ss i r s g)) h
 
 read : (ss : List Slot) (place : ℕ → Option ℕ) (n i : ℕ) (s : Slot) → ArePlaces ss place → Some i ≡ place n → s ≡ get_or ss i s → slice_get ss i ≡ Some s
 read ss place n i s p at e =
@@ -210,9 +199,14 @@ without-read ss place n i s t p at e same =
 pub over-at : (V : ℕ) (ss : List Slot) (i : ℕ) (s t : Slot) → i < length ss → s ≡ get_or ss i s → t ≡ s → All (λ (x : Slot). IsOver V x.clause) ss → IsOver V t.clause
 over-at V ss i s t less e same all = subst (λ (x : Slot). IsOver V x.clause) (sym (same ∙ e)) (all i s less)
 
--- what holds of the clauses there holds of those in the first slots
-pub all-first : (p : ℕ × Clause → Bool) (ss : List Slot) (K : Numbered) (n : ℕ) → list_all p (there_before K ss) ≡ true → list_all p (there_before K (take n ss)) ≡ true
-all-first p ss K zero h = rest p ss K h
+-- what holds of the clauses there holds of each slot that is there
+pub slot-holds : (p : ℕ × Clause → Bool) (ss : List Slot) (K : Numbered) (i : ℕ) (s : Slot) → list_all p (there_before K ss) ≡ true → slice_get ss i ≡ Some s → s.is_there ≡ true
+    → p (s.id, s.clause) ≡ true
+slot-holds p [] K i s h g t = absurd (cc)
+slot-holds p (r ∷ ss) K zero s h g t =
+    let first = rest p ss (put r K) h in
+    let same : r ≡ s = some_same r s g in
+    and-left (p (s.id, s.clause)) (list_all p K) (ap (λ b. list_all p (cond b ((s.id, s.clause) ∷ K) K)) (sym t) ∙ (ap (λ (x : Slot). list_all p (put x K)) (sym same) ∙ first))
   where
     rest : (p : ℕ × Clause → Bool) (ss : List Slot) (K : Numbered) → list_all p (there_before K ss) ≡ true → list_all p K ≡ true
     rest p [] K h = h
@@ -221,11 +215,7 @@ all-first p ss K zero h = rest p ss K h
         go : (b : Bool) → list_all p (cond b ((s.id, s.clause) ∷ K) K) ≡ true → list_all p K ≡ true
         go true t = and-right (p (s.id, s.clause)) (list_all p K) t
         go false t = t
-all-first p [] K (suc n) h = h
-all-first p (s ∷ ss) K (suc n) h = all-first p ss (put s K) n h
+slot-holds p (r ∷ ss) K (suc i) s h g t = slot-holds p ss (put r K) i s h g t
 
--- what doesn't hold of a slot's clause doesn't hold of all
-pub not_all : (p : ℕ × Clause → Bool) (ss : List Slot) (i : ℕ) (e : ℕ × Clause) → ((K : Numbered) → there_before K (take (i + 1) ss) ≡ e ∷ there_before K (take i ss)) → p e ≡ false
-    → list_all p (there_before [] ss) ≡ false
-not_all p ss i e h fails = false_unless (list_all p (there_before [] ss)) (λ t.
-    true_false (p e) (and-left (p e) (list_all p (there_before [] (take i ss))) (sym (ap (list_all p) (h [])) ∙ all-first p ss [] (i + 1) t)) fails)
+pub not_all : (p : ℕ × Clause → Bool) (ss : List Slot) (i : ℕ) (s : Slot) → slice_get ss i ≡ Some s → s.is_there ≡ true → p (s.id, s.clause) ≡ false → list_all p (there_before [] ss) ≡ false
+not_all p ss i s g t fails = false_unless (list_all p (there_before [] ss)) (λ h. true_false (p (s.id, s.clause)) (slot-holds p ss [] i s h g t) fails)

@@ -1,5 +1,5 @@
 -- What a clause is, by a walk over its literals that keeps the one free literal met so far.
-use Rattle.std.proofs.Common.{◌≡◌, ℕ, zero, suc, ◌+◌, ◌<◌, ◌≤◌, Bool, true, false, not, ◌||◌, List, [], ◌∷◌, ◌++◌, length, take, drop, get_or, Option, Some, None, option_map, find, cond, nat_eq, eqb-true, eq-eqb, refl, ap, sym, subst, ◌∙◌, inl, inr, ◌⊎◌, arith, add-one}
+use Rattle.std.proofs.Common.{◌≡◌, ℕ, zero, suc, ◌+◌, ◌<◌, ◌≤◌, Bool, true, false, not, ◌||◌, List, [], ◌∷◌, ◌++◌, length, take, drop, get_or, Option, Some, None, find, cond, nat_eq, eqb-true, eq-eqb, refl, ap, sym, subst, ◌∙◌, inl, inr, ◌⊎◌, arith, add-one}
 use Rattle.std.specs.List.{list_all}
 use Rattle.std.proofs.Math.Bool.{beq}
 use Rattle.std.proofs.Math.Seq.{drop-cons}

@@ -12,3 +12,5 @@ pub mod Taken
 pub mod Assumed
 pub mod Named
 pub mod Tested
+pub mod Occurrences
+pub mod Indexed

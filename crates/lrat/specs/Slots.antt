@@ -1,7 +1,6 @@
 -- Clauses in the order in which they came, with those that were taken away left in their places.
-use Rattle.std.specs.Prelude.{◌≡◌, ℕ, Bool, true, List, [], ◌∷◌, Option, Some, None, map, All, slice_get, if◌then◌else◌}
+use Rattle.std.specs.Prelude.{◌≡◌, ℕ, Bool, true, List, [], ◌∷◌, Option, Some, slice_get, if◌then◌else◌}
 use Rattle.theory.specs.Literals.{Clause}
-use Rattle.theory.specs.Truth.{IsOver}
 use Rattle.theory.specs.Checking.{Numbered}
 
 -- a clause, its number, and whether it is there

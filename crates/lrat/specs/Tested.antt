@@ -6,6 +6,7 @@ use Rattle.theory.specs.Checking.{Numbered, clause_of}
 use Rattle.lrat.specs.declared.checker.Checker.{Checker}
 use Rattle.lrat.specs.declared.check_fault.Fault.{Fault}
 use Rattle.lrat.specs.CheckFaults.{fault_of}
+use Rattle.lrat.specs.Indexed.{IsIndexed}
 use Rattle.lrat.specs.Slots.{there}
 
 -- whether each was there, and what is left then
@@ -25,6 +26,7 @@ pub record IsReady (V : ℕ) (s : Checker) : Type 0 where
   pub clauses_vars : s.clauses.vars ≡ V
   pub held_vars : s.held.vars ≡ V
   pub none_held : s.held.literals ≡ []
+  pub indexed : IsIndexed s.clauses.slots s.occurrences
   pub unused : (n : ℕ) → s.last < n → clause_of (there s.clauses) n ≡ None
 
 -- the step has the fault, or leaves the checker ready

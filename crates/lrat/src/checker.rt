@@ -8,6 +8,8 @@ ghost use Rattle.theory.specs.Checking.{accepted, addition_fault, checks, delete
 ghost use Rattle.theory.specs.Steps.{add, delete};
 ghost use Rattle.lrat.specs.Assumed.{AreSame};
 ghost use Rattle.lrat.specs.CheckFaults.{faults_of, IsRefused};
+ghost use Rattle.lrat.specs.Indexed.{IsIndexed};
+ghost use Rattle.lrat.specs.Occurrences.{StayThere};
 ghost use Rattle.lrat.specs.Slots.{there};
 ghost use Rattle.lrat.specs.Steps.{step_of};
 ghost use Rattle.lrat.specs.Tested.{IsReady, Tests, IsDeleted, checker_of, start};
@@ -18,6 +20,7 @@ use crate::clauses::Clauses;
 use crate::groups::rat_fault;
 use crate::held::Held;
 use crate::hints::{Taken, take_hints};
+use crate::occurrences::Occurrences;
 use crate::step::{Addition, Deletion, Step};
 use cnf::{Formula, Lit};
 use std::alloc::{AllocError, Global};
@@ -27,6 +30,7 @@ use std::alloc::{AllocError, Global};
 #[derive(Drop)]
 pub(crate) struct Checker<'a> {
     clauses: Clauses<'a>,
+    occurrences: Occurrences,
     held: Held,
     last: u64,
     empty: bool,
@@ -68,11 +72,14 @@ fn addition_fault(
     alloc: Global,
     held: &mut Held,
     clauses: &Clauses,
+    occurrences: &mut Occurrences,
     last: u64,
     addition: &Addition,
 ) -> Result<Option<Fault>, AllocError>
     requires vars { clauses.now.vars ≡ held.old.vars }
+    requires indexed { IsIndexed clauses.now.slots occurrences.old }
     requires none { held.old.literals ≡ [] }
+    ensures indexed { IsIndexed clauses.now.slots occurrences.new }
     ensures fault { IfOk result (λ o. faults_of o ≡ addition_fault held.old.vars last (there clauses.now) addition.now) }
     ensures vars { held.new.vars ≡ held.old.vars }
 {
@@ -92,7 +99,7 @@ fn addition_fault(
         } else {
             Some(Fault::HintAfterConflict)
         }),
-        Taken::Open => rat_fault(alloc, held, clauses, clause, addition.groups()),
+        Taken::Open => rat_fault(alloc, held, clauses, occurrences, clause, addition.groups()),
         Taken::Fails(fault) => Ok(Some(fault)),
     }
 }
@@ -100,6 +107,7 @@ fn addition_fault(
 /// Takes clauses away, if each is there in its turn. Answers whether each was.
 fn delete(clauses: &mut Clauses, ids: &[u64]) -> bool
     ensures deleted { IsDeleted (deleted (there clauses.old) ids.now) result (there clauses.new) }
+    ensures stay { StayThere clauses.old.slots clauses.new.slots }
     ensures vars { clauses.new.vars ≡ clauses.old.vars }
 {
     for id in ids {
@@ -126,6 +134,7 @@ impl<'a> Checker<'a> {
         }
         Ok(Checker {
             clauses,
+            occurrences: Occurrences::new(alloc),
             held: Held::new(alloc, formula.vars())?,
             last: count as u64,
             empty: false,
@@ -137,7 +146,14 @@ impl<'a> Checker<'a> {
         requires { IsReady self.old.held.vars self.old }
         ensures { IfOk result (λ o. Tests (test self.old.held.vars (checker_of self.old) (add addition.now)) self.old.held.vars o self.new) }
     {
-        let fault = addition_fault(alloc, &mut self.held, &self.clauses, self.last, addition)?;
+        let fault = addition_fault(
+            alloc,
+            &mut self.held,
+            &self.clauses,
+            &mut self.occurrences,
+            self.last,
+            addition,
+        )?;
         if fault.is_some() {
             return Ok(fault);
         }

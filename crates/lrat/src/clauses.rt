@@ -1,9 +1,11 @@
 //! The clauses that are there, by their numbers. Each one's literals stay where they are, in the formula or in a step.
-ghost use Rattle.std.specs.Prelude.{◌≡◌, ◌<◌, ◌+◌, take, true, None, Some, is_some, [], ◌∷◌, length, IfOk, OnOk, OnErr, slice_get, MatchOption};
+ghost use Rattle.std.specs.Prelude.{◌≡◌, ◌<◌, true, false, None, Some, is_some, [], ◌∷◌, length, IfOk, OnOk, OnErr, slice_get, MatchOption};
 ghost use Rattle.std.specs.Option.{option_map};
 ghost use Rattle.theory.specs.Truth.{IsOver};
-ghost use Rattle.theory.specs.Checking.{Numbered, clause_of, without_number};
-ghost use Rattle.lrat.specs.Slots.{there, there_before, put};
+ghost use Rattle.theory.specs.Checking.{clause_of, without_number};
+ghost use Rattle.lrat.specs.Occurrences.{StayThere};
+ghost use Rattle.lrat.specs.Slots as slots;
+ghost use Rattle.lrat.specs.Slots.{there};
 
 use cnf::Lit;
 use std::alloc::{AllocError, Global};
@@ -82,13 +84,29 @@ impl<'a> Clauses<'a> {
         }
     }
 
+    /// The number of variables.
+    pub(crate) fn vars(&self) -> u32
+        ensures { result ≡ self.now.vars }
+    {
+        self.vars
+    }
+
+    /// The literals of the clause in the slot at a place, whether or not it is there.
+    pub(crate) fn clause(&self, place: usize) -> &'a [Lit]
+        requires { place < length self.now.slots }
+        ensures slot { (s : slots.Slot) × (slice_get self.now.slots place ≡ Some s) × (s.clause ≡ result.now) }
+        ensures over { IsOver self.now.vars result.now }
+    {
+        let slot = &self.slots[place];
+        slot.clause
+    }
+
     /// The number and the literals of the clause in the slot at a place, if it is there.
     pub(crate) fn at(&self, place: usize) -> Option<(u64, &'a [Lit])>
         requires { place < length self.now.slots }
         ensures over { MatchOption result (Unit {0}) (λ e. IsOver self.now.vars e.1.now) }
-        ensures clause { MatchOption result
-            ((K : Numbered) → there_before K (take (place + 1) self.now.slots) ≡ there_before K (take place self.now.slots))
-            (λ e. (K : Numbered) → there_before K (take (place + 1) self.now.slots) ≡ (e.0, e.1.now) ∷ there_before K (take place self.now.slots)) }
+        ensures slot { (s : slots.Slot) → slice_get self.now.slots place ≡ Some s →
+            MatchOption result (s.is_there ≡ false) (λ e. (s.is_there ≡ true) × (s.id ≡ e.0) × (s.clause ≡ e.1.now)) }
     {
         let slot = &self.slots[place];
         if slot.is_there {
@@ -103,6 +121,7 @@ impl<'a> Clauses<'a> {
         requires is_new { clause_of (there self.old) id ≡ None }
         requires over { IsOver self.old.vars clause.now }
         ensures ok { OnOk result (there self.new ≡ (id, clause.now) ∷ there self.old) }
+        ensures stay { OnOk result (StayThere self.old.slots self.new.slots) }
         ensures vars { self.new.vars ≡ self.old.vars }
     {
         self.slots.push(Slot {
@@ -124,6 +143,7 @@ impl<'a> Clauses<'a> {
     pub(crate) fn remove(&mut self, id: u64) -> bool
         ensures found { result ≡ is_some (clause_of (there self.old) id) }
         ensures removed { result ≡ true → there self.new ≡ without_number (there self.old) id }
+        ensures stay { StayThere self.old.slots self.new.slots }
         ensures vars { self.new.vars ≡ self.old.vars }
     {
         match self.places.remove(&id) {

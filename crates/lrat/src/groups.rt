@@ -1,20 +1,23 @@
 //! Resolution asymmetric tautologies: the candidates of an addition, which are the clauses that have its negated pivot,
 //! and the groups of hints for them.
-ghost use Rattle.std.specs.Prelude.{◌≡◌, ℕ, List, [], ◌∷◌, true, false, None, Some, IfOk, OnOk, MatchOption, if◌then◌else◌, nat_eq};
+ghost use Rattle.std.specs.Prelude.{◌≡◌, ℕ, List, [], ◌∷◌, true, false, None, Some, IfOk, OnOk, MatchOption, if◌then◌else◌, nat_eq, slice_get};
+ghost use Rattle.std.specs.List.{list_any};
 ghost use Rattle.std.specs.HashSet.{contains};
 ghost use Rattle.theory.specs.Literals.{has};
 ghost use Rattle.theory.specs.Truth.{IsOver};
 ghost use Rattle.theory.specs.Checking.{clause_of, is_closed, are_dealt_with, group_fault, groups_fault, rat_fault};
 ghost use Rattle.lrat.specs.CheckFaults.{faults_of};
 ghost use Rattle.lrat.specs.Held.{Extends};
-ghost use Rattle.lrat.specs.Slots.{there};
-ghost use Rattle.lrat.specs.Named.{IsNamed, LeavesNamed};
+ghost use Rattle.lrat.specs.Indexed.{IsIndexed};
+ghost use Rattle.lrat.specs.Slots.{Slot, there};
+ghost use Rattle.lrat.specs.Named.{IsNamed, IsDealtWith, LeavesNamed};
 
 use crate::assume::assume;
 use crate::check_fault::Fault;
 use crate::clauses::Clauses;
 use crate::held::Held;
 use crate::hints::{Taken, take_hints};
+use crate::occurrences::Occurrences;
 use crate::step::Group;
 use cnf::Lit;
 use std::alloc::{AllocError, Global};
@@ -46,24 +49,54 @@ fn is_closed(held: &mut Held, clause: &[Lit], pivot: Lit) -> Result<bool, AllocE
     Ok(closed)
 }
 
-/// Whether each candidate is closed or among those named. It walks over the clauses.
-fn are_dealt_with(
+/// Whether the clause in the slot at a place, where it is there and is a candidate, is closed or among those named.
+fn is_dealt_with(
     held: &mut Held,
     clauses: &Clauses,
+    place: usize,
     pivot: Lit,
     named: &HashSet<u64>,
 ) -> Result<bool, AllocError>
     requires { clauses.now.vars ≡ held.old.vars }
+    ensures yes { (L : List ℕ) → IsNamed (contains nat_eq named.now) L → IfOk result (λ b. b ≡ true →
+        (s : Slot) → slice_get clauses.now.slots place ≡ Some s → s.is_there ≡ true → IsDealtWith held.old.literals pivot L s) }
+    ensures no { (L : List ℕ) → IsNamed (contains nat_eq named.now) L → IfOk result (λ b. b ≡ false →
+        are_dealt_with (there clauses.now) held.old.literals pivot L ≡ false) }
+    ensures kept { OnOk result (held.new.literals ≡ held.old.literals) }
+    ensures vars { held.new.vars ≡ held.old.vars }
+{
+    if place >= clauses.len() {
+        return Ok(true);
+    }
+    let Some((id, clause)) = clauses.at(place) else {
+        return Ok(true);
+    };
+    if !has(clause, pivot) || named.contains(&id) {
+        return Ok(true);
+    }
+    is_closed(held, clause, pivot)
+}
+
+/// Whether each candidate is closed or among those named, where its place is among the places. It takes time by the
+/// literals of the clauses at these.
+fn are_dealt_with(
+    held: &mut Held,
+    clauses: &Clauses,
+    places: &[usize],
+    pivot: Lit,
+    named: &HashSet<u64>,
+) -> Result<bool, AllocError>
+    requires vars { clauses.now.vars ≡ held.old.vars }
+    requires places { (i : ℕ) (s : Slot) → slice_get clauses.now.slots i ≡ Some s → s.is_there ≡ true → has s.clause pivot ≡ true →
+        list_any (nat_eq i) places.now ≡ true }
     ensures dealt_with { (L : List ℕ) → IsNamed (contains nat_eq named.now) L →
         IfOk result (λ b. b ≡ are_dealt_with (there clauses.now) held.old.literals pivot L) }
     ensures kept { OnOk result (held.new.literals ≡ held.old.literals) }
     ensures vars { held.new.vars ≡ held.old.vars }
 {
-    for place in 0..clauses.len() {
-        if let Some((id, clause)) = clauses.at(place) {
-            if has(clause, pivot) && !named.contains(&id) && !is_closed(held, clause, pivot)? {
-                return Ok(false);
-            }
+    for place in places {
+        if !is_dealt_with(held, clauses, *place, pivot, named)? {
+            return Ok(false);
         }
     }
     Ok(true)
@@ -136,10 +169,13 @@ pub(crate) fn rat_fault(
     alloc: Global,
     held: &mut Held,
     clauses: &Clauses,
+    occurrences: &mut Occurrences,
     clause: &[Lit],
     groups: &[Group],
 ) -> Result<Option<Fault>, AllocError>
     requires vars { clauses.now.vars ≡ held.old.vars }
+    requires indexed { IsIndexed clauses.now.slots occurrences.old }
+    ensures indexed { IsIndexed clauses.now.slots occurrences.new }
     ensures fault { IfOk result (λ o. faults_of o ≡ rat_fault (there clauses.now) held.old.literals clause.now groups.now) }
     ensures vars { held.new.vars ≡ held.old.vars }
 {
@@ -152,7 +188,9 @@ pub(crate) fn rat_fault(
     if fault.is_some() {
         return Ok(fault);
     }
-    if are_dealt_with(held, clauses, pivot, &named)? {
+    occurrences.enter_all(alloc, clauses)?;
+    let places = occurrences.of(pivot);
+    if are_dealt_with(held, clauses, places, pivot, &named)? {
         Ok(None)
     } else {
         Ok(Some(Fault::MissingCandidate))

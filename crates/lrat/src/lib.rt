@@ -1,4 +1,4 @@
-//! Proofs in LRAT: their steps, and the text of these, both ways.
+//! Proofs in LRAT: their steps, the text of these, both ways, and the checker.
 #![tactic(auto)]
 
 mod assume;
@@ -13,6 +13,7 @@ mod held;
 mod hints;
 mod laws;
 mod line;
+mod occurrences;
 mod read;
 mod step;
 #[cfg(test)]

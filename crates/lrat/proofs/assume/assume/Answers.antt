@@ -1,7 +1,6 @@
-use Rattle.std.proofs.Common.{◌≡◌, false, ap, sym, ◌∙◌}
-use Rattle.theory.specs.Literals.{same, has, has_var, negated}
+use Rattle.std.proofs.Common.{◌≡◌, sym, ◌∙◌}
 use Rattle.lrat.proofs.Statuses.{value-none, value-held, value-other, beq-same, beq-other, at-place, has-before}
-use Rattle.lrat.proofs.Assumptions.{IsAssumed-pivot, IsAssumed-push, IsAssumed-held, closed-by_pivot, closed-by_held, not_closed, next, whole}
+use Rattle.lrat.proofs.Assumptions.{IsAssumed-pivot, IsAssumed-push, IsAssumed-held, closed-by_held, not_closed, next, whole}
 use Rattle.lrat.proofs.HeldLemmas.{Extends-push}
 use Rattle.lrat.proofs.assume.assume.Goals as goal
 use Rattle.lrat.proofs.assume.assume.Goals.{then-var+else-not-same, else-var+in-None+in_ok-push-in-None, else-var+in-Some+else-value-positive}

@@ -1,8 +1,6 @@
-use Rattle.std.proofs.Common.{◌≡◌, ◌+◌, ◌∙◌, length, map, ap, sym, subst, arith}
+use Rattle.std.proofs.Common.{◌≡◌, ◌+◌, ◌∙◌, length, map, sym, arith}
 use Rattle.std.proofs.lemmas.List.{length-map}
-use Rattle.theory.specs.Checking.{test}
 use Rattle.theory.proofs.Soundness.{accepted-unsatisfiable}
-use Rattle.lrat.specs.CheckFaults.{IsRefused}
 use Rattle.lrat.specs.Steps.{step_of}
 use Rattle.lrat.specs.Tested.{checker_of}
 use Rattle.lrat.proofs.CheckLemmas.{check-leaves, check-faulty, check-ends, refused-at, map-next}

@@ -1,5 +1,6 @@
 use Rattle.std.proofs.Common.{◌≡◌, drop}
 use Rattle.theory.specs.Checking.{deleted}
+use Rattle.lrat.specs.Occurrences.{StayThere}
 use Rattle.lrat.specs.Slots.{there}
 use Rattle.lrat.proofs.checker.delete.Given as goal
 
@@ -7,5 +8,6 @@ use Rattle.lrat.proofs.checker.delete.Given as goal
 abbrev pub invariant-loop-id : goal.invariant-loop-id
 invariant-loop-id l = record {
   left : deleted (there l.clauses) (drop l.id-index l.ids) ≡ deleted (there l.fn.clauses) l.ids;
+  stay : StayThere l.fn.clauses.slots l.clauses.slots;
   vars : l.clauses.vars ≡ l.fn.clauses.vars;
 }

@@ -1,4 +1,4 @@
-use Rattle.std.proofs.Common.{◌≡◌, ◌∙◌, ap, sym}
+use Rattle.std.proofs.Common.{◌∙◌, ap, sym}
 use Rattle.theory.specs.Checking.{is_closed}
 use Rattle.lrat.proofs.AdditionLemmas.{closed-nothing, pivot-free, negations-put, some-length}
 use Rattle.lrat.proofs.Statuses.{at-place}

@@ -1,14 +1,15 @@
-use Rattle.std.proofs.Common.{◌≡◌, ℕ, true, List, [], take, nat_eq}
+use Rattle.std.proofs.Common.{◌≡◌, ℕ, true, Some, List, take, nat_eq, slice_get}
+use Rattle.std.specs.List.{list_any}
 use Rattle.std.specs.HashSet.{contains}
-use Rattle.theory.specs.Checking.{are_dealt_with}
-use Rattle.lrat.specs.Slots.{there_before}
-use Rattle.lrat.specs.Named.{IsNamed}
+use Rattle.lrat.specs.Slots.{Slot}
+use Rattle.lrat.specs.Named.{IsNamed, IsDealtWith}
 use Rattle.lrat.proofs.groups.are_dealt_with.Given as goal
 
--- the candidates so far are dealt with
+-- the candidates at the places so far are dealt with
 abbrev pub invariant-loop-place : goal.invariant-loop-place
 invariant-loop-place l = record {
-  so_far : (L : List ℕ) → IsNamed (contains nat_eq l.named) L → are_dealt_with (there_before [] (take l.place l.clauses.slots)) l.fn.held.literals l.pivot L ≡ true;
+  so_far : (L : List ℕ) → IsNamed (contains nat_eq l.named) L → (i : ℕ) (s : Slot) → list_any (nat_eq i) (take l.place-index l.places) ≡ true →
+      slice_get l.clauses.slots i ≡ Some s → s.is_there ≡ true → IsDealtWith l.fn.held.literals l.pivot L s;
   kept : l.held.literals ≡ l.fn.held.literals;
   vars : l.held.vars ≡ l.fn.held.vars;
 }

@@ -1,4 +1,4 @@
-use Rattle.std.proofs.Common.{◌≡◌, ◌∙◌, ap, sym, subst}
+use Rattle.std.proofs.Common.{◌∙◌, sym}
 use Rattle.lrat.specs.declared.hints.Taken.TheVariants.{Conflict, Open, Fails}
 use Rattle.lrat.specs.Slots.{there}
 use Rattle.lrat.proofs.HeldLemmas.{Extends-trans}

@@ -1,9 +1,7 @@
-use Rattle.std.proofs.Common.{◌≡◌, ◌∙◌, ap, sym, subst}
+use Rattle.std.proofs.Common.{◌∙◌, sym, subst}
 use Rattle.theory.specs.Truth.{IsOver}
-use Rattle.theory.specs.Checking.{take_hints}
 use Rattle.theory.proofs.ClauseLemmas.{unit-fresh}
 use Rattle.theory.proofs.OverVariables.{AreOver-from_IsOver}
-use Rattle.lrat.specs.Held.{Extends}
 use Rattle.lrat.specs.Slots.{there}
 use Rattle.lrat.proofs.Statuses.{unit-hinted, unit-has, take_hints-unit}
 use Rattle.lrat.proofs.HeldLemmas.{Extends-push}

@@ -5,6 +5,7 @@ use Rattle.lrat.specs.Tested.{checker_of}
 use Rattle.lrat.proofs.AdditionLemmas.{passed, is_empty-length, unused-added}
 use Rattle.lrat.proofs.CheckLemmas.{add-leaves}
 use Rattle.lrat.proofs.GroupLemmas.{no_fault}
+use Rattle.lrat.proofs.OccurrenceLemmas.{IsIndexed-stay}
 use Rattle.lrat.proofs.HeldLemmas.{Extends-nothing}
 use Rattle.lrat.proofs.checker.Checker.add.Goals as goal
 
@@ -27,6 +28,7 @@ returns-then-is_empty c =
       record {
         clauses_vars = c.push.ensures.vars ∙ c.requires.clauses_vars;
         held_vars = c.go_back.ensures.vars ∙ c.addition_fault.ensures.vars;
+        indexed = IsIndexed-stay _ _ c.addition_fault.new.occurrences c.in_ok-push.ensures.stay c.addition_fault.ensures.indexed;
         none_held = c.go_back.ensures.left [] refl (Extends-nothing c.addition_fault.new.held.literals);
         unused = λ n more. rw clauses (unused-added _ a.id c.args.self.now.last a.clause (leb-false a.id c.args.self.now.last (passed _ _ _ a none).0) c.requires.unused n (rw c.id-self.ensures.id at more));
       },
@@ -43,6 +45,7 @@ returns-else-is_empty c =
       record {
         clauses_vars = c.push.ensures.vars ∙ c.requires.clauses_vars;
         held_vars = c.go_back.ensures.vars ∙ c.addition_fault.ensures.vars;
+        indexed = IsIndexed-stay _ _ c.addition_fault.new.occurrences c.in_ok-push.ensures.stay c.addition_fault.ensures.indexed;
         none_held = c.go_back.ensures.left [] refl (Extends-nothing c.addition_fault.new.held.literals);
         unused = λ n more. rw clauses (unused-added _ a.id c.args.self.now.last a.clause (leb-false a.id c.args.self.now.last (passed _ _ _ a none).0) c.requires.unused n (rw c.id-self.ensures.id at more));
       },

@@ -1,10 +1,10 @@
-use Rattle.std.proofs.Common.{◌≡◌, ◌+◌, ◌-◌, ◌∷◌, length, map, drop, ap, sym, subst, ◌∙◌, refl, arith}
+use Rattle.std.proofs.Common.{◌≡◌, ◌+◌, ◌-◌, [], ◌∷◌, length, map, drop, ap, ◌∙◌, arith}
 use Rattle.std.proofs.lemmas.List.{length-map}
-use Rattle.theory.specs.Truth.{IsOver}
 use Rattle.theory.specs.Checking.{numbered_from, clause_of}
 use Rattle.lrat.specs.Held.{Held}
 use Rattle.lrat.specs.Slots.{Store, there}
 use Rattle.lrat.proofs.CheckLemmas.{unused-below, unused-past, numbered-more, map-at, over-map}
+use Rattle.lrat.proofs.OccurrenceLemmas.{IsIndexed-stay, StayThere-none}
 use Rattle.lrat.proofs.checker.Checker.new.Goals as goal
 
 pub push-requires-clause-is_new : goal.push-requires-clause-is_new
@@ -38,6 +38,7 @@ returns-clause-ready c =
     record {
       clauses_vars = ap (λ (k : Store). k.vars) c.clauses-2.view_is ∙ c.loop-done.invariant.vars;
       held_vars = ap (λ (k : Held). k.vars) c.in_ok-new.ensures ∙ c.vars-2.ensures.vars;
+      indexed = IsIndexed-stay [] _ c.new.result (StayThere-none _) c.new.ensures;
       none_held = ap (λ (k : Held). k.literals) c.in_ok-new.ensures;
       unused = λ k more. ap (λ (s : Store). clause_of (there s) k) c.clauses-2.view_is ∙ (ap (λ K. clause_of K k) c.loop-done.invariant.there
           ∙ (ap (λ a. clause_of (numbered_from (a + 1) (drop a (map (λ v. v.items) texts))) k) ended ∙ unused-past (map (λ v. v.items) texts) 1 k (let m : length (map (λ v. v.items) texts) ≡ n = length-map texts (λ v. v.items) in omega arith)));

@@ -1,8 +1,9 @@
-use Rattle.std.proofs.Common.{◌∙◌, sym}
+use Rattle.std.proofs.Common.{◌∙◌}
 use Rattle.lrat.specs.Slots.{there}
 use Rattle.lrat.specs.Tested.{checker_of}
 use Rattle.lrat.proofs.AdditionLemmas.{unused-deleted}
 use Rattle.lrat.proofs.CheckLemmas.{deleted-all, delete-leaves}
+use Rattle.lrat.proofs.OccurrenceLemmas.{IsIndexed-stay}
 use Rattle.lrat.proofs.checker.Checker.remove.Goals as goal
 
 pub returns-then-delete : goal.returns-then-delete
@@ -12,6 +13,7 @@ returns-then-delete c =
       record {
         clauses_vars = c.delete.ensures.vars ∙ c.requires.clauses_vars;
         held_vars = c.requires.held_vars;
+        indexed = IsIndexed-stay _ _ c.args.self.now.occurrences c.delete.ensures.stay c.requires.indexed;
         none_held = c.requires.none_held;
         unused = λ n more. unused-deleted _ _ c.args.deletion.now.ids n all (c.requires.unused n more);
       },

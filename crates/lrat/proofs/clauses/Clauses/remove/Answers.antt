@@ -1,4 +1,4 @@
-use Rattle.std.proofs.Common.{◌≡◌, ap, sym, is_some}
+use Rattle.std.proofs.Common.{ap, sym, is_some}
 use Rattle.lrat.proofs.SlotLemmas.{clause_of-read, clause_of-no_place, without-read}
 use Rattle.lrat.proofs.clauses.Clauses.remove.Goals as goal
 

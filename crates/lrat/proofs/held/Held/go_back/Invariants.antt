@@ -1,4 +1,4 @@
-use Rattle.std.proofs.Common.{◌≡◌, ℕ, List, length}
+use Rattle.std.proofs.Common.{◌≡◌, List, length}
 use Rattle.theory.specs.Literals.{Literal}
 use Rattle.lrat.specs.Held.{Extends}
 use Rattle.lrat.proofs.held.Held.go_back.Given as goal
