@@ -47,11 +47,7 @@ fn read_chunk<R: Read>(
 
 /// The bytes of a reader, `most` of them at most: it reads until a read gives no bytes, until an error, or until so many are there. Any error
 /// of the reader is `ReadFailed`, and no read is tried again; where memory is refused, the answer is `NoMemory`, and what was read is let go.
-pub fn read_bytes<R: Read>(
-    alloc: Global,
-    input: &mut R,
-    most: usize,
-) -> Result<Vec<u8>, ReadFault>
+pub fn read_bytes<R: Read>(alloc: Global, input: &mut R, most: usize) -> Result<Vec<u8>, ReadFault>
     ensures { MatchResult result
         (λ text. IfSome (R.remaining input.old) (λ bytes. text.items ≡ take most bytes))
         IsReadFault }

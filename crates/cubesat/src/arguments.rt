@@ -19,7 +19,10 @@ pub(crate) enum Request<'a> {
         file: &'a str,
     },
     /// Check the proof in `proof` against the formula in `formula`.
-    Check { formula: &'a str, proof: &'a str },
+    Check {
+        formula: &'a str,
+        proof: &'a str,
+    },
 }
 
 fn solve_command<'a>(alloc: Global) -> Result<Command<'a>, AllocError> {

@@ -54,9 +54,8 @@ fn place_in_text(fault: TextFault) -> Option<Place>
     ensures { result ≡ place_in_text fault }
 {
     match fault {
-        TextFault::BadNumber(line)
-        | TextFault::LineNotEnded(line)
-        | TextFault::BadShape(line) => Some(Place::Line(line)),
+        TextFault::BadNumber(line) | TextFault::LineNotEnded(line) | TextFault::BadShape(line) =>
+            Some(Place::Line(line)),
         TextFault::TooLong | TextFault::NoMemory => None,
     }
 }

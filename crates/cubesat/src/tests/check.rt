@@ -82,7 +82,10 @@ fn the_program_checks(rt: HostRuntime) -> Result<(), Fail> {
     fs::write(&rt, proof.as_str(), "5 3 1 0 0\n6 -3 0 0\n")?;
     let printed = run(&rt, &words);
     assert_eq!(rt; printed.status, 1);
-    assert_eq!(rt; printed.answer.as_slice(), b"refused 27 step 2\n".as_slice());
+    assert_eq!(rt;
+        printed.answer.as_slice(),
+        b"refused 27 step 2\n".as_slice()
+    );
 
     let missing = path_of(&rt, "no_such_folder/x")?;
     let printed = run(

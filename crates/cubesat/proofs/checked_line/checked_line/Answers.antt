@@ -17,7 +17,7 @@ pub returns : goal.returns
 returns c =
     refused-says c.args.formula.now c.args.proof.now c.number-in-Err-check.result c.place_in_steps.result c.refused-in-Err-check.result c.refused-in-Err-check.ensures
     (λ p is. rw c.number-in-Err-check.ensures
-        (steps-line c.args.formula.now c.args.proof.now (map step_of c.in-Ok.steps.items) c.in-Err-check.fault p c.in-Ok.ensures (rw c.deref.ensures.value at c.in-Err-check.ensures.checked) (sym c.place_in_steps.ensures ∙ is)))
+    (steps-line c.args.formula.now c.args.proof.now (map step_of c.in-Ok.steps.items) c.in-Err-check.fault p c.in-Ok.ensures (rw c.deref.ensures.value at c.in-Err-check.ensures.checked) (sym c.place_in_steps.ensures ∙ is)))
 
 pub returns-in-Err-NoEmptyClause : goal.returns-in-Err-NoEmptyClause
 returns-in-Err-NoEmptyClause c =
