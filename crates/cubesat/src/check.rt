@@ -14,13 +14,13 @@ const MOST: usize = 4_294_967_297;
 /// Checks a proof against the formula of a DIMACS text, by the checker of `lrat`: reads the formula, then the proof until 4,294,967,297
 /// bytes are there, and writes and flushes one line, `accepted` or why it is refused. `RunFault` says when each fault comes and what is
 /// written then.
-pub fn check_run<R: Read + Drop, R2: Read + Drop, W: Write>(
+pub fn check_run<R: Read + Drop, P: Read + Drop, W: Write>(
     alloc: Global,
     formula: R,
-    mut proof: R2,
+    mut proof: P,
     answer: &mut W,
 ) -> Result<Checked, RunFault>
-    ensures { CheckSays (R.remaining formula) (R2.remaining proof) (W.contents answer.old) (W.contents answer.new) result }
+    ensures { CheckSays (R.remaining formula) (P.remaining proof) (W.contents answer.old) (W.contents answer.new) result }
 {
     let formula = match read_from(alloc, formula) {
         Ok(formula) => formula,
