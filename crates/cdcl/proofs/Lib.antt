@@ -1,3 +1,5 @@
+pub mod PlaceLemmas
+pub mod Pending
 pub mod WalkLemmas
 pub mod TrailValues
 pub mod SearchingLemmas
@@ -5,4 +7,6 @@ pub mod Progress
 pub mod Steps
 pub mod SetLemmas
 pub mod MarkedSets
+pub mod JoinedSets
 pub mod TakenClauses
+pub mod SeenVariables

@@ -1,19 +1,20 @@
 -- Sets of literals that are false on the trail, as marks of their variables: literals come, and go as they are resolved on.
-use Rattle.std.proofs.Common.{◌≡◌, ℕ, ◌+◌, ◌-◌, ◌<◌, ◌≤◌, Bool, true, false, ◌||◌, if◌then◌else◌, nat_le, le-leb, None, List, [], ◌∷◌, length, Some, refl, ap, sym, subst, ◌∙◌, nat_eq, eqb-true, eq-eqb, cond, inl, inr, ◌⊎◌, slice_index_or, slice_set, get_or, replicate, nat_lt, ltb-true, ltb-false, arith}
+use Rattle.std.proofs.Common.{◌≡◌, ℕ, ◌+◌, ◌-◌, ◌<◌, ◌≤◌, Bool, true, false, ◌||◌, if◌then◌else◌, nat_le, le-leb, leb-true, ◌&&◌, None, List, [], ◌∷◌, length, Some, refl, ap, sym, subst, ◌∙◌, nat_eq, eqb-true, eq-eqb, cond, inl, inr, ◌⊎◌, slice_index_or, slice_set, get_or, replicate, nat_lt, ltb-true, ltb-false, arith}
 use Rattle.std.proofs.Math.ListN.{get_or-eq_default}
 use Rattle.std.proofs.lemmas.List.{get_or_default, get_or-replicate, length-replicate, get_or-set_same, get_or-set_other, length-set}
 use Rattle.theory.specs.Literals.{Literal, Clause, negated, has, has_var, without}
 use Rattle.theory.specs.Trails.{Trail, Entry, literals, current_level, level_of, entry_of}
+use Rattle.theory.specs.Truth.{IsOver}
 use Rattle.theory.specs.Lawful.{IsLawful}
 use Rattle.theory.specs.Learning.{with_literal, at_current_level, reason_used}
-use Rattle.theory.proofs.LiteralLemmas.{true_or_false}
+use Rattle.theory.proofs.LiteralLemmas.{true_or_false, and-left, and-right}
 use Rattle.theory.proofs.LiteralSets.{true_false, false_unless, negated-negated, other-same, has-cases, has-from_with_literal, has-from_without, has_var-has, has_var-none, literal_of_var}
 use Rattle.theory.proofs.OverVariables.{AreOver-from_IsOver}
 use Rattle.theory.proofs.RisingSets.{IsOneSigned, IsRising-filter, IsRising-with_literals, are_distinct-rising}
 use Rattle.theory.proofs.DistinctLiterals.{length-distinct}
 use Rattle.theory.proofs.TrailEntries.{literals-distinct}
 use Rattle.kernel.specs.State.{State}
-use Rattle.cdcl.specs.Marks.{IsMarked, AreMarks}
+use Rattle.cdcl.specs.Marks.{IsMarked, is_open, is_resolvable}
 use Rattle.cdcl.proofs.TrailValues.{entry_of-there}
 use Rattle.cdcl.proofs.SetLemmas.{has_var-with_literal, with_literal-there, count-length, count-with_literal, count-without, has_var-without}
 
@@ -21,12 +22,11 @@ use Rattle.cdcl.proofs.SetLemmas.{has_var-with_literal, with_literal-there, coun
 pub mark-read : (marked : List Bool) (v w : ℕ) (r : Bool) → v ≡ w → w < length marked → r ≡ get_or marked v r → get_or marked w false ≡ r
 mark-read marked v w r e inside h = get_or_default marked w false r inside ∙ (ap (λ x. get_or marked x r) (sym e) ∙ sym h)
 
--- there is one of each false literal
-pub inside : (k : State) (marked : List Bool) (n : ℕ) (l : Literal) → AreMarks k marked n → has (literals k.trail) (negated l) ≡ true → l.var < length marked
-inside k marked n l all f =
-    let over = AreOver-from_IsOver k.vars (literals k.trail) all.over (negated l) f in
-    let high = over.1 in
-    let long = all.is.long in
+-- there is a mark for each false literal
+pub inside : (k : State) (marked : List Bool) (l : Literal) → IsOver k.vars (literals k.trail) → k.vars < length marked → has (literals k.trail) (negated l) ≡ true → l.var < length marked
+inside k marked l over long f =
+    let here = AreOver-from_IsOver k.vars (literals k.trail) over (negated l) f in
+    let high = here.1 in
     omega arith
 
 -- a false literal is the one of its variable
@@ -47,9 +47,9 @@ is_not_in k S marked n l h e =
     false_unless (has S l) (λ a. true_false (has_var S l.var) (has_var-has S l a) (sym (h.marks l.var) ∙ e))
 
 -- the set is no larger than the variables are many
-pub count-most : (k : State) (S : Clause) (marked : List Bool) (n : ℕ) → AreMarks k marked n → IsMarked k S marked n → n ≤ k.vars
+pub count-most : (k : State) (S : Clause) (marked : List Bool) (n : ℕ) → IsOver k.vars (literals k.trail) → IsMarked k S marked n → n ≤ k.vars
 count-most k S marked n all h =
-    let over = AreOver-from_IsOver k.vars (literals k.trail) all.over in
+    let over = AreOver-from_IsOver k.vars (literals k.trail) all in
     let short = length-distinct k.vars S (are_distinct-rising S h.rising) (λ l a. over (negated l) (h.false_on l a)) in
     let count = count-length (λ l. nat_eq (level_of k.trail l) (current_level k.trail)) S in
     let is = h.counted in
@@ -125,35 +125,59 @@ count-some k S marked n l h a e =
     let is = h.counted in
     omega arith
 
-or-true : (b : Bool) → b || true ≡ true
-or-true true = refl
-or-true false = refl
-
 -- the negation of an entry's literal is false
 pub entry-false : (T : Trail) (e : Entry) → entry_of T e.lit.var ≡ Some e → has (literals T) (negated (negated e.lit)) ≡ true
 entry-false T e h = subst (λ l. has (literals T) l ≡ true) (sym (negated-negated e.lit)) (entry_of-there T e.lit.var e h).1
 
-pub entry-inside : (k : State) (marked : List Bool) (n : ℕ) (e : Entry) → AreMarks k marked n → entry_of k.trail e.lit.var ≡ Some e → e.lit.var < length marked
-entry-inside k marked n e all there = inside k marked n (negated e.lit) all (entry-false k.trail e there)
+pub entry-inside : (k : State) (marked : List Bool) (e : Entry) → IsOver k.vars (literals k.trail) → k.vars < length marked → entry_of k.trail e.lit.var ≡ Some e → e.lit.var < length marked
+entry-inside k marked e over long there = inside k marked (negated e.lit) over long (entry-false k.trail e there)
 
--- the reason that is used at an entry
-pub reason-none : (k : State) (S : Clause) (marked : List Bool) (n : ℕ) (e : Entry) → IsMarked k S marked n → get_or marked e.lit.var false ≡ false
-    → None ≡ reason_used k.trail S e
-reason-none k S marked n e h m = rw (is_not_in k S marked n (negated e.lit) h m) refl
-
-pub reason-level_0 : (k : State) (S : Clause) (marked : List Bool) (n : ℕ) (e : Entry) → IsLawful k.clauses k.trail → entry_of k.trail e.lit.var ≡ Some e → IsMarked k S marked n
-    → get_or marked e.lit.var false ≡ true → e.level ≡ 0 → e.reason ≡ reason_used k.trail S e
-reason-level_0 k S marked n e lawful there h m zero_level =
-    rw (is_in k S marked n (negated e.lit) lawful h (entry-false k.trail e there) m, eq-eqb e.level 0 zero_level) refl
-
-pub reason-current : (k : State) (S : Clause) (marked : List Bool) (n : ℕ) (e : Entry) → IsLawful k.clauses k.trail → entry_of k.trail e.lit.var ≡ Some e → IsMarked k S marked n
-    → get_or marked e.lit.var false ≡ true → e.level ≡ current_level k.trail → 2 ≤ n → e.reason ≡ reason_used k.trail S e
-reason-current k S marked n e lawful there h m level two =
-    let many : nat_le 2 (at_current_level k.trail S) ≡ true = le-leb 2 (at_current_level k.trail S) (let is = h.counted in omega arith) in
-    go (nat_eq e.level 0) (rw (is_in k S marked n (negated e.lit) lawful h (entry-false k.trail e there) m, eq-eqb e.level (current_level k.trail) level, many) refl)
+pub resolvable-current : (T : Trail) (e : Entry) → nat_eq e.level (current_level T) ≡ true → is_resolvable T e ≡ true
+resolvable-current T e h = rw h (go (nat_eq e.level 0))
   where
-    go : (b : Bool) → reason_used k.trail S e ≡ (if nat_eq e.level 0 || true then e.reason else None) → e.reason ≡ reason_used k.trail S e
-    go b q = sym (q ∙ ap (λ x. if x then e.reason else None) (or-true (nat_eq e.level 0)))
+    go : (b : Bool) → b || true ≡ true
+    go true = refl
+    go false = refl
+
+pub resolvable-zero : (T : Trail) (e : Entry) → nat_eq e.level 0 ≡ true → is_resolvable T e ≡ true
+resolvable-zero T e h = rw h refl
+
+pub resolvable-neither : (T : Trail) (e : Entry) → nat_eq e.level 0 ≡ false → nat_eq e.level (current_level T) ≡ false → is_resolvable T e ≡ false
+resolvable-neither T e h k = rw (h, k) refl
+
+-- an open entry's negation is in the set
+pub is_in-open : (k : State) (S : Clause) (marked : List Bool) (n : ℕ) (e : Entry) → IsLawful k.clauses k.trail → IsMarked k S marked n → entry_of k.trail e.lit.var ≡ Some e
+    → is_open k.trail S (Some e) ≡ true → has S (negated e.lit) ≡ true
+is_in-open k S marked n e lawful h there o =
+    is_in k S marked n (negated e.lit) lawful h (entry-false k.trail e there) (h.marks e.lit.var ∙ and-left (has_var S e.lit.var) (is_resolvable k.trail e) o)
+
+-- the reason that is used at an open entry
+pub reason-level_0 : (k : State) (S : Clause) (marked : List Bool) (n : ℕ) (e : Entry) → IsLawful k.clauses k.trail → IsMarked k S marked n → entry_of k.trail e.lit.var ≡ Some e
+    → is_open k.trail S (Some e) ≡ true → e.level ≡ 0 → e.reason ≡ reason_used k.trail S e
+reason-level_0 k S marked n e lawful h there o zero_level = rw (is_in-open k S marked n e lawful h there o, eq-eqb e.level 0 zero_level) refl
+
+pub reason-many : (k : State) (S : Clause) (marked : List Bool) (n : ℕ) (e : Entry) → IsLawful k.clauses k.trail → IsMarked k S marked n → entry_of k.trail e.lit.var ≡ Some e
+    → is_open k.trail S (Some e) ≡ true → 2 ≤ n → e.reason ≡ reason_used k.trail S e
+reason-many k S marked n e lawful h there o two =
+    let many : nat_le 2 (at_current_level k.trail S) ≡ true = le-leb 2 (at_current_level k.trail S) (let is = h.counted in omega arith) in
+    let resolvable = and-right (has_var S e.lit.var) (is_resolvable k.trail e) o in
+    rw (is_in-open k S marked n e lawful h there o, many) (go (nat_eq e.level 0) (nat_eq e.level (current_level k.trail)) resolvable)
+  where
+    go : (a b : Bool) → a || b ≡ true → e.reason ≡ (if a || (b && true) then e.reason else None)
+    go true b t = refl
+    go false true t = refl
+    go false false t = absurd (cc)
+
+pub reason-few : (k : State) (S : Clause) (marked : List Bool) (n : ℕ) (e : Entry) → IsMarked k S marked n → ¬ (e.level ≡ 0) → n < 2 → None ≡ reason_used k.trail S e
+reason-few k S marked n e h high few =
+    let one : nat_le 2 (at_current_level k.trail S) ≡ false = false_unless (nat_le 2 (at_current_level k.trail S)) (λ t. (let two = leb-true 2 (at_current_level k.trail S) t in let is = h.counted in absurd (omega arith))) in
+    let above : nat_eq e.level 0 ≡ false = false_unless (nat_eq e.level 0) (λ t. high (eqb-true e.level 0 t)) in
+    rw (one, above) (go (has S (negated e.lit)) (nat_eq e.level (current_level k.trail)))
+  where
+    go : (a b : Bool) → None ≡ (if a && (false || (b && false)) then e.reason else None)
+    go true true = refl
+    go true false = refl
+    go false b = refl
 
 -- room without a mark
 none-marked : (m v : ℕ) → get_or (replicate m false) v false ≡ false

@@ -112,6 +112,23 @@ has_var-without l (k ∷ S) v n = go (same l k) refl (has_var-without l S v n)
         more ∙ sym (ap (λ b. b || has_var S v) other)
     go false e more = ap (λ b. nat_eq v k.var || b) more
 
+-- a set without a literal has no further variable
+pub has_var-from_without : (l : Literal) (S : Clause) (v : ℕ) → has_var (without S l) v ≡ true → has_var S v ≡ true
+has_var-from_without l [] v a = a
+has_var-from_without l (k ∷ S) v a = go (same l k) a (has_var-from_without l S v)
+  where
+    or-more : (a b c : Bool) → (b ≡ true → c ≡ true) → a || b ≡ true → a || c ≡ true
+    or-more true b c more h = refl
+    or-more false b c more h = more h
+
+    or-last : (a b : Bool) → b ≡ true → a || b ≡ true
+    or-last true b h = refl
+    or-last false b h = h
+
+    go : (b : Bool) → has_var (cond (not b) (k ∷ without S l) (without S l)) v ≡ true → (has_var (without S l) v ≡ true → has_var S v ≡ true) → nat_eq v k.var || has_var S v ≡ true
+    go true h more = or-last (nat_eq v k.var) (has_var S v) (more h)
+    go false h more = or-more (nat_eq v k.var) (has_var (without S l) v) (has_var S v) more h
+
 -- a literal of a clause, by its place
 pub has-at : (c : Clause) (i : ℕ) (l : Literal) → i < length c → l ≡ get_or c i l → has c l ≡ true
 has-at [] i l h e = absurd (omega arith)

@@ -1,5 +1,5 @@
 -- The literals of a marked set, taken variable by variable.
-use Rattle.std.proofs.Common.{◌≡◌, ℕ, ◌+◌, ◌<◌, Bool, true, false, not, List, [], ◌∷◌, ◌++◌, Some, refl, ap, sym, ◌∙◌, filter, cond, slice_index_or, slice_set, append_assoc, append-nil, if◌then◌else◌, arith, ◌≢◌, ◌≤◌, nat_eq, nat_lt, eqb-true, eq-eqb, ltb-true, ltb-false, length, inl, inr}
+use Rattle.std.proofs.Common.{◌≡◌, ℕ, zero, suc, subst, ◌+◌, ◌<◌, Bool, true, false, not, List, [], ◌∷◌, ◌++◌, Some, refl, ap, sym, ◌∙◌, filter, cond, slice_index_or, slice_set, append_assoc, append-nil, if◌then◌else◌, arith, ◌≢◌, ◌≤◌, nat_eq, nat_lt, eqb-true, eq-eqb, ltb-true, ltb-false, length, inl, inr}
 use Rattle.std.proofs.lemmas.List.{get_or-set_same, get_or-set_other}
 use Rattle.theory.specs.Literals.{Literal, Clause, negated, has, has_var}
 use Rattle.theory.specs.Truth.{IsOver}
@@ -7,7 +7,7 @@ use Rattle.theory.specs.Trails.{Trail, Entry, literals, entry_of, is_given}
 use Rattle.theory.specs.Lawful.{IsLawful}
 use Rattle.theory.specs.Learning.{is_of_cube}
 use Rattle.theory.proofs.LiteralLemmas.{true_or_false}
-use Rattle.theory.proofs.LiteralSets.{true_false, negated-negated, has_var-none, literal_of_var}
+use Rattle.theory.proofs.LiteralSets.{true_false, negated-negated, has_var-has, has_var-none, literal_of_var}
 use Rattle.theory.proofs.OverVariables.{AreOver-from_IsOver}
 use Rattle.theory.proofs.TrailEntries.{entry_of_literal, entry_of-at}
 use Rattle.kernel.specs.State.{State}
@@ -93,17 +93,27 @@ IsTaken-begin k S marked n over h = record {
   taken = ap (outside_cube k.trail) (above-all 0 S (λ l a. (let o = AreOver-from_IsOver k.vars (literals k.trail) over (negated l) (h.false_on l a) in let low = o.0 in omega arith)));
 }
 
-pub IsTaken-end : (k : State) (S : Clause) (marked now : List Bool) (n : ℕ) (clause : Clause) → IsOver k.vars (literals k.trail) → IsMarked k S marked n
-    → IsTaken k S k.vars now clause → clause ≡ outside_cube k.trail S
-IsTaken-end k S marked now n clause over h t =
-    let none = above-none k.vars S (λ l a. (let o = AreOver-from_IsOver k.vars (literals k.trail) over (negated l) (h.false_on l a) in let high = o.1 in omega arith)) in
+-- variables that aren't in the set are passed over
+pub IsTaken-skip : (k : State) (S : Clause) (now : List Bool) (n index next : ℕ) (clause : Clause) → next ≡ n + index → IsTaken k S index now clause
+    → ((v : ℕ) → index < v → v ≤ next → has_var S v ≡ false) → IsTaken k S next now clause
+IsTaken-skip k S now zero index next clause sum t none = subst (λ i. IsTaken k S i now clause) (let same : index ≡ next = omega (arith, sum) in same) t
+IsTaken-skip k S now (suc n) index next clause sum t none =
+    let one = IsTaken-passed k S now index clause t (t.left (index + 1) (omega arith) ∙ none (index + 1) (omega arith) (omega (arith, sum))) in
+    IsTaken-skip k S now n (index + 1) next clause (omega (arith, sum)) one (λ v low high. none v (omega (arith, low)) high)
+
+-- no variable of the set is left
+pub IsTaken-end : (k : State) (S : Clause) (index : ℕ) (now : List Bool) (clause : Clause) → IsTaken k S index now clause → ((v : ℕ) → index < v → has_var S v ≡ false)
+    → clause ≡ outside_cube k.trail S
+IsTaken-end k S index now clause t beyond =
+    let none = above-none index S (λ l a. elim (true_or_false (nat_lt index l.var)) [
+      | inl e ↦ true_false (has_var S l.var) (has_var-has S l a) (beyond l.var (ltb-true index l.var e))
+      | inr e ↦ ltb-false index l.var e
+    ]) in
     sym (append-nil clause) ∙ (ap (λ c. clause ++ outside_cube k.trail c) (sym none) ∙ t.taken)
 
--- no mark is left
-pub IsTaken-clear : (k : State) (S : Clause) (marked now : List Bool) (n : ℕ) (clause : Clause) → IsOver k.vars (literals k.trail) → IsMarked k S marked n
-    → IsTaken k S k.vars now clause → (v : ℕ) → slice_index_or now v false ≡ false
-IsTaken-clear k S marked now n clause over h t v = elim (true_or_false (nat_lt k.vars v)) [
-  | inl e ↦ t.left v (ltb-true k.vars v e) ∙ has_var-none S v
-      (λ l a same. (let o = AreOver-from_IsOver k.vars (literals k.trail) over (negated l) (h.false_on l a) in let high = o.1 in let far = ltb-true k.vars v e in absurd (omega (arith, same))))
-  | inr e ↦ t.before v (ltb-false k.vars v e)
+pub IsTaken-clear : (k : State) (S : Clause) (index : ℕ) (now : List Bool) (clause : Clause) → IsTaken k S index now clause → ((v : ℕ) → index < v → has_var S v ≡ false)
+    → (v : ℕ) → slice_index_or now v false ≡ false
+IsTaken-clear k S index now clause t beyond v = elim (true_or_false (nat_lt index v)) [
+  | inl e ↦ t.left v (ltb-true index v e) ∙ beyond v (ltb-true index v e)
+  | inr e ↦ t.before v (ltb-false index v e)
 ]

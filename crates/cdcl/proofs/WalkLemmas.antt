@@ -1,20 +1,24 @@
--- The walk of analysis, one entry of the trail after the other from its end.
-use Rattle.std.proofs.Common.{◌≡◌, ℕ, suc, Bool, true, false, ◌^◌, drop, slice_index_or, ◌+◌, ◌-◌, ◌<◌, ◌≤◌, List, [], ◌∷◌, ◌++◌, length, take, get_or, Option, Some, None, refl, ap, sym, subst, ◌∙◌, reverse, arith}
-use Rattle.std.proofs.Math.Seq.{split_at}
+-- The walk of analysis over the places where the set may be resolved, from the end of the trail.
+use Rattle.std.proofs.Common.{◌≡◌, ℕ, zero, suc, true, false, ◌+◌, ◌-◌, ◌<◌, ◌≤◌, ◌^◌, List, [], ◌∷◌, ◌++◌, length, take, drop, get_or, slice_get, Option, Some, None, refl, ap, sym, subst, ◌∙◌, reverse, arith, IsPermutation}
+use Rattle.std.specs.BinaryHeap.{heap_items, IsHeap, IsUpperBound}
+use Rattle.std.specs.Ordering.{nat_cmp}
 use Rattle.std.proofs.lemmas.List.{take_more, reverse-append}
-use Rattle.theory.specs.Literals.{Clause, negated, has, without}
-use Rattle.theory.specs.Trails.{Trail, Entry, literals, entry_of}
-use Rattle.theory.specs.Truth.{IsOver}
+use Rattle.std.proofs.Math.Seq.{take-length}
+use Rattle.theory.specs.Literals.{Clause, has_var, without}
+use Rattle.theory.specs.Trails.{Trail, Entry, literals}
 use Rattle.theory.specs.Status.{is_false}
 use Rattle.theory.specs.Propagation.{clause_at}
 use Rattle.theory.specs.Lawful.{IsLawful}
+use Rattle.theory.specs.Truth.{IsOver}
 use Rattle.theory.specs.Learning.{walk, resolved, resolved_by, reason_used, with_literals}
 use Rattle.theory.proofs.LiteralLemmas.{and-left}
-use Rattle.theory.proofs.LiteralSets.{has_var-has, is_false-from_Refutes}
-use Rattle.theory.proofs.TrailEntries.{entry_of-at}
-use Rattle.theory.proofs.Walks.{grounded-place, reason_used-resolved, has-before, Refutes-others}
+use Rattle.theory.proofs.Walks.{grounded-place}
 use Rattle.kernel.specs.State.{State}
-use Rattle.cdcl.specs.Marks.{IsMarked, AreMarks}
+use Rattle.cdcl.specs.declared.marks.Marks.{Marks}
+use Rattle.cdcl.specs.Marks.{IsSet, CanResolve, CanLookAt, Resolves, is_open, is_resolvable}
+use Rattle.cdcl.proofs.PlaceLemmas.{placed-inside, placed-is, placed-there, entry-read, place-split, reason_used-closed}
+use Rattle.cdcl.proofs.Pending.{IsTop, pending-top, pending-none, top_of, top-below}
+use Rattle.cdcl.proofs.JoinedSets.{IsSet-top, IsSet-done}
 
 -- the later entries first
 walk-append : (K : List Clause) (T xs ys : Trail) (S : Clause) (hints : List ℕ) → walk K T (xs ++ ys) S hints ≡ (let w = walk K T ys S hints in walk K T xs w.0 w.1)
@@ -27,73 +31,182 @@ walk-last : (K : List Clause) (T U : Trail) (i : ℕ) (d : Entry) (S : Clause) (
 walk-last K T U i d S hints inside =
     ap (λ (A : Trail). walk K T A S hints) (take_more U i d inside) ∙ walk-append K T (take i U) (get_or U i d ∷ []) S hints
 
--- the entry before those that are done, with what it makes of the set and the hints; A is the trail as it was lent
-pub walk-step : (K : List Clause) (T A : Trail) (done : ℕ) (e : Entry) (S R : Clause) (hints more : List ℕ) (r : Option ℕ) → A ≡ T → done < length A → e ≡ get_or A (length A - 1 - done) e
-    → r ≡ reason_used T S e → (R, more) ≡ resolved_by K e (S, hints) r → walk K T (take (length A - (done + 1)) A) R more ≡ walk K T (take (length A - done) A) S hints
-walk-step K T A done e S R hints more r lent inside is used step =
-    let i = length A - 1 - done in
-    let next : length A - done ≡ i + 1 = omega arith in
-    let here : length A - (done + 1) ≡ i = omega arith in
-    let below : i < length A = omega arith in
-    let last = walk-last K T A i e S hints below in
-    rw (next, here) (ap (λ (w : Clause × List ℕ). walk K T (take i A) w.0 w.1) (rw (← used) step) ∙ sym (rw (← is) at last))
+-- the entry at a place, with what it makes of the set and the hints
+walk-place : (K : List Clause) (T : Trail) (place : ℕ) (e : Entry) (S R : Clause) (hints more : List ℕ) (r : Option ℕ) → slice_get T place ≡ Some e
+    → r ≡ reason_used T S e → (R, more) ≡ resolved_by K e (S, hints) r → walk K T (take (place + 1) T) S hints ≡ walk K T (take place T) R more
+walk-place K T place e S R hints more r at used step =
+    let is = placed-is T place e e at in
+    let last = walk-last K T T place e S hints (placed-inside T place e at) in
+    (rw (← is) at last) ∙ sym (ap (λ (w : Clause × List ℕ). walk K T (take place T) w.0 w.1) (rw (← used) step))
+
+-- the places between are passed over
+walk-between : (K : List Clause) (T : Trail) (n low high : ℕ) (S : Clause) (hints : List ℕ) → high ≡ n + low → high ≤ length T
+    → ((q : ℕ) → low ≤ q → q < high → is_open T S (slice_get T q) ≡ false) → walk K T (take high T) S hints ≡ walk K T (take low T) S hints
+walk-between K T zero low high S hints sum within closed = ap (λ i. walk K T (take i T) S hints) (let same : high ≡ low = omega arith in same)
+walk-between K T (suc n) low high S hints sum within closed =
+    let last : high ≡ (n + low) + 1 = omega arith in
+    let entry = placed-there T (n + low) (omega arith) in
+    let is_closed = subst (λ o. is_open T S o ≡ false) entry.1 (closed (n + low) (omega arith) (omega arith)) in
+    ap (λ i. walk K T (take i T) S hints) last
+    ∙ (walk-place K T (n + low) entry.0 S S hints hints None entry.1 (reason_used-closed T S entry.0 is_closed) refl
+    ∙ walk-between K T n low (n + low) S hints refl (omega arith) (λ q low_q high_q. closed q low_q (omega arith)))
 
 -- a reason that is used is the number of a clause
-pub reason-numbered : (K : List Clause) (T A : Trail) (S : Clause) (i : ℕ) (e : Entry) (n : ℕ) → IsLawful K T → A ≡ T → i < length A → e ≡ get_or A i e → Some n ≡ reason_used T S e
+pub reason-numbered : (K : List Clause) (T : Trail) (S : Clause) (place : ℕ) (e : Entry) (n : ℕ) → IsLawful K T → slice_get T place ≡ Some e → Some n ≡ reason_used T S e
     → (1 ≤ n) × (n ≤ length K)
-reason-numbered K T A S i e n lawful lent inside is used =
-    (grounded-place K T _ (get_or A i e) _ S n lawful (sym lent ∙ split_at A i e inside) (subst (λ d. reason_used T S d ≡ Some n) is (sym used))).1.numbered
+reason-numbered K T S place e n lawful at used = (grounded-place K T (take place T) e (drop (suc place) T) S n lawful (place-split T place e at) (sym used)).1.numbered
 
-pub reverse-push : (ns : List ℕ) (n : ℕ) → reverse (ns ++ n ∷ []) ≡ n ∷ reverse ns
+-- its other literals are false before the entry
+pub others-false : (K : List Clause) (T : Trail) (S : Clause) (place : ℕ) (e : Entry) (n : ℕ) → IsLawful K T → slice_get T place ≡ Some e → Some n ≡ reason_used T S e
+    → is_false (literals (take place T)) (without (clause_at K n) e.lit) ≡ true
+others-false K T S place e n lawful at used = (grounded-place K T (take place T) e (drop (suc place) T) S n lawful (place-split T place e at) (sym used)).1.others
+
+-- what is left of the walk gives what the walk from the conflict of number n gives
+pub record IsWalked (k : State) (n : ℕ) (m : Marks) (hints : List ℕ) : Type 0 where
+  pub set : Clause
+  pub bound : ℕ
+  pub within : bound ≤ length k.trail
+  pub is : IsSet k set bound m
+  pub rest : walk k.clauses k.trail (take bound k.trail) set (reverse hints) ≡ walk k.clauses k.trail k.trail (with_literals (clause_at k.clauses n) []) (n ∷ [])
+
+pub IsWalked-begin : (k : State) (n : ℕ) (m : Marks) (hints : List ℕ) → IsSet k (with_literals (clause_at k.clauses n) []) (length k.trail) m → hints ≡ n ∷ [] → IsWalked k n m hints
+IsWalked-begin k n m hints h is = record {
+  set = with_literals (clause_at k.clauses n) [];
+  bound = length k.trail;
+  within = omega arith;
+  is = h;
+  rest = rw (is, take-length k.trail) refl;
+}
+
+-- the same, where the entry at a place is looked at
+pub record IsLookedAt (k : State) (n place : ℕ) (e : Entry) (m : Marks) (hints : List ℕ) : Type 0 where
+  pub set : Clause
+  pub at : slice_get k.trail place ≡ Some e
+  pub is_open_there : is_open k.trail set (Some e) ≡ true
+  pub is : IsSet k set place m
+  pub rest : walk k.clauses k.trail (take (place + 1) k.trail) set (reverse hints) ≡ walk k.clauses k.trail k.trail (with_literals (clause_at k.clauses n) []) (n ∷ [])
+
+-- the greatest place comes
+top : (k : State) (n place : ℕ) (m : Marks) (hints places : List ℕ) → (h : IsWalked k n m hints) → IsPermutation (heap_items m.pending) (place ∷ places) → IsUpperBound nat_cmp place places
+    → IsTop k.trail h.set h.bound place places
+top k n place m hints places h moved greatest = pending-top k.trail h.set h.bound place (heap_items m.pending) places h.is.pending moved greatest
+
+pub top-inside : (k : State) (n place : ℕ) (m : Marks) (hints places : List ℕ) → IsWalked k n m hints → IsPermutation (heap_items m.pending) (place ∷ places)
+    → IsUpperBound nat_cmp place places → place < length k.trail
+top-inside k n place m hints places h moved greatest =
+    let below = (top k n place m hints places h moved greatest).below in
+    let within = h.within in
+    omega arith
+
+-- its entry is read; A is the trail as it was lent
+pub IsWalked-popped : (k : State) (n place : ℕ) (e : Entry) (A : Trail) (old new : Marks) (hints : List ℕ) → IsWalked k n old hints → A ≡ k.trail → e ≡ get_or A place e
+    → new.marked ≡ old.marked → new.current ≡ old.current → new.seen ≡ old.seen → IsHeap nat_cmp (heap_items new.pending)
+    → IsPermutation (heap_items old.pending) (place ∷ heap_items new.pending) → IsUpperBound nat_cmp place (heap_items new.pending)
+    → IsLookedAt k n place e new hints
+IsWalked-popped k n place e A old new hints h lent read marked current seen ordered moved greatest =
+    let t = top k n place old hints (heap_items new.pending) h moved greatest in
+    let below = t.below in
+    let within = h.within in
+    let found = placed-there k.trail place (omega arith) in
+    let at : slice_get k.trail place ≡ Some e = subst (λ x. slice_get k.trail place ≡ Some x) (sym (entry-read k.trail A place e found.0 lent read found.1)) found.1 in
+    let n_between : h.bound ≡ (h.bound - (place + 1)) + (place + 1) = omega arith in
+    record {
+      set = h.set;
+      at = at;
+      is_open_there = subst (λ o. is_open k.trail h.set o ≡ true) at t.is_open_there;
+      is = IsSet-top k h.set h.bound place old new h.is marked current seen ordered t;
+      rest =
+          sym (walk-between k.clauses k.trail (h.bound - (place + 1)) (place + 1) h.bound h.set (reverse hints) n_between within
+          (λ q low high. t.between q (omega (arith, low)) high)) ∙ h.rest;
+    }
+
+pub CanLookAt-looked_at : (k : State) (n place : ℕ) (e : Entry) (m : Marks) (hints : List ℕ) → IsLawful k.clauses k.trail → IsOver k.vars (literals k.trail) → k.vars < 2 ^ 32
+    → IsLookedAt k n place e m hints → CanLookAt k e m
+CanLookAt-looked_at k n place e m hints lawful over few h = record {
+  joins = record {
+    lawful = lawful;
+    over = over;
+    few = few;
+    set = h.set;
+    bound = place;
+    is = h.is;
+    below = refl;
+  };
+  at = h.at;
+  is_open_there = h.is_open_there;
+}
+
+-- what is asked where the set is resolved on the entry
+pub CanResolve-used : (k : State) (number : ℕ) (e : Entry) (m : Marks) → (h : CanLookAt k e m) → Some number ≡ reason_used k.trail h.joins.set e
+    → CanResolve k e (without (clause_at k.clauses number) e.lit) m
+CanResolve-used k number e m h used = record {
+  joins = record {
+    lawful = h.joins.lawful;
+    over = h.joins.over;
+    few = h.joins.few;
+    set = h.joins.set;
+    bound = h.joins.bound;
+    is = h.joins.is;
+    below = others-false k.clauses k.trail h.joins.set h.joins.bound e number h.joins.lawful h.at used;
+  };
+  at = h.at;
+  is_in = and-left (has_var h.joins.set e.lit.var) (is_resolvable k.trail e) h.is_open_there;
+}
+
+reverse-push : (ns : List ℕ) (n : ℕ) → reverse (ns ++ n ∷ []) ≡ n ∷ reverse ns
 reverse-push ns n = reverse-append ns (n ∷ [])
 
--- the entries that are left, the set and the hints give what the walk from the conflict of number n gives
-pub record IsWalked (k : State) (n : ℕ) (left : Trail) (marked : List Bool) (current : ℕ) (hints : List ℕ) : Type 0 where
-  pub set : Clause
-  pub is : IsMarked k set marked current
-  pub rest : walk k.clauses k.trail left set (reverse hints) ≡ walk k.clauses k.trail k.trail (with_literals (clause_at k.clauses n) []) (n ∷ [])
+-- an entry on which the set is resolved, and one that is passed
+pub Resolves-used : (k : State) (number : ℕ) (e : Entry) (S : Clause) (bound : ℕ) (hints more : List ℕ) (m : Marks) → Some number ≡ reason_used k.trail S e
+    → IsSet k (resolved S e.lit (clause_at k.clauses number)) bound m → more ≡ hints ++ number ∷ [] → Resolves k e S bound hints m more
+Resolves-used k number e S bound hints more m used is push = record {
+  is = rw (← used) is;
+  hints_are = rw (← used, push) (reverse-push hints number);
+}
 
--- the marks of a walk on a lawful trail
-pub AreMarks-walked : (k : State) (n : ℕ) (left : Trail) (marked : List Bool) (current : ℕ) (hints : List ℕ) → IsLawful k.clauses k.trail → IsOver k.vars (literals k.trail)
-    → k.vars < 2 ^ 32 → IsWalked k n left marked current hints → AreMarks k marked current
-AreMarks-walked k n left marked current hints lawful over few h = record { lawful = lawful; over = over; few = few; set = h.set; is = h.is }
+pub Resolves-passed : (k : State) (e : Entry) (S : Clause) (bound : ℕ) (hints : List ℕ) (m : Marks) → None ≡ reason_used k.trail S e → IsSet k S bound m → Resolves k e S bound hints m hints
+Resolves-passed k e S bound hints m used is = record { is = rw (← used) is; hints_are = rw (← used) refl }
 
--- an entry is the one that is found for its variable
-pub entry_of-index : (K : List Clause) (T A : Trail) (i : ℕ) (e : Entry) → IsLawful K T → A ≡ T → i < length A → e ≡ get_or A i e → entry_of T e.lit.var ≡ Some e
-entry_of-index K T A i e lawful lent inside is =
-    entry_of-at K T e lawful (record { before = take i A; behind = drop (suc i) A; split = sym lent ∙ (split_at A i e inside ∙ ap (λ x. take i A ++ x ∷ drop (suc i) A) (sym is)) })
-
--- what resolving with the reason of an entry asks
-pub mark-used : (k : State) (S : Clause) (marked : List Bool) (current : ℕ) (e : Entry) (n : ℕ) → IsMarked k S marked current → Some n ≡ reason_used k.trail S e
-    → slice_index_or marked e.lit.var false ≡ true
-mark-used k S marked current e n h used =
-    h.marks e.lit.var ∙ has_var-has S (negated e.lit) (and-left (has S (negated e.lit)) _ (reason_used-resolved k.trail S e n (sym used)))
-
-pub others-false : (K : List Clause) (T A : Trail) (S : Clause) (i : ℕ) (e : Entry) (n : ℕ) → IsLawful K T → A ≡ T → i < length A → e ≡ get_or A i e → Some n ≡ reason_used T S e
-    → is_false (literals T) (without (clause_at K n) e.lit) ≡ true
-others-false K T A S i e n lawful lent inside is used =
-    let place : T ≡ take i A ++ e ∷ drop (suc i) A = sym lent ∙ (split_at A i e inside ∙ ap (λ x. take i A ++ x ∷ drop (suc i) A) (sym is)) in
-    let reason = (grounded-place K T (take i A) e (drop (suc i) A) S n lawful place (sym used)).1 in
-    is_false-from_Refutes (literals T) (without (clause_at K n) e.lit)
-    (λ l a. has-before T (take i A) e (drop (suc i) A) (negated l) place (Refutes-others K (literals (take i A)) e.lit n reason l a))
-
--- an entry on whose literal the set is resolved, and one that is passed
-pub IsWalked-used : (k : State) (n : ℕ) (A : Trail) (done : ℕ) (e : Entry) (number : ℕ) (marked after : List Bool) (current now : ℕ) (hints more : List ℕ) → A ≡ k.trail
-    → done < length A → e ≡ get_or A (length A - 1 - done) e → (h : IsWalked k n (take (length A - done) A) marked current hints) → Some number ≡ reason_used k.trail h.set e
-    → IsMarked k (resolved h.set e.lit (clause_at k.clauses number)) after now → more ≡ hints ++ number ∷ [] → IsWalked k n (take (length A - (done + 1)) A) after now more
-IsWalked-used k n A done e number marked after current now hints more lent inside is h used marks push = record {
-  set = resolved h.set e.lit (clause_at k.clauses number);
-  is = marks;
+-- the walk goes on from the entry
+pub IsWalked-next : (k : State) (n place : ℕ) (e : Entry) (old new : Marks) (hints more : List ℕ) → (h : IsLookedAt k n place e old hints) → Resolves k e h.set place hints new more
+    → IsWalked k n new more
+IsWalked-next k n place e old new hints more h r = record {
+  set = (resolved_by k.clauses e (h.set, reverse hints) (reason_used k.trail h.set e)).0;
+  bound = place;
+  within = let inside = placed-inside k.trail place e h.at in omega arith;
+  is = r.is;
   rest =
-      walk-step k.clauses k.trail A done e h.set (resolved h.set e.lit (clause_at k.clauses number)) (reverse hints) (reverse more) (Some number) lent inside is used
-      (rw (push, reverse-push) refl) ∙ h.rest;
+      rw r.hints_are (sym (walk-place k.clauses k.trail place e h.set (resolved_by k.clauses e (h.set, reverse hints) (reason_used k.trail h.set e)).0 (reverse hints)
+      (resolved_by k.clauses e (h.set, reverse hints) (reason_used k.trail h.set e)).1 (reason_used k.trail h.set e) h.at refl refl) ∙ h.rest);
 }
 
-pub IsWalked-passed : (k : State) (n : ℕ) (A : Trail) (done : ℕ) (e : Entry) (marked : List Bool) (current : ℕ) (hints : List ℕ) → A ≡ k.trail
-    → done < length A → e ≡ get_or A (length A - 1 - done) e → (h : IsWalked k n (take (length A - done) A) marked current hints) → None ≡ reason_used k.trail h.set e
-    → IsWalked k n (take (length A - (done + 1)) A) marked current hints
-IsWalked-passed k n A done e marked current hints lent inside is h used = record {
-  set = h.set;
-  is = h.is;
-  rest = walk-step k.clauses k.trail A done e h.set h.set (reverse hints) (reverse hints) None lent inside is used refl ∙ h.rest;
-}
+-- the places that wait are below it
+pub Resolves-below : (k : State) (e : Entry) (S : Clause) (place : ℕ) (before hints : List ℕ) (m : Marks) → Resolves k e S place before m hints → top_of (heap_items m.pending) ≤ place
+Resolves-below k e S place before hints m r =
+    top-below k.trail (resolved_by k.clauses e (S, reverse before) (reason_used k.trail S e)).0 place (heap_items m.pending) r.is.pending
+
+-- and it was the first of them
+pub top-first : (places : List ℕ) (place : ℕ) → 0 < length places → place ≡ get_or places 0 place → top_of places ≡ place + 1
+top-first [] place some is = absurd (omega (arith, some))
+top-first (x ∷ xs) place some is = omega (arith, is)
+
+-- no place waits any more
+walked : (k : State) (n : ℕ) (m : Marks) (hints : List ℕ) → (h : IsWalked k n m hints) → heap_items m.pending ≡ []
+    → (h.set, reverse hints) ≡ walk k.clauses k.trail k.trail (with_literals (clause_at k.clauses n) []) (n ∷ [])
+walked k n m hints h none =
+    let pending = rw none at h.is.pending in
+    let all : h.bound ≡ h.bound + 0 = omega arith in
+    sym (walk-between k.clauses k.trail h.bound 0 h.bound h.set (reverse hints) all h.within (λ q low high. pending-none k.trail h.set h.bound q pending high)) ∙ h.rest
+
+pub IsWalked-set : (k : State) (n : ℕ) (m : Marks) (hints : List ℕ) → IsWalked k n m hints → heap_items m.pending ≡ []
+    → IsSet k (walk k.clauses k.trail k.trail (with_literals (clause_at k.clauses n) []) (n ∷ [])).0 0 m
+IsWalked-set k n m hints h none =
+    subst (λ (w : Clause × List ℕ). IsSet k w.0 0 m) (walked k n m hints h none) (IsSet-done k h.set h.bound m none h.is)
+
+pub IsWalked-hints : (k : State) (n : ℕ) (m : Marks) (hints : List ℕ) → IsWalked k n m hints → heap_items m.pending ≡ []
+    → reverse hints ≡ (walk k.clauses k.trail k.trail (with_literals (clause_at k.clauses n) []) (n ∷ [])).1
+IsWalked-hints k n m hints h none = ap (λ (w : Clause × List ℕ). w.1) (walked k n m hints h none)
+
+pub none-left : (xs : List ℕ) (n : ℕ) → n ≡ length xs → n ≡ 0 → xs ≡ []
+none-left [] n len zero_long = refl
+none-left (x ∷ xs) n len zero_long = absurd (omega (arith, len, zero_long))

@@ -1,12 +1,18 @@
--- Sets of literals that are false on the trail, held as marks of their variables.
-use Rattle.std.specs.Prelude.{◌≡◌, ℕ, ◌<◌, ◌^◌, Bool, true, false, List, [], ◌∷◌, length, Option, Some, None, if◌then◌else◌, slice_index_or}
+-- Sets of literals that are false on the trail, held as marks of their variables, and the places of the trail where one is yet to be
+-- looked at.
+use Rattle.std.specs.Prelude.{◌≡◌, ℕ, ◌<◌, ◌≤◌, ◌^◌, Bool, true, false, ◌&&◌, ◌||◌, nat_eq, nat_lt, List, [], ◌∷◌, length, take, reverse, All, Option, Some, None, if◌then◌else◌, count_by, slice_get, slice_index_or}
+use Rattle.std.specs.BinaryHeap.{heap_items, IsHeap}
+use Rattle.std.specs.List.{list_any}
+use Rattle.std.specs.Ordering.{nat_cmp}
 use Rattle.theory.specs.Literals.{Literal, Clause, has, has_var, negated}
 use Rattle.theory.specs.Truth.{IsOver}
-use Rattle.theory.specs.Trails.{Entry, literals, is_given}
+use Rattle.theory.specs.Status.{is_false}
+use Rattle.theory.specs.Trails.{Trail, Entry, literals, current_level, is_given}
 use Rattle.theory.specs.Lawful.{IsLawful}
-use Rattle.theory.specs.Learning.{at_current_level}
+use Rattle.theory.specs.Learning.{at_current_level, resolved_by, reason_used}
 use Rattle.theory.proofs.RisingSets.{IsRising}
 use Rattle.kernel.specs.State.{State}
+use Rattle.cdcl.specs.declared.marks.Marks.{Marks}
 
 -- the marks and the count of literals of the current level stand for the set S
 pub record IsMarked (k : State) (S : Clause) (marked : List Bool) (current : ℕ) : Type 0 where
@@ -16,13 +22,65 @@ pub record IsMarked (k : State) (S : Clause) (marked : List Bool) (current : ℕ
   pub marks : (v : ℕ) → slice_index_or marked v false ≡ has_var S v
   pub counted : current ≡ at_current_level k.trail S
 
--- they stand for some set, and the trail is lawful
-pub record AreMarks (k : State) (marked : List Bool) (current : ℕ) : Type 0 where
+-- each variable of S is among those seen, which are variables of the kernel
+pub record AreSeen (vars : ℕ) (S : Clause) (seen : List ℕ) : Type 0 where
+  pub within : All (λ v. v ≤ vars) seen
+  pub all : (v : ℕ) → has_var S v ≡ true → list_any (λ w. nat_eq w v) seen ≡ true
+
+-- whether an entry is of a level where analysis resolves: 0 or the current one
+abbrev pub is_resolvable : Trail → Entry → Bool
+is_resolvable T e = nat_eq e.level 0 || nat_eq e.level (current_level T)
+
+-- whether S has the negation of an entry's literal, and may be resolved on it
+abbrev pub is_open : Trail → Clause → Option Entry → Bool
+is_open T S None = false
+is_open T S (Some e) = has_var S e.lit.var && is_resolvable T e
+
+-- the places are those below the bound where S may be resolved, each once
+abbrev pub ArePending : Trail → Clause → ℕ → List ℕ → Type 0
+ArePending T S bound places = (q : ℕ) → count_by (λ p. nat_eq p q) places ≡ (if nat_lt q bound && is_open T S (slice_get T q) then 1 else 0)
+
+-- the marks stand for the set S, of which the places from the bound on were looked at
+pub record IsSet (k : State) (S : Clause) (bound : ℕ) (m : Marks) : Type 0 where
+  pub is : IsMarked k S m.marked.items m.current
+  pub seen : AreSeen k.vars S m.seen.items
+  pub ordered : IsHeap nat_cmp (heap_items m.pending)
+  pub pending : ArePending k.trail S bound (heap_items m.pending)
+
+-- no literal is in the set
+pub record IsClear (m : Marks) : Type 0 where
+  pub none : (v : ℕ) → slice_index_or m.marked.items v false ≡ false
+  pub zero : m.current ≡ 0
+  pub unseen : m.seen.items ≡ []
+  pub done : heap_items m.pending ≡ []
+  pub ordered : IsHeap nat_cmp (heap_items m.pending)
+
+-- the marks stand for some set, whose places from a bound on were looked at, and the literals of c are false below the bound
+pub record CanJoin (k : State) (c : Clause) (m : Marks) : Type 0 where
   pub lawful : IsLawful k.clauses k.trail
   pub over : IsOver k.vars (literals k.trail)
   pub few : k.vars < 2 ^ 32
   pub set : Clause
-  pub is : IsMarked k set marked current
+  pub bound : ℕ
+  pub is : IsSet k set bound m
+  pub below : is_false (literals (take bound k.trail)) c ≡ true
+
+-- the marks stand for some set, whose places from the entry's on were looked at, and the literals of c are false below it
+pub record CanResolve (k : State) (e : Entry) (c : Clause) (m : Marks) : Type 0 where
+  pub joins : CanJoin k c m
+  pub at : slice_get k.trail joins.bound ≡ Some e
+  pub is_in : has_var joins.set e.lit.var ≡ true
+
+-- the marks stand for some set, whose places from the entry's on were looked at, and which may be resolved on the entry
+pub record CanLookAt (k : State) (e : Entry) (m : Marks) : Type 0 where
+  pub joins : CanJoin k [] m
+  pub at : slice_get k.trail joins.bound ≡ Some e
+  pub is_open_there : is_open k.trail joins.set (Some e) ≡ true
+
+-- the set and the hints are what the entry makes of S and the hints before
+pub record Resolves (k : State) (e : Entry) (S : Clause) (bound : ℕ) (before : List ℕ) (m : Marks) (hints : List ℕ) : Type 0 where
+  pub is : IsSet k (resolved_by k.clauses e (S, reverse before) (reason_used k.trail S e)).0 bound m
+  pub hints_are : reverse hints ≡ (resolved_by k.clauses e (S, reverse before) (reason_used k.trail S e)).1
 
 -- the negation of an entry's literal, unless it is the cube's
 abbrev pub negation_of : Option Entry → Clause

@@ -1,16 +1,18 @@
 //! Analysis of a conflict: resolution back to the first unique implication point.
-ghost use Rattle.std.specs.Prelude.{◌≡◌, ℕ, false, slice_index_or, ◌<◌, ◌^◌, ◌++◌, ◌∷◌, [], IfOk, OnOk, Some, length, reverse, not, filter};
+ghost use Rattle.std.specs.Prelude.{◌≡◌, ℕ, ◌<◌, ◌≤◌, ◌^◌, ◌++◌, ◌∷◌, [], All, IfOk, OnOk, Some, length, reverse, not, filter, slice_get, true};
+ghost use Rattle.std.specs.BinaryHeap.{heap_items, IsHeap};
+ghost use Rattle.std.specs.Ordering.{nat_cmp};
 ghost use Rattle.theory.specs.Literals.{Clause};
 ghost use Rattle.theory.specs.Trails.{literals, entry_of};
 ghost use Rattle.theory.specs.Propagation.{least_false, clause_at};
 ghost use Rattle.theory.specs.Learning.{with_literals, walk, learn, is_of_cube, back_level};
-ghost use Rattle.cdcl.specs.Marks.{IsMarked, negation_of};
+ghost use Rattle.cdcl.specs.Marks.{IsSet, IsClear, CanLookAt, Resolves, is_open, negation_of};
 ghost use Rattle.cdcl.specs.Learnt.{line_of};
 
 use crate::level::back_level;
 use crate::marks::{Marks, Room, put_all, reason_used, resolve};
 use cnf::Lit;
-use kernel::Kernel;
+use kernel::{Entry, Kernel};
 use std::alloc::{AllocError, Global};
 
 /// What a conflict teaches.
@@ -33,15 +35,33 @@ fn marks_of(
 ) -> Result<Marks, AllocError>
     requires { least_false (literals kernel.now.trail) kernel.now.clauses ≡ Some conflict }
     ensures few { OnOk result (kernel.now.vars < 2 ^ 32) }
-    ensures set { IfOk result (λ m. IsMarked kernel.now (with_literals (clause_at kernel.now.clauses conflict) []) m.marked.items m.current) }
+    ensures set { IfOk result (IsSet kernel.now (with_literals (clause_at kernel.now.clauses conflict) []) (length kernel.now.trail)) }
 {
     let mut marks = room.take(alloc, kernel.vars())?;
     let _trail = kernel.trail(); // it ensures what the proof needs of the trail
-    put_all(kernel, &mut marks, kernel.clause(conflict));
+    put_all(kernel, &mut marks, kernel.clause(conflict))?;
     Ok(marks)
 }
 
-/// Walks the trail from its end, resolves the set with reasons, and puts these behind the hints.
+/// Looks at the entry whose place came last: where the set is resolved on it, resolves with its reason, and puts that behind the hints.
+fn look_at(
+    kernel: &Kernel,
+    marks: &mut Marks,
+    hints: &mut Vec<u64>,
+    entry: Entry,
+) -> Result<(), AllocError>
+    requires { CanLookAt kernel.now entry marks.old }
+    ensures { OnOk result ((S : Clause) → (bound : ℕ) → slice_get kernel.now.trail bound ≡ Some entry → is_open kernel.now.trail S (Some entry) ≡ true
+        → IsSet kernel.now S bound marks.old → Resolves kernel.now entry S bound hints.old.items marks.new hints.new.items) }
+{
+    if let Some(number) = reason_used(marks, entry) {
+        resolve(kernel, marks, entry, kernel.clause(number))?;
+        hints.push(number)?;
+    }
+    Ok(())
+}
+
+/// Looks at the places of the set from the end of the trail. The places between are passed over.
 fn walk(
     kernel: &Kernel,
     marks: &mut Marks,
@@ -49,22 +69,18 @@ fn walk(
     conflict: u64,
 ) -> Result<(), AllocError>
     requires few { kernel.now.vars < 2 ^ 32 }
-    requires set { IsMarked kernel.now (with_literals (clause_at kernel.now.clauses conflict) []) marks.old.marked.items marks.old.current }
+    requires set { IsSet kernel.now (with_literals (clause_at kernel.now.clauses conflict) []) (length kernel.now.trail) marks.old }
     requires hints { hints.old.items ≡ conflict ∷ [] }
-    ensures set { OnOk result (IsMarked kernel.now
+    ensures set { OnOk result (IsSet kernel.now
         (walk kernel.now.clauses kernel.now.trail kernel.now.trail (with_literals (clause_at kernel.now.clauses conflict) []) (conflict ∷ [])).0
-        marks.new.marked.items marks.new.current) }
+        0 marks.new) }
+    ensures done { OnOk result (heap_items marks.new.pending ≡ []) }
     ensures hints { OnOk result (reverse hints.new.items
         ≡ (walk kernel.now.clauses kernel.now.trail kernel.now.trail (with_literals (clause_at kernel.now.clauses conflict) []) (conflict ∷ [])).1) }
 {
     let trail = kernel.trail();
-    let count = trail.len();
-    for done in 0..count {
-        let entry = trail[count - 1 - done];
-        if let Some(number) = reason_used(kernel, marks, entry) {
-            resolve(kernel, marks, entry, kernel.clause(number));
-            hints.push(number)?;
-        }
+    while let Some(place) = marks.pending.pop() {
+        look_at(kernel, marks, hints, trail[place])?;
     }
     Ok(())
 }
@@ -83,21 +99,25 @@ fn put_negation(kernel: &Kernel, clause: &mut Vec<Lit>, var: u32) -> Result<(), 
 
 /// The literals of the set without those of the cube. It leaves no mark.
 fn take_clause(alloc: Global, kernel: &Kernel, marks: &mut Marks) -> Result<Vec<Lit>, AllocError>
-    requires { kernel.now.vars < length marks.old.marked.items }
-    ensures clause { IfOk result (λ c. (S : Clause) → IsMarked kernel.now S marks.old.marked.items marks.old.current
+    requires long { kernel.now.vars < length marks.old.marked.items }
+    requires seen { All (λ v. v ≤ kernel.now.vars) marks.old.seen.items }
+    requires done { heap_items marks.old.pending ≡ [] }
+    requires ordered { IsHeap nat_cmp (heap_items marks.old.pending) }
+    ensures clause { IfOk result (λ c. (S : Clause) → (bound : ℕ) → IsSet kernel.now S bound marks.old
         → c.items ≡ filter (λ l. not (is_of_cube kernel.now.trail l)) S) }
-    ensures clear { OnOk result ((S : Clause) → IsMarked kernel.now S marks.old.marked.items marks.old.current
-        → (v : ℕ) → slice_index_or marks.new.marked.items v false ≡ false) }
+    ensures clear { OnOk result ((S : Clause) → (bound : ℕ) → IsSet kernel.now S bound marks.old → IsClear marks.new) }
 {
     let _trail = kernel.trail(); // it ensures what the proof needs of the trail
+    marks.seen.sort_unstable();
     let mut clause = Vec::new(alloc);
-    for index in 0..kernel.vars() {
-        let var = index + 1;
+    for at in 0..marks.seen.len() {
+        let var = marks.seen[at];
         if marks.marked[var as usize] {
             marks.marked[var as usize] = false;
             put_negation(kernel, &mut clause, var)?;
         }
     }
+    marks.seen.clear();
     marks.current = 0;
     Ok(clause)
 }
@@ -129,12 +149,13 @@ pub(crate) fn analyze_in(
 }
 
 /// The line that the conflict with the clause of this number teaches, and the level to go back to. The last `close` answered this
-/// conflict, and nothing was changed since. It takes time by the entries, the variables and the literals of the clauses resolved with.
+/// conflict, and nothing was changed since. It takes time by the literals of the clauses resolved with, with
+/// a logarithm for the order of their variables and places, and at first by the variables.
 /// An error comes only where memory was refused.
 pub fn analyze(alloc: Global, kernel: &Kernel, conflict: u64) -> Result<Learnt, AllocError>
     requires { least_false (literals kernel.now.trail) kernel.now.clauses ≡ Some conflict }
     ensures line { IfOk result (λ r. line_of r ≡ learn kernel.now.clauses kernel.now.trail conflict) }
     ensures level { IfOk result (λ r. r.level ≡ back_level kernel.now.trail (learn kernel.now.clauses kernel.now.trail conflict).clause) }
 {
-    analyze_in(alloc, kernel, &mut Room::new(alloc), conflict)
+    analyze_in(alloc, kernel, &mut Room::new(), conflict)
 }

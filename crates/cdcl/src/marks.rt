@@ -1,18 +1,19 @@
 //! Sets of literals that are false on the trail, as marks of their variables: what resolution works on. Each step costs what it
-//! looks at.
-ghost use Rattle.std.specs.Prelude.{◌≡◌, ◌<◌, ℕ, IfOk, length, true, false, Some, slice_index_or};
+//! looks at, and a logarithm for each place that waits.
+ghost use Rattle.std.specs.Prelude.{◌≡◌, ◌<◌, ◌≤◌, ◌+◌, ◌∷◌, [], ℕ, IfOk, OnOk, length, take, true, false, Some, None, slice_get, slice_index_or};
 ghost use Rattle.theory.specs.Literals.{Clause, has, negated, without};
-ghost use Rattle.theory.specs.Trails.{literals, entry_of};
+ghost use Rattle.theory.specs.Trails.{Entry, literals, entry_of};
 ghost use Rattle.theory.specs.Status.{is_false};
+ghost use Rattle.theory.specs.Lawful.{IsLawful};
 ghost use Rattle.theory.specs.Learning.{with_literal, with_literals, resolved, reason_used};
-ghost use Rattle.cdcl.specs.Marks.{IsMarked, AreMarks};
+ghost use Rattle.kernel.specs.State.{State};
+ghost use Rattle.cdcl.specs.Marks.{IsMarked, IsSet, IsClear, CanJoin, CanResolve, is_open};
 
-use crate::level::level_of;
 use cnf::Lit;
 use kernel::{Entry, Kernel};
 use std::alloc::{AllocError, Global};
+use std::collections::BinaryHeap;
 use std::marker::Model;
-use std::mem;
 
 /// A set of literals that are false on the trail.
 #[derive(Drop)]
@@ -21,61 +22,88 @@ pub(crate) struct Marks {
     pub(crate) marked: Vec<bool>,
     /// How many of the literals are of the current level.
     pub(crate) current: usize,
+    /// The variables of all literals that were put in.
+    pub(crate) seen: Vec<u32>,
+    /// The places on the trail that are yet to be looked at: those of the literals of level 0 or of the current one.
+    pub(crate) pending: BinaryHeap<usize>,
+}
+
+/// Puts the negation of the literal at a place into the set, which doesn't have it.
+fn put_at(kernel: &Kernel, marks: &mut Marks, place: usize) -> Result<(), AllocError>
+    requires marks { CanJoin kernel.now [] marks.old }
+    requires inside { place < length kernel.now.trail }
+    requires is_new { (e : Entry) → slice_get kernel.now.trail place ≡ Some e → slice_index_or marks.old.marked.items e.lit.var false ≡ false }
+    ensures { OnOk result ((S : Clause) → (bound : ℕ) → (e : Entry) → slice_get kernel.now.trail place ≡ Some e → place < bound
+        → IsSet kernel.now S bound marks.old → IsSet kernel.now (with_literal (negated e.lit) S) bound marks.new) }
+{
+    let entry = kernel.trail()[place];
+    let var = entry.lit.var();
+    marks.marked[var as usize] = true;
+    marks.seen.push(var)?;
+    if entry.level == kernel.level() {
+        marks.current += 1;
+        marks.pending.push(place)?;
+    } else if entry.level == 0 {
+        marks.pending.push(place)?;
+    }
+    Ok(())
 }
 
 /// Puts a literal into the set.
-fn put(kernel: &Kernel, marks: &mut Marks, lit: Lit)
-    requires marks { AreMarks kernel.now marks.old.marked.items marks.old.current }
-    requires is_false { has (literals kernel.now.trail) (negated lit) ≡ true }
-    ensures { (S : Clause) → IsMarked kernel.now S marks.old.marked.items marks.old.current
-        → IsMarked kernel.now (with_literal lit S) marks.new.marked.items marks.new.current }
+fn put(kernel: &Kernel, marks: &mut Marks, lit: Lit) -> Result<(), AllocError>
+    requires { CanJoin kernel.now (lit ∷ []) marks.old }
+    ensures { OnOk result ((S : Clause) → (bound : ℕ) → has (literals (take bound kernel.now.trail)) (negated lit) ≡ true
+        → IsSet kernel.now S bound marks.old → IsSet kernel.now (with_literal lit S) bound marks.new) }
 {
-    let var = lit.var() as usize;
-    if marks.marked[var] {
-        return;
+    let var = lit.var();
+    if marks.marked[var as usize] {
+        return Ok(());
     }
-    marks.marked[var] = true;
-    if level_of(kernel, lit) == kernel.level() {
-        marks.current += 1;
+    match kernel.place(var) {
+        Some(place) => put_at(kernel, marks, place),
+        None => Ok(()),
     }
 }
 
 /// Puts the literals of a clause into the set.
-pub(crate) fn put_all(kernel: &Kernel, marks: &mut Marks, clause: &[Lit])
-    requires marks { AreMarks kernel.now marks.old.marked.items marks.old.current }
-    requires is_false { is_false (literals kernel.now.trail) clause.now ≡ true }
-    ensures { (S : Clause) → IsMarked kernel.now S marks.old.marked.items marks.old.current
-        → IsMarked kernel.now (with_literals clause.now S) marks.new.marked.items marks.new.current }
+pub(crate) fn put_all(kernel: &Kernel, marks: &mut Marks, clause: &[Lit]) -> Result<(), AllocError>
+    requires { CanJoin kernel.now clause.now marks.old }
+    ensures { OnOk result ((S : Clause) → (bound : ℕ) → is_false (literals (take bound kernel.now.trail)) clause.now ≡ true
+        → IsSet kernel.now S bound marks.old → IsSet kernel.now (with_literals clause.now S) bound marks.new) }
 {
     let count = clause.len();
     for done in 0..count {
-        put(kernel, marks, clause[count - 1 - done]);
+        put(kernel, marks, clause[count - 1 - done])?;
     }
+    Ok(())
 }
 
 /// Puts the literals of a clause other than `except` into the set.
-fn put_others(kernel: &Kernel, marks: &mut Marks, clause: &[Lit], except: Lit)
-    requires marks { AreMarks kernel.now marks.old.marked.items marks.old.current }
-    requires is_false { is_false (literals kernel.now.trail) (without clause.now except) ≡ true }
-    ensures { (S : Clause) → IsMarked kernel.now S marks.old.marked.items marks.old.current
-        → IsMarked kernel.now (with_literals (without clause.now except) S) marks.new.marked.items marks.new.current }
+fn put_others(
+    kernel: &Kernel,
+    marks: &mut Marks,
+    clause: &[Lit],
+    except: Lit,
+) -> Result<(), AllocError>
+    requires { CanJoin kernel.now (without clause.now except) marks.old }
+    ensures { OnOk result ((S : Clause) → (bound : ℕ) → is_false (literals (take bound kernel.now.trail)) (without clause.now except) ≡ true
+        → IsSet kernel.now S bound marks.old → IsSet kernel.now (with_literals (without clause.now except) S) bound marks.new) }
 {
     let count = clause.len();
     for done in 0..count {
         let lit = clause[count - 1 - done];
         if !except.same(&lit) {
-            put(kernel, marks, lit);
+            put(kernel, marks, lit)?;
         }
     }
+    Ok(())
 }
 
 /// Takes the negation of an entry's literal out of the set, which has it.
 fn take(kernel: &Kernel, marks: &mut Marks, entry: Entry)
-    requires marks { AreMarks kernel.now marks.old.marked.items marks.old.current }
-    requires there { entry_of kernel.now.trail entry.lit.var ≡ Some entry }
-    requires is_in { slice_index_or marks.old.marked.items entry.lit.var false ≡ true }
-    ensures { (S : Clause) → IsMarked kernel.now S marks.old.marked.items marks.old.current
-        → IsMarked kernel.now (without S (negated entry.lit)) marks.new.marked.items marks.new.current }
+    requires { CanResolve kernel.now entry [] marks.old }
+    ensures { (S : Clause) → (bound : ℕ) → slice_get kernel.now.trail bound ≡ Some entry → IsSet kernel.now S bound marks.old
+        → IsSet kernel.now (without S (negated entry.lit)) bound marks.new }
 {
     marks.marked[entry.lit.var() as usize] = false;
     if entry.level == kernel.level() {
@@ -83,78 +111,78 @@ fn take(kernel: &Kernel, marks: &mut Marks, entry: Entry)
     }
 }
 
-/// Resolves the set with the reason of an entry, the negation of whose literal is in the set.
-pub(crate) fn resolve(kernel: &Kernel, marks: &mut Marks, entry: Entry, reason: &[Lit])
-    requires marks { AreMarks kernel.now marks.old.marked.items marks.old.current }
-    requires there { entry_of kernel.now.trail entry.lit.var ≡ Some entry }
-    requires is_in { slice_index_or marks.old.marked.items entry.lit.var false ≡ true }
-    requires is_false { is_false (literals kernel.now.trail) (without reason.now entry.lit) ≡ true }
-    ensures { (S : Clause) → IsMarked kernel.now S marks.old.marked.items marks.old.current
-        → IsMarked kernel.now (resolved S entry.lit reason.now) marks.new.marked.items marks.new.current }
+/// Resolves the set with the reason of the entry that was looked at last, the negation of whose literal is in the set.
+pub(crate) fn resolve(
+    kernel: &Kernel,
+    marks: &mut Marks,
+    entry: Entry,
+    reason: &[Lit],
+) -> Result<(), AllocError>
+    requires { CanResolve kernel.now entry (without reason.now entry.lit) marks.old }
+    ensures { OnOk result ((S : Clause) → (bound : ℕ) → slice_get kernel.now.trail bound ≡ Some entry
+        → is_false (literals (take bound kernel.now.trail)) (without reason.now entry.lit) ≡ true → IsSet kernel.now S bound marks.old
+        → IsSet kernel.now (resolved S entry.lit reason.now) bound marks.new) }
 {
     take(kernel, marks, entry);
-    put_others(kernel, marks, reason, entry.lit);
+    put_others(kernel, marks, reason, entry.lit)
 }
 
-/// The clause with which the set is resolved at an entry of the trail.
-pub(crate) fn reason_used(kernel: &Kernel, marks: &Marks, entry: Entry) -> Option<u64>
-    requires marks { AreMarks kernel.now marks.now.marked.items marks.now.current }
-    requires there { entry_of kernel.now.trail entry.lit.var ≡ Some entry }
-    ensures { (S : Clause) → IsMarked kernel.now S marks.now.marked.items marks.now.current → result ≡ reason_used kernel.now.trail S entry }
+/// The clause with which the set is resolved at an entry of level 0 or of the current one, the negation of whose literal is in the set.
+pub(crate) fn reason_used(marks: &Marks, entry: Entry) -> Option<u64>
+    ensures { (k : State) → (S : Clause) → IsLawful k.clauses k.trail → IsMarked k S marks.now.marked.items marks.now.current
+        → entry_of k.trail entry.lit.var ≡ Some entry → is_open k.trail S (Some entry) ≡ true → result ≡ reason_used k.trail S entry }
 {
-    if !marks.marked[entry.lit.var() as usize] {
-        return None;
-    }
-    if entry.level == 0 || (entry.level == kernel.level() && marks.current >= 2) {
+    if entry.level == 0 || marks.current >= 2 {
         entry.reason
     } else {
         None
     }
 }
 
-/// Room for marks, none of which is set, that is used again and again.
+/// Room for marks, that is used again and again.
 #[derive(Drop)]
 pub(crate) struct Room {
-    marked: Vec<bool>,
+    kept: Option<Marks>,
 }
 
 impl Model for Room {
-    ghost use Rattle.std.specs.Prelude.{◌≡◌, ℕ, false, length, slice_index_or};
+    ghost use Rattle.std.specs.Prelude.{IfSome};
+    ghost use Rattle.cdcl.specs.Marks.{IsClear};
 
-    ghost Value = { ℕ };
+    ghost Value = { Unit {0} };
 
-    ghost view = { λ a. length a.marked.items };
+    ghost view = { λ a. tt };
 
-    ghost invariant = { λ a. (v : ℕ) → slice_index_or a.marked.items v false ≡ false };
+    ghost invariant = { λ a. IfSome a.kept IsClear };
 }
 
 impl Room {
     /// No room yet. It takes no memory.
-    pub(crate) fn new(alloc: Global) -> Room {
-        Room {
-            marked: Vec::new(alloc),
-        }
+    pub(crate) fn new() -> Room {
+        Room { kept: None }
     }
 
     /// The empty set over the variables, in the room that there is, or else in new one.
     pub(crate) fn take(&mut self, alloc: Global, vars: u32) -> Result<Marks, AllocError>
         ensures long { IfOk result (λ m. vars < length m.marked.items) }
-        ensures none { IfOk result (λ m. (v : ℕ) → slice_index_or m.marked.items v false ≡ false) }
-        ensures counted { IfOk result (λ m. m.current ≡ 0) }
+        ensures clear { IfOk result IsClear }
     {
         let count = vars as usize + 1;
-        let marked = if self.marked.len() < count {
-            vec![in alloc; false; count]?
-        } else {
-            mem::replace(&mut self.marked, Vec::new(alloc))
-        };
-        Ok(Marks { marked, current: 0 })
+        match self.kept.take() {
+            Some(marks) if marks.marked.len() >= count => Ok(marks),
+            _ => Ok(Marks {
+                marked: vec![in alloc; false; count]?,
+                current: 0,
+                seen: Vec::new(alloc),
+                pending: BinaryHeap::new(alloc),
+            }),
+        }
     }
 
     /// Puts the room back, without a mark, for the next use.
     pub(crate) fn put_back(&mut self, marks: Marks)
-        requires { (v : ℕ) → slice_index_or marks.marked.items v false ≡ false }
+        requires { IsClear marks }
     {
-        self.marked = marks.marked;
+        self.kept = Some(marks);
     }
 }

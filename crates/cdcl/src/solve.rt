@@ -158,7 +158,7 @@ pub fn solve_cube(
         conflicts: 0,
         decided: None,
         lines: Vec::new(alloc),
-        room: Room::new(alloc),
+        room: Room::new(),
     };
     loop {
         if let Some(outcome) = step(alloc, &mut search, budget)? {

@@ -1,7 +1,8 @@
 -- The tables by variable: one entry more, and the entries behind a place taken off.
-use Rattle.std.proofs.Common.{◌≡◌, ◌≢◌, ℕ, zero, suc, ◌+◌, ◌-◌, ◌<◌, ◌≤◌, Bool, true, false, not, ◌||◌, List, [], ◌∷◌, ◌++◌, length, take, get_or, Option, Some, None, option_map, is_some, cond, nat_eq, eqb-true, eq-eqb, refl, ap, sym, subst, ◌∙◌, inl, inr, arith, slice_set}
+use Rattle.std.proofs.Common.{◌≡◌, ◌≢◌, ℕ, zero, suc, ◌+◌, ◌-◌, ◌<◌, ◌≤◌, Bool, true, false, not, ◌||◌, List, [], ◌∷◌, ◌++◌, length, take, get_or, Option, Some, None, option_map, is_some, cond, nat_eq, eqb-true, eq-eqb, refl, ap, sym, subst, ◌∙◌, inl, inr, arith, slice_get, slice_set}
 use Rattle.std.proofs.lemmas.List.{get_or-set_same, get_or-set_other, length-set, map-append, take_more}
 use Rattle.std.proofs.lemmas.Grind.{get_or_default_zero}
+use Rattle.std.proofs.lemmas.Option.{slice_get-get_or}
 use Rattle.theory.specs.Literals.{Literal, has_var, IsVariable}
 use Rattle.theory.specs.Trails.{Entry, Trail, literals, entry_of}
 use Rattle.theory.specs.Lawful.{are_distinct}
@@ -97,6 +98,14 @@ place_in-le (e ∷ T) v = go (nat_eq e.lit.var v) (place_in T v) (place_in-le T 
     go true p h = omega arith
     go false zero h = omega arith
     go false (suc p) h = omega arith
+
+-- the place of a variable holds its entry
+pub place_in-found : (T : Trail) (v n : ℕ) → place_in T v ≡ n → 0 < n → slice_get T (n - 1) ≡ entry_of T v
+place_in-found [] v n h some = absurd (omega arith)
+place_in-found (e ∷ T) v n h some =
+    let found = place_in-entry (e ∷ T) v n e h some in
+    let most = found.0 in
+    slice_get-get_or (e ∷ T) (n - 1) e (omega arith) ∙ sym found.1
 
 pub place_in-zero : (T : Trail) (v : ℕ) → place_in T v ≡ 0 → entry_of T v ≡ None
 place_in-zero [] v h = refl

@@ -1,5 +1,5 @@
 //! The kernel: the clauses and the trail of one cube's search.
-ghost use Rattle.std.specs.Prelude.{◌≡◌, ◌+◌, ◌^◌, ◌<◌, ◌≤◌, true, false, None, [], ◌∷◌, ◌++◌, length, All, IfOk, OnOk, OnErr, IsErr, if◌then◌else◌};
+ghost use Rattle.std.specs.Prelude.{◌≡◌, ◌+◌, ◌^◌, ◌<◌, ◌≤◌, true, false, None, [], ◌∷◌, ◌++◌, length, All, IfOk, IfSome, IfNone, OnOk, OnErr, IsErr, slice_get, if◌then◌else◌};
 ghost use Rattle.std.specs.Option.{option_map};
 ghost use Rattle.theory.specs.Literals.{IsVariable, IsCube, has_var};
 ghost use Rattle.theory.specs.Truth.{IsOver};
@@ -184,6 +184,20 @@ impl Kernel {
     {
         if var <= self.trail.vars() {
             self.trail.entry(var)
+        } else {
+            None
+        }
+    }
+
+    /// The place of a variable's entry on the trail, counted from 0, in one step: none while it is free, and none for a number that is
+    /// no variable.
+    pub fn place(&self, var: u32) -> Option<usize>
+        ensures found { IfSome result (λ p. slice_get self.now.trail p ≡ entry_of self.now.trail var) }
+        ensures inside { IfSome result (λ p. p < length self.now.trail) }
+        ensures free { IfNone result (entry_of self.now.trail var ≡ None) }
+    {
+        if var <= self.trail.vars() {
+            self.trail.place(var)
         } else {
             None
         }

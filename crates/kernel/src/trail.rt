@@ -1,5 +1,5 @@
 //! The trail, with tables by variable, so that each look-up is one step.
-ghost use Rattle.std.specs.Prelude.{◌≡◌, ◌≤◌, ◌<◌, ◌^◌, ◌+◌, ℕ, [], ◌∷◌, ◌++◌, true, false, length, take, IfOk, None, Some, slice_index, slice_index_or, if◌then◌else◌, ◌⊎◌, is_some};
+ghost use Rattle.std.specs.Prelude.{◌≡◌, ◌≤◌, ◌<◌, ◌^◌, ◌+◌, ℕ, [], ◌∷◌, ◌++◌, true, false, length, take, IfOk, IfSome, IfNone, None, Some, slice_get, slice_index, slice_index_or, if◌then◌else◌, ◌⊎◌, is_some};
 ghost use Rattle.theory.specs.Literals.{IsVariable, has_var};
 ghost use Rattle.theory.specs.Trails.{literals, current_level, entry_of, least_free, up_to};
 ghost use Rattle.kernel.specs.Held.{IsOrdered, IsRisingFrom};
@@ -156,16 +156,25 @@ impl Trail {
         self.values[var as usize]
     }
 
+    /// The place of a variable's entry, counted from 0, and none while it is free.
+    pub fn place(&self, var: u32) -> Option<usize>
+        requires { var ≤ self.now.vars }
+        ensures found { IfSome result (λ p. slice_get self.now.entries p ≡ entry_of self.now.entries var) }
+        ensures inside { IfSome result (λ p. p < length self.now.entries) }
+        ensures free { IfNone result (entry_of self.now.entries var ≡ None) }
+    {
+        let count = self.places[var as usize] as usize;
+        if count == 0 { None } else { Some(count - 1) }
+    }
+
     /// The entry of a variable, and none while it is free.
     pub fn entry(&self, var: u32) -> Option<Entry>
         requires { var ≤ self.now.vars }
         ensures { result ≡ entry_of self.now.entries var }
     {
-        let place = self.places[var as usize] as usize;
-        if place == 0 {
-            None
-        } else {
-            Some(self.entries[place - 1])
+        match self.place(var) {
+            None => None,
+            Some(place) => Some(self.entries[place]),
         }
     }
 

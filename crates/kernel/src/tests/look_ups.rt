@@ -31,6 +31,8 @@ fn looks_up(rt: HostRuntime) -> Result<(), Fail> {
     let wanted = [(1, 0, 1), (2, 1, 1), (-3, 0, 2), (-4, 2, 2)];
     assert!(rt; row(&mut kernel, Act::Decide(-3), Closed::Quiet, &wanted)?);
     assert_eq!(rt; (kernel.level(), kernel.least_free()), (2, None));
+    assert_eq!(rt; (kernel.place(0), kernel.place(1)), (None, Some(0)));
+    assert_eq!(rt; (kernel.place(4), kernel.place(5)), (Some(3), None));
     assert!(rt;
         has_values(
             &kernel,

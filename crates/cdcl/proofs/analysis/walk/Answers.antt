@@ -1,42 +1,60 @@
-use Rattle.std.proofs.Common.{arith, ◌-◌, length}
-use Rattle.cdcl.proofs.WalkLemmas.{reason-numbered, entry_of-index, mark-used, others-false, IsWalked-used, IsWalked-passed}
+use Rattle.std.proofs.Common.{arith, ◌≡◌, ◌≤◌, ◌+◌, ◌∙◌, length, refl, ap}
+use Rattle.std.specs.BinaryHeap.{heap_items}
+use Rattle.std.proofs.lemmas.List.Sorted.{length_permutation}
+use Rattle.cdcl.proofs.Pending.{top_of}
+use Rattle.cdcl.proofs.JoinedSets.{IsSet-empty}
+use Rattle.cdcl.proofs.WalkLemmas.{top-inside, top-first, IsWalked-popped, CanLookAt-looked_at, Resolves-below, IsWalked-next, IsWalked-set, IsWalked-hints, none-left}
 use Rattle.cdcl.proofs.analysis.walk.Goals as goal
-use Rattle.cdcl.proofs.analysis.walk.Goals.{in-Some+in_ok-push, in_default}
 
-pub reason_used-requires-clause-there : goal.reason_used-requires-clause-there
-reason_used-requires-clause-there c =
-    entry_of-index _ _ c.trail-trail.result.now (length c.trail-trail.result.now - 1 - c.loop-done.done) c.index-trail-count.result
-    c.trail-trail.ensures.lawful c.trail-trail.ensures.trail (omega arith) c.index-trail-count.is
+pub offset_bounds-trail-place : goal.offset_bounds-trail-place
+offset_bounds-trail-place c =
+    let inside = top-inside c.args.kernel.now c.args.conflict c.in-Some.place c.loop-place.marks _ _ c.loop-place.invariant c.in-Some.ensures.permutation (c.in-Some.ensures.below_top c.loop-place.invariant.is.ordered) in
+    let same = ap length c.trail-trail.ensures.trail in
+    let small = c.trail-trail.type_inv.1 in
+    omega arith
 
-pub clause-requires : goal.clause-requires
-clause-requires c =
-    reason-numbered _ _ c.trail-trail.result.now c.loop-done.invariant.set (length c.trail-trail.result.now - 1 - c.loop-done.done) c.index-trail-count.result c.in-Some.number
-    c.trail-trail.ensures.lawful c.trail-trail.ensures.trail (omega arith) c.index-trail-count.is (c.in-Some.ensures _ c.loop-done.invariant.is)
+pub bounds-trail-place : goal.bounds-trail-place
+bounds-trail-place c =
+    let inside = top-inside c.args.kernel.now c.args.conflict c.in-Some.place c.loop-place.marks _ _ c.loop-place.invariant c.in-Some.ensures.permutation (c.in-Some.ensures.below_top c.loop-place.invariant.is.ordered) in
+    rw c.trail-trail.ensures.trail inside
 
-pub resolve-requires-clause-there : goal.resolve-requires-clause-there
-resolve-requires-clause-there c =
-    entry_of-index _ _ c.trail-trail.result.now (length c.trail-trail.result.now - 1 - c.loop-done.done) c.index-trail-count.result
-    c.trail-trail.ensures.lawful c.trail-trail.ensures.trail (omega arith) c.index-trail-count.is
+pub look_at-requires : goal.look_at-requires
+look_at-requires c =
+    CanLookAt-looked_at c.args.kernel.now c.args.conflict c.in-Some.place c.index-trail-place.result _ _ c.trail-trail.ensures.lawful c.trail-trail.ensures.over c.requires.few
+    (IsWalked-popped c.args.kernel.now c.args.conflict c.in-Some.place c.index-trail-place.result c.trail-trail.result.now c.loop-place.marks _ c.loop-place.hints.items c.loop-place.invariant
+    c.trail-trail.ensures.trail c.index-trail-place.is refl refl refl (c.in-Some.ensures.heap_order c.loop-place.invariant.is.ordered).0 c.in-Some.ensures.permutation
+    (c.in-Some.ensures.below_top c.loop-place.invariant.is.ordered))
 
-pub resolve-requires-clause-is_in : goal.resolve-requires-clause-is_in
-resolve-requires-clause-is_in c = mark-used _ c.loop-done.invariant.set _ _ c.index-trail-count.result c.in-Some.number c.loop-done.invariant.is (c.in-Some.ensures _ c.loop-done.invariant.is)
+pub loop-place-smaller : goal.loop-place-smaller
+loop-place-smaller c =
+    let looked_at =
+    IsWalked-popped c.args.kernel.now c.args.conflict c.in-Some.place c.index-trail-place.result c.trail-trail.result.now c.loop-place.marks
+    (record c.loop-place.marks { pending = c.pop.new.self }) c.loop-place.hints.items c.loop-place.invariant
+    c.trail-trail.ensures.trail c.index-trail-place.is refl refl refl (c.in-Some.ensures.heap_order c.loop-place.invariant.is.ordered).0 c.in-Some.ensures.permutation
+    (c.in-Some.ensures.below_top c.loop-place.invariant.is.ordered) in
+    let below : top_of (heap_items c.look_at.new.marks.pending) ≤ c.in-Some.place =
+    Resolves-below _ _ looked_at.set c.in-Some.place _ _ c.look_at.new.marks (c.in_ok-look_at.ensures looked_at.set c.in-Some.place looked_at.at looked_at.is_open_there looked_at.is) in
+    let long = length_permutation _ _ c.in-Some.ensures.permutation in
+    let first : top_of (heap_items c.loop-place.marks.pending) ≡ c.in-Some.place + 1 = top-first (heap_items c.loop-place.marks.pending) c.in-Some.place (omega arith) c.in-Some.ensures.top in
+    omega arith
 
-pub resolve-requires-clause-is_false : goal.resolve-requires-clause-is_false
-resolve-requires-clause-is_false c =
-    rw c.clause.ensures
-    (others-false _ _ c.trail-trail.result.now c.loop-done.invariant.set (length c.trail-trail.result.now - 1 - c.loop-done.done) c.index-trail-count.result c.in-Some.number
-    c.trail-trail.ensures.lawful c.trail-trail.ensures.trail (omega arith) c.index-trail-count.is (c.in-Some.ensures _ c.loop-done.invariant.is))
+pub loop-place-preserved : goal.loop-place-preserved
+loop-place-preserved c =
+    let looked_at =
+    IsWalked-popped c.args.kernel.now c.args.conflict c.in-Some.place c.index-trail-place.result c.trail-trail.result.now c.loop-place.marks
+    (record c.loop-place.marks { pending = c.pop.new.self }) c.loop-place.hints.items c.loop-place.invariant
+    c.trail-trail.ensures.trail c.index-trail-place.is refl refl refl (c.in-Some.ensures.heap_order c.loop-place.invariant.is.ordered).0 c.in-Some.ensures.permutation
+    (c.in-Some.ensures.below_top c.loop-place.invariant.is.ordered) in
+    IsWalked-next _ _ c.in-Some.place c.index-trail-place.result _ c.look_at.new.marks _ _ looked_at
+    (c.in_ok-look_at.ensures looked_at.set c.in-Some.place looked_at.at looked_at.is_open_there looked_at.is)
 
-pub loop-done-preserved : goal.loop-done-preserved
-loop-done-preserved c =
-    elim c.match-reason_used.branch [
-      | in-Some+in_ok-push w ↦
-          rw (w.marks-is, w.hints-is)
-          (IsWalked-used _ _ _ c.loop-done.done c.index-trail-count.result w.in-Some.number _ _ _ _ _ _ c.trail-trail.ensures.trail (omega arith) c.index-trail-count.is
-          c.loop-done.invariant (w.in-Some.ensures _ c.loop-done.invariant.is)
-          (rw w.clause.ensures at (w.resolve.ensures _ c.loop-done.invariant.is)) w.in_ok-push.ensures.items)
-      | in_default w ↦
-          rw (w.marks-is, w.hints-is)
-          (IsWalked-passed _ _ _ c.loop-done.done c.index-trail-count.result _ _ _ c.trail-trail.ensures.trail (omega arith) c.index-trail-count.is
-          c.loop-done.invariant (rw w.in_default.is at (c.reason_used.ensures _ c.loop-done.invariant.is)))
-    ]
+pub returns-clause-set : goal.returns-clause-set
+returns-clause-set c =
+    let none = none-left (heap_items c.loop-place.marks.pending) _ c.loop-place.marks.pending.data.ok.0 c.in_default.ensures.none in
+    IsSet-empty _ _ 0 c.loop-place.marks _ refl refl refl none (c.in_default.ensures.unchanged.0 ∙ none)
+    (IsWalked-set _ _ c.loop-place.marks c.loop-place.hints.items c.loop-place.invariant none)
+
+pub returns-clause-hints : goal.returns-clause-hints
+returns-clause-hints c =
+    let none = none-left (heap_items c.loop-place.marks.pending) _ c.loop-place.marks.pending.data.ok.0 c.in_default.ensures.none in
+    IsWalked-hints _ _ c.loop-place.marks c.loop-place.hints.items c.loop-place.invariant none

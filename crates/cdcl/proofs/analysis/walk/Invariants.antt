@@ -1,7 +1,12 @@
-use Rattle.std.proofs.Common.{◌-◌, take}
+use Rattle.std.specs.BinaryHeap.{heap_items}
+use Rattle.cdcl.proofs.Pending.{top_of}
 use Rattle.cdcl.proofs.WalkLemmas.{IsWalked}
 use Rattle.cdcl.proofs.analysis.walk.Given as goal
 
--- the entries that are left give the answer
-abbrev pub invariant-loop-done : goal.invariant-loop-done
-invariant-loop-done l = IsWalked l.kernel l.conflict (take (l.count - l.done) l.trail) l.marks.marked.items l.marks.current l.hints.items
+-- the places that wait give the rest of the answer
+abbrev pub invariant-loop-place : goal.invariant-loop-place
+invariant-loop-place l = IsWalked l.kernel l.conflict l.marks l.hints.items
+
+-- each place is below the one before
+abbrev pub decreases-loop-place : goal.decreases-loop-place
+decreases-loop-place l = top_of (heap_items l.marks.pending)

@@ -1,35 +1,46 @@
-use Rattle.std.proofs.Common.{arith, ◌≡◌, true, false, refl, sym, ◌∙◌, nat_eq, eq-eqb, eqb-true}
-use Rattle.theory.specs.Trails.{level_of, current_level}
-use Rattle.theory.proofs.LiteralSets.{false_unless}
-use Rattle.cdcl.proofs.MarkedSets.{count-most, inside, mark-read, IsMarked-there, IsMarked-more}
+use Rattle.std.proofs.Common.{◌≡◌, ◌∙◌, true, ap, sym, subst, Some, None, arith}
+use Rattle.std.proofs.lemmas.Result.{on_ok_weaker}
+use Rattle.theory.specs.Literals.{Literal}
+use Rattle.theory.specs.Trails.{Entry, entry_of}
+use Rattle.theory.specs.Learning.{with_literal}
+use Rattle.theory.proofs.LiteralLemmas.{and-left}
+use Rattle.cdcl.specs.Marks.{IsSet}
+use Rattle.cdcl.proofs.PlaceLemmas.{place-found, false-below, entry_of-false}
+use Rattle.cdcl.proofs.MarkedSets.{inside, mark-read}
+use Rattle.cdcl.proofs.JoinedSets.{IsSet-there}
 use Rattle.cdcl.proofs.marks.put.Goals as goal
 
 pub index-requires : goal.index-requires
-index-requires c = let h = inside _ _ _ c.args.lit c.requires.marks c.requires.is_false in let v = c.var-var.ensures.var in omega arith
+index-requires c =
+    let f = false-below _ c.requires.bound _ (and-left _ true c.requires.below) in
+    let less = inside c.args.kernel.now _ c.args.lit c.requires.over c.requires.is.is.long f in
+    let v = c.var-var.ensures.var in
+    omega arith
 
 pub returns-then-index : goal.returns-then-index
-returns-then-index c S h =
-    let there = inside _ _ _ c.args.lit c.requires.marks c.requires.is_false in
-    IsMarked-there _ S _ _ c.args.lit c.requires.marks.lawful h c.requires.is_false (mark-read _ _ _ _ c.var-var.ensures.var there c.index.ensures ∙ c.if-index.true)
+returns-then-index c S bound f h =
+    let all = false-below _ bound _ f in
+    let there = inside c.args.kernel.now _ c.args.lit c.requires.over h.is.long all in
+    IsSet-there _ S bound c.args.lit _ c.requires.lawful all (mark-read _ _ _ _ c.var-var.ensures.var there c.index.ensures ∙ c.if-index.true) h
 
-pub index_mut-requires : goal.index_mut-requires
-index_mut-requires c = let h = inside _ _ _ c.args.lit c.requires.marks c.requires.is_false in let v = c.var-var.ensures.var in omega arith
+pub put_at-requires-clause-is_new : goal.put_at-requires-clause-is_new
+put_at-requires-clause-is_new c e at =
+    let below = and-left _ true c.requires.below in
+    let found = place-found _ _ c.requires.bound c.in-Some.place c.args.lit c.requires.lawful below (c.in-Some.ensures.found ∙ ap (entry_of c.args.kernel.now.trail) c.var-var.ensures.var) in
+    let one : e ≡ found.0 = (let same : Some e ≡ Some found.0 = sym at ∙ found.1 in cc) in
+    let v : e.lit.var ≡ c.args.lit.var = ap (λ (x : Entry). x.lit.var) one ∙ ap (λ (l : Literal). l.var) found.2 in
+    let there = inside c.args.kernel.now _ c.args.lit c.requires.over c.requires.is.is.long (false-below _ c.requires.bound _ below) in
+    rw v (mark-read _ _ _ _ c.var-var.ensures.var there c.index.ensures ∙ c.if-index.false)
 
-pub overflow_add-marks : goal.overflow_add-marks
-overflow_add-marks c = let most = count-most _ _ _ _ c.requires.marks c.requires.marks.is in let few = c.requires.marks.few in omega arith
+pub returns-in-Some : goal.returns-in-Some
+returns-in-Some c = on_ok_weaker c.put_at.result
+    (λ made S bound f h. (
+    let found = place-found _ _ bound c.in-Some.place c.args.lit c.requires.lawful f (c.in-Some.ensures.found ∙ ap (entry_of c.args.kernel.now.trail) c.var-var.ensures.var) in
+    subst (λ (l : Literal). IsSet c.args.kernel.now (with_literal l S) bound c.put_at.new.marks) found.2 (made S bound found.0 found.1 found.3 h)
+    ))
+    c.put_at.ensures
 
-pub returns-then-level_of-level : goal.returns-then-level_of-level
-returns-then-level_of-level c S h =
-    let there = inside _ _ _ c.args.lit c.requires.marks c.requires.is_false in
-    let one : nat_eq (level_of c.args.kernel.now.trail c.args.lit) (current_level c.args.kernel.now.trail) ≡ true =
-    eq-eqb _ _ (sym c.level_of.ensures ∙ (c.if-level_of-level.true ∙ c.level.ensures)) in
-    IsMarked-more _ S _ _ _ _ c.args.lit c.requires.marks.lawful h c.requires.is_false
-    (mark-read _ _ _ _ c.var-var.ensures.var there c.index.ensures ∙ c.if-index.false) there (rw c.var-var.ensures.var refl) (rw one (omega arith))
-
-pub returns-else-level_of-level : goal.returns-else-level_of-level
-returns-else-level_of-level c S h =
-    let there = inside _ _ _ c.args.lit c.requires.marks c.requires.is_false in
-    let one : nat_eq (level_of c.args.kernel.now.trail c.args.lit) (current_level c.args.kernel.now.trail) ≡ false =
-    false_unless _ (λ t. c.if-level_of-level.false (c.level_of.ensures ∙ (eqb-true _ _ t ∙ sym c.level.ensures))) in
-    IsMarked-more _ S _ _ _ _ c.args.lit c.requires.marks.lawful h c.requires.is_false
-    (mark-read _ _ _ _ c.var-var.ensures.var there c.index.ensures ∙ c.if-index.false) there (rw c.var-var.ensures.var refl) (rw one (omega arith))
+pub returns-in-None : goal.returns-in-None
+returns-in-None c S bound f h =
+    let e = entry_of-false _ _ bound c.args.lit c.requires.lawful f in
+    absurd (let clash : None ≡ Some e.0 = sym c.in-None.ensures.free ∙ (ap (entry_of c.args.kernel.now.trail) c.var-var.ensures.var ∙ e.1) in cc)

@@ -1,28 +1,41 @@
-use Rattle.std.proofs.Common.{arith, ◌-◌, ◌∙◌, drop, subst, sym, ap, length}
-use Rattle.theory.specs.Literals.{without}
+use Rattle.std.proofs.Common.{◌≡◌, arith, ◌-◌, ◌∙◌, ℕ, take, drop, length, subst, sym, ap}
+use Rattle.theory.specs.Literals.{Clause, without}
 use Rattle.theory.specs.Trails.{literals}
 use Rattle.theory.specs.Learning.{with_literals}
 use Rattle.theory.proofs.LiteralSets.{Refutes-from_is_false, has-without}
-use Rattle.cdcl.specs.Marks.{IsMarked}
+use Rattle.cdcl.specs.Marks.{IsSet}
 use Rattle.cdcl.proofs.SetLemmas.{drop-before, has-at, without-same, without-other}
+use Rattle.cdcl.proofs.JoinedSets.{CanJoin-one}
 use Rattle.cdcl.proofs.marks.put_others.Goals as goal
-use Rattle.cdcl.proofs.marks.put_others.Goals.{then-not-same, else-not-same}
+use Rattle.cdcl.proofs.marks.put_others.Goals.{then-not-same+in_ok-put, else-not-same}
 
-pub put-requires-clause-is_false : goal.put-requires-clause-is_false
-put-requires-clause-is_false c =
-    Refutes-from_is_false (literals c.args.kernel.now.trail) (without c.args.clause.now c.args.except) c.requires.is_false c.index-clause-count.result
+pub put-requires : goal.put-requires
+put-requires c =
+    CanJoin-one _ (without c.args.clause.now c.args.except) c.index-clause-count.result _ c.loop-done.marks c.requires
     (has-without c.args.clause.now c.args.except c.index-clause-count.result
     (has-at c.args.clause.now (length c.args.clause.now - 1 - c.loop-done.done) c.index-clause-count.result (omega arith) c.index-clause-count.is) (sym c.if-not-same.ensures))
+    (c.loop-done.invariant c.requires.set c.requires.bound c.requires.below c.requires.is)
 
 pub loop-done-preserved : goal.loop-done-preserved
-loop-done-preserved c S h =
+loop-done-preserved c S bound f h =
     let rest = drop (length c.args.clause.now - c.loop-done.done) c.args.clause.now in
     let here = ap (λ d. without d c.args.except) (drop-before c.args.clause.now c.loop-done.done c.index-clause-count.result (omega arith) c.index-clause-count.is) in
     elim c.if-not-same.branch [
-      | then-not-same w ↦
-          rw w.marks-is (subst (λ d. IsMarked c.args.kernel.now (with_literals d S) w.put.new.marks.marked.items w.put.new.marks.current)
-          (sym (here ∙ without-other rest c.args.except c.index-clause-count.result (sym w.if-not-same.ensures))) (w.put.ensures _ (c.loop-done.invariant S h)))
+      | then-not-same+in_ok-put w ↦
+          rw w.marks-is (subst (λ (d : Clause). IsSet c.args.kernel.now (with_literals d S) bound w.put.new.marks)
+          (sym (here ∙ without-other rest c.args.except c.index-clause-count.result (sym w.if-not-same.ensures)))
+          (w.in_ok-put.ensures _ bound
+          (Refutes-from_is_false (literals (take bound c.args.kernel.now.trail)) (without c.args.clause.now c.args.except) f c.index-clause-count.result
+          (has-without c.args.clause.now c.args.except c.index-clause-count.result
+          (has-at c.args.clause.now (length c.args.clause.now - 1 - c.loop-done.done) c.index-clause-count.result (omega arith) c.index-clause-count.is) (sym w.if-not-same.ensures)))
+          (c.loop-done.invariant S bound f h)))
       | else-not-same w ↦
-          rw w.marks-is (subst (λ d. IsMarked c.args.kernel.now (with_literals d S) c.loop-done.marks.marked.items c.loop-done.marks.current)
-          (sym (here ∙ without-same rest c.args.except c.index-clause-count.result (sym w.if-not-same.ensures))) (c.loop-done.invariant S h))
+          rw w.marks-is (subst (λ (d : Clause). IsSet c.args.kernel.now (with_literals d S) bound c.loop-done.marks)
+          (sym (here ∙ without-same rest c.args.except c.index-clause-count.result (sym w.if-not-same.ensures))) (c.loop-done.invariant S bound f h))
     ]
+
+pub returns : goal.returns
+returns c S bound f h =
+    let most = c.loop-done.auto.done-end in
+    let end : length c.args.clause.now - c.loop-done.done ≡ 0 = omega (arith, c.loop-done-test.false) in
+    subst (λ (i : ℕ). IsSet c.args.kernel.now (with_literals (without (drop i c.args.clause.now) c.args.except) S) bound c.loop-done.marks) end (c.loop-done.invariant S bound f h)

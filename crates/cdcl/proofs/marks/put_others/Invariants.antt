@@ -1,11 +1,13 @@
-use Rattle.std.proofs.Common.{◌-◌, drop}
+use Rattle.std.proofs.Common.{◌≡◌, ◌-◌, ℕ, true, drop, take}
 use Rattle.theory.specs.Literals.{Clause, without}
+use Rattle.theory.specs.Trails.{literals}
+use Rattle.theory.specs.Status.{is_false}
 use Rattle.theory.specs.Learning.{with_literals}
-use Rattle.cdcl.specs.Marks.{IsMarked}
+use Rattle.cdcl.specs.Marks.{IsSet}
 use Rattle.cdcl.proofs.marks.put_others.Given as goal
 
 -- the literals from the end are in
 abbrev pub invariant-loop-done : goal.invariant-loop-done
 invariant-loop-done l =
-    (S : Clause) → IsMarked l.kernel S l.initial.marks.marked.items l.initial.marks.current
-    → IsMarked l.kernel (with_literals (without (drop (l.count - l.done) l.clause) l.except) S) l.marks.marked.items l.marks.current
+    (S : Clause) → (bound : ℕ) → is_false (literals (take bound l.kernel.trail)) (without l.clause l.except) ≡ true → IsSet l.kernel S bound l.initial.marks
+    → IsSet l.kernel (with_literals (without (drop (l.count - l.done) l.clause) l.except) S) bound l.marks

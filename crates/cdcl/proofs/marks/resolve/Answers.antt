@@ -1,20 +1,25 @@
-use Rattle.std.proofs.Common.{subst, ap}
+use Rattle.std.proofs.Common.{subst, ap, sym}
+use Rattle.std.proofs.lemmas.Result.{on_ok_weaker}
 use Rattle.theory.specs.Literals.{Literal, negated, without}
 use Rattle.theory.specs.Trails.{Entry}
 use Rattle.theory.specs.Learning.{with_literals}
-use Rattle.cdcl.specs.Marks.{IsMarked}
+use Rattle.cdcl.specs.Marks.{IsSet, CanJoin}
+use Rattle.cdcl.proofs.JoinedSets.{CanResolve-none, CanJoin-taken}
 use Rattle.cdcl.proofs.marks.resolve.Goals as goal
 
-pub put_others-requires-clause-marks : goal.put_others-requires-clause-marks
-put_others-requires-clause-marks c = record {
-  lawful = c.requires.marks.lawful;
-  over = c.requires.marks.over;
-  few = c.requires.marks.few;
-  set = without c.requires.marks.set (negated c.args.entry.lit);
-  is = c.take.ensures c.requires.marks.set c.requires.marks.is;
-}
+pub take-requires : goal.take-requires
+take-requires c = CanResolve-none _ c.args.entry _ _ c.requires
+
+pub put_others-requires : goal.put_others-requires
+put_others-requires c =
+    subst (λ (e : Entry). CanJoin c.args.kernel.now (without c.args.reason.now e.lit) c.take.new.marks) (sym c.entry.view_is)
+    (CanJoin-taken _ c.args.entry _ _ c.take.new.marks c.requires (c.take.ensures c.requires.joins.set c.requires.joins.bound c.requires.at c.requires.joins.is))
 
 pub returns : goal.returns
-returns c S h =
-    subst (λ (l : Literal). IsMarked c.args.kernel.now (with_literals (without c.args.reason.now l) (without S (negated c.args.entry.lit))) c.put_others.new.marks.marked.items c.put_others.new.marks.current)
-    (ap (λ (e : Entry). e.lit) c.entry.view_is) (c.put_others.ensures (without S (negated c.args.entry.lit)) (c.take.ensures S h))
+returns c = on_ok_weaker c.put_others.result
+    (λ made S bound at f h. (
+    let lit = ap (λ (e : Entry). e.lit) c.entry.view_is in
+    subst (λ (l : Literal). IsSet c.args.kernel.now (with_literals (without c.args.reason.now l) (without S (negated c.args.entry.lit))) bound c.put_others.new.marks) lit
+    (made (without S (negated c.args.entry.lit)) bound (rw (← lit) at f) (c.take.ensures S bound at h))
+    ))
+    c.put_others.ensures

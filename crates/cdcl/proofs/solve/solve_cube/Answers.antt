@@ -1,5 +1,4 @@
 use Rattle.std.proofs.Common.{◌<◌, None, ap, ◌∙◌, refl}
-use Rattle.theory.specs.Search.{Runs}
 use Rattle.kernel.specs.State.{State}
 use Rattle.cdcl.specs.Outcome.{outcome_of}
 use Rattle.cdcl.specs.Searching.{IsSearching, IsStep}
@@ -15,17 +14,17 @@ loop-search-init c = record {
   leads = λ o h. begin-leads c.args.formula.now c.args.budget c.args.cube.now _ o (rw (c.in_ok-open.ensures.opened, c.new.ensures.items) refl) h;
 }
 
-runs : (c : goal.After-drop-search-in-Some-7) → Runs c.args.formula.now c.args.budget c.args.cube.now (outcome_of c.in-Some.outcome)
-runs c =
+pub returns-in-Some-clause-runs : goal.returns-in-Some-clause-runs
+returns-in-Some-clause-runs c =
     c.loop-search.invariant.leads _
     (IsStep-ends c.args.formula.now.vars c.args.budget c.loop-search.search c.step.new.search c.in-Some.outcome c.loop-search.invariant.vars (rw c.in-Some.is at c.in_ok-outcome.ensures))
 
-pub returns-in-Some-clause-runs : goal.returns-in-Some-clause-runs
-returns-in-Some-clause-runs c = runs c
-
 pub returns-in-Some-clause-says : goal.returns-in-Some-clause-says
 returns-in-Some-clause-says c =
-    begun-says c.args.formula.now c.args.budget c.args.cube.now c.in_ok-open.field-0 (outcome_of c.in-Some.outcome) c.in_ok-open.ensures.opened c.in_ok-open.ensures.lawful c.requires.over (runs c)
+    let runs =
+    c.loop-search.invariant.leads _
+    (IsStep-ends c.args.formula.now.vars c.args.budget c.loop-search.search c.step.new.search c.in-Some.outcome c.loop-search.invariant.vars (rw c.in-Some.is at c.in_ok-outcome.ensures)) in
+    begun-says c.args.formula.now c.args.budget c.args.cube.now c.in_ok-open.field-0 (outcome_of c.in-Some.outcome) c.in_ok-open.ensures.opened c.in_ok-open.ensures.lawful c.requires.over runs
 
 went_on : (c : goal.In_default) → IsStep c.args.budget c.loop-search.search None c.step.new.search
 went_on c = rw c.in_default.is at c.in_ok-outcome.ensures

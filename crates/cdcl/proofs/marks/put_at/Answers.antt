@@ -1,0 +1,66 @@
+use Rattle.std.proofs.Common.{◌≡◌, ◌∙◌, true, false, slice_set, ap, sym, nat_eq, eq-eqb, eqb-true, ◌++◌, ◌∷◌, [], arith}
+use Rattle.std.specs.BinaryHeap.{heap_items}
+use Rattle.theory.specs.Trails.{Entry, current_level}
+use Rattle.theory.proofs.LiteralSets.{false_unless}
+use Rattle.cdcl.proofs.PlaceLemmas.{placed-there, entry-read, entry_of-placed}
+use Rattle.cdcl.proofs.Pending.{pending-pushed, pending-kept}
+use Rattle.cdcl.proofs.MarkedSets.{entry-inside, count-most, resolvable-current, resolvable-zero, resolvable-neither}
+use Rattle.cdcl.proofs.JoinedSets.{IsSet-more}
+use Rattle.cdcl.proofs.marks.put_at.Goals as goal
+
+pub index_mut-requires : goal.index_mut-requires
+index_mut-requires c =
+    let found = placed-there c.args.kernel.now.trail c.args.place c.requires.inside in
+    let one = entry-read c.args.kernel.now.trail _ c.args.place c.index-trail-place.result found.0 c.trail.ensures.trail c.index-trail-place.is found.1 in
+    let v = c.var-var.ensures.var ∙ ap (λ (x : Entry). x.lit.var) (c.entry.view_is ∙ one) in
+    let less = entry-inside c.args.kernel.now _ found.0 c.requires.marks.over c.requires.marks.is.is.long (entry_of-placed _ _ c.args.place found.0 c.requires.marks.lawful found.1) in
+    omega arith
+
+pub overflow_add-marks : goal.overflow_add-marks
+overflow_add-marks c =
+    let most = count-most _ _ _ _ c.requires.marks.over c.requires.marks.is.is in
+    let few = c.requires.marks.few in
+    omega arith
+
+pub returns-in_ok-push-2 : goal.returns-in_ok-push-2
+returns-in_ok-push-2 c S bound e at below h =
+    let entry = c.entry.view_is ∙ entry-read c.args.kernel.now.trail _ c.args.place c.index-trail-place.result e c.trail.ensures.trail c.index-trail-place.is at in
+    let v = c.var-var.ensures.var ∙ ap (λ (x : Entry). x.lit.var) entry in
+    let current : nat_eq e.level (current_level c.args.kernel.now.trail) ≡ true =
+    eq-eqb _ _ (sym (ap (λ (x : Entry). x.level) entry) ∙ (c.if-entry-level.true ∙ c.level.ensures)) in
+    IsSet-more _ S bound c.args.place e _ _ c.requires.marks.lawful c.requires.marks.over at below (c.requires.is_new e at) h
+    (ap (λ x. slice_set c.args.marks.now.marked.items x true) v)
+    (c.in_ok-push.ensures.items ∙ ap (λ x. c.args.marks.now.seen.items ++ x ∷ []) v)
+    (rw current (omega arith))
+    (c.in_ok-push-2.ensures.heap_order h.ordered)
+    (pending-pushed _ c.args.place _ _ (resolvable-current c.args.kernel.now.trail e current) c.in_ok-push-2.ensures.permutation)
+
+pub returns-in_ok-push-3 : goal.returns-in_ok-push-3
+returns-in_ok-push-3 c S bound e at below h =
+    let entry = c.entry.view_is ∙ entry-read c.args.kernel.now.trail _ c.args.place c.index-trail-place.result e c.trail.ensures.trail c.index-trail-place.is at in
+    let v = c.var-var.ensures.var ∙ ap (λ (x : Entry). x.lit.var) entry in
+    let level = ap (λ (x : Entry). x.level) entry in
+    let current : nat_eq e.level (current_level c.args.kernel.now.trail) ≡ false =
+    false_unless _ (λ t. c.if-entry-level.false (level ∙ (eqb-true _ _ t ∙ sym c.level.ensures))) in
+    let zero : nat_eq e.level 0 ≡ true = eq-eqb _ _ (sym level ∙ c.if-entry-eq0.true) in
+    IsSet-more _ S bound c.args.place e _ _ c.requires.marks.lawful c.requires.marks.over at below (c.requires.is_new e at) h
+    (ap (λ x. slice_set c.args.marks.now.marked.items x true) v)
+    (c.in_ok-push.ensures.items ∙ ap (λ x. c.args.marks.now.seen.items ++ x ∷ []) v)
+    (rw current (omega arith))
+    (c.in_ok-push-3.ensures.heap_order h.ordered)
+    (pending-pushed _ c.args.place _ _ (resolvable-zero c.args.kernel.now.trail e zero) c.in_ok-push-3.ensures.permutation)
+
+pub returns-else-entry-eq0 : goal.returns-else-entry-eq0
+returns-else-entry-eq0 c S bound e at below h =
+    let entry = c.entry.view_is ∙ entry-read c.args.kernel.now.trail _ c.args.place c.index-trail-place.result e c.trail.ensures.trail c.index-trail-place.is at in
+    let v = c.var-var.ensures.var ∙ ap (λ (x : Entry). x.lit.var) entry in
+    let level = ap (λ (x : Entry). x.level) entry in
+    let current : nat_eq e.level (current_level c.args.kernel.now.trail) ≡ false =
+    false_unless _ (λ t. c.if-entry-level.false (level ∙ (eqb-true _ _ t ∙ sym c.level.ensures))) in
+    let zero : nat_eq e.level 0 ≡ false = false_unless _ (λ t. c.if-entry-eq0.false (level ∙ eqb-true _ _ t)) in
+    IsSet-more _ S bound c.args.place e _ _ c.requires.marks.lawful c.requires.marks.over at below (c.requires.is_new e at) h
+    (ap (λ x. slice_set c.args.marks.now.marked.items x true) v)
+    (c.in_ok-push.ensures.items ∙ ap (λ x. c.args.marks.now.seen.items ++ x ∷ []) v)
+    (rw current (omega arith))
+    h.ordered
+    (pending-kept _ c.args.place (heap_items c.args.marks.now.pending) (resolvable-neither c.args.kernel.now.trail e zero current))
