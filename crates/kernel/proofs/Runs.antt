@@ -10,12 +10,7 @@ use Rattle.theory.proofs.LiteralLemmas.{same-eq, same-refl}
 use Rattle.theory.proofs.LiteralSets.{true_false, false_unless, has-head, has_var-has}
 use Rattle.kernel.specs.Tables.{value_in}
 use Rattle.kernel.proofs.NextFree.{is_some-value_in}
-use Rattle.kernel.proofs.Statuses.{value-literal}
-
--- where propagation came to rest, it rests
-pub Closes-rests : (K : List Clause) (T U : Trail) → Closes K T quiet U → Closes K U quiet U
-Closes-rests K T U (rests h i) = rests h i
-Closes-rests K T U (grows h i more) = Closes-rests K _ U more
+use Rattle.kernel.proofs.Values.{value-literal}
 
 -- a variable without a value is free
 pub value-free : (T : Trail) (v : ℕ) → is_some (value_in T v) ≡ false → has_var (literals T) v ≡ false
