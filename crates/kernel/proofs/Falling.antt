@@ -1,11 +1,10 @@
 -- Each literal that a unit clause gives leaves fewer literals open.
-use Rattle.std.proofs.Common.{◌≡◌, ℕ, ◌+◌, ◌<◌, ◌≤◌, Bool, true, false, not, ◌||◌, List, [], ◌∷◌, ◌++◌, Option, Some, None, find, option_map, refl, arith, nat_eq, eq-eqb, cond, ap, ◌∙◌, All}
+use Rattle.std.proofs.Common.{◌≡◌, ℕ, ◌+◌, ◌<◌, ◌≤◌, Bool, true, false, ◌||◌, List, [], ◌∷◌, ◌++◌, Option, Some, None, find, option_map, refl, arith, nat_eq, eq-eqb, cond, ap, ◌∙◌, All}
 use Rattle.theory.specs.Literals.{Literal, Clause, has_var, IsVariable}
 use Rattle.theory.specs.Truth.{IsOver}
-use Rattle.theory.specs.Status.{is_unit_in, unit_literal, others_false}
+use Rattle.theory.specs.Status.{is_unit_in, unit_literal}
 use Rattle.theory.specs.Propagation.{Closed, Closes, grows, least_false, least_unit, clause_at}
 use Rattle.theory.specs.Trails.{Trail, literals, current_level}
-use Rattle.theory.proofs.LiteralLemmas.{and-left, not_true}
 use Rattle.theory.proofs.LawfulTrails.{least_unit-at, unit_literal-facts}
 use Rattle.theory.proofs.OverVariables.{clause_at-over}
 use Rattle.theory.proofs.TrailEntries.{literals-at}

@@ -1,10 +1,9 @@
 -- What the tests ask before a decision and before a clause is learnt.
-use Rattle.std.proofs.Common.{◌≡◌, ℕ, Bool, true, false, not, ◌||◌, List, [], ◌∷◌, Some, is_some, option_map, refl, ap, sym, subst, ◌∙◌, nat_eq, eqb-true, inl, inr}
+use Rattle.std.proofs.Common.{◌≡◌, ℕ, Bool, true, false, not, ◌||◌, [], ◌∷◌, Some, is_some, option_map, refl, ap, sym, subst, ◌∙◌, nat_eq, eqb-true, inl, inr}
 use Rattle.std.proofs.lemmas.List.Elements.{All-nil, All-cons}
-use Rattle.theory.specs.Literals.{Literal, Clause, negated, same, has, has_var, IsVariable}
+use Rattle.theory.specs.Literals.{Literal, negated, same, has, has_var, IsVariable}
 use Rattle.theory.specs.Truth.{IsOver}
 use Rattle.theory.specs.Trails.{Entry, Trail, literals, level_at, current_level, entry_of}
-use Rattle.theory.specs.Propagation.{quiet, Closes, grows, rests}
 use Rattle.theory.specs.Learnable.{IsLearnable}
 use Rattle.theory.proofs.LiteralLemmas.{same-eq, same-refl}
 use Rattle.theory.proofs.LiteralSets.{true_false, false_unless, has-head, has_var-has}

@@ -1,5 +1,5 @@
 -- What the value of a variable says of its literals.
-use Rattle.std.proofs.Common.{◌≡◌, ℕ, Bool, true, false, not, List, [], ◌∷◌, Option, Some, None, option_map, cond, nat_eq, eqb-true, is_some, refl, ap, sym, ◌∙◌}
+use Rattle.std.proofs.Common.{◌≡◌, ℕ, Bool, true, false, not, [], ◌∷◌, Some, None, option_map, cond, nat_eq, eqb-true, is_some, refl, ap, sym, ◌∙◌}
 use Rattle.theory.specs.Literals.{Literal, negated, has, has_var}
 use Rattle.theory.specs.Trails.{Entry, Trail, literals, entry_of}
 use Rattle.theory.proofs.LiteralSets.{has-equal, has-tail}

@@ -1,5 +1,5 @@
 -- Steps, as they are tested one after the other.
-use Rattle.std.proofs.Common.{◌≡◌, ℕ, zero, suc, ◌+◌, ◌<◌, ◌≤◌, Bool, true, false, ◌||◌, List, [], ◌∷◌, length, drop, get_or, map, Option, Some, None, cond, nat_eq, eqb-true, refl, ap, sym, subst, ◌∙◌, arith, add-one, All, ne_eqb}
+use Rattle.std.proofs.Common.{◌≡◌, ℕ, zero, suc, ◌+◌, ◌<◌, ◌≤◌, Bool, true, ◌||◌, List, [], ◌∷◌, length, drop, get_or, map, Option, Some, None, cond, refl, ap, sym, subst, ◌∙◌, arith, add-one, All, ne_eqb}
 use Rattle.std.proofs.Math.Seq.{drop-cons}
 use Rattle.std.proofs.lemmas.List.{drop-map, length-map}
 use Rattle.theory.specs.Literals.{Clause}
@@ -7,7 +7,6 @@ use Rattle.theory.specs.Truth.{Formula, IsOver}
 use Rattle.theory.specs.Steps as theory
 use Rattle.theory.specs.Checking.{Numbered, numbered_from, clause_of, deleted, is_empty, Checker, Checked, Tested, leaves, faulty, refused, accepted, no_empty_clause, addition_fault, addition_test, deletion_test, added, test, check_from, checks}
 use Rattle.theory.specs.Checking as checking
-use Rattle.theory.proofs.LiteralSets.{false_unless}
 use Rattle.lrat.specs.declared.check_fault.Fault.{Fault}
 use Rattle.lrat.specs.declared.check_fault.Fault.TheVariants.{IdNotRising, BothSigns, NoSuchClause, HintNotUnit, HintAfterConflict, NoConflict, MissingCandidate, BadCandidate, NoSuchDeletion, LiteralOutOfRange}
 use Rattle.lrat.specs.CheckFaults.{fault_of, fault_at, IsRefused}

@@ -4,7 +4,7 @@ use Rattle.std.proofs.lemmas.List.{reverse-append, length-set}
 use Rattle.theory.specs.Literals.{Literal, has_var}
 use Rattle.theory.specs.Lawful.{are_distinct}
 use Rattle.theory.proofs.LiteralLemmas.{and-left, and-right, not_true}
-use Rattle.theory.proofs.LiteralSets.{false_unless, true_false, or-false_left, or-false_right}
+use Rattle.theory.proofs.LiteralSets.{true_false, or-false_left, or-false_right}
 use Rattle.lrat.specs.Held.{value_in, IsTable, Extends}
 
 pub reverse-push : (P : List Literal) (l : Literal) → reverse (P ++ l ∷ []) ≡ l ∷ reverse P

@@ -1,7 +1,7 @@
 -- The words that led the machine to a state, and where it can go from there.
-use Rattle.std.proofs.Common.{◌≡◌, ℕ, zero, suc, ◌≤◌, Bool, true, false, List, [], ◌∷◌, ◌++◌, map, nat_le, leb-true, refl, sym, ap, subst, ◌∙◌, arith, decimal, Option, Some, None, All, codes, append_assoc, append-nil, cond}
+use Rattle.std.proofs.Common.{◌≡◌, ℕ, ◌≤◌, Bool, true, false, List, [], ◌∷◌, ◌++◌, map, nat_le, leb-true, refl, sym, ap, subst, ◌∙◌, arith, decimal, Option, Some, None, codes, append_assoc, append-nil, cond}
 use Rattle.std.proofs.lemmas.List.{map-append}
-use Rattle.std.proofs.lemmas.List.Elements.{All-append, All-nil, All-push}
+use Rattle.std.proofs.lemmas.List.Elements.{All-nil, All-push}
 use Rattle.theory.specs.Literals.{Literal, Clause, positive, negative}
 use Rattle.theory.specs.Steps.{Group, Addition, Deletion, add, delete}
 use Rattle.theory.specs.Texts.{literal_text, clause_words, group_words, groups_words, step_words, zero_text, minus}

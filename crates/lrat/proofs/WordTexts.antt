@@ -1,8 +1,6 @@
 -- What a word is, and the texts of the words that a step has.
 use Rattle.std.proofs.Common.{◌≡◌, ℕ, ◌≤◌, Bool, true, false, List, [], ◌∷◌, nat_eq, refl, sym, ap, ◌∙◌, arith, cond, eqb-true, decimal, codes, subst}
-use Rattle.std.specs.Str.{all_ascii_digits}
 use Rattle.std.specs.Str.Parse.{digits_value}
-use Rattle.std.proofs.lemmas.Str.Parse.{IsNumeralModel, numerals_by_value, tells_all_ascii_digits}
 use Rattle.std.proofs.lemmas.Fmt.{digits_value-decimal}
 use Rattle.theory.specs.Texts.{minus, zero_text}
 use Rattle.theory.specs.Tokens.{is_text, is_zero_text, is_positive_text, is_natural_text, is_negative_text, is_number_text, size_of}
