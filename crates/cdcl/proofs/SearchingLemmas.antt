@@ -19,11 +19,6 @@ use Rattle.cdcl.specs.Searching.{IsSearching, IsStep, search_of, next_of}
 use Rattle.cdcl.specs.declared.outcome.Outcome.{Outcome}
 use Rattle.cdcl.specs.declared.solve.Search.{Search}
 
--- propagation that came to rest stays there
-pub Closes-rested : (K : List Clause) (T U : Trail) → Closes K T quiet U → Closes K U quiet U
-Closes-rested K T U (rests h i) = rests h i
-Closes-rested K T U (grows {u = u} h i more) = Closes-rested K (T ++ unit_entry T u ∷ []) U more
-
 -- propagation keeps it
 pub IsSearching-Closes : (k l : State) (a : Closed) → IsSearching k → l.vars ≡ k.vars → l.clauses ≡ k.clauses → l.short ≡ false → Closes k.clauses k.trail a l.trail → IsSearching l
 IsSearching-Closes k l a h vars clauses memory closes = record {

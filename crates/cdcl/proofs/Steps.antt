@@ -15,7 +15,7 @@ use Rattle.theory.proofs.LawfulTrails.{IsLawful-Closes}
 use Rattle.theory.proofs.OpenTrails.{IsOpenBelow-cube_trail, kept-step}
 use Rattle.theory.specs.Results.{OutcomeSays}
 use Rattle.theory.proofs.OutcomeLemmas.{Runs-says}
-use Rattle.theory.proofs.SearchSoundness.{literals-cube}
+use Rattle.theory.proofs.TrailLists.{literals-cube}
 use Rattle.kernel.specs.State.{State}
 use Rattle.cdcl.specs.Outcome.{outcome_of}
 use Rattle.cdcl.specs.Searching.{IsSearching, IsStep, search_of}

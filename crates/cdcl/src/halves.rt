@@ -15,8 +15,7 @@ pub fn split(cube: &Cube, var: u32) -> Result<(Cube, Cube), AllocError>
     ensures left { IfOk result (λ halves. halves.0 ≡ false_half cube.now var) }
     ensures right { IfOk result (λ halves. halves.1 ≡ true_half cube.now var) }
 {
-    let positive = Lit::new(var as i32).unwrap();
-    let left = cube.with(positive.negated())?;
-    let right = cube.with(positive)?;
+    let left = cube.with(Lit::of(var, false))?;
+    let right = cube.with(Lit::of(var, true))?;
     Ok((left, right))
 }

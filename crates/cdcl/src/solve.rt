@@ -33,14 +33,6 @@ struct Search {
     room: Room,
 }
 
-/// The literal that makes the variable false.
-fn negative(var: u32) -> Lit
-    requires { (1 ≤ var) × (var < 2 ^ 31) }
-    ensures { result ≡ record { var = var; positive = false } }
-{
-    Lit::new(var as i32).unwrap().negated()
-}
-
 /// The truth values on the trail.
 fn values(alloc: Global, kernel: &Kernel) -> Result<Vec<bool>, AllocError>
     requires { IsLawful kernel.now.clauses kernel.now.trail }
@@ -65,7 +57,7 @@ fn on_quiet(alloc: Global, search: &mut Search) -> Result<Option<Outcome>, Alloc
     match search.kernel.least_free() {
         None => Ok(Some(Outcome::Model(values(alloc, &search.kernel)?))),
         Some(var) => {
-            search.kernel.decide(negative(var));
+            search.kernel.decide(Lit::of(var, false));
             if search.decided.is_none() {
                 search.decided = Some(var);
             }

@@ -54,10 +54,7 @@ fn next_literal(kernel: &Kernel) -> Option<Lit>
     ensures { IfSome result (λ l. IsVariable kernel.now.vars l.var × (has_var (literals kernel.now.trail) l.var ≡ false)) }
 {
     match kernel.least_free() {
-        Some(var) if var < 65536 => match Lit::new(-(var as i32)) {
-            Some(lit) if lit.var() == var => Some(lit),
-            _ => None,
-        },
+        Some(var) if var < 65536 => Some(Lit::of(var, false)),
         _ => None,
     }
 }

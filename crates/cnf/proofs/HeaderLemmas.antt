@@ -156,10 +156,6 @@ line-ends bytes i j r le h l = elim (cases_eq (get_or bytes i 0) 10) [
   | inr n ↦ absurd (let above = r.above in let w : is_word_byte (get_or bytes i 0) ≡ true = h l n in let same : is_word_byte (get_or bytes i 0) ≡ is_word_byte (get_or bytes j 0) = ap (λ k. is_word_byte (get_or bytes k 0)) (let e : i ≡ j = omega arith in e) in let f = r.end (omega arith) in cc)
 ]
 
-pub not-true : (r : Bool) → not r ≡ true → r ≡ false
-not-true true h = absurd (cc)
-not-true false h = refl
-
 pub not-false : (r : Bool) → not r ≡ false → r ≡ true
 not-false true h = refl
 not-false false h = absurd (cc)

@@ -1,5 +1,5 @@
 -- The tokens of what is left of a text, from one of its bytes to a later one.
-use Rattle.std.proofs.Common.{◌≡◌, ℕ, suc, ◌+◌, ◌-◌, ◌<◌, ◌≤◌, Bool, true, false, inl, inr, List, [], ◌∷◌, ◌++◌, length, get_or, take, drop, nat_eq, eq-eqb, refl, sym, ap, subst, ◌∙◌, arith, length-drop}
+use Rattle.std.proofs.Common.{◌≡◌, ℕ, suc, ◌+◌, ◌-◌, ◌<◌, ◌≤◌, Bool, true, false, inl, inr, List, [], ◌∷◌, ◌++◌, length, get_or, take, drop, nat_eq, eq-eqb, refl, sym, ap, subst, ◌∙◌, arith, length-drop, ne_eqb}
 use Rattle.std.specs.List.{slice_range}
 use Rattle.std.proofs.lemmas.List.{drop_more, drop_all, get_or-drop}
 use Rattle.std.proofs.Math.Seq.{take-add}
@@ -10,7 +10,6 @@ use Rattle.cnf.specs.Tokens.{Part, before_header, in_header, behind_header, is_w
 use Rattle.cnf.specs.Words.{IsWordAt, word_at}
 use Rattle.cnf.proofs.TokenLemmas.{HasLines, lines_of-some, lines_of-lf, lines_of-other, lines_of-front, has_no_lf, is_word, is_word-no_lf, other_byte, at_column, behind_word, rest-word, rest-blank, no_word-first, lines-plain, lines-comment, lines-newline}
 use Rattle.cnf.proofs.SliceLemmas.{slice_append, length-slice, get_or-slice}
-use Rattle.cnf.proofs.NumberLemmas.{not_byte}
 use Rattle.cnf.proofs.PlaceLemmas.{place_behind-append, place_at-more, place_after-lf, place_after-other, place_behind-no_lf}
 
 -- a blank
@@ -24,7 +23,7 @@ pub tokens_left-blank : (part : Part) (bytes : List ℕ) (i : ℕ) → i < lengt
 unfolding tokens_left
 tokens_left-blank part bytes i within other no_lf =
     let b = get_or bytes i 0 in
-    let n : nat_eq (get_or bytes i 0) 10 ≡ false = not_byte (get_or bytes i 0) 10 no_lf in
+    let n : nat_eq (get_or bytes i 0) 10 ≡ false = ne_eqb (get_or bytes i 0) 10 no_lf in
     let p = place_at bytes i in
     ap (λ (q : Place). rest_tokens part q (lines_of (drop (i + 1) bytes))) (place_at-more bytes i within ∙ place_after-other (place_at bytes i) (get_or bytes i 0) n)
     ∙ sym (blank-rest part (place_at bytes i) (get_or bytes i 0) (drop (i + 1) bytes) n (other_byte (get_or bytes i 0) other n) (lines_of-some (drop (i + 1) bytes)))
@@ -98,7 +97,7 @@ comment-rest part n p (b ∷ w) bs no_lf some first end h e l =
 
 no_lf-from : (w : List ℕ) → ((k : ℕ) → k < length w → get_or w k 0 ≡ 10 → ⊥) → has_no_lf w ≡ true
 no_lf-from [] h = refl
-no_lf-from (b ∷ w) h = let n : nat_eq b 10 ≡ false = not_byte b 10 (h 0 (omega arith)) in rw n (no_lf-from w (λ k i. h (suc k) (omega arith)))
+no_lf-from (b ∷ w) h = let n : nat_eq b 10 ≡ false = ne_eqb b 10 (h 0 (omega arith)) in rw n (no_lf-from w (λ k i. h (suc k) (omega arith)))
 
 -- the place behind bytes without an LF
 pub place_at-slice : (bytes : List ℕ) (i j : ℕ) → i ≤ j → j ≤ length bytes → has_no_lf (slice_range bytes i j) ≡ true → place_at bytes j ≡ at_column (place_at bytes i) ((place_at bytes i).column + length (slice_range bytes i j))
@@ -135,7 +134,7 @@ plain (b ∷ bs) line lines e h = go (nat_eq b 10) refl (lines_of-some bs)
   where
     go : (r : Bool) → nat_eq b 10 ≡ r → HasLines (lines_of bs) → is_comment line ≡ false
     go true n l = let f = lines_of-lf b bs n in let same : line ≡ [] = cc in rw same refl
-    go false n l = let f = lines_of-other b bs l.first l.others n l.are in let same : line ≡ b ∷ l.first = cc in rw same (not_byte b 99 (h (omega arith)))
+    go false n l = let f = lines_of-other b bs l.first l.others n l.are in let same : line ≡ b ∷ l.first = cc in rw same (ne_eqb b 99 (h (omega arith)))
 
 -- from the first byte of a line that is no comment
 pub tokens_left-plain : (part : Part) (bytes : List ℕ) (i : ℕ) → (i < length bytes → get_or bytes i 0 ≡ 99 → ⊥) → (place_at bytes i).column ≡ 1 → (part ≡ in_header → ⊥)

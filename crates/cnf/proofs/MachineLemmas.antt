@@ -7,6 +7,7 @@ use Rattle.theory.specs.Reading.{Token, word, header_end, Placed, tokens_of, end
 use Rattle.theory.proofs.NumberTexts.{literal_of_text}
 use Rattle.theory.proofs.ReadingMachine.{State, at_p, at_cnf, at_vars, at_clauses, at_header_end, at_body, step, on_body, on_literal, at_end, read_on, read}
 use Rattle.cnf.specs.Machine.{clause_fault, fault_in, ends_in, run, reading_of}
+use Rattle.theory.proofs.ReadingLemmas.{when}
 
 -- whether a clause is begun
 abbrev is_begun : Clause → Bool
@@ -60,11 +61,6 @@ Knows at_vars before = BehindCnf before
 Knows (at_clauses V) before = BehindVars V before
 Knows (at_header_end V C) before = BehindNumbers V C before
 Knows (at_body V C cs part) before = BehindHeader V C cs part before
-
--- the test held, and the value is the next state
-when : (test : Bool) (value next : State) → cond test (Some value) None ≡ Some next → (test ≡ true) × (value ≡ next)
-when true value next h = (refl, cc)
-when false value next h = absurd (cc)
 
 ends_inside-push : (body : List Token) (t : Token) → ends_inside (body ++ t ∷ []) ≡ not (is_zero t)
 ends_inside-push [] t = refl

@@ -1,26 +1,19 @@
 -- Digits, and words as numbers.
-use Rattle.std.proofs.Common.{◌≡◌, ℕ, zero, suc, ◌+◌, ◌-◌, ◌*◌, ◌<◌, ◌≤◌, min, Bool, true, false, not, ◌&&◌, ◌||◌, List, [], ◌∷◌, ◌++◌, length, get_or, nat_eq, eqb-true, eq-eqb, refl, sym, ap, ◌∙◌, arith}
+use Rattle.std.proofs.Common.{◌≡◌, ℕ, zero, suc, ◌+◌, ◌-◌, ◌*◌, ◌<◌, ◌≤◌, min, Bool, true, false, not, ◌&&◌, ◌||◌, List, [], ◌∷◌, ◌++◌, length, get_or, nat_eq, eqb-true, eq-eqb, refl, sym, ap, ◌∙◌, arith, ne_eqb}
 use Rattle.std.specs.List.{slice_range}
 use Rattle.std.specs.Char.{is_ascii_digit, digit_value}
 use Rattle.std.specs.Str.{all_ascii_digits}
 use Rattle.std.specs.Str.Parse.{digits_value}
 use Rattle.std.proofs.lemmas.Int.Digits.{digits_value_push}
-use Rattle.std.proofs.lemmas.Str.Parse.{tells_all_ascii_digits}
 use Rattle.std.proofs.lemmas.Str.{digit_value_digit}
 use Rattle.theory.specs.Tokens.{is_positive_text, is_zero_text, is_natural_text}
 use Rattle.theory.proofs.LiteralLemmas.{and-left, and-right, or-right}
 use Rattle.cnf.specs.Tokens.{is_word_byte}
 use Rattle.cnf.specs.Words.{is_plain_text, IsNumberOf}
 use Rattle.cnf.proofs.SliceLemmas.{length-slice, get_or-slice, slice-more, slice-first}
+use Rattle.theory.proofs.NumberTexts.{digit-range}
 
 -- digits one by one
-digit-range : (b : ℕ) → is_ascii_digit b ≡ true → (48 ≤ b) × (b ≤ 57)
-digit-range b h = let r = (tells_all_ascii_digits.parts b [] (go (is_ascii_digit b) h)).0 in r
-  where
-    go : (r : Bool) → r ≡ true → (r && true) ≡ true
-    go true e = refl
-    go false e = e
-
 digits-push : (w : List ℕ) (b : ℕ) → all_ascii_digits w ≡ true → is_ascii_digit b ≡ true → all_ascii_digits (w ++ b ∷ []) ≡ true
 digits-push [] b h d = rw d refl
 digits-push (c ∷ w) b h d =
@@ -48,21 +41,13 @@ digits-at [] k h l = absurd (omega arith)
 digits-at (b ∷ w) zero h l = and-left (is_ascii_digit b) (all_ascii_digits w) h
 digits-at (b ∷ w) (suc k) h l = digits-at w k (and-right (is_ascii_digit b) (all_ascii_digits w) h) (omega arith)
 
--- numbers that differ
-pub not_byte : (b k : ℕ) → (b ≡ k → ⊥) → nat_eq b k ≡ false
-not_byte b k h = go (nat_eq b k) refl
-  where
-    go : (r : Bool) → nat_eq b k ≡ r → nat_eq b k ≡ false
-    go true e = absurd (h (eqb-true b k e))
-    go false e = e
-
 digit-word : (b : ℕ) → is_ascii_digit b ≡ true → is_word_byte b ≡ true
 digit-word b h =
     let r = digit-range b h in
-    let s : nat_eq b 32 ≡ false = not_byte b 32 (λ e. omega arith) in
-    let t : nat_eq b 9 ≡ false = not_byte b 9 (λ e. omega arith) in
-    let c : nat_eq b 13 ≡ false = not_byte b 13 (λ e. omega arith) in
-    let l : nat_eq b 10 ≡ false = not_byte b 10 (λ e. omega arith) in
+    let s : nat_eq b 32 ≡ false = ne_eqb b 32 (λ e. omega arith) in
+    let t : nat_eq b 9 ≡ false = ne_eqb b 9 (λ e. omega arith) in
+    let c : nat_eq b 13 ≡ false = ne_eqb b 13 (λ e. omega arith) in
+    let l : nat_eq b 10 ≡ false = ne_eqb b 10 (λ e. omega arith) in
     rw (s, t, c, l) refl
 
 -- digits, and behind them bytes of a word
@@ -80,7 +65,7 @@ plain-nonzero false b w h z = or-right (is_zero_text (b ∷ w)) (is_positive_tex
 pub plain-first : (m : Bool) (bytes : List ℕ) (i j : ℕ) → i < j → j ≤ length bytes → all_ascii_digits (slice_range bytes i j) ≡ true → (get_or bytes i 0 ≡ 48 → ⊥) → is_plain_text m (slice_range bytes i j) ≡ true
 plain-first m bytes i j l within h z =
     let e = slice-first bytes i j l within in
-    ap (is_plain_text m) e ∙ plain-nonzero m (get_or bytes i 0) (slice_range bytes (i + 1) j) (ap all_ascii_digits (sym e) ∙ h) (not_byte (get_or bytes i 0) 48 z)
+    ap (is_plain_text m) e ∙ plain-nonzero m (get_or bytes i 0) (slice_range bytes (i + 1) j) (ap all_ascii_digits (sym e) ∙ h) (ne_eqb (get_or bytes i 0) 48 z)
 
 plain-zero : (m : Bool) (b : ℕ) (w : List ℕ) → b ≡ 48 → 0 < length w → is_plain_text m (b ∷ w) ≡ false
 plain-zero true b w e l = let z : nat_eq b 48 ≡ true = eq-eqb b 48 e in rw z refl
@@ -124,7 +109,7 @@ plain-ended m bytes i k j from to within h =
 plain-number : (b : ℕ) (w : List ℕ) (plain : Bool) (size : ℕ) → (b ≡ 45 → ⊥) → plain ≡ is_plain_text false (b ∷ w) → (plain ≡ true → size ≡ min 100000000 (digits_value 10 (b ∷ w)))
     → IsNumberOf (b ∷ w) plain false size
 plain-number b w plain size other p s =
-    let n : nat_eq b 45 ≡ false = not_byte b 45 other in
+    let n : nat_eq b 45 ≡ false = ne_eqb b 45 other in
     record { natural_is = p; negative_is = rw n refl; size_is = λ h. rw n (s (either plain h)) }
   where
     either : (r : Bool) → (r || false) ≡ true → r ≡ true

@@ -1,10 +1,9 @@
 -- Places of bytes: from byte to byte, over a word, and the end's.
-use Rattle.std.proofs.Common.{◌≡◌, ℕ, ◌+◌, ◌<◌, Bool, true, false, List, [], ◌∷◌, ◌++◌, length, get_or, take, nat_eq, eq-eqb, refl, sym, ap, ap₂, ◌∙◌, arith, get_or-take}
+use Rattle.std.proofs.Common.{◌≡◌, ℕ, ◌+◌, ◌<◌, Bool, true, false, List, [], ◌∷◌, ◌++◌, length, get_or, take, nat_eq, eq-eqb, refl, sym, ap, ap₂, ◌∙◌, arith, get_or-take, ne_eqb}
 use Rattle.std.proofs.lemmas.List.{take_more, take_all, length-take}
 use Rattle.theory.specs.Tokens.{Place, lines_of}
 use Rattle.theory.specs.Reading.{end_of, end_from}
 use Rattle.cnf.specs.Tokens.{place_after, place_behind, place_at}
-use Rattle.cnf.proofs.NumberLemmas.{not_byte}
 use Rattle.cnf.proofs.TokenLemmas.{HasLines, lines_of-some, lines_of-lf, lines_of-other, has_no_lf, no_lf-first, no_lf-rest, at_column}
 
 pub place_behind-append : (p : Place) (xs ys : List ℕ) → place_behind p (xs ++ ys) ≡ place_behind (place_behind p xs) ys
@@ -86,4 +85,4 @@ pub place-walk-other : (bytes : List ℕ) (n i line column : ℕ) (p : Place) �
 place-walk-other bytes n i line column p h b e l k =
     ap₂ (λ (x y : ℕ). record { line = x; column = y }) l k
     ∙ ap (λ (q : Place). at_column q (q.column + 1)) e
-    ∙ sym (place_at-more bytes i (front-within bytes n i h) ∙ place_after-other (place_at bytes i) (get_or bytes i 0) (not_byte (get_or bytes i 0) 10 (λ f. b (front-byte bytes n i h ∙ f))))
+    ∙ sym (place_at-more bytes i (front-within bytes n i h) ∙ place_after-other (place_at bytes i) (get_or bytes i 0) (ne_eqb (get_or bytes i 0) 10 (λ f. b (front-byte bytes n i h ∙ f))))

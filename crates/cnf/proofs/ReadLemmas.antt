@@ -1,5 +1,5 @@
 -- What the machine says at the end is what the text is read as.
-use Rattle.std.proofs.Common.{◌≡◌, ℕ, ◌<◌, ◌≤◌, true, false, List, [], ◌∷◌, length, get_or, nat_eq, eq-eqb, refl, sym, ap, subst, ◌∙◌, arith}
+use Rattle.std.proofs.Common.{◌≡◌, ℕ, ◌<◌, ◌≤◌, true, false, List, [], ◌∷◌, length, get_or, nat_eq, eq-eqb, refl, sym, ap, subst, ◌∙◌, arith, ne_eqb}
 use Rattle.theory.specs.Literals.{Clause}
 use Rattle.theory.specs.Tokens.{Place}
 use Rattle.theory.specs.Reading.{max_bytes, end_of, clause_not_ended, too_few_clauses, Placed, Reading, formula, refusal, Reads}
@@ -14,7 +14,6 @@ use Rattle.cnf.proofs.LeftTokens.{tokens_left-word, tokens_left-end}
 use Rattle.cnf.proofs.FaultLemmas.{IsRefusal-weaker}
 use Rattle.cnf.proofs.MachineLemmas.{reading_of-read, run-step, run-fault}
 use Rattle.cnf.proofs.PlaceLemmas.{end_of-place}
-use Rattle.cnf.proofs.NumberLemmas.{not_byte}
 
 pub reading-Reads : (bytes : List ℕ) (r : Reading) → length bytes ≤ max_bytes → reading_of bytes ≡ r → Reads bytes r
 reading-Reads bytes r short e = subst (Reads bytes) (reading_of-read bytes ∙ e) (read-Reads bytes short)
@@ -28,7 +27,7 @@ inside V C cs [] end h = absurd (h refl)
 inside V C cs (l ∷ part) end h = refl
 
 few : (V C : ℕ) (cs : List Clause) (part : Clause) (end : Place) → length part ≡ 0 → (length cs ≡ C → ⊥) → ends_in (at_body V C cs part) end ≡ refusal too_few_clauses end
-few V C cs [] end h n = let f : nat_eq (length cs) C ≡ false = not_byte (length cs) C n in rw f refl
+few V C cs [] end h n = let f : nat_eq (length cs) C ≡ false = ne_eqb (length cs) C n in rw f refl
 few V C cs (l ∷ part) end h n = absurd (omega arith)
 
 whole : (V C : ℕ) (cs : List Clause) (part : Clause) (end : Place) → length part ≡ 0 → length cs ≡ C → ends_in (at_body V C cs part) end ≡ formula (record { vars = V; clauses = cs })

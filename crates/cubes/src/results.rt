@@ -14,14 +14,6 @@ use cnf::{Formula, Lit};
 use kernel::Cube;
 use std::alloc::{AllocError, Global};
 
-/// The literal that makes the variable false.
-fn negative(var: u32) -> Lit
-    requires { (1 ≤ var) × (var < 2 ^ 31) }
-    ensures { result ≡ record { var = var; positive = false } }
-{
-    Lit::new(var as i32).unwrap().negated()
-}
-
 /// The outcome of a cube: the one that is known, or what solving it on the spot gives.
 fn outcome(
     alloc: Global,
@@ -66,7 +58,7 @@ pub fn gather(
             Outcome::Exhausted(var) => {
                 prove!(var <= vars);
                 nodes.push(Node::Split(var))?;
-                cube.push(negative(var))?;
+                cube.push(Lit::of(var, false))?;
             }
             Outcome::Refuted(refutation) => {
                 nodes.push(Node::Leaf(refutation))?;

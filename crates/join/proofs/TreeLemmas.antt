@@ -14,17 +14,9 @@ use Rattle.theory.proofs.OutcomeLemmas.{Runs-says}
 use Rattle.theory.proofs.TrailEntries.{are_distinct-push, IsCube-distinct}
 use Rattle.theory.specs.Lawful.{are_distinct}
 use Rattle.join.specs.Numbered.{AreUpTo, AreLines, AreNodes}
+use Rattle.theory.proofs.AcceptedSteps.{clause_of-carrying_within}
 
 -- a number that is there is one of those given away
-clause_of-numbered : (m N : ℕ) (Q : List Literal) (K : List Clause) (n : ℕ) (c : Clause) → clause_of (carrying_from m N Q K) n ≡ Some c → (m ≤ n) × (n < m + length K)
-clause_of-numbered m N Q [] n c h = absurd (cc)
-clause_of-numbered m N Q (d ∷ K) n c h = go (nat_eq m n) refl h (clause_of-numbered (m + 1) N Q K n c)
-  where
-    go : (b : Bool) → nat_eq m n ≡ b → cond b (Some (cond (nat_le m N) d (d ++ negations Q))) (clause_of (carrying_from (m + 1) N Q K) n) ≡ Some c → (clause_of (carrying_from (m + 1) N Q K) n ≡ Some c → (m + 1 ≤ n) × (n < m + 1 + length K))
-        → (m ≤ n) × (n < m + length (d ∷ K))
-    go true e k more = let same = eqb-true m n e in (omega arith, omega arith)
-    go false e k more = let low = (more k).0 in let high = (more k).1 in (omega arith, omega arith)
-
 -- hints that come to a conflict are numbers that are there
 hints-numbered : (N : ℕ) (Q : List Literal) (K : List Clause) (P : List Literal) (ns : List ℕ) → take_hints (carrying_from 1 N Q K) P ns ≡ conflicts → AreUpTo (length K) ns
 hints-numbered N Q K P [] h = All-nil (λ n. (1 ≤ n) × (n ≤ length K))
@@ -32,7 +24,7 @@ hints-numbered N Q K P (n ∷ ns) h = go (clause_of (carrying_from 1 N Q K) n) r
   where
     here : (c : Clause) → clause_of (carrying_from 1 N Q K) n ≡ Some c → AreUpTo (length K) ns → AreUpTo (length K) (n ∷ ns)
     here c e rest =
-        let at = clause_of-numbered 1 N Q K n c e in
+        let at = clause_of-carrying_within 1 N Q K n c e in
         let low = at.0 in
         let high = at.1 in
         All-cons (λ m. (1 ≤ m) × (m ≤ length K)) n ns (low, omega arith) rest
@@ -44,7 +36,7 @@ hints-numbered N Q K P (n ∷ ns) h = go (clause_of (carrying_from 1 N Q K) n) r
     after c false_clause e k more = last ns k e
       where
         last : (ms : List ℕ) → end_at_conflict ms ≡ conflicts → clause_of (carrying_from 1 N Q K) n ≡ Some c → AreUpTo (length K) (n ∷ ms)
-        last [] q e = let at = clause_of-numbered 1 N Q K n c e in let low = at.0 in let high = at.1 in All-cons (λ m. (1 ≤ m) × (m ≤ length K)) n [] (low, omega arith) (All-nil (λ m. (1 ≤ m) × (m ≤ length K)))
+        last [] q e = let at = clause_of-carrying_within 1 N Q K n c e in let low = at.0 in let high = at.1 in All-cons (λ m. (1 ≤ m) × (m ≤ length K)) n [] (low, omega arith) (All-nil (λ m. (1 ≤ m) × (m ≤ length K)))
         last (m ∷ ms) q e = absurd (cc)
     after c not_unit e k more = absurd (cc)
     after c (unit_in l) e k more = here c e (more (l ∷ P) k)

@@ -6,14 +6,11 @@ use Rattle.theory.specs.Steps.{Step}
 use Rattle.theory.specs.Proofs.{tree_steps, additions}
 use Rattle.join.specs.declared.joiner.Half.{Half}
 use Rattle.join.specs.Joining.{State, on_node, on_nodes, climb, cube_of}
+use Rattle.theory.proofs.AcceptedProofs.{or_else-none}
 
 pub on_nodes-append : (N : ℕ) (s : State) (ns ms : List Node) → on_nodes N s (ns ++ ms) ≡ on_nodes N (on_nodes N s ns) ms
 on_nodes-append N s [] ms = refl
 on_nodes-append N s (n ∷ ns) ms = on_nodes-append N (on_node N s n) ns ms
-
-left_none : (a b : Option Assignment) → or_else a b ≡ None → (a ≡ None) × (b ≡ None)
-left_none None b h = (refl, h)
-left_none (Some M) b h = absurd (cc)
 
 -- the lines of a tree without a model, and then what follows its last line
 pub on_nodes-tree : (N : ℕ) (t : Tree) (s : State) → first_model t ≡ None
@@ -21,7 +18,7 @@ pub on_nodes-tree : (N : ℕ) (t : Tree) (s : State) → first_model t ≡ None
 on_nodes-tree N (satisfied M) s h = absurd (cc)
 on_nodes-tree N (refutation lines) s h = refl
 on_nodes-tree N (split x l r) s h =
-    let none = left_none (first_model l) (first_model r) h in
+    let none = or_else-none (first_model l) (first_model r) h in
     let in_left : State = record s { halves = record { var = x; left = None } ∷ s.halves } in
     let middle : ℕ = s.next + additions l in
     let first : List Step = s.steps ++ tree_steps N s.next (cube_of in_left.halves) l in

@@ -81,6 +81,7 @@ pub fn answer_bytes(
     match values {
         None => Vec::from_slice(alloc, b"s UNSATISFIABLE\n"),
         Some(values) => {
+            // The call says that a formula has few variables, and so that there are few values.
             let _vars = formula.vars();
             satisfiable(alloc, values)
         }

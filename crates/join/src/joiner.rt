@@ -48,13 +48,8 @@ fn put_negations(halves: &[Half], clause: &mut Vec<Lit>) -> Result<(), AllocErro
 {
     clause.reserve_exact(halves.len())?;
     for half in halves {
-        let positive = Lit::new(half.var as i32).unwrap();
-        let lit = if half.left.is_none() {
-            positive
-        } else {
-            positive.negated()
-        };
-        clause.push(lit)?;
+        // While the left half has no last line yet, the cube holds the variable as false.
+        clause.push(Lit::of(half.var, half.left.is_none()))?;
     }
     Ok(())
 }

@@ -4,7 +4,7 @@ use Rattle.std.specs.Option.{option_to_list}
 use Rattle.std.proofs.lemmas.List.{take_more, map-append}
 use Rattle.theory.specs.Literals.{Literal, has_var, IsDistinctFrom, IsCube}
 use Rattle.theory.specs.Trails.{Entry, literals, cube_trail}
-use Rattle.theory.proofs.SearchSoundness.{literals-cube}
+use Rattle.theory.proofs.TrailLists.{literals-cube}
 use Rattle.theory.proofs.TrailEntries.{are_distinct-cube, are_distinct-push, IsCube-distinct}
 
 pub IsCube-push : (Q : List Literal) (l : Literal) → IsCube Q → has_var Q l.var ≡ false → IsCube (Q ++ l ∷ [])
@@ -35,9 +35,6 @@ given l = record { lit = l; reason = None; level = 0 }
 pub cube_trail-more : (Q : List Literal) (i : ℕ) (d : Literal) → i < length Q → cube_trail (take (i + 1) Q) ≡ cube_trail (take i Q) ++ given (get_or Q i d) ∷ []
 cube_trail-more Q i d less = ap cube_trail (take_more Q i d less) ∙ map-append given (take i Q) (get_or Q i d ∷ [])
 
-pub literals-cube_trail : (Q : List Literal) → literals (cube_trail Q) ≡ Q
-literals-cube_trail Q = literals-cube Q
-
 distinct-at : (P Q : List Literal) (i : ℕ) (d : Literal) → IsDistinctFrom P Q → i < length Q → has_var (P ++ take i Q) (get_or Q i d).var ≡ false
 distinct-at P [] i d h less = absurd (omega arith)
 distinct-at P (l ∷ Q) zero d h less = rw append-nil h.0
@@ -45,4 +42,4 @@ distinct-at P (l ∷ Q) (suc i) d h less =
     subst (λ c. has_var c (get_or Q i d).var ≡ false) (append_assoc P (l ∷ []) (take i Q)) (distinct-at (P ++ l ∷ []) Q i d h.1 (omega arith))
 
 pub cube_trail-free : (Q : List Literal) (i : ℕ) (d : Literal) → IsCube Q → i < length Q → has_var (literals (cube_trail (take i Q))) (get_or Q i d).var ≡ false
-cube_trail-free Q i d h less = rw (literals-cube_trail (take i Q)) (distinct-at [] Q i d h less)
+cube_trail-free Q i d h less = rw (literals-cube (take i Q)) (distinct-at [] Q i d h less)

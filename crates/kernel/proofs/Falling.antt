@@ -1,15 +1,14 @@
 -- Each literal that a unit clause gives leaves fewer literals open.
-use Rattle.std.proofs.Common.{◌≡◌, ℕ, ◌+◌, ◌<◌, ◌≤◌, Bool, true, false, not, ◌||◌, List, [], ◌∷◌, ◌++◌, Option, Some, None, find, option_map, refl, arith, nat_eq, eq-eqb, cond, ap, ◌∙◌, All}
+use Rattle.std.proofs.Common.{◌≡◌, ℕ, ◌+◌, ◌<◌, ◌≤◌, Bool, true, false, ◌||◌, List, [], ◌∷◌, ◌++◌, Option, Some, None, find, option_map, refl, arith, nat_eq, eq-eqb, cond, ap, ◌∙◌, All}
 use Rattle.theory.specs.Literals.{Literal, Clause, has_var, IsVariable}
 use Rattle.theory.specs.Truth.{IsOver}
-use Rattle.theory.specs.Status.{is_unit_in, unit_literal, others_false}
+use Rattle.theory.specs.Status.{is_unit_in, unit_literal}
 use Rattle.theory.specs.Propagation.{Closed, Closes, grows, least_false, least_unit, clause_at}
 use Rattle.theory.specs.Trails.{Trail, literals, current_level}
-use Rattle.theory.proofs.LiteralLemmas.{and-left, not_true}
 use Rattle.theory.proofs.LawfulTrails.{least_unit-at, unit_literal-facts}
 use Rattle.theory.proofs.OverVariables.{clause_at-over}
-use Rattle.theory.proofs.Soundness.{find-passes}
 use Rattle.theory.proofs.TrailEntries.{literals-at}
+use Rattle.theory.proofs.ClauseLemmas.{unit-fresh}
 
 -- 1 for a variable that isn't in P, and 0 for one that is
 abbrev pub weight : List Literal → ℕ → ℕ
@@ -68,9 +67,6 @@ found-falls P p (k ∷ c) l h n = go (p k) h (found-falls P p c l)
         omega (arith, before, after, open_in-le P l c)
     go false e more = omega (arith, more e n, weight-le P l k.var)
 
-unit-open : (P : List Literal) (c : Clause) (l : Literal) → unit_literal P c ≡ Some l → has_var P l.var ≡ false
-unit-open P c l h = not_true (has_var P l.var) (and-left (not (has_var P l.var)) (others_false P c l) (find-passes (is_unit_in P c) c l h))
-
 pub open_among-falls : (P : List Literal) (K : List Clause) (u : ℕ × Literal) → least_unit P K ≡ Some u → open_among (P ++ u.1 ∷ []) K < open_among P K
 open_among-falls P [] u h = absurd (cc)
 open_among-falls P (c ∷ K) u h = go (unit_literal P c) refl h (open_among-falls P K)
@@ -86,7 +82,7 @@ open_among-falls P (c ∷ K) u h = go (unit_literal P c) refl h (open_among-fall
     go (Some l) e k more =
         let pair : ◌≡◌ {A = ℕ × Literal} (1, l) u = cc in
         let unit : unit_literal P c ≡ Some u.1 = e ∙ ap (λ (x : ℕ × Literal). Some x.1) pair in
-        omega (arith, found-falls P (is_unit_in P c) c u.1 unit (unit-open P c u.1 unit), open_among-le P u.1 K)
+        omega (arith, found-falls P (is_unit_in P c) c u.1 unit (unit-fresh P c u.1 unit), open_among-le P u.1 K)
     go None e k more =
         let found = later (least_unit P K) refl k in
         let rest : open_among (P ++ u.1 ∷ []) K < open_among P K = rw (← found.2) (more found.0 found.1) in

@@ -8,5 +8,5 @@ pub mod Numbering
 pub mod Ordered
 pub mod Pieces
 pub mod Runs
-pub mod Statuses
 pub mod Tables
+pub mod Values

@@ -1,21 +1,15 @@
 -- What the tests ask before a decision and before a clause is learnt.
-use Rattle.std.proofs.Common.{◌≡◌, ℕ, Bool, true, false, not, ◌||◌, List, [], ◌∷◌, Some, is_some, option_map, refl, ap, sym, subst, ◌∙◌, nat_eq, eqb-true, inl, inr}
+use Rattle.std.proofs.Common.{◌≡◌, ℕ, Bool, true, false, not, ◌||◌, [], ◌∷◌, Some, is_some, option_map, refl, ap, sym, subst, ◌∙◌, nat_eq, eqb-true, inl, inr}
 use Rattle.std.proofs.lemmas.List.Elements.{All-nil, All-cons}
-use Rattle.theory.specs.Literals.{Literal, Clause, negated, same, has, has_var, IsVariable}
+use Rattle.theory.specs.Literals.{Literal, negated, same, has, has_var, IsVariable}
 use Rattle.theory.specs.Truth.{IsOver}
 use Rattle.theory.specs.Trails.{Entry, Trail, literals, level_at, current_level, entry_of}
-use Rattle.theory.specs.Propagation.{quiet, Closes, grows, rests}
 use Rattle.theory.specs.Learnable.{IsLearnable}
 use Rattle.theory.proofs.LiteralLemmas.{same-eq, same-refl}
 use Rattle.theory.proofs.LiteralSets.{true_false, false_unless, has-head, has_var-has}
 use Rattle.kernel.specs.Tables.{value_in}
 use Rattle.kernel.proofs.NextFree.{is_some-value_in}
-use Rattle.kernel.proofs.Statuses.{value-literal}
-
--- where propagation came to rest, it rests
-pub Closes-rests : (K : List Clause) (T U : Trail) → Closes K T quiet U → Closes K U quiet U
-Closes-rests K T U (rests h i) = rests h i
-Closes-rests K T U (grows h i more) = Closes-rests K _ U more
+use Rattle.kernel.proofs.Values.{value-literal}
 
 -- a variable without a value is free
 pub value-free : (T : Trail) (v : ℕ) → is_some (value_in T v) ≡ false → has_var (literals T) v ≡ false

@@ -1,5 +1,5 @@
 -- Additions: what is held true at first, and what the hints come to.
-use Rattle.std.proofs.Common.{◌≡◌, ℕ, zero, suc, ◌<◌, Bool, true, false, not, ◌||◌, List, [], ◌∷◌, length, Option, Some, None, is_some, cond, nat_eq, nat_le, eqb-true, refl, ap, sym, subst, ◌∙◌, inl, inr, get_or, arith}
+use Rattle.std.proofs.Common.{◌≡◌, ℕ, zero, suc, ◌<◌, Bool, true, false, not, ◌||◌, List, [], ◌∷◌, length, Option, Some, None, is_some, cond, nat_eq, nat_le, eqb-true, refl, ap, sym, subst, ◌∙◌, inl, inr, get_or, arith, ne_eqb}
 use Rattle.std.specs.List.{list_any}
 use Rattle.std.proofs.lemmas.Bool.{leb-true}
 use Rattle.theory.specs.Literals.{Literal, Clause, same, has, has_var, has_both_signs, negated, negations, without}
@@ -79,12 +79,9 @@ pub is_empty-length : (c : Clause) → nat_eq (length c) 0 ≡ is_empty c
 is_empty-length [] = refl
 is_empty-length (l ∷ c) = false_unless (nat_eq (length (l ∷ c)) 0) (λ t. let n : length (l ∷ c) ≡ 0 = eqb-true (length (l ∷ c)) 0 t in absurd (omega arith))
 
-apart : (m n : ℕ) → (m ≡ n → ⊥) → nat_eq m n ≡ false
-apart m n h = false_unless (nat_eq m n) (λ t. h (eqb-true m n t))
-
 -- numbers that aren't given away
 pub unused-added : (K : Numbered) (id last : ℕ) (c : Clause) → last < id → ((n : ℕ) → last < n → clause_of K n ≡ None) → (n : ℕ) → id < n → clause_of ((id, c) ∷ K) n ≡ None
-unused-added K id last c rising h n more = ap (λ b. cond b (Some c) (clause_of K n)) (apart id n (λ e. omega arith)) ∙ h n (omega arith)
+unused-added K id last c rising h n more = ap (λ b. cond b (Some c) (clause_of K n)) (ne_eqb id n (λ e. omega arith)) ∙ h n (omega arith)
 
 unused-without : (K : Numbered) (m n : ℕ) → clause_of K n ≡ None → clause_of (without_number K m) n ≡ None
 unused-without [] m n h = refl

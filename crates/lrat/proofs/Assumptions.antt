@@ -1,7 +1,7 @@
 -- The walk that puts the negations of a clause's literals.
-use Rattle.std.proofs.Common.{◌≡◌, ℕ, zero, suc, ◌+◌, ◌<◌, ◌≤◌, Bool, true, false, List, [], ◌∷◌, ◌++◌, length, take, get_or, refl, ap, sym, subst, ◌∙◌, ◌⊎◌, inl, inr, arith}
+use Rattle.std.proofs.Common.{◌≡◌, ℕ, ◌+◌, ◌<◌, ◌≤◌, Bool, true, false, List, [], ◌∷◌, ◌++◌, length, take, get_or, refl, ap, sym, subst, ◌∙◌, ◌⊎◌, inl, inr}
 use Rattle.std.specs.List.{list_any}
-use Rattle.std.proofs.lemmas.List.{take_more}
+use Rattle.std.proofs.lemmas.List.{take_more, take_all}
 use Rattle.theory.specs.Literals.{Literal, Clause, same, has, has_var, has_both_signs, negated, without}
 use Rattle.theory.specs.Checking.{is_closed}
 use Rattle.theory.proofs.LiteralLemmas.{or-left, or-right, same-eq, same-refl}
@@ -144,10 +144,4 @@ pub next : (P : List Literal) (q : Literal) (c : Clause) (Q : List Literal) (i :
 next P q c Q i l less e h = subst (λ x. IsAssumed P q x Q) (ap (λ k. take i c ++ k ∷ []) e ∙ sym (take_more c i l less)) h
 
 pub whole : (P : List Literal) (q : Literal) (c : Clause) (Q : List Literal) (i : ℕ) → length c ≤ i → IsAssumed P q (take i c) Q → IsAssumed P q c Q
-whole P q c Q i past h = subst (λ x. IsAssumed P q x Q) (take-past i c past) h
-  where
-    take-past : (n : ℕ) (xs : Clause) → length xs ≤ n → take n xs ≡ xs
-    take-past zero [] p = refl
-    take-past zero (x ∷ xs) p = absurd (omega arith)
-    take-past (suc n) [] p = refl
-    take-past (suc n) (x ∷ xs) p = ap (λ ys. x ∷ ys) (take-past n xs (omega arith))
+whole P q c Q i past h = subst (λ x. IsAssumed P q x Q) (take_all i c past) h

@@ -1,5 +1,5 @@
 -- Steps, as they are tested one after the other.
-use Rattle.std.proofs.Common.{◌≡◌, ℕ, zero, suc, ◌+◌, ◌<◌, ◌≤◌, Bool, true, false, ◌||◌, List, [], ◌∷◌, length, drop, get_or, map, Option, Some, None, cond, nat_eq, eqb-true, refl, ap, sym, subst, ◌∙◌, arith, add-one, All}
+use Rattle.std.proofs.Common.{◌≡◌, ℕ, zero, suc, ◌+◌, ◌<◌, ◌≤◌, Bool, true, ◌||◌, List, [], ◌∷◌, length, drop, get_or, map, Option, Some, None, cond, refl, ap, sym, subst, ◌∙◌, arith, add-one, All, ne_eqb}
 use Rattle.std.proofs.Math.Seq.{drop-cons}
 use Rattle.std.proofs.lemmas.List.{drop-map, length-map}
 use Rattle.theory.specs.Literals.{Clause}
@@ -7,23 +7,19 @@ use Rattle.theory.specs.Truth.{Formula, IsOver}
 use Rattle.theory.specs.Steps as theory
 use Rattle.theory.specs.Checking.{Numbered, numbered_from, clause_of, deleted, is_empty, Checker, Checked, Tested, leaves, faulty, refused, accepted, no_empty_clause, addition_fault, addition_test, deletion_test, added, test, check_from, checks}
 use Rattle.theory.specs.Checking as checking
-use Rattle.theory.proofs.LiteralSets.{false_unless}
 use Rattle.lrat.specs.declared.check_fault.Fault.{Fault}
 use Rattle.lrat.specs.declared.check_fault.Fault.TheVariants.{IdNotRising, BothSigns, NoSuchClause, HintNotUnit, HintAfterConflict, NoConflict, MissingCandidate, BadCandidate, NoSuchDeletion, LiteralOutOfRange}
 use Rattle.lrat.specs.CheckFaults.{fault_of, fault_at, IsRefused}
 use Rattle.lrat.specs.Tested.{IsDeleted}
 
-apart : (m n : ℕ) → (m ≡ n → ⊥) → nat_eq m n ≡ false
-apart m n h = false_unless (nat_eq m n) (λ t. h (eqb-true m n t))
-
 -- numbers below the first, and past the last
 pub unused-below : (cs : List Clause) (m n : ℕ) → n < m → clause_of (numbered_from m cs) n ≡ None
 unused-below [] m n less = refl
-unused-below (c ∷ cs) m n less = ap (λ b. cond b (Some c) (clause_of (numbered_from (m + 1) cs) n)) (apart m n (λ e. omega arith)) ∙ unused-below cs (m + 1) n (omega arith)
+unused-below (c ∷ cs) m n less = ap (λ b. cond b (Some c) (clause_of (numbered_from (m + 1) cs) n)) (ne_eqb m n (λ e. omega arith)) ∙ unused-below cs (m + 1) n (omega arith)
 
 pub unused-past : (cs : List Clause) (m n : ℕ) → m + length cs ≤ n → clause_of (numbered_from m cs) n ≡ None
 unused-past [] m n more = refl
-unused-past (c ∷ cs) m n more = ap (λ b. cond b (Some c) (clause_of (numbered_from (m + 1) cs) n)) (apart m n (λ e. omega arith)) ∙ unused-past cs (m + 1) n (omega arith)
+unused-past (c ∷ cs) m n more = ap (λ b. cond b (Some c) (clause_of (numbered_from (m + 1) cs) n)) (ne_eqb m n (λ e. omega arith)) ∙ unused-past cs (m + 1) n (omega arith)
 
 -- one clause more at the front
 pub numbered-more : (cs : List Clause) (a b i : ℕ) (x : Clause) → i < length cs → a ≡ i + 1 → b ≡ i → x ≡ get_or cs i x

@@ -5,6 +5,7 @@ use Rattle.std.specs.Str.Parse.{digits_value_after}
 use Rattle.std.specs.Char.{digit_value, is_ascii_digit}
 use Rattle.std.proofs.lemmas.List.{drop_more}
 use Rattle.lrat.specs.LineWords.{ends_word, first_word, after_word, capped}
+use Rattle.theory.proofs.NumberTexts.{digit-range}
 
 -- the first word has one byte more
 pub first_word-more : (bytes : List ℕ) (i : ℕ) → i < length bytes → ends_word (get_or bytes i 0) ≡ false
@@ -40,9 +41,6 @@ size-more n b bs low high =
 pub digit-goes_on : (b : ℕ) → 48 ≤ b → b ≤ 57 → ends_word b ≡ false
 digit-goes_on b low high = grind arith
 
-pub digit-bounds : (b : ℕ) → is_ascii_digit b ≡ true → (48 ≤ b) × (b ≤ 57)
-digit-bounds b h = (grind arith, grind arith)
-
 -- what is left gives the same with one byte less
 pub place-more : (bytes : List ℕ) (i place : ℕ) → i < length bytes → ends_word (get_or bytes i 0) ≡ false
     → i + length (first_word (drop i bytes)) ≡ place → i + 1 + length (first_word (drop (i + 1) bytes)) ≡ place
@@ -74,6 +72,6 @@ pub size-digit : (bytes : List ℕ) (i n size : ℕ) → i < length bytes → en
     → capped (digits_value_after 10 n (first_word (drop i bytes))) ≡ size
     → capped (digits_value_after 10 (capped (n * 10 + (get_or bytes i 0 - 48))) (first_word (drop (i + 1) bytes))) ≡ size
 size-digit bytes i n size inside goes_on digit h =
-    let bounds = digit-bounds (get_or bytes i 0) digit in
+    let bounds = digit-range (get_or bytes i 0) digit in
     sym (size-more n (get_or bytes i 0) (first_word (drop (i + 1) bytes)) bounds.0 bounds.1)
     ∙ sym (ap (λ w. capped (digits_value_after 10 n w)) (first_word-more bytes i inside goes_on)) ∙ h

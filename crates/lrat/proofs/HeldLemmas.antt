@@ -1,22 +1,19 @@
 -- Literals held true, and their table.
-use Rattle.std.proofs.Common.{◌≡◌, ℕ, zero, suc, ◌<◌, Bool, true, false, not, List, [], ◌∷◌, ◌++◌, length, get_or, Option, Some, None, cond, nat_eq, eqb-true, eq-eqb, refl, ap, sym, subst, ◌∙◌, slice_set, reverse, arith, get_or-set_other, get_or-set_same, append_assoc, append-nil, MatchOption}
+use Rattle.std.proofs.Common.{◌≡◌, ℕ, zero, suc, ◌<◌, Bool, true, false, not, List, [], ◌∷◌, ◌++◌, length, get_or, Option, Some, None, cond, nat_eq, eqb-true, eq-eqb, refl, ap, sym, subst, ◌∙◌, slice_set, reverse, arith, get_or-set_other, get_or-set_same, append_assoc, append-nil, MatchOption, ne_eqb}
 use Rattle.std.proofs.lemmas.List.{reverse-append, length-set}
 use Rattle.theory.specs.Literals.{Literal, has_var}
 use Rattle.theory.specs.Lawful.{are_distinct}
 use Rattle.theory.proofs.LiteralLemmas.{and-left, and-right, not_true}
-use Rattle.theory.proofs.LiteralSets.{false_unless, true_false, or-false_left, or-false_right}
+use Rattle.theory.proofs.LiteralSets.{true_false, or-false_left, or-false_right}
 use Rattle.lrat.specs.Held.{value_in, IsTable, Extends}
 
 pub reverse-push : (P : List Literal) (l : Literal) → reverse (P ++ l ∷ []) ≡ l ∷ reverse P
 reverse-push P l = reverse-append P (l ∷ [])
 
-apart : (m n : ℕ) → (m ≡ n → ⊥) → nat_eq m n ≡ false
-apart m n h = false_unless (nat_eq m n) (λ t. h (eqb-true m n t))
-
 free-none : (P : List Literal) (v : ℕ) → has_var P v ≡ false → value_in P v ≡ None
 free-none [] v h = refl
 free-none (l ∷ P) v h =
-    let other : nat_eq l.var v ≡ false = apart l.var v (λ e. true_false (nat_eq v l.var) (eq-eqb v l.var (sym e)) (or-false_left (nat_eq v l.var) (has_var P v) h)) in
+    let other : nat_eq l.var v ≡ false = ne_eqb l.var v (λ e. true_false (nat_eq v l.var) (eq-eqb v l.var (sym e)) (or-false_left (nat_eq v l.var) (has_var P v) h)) in
     ap (λ b. cond b (Some l.positive) (value_in P v)) other ∙ free-none P v (or-false_right (nat_eq v l.var) (has_var P v) h)
 
 pub IsTable-pop : (V : ℕ) (P : List Literal) (l : Literal) (values : List (Option Bool)) (v : ℕ) → v ≡ l.var → IsTable V (l ∷ P) values → IsTable V P (slice_set values v None)
@@ -38,7 +35,7 @@ IsTable-pop V P l values v e t = record {
         (get_or-set_same values v None None within ∙ sym (free-none P v (subst (λ w. has_var P w ≡ false) (sym e) free)))
     at u false f =
         let other : u ≡ v → ⊥ = λ k. true_false (nat_eq u v) (eq-eqb u v k) f in
-        let skip : nat_eq l.var u ≡ false = apart l.var u (λ k. other (sym k ∙ sym e)) in
+        let skip : nat_eq l.var u ≡ false = ne_eqb l.var u (λ k. other (sym k ∙ sym e)) in
         get_or-set_other values v u None None other ∙ (t.value_at u ∙ ap (λ b. cond b (Some l.positive) (value_in P u)) skip)
 
 pub Extends-refl : (P : List Literal) → Extends P P

@@ -13,7 +13,8 @@ pub mod ReadSteps
 pub mod WrittenTexts
 pub mod SlotLemmas
 pub mod HeldLemmas
-pub mod Statuses
+pub mod Values
+pub mod HintLemmas
 pub mod Assumptions
 pub mod SameLiterals
 pub mod GroupLemmas

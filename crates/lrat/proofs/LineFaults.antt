@@ -10,8 +10,10 @@ use Rattle.theory.proofs.NumberTexts.{zero_text-is, literal_text-not_zero, liter
 use Rattle.theory.proofs.LiteralLemmas.{or-left, or-right}
 use Rattle.lrat.specs.LineWords.{word_of, capped}
 use Rattle.lrat.specs.LineMachine.{State, at_id, at_clause, at_hints, at_group, at_ids, ended, with_group, without_groups, IsWithin, size_fault, number_fault_in, fault_in}
-use Rattle.lrat.proofs.WordTexts.{word_cases, is_text-eq, not_zero}
-use Rattle.lrat.proofs.LineMachineLemmas.{front, so_far, All-first, All-rest, All-push}
+use Rattle.lrat.proofs.WordTexts.{word_cases, not_zero}
+use Rattle.lrat.proofs.LineMachineLemmas.{front, so_far}
+use Rattle.std.proofs.lemmas.List.Elements.{All-head, All-tail, All-push}
+use Rattle.theory.proofs.ListLemmas.{is_text-eq}
 
 -- the cap hides no fault
 size_fault-capped : (limit n : ℕ) → limit ≤ max_number → size_fault limit n ≡ size_fault limit (capped n)
@@ -79,7 +81,7 @@ zeros-other x xs e = zeros-append (x ∷ []) xs ∙ ap (λ n. n + zeros xs) (zer
 zeros-none : {X : Type 0} (P : X → Type 0) (f : X → List ℕ) (xs : List X) → ((x : X) → P x → is_zero_text (f x) ≡ false) → All P xs → zeros (map f xs) ≡ 0
 unfolding zeros
 zeros-none P f [] h all = refl
-zeros-none P f (x ∷ xs) h all = zeros-other (f x) (map f xs) (h x (All-first P x xs all)) ∙ zeros-none P f xs h (All-rest P x xs all)
+zeros-none P f (x ∷ xs) h all = zeros-other (f x) (map f xs) (h x (All-head P x xs all)) ∙ zeros-none P f xs h (All-tail P x xs all)
 
 decimal-not_zero : (n : ℕ) → IsNumber n → is_zero_text (decimal n) ≡ false
 decimal-not_zero n h = not_zero (decimal n) (decimal-is_positive n (omega arith) (omega arith))
@@ -95,11 +97,11 @@ zeros-groups : (gs : List Group) → All IsGroup gs → zeros (groups_words gs) 
 unfolding zeros
 zeros-groups [] h = refl
 zeros-groups (g ∷ gs) h =
-    let v = All-first IsGroup g gs h in
+    let v = All-head IsGroup g gs h in
     zeros-append (group_words g) (groups_words gs)
     ∙ ap (λ n. n + zeros (groups_words gs)) (zeros-other (minus ∷ decimal g.candidate) (map decimal g.hints) (minus-not_zero (decimal g.candidate)) ∙ zeros-none IsNumber decimal g.hints decimal-not_zero v.hints)
     ∙ zero-add (zeros (groups_words gs))
-    ∙ zeros-groups gs (All-rest IsGroup g gs h)
+    ∙ zeros-groups gs (All-tail IsGroup g gs h)
 
 zeros-clause : (c : Clause) → All IsLiteral c → zeros (clause_words c) ≡ 1
 zeros-clause c h =
@@ -133,7 +135,7 @@ body_fault : (id : List ℕ) (c : Clause) (more : List (List ℕ)) (t : List ℕ
 unfolding zeros
 body_fault id [] more t n h z = addition_fault id zero_text more t n refl z
 body_fault id (l ∷ c) more t n h z =
-    addition_fault id (literal_text l) (clause_words c ++ more) t n (literal-not_mark l (All-first IsLiteral l c h)) z
+    addition_fault id (literal_text l) (clause_words c ++ more) t n (literal-not_mark l (All-head IsLiteral l c h)) z
 
 -- the fault at each state
 number_fault-sized : (s : State) (limit : ℕ) (t : List ℕ) → limit ≤ max_number → number_fault_in s (capped (size_of t)) ≡ size_fault limit (capped (size_of t)) → number_fault_in s 0 ≡ bad_shape
@@ -144,7 +146,7 @@ clause-fault : (id : ℕ) (c : Clause) (t : List ℕ) → All IsLiteral c → wo
 unfolding by_zeros zeros
 clause-fault id [] t h = number_fault-sized (at_clause id []) max_literal t (omega arith) refl refl
 clause-fault id (l ∷ c) t h =
-    addition_fault (decimal id) (literal_text l) (map literal_text c) t 0 (literal-not_mark l (All-first IsLiteral l c h)) (zeros-none IsLiteral literal_text (l ∷ c) literal-not_zero h)
+    addition_fault (decimal id) (literal_text l) (map literal_text c) t 0 (literal-not_mark l (All-head IsLiteral l c h)) (zeros-none IsLiteral literal_text (l ∷ c) literal-not_zero h)
     ∙ number_fault-sized (at_clause id (l ∷ c)) max_literal t (omega arith) refl refl
 
 front-fault : (a : Addition) (s : State) (t : List ℕ) → IsAddition a → number_fault_in s (capped (size_of t)) ≡ size_fault max_number (capped (size_of t)) → number_fault_in s 0 ≡ bad_shape

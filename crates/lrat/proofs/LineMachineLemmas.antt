@@ -1,7 +1,7 @@
 -- The words that led the machine to a state, and where it can go from there.
-use Rattle.std.proofs.Common.{◌≡◌, ℕ, zero, suc, ◌≤◌, Bool, true, false, List, [], ◌∷◌, ◌++◌, map, nat_le, leb-true, refl, sym, ap, subst, ◌∙◌, arith, decimal, Option, Some, None, All, codes, append_assoc, append-nil, cond}
+use Rattle.std.proofs.Common.{◌≡◌, ℕ, ◌≤◌, Bool, true, false, List, [], ◌∷◌, ◌++◌, map, nat_le, leb-true, refl, sym, ap, subst, ◌∙◌, arith, decimal, Option, Some, None, codes, append_assoc, append-nil, cond}
 use Rattle.std.proofs.lemmas.List.{map-append}
-use Rattle.std.proofs.lemmas.List.Elements.{All-append}
+use Rattle.std.proofs.lemmas.List.Elements.{All-nil, All-push}
 use Rattle.theory.specs.Literals.{Literal, Clause, positive, negative}
 use Rattle.theory.specs.Steps.{Group, Addition, Deletion, add, delete}
 use Rattle.theory.specs.Texts.{literal_text, clause_words, group_words, groups_words, step_words, zero_text, minus}
@@ -11,23 +11,6 @@ use Rattle.lrat.specs.declared.word.Word.TheVariants.{Zero, Positive, Negative, 
 use Rattle.lrat.specs.LineWords.{word_of, number_in, candidate_in, literal_in, IsCounting}
 use Rattle.lrat.specs.LineMachine.{State, at_id, at_clause, at_hints, at_group, at_ids, ended, with_group, without_groups, on, on_id, on_literal, on_candidate, on_hint, on_group_hint, on_deleted, IsWithin}
 use Rattle.lrat.proofs.WordTexts.{word_of-IsCounting, text-Zero, text-Positive, text-Negative, text-Mark}
-
--- facts on each element
-All-cons : {X : Type 0} (P : X → Type 0) (x : X) (xs : List X) → P x → All P xs → All P (x ∷ xs)
-All-cons P x xs p h zero d i = p
-All-cons P x xs p h (suc k) d i = h k d (omega arith)
-
-pub All-none : {X : Type 0} (P : X → Type 0) → All P []
-All-none P k d i = absurd (omega arith)
-
-pub All-push : {X : Type 0} (P : X → Type 0) (xs : List X) (x : X) → All P xs → P x → All P (xs ++ x ∷ [])
-All-push P xs x h p = All-append P xs (x ∷ []) h (All-cons P x [] p (All-none P))
-
-pub All-first : {X : Type 0} (P : X → Type 0) (x : X) (xs : List X) → All P (x ∷ xs) → P x
-All-first P x xs h = h 0 x (omega arith)
-
-pub All-rest : {X : Type 0} (P : X → Type 0) (x : X) (xs : List X) → All P (x ∷ xs) → All P xs
-All-rest P x xs h k d i = h (suc k) d (omega arith)
 
 -- the words of the first parts of an addition
 unfoldable pub front : Addition → List (List ℕ)
@@ -181,7 +164,7 @@ id-Follows t next h = go (number_in (word_of t)) refl h
     go (Some n) e k =
         let same : at_clause n [] ≡ next = cc in
         let m = number-text t (word_of t) n refl e in
-        subst (Follows at_id t) same (record { within = (m.within, All-none IsLiteral); words = ap (λ x. x ∷ []) m.text })
+        subst (Follows at_id t) same (record { within = (m.within, All-nil IsLiteral); words = ap (λ x. x ∷ []) m.text })
 
 literal-Follows : (id : ℕ) (c : Clause) (t : List ℕ) (next : State) → IsWithin (at_clause id c) → on_literal id c (word_of t) ≡ Some next → Follows (at_clause id c) t next
 unfolding so_far
@@ -204,7 +187,7 @@ candidate-Follows a s t next words w h = go (candidate_in (word_of t)) refl h
         let same : at_group a (record { candidate = n; hints = [] }) ≡ next = cc in
         let m = candidate-text t (word_of t) n refl e in
         subst (Follows s t) same (record {
-          within = (w, record { candidate = m.within; hints = All-none IsNumber });
+          within = (w, record { candidate = m.within; hints = All-nil IsNumber });
           words = ap (λ r. r ++ t ∷ []) words ∙ front-candidate a n t m.text;
         })
 
@@ -255,7 +238,7 @@ deleted-Follows d t next w h = go (number_in (word_of t)) refl h
 
 -- the `0`s and the `d`
 no_hints : (id : ℕ) (c : Clause) → IsWithin (at_clause id c) → IsWithin (at_hints id c [])
-no_hints id c w = record { id = w.0; clause = w.1; hints = All-none IsNumber; groups = All-none IsGroup }
+no_hints id c w = record { id = w.0; clause = w.1; hints = All-nil IsNumber; groups = All-nil IsGroup }
 
 zero-Follows : (s next : State) (t : List ℕ) → IsWithin s → word_of t ≡ Zero → on s Zero ≡ Some next → Follows s t next
 unfolding so_far
@@ -280,7 +263,7 @@ zero-Follows (ended s) next t w e h = absurd (cc)
 mark-Follows : (id : ℕ) (next : State) (t : List ℕ) → IsWithin (at_clause id []) → word_of t ≡ Mark → at_ids (record { id = id; ids = [] }) ≡ next → Follows (at_clause id []) t next
 unfolding so_far
 mark-Follows id next t w e same =
-    subst (Follows (at_clause id []) t) same (record { within = record { id = w.0; ids = All-none IsNumber }; words = ap (λ x. decimal id ∷ x ∷ []) (text-Mark t e) })
+    subst (Follows (at_clause id []) t) same (record { within = record { id = w.0; ids = All-nil IsNumber }; words = ap (λ x. decimal id ∷ x ∷ []) (text-Mark t e) })
 
 word-Follows : (s next : State) (t : List ℕ) (w : Word) → IsWithin s → word_of t ≡ w → on s w ≡ Some next → Follows s t next
 word-Follows s next t Zero i e h = zero-Follows s next t i e h

@@ -9,7 +9,8 @@ use Rattle.lrat.specs.declared.word.Word.TheVariants.{Positive, Negative}
 use Rattle.lrat.specs.LineWords.{word_of, number_in}
 use Rattle.lrat.specs.LineMachine.{State, at_id, at_clause, at_hints, at_group, at_ids, ended, with_group, without_groups, on, on_candidate, IsWithin}
 use Rattle.lrat.proofs.WordTexts.{word_of-decimal, word_of-minus}
-use Rattle.lrat.proofs.LineMachineLemmas.{All-none, All-push, All-first, All-rest, front, so_far}
+use Rattle.lrat.proofs.LineMachineLemmas.{front, so_far}
+use Rattle.std.proofs.lemmas.List.Elements.{All-head, All-tail, All-nil, All-push}
 
 -- the state behind words, if they can stand there
 abbrev pub then_on : Option State → List ℕ → Option State
@@ -96,32 +97,32 @@ runs-literals : (id : ℕ) (c ls : Clause) (ts : List (List ℕ)) → All IsLite
     → runs (Some (at_clause id c)) (map literal_text ls ++ ts) ≡ runs (Some (at_clause id (c ++ ls))) ts
 runs-literals id c [] ts h = ap (λ k. runs (Some (at_clause id k)) ts) (sym (append-nil c))
 runs-literals id c (l ∷ ls) ts h =
-    ap (λ o. runs o (map literal_text ls ++ ts)) (on-literal id c l (All-first IsLiteral l ls h))
-    ∙ runs-literals id (c ++ l ∷ []) ls ts (All-rest IsLiteral l ls h)
+    ap (λ o. runs o (map literal_text ls ++ ts)) (on-literal id c l (All-head IsLiteral l ls h))
+    ∙ runs-literals id (c ++ l ∷ []) ls ts (All-tail IsLiteral l ls h)
     ∙ ap (λ k. runs (Some (at_clause id k)) ts) (append_assoc c (l ∷ []) ls)
 
 runs-hints : (id : ℕ) (c : Clause) (hs ns : List ℕ) (ts : List (List ℕ)) → All IsNumber ns
     → runs (Some (at_hints id c hs)) (map decimal ns ++ ts) ≡ runs (Some (at_hints id c (hs ++ ns))) ts
 runs-hints id c hs [] ts h = ap (λ k. runs (Some (at_hints id c k)) ts) (sym (append-nil hs))
 runs-hints id c hs (n ∷ ns) ts h =
-    ap (λ o. runs o (map decimal ns ++ ts)) (on-hint id c hs n (All-first IsNumber n ns h))
-    ∙ runs-hints id c (hs ++ n ∷ []) ns ts (All-rest IsNumber n ns h)
+    ap (λ o. runs o (map decimal ns ++ ts)) (on-hint id c hs n (All-head IsNumber n ns h))
+    ∙ runs-hints id c (hs ++ n ∷ []) ns ts (All-tail IsNumber n ns h)
     ∙ ap (λ k. runs (Some (at_hints id c k)) ts) (append_assoc hs (n ∷ []) ns)
 
 runs-group_hints : (a : Addition) (n : ℕ) (hs ns : List ℕ) (ts : List (List ℕ)) → All IsNumber ns
     → runs (Some (at_group a (record { candidate = n; hints = hs }))) (map decimal ns ++ ts) ≡ runs (Some (at_group a (record { candidate = n; hints = hs ++ ns }))) ts
 runs-group_hints a c hs [] ts h = ap (λ k. runs (Some (at_group a (record { candidate = c; hints = k }))) ts) (sym (append-nil hs))
 runs-group_hints a c hs (n ∷ ns) ts h =
-    ap (λ o. runs o (map decimal ns ++ ts)) (on-group_hint a (record { candidate = c; hints = hs }) n (All-first IsNumber n ns h))
-    ∙ runs-group_hints a c (hs ++ n ∷ []) ns ts (All-rest IsNumber n ns h)
+    ap (λ o. runs o (map decimal ns ++ ts)) (on-group_hint a (record { candidate = c; hints = hs }) n (All-head IsNumber n ns h))
+    ∙ runs-group_hints a c (hs ++ n ∷ []) ns ts (All-tail IsNumber n ns h)
     ∙ ap (λ k. runs (Some (at_group a (record { candidate = c; hints = k }))) ts) (append_assoc hs (n ∷ []) ns)
 
 runs-ids : (id : ℕ) (hs ns : List ℕ) (ts : List (List ℕ)) → All IsNumber ns
     → runs (Some (at_ids (record { id = id; ids = hs }))) (map decimal ns ++ ts) ≡ runs (Some (at_ids (record { id = id; ids = hs ++ ns }))) ts
 runs-ids id hs [] ts h = ap (λ k. runs (Some (at_ids (record { id = id; ids = k }))) ts) (sym (append-nil hs))
 runs-ids id hs (n ∷ ns) ts h =
-    ap (λ o. runs o (map decimal ns ++ ts)) (on-deleted (record { id = id; ids = hs }) n (All-first IsNumber n ns h))
-    ∙ runs-ids id (hs ++ n ∷ []) ns ts (All-rest IsNumber n ns h)
+    ap (λ o. runs o (map decimal ns ++ ts)) (on-deleted (record { id = id; ids = hs }) n (All-head IsNumber n ns h))
+    ∙ runs-ids id (hs ++ n ∷ []) ns ts (All-tail IsNumber n ns h)
     ∙ ap (λ k. runs (Some (at_ids (record { id = id; ids = k }))) ts) (append_assoc hs (n ∷ []) ns)
 
 -- groups behind a group, then the last 0
@@ -135,8 +136,8 @@ runs-group a g [] h hs = runs-group_hints a g.candidate [] g.hints (zero_text �
 runs-group a g (k ∷ gs) h hs =
     runs-group_hints a g.candidate [] g.hints (groups_words (k ∷ gs) ++ zero_text ∷ []) h.hints
     ∙ ap (λ ts. runs (Some (at_group a g)) ((minus ∷ decimal k.candidate) ∷ ts)) (append_assoc (map decimal k.hints) (groups_words gs) (zero_text ∷ []))
-    ∙ ap (λ o. runs o (map decimal k.hints ++ (groups_words gs ++ zero_text ∷ []))) (on-next_candidate a g k.candidate (All-first IsGroup k gs hs).candidate)
-    ∙ runs-group (with_group a g) k gs (All-first IsGroup k gs hs) (All-rest IsGroup k gs hs)
+    ∙ ap (λ o. runs o (map decimal k.hints ++ (groups_words gs ++ zero_text ∷ []))) (on-next_candidate a g k.candidate (All-head IsGroup k gs hs).candidate)
+    ∙ runs-group (with_group a g) k gs (All-head IsGroup k gs hs) (All-tail IsGroup k gs hs)
     ∙ ap (λ r. Some (ended (add (record { id = a.id; clause = a.clause; hints = a.hints; groups = r })))) (append_assoc a.groups (g ∷ []) (k ∷ gs))
 
 runs-groups : (id : ℕ) (c : Clause) (hs : List ℕ) (gs : List Group) → All IsGroup gs
@@ -145,8 +146,8 @@ unfolding with_groups
 runs-groups id c hs [] h = refl
 runs-groups id c hs (g ∷ gs) h =
     ap (λ ts. runs (Some (at_hints id c hs)) ((minus ∷ decimal g.candidate) ∷ ts)) (append_assoc (map decimal g.hints) (groups_words gs) (zero_text ∷ []))
-    ∙ ap (λ o. runs o (map decimal g.hints ++ (groups_words gs ++ zero_text ∷ []))) (on-candidate id c hs g.candidate (All-first IsGroup g gs h).candidate)
-    ∙ runs-group (without_groups id c hs) g gs (All-first IsGroup g gs h) (All-rest IsGroup g gs h)
+    ∙ ap (λ o. runs o (map decimal g.hints ++ (groups_words gs ++ zero_text ∷ []))) (on-candidate id c hs g.candidate (All-head IsGroup g gs h).candidate)
+    ∙ runs-group (without_groups id c hs) g gs (All-head IsGroup g gs h) (All-tail IsGroup g gs h)
 
 addition_split : (a : Addition) → step_words (add a) ≡ decimal a.id ∷ (map literal_text a.clause ++ zero_text ∷ (map decimal a.hints ++ (groups_words a.groups ++ zero_text ∷ [])))
 addition_split a = simp append_assoc
@@ -178,10 +179,10 @@ pub so_far-goes_on : (s : State) → IsWithin s → LineCanGoOn (so_far s)
 unfolding so_far front
 so_far-goes_on at_id h =
     addition-goes_on (without_groups 1 [] []) [] (step_words (add (without_groups 1 [] [])))
-    (record { id = (omega arith, omega arith); clause = All-none IsLiteral; hints = All-none IsNumber; groups = All-none IsGroup }) refl
+    (record { id = (omega arith, omega arith); clause = All-nil IsLiteral; hints = All-nil IsNumber; groups = All-nil IsGroup }) refl
 so_far-goes_on (at_clause id c) h =
     addition-goes_on (without_groups id c []) (decimal id ∷ map literal_text c) (zero_text ∷ zero_text ∷ [])
-    (record { id = h.0; clause = h.1; hints = All-none IsNumber; groups = All-none IsGroup }) (clause_only id c)
+    (record { id = h.0; clause = h.1; hints = All-nil IsNumber; groups = All-nil IsGroup }) (clause_only id c)
 so_far-goes_on (at_hints id c hs) h = addition-goes_on (without_groups id c hs) (front (without_groups id c hs)) (zero_text ∷ []) h refl
 so_far-goes_on (at_group a g) h =
     addition-goes_on (with_group a g) (front (with_group a g)) (zero_text ∷ [])

@@ -1,5 +1,5 @@
 -- The clauses that are there, by the slots: one more, one found by its number, one taken away.
-use Rattle.std.proofs.Common.{◌≡◌, ℕ, zero, suc, ◌<◌, Bool, true, false, not, List, [], ◌∷◌, ◌++◌, length, get_or, Option, Some, None, cond, nat_eq, eqb-true, eq-eqb, refl, ap, sym, subst, ◌∙◌, slice_get, slice_set, ◌⊎◌, inl, inr, arith, All}
+use Rattle.std.proofs.Common.{◌≡◌, ℕ, zero, suc, ◌<◌, Bool, true, false, not, List, [], ◌∷◌, ◌++◌, length, get_or, Option, Some, None, cond, nat_eq, eqb-true, eq-eqb, refl, ap, sym, subst, ◌∙◌, slice_get, slice_set, ◌⊎◌, inl, inr, arith, All, ne_eqb}
 use Rattle.std.specs.List.{list_all}
 use Rattle.std.proofs.lemmas.List.Elements.{All-append}
 use Rattle.std.proofs.lemmas.Option.{slice_get_within, slice_get_read, get_or_from_slice_get}
@@ -19,14 +19,11 @@ pub NoneHas-from_places : (n : ℕ) (ss : List Slot) → ((j : ℕ) (t : Slot) �
 NoneHas-from_places n [] h = tt
 NoneHas-from_places n (s ∷ ss) h = (h zero s refl, NoneHas-from_places n ss (λ j t. h (suc j) t))
 
-apart : (m n : ℕ) → (m ≡ n → ⊥) → nat_eq m n ≡ false
-apart m n h = false_unless (nat_eq m n) (λ t. h (eqb-true m n t))
-
 put-other : (s : Slot) (K : Numbered) (n : ℕ) → (s.is_there ≡ true → s.id ≡ n → ⊥) → clause_of (put s K) n ≡ clause_of K n
 put-other s K n h = go s.is_there refl
   where
     go : (b : Bool) → s.is_there ≡ b → clause_of (cond b ((s.id, s.clause) ∷ K) K) n ≡ clause_of K n
-    go true e = ap (λ b. cond b (Some s.clause) (clause_of K n)) (apart s.id n (h e))
+    go true e = ap (λ b. cond b (Some s.clause) (clause_of K n)) (ne_eqb s.id n (h e))
     go false e = refl
 
 put-here : (s : Slot) (K : Numbered) (n : ℕ) → s.is_there ≡ true → s.id ≡ n → clause_of (put s K) n ≡ Some s.clause
@@ -57,7 +54,7 @@ without-other : (s : Slot) (K : Numbered) (n : ℕ) → (s.is_there ≡ true →
 without-other s K n h = go s.is_there refl
   where
     go : (b : Bool) → s.is_there ≡ b → without_number (cond b ((s.id, s.clause) ∷ K) K) n ≡ cond b ((s.id, s.clause) ∷ without_number K n) (without_number K n)
-    go true e = ap (λ b. cond (not b) ((s.id, s.clause) ∷ without_number K n) (without_number K n)) (apart s.id n (h e))
+    go true e = ap (λ b. cond (not b) ((s.id, s.clause) ∷ without_number K n) (without_number K n)) (ne_eqb s.id n (h e))
     go false e = refl
 
 without-here : (s : Slot) (K : Numbered) (n : ℕ) → s.is_there ≡ true → s.id ≡ n → without_number (put s K) n ≡ without_number K n

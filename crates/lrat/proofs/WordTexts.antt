@@ -1,20 +1,16 @@
 -- What a word is, and the texts of the words that a step has.
 use Rattle.std.proofs.Common.{◌≡◌, ℕ, ◌≤◌, Bool, true, false, List, [], ◌∷◌, nat_eq, refl, sym, ap, ◌∙◌, arith, cond, eqb-true, decimal, codes, subst}
-use Rattle.std.specs.Str.{all_ascii_digits}
 use Rattle.std.specs.Str.Parse.{digits_value}
-use Rattle.std.proofs.lemmas.Str.Parse.{IsNumeralModel, numerals_by_value, tells_all_ascii_digits}
 use Rattle.std.proofs.lemmas.Fmt.{digits_value-decimal}
 use Rattle.theory.specs.Texts.{minus, zero_text}
 use Rattle.theory.specs.Tokens.{is_text, is_zero_text, is_positive_text, is_natural_text, is_negative_text, is_number_text, size_of}
 use Rattle.theory.specs.ProofReading.{max_number}
-use Rattle.theory.proofs.NumberTexts.{number-size, zero_text-is, decimal-is_positive, size_of-decimal, positive-decimal, natural-decimal}
+use Rattle.theory.proofs.NumberTexts.{number-size, zero_text-is, decimal-is_positive, size_of-decimal, positive-decimal, natural-decimal, digits_model}
 use Rattle.theory.proofs.LiteralLemmas.{or-left, or-right, and-left, and-right}
 use Rattle.lrat.specs.declared.word.Word.{Word}
 use Rattle.lrat.specs.declared.word.Word.TheVariants.{Zero, Positive, Negative, Mark, Other}
 use Rattle.lrat.specs.LineWords.{capped, word_of, IsCounting}
-
-own : IsNumeralModel (λ ds. all_ascii_digits ds ≡ true) (digits_value 10)
-own = numerals_by_value _ tells_all_ascii_digits
+use Rattle.theory.proofs.ListLemmas.{is_text-eq}
 
 -- what the tests of a text make of it
 tested : Bool → Bool → Bool → Bool → ℕ → Word
@@ -87,15 +83,6 @@ text-Positive t n =
     (λ z p e small. positive-text t n p (cc) small)
     (λ z p m e. absurd (cc)) (λ z p m k e. absurd (cc)) (λ z p m k e. absurd (cc))
 
-pub is_text-eq : (t u : List ℕ) → is_text t u ≡ true → t ≡ u
-is_text-eq [] [] h = refl
-is_text-eq [] (c ∷ u) h = absurd (cc)
-is_text-eq (b ∷ t) [] h = absurd (cc)
-is_text-eq (b ∷ t) (c ∷ u) h =
-    let first : b ≡ c = eqb-true b c (and-left (nat_eq b c) (is_text t u) h) in
-    let rest : t ≡ u = is_text-eq t u (and-right (nat_eq b c) (is_text t u) h) in
-    cc
-
 negative-text : (t : List ℕ) (n : ℕ) → is_negative_text t ≡ true → capped (size_of t) ≡ n → n ≤ max_number → t ≡ minus ∷ decimal n
 negative-text [] n h e small = absurd (cc)
 negative-text (b ∷ bs) n h e small =
@@ -145,4 +132,4 @@ word_of-minus n low high =
     no_zero (b ∷ t) = refl
 
     minus_size : size_of (minus ∷ decimal n) ≡ n
-    minus_size = digits_value-decimal own n (omega arith)
+    minus_size = digits_value-decimal digits_model n (omega arith)

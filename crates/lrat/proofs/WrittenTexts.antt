@@ -3,8 +3,6 @@ use Rattle.std.proofs.Common.{◌≡◌, ℕ, ◌+◌, ◌<◌, ◌≤◌, Bool,
 use Rattle.std.specs.List.{join_with_byte}
 use Rattle.std.specs.Char.{is_ascii_digit}
 use Rattle.std.specs.Str.{all_ascii_digits}
-use Rattle.std.specs.Str.Parse.{digits_value}
-use Rattle.std.proofs.lemmas.Str.Parse.{IsNumeralModel, numerals_by_value, tells_all_ascii_digits}
 use Rattle.std.proofs.lemmas.Fmt.{digits_decimal, decimal_nonempty}
 use Rattle.theory.specs.Literals.{Literal}
 use Rattle.theory.specs.Steps.{Group, Step, add, delete}
@@ -12,12 +10,10 @@ use Rattle.theory.specs.Texts.{lf, space, minus, literal_text, clause_words, gro
 use Rattle.theory.specs.Tokens.{lines_of}
 use Rattle.theory.specs.ProofReading.{steps, IsNumber, IsLiteral, IsGroup, IsStep, words_in, LinesRead, ProofReads, max_proof_bytes}
 use Rattle.theory.proofs.LiteralLemmas.{and-left, and-right}
-use Rattle.lrat.proofs.DigitLemmas.{digit-bounds, digit-goes_on}
+use Rattle.lrat.proofs.DigitLemmas.{digit-goes_on}
 use Rattle.lrat.proofs.LineTexts.{lines_of-byte, Lines, lines, onto_first, texts, words_in-texts, texts-word, texts-blank, Solid, no_lf}
-use Rattle.lrat.proofs.LineMachineLemmas.{All-first, All-rest}
-
-own : IsNumeralModel (λ ds. all_ascii_digits ds ≡ true) (digits_value 10)
-own = numerals_by_value _ tells_all_ascii_digits
+use Rattle.theory.proofs.NumberTexts.{digits_model, digit-range}
+use Rattle.std.proofs.lemmas.List.Elements.{All-head, All-tail}
 
 -- a word has bytes, and none of them ends it
 IsWordText : List ℕ → Type 0
@@ -36,17 +32,17 @@ AreWords-append (x ∷ xs) ys h k = (h.0, AreWords-append xs ys h.1 k)
 AreWords-map : {X : Type 0} (P : X → Type 0) (f : X → List ℕ) (xs : List X) → ((x : X) → P x → IsWordText (f x)) → All P xs → AreWords (map f xs)
 unfolding AreWords
 AreWords-map P f [] h all = tt
-AreWords-map P f (x ∷ xs) h all = (h x (All-first P x xs all), AreWords-map P f xs h (All-rest P x xs all))
+AreWords-map P f (x ∷ xs) h all = (h x (All-head P x xs all), AreWords-map P f xs h (All-tail P x xs all))
 
 -- digits are a word
 Solid-digits : (t : List ℕ) → all_ascii_digits t ≡ true → Solid t
 Solid-digits [] h = tt
 Solid-digits (b ∷ t) h =
-    let bounds = digit-bounds b (and-left (is_ascii_digit b) (all_ascii_digits t) h) in
+    let bounds = digit-range b (and-left (is_ascii_digit b) (all_ascii_digits t) h) in
     (digit-goes_on b bounds.0 bounds.1, Solid-digits t (and-right (is_ascii_digit b) (all_ascii_digits t) h))
 
 Solid-decimal : (n : ℕ) → IsNumber n → Solid (decimal n)
-Solid-decimal n h = Solid-digits (decimal n) (digits_decimal own n (omega arith))
+Solid-decimal n h = Solid-digits (decimal n) (digits_decimal digits_model n (omega arith))
 
 word-decimal : (n : ℕ) → IsNumber n → IsWordText (decimal n)
 unfolding IsWordText
@@ -85,7 +81,7 @@ words-group g h = (word-minus g.candidate h.candidate, AreWords-map IsNumber dec
 words-groups : (gs : List Group) → All IsGroup gs → AreWords (groups_words gs)
 unfolding AreWords
 words-groups [] h = tt
-words-groups (g ∷ gs) h = AreWords-append (group_words g) (groups_words gs) (words-group g (All-first IsGroup g gs h)) (words-groups gs (All-rest IsGroup g gs h))
+words-groups (g ∷ gs) h = AreWords-append (group_words g) (groups_words gs) (words-group g (All-head IsGroup g gs h)) (words-groups gs (All-tail IsGroup g gs h))
 
 words-step : (s : Step) → IsStep s → AreWords (step_words s)
 unfolding AreWords IsWordText
@@ -154,10 +150,10 @@ words_in-joined (w ∷ ws) h = words_in-texts (join_with_byte space (w ∷ ws)) 
 -- the lines of the steps' text
 written-lines : (n : ℕ) (ss : List Step) → All IsStep ss → LinesRead n (lines_of (proof_text ss)) (steps ss)
 written-lines n [] h = refl
-written-lines n (s ∷ ss) h = go (lines (proof_text ss)) (written-lines (n + 1) ss (All-rest IsStep s ss h))
+written-lines n (s ∷ ss) h = go (lines (proof_text ss)) (written-lines (n + 1) ss (All-tail IsStep s ss h))
   where
     within : IsStep s
-    within = All-first IsStep s ss h
+    within = All-head IsStep s ss h
 
     line : List ℕ
     line = join_with_byte space (step_words s)

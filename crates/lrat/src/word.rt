@@ -171,8 +171,8 @@ impl Word {
         ensures { result ≡ literal_in self }
     {
         match self {
-            Word::Positive(n) if n <= MAX_LITERAL => Lit::new(n as i32),
-            Word::Negative(n) if n <= MAX_LITERAL => Lit::new(-(n as i32)),
+            Word::Positive(n) if n <= MAX_LITERAL => Some(Lit::of(n as u32, true)),
+            Word::Negative(n) if n <= MAX_LITERAL => Some(Lit::of(n as u32, false)),
             _ => None,
         }
     }

@@ -1,16 +1,14 @@
 -- The bytes and the budget fix the proof and the answer.
-use Rattle.std.proofs.Common.{◌≡◌, ℕ, List, [], ◌⊎◌, inl, inr, refl, sym, ap, ◌∙◌, subst, Option, Some, None}
-use Rattle.theory.specs.Truth.{Formula, Assignment}
-use Rattle.theory.specs.FirstModel.{IsFirst}
-use Rattle.theory.specs.Trees.{Tree, IsTree}
+use Rattle.std.proofs.Common.{◌≡◌, ℕ, List, [], ◌⊎◌, inl, inr, sym, ap, ◌∙◌, subst, Option, Some}
+use Rattle.theory.specs.Truth.{Formula}
 use Rattle.theory.specs.Proofs.{proof}
 use Rattle.theory.specs.Texts.{proof_text, answer_text}
-use Rattle.theory.specs.Reading.{Token, IsReadable, Reads, formula, tokens_in, tokens_of, formula_tokens}
+use Rattle.theory.specs.Reading.{Token, IsReadable, Reads, formula, tokens_in, tokens_of}
 use Rattle.theory.specs.Written.{IsSatisfiableText, IsUnsatisfiableText, IsWritten}
 use Rattle.theory.proofs.ReadingMachine.{State, at_p, at_body}
-use Rattle.theory.proofs.ReadingLemmas.{states, formula-states}
 use Rattle.theory.proofs.FirstModelLemmas.{IsFirst-unique}
 use Rattle.theory.proofs.SearchLemmas.{IsTree-unique}
+use Rattle.theory.proofs.PrintedTokens.{states, formula-states}
 
 formula_in : Option State → Formula
 formula_in (Some (at_body V C cs part)) = record { vars = V; clauses = cs }

@@ -1,5 +1,5 @@
 -- What the outcome of a cube says.
-use Rattle.std.proofs.Common.{◌≡◌, ℕ, List}
+use Rattle.std.proofs.Common.{ℕ, List}
 use Rattle.theory.specs.Literals.{Literal, IsCube}
 use Rattle.theory.specs.Truth.{Formula, IsFormula, IsOver}
 use Rattle.theory.specs.Search.{Outcome, model, refuted, exhausted, Runs}

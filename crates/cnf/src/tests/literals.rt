@@ -10,6 +10,8 @@ fn literals(rt: HostRuntime) -> Result<(), Fail> {
     assert!(rt; !lit.positive());
     assert_eq!(rt; lit.negated().number(), 3);
     assert!(rt; lit.same(&lit) && !lit.same(&lit.negated()));
+    assert_eq!(rt; Lit::of(3, false), lit);
+    assert_eq!(rt; Lit::of(2_147_483_647, true).number(), 2_147_483_647);
     assert_eq!(rt; Lit::new(0), None);
     assert_eq!(rt; Lit::new(i32::MIN), None);
     Ok(())

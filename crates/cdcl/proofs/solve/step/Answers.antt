@@ -1,7 +1,8 @@
 use Rattle.std.proofs.Common.{refl}
 use Rattle.theory.specs.Propagation.{Closes, quiet, conflict}
 use Rattle.theory.proofs.LawfulTrails.{Closes-conflict}
-use Rattle.cdcl.proofs.SearchingLemmas.{IsSearching-Closes, Closes-rested, IsStep-from}
+use Rattle.cdcl.proofs.SearchingLemmas.{IsSearching-Closes, IsStep-from}
+use Rattle.theory.proofs.PropagationLemmas.{Closes-rests}
 use Rattle.cdcl.proofs.solve.step.Goals as goal
 
 came_to_rest : (c : goal.After-on_quiet-arg-1) → Closes c.args.search.now.kernel.clauses c.args.search.now.kernel.trail quiet c.close.new.self.trail
@@ -12,7 +13,7 @@ on_quiet-requires-clause-searching c =
     IsSearching-Closes c.args.search.now.kernel c.close.new.self quiet c.requires.searching c.close.ensures.kept.0 c.close.ensures.kept.1 c.in_ok-close.ensures.short (came_to_rest c)
 
 pub on_quiet-requires-clause-quiet : goal.on_quiet-requires-clause-quiet
-on_quiet-requires-clause-quiet c = rw c.close.ensures.kept.1 (Closes-rested _ _ _ (came_to_rest c))
+on_quiet-requires-clause-quiet c = rw c.close.ensures.kept.1 (Closes-rests _ _ _ (came_to_rest c))
 
 met : (c : goal.After-on_conflict-arg-1) → Closes c.args.search.now.kernel.clauses c.args.search.now.kernel.trail (conflict c.in-Conflict.number) c.close.new.self.trail
 met c = rw c.in-Conflict.is at c.in_ok-close.ensures.ok

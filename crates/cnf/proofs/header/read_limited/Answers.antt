@@ -2,7 +2,8 @@ use Rattle.std.proofs.Common.{◌≡◌, ◌∙◌, List, true, refl, sym, ap, a
 use Rattle.theory.specs.Tokens.{Place}
 use Rattle.theory.specs.Reading.{Placed, refusal, bad_header, over_limit, end_of}
 use Rattle.cnf.specs.Machine.{run, at_number}
-use Rattle.cnf.proofs.HeaderLemmas.{number-missing, number-other, number-above, number-read, not-true, not-false}
+use Rattle.cnf.proofs.HeaderLemmas.{number-missing, number-other, number-above, number-read, not-false}
+use Rattle.theory.proofs.LiteralLemmas.{not_true}
 use Rattle.cnf.proofs.header.read_limited.Goals as goal
 use Rattle.cnf.proofs.header.read_limited.Goals.{then-start-bytes-via-then-start-bytes, then-start-bytes-via-else-start-bytes+then-bytes-start-eq10}
 
@@ -19,7 +20,7 @@ pub returns-then-not-number : goal.returns-then-not-number
 returns-then-not-number c = λ vars limit.
     let e = c.read_number-number.ensures in
     ap (λ (ts : List Placed). run (at_number vars) ts (end_of c.args.bytes.now)) (sym c.skip_blanks-start.ensures.tokens)
-    ∙ number-other vars c.args.bytes.now c.skip_blanks-start.result c.read_number-number.result.end e.word e.within e.end (sym e.number.natural_is ∙ not-true c.read_number-number.result.natural c.if-not-number.true)
+    ∙ number-other vars c.args.bytes.now c.skip_blanks-start.result c.read_number-number.result.end e.word e.within e.end (sym e.number.natural_is ∙ not_true c.read_number-number.result.natural c.if-not-number.true)
     ∙ ap (λ (p : Place). refusal bad_header p) (sym c.place_at-then-not-number.ensures)
 
 pub returns-then-number-most : goal.returns-then-number-most

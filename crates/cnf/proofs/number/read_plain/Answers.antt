@@ -1,6 +1,6 @@
-use Rattle.std.proofs.Common.{◌∙◌, sym, arith, ◌<◌, inl, inr}
+use Rattle.std.proofs.Common.{◌∙◌, sym, arith, ◌<◌, inl, inr, ne_eqb}
 use Rattle.std.proofs.lemmas.Bool.{cases_lt}
-use Rattle.cnf.proofs.NumberLemmas.{digits-word, plain-ended, not_byte}
+use Rattle.cnf.proofs.NumberLemmas.{digits-word, plain-ended}
 use Rattle.cnf.proofs.number.read_plain.Goals as goal
 
 pub returns-then-end-digits-clause-all : goal.returns-then-end-digits-clause-all
@@ -20,5 +20,5 @@ returns-else-end-digits-clause-plain c =
     let above = c.word_end-end.ensures.above in
     let within = c.word_end-end.ensures.within in
     let later : c.read_digits-digits.result.end < c.word_end-end.result = omega (arith, c.if-end-digits.false) in
-    not_byte _ _ c.if-end-digits.false
+    ne_eqb _ _ c.if-end-digits.false
     ∙ sym (plain-ended c.args.minus c.args.bytes.now c.args.from c.read_digits-digits.result.end c.word_end-end.result c.read_digits-digits.ensures.above later within (c.read_digits-digits.ensures.end (omega arith)))

@@ -15,27 +15,27 @@ outcome-requires-clause-over c = IsReached-over c.args.formula.now c.args.budget
 pub returns-in-Model-clause-result : goal.returns-in-Model-clause-result
 returns-in-Model-clause-result c = IsReached-leaf c.args.formula.now c.args.budget c.loop-cube.cube (map node_of c.loop-cube.nodes.items) c.in-Model.values.items c.loop-cube.invariant.reached (rw c.in-Model.is at c.in_ok-values.ensures.runs)
 
-pub negative-requires : goal.negative-requires
-negative-requires c =
+pub of-requires : goal.of-requires
+of-requires c =
     let says : IsVariable c.args.formula.now.vars c.in-Exhausted.var × (has_var c.loop-cube.cube c.in-Exhausted.var ≡ false) =
     IsReached-exhausted c.args.formula.now c.args.budget c.loop-cube.cube (map node_of c.loop-cube.nodes.items) c.in-Exhausted.var c.vars-vars.ensures.within.formula c.loop-cube.invariant.reached (rw c.in-Exhausted.is at c.in_ok-values.ensures.runs) in
     let low = says.0.0 in
     let high = says.0.1 in
     let few = c.vars-vars.ensures.within.vars in
-    (low, omega arith)
+    record { some = low; below = omega arith }
 
 pub loop-cube-smaller-in_ok-push-in-Exhausted-2 : goal.loop-cube-smaller-in_ok-push-in-Exhausted-2
 loop-cube-smaller-in_ok-push-in-Exhausted-2 c =
     let says : IsVariable c.args.formula.now.vars c.in-Exhausted.var × (has_var c.loop-cube.cube c.in-Exhausted.var ≡ false) =
     IsReached-exhausted c.args.formula.now c.args.budget c.loop-cube.cube (map node_of c.loop-cube.nodes.items) c.in-Exhausted.var c.vars-vars.ensures.within.formula c.loop-cube.invariant.reached (rw c.in-Exhausted.is at c.in_ok-values.ensures.runs) in
-    rw (c.in_ok-push-in-Exhausted-2.ensures.ok, c.negative.ensures)
+    rw (c.in_ok-push-in-Exhausted-2.ensures.ok, c.of.ensures)
     (left_from-half c.args.formula.now.vars c.loop-cube.cube c.in-Exhausted.var (IsReached-room c.args.formula.now c.args.budget c.loop-cube.cube (map node_of c.loop-cube.nodes.items) c.in-Exhausted.var c.loop-cube.invariant.reached says))
 
 pub loop-cube-preserved-in_ok-push-in-Exhausted-2 : goal.loop-cube-preserved-in_ok-push-in-Exhausted-2
 loop-cube-preserved-in_ok-push-in-Exhausted-2 c =
     record {
       known = c.in_ok-values.ensures.kept;
-      reached = rw (c.in_ok-push-in-Exhausted-2.ensures.ok, c.negative.ensures, c.in_ok-push-in-Exhausted.ensures.items, map-append)
+      reached = rw (c.in_ok-push-in-Exhausted-2.ensures.ok, c.of.ensures, c.in_ok-push-in-Exhausted.ensures.items, map-append)
           (IsReached-left c.args.formula.now c.args.budget c.loop-cube.cube (map node_of c.loop-cube.nodes.items) c.in-Exhausted.var c.loop-cube.invariant.reached (rw c.in-Exhausted.is at c.in_ok-values.ensures.runs)
           (IsReached-exhausted c.args.formula.now c.args.budget c.loop-cube.cube (map node_of c.loop-cube.nodes.items) c.in-Exhausted.var c.vars-vars.ensures.within.formula c.loop-cube.invariant.reached (rw c.in-Exhausted.is at c.in_ok-values.ensures.runs)));
     }
@@ -83,4 +83,4 @@ pub push-requires-in-Exhausted : goal.push-requires-in-Exhausted
 push-requires-in-Exhausted c =
     let says : IsVariable c.args.formula.now.vars c.in-Exhausted.var × (has_var c.loop-cube.cube c.in-Exhausted.var ≡ false) =
     IsReached-exhausted c.args.formula.now c.args.budget c.loop-cube.cube (map node_of c.loop-cube.nodes.items) c.in-Exhausted.var c.vars-vars.ensures.within.formula c.loop-cube.invariant.reached (rw c.in-Exhausted.is at c.in_ok-values.ensures.runs) in
-    rw c.negative.ensures says.1
+    rw c.of.ensures says.1

@@ -1,6 +1,6 @@
 use Rattle.std.proofs.Common.{take}
 use Rattle.theory.specs.Trails.{literals}
-use Rattle.kernel.proofs.Statuses.{IsMet}
+use Rattle.theory.proofs.ClauseWalks.{IsMet}
 use Rattle.kernel.proofs.scan.status_of.Given as goal
 
 -- the literals so far are false but for the free one

@@ -1,4 +1,4 @@
-use Rattle.kernel.proofs.Runs.{Closes-rests}
+use Rattle.theory.proofs.PropagationLemmas.{Closes-rests}
 use Rattle.kernel.proofs.tests.decide.Goals as goal
 
 pub decide-requires : goal.decide-requires

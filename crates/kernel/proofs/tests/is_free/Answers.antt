@@ -1,6 +1,6 @@
 use Rattle.std.proofs.Common.{◌∙◌, ap, sym, arith}
 use Rattle.kernel.specs.Tables.{value_in}
-use Rattle.kernel.proofs.Statuses.{value-none}
+use Rattle.kernel.proofs.Values.{value-none}
 use Rattle.kernel.proofs.tests.is_free.Goals as goal
 
 pub returns-in-None : goal.returns-in-None

@@ -1,5 +1,6 @@
 use Rattle.std.proofs.Common.{◌≡◌, sym, ◌∙◌}
-use Rattle.lrat.proofs.Statuses.{value-none, value-held, value-other, beq-same, beq-other, at-place, has-before}
+use Rattle.theory.proofs.ClauseWalks.{beq-same, beq-other, at-place, has-before}
+use Rattle.lrat.proofs.Values.{value-none, value-held, value-other}
 use Rattle.lrat.proofs.Assumptions.{IsAssumed-pivot, IsAssumed-push, IsAssumed-held, closed-by_held, not_closed, next, whole}
 use Rattle.lrat.proofs.HeldLemmas.{Extends-push}
 use Rattle.lrat.proofs.assume.assume.Goals as goal

@@ -3,7 +3,8 @@ use Rattle.theory.specs.Truth.{IsOver}
 use Rattle.theory.proofs.ClauseLemmas.{unit-fresh}
 use Rattle.theory.proofs.OverVariables.{AreOver-from_IsOver}
 use Rattle.lrat.specs.Slots.{there}
-use Rattle.lrat.proofs.Statuses.{unit-hinted, unit-has, take_hints-unit}
+use Rattle.theory.proofs.ClauseWalks.{unit-has}
+use Rattle.lrat.proofs.HintLemmas.{unit-hinted, take_hints-unit}
 use Rattle.lrat.proofs.HeldLemmas.{Extends-push}
 use Rattle.lrat.proofs.hints.take_hints.Goals as goal
 

@@ -1,7 +1,8 @@
 use Rattle.std.proofs.Common.{◌≡◌, true, false, ◌∙◌, sym, get_or, arith}
 use Rattle.std.specs.Char.{is_ascii_digit}
 use Rattle.lrat.specs.LineWords.{ends_word}
-use Rattle.lrat.proofs.DigitLemmas.{digit-bounds, digit-goes_on, place-more, rest-more, all-digit, all-other, size-digit}
+use Rattle.lrat.proofs.DigitLemmas.{digit-goes_on, place-more, rest-more, all-digit, all-other, size-digit}
+use Rattle.theory.proofs.NumberTexts.{digit-range}
 use Rattle.lrat.proofs.word.read_digits.Goals as goal
 use Rattle.lrat.proofs.word.read_digits.Goals.{then-is_ascii_digit, else-is_ascii_digit+else-ends_word}
 
@@ -14,7 +15,7 @@ loop-end-preserved c =
     elim c.if-is_ascii_digit.branch [
       | then-is_ascii_digit w ↦ (
           let digit : is_ascii_digit (get_or bytes i 0) ≡ true = sym c.is_ascii_digit.ensures.value ∙ w.if-is_ascii_digit.true in
-          let bounds = digit-bounds (get_or bytes i 0) digit in
+          let bounds = digit-range (get_or bytes i 0) digit in
           let goes_on : ends_word (get_or bytes i 0) ≡ false = digit-goes_on (get_or bytes i 0) bounds.0 bounds.1 in
           record {
             within = omega arith;

@@ -2,7 +2,7 @@ use Rattle.std.proofs.Common.{◌≡◌, ap, ◌∙◌}
 use Rattle.theory.specs.Trails.{cube_trail}
 use Rattle.theory.proofs.TrailEntries.{IsLawful-cube}
 use Rattle.kernel.specs.Held.{Held}
-use Rattle.kernel.proofs.Cubes.{literals-cube_trail}
+use Rattle.theory.proofs.TrailLists.{literals-cube}
 use Rattle.kernel.proofs.kernel.Kernel.open.Goals as goal
 
 -- the parts of the kernel, as the calls have told them
@@ -21,7 +21,7 @@ invariant_of-result c = (rw (entries_of c) (IsLawful-cube _ _ c.lits.ensures.cub
 pub returns-clause-lawful : goal.returns-clause-lawful
 returns-clause-lawful c = (
   rw (entries_of c) (IsLawful-cube _ _ c.lits.ensures.cube),
-  rw (vars_of c, entries_of c, literals-cube_trail c.args.cube.now) c.requires,
+  rw (vars_of c, entries_of c, literals-cube c.args.cube.now) c.requires,
   rw (vars_of c, clauses_are c) c.vars.ensures.within.formula,
 )
 

@@ -1,17 +1,14 @@
--- What a clause is, by a walk over its literals that keeps the one free literal met so far.
-use Rattle.std.proofs.Common.{◌≡◌, ℕ, zero, suc, ◌+◌, ◌<◌, ◌≤◌, Bool, true, false, not, ◌||◌, List, [], ◌∷◌, ◌++◌, length, take, drop, get_or, Option, Some, None, option_map, find, cond, nat_eq, eqb-true, is_some, refl, ap, sym, subst, ◌∙◌, inl, inr, ◌⊎◌, arith}
+-- What a clause is under literals held true, by a walk over it that keeps the one free literal met so far.
+use Rattle.std.proofs.Common.{◌≡◌, ℕ, zero, suc, ◌+◌, ◌<◌, ◌≤◌, Bool, true, false, not, ◌||◌, List, [], ◌∷◌, ◌++◌, length, take, drop, get_or, Option, Some, None, find, cond, refl, ap, sym, subst, ◌∙◌, inl, inr, ◌⊎◌, arith}
 use Rattle.std.specs.List.{list_all}
 use Rattle.std.proofs.Math.Bool.{beq}
-use Rattle.std.proofs.lemmas.List.{take_more, take-append-drop}
+use Rattle.std.proofs.lemmas.List.{take_all, take_more, take-append-drop}
 use Rattle.std.proofs.lemmas.List.Folds.{list_all-append}
 use Rattle.theory.specs.Literals.{Literal, Clause, negated, same, has, has_var}
 use Rattle.theory.specs.Status.{is_false, others_false, is_unit_in, unit_literal}
-use Rattle.theory.specs.Trails.{Entry, Trail, literals, entry_of}
 use Rattle.theory.specs.Lawful.{are_distinct}
 use Rattle.theory.proofs.LiteralLemmas.{and-left, and-right, or-cases, or-left, or-right, not_true, same-eq, same-refl}
-use Rattle.theory.proofs.LiteralSets.{true_false, false_unless, and-true, not-false, has-head, has-equal, has-tail, has-cases, has-append_left, has-append_right, has_var-has, other-same, negated-other}
-use Rattle.kernel.specs.Tables.{value_in}
-use Rattle.kernel.proofs.NextFree.{is_some-value_in}
+use Rattle.theory.proofs.LiteralSets.{true_false, false_unless, and-true, not-false, has-head, has-equal, has-tail, has-cases, has-append_left, has-append_right, has_var-has, other-same, negated-other, list_all-has}
 
 -- the literals met are false but for the free one
 abbrev pub IsMet : List Literal → Clause → Option Literal → Type 0
@@ -29,13 +26,6 @@ beq-other true true h e = cc
 beq-other false false h e = cc
 beq-other true false h e = cc
 beq-other false true h e = cc
-
-list_all-has : (p : Literal → Bool) (c : Clause) (l : Literal) → list_all p c ≡ true → has c l ≡ true → p l ≡ true
-list_all-has p [] l h t = absurd (cc)
-list_all-has p (k ∷ c) l h t = elim (has-cases k l c t) [
-  | inl e ↦ ap p e ∙ and-left (p k) (list_all p c) h
-  | inr r ↦ list_all-has p c l (and-right (p k) (list_all p c) h) r
-]
 
 list_all-more : (p q : Literal → Bool) (c : Clause) → ((l : Literal) → p l ≡ true → q l ≡ true) → list_all p c ≡ true → list_all q c ≡ true
 list_all-more p q [] f h = refl
@@ -81,6 +71,17 @@ find-only p (k ∷ c) u a t h = go (p k) refl (λ r. find-only p c u r t h)
     go true e more = ap Some (h k e)
     go false e more = elim (has-cases k u c a) [ inl same ↦ true_false (p k) (ap p (sym same) ∙ t) e | inr r ↦ more r ]
 
+find-has : (p : Literal → Bool) (c : Clause) (l : Literal) → find p c ≡ Some l → has c l ≡ true
+find-has p [] l h = absurd (cc)
+find-has p (k ∷ c) l h = go (p k) h (find-has p c l)
+  where
+    go : (b : Bool) → cond b (Some k) (find p c) ≡ Some l → (find p c ≡ Some l → has c l ≡ true) → has (k ∷ c) l ≡ true
+    go true e more = has-equal k l c (let same : k ≡ l = cc in sym same)
+    go false e more = has-tail k l c (more e)
+
+pub unit-has : (P : List Literal) (c : Clause) (l : Literal) → unit_literal P c ≡ Some l → has c l ≡ true
+unit-has P c l h = find-has (is_unit_in P c) c l h
+
 -- a literal that isn't false makes the clause not false
 pub is_false-not : (P : List Literal) (c : Clause) (l : Literal) → has c l ≡ true → has P (negated l) ≡ false → is_false P c ≡ false
 is_false-not P c l a n = false_unless (is_false P c) (λ t. true_false (has P (negated l)) (list_all-has (λ k. has P (negated k)) c l t a) n)
@@ -120,7 +121,7 @@ unit_literal-met P c u h = (
     only l unit = unit-only P c l u unit h.0 (not_negated P u h.1)
 
 -- no variable stands in both signs
-consistent : (P : List Literal) (l : Literal) → are_distinct P ≡ true → has P l ≡ true → has P (negated l) ≡ false
+pub consistent : (P : List Literal) (l : Literal) → are_distinct P ≡ true → has P l ≡ true → has P (negated l) ≡ false
 consistent [] l d a = absurd (cc)
 consistent (k ∷ P) l d a = false_unless (has (k ∷ P) (negated l)) (λ b. both (has-cases k l P a) (has-cases k (negated l) P b) (λ s t. true_false (has P (negated l)) t (consistent P l (and-right (not (has_var P k.var)) (are_distinct P) d) s)))
   where
@@ -132,37 +133,6 @@ consistent (k ∷ P) l d a = false_unless (has (k ∷ P) (negated l)) (λ b. bot
     both (inl e) (inr t) rest = true_false (has_var P k.var) (subst (λ (x : Literal). has_var P x.var ≡ true) e (has_var-has P (negated l) t)) alone
     both (inr s) (inl f) rest = true_false (has_var P k.var) (subst (λ (x : Literal). has_var P x.var ≡ true) f (has_var-has P l s)) alone
     both (inr s) (inr t) rest = rest s t
-
--- the value of a variable says which of its literals is on the trail
-pub value-literal : (T : Trail) (l : Literal) (b : Bool) → value_in T l.var ≡ Some b → l.positive ≡ b → has (literals T) l ≡ true
-value-literal [] l b h p = absurd (cc)
-value-literal (e ∷ T) l b h p = go (nat_eq e.lit.var l.var) refl h (value-literal T l b)
-  where
-    go : (t : Bool) → nat_eq e.lit.var l.var ≡ t → option_map (λ (x : Entry). x.lit.positive) (cond t (Some e) (entry_of T l.var)) ≡ Some b
-        → (value_in T l.var ≡ Some b → l.positive ≡ b → has (literals T) l ≡ true) → has (literals (e ∷ T)) l ≡ true
-    go true t k more =
-        let v : l.var ≡ e.lit.var = sym (eqb-true e.lit.var l.var t) in
-        let s : l.positive ≡ e.lit.positive = cc in
-        has-equal e.lit l (literals T) (λ i. record { var = v i; positive = s i })
-    go false t k more = has-tail e.lit l (literals T) (more k p)
-
-pub value-true : (T : Trail) (l : Literal) (b : Bool) → are_distinct (literals T) ≡ true → value_in T l.var ≡ Some b → b ≡ l.positive
-    → (has_var (literals T) l.var ≡ true) × (has (literals T) (negated l) ≡ false)
-value-true T l b d h p =
-    let there = value-literal T l b h (sym p) in
-    (has_var-has (literals T) l there, consistent (literals T) l d there)
-
-pub value-false : (T : Trail) (l : Literal) (b : Bool) → value_in T l.var ≡ Some b → (b ≡ l.positive → ⊥) → has (literals T) (negated l) ≡ true
-value-false T l b h p = value-literal T (negated l) b h (other b l.positive p)
-  where
-    other : (x y : Bool) → (x ≡ y → ⊥) → not y ≡ x
-    other true true n = absurd (n refl)
-    other true false n = refl
-    other false true n = refl
-    other false false n = absurd (n refl)
-
-pub value-none : (T : Trail) (v : ℕ) → value_in T v ≡ None → has_var (literals T) v ≡ false
-value-none T v h = sym (is_some-value_in T v) ∙ ap is_some h
 
 -- the literal at a place, and those before it
 pub has-at : (c : Clause) (i : ℕ) (d : Literal) → i < length c → has c (get_or c i d) ≡ true
@@ -177,43 +147,33 @@ pub IsMet-more : (P : List Literal) (c : Clause) (i : ℕ) (d : Literal) (o : Op
 IsMet-more P c i d o less h = subst (λ x. IsMet P x o) (sym (take_more c i d less)) h
 
 pub IsMet-end : (P : List Literal) (c : Clause) (i : ℕ) (o : Option Literal) → length c ≤ i → IsMet P (take i c) o → IsMet P c o
-IsMet-end P c i o past h = let whole : take i c ≡ c = take-past i c past in rw whole at h
-  where
-    take-past : (n : ℕ) (xs : Clause) → length xs ≤ n → take n xs ≡ xs
-    take-past zero [] p = refl
-    take-past zero (x ∷ xs) p = absurd (omega arith)
-    take-past (suc n) [] p = refl
-    take-past (suc n) (x ∷ xs) p = ap (λ ys. x ∷ ys) (take-past n xs (omega arith))
+IsMet-end P c i o past h = let whole : take i c ≡ c = take_all i c past in rw whole at h
 
 -- the steps of the walk, each part as a call has told it; l is the literal at the place i
 pub at-place : (c : Clause) (i : ℕ) (l : Literal) → l ≡ get_or c i l → i < length c → has c l ≡ true
 at-place c i l e less = subst (λ x. has c x ≡ true) (sym e) (has-at c i l less)
 
-pub step-false : (T : Trail) (c : Clause) (i : ℕ) (l : Literal) (o : Option Literal) (b : Bool) → l ≡ get_or c i l → i < length c → IsMet (literals T) (take i c) o
-    → value_in T l.var ≡ Some b → (b ≡ l.positive → ⊥) → IsMet (literals T) (take (i + 1) c) o
-step-false T c i l o b e less h value other =
-    IsMet-more (literals T) c i l o less (subst (λ x. IsMet (literals T) (take i c ++ x ∷ []) o) e (IsMet-false (literals T) (take i c) o l h (value-false T l b value other)))
+pub step-false : (P : List Literal) (c : Clause) (i : ℕ) (l : Literal) (o : Option Literal) → l ≡ get_or c i l → i < length c → IsMet P (take i c) o
+    → has P (negated l) ≡ true → IsMet P (take (i + 1) c) o
+step-false P c i l o e less h t = IsMet-more P c i l o less (subst (λ x. IsMet P (take i c ++ x ∷ []) o) e (IsMet-false P (take i c) o l h t))
 
-pub step-free : (T : Trail) (c : Clause) (i : ℕ) (l : Literal) → l ≡ get_or c i l → i < length c → IsMet (literals T) (take i c) None
-    → value_in T l.var ≡ None → IsMet (literals T) (take (i + 1) c) (Some l)
-step-free T c i l e less h value =
-    IsMet-more (literals T) c i l (Some l) less (subst (λ x. IsMet (literals T) (take i c ++ x ∷ []) (Some l)) e (IsMet-free (literals T) (take i c) l h (value-none T l.var value)))
+pub step-free : (P : List Literal) (c : Clause) (i : ℕ) (l : Literal) → l ≡ get_or c i l → i < length c → IsMet P (take i c) None
+    → has_var P l.var ≡ false → IsMet P (take (i + 1) c) (Some l)
+step-free P c i l e less h free = IsMet-more P c i l (Some l) less (subst (λ x. IsMet P (take i c ++ x ∷ []) (Some l)) e (IsMet-free P (take i c) l h free))
 
-pub step-same : (T : Trail) (c : Clause) (i : ℕ) (l u : Literal) → l ≡ get_or c i l → i < length c → IsMet (literals T) (take i c) (Some u)
-    → same l u ≡ true → IsMet (literals T) (take (i + 1) c) (Some u)
-step-same T c i l u e less h one =
-    IsMet-more (literals T) c i l (Some u) less (subst (λ x. IsMet (literals T) (take i c ++ x ∷ []) (Some u)) e (IsMet-same (literals T) (take i c) u l h one))
+pub step-same : (P : List Literal) (c : Clause) (i : ℕ) (l u : Literal) → l ≡ get_or c i l → i < length c → IsMet P (take i c) (Some u)
+    → same l u ≡ true → IsMet P (take (i + 1) c) (Some u)
+step-same P c i l u e less h one = IsMet-more P c i l (Some u) less (subst (λ x. IsMet P (take i c ++ x ∷ []) (Some u)) e (IsMet-same P (take i c) u l h one))
 
-pub ends-satisfied : (T : Trail) (c : Clause) (i : ℕ) (l : Literal) (b : Bool) → are_distinct (literals T) ≡ true → l ≡ get_or c i l → i < length c
-    → value_in T l.var ≡ Some b → b ≡ l.positive → (is_false (literals T) c ≡ false) × (unit_literal (literals T) c ≡ None)
-ends-satisfied T c i l b d e less value one =
+pub ends-satisfied : (P : List Literal) (c : Clause) (i : ℕ) (l : Literal) → are_distinct P ≡ true → l ≡ get_or c i l → i < length c
+    → has P l ≡ true → (is_false P c ≡ false) × (unit_literal P c ≡ None)
+ends-satisfied P c i l d e less held =
     let there = at-place c i l e less in
-    let facts = value-true T l b d value one in
-    (is_false-not (literals T) c l there facts.1, unit_literal-satisfied (literals T) c l there facts.0 facts.1)
+    let open_there = consistent P l d held in
+    (is_false-not P c l there open_there, unit_literal-satisfied P c l there (has_var-has P l held) open_there)
 
-pub ends-two : (T : Trail) (c : Clause) (i : ℕ) (l u : Literal) → l ≡ get_or c i l → i < length c → IsMet (literals T) (take i c) (Some u)
-    → value_in T l.var ≡ None → same l u ≡ false → (is_false (literals T) c ≡ false) × (unit_literal (literals T) c ≡ None)
-ends-two T c i l u e less h value apart =
+pub ends-two : (P : List Literal) (c : Clause) (i : ℕ) (l u : Literal) → l ≡ get_or c i l → i < length c → IsMet P (take i c) (Some u)
+    → has_var P l.var ≡ false → same l u ≡ false → (is_false P c ≡ false) × (unit_literal P c ≡ None)
+ends-two P c i l u e less h free apart =
     let there = at-place c i l e less in
-    let free = value-none T l.var value in
-    (is_false-not (literals T) c l there (not_negated (literals T) l free), unit_literal-two (literals T) c u l (has-before c i u h.0) h.1 there free apart)
+    (is_false-not P c l there (not_negated P l free), unit_literal-two P c u l (has-before c i u h.0) h.1 there free apart)
