@@ -1,17 +1,10 @@
-//! Worked rows of checking: the line written for the bytes of a formula and a proof, and the program.
-use super::program::{path_of, run};
-use super::{FOUR, FOUR_PROOF};
+//! Worked rows of checking: the line written for the bytes of a formula and a proof.
+use super::{FOUR, FOUR_PROOF, WIDE, WIDE_PROOF};
 use crate::{Checked, RunFault, check_run};
 use cnf::{Place, ReadFault};
 use std::alloc::Global;
-use std::fs;
 use std::process::Abort;
 use std::test::Fail;
-
-/// The same four clauses over four variables.
-const WIDE: &str = "p cnf 4 4\n1 2 0\n1 -2 0\n-1 2 0\n-1 -2 0\n";
-
-const WIDE_PROOF: &str = "5 3 1 0 0\n6 -3 -1 0 -5 0\n7 1 0 1 2 0\n8 0 7 3 4 0\n";
 
 const ACCEPTED: &str = "accepted\n";
 
@@ -130,38 +123,4 @@ fn a_formula_that_is_refused(rt: HostRuntime) {
         Err(RunFault::Read(ReadFault::VariableOutOfRange(place)))
     );
     assert!(rt; answer.is_empty());
-}
-
-#[test]
-fn the_program_checks(rt: HostRuntime) -> Result<(), Fail> {
-    let formula = path_of(&rt, "checked.cnf")?;
-    let proof = path_of(&rt, "checked.lrat")?;
-    fs::write(&rt, formula.as_str(), WIDE)?;
-    fs::write(&rt, proof.as_str(), WIDE_PROOF)?;
-    let words = ["cubesat", "check", formula.as_str(), proof.as_str()];
-    let printed = run(&rt, &words);
-    assert_eq!(rt; printed.status, 0);
-    assert_eq!(rt; printed.answer.as_slice(), ACCEPTED.as_bytes());
-    assert!(rt; printed.faults.is_empty());
-
-    fs::write(
-        &rt,
-        proof.as_str(),
-        "5 3 1 0 0\n6 -3 0 0\n7 1 0 1 2 0\n8 0 7 3 4 0\n",
-    )?;
-    let printed = run(&rt, &words);
-    assert_eq!(rt; printed.status, 1);
-    assert_eq!(rt;
-        printed.answer.as_slice(),
-        b"refused 27 step 2\n".as_slice()
-    );
-
-    let missing = path_of(&rt, "no_such_folder/x")?;
-    let printed = run(
-        &rt,
-        &["cubesat", "check", formula.as_str(), missing.as_str()],
-    );
-    assert_eq!(rt; printed.status, 1);
-    assert_eq!(rt; printed.faults.as_slice(), b"fault 56\n".as_slice());
-    Ok(())
 }
