@@ -1,5 +1,5 @@
 -- The line that a proof's text gives.
-use Rattle.std.proofs.Common.{◌≡◌, ℕ, List, [], ◌∷◌, ◌++◌, Option, Some, None, Bool, true, is_some, codes, decimal, append_assoc, refl, sym, ap, subst, ◌∙◌, IfSome, IfOk, Result, Ok, Err}
+use Rattle.std.proofs.Common.{◌≡◌, ℕ, List, [], ◌∷◌, ◌++◌, Option, Some, None, true, is_some, codes, decimal, append_assoc, refl, sym, ap, subst, ◌∙◌, IfSome, IfOk, Result, Ok, Err}
 use Rattle.theory.specs.Truth as truth
 use Rattle.theory.specs.Texts.{lf}
 use Rattle.theory.specs.Steps as steps
@@ -7,7 +7,7 @@ use Rattle.theory.specs.ProofReading.{ProofReading, ProofReads, line_fault, too_
 use Rattle.theory.specs.ProofReading as reading
 use Rattle.theory.specs.Checking.{checks, accepted, refused, no_empty_clause}
 use Rattle.theory.specs.Checking as theory
-use Rattle.theory.specs.Numbers.{check_text, check_fault_number}
+use Rattle.theory.specs.Numbers.{check_fault_number}
 use Rattle.lrat.specs.declared.fault.TextFault.{TextFault}
 use Rattle.lrat.specs.declared.fault.TextFault.TheVariants as text_fault
 use Rattle.lrat.specs.declared.check_fault.CheckFault.{CheckFault}
@@ -19,7 +19,7 @@ use Rattle.cubesat.specs.declared.checked_line.Checked.TheVariants.{Accepted, Re
 use Rattle.cubesat.specs.declared.checked_line.CheckedLine.{CheckedLine}
 use Rattle.cubesat.specs.declared.checked_line.Place.{Place}
 use Rattle.cubesat.specs.declared.checked_line.Place.TheVariants.{Step, Line}
-use Rattle.cubesat.specs.Check.{IsLine, place_in_text, place_in_steps, refused_text, verdict_of, checked_of}
+use Rattle.cubesat.specs.Check.{IsLine, place_in_text, place_in_steps, refused_text}
 
 -- a line in parts
 parts : (a b c d e : List ℕ) → (a ++ (b ++ (c ++ d))) ++ e ≡ (((a ++ b) ++ c) ++ d) ++ e

@@ -7,7 +7,7 @@ use Rattle.cnf.specs.Faults.{IsReadOf}
 use Rattle.cubesat.specs.Faults.{fault_of_read}
 use Rattle.theory.specs.ProofReading.{max_proof_bytes}
 use Rattle.cubesat.specs.declared.checked_line.Checked.{Checked}
-use Rattle.cubesat.specs.Check.{IsUnchecked, IsLine, IsCheckOf, CheckSays}
+use Rattle.cubesat.specs.Check.{IsUnchecked, IsLine, IsCheckOf, IsProofUnread, CheckSays}
 use Rattle.cubesat.proofs.WrittenLemmas.{Keeps-same}
 
 unchecked : (known a : Option (List ℕ)) (fault : ReadFault) → ◌≡◌ {A = Result truth.Formula ReadFault} (Err fault) (Err reading.ReadFailed) ⊎ IsReadOf known (Err fault) → (fault ≡ reading.NoMemory → ⊥)
@@ -34,3 +34,8 @@ pub IsCheckOf-made : (known proofs : Option (List ℕ)) (F : truth.Formula) (pro
     → IfSome proofs (λ xs. proof ≡ take (max_proof_bytes + 1) xs) → IsLine F proof checked line → IsCheckOf known proofs checked line
 IsCheckOf-made known proofs F proof checked line (inl e) is says = absurd (cc)
 IsCheckOf-made known proofs F proof checked line (inr r) is says = record { bytes = r.bytes; are = r.are; value = F; reads = r.is_read; proof = proof; proof_is = is; says = says }
+
+-- a formula that was read, and a proof that wasn't
+pub IsProofUnread-made : (known a : Option (List ℕ)) (F : truth.Formula) → ◌≡◌ {A = Result truth.Formula ReadFault} (Ok F) (Err reading.ReadFailed) ⊎ IsReadOf known (Ok F) → IsProofUnread known a a
+IsProofUnread-made known a F (inl e) = absurd (cc)
+IsProofUnread-made known a F (inr r) = record { bytes = r.bytes; are = r.are; value = F; reads = r.is_read; kept = Keeps-same a }

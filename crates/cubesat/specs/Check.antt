@@ -87,6 +87,14 @@ pub record IsUnchecked (formula_known answer_old answer_new : Option (List ℕ))
   pub not_memory : fault ≢ reading.NoMemory
   pub kept : Keeps answer_old answer_new
 
+-- nothing is written, and it isn't for the formula, which was read
+pub record IsProofUnread (formula_known answer_old answer_new : Option (List ℕ)) : Type 0 where
+  pub bytes : List ℕ
+  pub are : IfSome formula_known (λ xs. bytes ≡ take (max_bytes + 1) xs)
+  pub value : truth.Formula
+  pub reads : Reads bytes (formula value)
+  pub kept : Keeps answer_old answer_new
+
 -- what a run of the checker answers of the bytes of its readers, and what it leaves in its writer
 abbrev pub CheckSays : Option (List ℕ) → Option (List ℕ) → Option (List ℕ) → Option (List ℕ) → Result Checked RunFault → Type 0
 CheckSays known proof a b (Ok checked) = WritesLine known proof a b checked
@@ -94,4 +102,4 @@ CheckSays known proof a b (Err (Read fault)) = IsUnchecked known a b fault
 CheckSays known proof a b (Err NoMemory) = Keeps a b
 CheckSays known proof a b (Err ProofWriteFailed) = ⊥
 CheckSays known proof a b (Err AnswerWriteFailed) = StopsInLine known proof a b
-CheckSays known proof a b (Err ProofReadFailed) = Keeps a b
+CheckSays known proof a b (Err ProofReadFailed) = IsProofUnread known a b

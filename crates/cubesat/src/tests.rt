@@ -1,5 +1,22 @@
-//! Worked rows: the bytes of the proof and the answer for the bytes of a formula; what failing readers and writers leave; the program.
+//! Worked rows: the bytes of the proof and the answer for the bytes of a formula, and the line for those of a proof; what failing readers and
+//! writers leave; proofs of many steps; examples from end to end; the program.
 mod check;
+mod check_faults;
+mod examples;
 mod faults;
+mod faulty;
+mod long_proofs;
 mod program;
 mod rows;
+
+/// All four clauses over two variables.
+const FOUR: &str = "p cnf 2 4\n1 2 0\n1 -2 0\n-1 2 0\n-1 -2 0\n";
+
+/// Their proof at budget 1.
+const FOUR_PROOF: &str = "5 1 0 1 2 0\n6 -1 0 3 4 0\n7 0 5 6 0\n";
+
+/// The same four clauses over four variables.
+const WIDE: &str = "p cnf 4 4\n1 2 0\n1 -2 0\n-1 2 0\n-1 -2 0\n";
+
+/// A proof over these, with a closed candidate.
+const WIDE_PROOF: &str = "5 3 1 0 0\n6 -3 -1 0 -5 0\n7 1 0 1 2 0\n8 0 7 3 4 0\n";

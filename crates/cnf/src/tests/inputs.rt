@@ -1,5 +1,5 @@
 //! Readers that give little, fail, or never end.
-use crate::{Place, ReadFault, read_from};
+use crate::{Place, ReadFault, read_bytes, read_from};
 use std::io;
 use std::io::{ErrorKind, Read};
 use std::test::Fail;
@@ -84,6 +84,54 @@ fn errors(rt: HostRuntime) {
                 Err(fault) => assert_eq!(rt; fault, ReadFault::ReadFailed),
             }
             assert_eq!(rt; reader.calls as usize, left + 1);
+        }
+    }
+}
+
+/// As many bytes are read as there are, `most` of them at most; behind these the reader isn't asked.
+#[test]
+fn bytes(rt: HostRuntime) -> Result<(), Fail> {
+    let rows = [
+        (0, "", 0),
+        (1, "p", 1),
+        (15, "p cnf 2 1\n1 2 0", 15),
+        (16, "p cnf 2 1\n1 2 0\n", 16),
+        (17, "p cnf 2 1\n1 2 0\n", 17),
+        (70_000, "p cnf 2 1\n1 2 0\n", 17),
+    ];
+    for (most, wanted, calls) in rows {
+        let mut reader = Failing {
+            at: 0,
+            left: 100,
+            kind: ErrorKind::Other,
+            failed: false,
+            calls: 0,
+        };
+        let bytes = read_bytes(rt.alloc(), &mut reader, most)?;
+        assert_eq!(rt; bytes.as_slice(), wanted.as_bytes(), "{most} at most");
+        assert_eq!(rt; reader.calls, calls, "{most} at most");
+    }
+    Ok(())
+}
+
+/// An error behind the bytes that are wanted doesn't come.
+#[test]
+fn bytes_of_a_failing_reader(rt: HostRuntime) {
+    for left in 0..17usize {
+        let mut reader = Failing {
+            at: 0,
+            left,
+            kind: ErrorKind::Interrupted,
+            failed: false,
+            calls: 0,
+        };
+        match read_bytes(rt.alloc(), &mut reader, 10) {
+            Ok(bytes) => assert_eq!(rt; (bytes.len(), left >= 10), (10, true), "after {left}"),
+            Err(fault) => assert_eq!(rt;
+                (fault, left < 10),
+                (ReadFault::ReadFailed, true),
+                "after {left}"
+            ),
         }
     }
 }

@@ -1,88 +1,10 @@
-//! What stands after a fault: readers and writers that fail at each place.
+//! What stands after a fault of solving: readers and writers that fail at each place.
+use super::faulty::{Full, Limited, Trickle};
+use super::{FOUR, FOUR_PROOF};
 use crate::{RunFault, Verdict, run_one};
 use cnf::{Place, ReadFault};
-use std::alloc::Global;
-use std::io;
-use std::io::{Read, Write};
-use std::test::Fail;
-
-const FOUR: &str = "p cnf 2 4\n1 2 0\n1 -2 0\n-1 2 0\n-1 -2 0\n";
-
-const FOUR_PROOF: &[u8] = b"5 1 0 1 2 0\n6 -1 0 3 4 0\n7 0 5 6 0\n";
 
 const REFUTED: &[u8] = b"s UNSATISFIABLE\n";
-
-/// How a writer behaves once it has no room.
-#[derive(Clone, Copy, PartialEq, Eq)]
-enum Full {
-    Fails,
-    TakesNothing,
-}
-
-/// A writer that takes a byte a call, as many as it has room for.
-#[derive(Drop)]
-struct Limited {
-    taken: Vec<u8>,
-    room: usize,
-    full: Full,
-    flushes: bool,
-}
-
-impl Limited {
-    fn new(alloc: Global, room: usize) -> Limited {
-        Limited {
-            taken: Vec::new(alloc),
-            room,
-            full: Full::Fails,
-            flushes: true,
-        }
-    }
-}
-
-impl Write for Limited {
-    fn write(&mut self, buf: &[u8]) -> io::Result<usize> {
-        if self.taken.len() >= self.room {
-            return match self.full {
-                Full::Fails => Err(io::Error::from(io::ErrorKind::Other)),
-                Full::TakesNothing => Ok(0),
-            };
-        }
-        match buf.first() {
-            None => Ok(0),
-            Some(byte) => {
-                self.taken.push(*byte)?;
-                Ok(1)
-            }
-        }
-    }
-
-    fn flush(&mut self) -> io::Result<()> {
-        if self.flushes {
-            Ok(())
-        } else {
-            Err(io::Error::from(io::ErrorKind::Other))
-        }
-    }
-}
-
-/// A reader that gives a byte a call, and fails behind the last one.
-#[derive(Drop)]
-struct Broken<'a> {
-    left: &'a [u8],
-}
-
-impl Read for Broken<'_> {
-    fn read(&mut self, buf: &mut [u8]) -> io::Result<usize> {
-        match (self.left.split_first(), buf.first_mut()) {
-            (Some((byte, left)), Some(place)) => {
-                *place = *byte;
-                self.left = left;
-                Ok(1)
-            }
-            _ => Err(io::Error::from(io::ErrorKind::Interrupted)),
-        }
-    }
-}
 
 #[test]
 fn a_proof_writer_that_fails(rt: HostRuntime) {
@@ -93,7 +15,11 @@ fn a_proof_writer_that_fails(rt: HostRuntime) {
             let mut answer = Limited::new(rt.alloc(), 1000);
             let result = run_one(rt.alloc(), FOUR.as_bytes(), &mut answer, &mut proof, 1);
             assert_eq!(rt; result, Err(RunFault::ProofWriteFailed), "room {room}");
-            assert_eq!(rt; proof.taken.as_slice(), &FOUR_PROOF[..room], "room {room}");
+            assert_eq!(rt;
+                proof.taken.as_slice(),
+                &FOUR_PROOF.as_bytes()[..room],
+                "room {room}"
+            );
             assert!(rt; answer.taken.is_empty(), "room {room}");
         }
     }
@@ -106,7 +32,11 @@ fn an_answer_writer_that_fails(rt: HostRuntime) {
         let mut answer = Limited::new(rt.alloc(), room);
         let result = run_one(rt.alloc(), FOUR.as_bytes(), &mut answer, &mut proof, 1);
         assert_eq!(rt; result, Err(RunFault::AnswerWriteFailed), "room {room}");
-        assert_eq!(rt; proof.taken.as_slice(), FOUR_PROOF, "room {room}");
+        assert_eq!(rt;
+            proof.taken.as_slice(),
+            FOUR_PROOF.as_bytes(),
+            "room {room}"
+        );
         assert_eq!(rt; answer.taken.as_slice(), &REFUTED[..room], "room {room}");
     }
     let mut proof = Limited::new(rt.alloc(), 1000);
@@ -130,7 +60,7 @@ fn a_flush_that_fails(rt: HostRuntime) {
     let mut answer = Limited::new(rt.alloc(), 1000);
     let result = run_one(rt.alloc(), FOUR.as_bytes(), &mut answer, &mut proof, 1);
     assert_eq!(rt; result, Err(RunFault::ProofWriteFailed));
-    assert_eq!(rt; proof.taken.as_slice(), FOUR_PROOF);
+    assert_eq!(rt; proof.taken.as_slice(), FOUR_PROOF.as_bytes());
     assert!(rt; answer.taken.is_empty());
 
     let mut proof = Limited::new(rt.alloc(), 1000);
@@ -138,7 +68,7 @@ fn a_flush_that_fails(rt: HostRuntime) {
     answer.flushes = false;
     let result = run_one(rt.alloc(), FOUR.as_bytes(), &mut answer, &mut proof, 1);
     assert_eq!(rt; result, Err(RunFault::AnswerWriteFailed));
-    assert_eq!(rt; proof.taken.as_slice(), FOUR_PROOF);
+    assert_eq!(rt; proof.taken.as_slice(), FOUR_PROOF.as_bytes());
     assert_eq!(rt; answer.taken.as_slice(), REFUTED);
 
     let mut proof = Limited::new(rt.alloc(), 1000);
@@ -156,23 +86,22 @@ fn a_flush_that_fails(rt: HostRuntime) {
 }
 
 #[test]
-fn writers_that_take_a_byte_a_call(rt: HostRuntime) {
-    let mut proof = Limited::new(rt.alloc(), 1000);
-    let mut answer = Limited::new(rt.alloc(), 1000);
-    let result = run_one(rt.alloc(), FOUR.as_bytes(), &mut answer, &mut proof, 1);
+fn a_byte_a_call(rt: HostRuntime) {
+    let input = Trickle::whole(FOUR.as_bytes());
+    let mut proof = Limited::new(rt.alloc(), FOUR_PROOF.len());
+    let mut answer = Limited::new(rt.alloc(), REFUTED.len());
+    let result = run_one(rt.alloc(), input, &mut answer, &mut proof, 1);
     assert_eq!(rt; result, Ok(Verdict::Unsatisfiable));
-    assert_eq!(rt; proof.taken.as_slice(), FOUR_PROOF);
+    assert_eq!(rt; proof.taken.as_slice(), FOUR_PROOF.as_bytes());
     assert_eq!(rt; answer.taken.as_slice(), REFUTED);
 }
 
 #[test]
 fn a_reader_that_fails(rt: HostRuntime) {
-    for count in 0..FOUR.len() {
+    for count in 0..=FOUR.len() {
         let mut proof = Limited::new(rt.alloc(), 1000);
         let mut answer = Limited::new(rt.alloc(), 1000);
-        let input = Broken {
-            left: &FOUR.as_bytes()[..count],
-        };
+        let input = Trickle::broken(&FOUR.as_bytes()[..count]);
         let result = run_one(rt.alloc(), input, &mut answer, &mut proof, 1);
         assert_eq!(rt;
             result,

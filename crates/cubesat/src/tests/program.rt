@@ -1,4 +1,5 @@
 //! The program: what is printed, the statuses, and what stands in the files.
+use super::{FOUR, FOUR_PROOF, WIDE, WIDE_PROOF};
 use crate::command;
 use std::process::Abort;
 use std::rt::{Env, Files};
@@ -6,7 +7,7 @@ use std::test::Fail;
 use std::{env, fs};
 
 /// Paths in a folder for files that don't last, of this test alone.
-pub(crate) fn path_of<R: Env + AllocGlobal>(rt: &R, name: &str) -> Result<String, Fail> {
+fn path_of<R: Env + AllocGlobal>(rt: &R, name: &str) -> Result<String, Fail> {
     let folder = env::temp_dir(rt)?;
     let folder = folder.as_path().display();
     Ok(format!(in rt.alloc(); "{folder}/cubesat_{name}")?)
@@ -14,13 +15,13 @@ pub(crate) fn path_of<R: Env + AllocGlobal>(rt: &R, name: &str) -> Result<String
 
 /// What a command line printed, and its status.
 #[derive(Drop)]
-pub(crate) struct Printed {
-    pub(crate) status: u8,
-    pub(crate) answer: Vec<u8>,
-    pub(crate) faults: Vec<u8>,
+struct Printed {
+    status: u8,
+    answer: Vec<u8>,
+    faults: Vec<u8>,
 }
 
-pub(crate) fn run<R: Files + AllocGlobal>(rt: &R, words: &[&str]) -> Printed {
+fn run<R: Files + AllocGlobal>(rt: &R, words: &[&str]) -> Printed {
     let mut answer = Vec::new(rt.alloc());
     let mut faults = Vec::new(rt.alloc());
     let status = command(rt, rt.alloc(), words, &mut answer, &mut faults);
@@ -35,11 +36,7 @@ pub(crate) fn run<R: Files + AllocGlobal>(rt: &R, words: &[&str]) -> Printed {
 fn a_formula_is_decided(rt: HostRuntime) -> Result<(), Fail> {
     let formula = path_of(&rt, "decided.cnf")?;
     let proof = path_of(&rt, "decided.lrat")?;
-    fs::write(
-        &rt,
-        formula.as_str(),
-        "p cnf 2 4\n1 2 0\n1 -2 0\n-1 2 0\n-1 -2 0\n",
-    )?;
+    fs::write(&rt, formula.as_str(), FOUR)?;
     let words = [
         "cubesat",
         "solve",
@@ -54,10 +51,7 @@ fn a_formula_is_decided(rt: HostRuntime) -> Result<(), Fail> {
     assert_eq!(rt; printed.answer.as_slice(), b"s UNSATISFIABLE\n".as_slice());
     assert!(rt; printed.faults.is_empty());
     let text = fs::read(&rt, proof.as_str())?;
-    assert_eq!(rt;
-        text.as_slice(),
-        b"5 1 0 1 2 0\n6 -1 0 3 4 0\n7 0 5 6 0\n".as_slice()
-    );
+    assert_eq!(rt; text.as_slice(), FOUR_PROOF.as_bytes());
 
     fs::write(&rt, formula.as_str(), "p cnf 2 1\n1 2 0\n")?;
     let printed = run(
@@ -76,6 +70,40 @@ fn a_formula_is_decided(rt: HostRuntime) -> Result<(), Fail> {
         b"s SATISFIABLE\nv -1 2 0\n".as_slice()
     );
     assert!(rt; fs::read(&rt, proof.as_str())?.is_empty());
+    Ok(())
+}
+
+#[test]
+fn a_proof_is_checked(rt: HostRuntime) -> Result<(), Fail> {
+    let formula = path_of(&rt, "checked.cnf")?;
+    let proof = path_of(&rt, "checked.lrat")?;
+    fs::write(&rt, formula.as_str(), WIDE)?;
+    fs::write(&rt, proof.as_str(), WIDE_PROOF)?;
+    let words = ["cubesat", "check", formula.as_str(), proof.as_str()];
+    let printed = run(&rt, &words);
+    assert_eq!(rt; printed.status, 0);
+    assert_eq!(rt; printed.answer.as_slice(), b"accepted\n".as_slice());
+    assert!(rt; printed.faults.is_empty());
+
+    fs::write(
+        &rt,
+        proof.as_str(),
+        "5 3 1 0 0\n6 -3 0 0\n7 1 0 1 2 0\n8 0 7 3 4 0\n",
+    )?;
+    let printed = run(&rt, &words);
+    assert_eq!(rt; printed.status, 1);
+    assert_eq!(rt;
+        printed.answer.as_slice(),
+        b"refused 27 step 2\n".as_slice()
+    );
+
+    let missing = path_of(&rt, "no_such_folder/x")?;
+    let printed = run(
+        &rt,
+        &["cubesat", "check", formula.as_str(), missing.as_str()],
+    );
+    assert_eq!(rt; printed.status, 1);
+    assert_eq!(rt; printed.faults.as_slice(), b"fault 56\n".as_slice());
     Ok(())
 }
 

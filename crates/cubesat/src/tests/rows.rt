@@ -1,4 +1,5 @@
 //! Worked rows of runs with memory, readers and writers that serve.
+use super::{FOUR, FOUR_PROOF};
 use crate::{Verdict, run_one, runs_write_the_same};
 use std::alloc::Global;
 use std::process::Abort;
@@ -15,8 +16,6 @@ struct Row {
 
 const EIGHT: &str =
     "p cnf 3 8\n1 2 3 0\n1 2 -3 0\n1 -2 3 0\n1 -2 -3 0\n-1 2 3 0\n-1 2 -3 0\n-1 -2 3 0\n-1 -2 -3 0\n";
-
-const FOUR: &str = "p cnf 2 4\n1 2 0\n1 -2 0\n-1 2 0\n-1 -2 0\n";
 
 const UNSATISFIABLE: &str = "s UNSATISFIABLE\n";
 
@@ -51,7 +50,7 @@ fn refuted_formulas(rt: HostRuntime) -> Result<(), Fail> {
     let rows = [
         ("p cnf 0 1\n0\n", 1, "2 0 1 0\n"),
         ("p cnf 1 2\n1 0\n-1 0\n", 1, "3 0 1 2 0\n"),
-        (FOUR, 1, "5 1 0 1 2 0\n6 -1 0 3 4 0\n7 0 5 6 0\n"),
+        (FOUR, 1, FOUR_PROOF),
         (FOUR, 2, "5 1 0 1 2 0\n6 0 5 3 4 0\n"),
         (
             EIGHT,
