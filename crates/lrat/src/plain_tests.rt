@@ -202,19 +202,21 @@ fn delete(there: &mut Vec<Numbered>, ids: &[u64]) -> bool {
     true
 }
 
-fn numbered(alloc: Global, formula: &Formula) -> Result<Vec<Numbered<'_>>, AllocError> {
+fn clauses_of(alloc: Global, formula: &Formula) -> Result<Vec<Numbered<'_>>, AllocError> {
     let mut there = Vec::new(alloc);
-    let mut id = 0;
-    for clause in formula.clauses() {
-        id += 1;
-        there.push(Numbered { id, clause })?;
+    let clauses = formula.clauses();
+    for index in 0..clauses.len() {
+        there.push(Numbered {
+            id: index as u64 + 1,
+            clause: &clauses[index],
+        })?;
     }
     Ok(there)
 }
 
 /// The number and the step of the fault that the plain checker finds: 30 and 0 without an empty clause, else 0 and 0.
 fn plain(alloc: Global, formula: &Formula, steps: &[Step]) -> Result<(u32, u64), AllocError> {
-    let mut there = numbered(alloc, formula)?;
+    let mut there = clauses_of(alloc, formula)?;
     let mut last = there.len() as u64;
     let mut answer = (30, 0);
     for index in 0..steps.len() {
