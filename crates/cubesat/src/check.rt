@@ -31,7 +31,7 @@ pub fn check_run<R: Read + Drop, P: Read + Drop, W: Write>(
         Err(ReadFault::NoMemory) => return Err(RunFault::NoMemory),
         Err(_) => return Err(RunFault::ProofReadFailed),
     };
-    let line = match checked_line(alloc, &formula, &proof) {
+    let line = match checked_line(alloc, &formula, proof) {
         Ok(line) => line,
         Err(_) => return Err(RunFault::NoMemory),
     };

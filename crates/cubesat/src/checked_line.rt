@@ -93,19 +93,21 @@ fn refused_whole(alloc: Global, line: &[u8]) -> Result<CheckedLine, AllocError>
     })
 }
 
-/// The verdict on the text of a proof, and its line. It fails only where a request for memory is refused.
+/// The verdict on the text of a proof, and its line. It fails only where a request for memory is refused. The text is let go once its steps
+/// are read, so that its room serves the check.
 pub(crate) fn checked_line(
     alloc: Global,
     formula: &Formula,
-    proof: &[u8],
+    proof: Vec<u8>,
 ) -> Result<CheckedLine, AllocError>
-    ensures { IfOk result (λ l. IsLine formula.now proof.now l.checked l.text.items) }
+    ensures { IfOk result (λ l. IsLine formula.now proof.items l.checked l.text.items) }
 {
-    let steps = match read_proof(alloc, proof) {
+    let steps = match read_proof(alloc, &proof) {
         Ok(steps) => steps,
         Err(TextFault::TooLong) => return refused_whole(alloc, b"refused 45\n"),
         Err(fault) => return refused(alloc, fault.number(), place_in_text(fault)),
     };
+    drop(proof);
     match check(alloc, formula, &steps) {
         Ok(()) => Ok(CheckedLine {
             checked: Checked::Accepted,

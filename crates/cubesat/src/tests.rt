@@ -6,6 +6,7 @@ mod examples;
 mod faults;
 mod faulty;
 mod long_proofs;
+mod other_solvers;
 mod program;
 mod rows;
 

@@ -181,6 +181,17 @@ over-read V ss place n i s t p at e same all =
     let found = p.slot n i (sym at) in
     subst (λ (x : Slot). IsOver V x.clause) (sym (same ∙ e)) (all i s (slice_get_within ss i found.0 found.1))
 
+-- the place of a number is that of a slot
+pub place-within : (ss : List Slot) (place : ℕ → Option ℕ) (n i : ℕ) → ArePlaces ss place → Some i ≡ place n → i < length ss
+place-within ss place n i p at = let found = p.slot n i (sym at) in slice_get_within ss i found.0 found.1
+
+-- what is read where a clause's number is met
+pub clause_of-met : (ss : List Slot) (place : ℕ → Option ℕ) (n i : ℕ) (s t : Slot) → ArePlaces ss place → i < length ss → s ≡ get_or ss i s → t ≡ s
+    → t.is_there ≡ true → t.id ≡ n → Some t.clause ≡ clause_of (there_before [] ss) n
+clause_of-met ss place n i s t p less e same there met =
+    let here : place s.id ≡ Some i = p.place_of i s (get-at ss i s less e) (subst (λ (x : Slot). x.is_there ≡ true) same there) in
+    clause_of-read ss place n i s t p (sym here ∙ ap place (subst (λ (x : Slot). x.id ≡ n) same met)) e same
+
 pub over-push : (V : ℕ) (ss : List Slot) (s : Slot) → All (λ (x : Slot). IsOver V x.clause) ss → IsOver V s.clause → All (λ (x : Slot). IsOver V x.clause) (ss ++ s ∷ [])
 over-push V ss s all one = All-append (λ (x : Slot). IsOver V x.clause) ss (s ∷ []) all single
   where

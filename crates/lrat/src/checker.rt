@@ -127,7 +127,7 @@ impl<'a> Checker<'a> {
     {
         let texts = formula.clauses();
         let count = texts.len();
-        let mut clauses = Clauses::new(alloc, formula.vars());
+        let mut clauses = Clauses::new(alloc, formula.vars(), count);
         for done in 0..count {
             let index = count - 1 - done;
             clauses.push(index as u64 + 1, &texts[index])?;

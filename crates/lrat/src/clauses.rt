@@ -32,6 +32,8 @@ impl<'a> Model for Slot<'a> {
 #[derive(Drop)]
 pub(crate) struct Clauses<'a> {
     vars: u32,
+    // so many clauses come first, in falling order of their numbers
+    first: usize,
     // a clause that was taken away leaves its slot
     slots: Vec<Slot<'a>>,
     // by number: the place of the clause's slot, where it is there
@@ -52,12 +54,13 @@ impl<'a> Model for Clauses<'a> {
 }
 
 impl<'a> Clauses<'a> {
-    /// No clauses.
-    pub(crate) fn new(alloc: Global, vars: u32) -> Clauses<'a>
+    /// No clauses. Where the numbers from `first` down to 1 come first, and then each next one, `get` finds them the soonest.
+    pub(crate) fn new(alloc: Global, vars: u32, first: usize) -> Clauses<'a>
         ensures { result ≡ record { vars = vars; slots = [] } }
     {
         Clauses {
             vars,
+            first,
             slots: Vec::new(alloc),
             places: HashMap::new(alloc),
         }
@@ -70,11 +73,24 @@ impl<'a> Clauses<'a> {
         self.slots.len()
     }
 
-    /// The literals of the clause with a number, if it is there. It takes one look-up.
+    /// The literals of the clause with a number, if it is there. Its slot is looked for where it stands if no number was left out, and else
+    /// by one look-up, which reads more of memory.
     pub(crate) fn get(&self, id: u64) -> Option<&'a [Lit]>
         ensures clause { option_map (λ c. c.now) result ≡ clause_of (there self.now) id }
         ensures over { MatchOption result (Unit {0}) (λ c. IsOver self.now.vars c.now) }
     {
+        let number = id as usize;
+        let likely = if number <= self.first {
+            self.first - number
+        } else {
+            number - 1
+        };
+        if likely < self.slots.len() {
+            let slot = &self.slots[likely];
+            if slot.is_there && slot.id == id {
+                return Some(slot.clause);
+            }
+        }
         match self.places.get(&id) {
             Some(place) => {
                 let slot = &self.slots[*place];

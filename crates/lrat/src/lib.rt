@@ -14,6 +14,8 @@ mod hints;
 mod laws;
 mod line;
 mod occurrences;
+#[cfg(test)]
+mod plain_tests;
 mod read;
 mod step;
 #[cfg(test)]

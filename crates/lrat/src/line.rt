@@ -43,7 +43,10 @@ pub struct Line {
 }
 
 impl Line {
-    pub fn new(alloc: Global) -> Line {
+    /// A line of which nothing is read.
+    pub fn new(alloc: Global) -> Line
+        ensures { state_of result ≡ at_id }
+    {
         Line {
             alloc,
             part: Part::Id,
@@ -58,7 +61,7 @@ impl Line {
 
     /// Begins a line.
     pub fn begin(&mut self)
-        ensures { state_of self.new ≡ at_id }
+        ensures { self.new ≡ record self.old { part = Part.Id } }
     {
         self.part = Part::Id;
     }
@@ -219,7 +222,8 @@ impl Line {
     /// The step of the line, where it may end here.
     pub fn finish(&mut self) -> Result<Option<Step>, AllocError>
         requires { IsWithin (state_of self.old) }
-        ensures { IfOk result (λ found. at_end (state_of self.old) ≡ reading_of found) }
+        ensures step { IfOk result (λ found. at_end (state_of self.old) ≡ reading_of found) }
+        ensures others { self.new ≡ record self.old { groups = self.new.groups } }
     {
         match self.part {
             Part::AdditionEnd => Ok(Some(Step::Add(self.addition()?))),
@@ -231,7 +235,8 @@ impl Line {
     /// The addition that was read.
     fn addition(&mut self) -> Result<Addition, AllocError>
         requires { IsAddition (addition_of self.old) }
-        ensures { IfOk result (λ a. a ≡ addition_of self.old) }
+        ensures addition { IfOk result (λ a. a ≡ addition_of self.old) }
+        ensures others { self.new ≡ record self.old { groups = self.new.groups } }
     {
         let clause = Vec::from_slice(self.alloc, &self.clause)?;
         let hints = Vec::from_slice(self.alloc, &self.hints)?;

@@ -12,6 +12,6 @@ pub returns : goal.returns
 returns g c = record {
   line = c.in-Ok-checked_line.line.text.items;
   check = IsCheckOf-made (g.R.Read.remaining c.args.formula) (g.P.Read.remaining c.args.proof) c.in-Ok.formula c.in-Ok-read_bytes.proof.items c.in-Ok-checked_line.line.checked c.in-Ok-checked_line.line.text.items c.in-Ok.ensures c.in-Ok-read_bytes.ensures
-      (rw c.deref.ensures.value at c.in-Ok-checked_line.ensures);
-  written = rw c.deref-2.ensures.value at c.in_ok-write_text.ensures;
+      c.in-Ok-checked_line.ensures;
+  written = rw c.deref.ensures.value at c.in_ok-write_text.ensures;
 }

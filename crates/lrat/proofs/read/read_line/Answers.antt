@@ -12,7 +12,7 @@ use Rattle.lrat.proofs.read.read_line.Goals as goal
 
 pub loop-at-init : goal.loop-at-init
 loop-at-init c =
-    let e = c.begin.ensures in
+    let e = ap state_of c.begin.ensures in
     record {
       from = omega arith;
       inside = omega arith;
@@ -38,14 +38,14 @@ returns-then-byte-eq-LINE_FEED-clause-read c =
     let g = c.loop-at.invariant in
     let rest = read_lines (c.args.number + 1) (lines_of (drop (c.loop-at.at + 1) c.args.bytes.now)) in
     let line = at-lf (state_of c.loop-at.line) c.args.number c.args.bytes.now c.loop-at.at _ c.loop-at-test.true c.if-byte-eq-LINE_FEED.true g.left in
-    sym line ∙ ap (λ l. behind l c.args.number rest) c.in_ok-step.ensures ∙ ap (λ o. behind (reading_of o) c.args.number rest) c.in-Some.is
+    sym line ∙ ap (λ l. behind l c.args.number rest) c.in_ok-step.ensures.step ∙ ap (λ o. behind (reading_of o) c.args.number rest) c.in-Some.is
 
 pub returns-in_default-clause-read : goal.returns-in_default-clause-read
 returns-in_default-clause-read c =
     let g = c.loop-at.invariant in
     let rest = read_lines (c.args.number + 1) (lines_of (drop (c.loop-at.at + 1) c.args.bytes.now)) in
     let line = at-lf (state_of c.loop-at.line) c.args.number c.args.bytes.now c.loop-at.at _ c.loop-at-test.true c.if-byte-eq-LINE_FEED.true g.left in
-    sym line ∙ ap (λ l. behind l c.args.number rest) c.in_ok-step.ensures ∙ ap (λ o. behind (reading_of o) c.args.number rest) c.in_default.is
+    sym line ∙ ap (λ l. behind l c.args.number rest) c.in_ok-step.ensures.step ∙ ap (λ o. behind (reading_of o) c.args.number rest) c.in_default.is
 
 pub returns-then-not-branch-clause-read : goal.returns-then-not-branch-clause-read
 returns-then-not-branch-clause-read c =
