@@ -9,8 +9,7 @@ use Rattle.theory.specs.Truth.{IsOver}
 use Rattle.theory.specs.Status.{is_false}
 use Rattle.theory.specs.Trails.{Trail, Entry, literals, current_level, is_given}
 use Rattle.theory.specs.Lawful.{IsLawful}
-use Rattle.theory.specs.Learning.{at_current_level, resolved_by, reason_used}
-use Rattle.theory.proofs.RisingSets.{IsRising}
+use Rattle.theory.specs.Learning.{IsRising, at_current_level, resolved_by, reason_used}
 use Rattle.kernel.specs.State.{State}
 use Rattle.cdcl.specs.declared.marks.Marks.{Marks}
 
