@@ -1,5 +1,5 @@
 -- A step of a search, as the definition of a search has it.
-use Rattle.std.proofs.Common.{◌≡◌, ℕ, ◌<◌, ◌≤◌, false, List, [], All, ap, Some, None, subst, refl, arith}
+use Rattle.std.proofs.Common.{◌≡◌, ℕ, ◌<◌, ◌≤◌, false, List, [], length, All, ap, Some, None, subst, refl, arith}
 use Rattle.theory.specs.Literals.{Literal, IsDistinctFrom}
 use Rattle.theory.specs.Truth.{Formula, IsOver}
 use Rattle.theory.specs.Trails.{literals, cube_trail}
@@ -67,7 +67,7 @@ IsStep-keeps budget s t h counted step = (
         omega arith
 
 -- what the search of a cube begins with
-pub IsSearching-begin : (F : Formula) (Q : List Literal) (k : State) → k ≡ record { vars = F.vars; clauses = first_clauses F; trail = cube_trail Q; short = false }
+pub IsSearching-begin : (F : Formula) (Q : List Literal) (k : State) → k ≡ record { vars = F.vars; first = length (first_clauses F); clauses = first_clauses F; trail = cube_trail Q; short = false }
     → IsLawful k.clauses k.trail × IsOver k.vars (literals k.trail) × All (IsOver k.vars) k.clauses → k.vars ≤ max_vars → IsSearching k
 IsSearching-begin F Q k opened lawful few = record {
   has_memory = ap (λ (s : State). s.short) opened;
@@ -82,7 +82,7 @@ pub begin-leads : (F : Formula) (B : ℕ) (Q : List Literal) (s : definition.Sea
 begin-leads F B Q s o same h = subst (λ (t : definition.Search). RunsFrom F.vars B t o) same h
 
 -- what the outcome says, as the search was begun from a kernel of the formula and the cube
-pub begun-says : (F : Formula) (B : ℕ) (Q : List Literal) (k : State) (o : definition.Outcome) → k ≡ record { vars = F.vars; clauses = first_clauses F; trail = cube_trail Q; short = false }
+pub begun-says : (F : Formula) (B : ℕ) (Q : List Literal) (k : State) (o : definition.Outcome) → k ≡ record { vars = F.vars; first = length (first_clauses F); clauses = first_clauses F; trail = cube_trail Q; short = false }
     → IsLawful k.clauses k.trail × IsOver k.vars (literals k.trail) × All (IsOver k.vars) k.clauses → IsOver F.vars Q → definition.Runs F B Q o → OutcomeSays F Q o
 begun-says F B Q k o opened lawful over runs =
     let all = rw opened at lawful in

@@ -1,7 +1,7 @@
 -- Lists that lie one behind the other: one more at the end, and the one at a place.
 use Rattle.std.proofs.Common.{◌≡◌, ℕ, zero, suc, ◌+◌, ◌-◌, ◌<◌, ◌≤◌, List, [], ◌∷◌, ◌++◌, length, take, drop, get_or, Some, slice_get, refl, ap, sym, ◌∙◌, arith}
 use Rattle.std.specs.List.{slice_range}
-use Rattle.std.proofs.lemmas.List.{take-append-le, drop-append-le, length-drop}
+use Rattle.std.proofs.lemmas.List.{take-append-le, take-append-drop, drop-append-le, length-drop, length-take-le}
 use Rattle.std.proofs.Math.Seq.{drop-append_seam}
 use Rattle.kernel.specs.Pieces.{pieces, AreEnds, start_at}
 
@@ -61,3 +61,37 @@ pub end-le : (from : ℕ) (ends : List ℕ) (n i : ℕ) → AreEnds from ends n 
 end-le from [] n i h less = absurd (omega arith)
 end-le from (end ∷ ends) n zero h less = ends-last end ends n h.1
 end-le from (end ∷ ends) n (suc i) h less = end-le end ends n i h.1 (omega arith)
+
+pub AreEnds-take : (from : ℕ) (ends : List ℕ) (n i : ℕ) → AreEnds from ends n → i ≤ length ends → AreEnds from (take i ends) (start_at from ends i)
+AreEnds-take from ends n zero h less = refl
+AreEnds-take from [] n (suc i) h less = absurd (omega arith)
+AreEnds-take from (end ∷ ends) n (suc zero) h less = (h.0, refl)
+AreEnds-take from (end ∷ ends) n (suc (suc i)) h less = (h.0, AreEnds-take end ends n (suc i) h.1 (omega arith))
+
+pub start-within : (from : ℕ) (ends : List ℕ) (n i : ℕ) → AreEnds from ends n → i ≤ length ends → start_at from ends i ≤ n
+start-within from ends n zero h less = ends-last from ends n h
+start-within from ends n (suc i) h less = end-le from ends n i h (omega arith)
+
+-- what lies behind the last end is in none of the lists
+pieces-front : {X : Type 0} (from : ℕ) (xs ys : List X) (ends : List ℕ) (n : ℕ) → AreEnds from ends n → n ≤ length xs → pieces from (xs ++ ys) ends ≡ pieces from xs ends
+pieces-front from xs ys [] n h less = refl
+pieces-front {X} from xs ys (end ∷ ends) n h less =
+    let last = ends-last end ends n h.1 in
+    let here : slice_range (xs ++ ys) from end ≡ slice_range xs from end = range-front xs ys from end h.0 (omega arith) in
+    ap (λ zs. zs ∷ pieces end (xs ++ ys) ends) here ∙ ap (λ (k : List (List X)). slice_range xs from end ∷ k) (pieces-front end xs ys ends n h.1 less)
+
+pieces-fewer : {X : Type 0} (from : ℕ) (xs : List X) (ends : List ℕ) (i : ℕ) → pieces from xs (take i ends) ≡ take i (pieces from xs ends)
+pieces-fewer from xs ends zero = refl
+pieces-fewer from xs [] (suc i) = refl
+pieces-fewer {X} from xs (end ∷ ends) (suc i) = ap (λ (k : List (List X)). slice_range xs from end ∷ k) (pieces-fewer end xs ends i)
+
+-- the first lists alone
+pub pieces-take : {X : Type 0} (from : ℕ) (xs : List X) (ends : List ℕ) (i : ℕ) → AreEnds from ends (length xs) → i ≤ length ends
+    → pieces from (take (start_at from ends i) xs) (take i ends) ≡ take i (pieces from xs ends)
+pieces-take {X} from xs ends i h less =
+    let n = start_at from ends i in
+    let within : n ≤ length xs = start-within from ends (length xs) i h less in
+    let long : length (take n xs) ≡ n = length-take-le n xs within in
+    sym (pieces-front from (take n xs) (drop n xs) (take i ends) n (AreEnds-take from ends (length xs) i h less) (omega arith))
+    ∙ ap (λ (ys : List X). pieces from ys (take i ends)) (take-append-drop n xs)
+    ∙ pieces-fewer from xs ends i

@@ -1,6 +1,6 @@
 //! The clauses of a kernel, in the order of their numbers. Their literals lie in one list, so that looking at one clause after the
 //! other goes through memory from front to back.
-ghost use Rattle.std.specs.Prelude.{◌≡◌, ◌<◌, ◌≤◌, [], ◌∷◌, ◌++◌, map, length, sum_by, IfOk, OnOk, OnErr, slice_get, Some};
+ghost use Rattle.std.specs.Prelude.{◌≡◌, ◌<◌, ◌≤◌, [], ◌∷◌, ◌++◌, map, length, take, sum_by, IfOk, OnOk, OnErr, slice_get, Some};
 ghost use Rattle.theory.specs.Reading.{max_literals};
 ghost use Rattle.kernel.specs.Pieces.{pieces, AreEnds, start_at};
 
@@ -29,9 +29,9 @@ impl Model for Clauses {
     ghost invariant = { λ a. AreEnds 0 a.ends.items (length a.lits.items) };
 }
 
-/// Where the literals of the clause at a place begin.
+/// Where the literals of the clause at a place begin, or would begin at the place behind the last.
 fn start_of(ends: &[usize], index: usize) -> usize
-    requires { index < length ends.now }
+    requires { index ≤ length ends.now }
     ensures { result ≡ start_at 0 ends.now index }
 {
     if index == 0 { 0 } else { ends[index - 1] }
@@ -106,5 +106,15 @@ impl Clauses {
                 Err(AllocError)
             }
         }
+    }
+
+    /// Cuts off the clauses from a place on. It takes no memory, and leaves the room of the literals for the next ones.
+    pub fn truncate(&mut self, count: usize)
+        requires { count ≤ length self.old }
+        ensures { self.new ≡ take count self.old }
+    {
+        let end = start_of(&self.ends, count);
+        self.lits.truncate(end);
+        self.ends.truncate(count);
     }
 }

@@ -1,5 +1,5 @@
 //! The kernel: the clauses and the trail of one cube's search.
-ghost use Rattle.std.specs.Prelude.{◌≡◌, ◌+◌, ◌^◌, ◌<◌, ◌≤◌, true, false, None, [], ◌∷◌, ◌++◌, length, All, IfOk, IfSome, IfNone, OnOk, OnErr, IsErr, slice_get, if◌then◌else◌};
+ghost use Rattle.std.specs.Prelude.{◌≡◌, ◌+◌, ◌^◌, ◌<◌, ◌≤◌, true, false, None, [], ◌∷◌, ◌++◌, length, take, All, IfOk, IfSome, IfNone, OnOk, OnErr, IsErr, slice_get, if◌then◌else◌};
 ghost use Rattle.std.specs.Option.{option_map};
 ghost use Rattle.theory.specs.Literals.{IsVariable, IsCube, has_var};
 ghost use Rattle.theory.specs.Truth.{IsOver};
@@ -21,18 +21,21 @@ use cnf::{Formula, Lit};
 use std::alloc::{AllocError, Global};
 use std::marker::Model;
 
-/// The clauses and the trail of the search in one cube. Once a call has met want of memory, `close` and `learn` answer it from then
-/// on, `decide` and `back_to` change nothing, and the other calls answer of the trail as it stands.
+/// The clauses and the trail of the search in one cube, or in one cube after the other. Once a call has met want of memory, `close`,
+/// `learn` and `restart` answer it from then on, `decide` and `back_to` change nothing, and the other calls answer of the trail as it
+/// stands.
 #[derive(Drop)]
 pub struct Kernel {
     clauses: Clauses,
+    // how many of the clauses are the formula's; the others were learnt
+    first: usize,
     trail: Trail,
     // whether a call has met want of memory
     short: bool,
 }
 
 impl Model for Kernel {
-    ghost use Rattle.std.specs.Prelude.{All};
+    ghost use Rattle.std.specs.Prelude.{◌≤◌, All, length};
     ghost use Rattle.theory.specs.Truth.{IsOver};
     ghost use Rattle.theory.specs.Trails.{literals};
     ghost use Rattle.theory.specs.Lawful.{IsLawful};
@@ -42,22 +45,24 @@ impl Model for Kernel {
 
     ghost view = { λ a. record {
       vars = a.trail.vars;
+      first = a.first;
       clauses = a.clauses;
       trail = a.trail.entries;
       short = a.short;
     } };
 
-    ghost invariant = { λ a. IsLawful a.clauses a.trail.entries × All (IsOver a.trail.vars) a.clauses };
+    ghost invariant = { λ a.
+        IsLawful a.clauses a.trail.entries × All (IsOver a.trail.vars) a.clauses × (a.first ≤ length a.clauses) };
 }
 
-/// The trail of a cube's literals.
-fn trail_of(alloc: Global, vars: u32, lits: &[Lit]) -> Result<Trail, AllocError>
-    requires small { vars < 2 ^ 31 }
+/// Puts a cube's literals on a trail without entries.
+fn put_cube(trail: &mut Trail, lits: &[Lit])
+    requires empty { trail.old.entries ≡ [] }
     requires cube { IsCube lits.now }
-    requires over { IsOver vars lits.now }
-    ensures { IfOk result (λ t. t ≡ record { vars = vars; entries = cube_trail lits.now }) }
+    requires over { IsOver trail.old.vars lits.now }
+    ensures entries { trail.new.entries ≡ cube_trail lits.now }
+    ensures vars { trail.new.vars ≡ trail.old.vars }
 {
-    let mut trail = Trail::with_room(alloc, vars)?;
     for lit in lits {
         trail.push(Entry {
             lit: *lit,
@@ -65,7 +70,6 @@ fn trail_of(alloc: Global, vars: u32, lits: &[Lit]) -> Result<Trail, AllocError>
             level: 0,
         });
     }
-    Ok(trail)
 }
 
 impl Kernel {
@@ -75,6 +79,7 @@ impl Kernel {
         requires { IsOver formula.now.vars cube.now }
         ensures opened { IfOk result (λ k. k ≡ record {
           vars = formula.now.vars;
+          first = length (first_clauses formula.now);
           clauses = first_clauses formula.now;
           trail = cube_trail cube.now;
           short = false;
@@ -84,12 +89,42 @@ impl Kernel {
         ensures few { IfOk result (λ k. k.vars ≤ max_vars) }
     {
         let clauses = Clauses::copied(alloc, formula.clauses())?;
-        let trail = trail_of(alloc, formula.vars(), cube.lits())?;
+        let mut trail = Trail::with_room(alloc, formula.vars())?;
+        put_cube(&mut trail, cube.lits());
         Ok(Kernel {
+            first: clauses.len(),
             clauses,
             trail,
             short: false,
         })
+    }
+
+    /// Goes over to another cube of the same formula: takes all entries off the trail, cuts the learnt clauses off, and puts the cube's
+    /// literals on the trail at level 0, as if the kernel were opened anew. It takes time by what the last cube put on the trail and
+    /// learnt, and by the cube's literals, and none by the formula. It fails where an earlier call has met want of memory, or where a
+    /// request for memory is refused, and from then on.
+    pub fn restart(&mut self, cube: &Cube) -> Result<(), AllocError>
+        requires { self.old.short ≡ false → IsOver self.old.vars cube.now }
+        ensures ok { OnOk result (self.new ≡ record self.old {
+          clauses = take self.old.first self.old.clauses;
+          trail = cube_trail cube.now;
+        }) }
+        ensures lawful { OnOk result (IsLawful self.new.clauses self.new.trail) }
+        ensures over { OnOk result (IsOver self.new.vars (literals self.new.trail)) }
+        ensures clauses_over { OnOk result (All (IsOver self.new.vars) self.new.clauses) }
+        ensures kept { (self.new.vars ≡ self.old.vars) × (self.new.first ≡ self.old.first) }
+        ensures refused { OnErr result (self.new.short ≡ true) }
+        ensures stays { self.old.short ≡ true → IsErr result }
+        ensures unchanged { self.old.short ≡ true → self.new ≡ self.old }
+        ensures was { OnOk result (self.old.short ≡ false) }
+    {
+        if self.short {
+            return Err(AllocError);
+        }
+        self.trail.clear();
+        self.clauses.truncate(self.first);
+        put_cube(&mut self.trail, cube.lits());
+        Ok(())
     }
 
     /// Propagation: while no clause is false, the unit clause of least number puts its literal on the trail, with that number as
@@ -97,7 +132,7 @@ impl Kernel {
     /// takes time by all literals for each entry, and fails only where an earlier call has met want of memory.
     pub fn close(&mut self) -> Result<Closed, AllocError>
         ensures ok { IfOk result (λ a. Closes self.old.clauses self.old.trail (closed_of a) self.new.trail) }
-        ensures kept { (self.new.vars ≡ self.old.vars) × (self.new.clauses ≡ self.old.clauses) }
+        ensures kept { (self.new.vars ≡ self.old.vars) × (self.new.clauses ≡ self.old.clauses) × (self.new.first ≡ self.old.first) }
         ensures short { OnOk result (self.new.short ≡ false) }
         ensures refused { OnErr result (self.new.short ≡ true) }
         ensures stays { self.old.short ≡ true → IsErr result }

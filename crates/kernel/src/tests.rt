@@ -10,6 +10,7 @@ use std::alloc::{AllocError, Global};
 use std::test::Fail;
 
 mod look_ups;
+mod restarts;
 mod rows;
 
 fn has_var(lits: &[Lit], var: u32) -> bool

@@ -213,6 +213,23 @@ impl Trail {
         ensures vars { self.new.vars ≡ self.old.vars }
     {
         let count = count_up_to(&self.entries, level);
+        self.truncate(count);
+    }
+
+    /// Takes all entries off. It takes time by them.
+    pub fn clear(&mut self)
+        ensures entries { self.new.entries ≡ [] }
+        ensures vars { self.new.vars ≡ self.old.vars }
+    {
+        self.truncate(0);
+    }
+
+    /// Takes the entries from a place on off.
+    fn truncate(&mut self, count: usize)
+        requires { count ≤ length self.old.entries }
+        ensures entries { self.new.entries ≡ take count self.old.entries }
+        ensures vars { self.new.vars ≡ self.old.vars }
+    {
         let dropped = &self.entries[count..];
         free_all(&mut self.values, &mut self.places, dropped);
         self.next_free = least_var(dropped, self.next_free);

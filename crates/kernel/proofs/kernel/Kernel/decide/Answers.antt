@@ -16,4 +16,4 @@ overflow_add-level c =
 pub invariant_of-self : goal.invariant_of-self
 invariant_of-self c =
     let asked = (rw (← c.self.view_is) at c.requires) c.if-self.false in
-    (rw (c.push.ensures.entries, c.level-level.ensures.level) (IsLawful-decision _ _ c.args.lit c.self.invariant.0 asked.1), rw c.push.ensures.vars c.self.invariant.1)
+    (rw (c.push.ensures.entries, c.level-level.ensures.level) (IsLawful-decision _ _ c.args.lit c.self.invariant.0 asked.1), rw c.push.ensures.vars c.self.invariant.1, c.self.invariant.2)

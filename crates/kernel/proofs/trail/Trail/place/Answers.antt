@@ -1,6 +1,4 @@
-use Rattle.std.proofs.Common.{◌≡◌, ◌≤◌, ◌<◌, ◌-◌, length, get_or, sym, ◌∙◌, Some, slice_get, arith}
-use Rattle.std.proofs.lemmas.Option.{slice_get-get_or}
-use Rattle.theory.specs.Trails.{Entry, entry_of}
+use Rattle.std.proofs.Common.{◌≡◌, ◌≤◌, length, ◌∙◌, arith}
 use Rattle.kernel.specs.Tables.{place_in}
 use Rattle.kernel.proofs.Tables.{AreTables-place, place_in-found, place_in-le, place_in-zero}
 use Rattle.kernel.proofs.trail.Trail.place.Goals as goal

@@ -1,20 +1,20 @@
 use Rattle.std.proofs.Common.{◌≡◌, length, drop, ap, sym, ◌∙◌, arith}
 use Rattle.kernel.proofs.GoingBack.{drop-range, drop-within, refilled, AreTables-back, IsNextFree-back}
 use Rattle.kernel.proofs.Ordered.{IsOrdered-take}
-use Rattle.kernel.proofs.trail.Trail.back_to.Goals as goal
+use Rattle.kernel.proofs.trail.Trail.truncate.Goals as goal
 
 pub free_all-requires : goal.free_all-requires
 free_all-requires c =
-    rw (c.deref-2.ensures.value, c.deref_mut.ensures.value, c.deref_mut-2.ensures.value, drop-range)
-    (drop-within _ c.self.inside.entries.items c.count_up_to-count.result _ _ c.self.invariant.0 c.self.invariant.3)
+    rw (c.deref.ensures.value, c.deref_mut.ensures.value, c.deref_mut-2.ensures.value, drop-range)
+    (drop-within _ c.self.inside.entries.items c.args.count _ _ c.self.invariant.0 c.self.invariant.3)
 
 pub invariant_of-self : goal.invariant_of-self
 invariant_of-self c =
     let T = c.self.inside.entries.items in
     let room = c.self.invariant.1 in
     let same = c.truncate.ensures.capacity in
-    let freed = rw (c.deref-2.ensures.value, drop-range) at c.free_all.ensures in
-    let least = rw (c.deref-2.ensures.value, drop-range) at c.least_var-self-inside.ensures in
+    let freed = rw (c.deref.ensures.value, drop-range) at c.free_all.ensures in
+    let least = rw (c.deref.ensures.value, drop-range) at c.least_var-self-inside.ensures in
     let values_long : length c.free_all.new.values ≡ length c.self.inside.values.items = c.free_all.auto.values ∙ ap length c.deref_mut.ensures.value in
     let places_long : length c.free_all.new.places ≡ length c.self.inside.places.items = c.free_all.auto.places ∙ ap length c.deref_mut-2.ensures.value in
     let values_back = refilled c.self.inside.values.len c.free_all.new.values (drop (length c.free_all.new.values) c.self.inside.values.items) (c.self.inside.values.ok.0 ∙ sym values_long) in
@@ -23,7 +23,7 @@ invariant_of-self c =
       omega arith,
       c.self.invariant.2,
       rw (c.truncate.ensures.items, values_back, places_back)
-          (AreTables-back c.self.inside.vars T c.count_up_to-count.result c.self.inside.values.items c.free_all.new.values c.self.inside.places.items c.free_all.new.places c.self.invariant.0 c.self.invariant.3 values_long places_long
+          (AreTables-back c.self.inside.vars T c.args.count c.self.inside.values.items c.free_all.new.values c.self.inside.places.items c.free_all.new.places c.self.invariant.0 c.self.invariant.3 values_long places_long
           (rw c.deref_mut.ensures.value at freed.values) (rw c.deref_mut-2.ensures.value at freed.places)),
-      rw c.truncate.ensures.items (IsNextFree-back c.self.inside.vars c.self.inside.next_free c.least_var-self-inside.result T c.count_up_to-count.result c.self.invariant.0 c.self.invariant.4 least.most least.least least.there),
+      rw c.truncate.ensures.items (IsNextFree-back c.self.inside.vars c.self.inside.next_free c.least_var-self-inside.result T c.args.count c.self.invariant.0 c.self.invariant.4 least.most least.least least.there),
     )
