@@ -1,16 +1,15 @@
 -- The tokens of what is left of a text, from one of its bytes to a later one.
-use Rattle.std.proofs.Common.{◌≡◌, ℕ, suc, ◌+◌, ◌-◌, ◌<◌, ◌≤◌, Bool, true, false, inl, inr, List, [], ◌∷◌, ◌++◌, length, get_or, take, drop, nat_eq, eq-eqb, refl, sym, ap, subst, ◌∙◌, arith, length-drop, ne_eqb}
+use Rattle.std.proofs.Common.{◌≡◌, ℕ, suc, ◌+◌, ◌-◌, ◌<◌, ◌≤◌, Bool, true, false, inl, inr, List, [], ◌∷◌, ◌++◌, length, get_or, drop, nat_eq, eq-eqb, refl, sym, ap, ap₂, subst, ◌∙◌, arith, length-drop, ne_eqb}
 use Rattle.std.specs.List.{slice_range}
 use Rattle.std.proofs.lemmas.List.{drop_more, drop_all, get_or-drop}
-use Rattle.std.proofs.Math.Seq.{take-add}
 use Rattle.std.proofs.lemmas.Bool.{cases_lt}
 use Rattle.theory.specs.Tokens.{Place, lines_of, is_blank}
 use Rattle.theory.specs.Reading.{word, header_end, is_comment, tokens_after_header, tokens_of}
-use Rattle.cnf.specs.Tokens.{Part, before_header, in_header, behind_header, is_word_byte, place_behind, place_at, lines_tokens, rest_tokens, tokens_left}
+use Rattle.cnf.specs.Tokens.{Part, before_header, in_header, behind_header, is_word_byte, place_at, lines_tokens, rest_tokens, tokens_left}
 use Rattle.cnf.specs.Words.{IsWordAt, word_at}
 use Rattle.cnf.proofs.TokenLemmas.{HasLines, lines_of-some, lines_of-lf, lines_of-other, lines_of-front, has_no_lf, is_word, is_word-no_lf, other_byte, at_column, behind_word, rest-word, rest-blank, no_word-first, lines-plain, lines-comment, lines-newline}
 use Rattle.cnf.proofs.SliceLemmas.{slice_append, length-slice, get_or-slice}
-use Rattle.cnf.proofs.PlaceLemmas.{place_behind-append, place_at-more, place_after-lf, place_after-other, place_behind-no_lf}
+use Rattle.cnf.proofs.PlaceLemmas.{place_at-more, place_at-part, place_after-lf, place_after-other, place_behind-no_lf}
 
 -- a blank
 blank-rest : (part : Part) (p : Place) (b : ℕ) (bs : List ℕ) → nat_eq b 10 ≡ false → is_blank b ≡ true → HasLines (lines_of bs)
@@ -44,6 +43,10 @@ pub column-lf : (bytes : List ℕ) (i : ℕ) → i < length bytes → get_or byt
 column-lf bytes i within lf =
     let n : nat_eq (get_or bytes i 0) 10 ≡ true = eq-eqb (get_or bytes i 0) 10 lf in
     ap (λ (q : Place). q.column) (place_at-more bytes i within ∙ place_after-lf (place_at bytes i) (get_or bytes i 0) n)
+
+pub column-first : (bytes : List ℕ) → (place_at bytes 0).column ≡ 1
+unfolding place_at
+column-first bytes = refl
 
 -- the end
 pub tokens_left-end : (part : Part) (bytes : List ℕ) (i : ℕ) → length bytes ≤ i → (part ≡ in_header → ⊥) → tokens_left part bytes i ≡ []
@@ -101,14 +104,21 @@ no_lf-from (b ∷ w) h = let n : nat_eq b 10 ≡ false = ne_eqb b 10 (h 0 (omega
 
 -- the place behind bytes without an LF
 pub place_at-slice : (bytes : List ℕ) (i j : ℕ) → i ≤ j → j ≤ length bytes → has_no_lf (slice_range bytes i j) ≡ true → place_at bytes j ≡ at_column (place_at bytes i) ((place_at bytes i).column + length (slice_range bytes i j))
-unfolding place_at
 place_at-slice bytes i j h within no_lf =
-    ap (place_behind (record { line = 1; column = 1 })) front
-    ∙ place_behind-append (record { line = 1; column = 1 }) (take i bytes) (slice_range bytes i j)
-    ∙ place_behind-no_lf (place_behind (record { line = 1; column = 1 }) (take i bytes)) (slice_range bytes i j) no_lf
+    place_at-part bytes i j h ∙ place_behind-no_lf (place_at bytes i) (slice_range bytes i j) no_lf
+
+slice-no_lf : (bytes : List ℕ) (i j : ℕ) → i ≤ j → j ≤ length bytes → ((k : ℕ) → i ≤ k → k < j → get_or bytes k 0 ≡ 10 → ⊥) → has_no_lf (slice_range bytes i j) ≡ true
+slice-no_lf bytes i j above within none =
+    no_lf-from (slice_range bytes i j) (λ k l e. none (i + k) (omega arith) (omega (arith, length-slice bytes i j above within)) (sym (get_or-slice bytes i j k (omega (arith, length-slice bytes i j above within))) ∙ e))
+
+-- the place of a byte in the line that begins at another
+pub place_at-in_line : (bytes : List ℕ) (i j line before : ℕ) → i ≤ j → j ≤ length bytes → (place_at bytes i).column ≡ 1 → ((k : ℕ) → i ≤ k → k < j → get_or bytes k 0 ≡ 10 → ⊥)
+    → line ≡ (place_at bytes j).line → before ≡ j - i → record { line = line; column = before + 1 } ≡ place_at bytes j
+place_at-in_line bytes i j line before above within first none l b =
+    ap₂ (λ (x y : ℕ). record { line = x; column = y }) l (b_is ∙ sym (ap (λ (q : Place). q.column) (place_at-slice bytes i j above within (slice-no_lf bytes i j above within none))))
   where
-    front : take j bytes ≡ take i bytes ++ slice_range bytes i j
-    front = ap (λ k. take k bytes) (let e : j ≡ i + (j - i) = omega arith in e) ∙ take-add i (j - i) bytes
+    b_is : before + 1 ≡ (place_at bytes i).column + length (slice_range bytes i j)
+    b_is = omega (arith, length-slice bytes i j above within)
 
 -- from the first byte of a comment to its end
 pub tokens_left-comment : (part : Part) (bytes : List ℕ) (i j : ℕ) → i < length bytes → get_or bytes i 0 ≡ 99 → i ≤ j → j ≤ length bytes
@@ -126,7 +136,7 @@ tokens_left-comment part bytes i j some first above within none end h =
     above_first = elim (cases_lt i j) [ inl l ↦ l | inr g ↦ absurd (let same : j ≡ i = omega arith in (let e = end (omega arith) in (let f : get_or bytes i 0 ≡ 10 = ap (λ k. get_or bytes k 0) (sym same) ∙ e in (omega arith)))) ]
 
     no_lf : has_no_lf (slice_range bytes i j) ≡ true
-    no_lf = no_lf-from (slice_range bytes i j) (λ k l e. none (i + k) (omega arith) (omega (arith, length-slice bytes i j above within)) (sym (get_or-slice bytes i j k (omega (arith, length-slice bytes i j above within))) ∙ e))
+    no_lf = slice-no_lf bytes i j above within none
 
 plain : (bs line : List ℕ) (lines : List (List ℕ)) → lines_of bs ≡ line ∷ lines → (0 < length bs → get_or bs 0 0 ≡ 99 → ⊥) → is_comment line ≡ false
 plain [] line lines e h = let same : line ≡ [] = cc in rw same refl

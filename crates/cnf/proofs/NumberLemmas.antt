@@ -1,6 +1,8 @@
 -- Digits, and words as numbers.
-use Rattle.std.proofs.Common.{◌≡◌, ℕ, zero, suc, ◌+◌, ◌-◌, ◌*◌, ◌<◌, ◌≤◌, min, Bool, true, false, not, ◌&&◌, ◌||◌, List, [], ◌∷◌, ◌++◌, length, get_or, nat_eq, eqb-true, eq-eqb, refl, sym, ap, ◌∙◌, arith, ne_eqb}
+use Rattle.std.proofs.Common.{◌≡◌, ℕ, zero, suc, ◌+◌, ◌-◌, ◌*◌, ◌<◌, ◌≤◌, min, inl, inr, subst, Bool, true, false, not, ◌&&◌, ◌||◌, List, [], ◌∷◌, ◌++◌, length, get_or, nat_eq, eqb-true, eq-eqb, refl, sym, ap, ◌∙◌, arith, ne_eqb}
+use Rattle.std.specs.Int.{from_bool}
 use Rattle.std.specs.List.{slice_range}
+use Rattle.std.proofs.lemmas.Bool.{cases_lt}
 use Rattle.std.specs.Char.{is_ascii_digit, digit_value}
 use Rattle.std.specs.Str.{all_ascii_digits}
 use Rattle.std.specs.Str.Parse.{digits_value}
@@ -24,17 +26,28 @@ digits-push (c ∷ w) b h d =
 digit_value-is : (b : ℕ) → is_ascii_digit b ≡ true → digit_value b ≡ b - 48
 digit_value-is b h = let v = digit_value_digit b (digit-range b h) in omega arith
 
-pub digits-more : (bytes : List ℕ) (i j size next : ℕ) → i ≤ j → j < length bytes → all_ascii_digits (slice_range bytes i j) ≡ true → is_ascii_digit (get_or bytes j 0) ≡ true
-    → size ≡ min 100000000 (digits_value 10 (slice_range bytes i j)) → next ≡ min 100000000 (size * 10 + (get_or bytes j 0 - 48))
-    → (all_ascii_digits (slice_range bytes i (j + 1)) ≡ true) × (next ≡ min 100000000 (digits_value 10 (slice_range bytes i (j + 1))))
-digits-more bytes i j size next above within digits digit s n =
+pub digit-small : (b : ℕ) → is_ascii_digit b ≡ true → b - 48 ≤ 9
+digit-small b h = omega (arith, digit-range b h)
+
+pub digits-next : (bytes : List ℕ) (i j size next : ℕ) → i ≤ j → j < length bytes → all_ascii_digits (slice_range bytes i j) ≡ true → is_ascii_digit (get_or bytes j 0) ≡ true
+    → size ≡ digits_value 10 (slice_range bytes i j) → next ≡ size * 10 + (get_or bytes j 0 - 48)
+    → (all_ascii_digits (slice_range bytes i (j + 1)) ≡ true) × (next ≡ digits_value 10 (slice_range bytes i (j + 1)))
+digits-next bytes i j size next above within digits digit s n =
     let more = slice-more bytes i j above within in (
       ap all_ascii_digits more ∙ digits-push (slice_range bytes i j) (get_or bytes j 0) digits digit,
       (let v = digits_value_push 10 (slice_range bytes i j) (get_or bytes j 0) in
           let d = digit_value-is (get_or bytes j 0) digit in
-          let e : next ≡ min 100000000 (digits_value 10 (slice_range bytes i j ++ get_or bytes j 0 ∷ [])) = omega arith in
-          e ∙ ap (λ (w : List ℕ). min 100000000 (digits_value 10 w)) (sym more)),
+          let e : next ≡ digits_value 10 (slice_range bytes i j ++ get_or bytes j 0 ∷ []) = omega arith in
+          e ∙ ap (digits_value 10) (sym more)),
     )
+
+-- the same where sizes above 100,000,000 are read as that
+pub digits-more : (bytes : List ℕ) (i j size next : ℕ) → i ≤ j → j < length bytes → all_ascii_digits (slice_range bytes i j) ≡ true → is_ascii_digit (get_or bytes j 0) ≡ true
+    → size ≡ min 100000000 (digits_value 10 (slice_range bytes i j)) → next ≡ min 100000000 (size * 10 + (get_or bytes j 0 - 48))
+    → (all_ascii_digits (slice_range bytes i (j + 1)) ≡ true) × (next ≡ min 100000000 (digits_value 10 (slice_range bytes i (j + 1))))
+digits-more bytes i j size next above within digits digit s n =
+    let exact = digits-next bytes i j (digits_value 10 (slice_range bytes i j)) (digits_value 10 (slice_range bytes i j) * 10 + (get_or bytes j 0 - 48)) above within digits digit refl refl in
+    (exact.0, omega (arith, exact.1))
 
 digits-at : (w : List ℕ) (k : ℕ) → all_ascii_digits w ≡ true → k < length w → is_ascii_digit (get_or w k 0) ≡ true
 digits-at [] k h l = absurd (omega arith)
@@ -89,6 +102,10 @@ and-false : (r : Bool) → (r && false) ≡ false
 and-false true = refl
 and-false false = refl
 
+and-true : (r : Bool) → (r && true) ≡ r
+and-true true = refl
+and-true false = refl
+
 plain-other : (m : Bool) (w : List ℕ) → all_ascii_digits w ≡ false → is_plain_text m w ≡ false
 plain-other m [] h = absurd (cc)
 plain-other true (b ∷ w) h = ap (λ r. not (nat_eq b 48) && r) h ∙ and-false (not (nat_eq b 48))
@@ -136,3 +153,22 @@ pub number-minus : (bytes : List ℕ) (i j : ℕ) (plain : Bool) (size : ℕ) �
     → (plain ≡ true → size ≡ min 100000000 (digits_value 10 (slice_range bytes (i + 1) j))) → IsNumberOf (slice_range bytes i j) false plain size
 number-minus bytes i j plain size l within m p s =
     rw (slice-first bytes i j l within) (minus-number (get_or bytes i 0) (slice_range bytes (i + 1) j) plain size m p s)
+
+-- what begins with a byte of a word and ends before a byte of none has a byte
+pub word-some : (bytes : List ℕ) (i from j : ℕ) → i ≤ from → from ≤ j → i < length bytes → is_word_byte (get_or bytes i 0) ≡ true → (j < length bytes → is_word_byte (get_or bytes j 0) ≡ false) → i < j
+word-some bytes i from j front above inside word end = elim (cases_lt i j) [
+  | inl l ↦ l
+  | inr g ↦ let same : j ≡ i = omega arith in let e : is_word_byte (get_or bytes i 0) ≡ false = subst (λ k. k < length bytes → is_word_byte (get_or bytes k 0) ≡ false) same end inside in absurd (cc)
+]
+
+-- a word behind a minus or not
+pub number-any : (bytes : List ℕ) (i j from : ℕ) (minus plain : Bool) (size : ℕ) → i < j → j ≤ length bytes → minus ≡ nat_eq (get_or bytes i 0) 45 → from ≡ i + from_bool minus
+    → plain ≡ is_plain_text minus (slice_range bytes from j) → (plain ≡ true → size ≡ min 100000000 (digits_value 10 (slice_range bytes from j)))
+    → IsNumberOf (slice_range bytes i j) (plain && not minus) (plain && minus) size
+number-any bytes i j from true plain size l within m f p s =
+    rw (and-true plain, and-false plain)
+    (number-minus bytes i j plain size l within (eqb-true (get_or bytes i 0) 45 (sym m)) (p ∙ ap (λ k. is_plain_text true (slice_range bytes k j)) f) (λ h. s h ∙ ap (λ k. min 100000000 (digits_value 10 (slice_range bytes k j))) f))
+number-any bytes i j from false plain size l within m f p s =
+    let e : from ≡ i = omega arith in
+    rw (and-true plain, and-false plain)
+    (number-plain bytes i j plain size l within (λ h. let y = eq-eqb (get_or bytes i 0) 45 h in cc) (p ∙ ap (λ k. is_plain_text false (slice_range bytes k j)) e) (λ h. s h ∙ ap (λ k. min 100000000 (digits_value 10 (slice_range bytes k j))) e))

@@ -1,6 +1,8 @@
 -- Places of bytes: from byte to byte, over a word, and the end's.
-use Rattle.std.proofs.Common.{◌≡◌, ℕ, ◌+◌, ◌<◌, Bool, true, false, List, [], ◌∷◌, ◌++◌, length, get_or, take, nat_eq, eq-eqb, refl, sym, ap, ap₂, ◌∙◌, arith, get_or-take, ne_eqb}
-use Rattle.std.proofs.lemmas.List.{take_more, take_all, length-take}
+use Rattle.std.proofs.Common.{◌≡◌, ℕ, ◌+◌, ◌-◌, ◌<◌, ◌≤◌, Bool, true, false, List, [], ◌∷◌, ◌++◌, length, get_or, take, nat_eq, eq-eqb, refl, sym, ap, ◌∙◌, arith, ne_eqb}
+use Rattle.std.specs.List.{slice_range}
+use Rattle.std.proofs.Math.Seq.{take-add}
+use Rattle.std.proofs.lemmas.List.{take_more, take_all}
 use Rattle.theory.specs.Tokens.{Place, lines_of}
 use Rattle.theory.specs.Reading.{end_of, end_from}
 use Rattle.cnf.specs.Tokens.{place_after, place_behind, place_at}
@@ -10,11 +12,12 @@ pub place_behind-append : (p : Place) (xs ys : List ℕ) → place_behind p (xs 
 place_behind-append p [] ys = refl
 place_behind-append p (x ∷ xs) ys = place_behind-append (place_after p x) xs ys
 
+place_behind-more : (p : Place) (bytes : List ℕ) (i : ℕ) → i < length bytes → place_behind p (take (i + 1) bytes) ≡ place_after (place_behind p (take i bytes)) (get_or bytes i 0)
+place_behind-more p bytes i h = ap (place_behind p) (take_more bytes i 0 h) ∙ place_behind-append p (take i bytes) (get_or bytes i 0 ∷ [])
+
 pub place_at-more : (bytes : List ℕ) (i : ℕ) → i < length bytes → place_at bytes (i + 1) ≡ place_after (place_at bytes i) (get_or bytes i 0)
 unfolding place_at
-place_at-more bytes i h =
-    ap (place_behind (record { line = 1; column = 1 })) (take_more bytes i 0 h)
-    ∙ place_behind-append (record { line = 1; column = 1 }) (take i bytes) (get_or bytes i 0 ∷ [])
+place_at-more bytes i h = place_behind-more (record { line = 1; column = 1 }) bytes i h
 
 pub place_after-lf : (p : Place) (b : ℕ) → nat_eq b 10 ≡ true → place_after p b ≡ record { line = p.line + 1; column = 1 }
 place_after-lf p b n = rw n refl
@@ -66,23 +69,28 @@ end_of-place bytes = first (lines_of bytes) (lines_of-some bytes) ∙ end_rest-i
     first : (lines : List (List ℕ)) → HasLines lines → end_from 1 lines ≡ end_rest (record { line = 1; column = 1 }) lines
     first lines h = ap (end_from 1) h.are ∙ end-rest 1 h.first h.others ∙ ap (end_rest (record { line = 1; column = 1 })) (sym h.are)
 
--- a walk over the front of a text
-front-byte : (bytes : List ℕ) (n i : ℕ) → i < length (take n bytes) → get_or (take n bytes) i 0 ≡ get_or bytes i 0
-front-byte bytes n i h = get_or-take n bytes i 0 (omega (arith, length-take n bytes))
+-- lines behind bytes, byte by byte
+pub lines-lf : (block : List ℕ) (i count : ℕ) → i < length block → get_or block i 0 ≡ 10 → ((p : Place) → (place_behind p (take i block)).line ≡ p.line + count)
+    → (p : Place) → (place_behind p (take (i + 1) block)).line ≡ p.line + (count + 1)
+lines-lf block i count h b lines p =
+    ap (λ (q : Place). q.line) (place_behind-more p block i h ∙ place_after-lf (place_behind p (take i block)) (get_or block i 0) (eq-eqb (get_or block i 0) 10 b))
+    ∙ ap (λ k. k + 1) (lines p)
+    ∙ (let e : p.line + count + 1 ≡ p.line + (count + 1) = omega arith in e)
 
-front-within : (bytes : List ℕ) (n i : ℕ) → i < length (take n bytes) → i < length bytes
-front-within bytes n i h = omega (arith, length-take n bytes)
+pub lines-other : (block : List ℕ) (i count : ℕ) → i < length block → (get_or block i 0 ≡ 10 → ⊥) → ((p : Place) → (place_behind p (take i block)).line ≡ p.line + count)
+    → (p : Place) → (place_behind p (take (i + 1) block)).line ≡ p.line + count
+lines-other block i count h b lines p =
+    ap (λ (q : Place). q.line) (place_behind-more p block i h ∙ place_after-other (place_behind p (take i block)) (get_or block i 0) (ne_eqb (get_or block i 0) 10 b))
+    ∙ lines p
 
-pub place-walk-lf : (bytes : List ℕ) (n i line column : ℕ) (p : Place) → i < length (take n bytes) → get_or (take n bytes) i 0 ≡ 10 → p ≡ place_at bytes i → line ≡ p.line + 1 → column ≡ 1
-    → record { line = line; column = column } ≡ place_at bytes (i + 1)
-place-walk-lf bytes n i line column p h b e l k =
-    ap₂ (λ (x y : ℕ). record { line = x; column = y }) l k
-    ∙ ap (λ (q : Place). record { line = q.line + 1; column = 1 }) e
-    ∙ sym (place_at-more bytes i (front-within bytes n i h) ∙ place_after-lf (place_at bytes i) (get_or bytes i 0) (eq-eqb (get_or bytes i 0) 10 (sym (front-byte bytes n i h) ∙ b)))
+-- the place behind a part of a text
+pub place_at-part : (bytes : List ℕ) (i j : ℕ) → i ≤ j → place_at bytes j ≡ place_behind (place_at bytes i) (slice_range bytes i j)
+unfolding place_at
+place_at-part bytes i j h =
+    ap (place_behind (record { line = 1; column = 1 })) (ap (λ k. take k bytes) (let e : j ≡ i + (j - i) = omega arith in e) ∙ take-add i (j - i) bytes)
+    ∙ place_behind-append (record { line = 1; column = 1 }) (take i bytes) (slice_range bytes i j)
 
-pub place-walk-other : (bytes : List ℕ) (n i line column : ℕ) (p : Place) → i < length (take n bytes) → (get_or (take n bytes) i 0 ≡ 10 → ⊥) → p ≡ place_at bytes i → line ≡ p.line → column ≡ p.column + 1
-    → record { line = line; column = column } ≡ place_at bytes (i + 1)
-place-walk-other bytes n i line column p h b e l k =
-    ap₂ (λ (x y : ℕ). record { line = x; column = y }) l k
-    ∙ ap (λ (q : Place). at_column q (q.column + 1)) e
-    ∙ sym (place_at-more bytes i (front-within bytes n i h) ∙ place_after-other (place_at bytes i) (get_or bytes i 0) (ne_eqb (get_or bytes i 0) 10 (λ f. b (front-byte bytes n i h ∙ f))))
+pub line-part : (bytes : List ℕ) (i j line count : ℕ) → i ≤ j → line ≡ (place_at bytes i).line → ((p : Place) → (place_behind p (slice_range bytes i j)).line ≡ p.line + count)
+    → line + count ≡ (place_at bytes j).line
+line-part bytes i j line count h e lines =
+    ap (λ k. k + count) e ∙ sym (lines (place_at bytes i)) ∙ ap (λ (q : Place). q.line) (sym (place_at-part bytes i j h))

@@ -14,7 +14,6 @@ use crate::lit::Lit;
 use crate::number::{Number, read_number};
 use crate::scan::{is_text, place_at, skip_to_token};
 use std::alloc::Global;
-use std::mem;
 
 /// The most literals in all clauses.
 const MAX_LITERALS: u32 = 8_000_000;
@@ -31,7 +30,8 @@ struct Clauses {
     /// The clauses that are ended.
     whole: Vec<Vec<Lit>>,
 
-    /// The literals behind the last of them.
+    /// The literals behind the last of them. It grows to the longest clause and is emptied at each clause's end, so that each clause takes
+    /// room for its literals alone, and takes it once.
     begun: Vec<Lit>,
 
     /// How many literals all these are.
@@ -69,14 +69,10 @@ impl Clauses {
             ≡ at_body self.old.vars self.old.wanted (map (λ c. c.items) self.old.whole.items ++ self.old.begun.items ∷ []) [])
             (λ e. e ≡ ReadFault.NoMemory) }
     {
-        let clause = mem::replace(&mut self.begun, Vec::new(alloc));
-        match self.whole.push(clause) {
-            Ok(()) => Ok(()),
-            Err(refused) => {
-                self.begun = refused.value;
-                Err(ReadFault::NoMemory)
-            }
-        }
+        let clause = Vec::from_slice(alloc, &self.begun).map_err(|_| ReadFault::NoMemory)?;
+        self.whole.push(clause).map_err(|_| ReadFault::NoMemory)?;
+        self.begun.clear();
+        Ok(())
     }
 
     /// Puts a literal behind those of the clause begun. After an error it is as it was.
@@ -148,7 +144,9 @@ impl Clauses {
     }
 }
 
-/// The formula of a text, behind its header.
+/// The formula of a text, behind its header. The loop stands apart from its callers: inlined, it kept the text's address in memory and
+/// not in a register.
+#[inline(never)]
 pub fn read_clauses(alloc: Global, bytes: &[u8], header: &Header) -> Result<Formula, ReadFault>
     requires short { length bytes.now ≤ max_bytes }
     requires within { header.now.end ≤ length bytes.now }

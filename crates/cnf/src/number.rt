@@ -6,7 +6,7 @@ ghost use Rattle.std.specs.Str.Parse.{digits_value};
 ghost use Rattle.cnf.specs.Tokens.{is_word_byte};
 ghost use Rattle.cnf.specs.Words.{IsWordAt, IsNumberOf, is_plain_text};
 
-use crate::scan::word_end;
+use crate::scan::{is_word_byte, word_end};
 
 /// A size above each limit. Greater sizes are read as this one.
 const CAP: u32 = 100_000_000;
@@ -27,8 +27,25 @@ struct Digits {
     size: u32,
 }
 
-/// The longest run of digits from an index on.
+/// Digits from an index on, up to the first size that reaches the cap: so their value needs no cap of its own at each of them.
 #[inline]
+fn read_short(bytes: &[u8], from: usize) -> Digits
+    requires { from ≤ length bytes.now }
+    ensures above { from ≤ result.end }
+    ensures within { result.end ≤ length bytes.now }
+    ensures digits { all_ascii_digits (slice_range bytes.now from result.end) ≡ true }
+    ensures size { result.size ≡ digits_value 10 (slice_range bytes.now from result.end) }
+{
+    let mut end = from;
+    let mut size = 0;
+    while end < bytes.len() && bytes[end].is_ascii_digit() && size < CAP {
+        size = size * 10 + u32::from(bytes[end] - b'0');
+        end += 1;
+    }
+    Digits { end, size }
+}
+
+/// The longest run of digits from an index on.
 fn read_digits(bytes: &[u8], from: usize) -> Digits
     requires { from ≤ length bytes.now }
     ensures above { from ≤ result.end }
@@ -57,9 +74,10 @@ fn is_plain(bytes: &[u8], from: usize, end: usize, minus: bool) -> bool
     from < end && (bytes[from] != b'0' || (end == from + 1 && !minus))
 }
 
-/// The rest of a word from an index on, behind a minus or not: where it ends, whether it is a number's digits, and their value.
-#[inline]
-fn read_plain(bytes: &[u8], from: usize, minus: bool) -> (Digits, bool)
+/// What `read_plain` says, of any word.
+#[cold]
+#[inline(never)]
+fn read_long(bytes: &[u8], from: usize, minus: bool) -> (Digits, bool)
     requires { from ≤ length bytes.now }
     ensures above { from ≤ result.0.end }
     ensures within { result.0.end ≤ length bytes.now }
@@ -80,6 +98,29 @@ fn read_plain(bytes: &[u8], from: usize, minus: bool) -> (Digits, bool)
     )
 }
 
+/// The rest of a word from an index on, behind a minus or not: where it ends, whether it is a number's digits, and their value. A
+/// word of few digits and nothing else is looked at once.
+#[inline]
+fn read_plain(bytes: &[u8], from: usize, minus: bool) -> (Digits, bool)
+    requires { from ≤ length bytes.now }
+    ensures above { from ≤ result.0.end }
+    ensures within { result.0.end ≤ length bytes.now }
+    ensures all { (k : ℕ) → from ≤ k → k < result.0.end → is_word_byte (slice_index bytes.now k) ≡ true }
+    ensures end { result.0.end < length bytes.now → is_word_byte (slice_index bytes.now result.0.end) ≡ false }
+    ensures plain { result.1 ≡ is_plain_text minus (slice_range bytes.now from result.0.end) }
+    ensures size { result.1 ≡ true → result.0.size ≡ min 100000000 (digits_value 10 (slice_range bytes.now from result.0.end)) }
+{
+    let short = read_short(bytes, from);
+    if short.end < bytes.len() && is_word_byte(bytes[short.end]) {
+        return read_long(bytes, from, minus);
+    }
+    let digits = Digits {
+        end: short.end,
+        size: CAP.min(short.size),
+    };
+    (digits, is_plain(bytes, from, short.end, minus))
+}
+
 /// The word from an index on, and what it says as a number.
 #[inline]
 pub fn read_number(bytes: &[u8], start: usize) -> Number
@@ -90,21 +131,13 @@ pub fn read_number(bytes: &[u8], start: usize) -> Number
     ensures end { result.end < length bytes.now → is_word_byte (slice_index bytes.now result.end) ≡ false }
     ensures number { IsNumberOf (slice_range bytes.now start result.end) result.natural result.negative result.size }
 {
-    if bytes[start] == b'-' {
-        let (digits, plain) = read_plain(bytes, start + 1, true);
-        Number {
-            end: digits.end,
-            natural: false,
-            negative: plain,
-            size: digits.size,
-        }
-    } else {
-        let (digits, plain) = read_plain(bytes, start, false);
-        Number {
-            end: digits.end,
-            natural: plain,
-            negative: false,
-            size: digits.size,
-        }
+    let minus = bytes[start] == b'-';
+    let from = start + usize::from(minus);
+    let (digits, plain) = read_plain(bytes, from, minus);
+    Number {
+        end: digits.end,
+        natural: plain & !minus,
+        negative: plain & minus,
+        size: digits.size,
     }
 }

@@ -1,27 +1,72 @@
 //! Bytes of a text: places, blanks, comments and words.
 ghost use Rattle.std.specs.Prelude.{◌≡◌, ℕ, ◌≤◌, ◌<◌, ◌+◌, ◌≢◌, true, false, length, drop, slice_index};
+ghost use Rattle.theory.specs.Tokens as tokens;
 ghost use Rattle.theory.specs.Tokens.{lines_of, is_text};
 ghost use Rattle.cnf.specs.Faults.{place_in};
-ghost use Rattle.cnf.specs.Tokens.{Part, in_header, place_at, tokens_left, lines_tokens, is_word_byte};
+ghost use Rattle.cnf.specs.Tokens.{Part, in_header, place_at, place_behind, tokens_left, lines_tokens, is_word_byte};
 
 use crate::fault::Place;
 
+/// How many bytes are searched for LF at a time.
+const BLOCK: usize = 128;
+
+/// How many of at most 255 bytes are LF. A count that is a byte itself compiles to code that takes 16 bytes at once.
+fn count_lf(block: &[u8]) -> u8
+    requires { length block.now ≤ 255 }
+    ensures lines { (p : tokens.Place) → (place_behind p block.now).line ≡ p.line + result }
+    ensures few { result ≤ length block.now }
+{
+    let mut count = 0;
+    for byte in block {
+        if *byte == b'\n' {
+            count += 1;
+        }
+    }
+    count
+}
+
+/// The line of the byte at an index, from 1. Line and column counted together, byte by byte, took a fifth of the time in which a long
+/// text was refused.
+fn line_of(bytes: &[u8], index: usize) -> u64
+    requires { index ≤ length bytes.now }
+    ensures { result ≡ (place_at bytes.now index).line }
+{
+    let mut line = 1;
+    let mut at = 0;
+    while at < index {
+        let next = index.min(at + BLOCK);
+        line += u64::from(count_lf(&bytes[at..next]));
+        at = next;
+    }
+    line
+}
+
+/// The index of the first byte of the line of the byte at an index.
+fn line_start(bytes: &[u8], index: usize) -> usize
+    requires { index ≤ length bytes.now }
+    ensures within { result ≤ index }
+    ensures first { (place_at bytes.now result).column ≡ 1 }
+    ensures all { (k : ℕ) → result ≤ k → k < index → slice_index bytes.now k ≢ 10 }
+{
+    let mut at = index;
+    while at > 0 && bytes[at - 1] != b'\n' {
+        at -= 1;
+    }
+    at
+}
+
 /// Where the byte at an index stands. It walks over the bytes before it.
+#[cold]
+#[inline(never)]
 pub fn place_at(bytes: &[u8], index: usize) -> Place
     requires { index ≤ length bytes.now }
     ensures { place_in result ≡ place_at bytes.now index }
 {
-    let mut line = 1;
-    let mut column = 1;
-    for byte in &bytes[..index] {
-        if *byte == b'\n' {
-            line += 1;
-            column = 1;
-        } else {
-            column += 1;
-        }
+    let before = index - line_start(bytes, index);
+    Place {
+        line: line_of(bytes, index),
+        column: before as u64 + 1,
     }
-    Place { line, column }
 }
 
 /// Whether bytes are a text.

@@ -1,0 +1,14 @@
+use Rattle.std.proofs.Common.{◌≡◌, ◌-◌, ◌<◌, ◌≤◌, true, length}
+use Rattle.std.specs.List.{slice_range}
+use Rattle.std.specs.Str.{all_ascii_digits}
+use Rattle.std.specs.Str.Parse.{digits_value}
+use Rattle.cnf.proofs.number.read_short.Given as goal
+
+-- digits so far, and their value
+abbrev pub invariant-loop-end : goal.invariant-loop-end
+invariant-loop-end l =
+    (l.from ≤ l.end) × (l.end ≤ length l.bytes) × (all_ascii_digits (slice_range l.bytes l.from l.end) ≡ true)
+    × (l.size ≡ digits_value 10 (slice_range l.bytes l.from l.end)) × (l.size < 1000000000)
+
+abbrev pub decreases-loop-end : goal.decreases-loop-end
+decreases-loop-end l = length l.bytes - l.end
