@@ -11,6 +11,8 @@ use kernel::Cube;
 use std::alloc::{AllocError, Global};
 use std::test::Fail;
 
+mod hands;
+
 // all eight clauses over three variables
 const EIGHT: &[u8] =
     b"p cnf 3 8\n1 2 3 0\n1 2 -3 0\n1 -2 3 0\n1 -2 -3 0\n-1 2 3 0\n-1 2 -3 0\n-1 -2 3 0\n-1 -2 -3 0\n";
