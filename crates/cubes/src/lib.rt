@@ -11,6 +11,7 @@ mod results;
 mod solved;
 #[cfg(test)]
 mod tests;
+mod threads;
 mod tree;
 mod walk;
 
@@ -20,4 +21,5 @@ pub use hands::{Worked, work};
 pub use place::place_of;
 pub use results::{assemble, gather, solve_one};
 pub use solved::{Solved, What};
+pub use threads::solve_with;
 pub use tree::{Node, Tree};
