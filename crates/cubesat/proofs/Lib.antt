@@ -4,3 +4,4 @@ pub mod RunLemmas
 pub mod OneRun
 pub mod CheckLemmas
 pub mod CheckRuns
+pub mod StreamedLemmas

@@ -8,6 +8,7 @@ mod fault;
 mod laws;
 mod output;
 mod program;
+mod proof_input;
 mod run;
 #[cfg(test)]
 mod tests;
