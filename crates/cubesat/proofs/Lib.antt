@@ -5,3 +5,4 @@ pub mod OneRun
 pub mod CheckLemmas
 pub mod CheckRuns
 pub mod StreamedLemmas
+pub mod ProofLemmas

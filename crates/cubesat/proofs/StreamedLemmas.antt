@@ -1,20 +1,17 @@
 -- A proof that is checked as a reader gives it.
-use Rattle.std.proofs.Common.{◌≡◌, ◌⊎◌, ℕ, ◌+◌, ◌≤◌, ◌<◌, List, [], ◌++◌, length, take, Option, Some, None, IfSome, Result, Ok, Err, MatchResult, nat_lt, refl, sym, ap, subst, ◌∙◌, arith, inl, inr, append-nil, length-append, append_assoc}
-use Rattle.std.proofs.lemmas.List.{take_at, take_all, nil_from_length}
+use Rattle.std.proofs.Common.{◌≡◌, ℕ, ◌+◌, ◌≤◌, List, [], ◌++◌, length, take, Option, Some, None, IfSome, Result, MatchResult, refl, sym, ap, subst, ◌∙◌, arith, inl, inr, append-nil, length-append, append_assoc}
+use Rattle.std.proofs.lemmas.List.{take_at, take_all}
 use Rattle.std.proofs.lemmas.Bool.{cases_lt}
 use Rattle.std.specs.Io.KnownBytes.{Consumes, IsAtEnd}
 use Rattle.theory.specs.Truth as truth
 use Rattle.theory.specs.ProofReading.{ProofReading, ProofReads, max_proof_bytes, too_long}
 use Rattle.theory.specs.ProofReading as reading
-use Rattle.theory.specs.Checking.{Checked, checks, accepted}
+use Rattle.theory.specs.Checking.{accepted}
 use Rattle.lrat.specs.declared.fault.TextFault.{TextFault}
 use Rattle.lrat.specs.declared.fault.TextFault.TheVariants as texts
-use Rattle.lrat.specs.declared.check_fault.CheckFault.{CheckFault}
-use Rattle.lrat.specs.declared.check_fault.CheckFault.TheVariants as step_fault
-use Rattle.lrat.specs.declared.refusal.Refusal.TheVariants.{Text, Steps}
+use Rattle.lrat.specs.declared.refusal.Refusal.TheVariants.{Text}
 use Rattle.lrat.specs.Faults.{HasFault}
-use Rattle.lrat.specs.CheckFaults.{IsRefused}
-use Rattle.lrat.specs.Running.{IsSaid, IsCheckSaid}
+use Rattle.lrat.specs.Running.{IsSaid}
 use Rattle.lrat.specs.declared.refusal.Refusal.{Refusal}
 use Rattle.lrat.specs.Streams.{Stream, begin, feed, finish, checked, answer_to}
 use Rattle.lrat.proofs.StreamLemmas.{feed-append, feed-seen, finish-feed}

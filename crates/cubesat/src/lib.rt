@@ -9,6 +9,7 @@ mod laws;
 mod output;
 mod program;
 mod proof_input;
+mod proof_output;
 mod run;
 #[cfg(test)]
 mod tests;

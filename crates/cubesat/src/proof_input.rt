@@ -5,12 +5,12 @@ ghost use Rattle.lrat.specs.Running.{IsRunning, stream_of, vars_of};
 ghost use Rattle.cubesat.specs.Streamed.{FeedsChunk, FeedsAll, IsStop};
 
 use crate::fault::RunFault;
-use lrat::ProofStream;
+use lrat::{MAX_BYTES, ProofStream};
 use std::alloc::Global;
 use std::io::Read;
 
 /// How many bytes of a proof are read: one more than it may have.
-const MOST: usize = 4_294_967_297;
+const MOST: usize = MAX_BYTES + 1;
 
 /// How many bytes a read is given room for. Larger pieces made the check no faster.
 const CHUNK: usize = 65_536;

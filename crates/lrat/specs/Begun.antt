@@ -1,5 +1,6 @@
 -- What a word that is begun, and a line while it is read in pieces, are seen as.
-use Rattle.std.specs.Prelude.{◌≡◌, ◌≤◌, Option, Some, None}
+use Rattle.std.specs.Prelude.{◌≡◌, ◌+◌, ◌≤◌, Option, Some, None}
+use Rattle.theory.specs.ProofReading.{max_number}
 use Rattle.lrat.specs.declared.begun.Begun as declared
 use Rattle.lrat.specs.declared.begun.Begun.TheVariants as bytes
 use Rattle.lrat.specs.declared.fault.LineFault.{LineFault}
@@ -18,8 +19,8 @@ begun_of (bytes.Negative n) = negative_so_far n
 
 -- a number begun counts something, and is within the cap
 abbrev pub IsCounted : declared.Begun → Type 0
-IsCounted (bytes.Positive n) = (1 ≤ n) × (n ≤ 9223372036854775808)
-IsCounted (bytes.Negative n) = (1 ≤ n) × (n ≤ 9223372036854775808)
+IsCounted (bytes.Positive n) = (1 ≤ n) × (n ≤ max_number + 1)
+IsCounted (bytes.Negative n) = (1 ≤ n) × (n ≤ max_number + 1)
 IsCounted w = Unit {0}
 
 -- the line goes to the state, or has the fault and stays as it was

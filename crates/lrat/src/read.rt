@@ -13,8 +13,8 @@ use crate::step::Step;
 use crate::word::{LINE_FEED, Word, is_blank, read_word};
 use std::alloc::Global;
 
-/// The greatest length of a text.
-pub(crate) const MAX_BYTES: usize = 4_294_967_296;
+/// The greatest length of a proof's text, in bytes.
+pub const MAX_BYTES: usize = 4_294_967_296;
 
 /// Whether a line feed is among the bytes.
 fn has_line_feed(bytes: &[u8]) -> bool

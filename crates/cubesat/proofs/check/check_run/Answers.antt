@@ -1,6 +1,6 @@
-use Rattle.std.proofs.Common.{◌∙◌, rules}
+use Rattle.std.proofs.Common.{rules}
 use Rattle.lrat.specs.Running.{stream_of, vars_of}
-use Rattle.cubesat.proofs.CheckRuns.{CheckSays-unread, IsCheckOf-made, IsProofUnread-made}
+use Rattle.cubesat.proofs.CheckRuns.{CheckSays-unread, IsCheckOf-made}
 use Rattle.cubesat.proofs.StreamedLemmas.{said-of_text, some_reading}
 use Rattle.cubesat.proofs.check.check_run.Goals as goal
 

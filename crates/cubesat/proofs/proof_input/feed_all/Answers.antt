@@ -1,7 +1,7 @@
 use Rattle.std.proofs.Common.{arith, ◌∙◌}
 use Rattle.std.proofs.lemmas.List.{length-take}
 use Rattle.lrat.specs.Running.{stream_of, vars_of}
-use Rattle.cubesat.proofs.StreamedLemmas.{FeedsOn-none, FeedsOn-more, FeedsOn-seen, FeedsAll-full, FeedsAll-ended}
+use Rattle.cubesat.proofs.StreamedLemmas.{FeedsOn-more, FeedsOn-seen, FeedsAll-full, FeedsAll-ended}
 use Rattle.cubesat.proofs.proof_input.feed_all.Goals.{else-loop-read-test, then-loop-read-test+in_ok-count+then-count-eq0}
 use Rattle.cubesat.proofs.proof_input.feed_all.Goals as goal
 

@@ -1,6 +1,6 @@
 use Rattle.std.proofs.Common.{◌-◌, ◌≤◌, take, length}
 use Rattle.std.specs.Io.KnownBytes.{Appends}
-use Rattle.cubesat.proofs.output.write_text.Given as goal
+use Rattle.cubesat.proofs.output.write_bytes.Given as goal
 
 -- so much of the text is written
 abbrev pub invariant-loop-written : goal.invariant-loop-written
