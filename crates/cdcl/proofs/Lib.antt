@@ -10,3 +10,4 @@ pub mod MarkedSets
 pub mod JoinedSets
 pub mod TakenClauses
 pub mod SeenVariables
+pub mod Beginnings

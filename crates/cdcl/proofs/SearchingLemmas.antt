@@ -1,9 +1,9 @@
 -- What a search keeps from step to step, and why it ends: with each step a conflict more is counted, or the trail is longer.
-use Rattle.std.proofs.Common.{◌≡◌, ℕ, ◌≤◌, false, Result, Ok, Err, IfOk, OnOk, if◌then◌else◌, List, [], ◌∷◌, ◌++◌, Option, Some, ◌∙◌}
+use Rattle.std.proofs.Common.{◌≡◌, ℕ, ◌≤◌, false, Result, Ok, Err, IfOk, OnOk, if◌then◌else◌, List, Option, Some}
 use Rattle.theory.specs.Literals.{Clause, negations}
 use Rattle.theory.specs.Truth.{IsOver}
 use Rattle.theory.specs.Trails.{Trail, literals, current_level, up_to}
-use Rattle.theory.specs.Propagation.{Closed, quiet, Closes, grows, rests, unit_entry, least_false}
+use Rattle.theory.specs.Propagation.{Closed, Closes, least_false}
 use Rattle.theory.specs.Lawful.{IsLawful, cube_of}
 use Rattle.theory.specs.Learnable.{IsLearnable}
 use Rattle.theory.specs.Learning.{learn, back_level}
@@ -15,15 +15,16 @@ use Rattle.theory.proofs.OpenTrails.{IsOpenBelow-Closes}
 use Rattle.theory.proofs.OverVariables.{AreOver-from_IsOver, IsOver-from_AreOver, IsOver-left}
 use Rattle.theory.proofs.RefutedCubes.{AreOver-Closes}
 use Rattle.kernel.specs.State.{State}
-use Rattle.cdcl.specs.Searching.{IsSearching, IsStep, search_of, next_of}
+use Rattle.cdcl.specs.Searching.{IsSearching, IsStep, GoesOn, search_of, next_of}
 use Rattle.cdcl.specs.declared.outcome.Outcome.{Outcome}
-use Rattle.cdcl.specs.declared.solve.Search.{Search}
+use Rattle.cdcl.specs.declared.search.Search.{Search}
 
 -- propagation keeps it
-pub IsSearching-Closes : (k l : State) (a : Closed) → IsSearching k → l.vars ≡ k.vars → l.clauses ≡ k.clauses → l.short ≡ false → Closes k.clauses k.trail a l.trail → IsSearching l
-IsSearching-Closes k l a h vars clauses memory closes = record {
+pub IsSearching-Closes : (k l : State) (a : Closed) → IsSearching k → l.vars ≡ k.vars → l.clauses ≡ k.clauses → l.first ≡ k.first → l.short ≡ false → Closes k.clauses k.trail a l.trail → IsSearching l
+IsSearching-Closes k l a h vars clauses first memory closes = record {
   has_memory = memory;
   few = rw vars h.few;
+  within = rw (first, clauses) h.within;
   lawful = rw clauses (IsLawful-Closes k.clauses k.trail l.trail a closes h.lawful);
   open_below = rw clauses (IsOpenBelow-Closes k.clauses k.trail l.trail a closes h.open_below);
   clauses_over = rw (vars, clauses) h.clauses_over;
@@ -45,15 +46,14 @@ may_learn k l c level n h above clash clause back went =
 
 -- a step from what propagation left
 pub IsStep-from : {E : Type 0} (budget : ℕ) (old new middle : Search) (a : Closed) (r : Result (Option Outcome) E) → Closes old.kernel.clauses old.kernel.trail a middle.kernel.trail
-    → middle.kernel.vars ≡ old.kernel.vars → search_of middle ≡ record (search_of old) { trail = middle.kernel.trail }
-    → IfOk r (λ o. after middle.kernel.vars budget (search_of middle) a ≡ next_of o new) → OnOk r ((new.kernel.vars ≡ middle.kernel.vars) × (new.kernel.short ≡ false))
-    → IfOk r (λ o. IsStep budget old o new)
-IsStep-from budget old new middle a (Ok o) closes vars same next kept = record {
+    → (middle.kernel.vars ≡ old.kernel.vars) × (middle.kernel.clauses ≡ old.kernel.clauses) × (middle.kernel.first ≡ old.kernel.first)
+    → search_of middle ≡ record (search_of old) { trail = middle.kernel.trail }
+    → IfOk r (λ o. after middle.kernel.vars budget (search_of middle) a ≡ next_of o new) → OnOk r (GoesOn middle.kernel new.kernel) → IfOk r (λ o. IsStep budget old o new)
+IsStep-from budget old new middle a (Ok o) closes same_kernel same next kept = record {
   answer = a;
   trail = middle.kernel.trail;
   closes = closes;
-  next = rw (vars, same) at next;
-  vars = kept.0 ∙ vars;
-  has_memory = kept.1;
+  next = rw (same_kernel.0, same) at next;
+  goes_on = rw (same_kernel.0, same_kernel.1, same_kernel.2) at kept;
 }
-IsStep-from budget old new middle a (Err e) closes vars same next kept = tt
+IsStep-from budget old new middle a (Err e) closes same_kernel same next kept = tt

@@ -1,9 +1,7 @@
 -- A step of a search, as the definition of a search has it.
-use Rattle.std.proofs.Common.{◌≡◌, ℕ, ◌<◌, ◌≤◌, false, List, [], length, All, ap, Some, None, subst, refl, arith}
-use Rattle.theory.specs.Literals.{Literal, IsDistinctFrom}
-use Rattle.theory.specs.Truth.{Formula, IsOver}
-use Rattle.theory.specs.Trails.{literals, cube_trail}
-use Rattle.theory.specs.Reading.{max_vars}
+use Rattle.std.proofs.Common.{◌≡◌, ℕ, ◌<◌, ◌≤◌, length, take, ap, Some, None, ◌∙◌, refl, arith}
+use Rattle.std.proofs.lemmas.List.{length-take}
+use Rattle.theory.specs.Trails.{literals}
 use Rattle.theory.specs.Search.{RunsFrom, stops, steps, first_clauses}
 use Rattle.theory.specs.Search as definition
 use Rattle.theory.specs.Lawful.{IsLawful}
@@ -12,16 +10,13 @@ use Rattle.theory.proofs.SearchSteps.{Closes-Answers}
 use Rattle.theory.proofs.OverVariables.{AreOver, AreOver-from_IsOver, IsOver-from_AreOver}
 use Rattle.theory.proofs.RefutedCubes.{AreOver-Closes}
 use Rattle.theory.proofs.LawfulTrails.{IsLawful-Closes}
-use Rattle.theory.proofs.OpenTrails.{IsOpenBelow-cube_trail, kept-step}
-use Rattle.theory.specs.Results.{OutcomeSays}
-use Rattle.theory.proofs.OutcomeLemmas.{Runs-says}
-use Rattle.theory.proofs.TrailLists.{literals-cube}
+use Rattle.theory.proofs.OpenTrails.{kept-step}
 use Rattle.kernel.specs.State.{State}
 use Rattle.cdcl.specs.Outcome.{outcome_of}
-use Rattle.cdcl.specs.Searching.{IsSearching, IsStep, search_of}
+use Rattle.cdcl.specs.Searching.{IsSearching, IsStep, GoesOn, search_of}
 use Rattle.cdcl.specs.declared.outcome.Outcome.{Outcome}
-use Rattle.cdcl.specs.declared.solve.Search.{Search}
-use Rattle.cdcl.proofs.Progress.{Progresses, after-Progresses, length-Closes, remaining, IsDistinctFrom-lawful}
+use Rattle.cdcl.specs.declared.search.Search.{Search}
+use Rattle.cdcl.proofs.Progress.{Progresses, after-Progresses, length-Closes, remaining}
 
 -- a step that ends
 pub IsStep-ends : (V budget : ℕ) (s t : Search) (o : Outcome) → s.kernel.vars ≡ V → IsStep budget s (Some o) t → RunsFrom V budget (search_of s) (outcome_of o)
@@ -31,17 +26,30 @@ IsStep-ends V budget s t o vars step = stops step.closes (rw vars at step.next)
 pub IsStep-leads : (V budget : ℕ) (s t : Search) (o : definition.Outcome) → s.kernel.vars ≡ V → IsStep budget s None t → RunsFrom V budget (search_of t) o → RunsFrom V budget (search_of s) o
 IsStep-leads V budget s t o vars step more = steps step.closes (rw vars at step.next) more
 
+-- the first clauses are still there
+within-GoesOn : (k l : State) → k.first ≤ length k.clauses → GoesOn k l → l.first ≤ length l.clauses
+within-GoesOn k l within goes =
+    let before = length-take k.first k.clauses in
+    let now = length-take k.first l.clauses in
+    let same : length (take k.first l.clauses) ≡ length (take k.first k.clauses) = ap length goes.2 in
+    let first = goes.1 in
+    omega arith
+
+pub GoesOn-trans : (k l m : State) → GoesOn k l → GoesOn l m → GoesOn k m
+GoesOn-trans k l m one two = (two.0 ∙ one.0, two.1 ∙ one.1, (rw one.1 at two.2) ∙ one.2, two.3)
+
 -- what such a step keeps
 pub IsStep-keeps : (budget : ℕ) (s t : Search) → IsSearching s.kernel → s.conflicts < budget → IsStep budget s None t
     → IsSearching t.kernel × (t.conflicts < budget) × (remaining s.kernel.vars budget t.conflicts t.kernel.trail < remaining s.kernel.vars budget s.conflicts s.kernel.trail)
 IsStep-keeps budget s t h counted step = (
   record {
-    has_memory = step.has_memory;
-    few = rw step.vars h.few;
+    has_memory = step.goes_on.3;
+    few = rw step.goes_on.0 h.few;
+    within = within-GoesOn s.kernel t.kernel h.within step.goes_on;
     lawful = kept.0;
     open_below = kept.1;
-    clauses_over = rw step.vars made.clauses_over;
-    trail_over = rw step.vars (IsOver-from_AreOver s.kernel.vars (literals t.kernel.trail) made.trail_over);
+    clauses_over = rw step.goes_on.0 made.clauses_over;
+    trail_over = rw step.goes_on.0 (IsOver-from_AreOver s.kernel.vars (literals t.kernel.trail) made.trail_over);
   },
   made.counted,
   less,
@@ -65,25 +73,3 @@ IsStep-keeps budget s t h counted step = (
         let falls : remaining s.kernel.vars budget t.conflicts t.kernel.trail < remaining s.kernel.vars budget s.conflicts step.trail = made.less in
         let longer = length-Closes s.kernel.clauses s.kernel.trail step.trail step.answer step.closes in
         omega arith
-
--- what the search of a cube begins with
-pub IsSearching-begin : (F : Formula) (Q : List Literal) (k : State) → k ≡ record { vars = F.vars; first = length (first_clauses F); clauses = first_clauses F; trail = cube_trail Q; short = false }
-    → IsLawful k.clauses k.trail × IsOver k.vars (literals k.trail) × All (IsOver k.vars) k.clauses → k.vars ≤ max_vars → IsSearching k
-IsSearching-begin F Q k opened lawful few = record {
-  has_memory = ap (λ (s : State). s.short) opened;
-  few = omega arith;
-  lawful = lawful.0;
-  open_below = rw opened (IsOpenBelow-cube_trail (first_clauses F) Q);
-  clauses_over = lawful.2;
-  trail_over = lawful.1;
-}
-
-pub begin-leads : (F : Formula) (B : ℕ) (Q : List Literal) (s : definition.Search) (o : definition.Outcome) → s ≡ definition.begin F Q → RunsFrom F.vars B s o → definition.Runs F B Q o
-begin-leads F B Q s o same h = subst (λ (t : definition.Search). RunsFrom F.vars B t o) same h
-
--- what the outcome says, as the search was begun from a kernel of the formula and the cube
-pub begun-says : (F : Formula) (B : ℕ) (Q : List Literal) (k : State) (o : definition.Outcome) → k ≡ record { vars = F.vars; first = length (first_clauses F); clauses = first_clauses F; trail = cube_trail Q; short = false }
-    → IsLawful k.clauses k.trail × IsOver k.vars (literals k.trail) × All (IsOver k.vars) k.clauses → IsOver F.vars Q → definition.Runs F B Q o → OutcomeSays F Q o
-begun-says F B Q k o opened lawful over runs =
-    let all = rw opened at lawful in
-    Runs-says F B Q o all.2 (subst (IsDistinctFrom []) (literals-cube Q) (IsDistinctFrom-lawful (first_clauses F) [] (cube_trail Q) all.0)) over runs

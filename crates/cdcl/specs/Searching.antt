@@ -1,27 +1,54 @@
 -- The state of a search, as the definition of a search has it, and its steps.
-use Rattle.std.specs.Prelude.{◌≡◌, ℕ, ◌<◌, ◌^◌, false, Option, Some, None, All}
-use Rattle.theory.specs.Truth.{IsOver}
+use Rattle.std.specs.Prelude.{◌≡◌, ℕ, ◌<◌, ◌≤◌, ◌^◌, Bool, false, Option, Some, None, List, length, take, All}
+use Rattle.theory.specs.Literals.{Literal}
+use Rattle.theory.specs.Truth.{Formula, IsOver}
+use Rattle.theory.specs.Reading.{max_vars}
 use Rattle.theory.specs.Trails.{Trail, literals}
 use Rattle.theory.specs.Propagation.{Closed, Closes}
 use Rattle.theory.specs.Lawful.{IsLawful}
 use Rattle.theory.specs.Learnable.{IsOpenBelow}
 use Rattle.theory.specs.Search as definition
+use Rattle.theory.specs.Search.{first_clauses}
 use Rattle.kernel.specs.State.{State}
 use Rattle.cdcl.specs.declared.outcome.Outcome.{Outcome}
-use Rattle.cdcl.specs.declared.solve.Search.{Search}
+use Rattle.cdcl.specs.declared.search.Search.{Search}
 use Rattle.cdcl.specs.Outcome.{outcome_of}
 
 abbrev pub search_of : Search → definition.Search
 search_of s = record { clauses = s.kernel.clauses; trail = s.kernel.trail; conflicts = s.conflicts; decided = s.decided; lines = s.lines.items }
 
+-- what a solver is seen as: which formula it solves cubes of, and whether it has met want of memory
+pub record Solving : Type 0 where
+  pub formula : Formula
+  pub short : Bool
+
+-- the kernel may go over to a cube of the formula
+pub record IsReady (F : Formula) (k : State) : Type 0 where
+  pub has_memory : k.short ≡ false
+  pub vars : k.vars ≡ F.vars
+  pub few : F.vars ≤ max_vars
+  pub first : k.first ≡ length (first_clauses F)
+  pub clauses : take k.first k.clauses ≡ first_clauses F
+
 -- what a search keeps of its kernel from step to step
 pub record IsSearching (k : State) : Type 0 where
   pub has_memory : k.short ≡ false
   pub few : k.vars < 2 ^ 31
+  pub within : k.first ≤ length k.clauses
   pub lawful : IsLawful k.clauses k.trail
   pub open_below : IsOpenBelow k.clauses k.trail
   pub clauses_over : All (IsOver k.vars) k.clauses
   pub trail_over : IsOver k.vars (literals k.trail)
+
+-- a search goes on with the kernel, whose first clauses stay
+abbrev pub GoesOn : State → State → Type 0
+GoesOn old new = (new.vars ≡ old.vars) × (new.first ≡ old.first) × (take old.first new.clauses ≡ take old.first old.clauses) × (new.short ≡ false)
+
+-- the search of the formula's cube Q begins
+pub record Begins (F : Formula) (Q : List Literal) (s : Search) : Type 0 where
+  pub ready : IsReady F s.kernel
+  pub searching : IsSearching s.kernel
+  pub begun : search_of s ≡ definition.begin F Q
 
 -- what follows where a step ended with an outcome, or with none left the state
 abbrev pub next_of : Option Outcome → Search → definition.Next
@@ -34,5 +61,4 @@ pub record IsStep (budget : ℕ) (old : Search) (r : Option Outcome) (new : Sear
   pub trail : Trail
   pub closes : Closes old.kernel.clauses old.kernel.trail answer trail
   pub next : definition.after old.kernel.vars budget (record (search_of old) { trail = trail }) answer ≡ next_of r new
-  pub vars : new.kernel.vars ≡ old.kernel.vars
-  pub has_memory : new.kernel.short ≡ false
+  pub goes_on : GoesOn old.kernel new.kernel

@@ -7,12 +7,13 @@ mod halves;
 mod level;
 mod marks;
 mod outcome;
-mod solve;
+mod search;
+mod solver;
 
 pub use analysis::{Learnt, analyze};
 pub use halves::split;
 pub use outcome::{Line, Outcome, Refutation};
-pub use solve::solve_cube;
+pub use solver::{Solver, solve_cube};
 
 #[cfg(test)]
 mod tests;

@@ -1,12 +1,11 @@
 -- How a cube was reached from the root: the splits on the way, and of those whose right half it lies in, the left subtree.
 use Rattle.std.proofs.Common.{◌≡◌, ℕ, ◌<◌, ◌≤◌, length, length-append, arith, true, false, List, [], ◌∷◌, ◌++◌, Option, Some, None, refl, sym, subst, append_assoc}
 use Rattle.theory.specs.Literals.{Literal, IsVariable, has_var, positive, negative}
-use Rattle.theory.specs.Truth.{Formula, Assignment, IsOver, IsFormula}
+use Rattle.theory.specs.Truth.{Formula, Assignment, IsOver}
 use Rattle.theory.specs.Search.{Runs, exhausted, model}
 use Rattle.theory.specs.Trees.{Tree, split, IsTree, first_model, IsFirstLeaf, here, on_left, on_right, Node, split_on, nodes_of, false_half, true_half}
 use Rattle.theory.specs.Lawful.{are_distinct}
 use Rattle.theory.proofs.OverVariables.{AreOver, AreOver-snoc, IsOver-from_AreOver, AreOver-from_IsOver}
-use Rattle.theory.proofs.RefutedCubes.{Runs-exhausted}
 use Rattle.theory.proofs.DistinctLiterals.{length-distinct}
 use Rattle.theory.proofs.TrailEntries.{are_distinct-push}
 use Rattle.cubes.specs.Next.{next_cube}
@@ -142,8 +141,3 @@ IsReached-room F B Q nodes x r says =
 
 pub length-reached : (F : Formula) (B : ℕ) (Q : List Literal) (nodes : List Node) → IsReached F B Q nodes → length Q ≤ F.vars
 length-reached F B Q nodes r = length-distinct F.vars Q (IsReached-distinct F B Q nodes r) (AreOver-from_IsOver F.vars Q (IsReached-over F B Q nodes r))
-
--- a reached cube is exhausted in a variable that isn't in it
-pub IsReached-exhausted : (F : Formula) (B : ℕ) (Q : List Literal) (nodes : List Node) (x : ℕ) → IsFormula F → IsReached F B Q nodes → Runs F B Q (exhausted x) → IsVariable F.vars x × (has_var Q x ≡ false)
-IsReached-exhausted F B Q nodes x formed r runs =
-    Runs-exhausted F B Q x formed (IsReached-distinct F B Q nodes r) (AreOver-from_IsOver F.vars Q (IsReached-over F B Q nodes r)) runs

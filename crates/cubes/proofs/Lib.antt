@@ -2,4 +2,6 @@ pub mod NextLemmas
 pub mod Remaining
 pub mod Frames
 pub mod PlaceLemmas
-pub mod SolvedLemmas
+pub mod KnownLemmas
+pub mod WalkLemmas
+pub mod WholeWalks

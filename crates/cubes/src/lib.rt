@@ -1,6 +1,7 @@
 //! The tree of splits over one cube's search: which cubes are solved, and the result that they give together.
 #![tactic(auto)]
 
+mod known;
 mod next;
 mod place;
 mod results;
@@ -8,8 +9,9 @@ mod solved;
 #[cfg(test)]
 mod tests;
 mod tree;
+mod walk;
 
 pub use place::place_of;
-pub use results::{gather, solve_one};
+pub use results::{assemble, gather, solve_one};
 pub use solved::{Solved, What};
 pub use tree::{Node, Tree};

@@ -1,42 +1,78 @@
-//! The tree of a formula, solved from left to right.
-ghost use Rattle.std.specs.Prelude.{◌≡◌, ◌≤◌, ◌<◌, ◌^◌, false, IfOk, OnOk};
-ghost use Rattle.theory.specs.Truth.{IsOver};
+//! The tree of a formula, solved from left to right, or put together from results.
+ghost use Rattle.std.specs.Prelude.{◌≡◌, ◌≤◌, ◌<◌, ◌^◌, ℕ, false, map, IfOk, IfSome, OnOk};
+ghost use Rattle.theory.specs.Truth.{Formula, IsOver};
 ghost use Rattle.theory.specs.Search.{Runs};
+ghost use Rattle.theory.specs.Results.{OutcomeSays, IsWhole};
 ghost use Rattle.cdcl.specs.Outcome.{outcome_of};
-ghost use Rattle.cubes.specs.Solved.{AreTrue};
+ghost use Rattle.cubes.specs.Solved.{AreTrue, solved_of};
+ghost use Rattle.cubes.specs.Source.{IsSource};
 ghost use Rattle.cubes.specs.Result.{IsResultOf, Says};
 
-use crate::next::go_right;
-use crate::solved::{Known, Solved};
-use crate::tree::{Node, Tree};
-use cdcl::{Outcome, solve_cube};
-use cnf::{Formula, Lit};
+use crate::known::Known;
+use crate::solved::Solved;
+use crate::tree::Tree;
+use crate::walk::Walk;
+use cdcl::{Outcome, Solver};
+use cnf::Formula;
 use kernel::Cube;
 use std::alloc::{AllocError, Global};
 
-/// The outcome of a cube: the one that is known, or what solving it on the spot gives.
-fn outcome(
+/// The outcome of a cube, by the solver of the formula, which is made where there is none yet.
+pub(crate) fn solve(
     alloc: Global,
     formula: &Formula,
-    cube: &Cube,
     budget: u32,
-    known: &mut Known,
+    cube: &Cube,
+    solver: &mut Option<Solver>,
 ) -> Result<Outcome, AllocError>
     requires budget { (1 ≤ budget) × (budget ≤ 100000) }
     requires over { IsOver formula.now.vars cube.now }
-    requires known { AreTrue formula.now budget known.old.results.items }
+    requires solver { IfSome solver.old (λ s. s.formula ≡ formula.now) }
     ensures runs { IfOk result (λ o. Runs formula.now budget cube.now (outcome_of o)) }
-    ensures kept { OnOk result (AreTrue formula.now budget known.new.results.items) }
+    ensures says { IfOk result (λ o. OutcomeSays formula.now cube.now (outcome_of o)) }
+    ensures kept { OnOk result (IfSome solver.new (λ s. s.formula ≡ formula.now)) }
 {
-    match known.take(cube) {
-        Some(outcome) => Ok(outcome),
-        None => solve_cube(alloc, formula, cube, budget),
+    let mut ready = match solver.take() {
+        Some(solver) => solver,
+        None => Solver::open(alloc, formula)?,
+    };
+    let outcome = ready.solve(cube, budget)?;
+    *solver = Some(ready);
+    Ok(outcome)
+}
+
+/// Where the outcomes of cubes come from: those that are known, and a solver, once one was needed.
+#[derive(Drop)]
+pub(crate) struct Source {
+    pub(crate) known: Known,
+    pub(crate) solver: Option<Solver>,
+}
+
+impl Source {
+    /// The outcome of a cube: the one that is known, or what solving it on the spot gives.
+    fn outcome(
+        &mut self,
+        alloc: Global,
+        formula: &Formula,
+        budget: u32,
+        cube: &Cube,
+    ) -> Result<Outcome, AllocError>
+        requires budget { (1 ≤ budget) × (budget ≤ 100000) }
+        requires over { IsOver formula.now.vars cube.now }
+        requires source { IsSource formula.now budget self.old }
+        ensures runs { IfOk result (λ o. Runs formula.now budget cube.now (outcome_of o)) }
+        ensures kept { OnOk result (IsSource formula.now budget self.new) }
+    {
+        match self.known.take(cube) {
+            Some(outcome) => Ok(outcome),
+            None => solve(alloc, formula, budget, cube, &mut self.solver),
+        }
     }
 }
 
 /// The result of the formula with a budget of 1 to 100,000 conflicts a cube, from results of cubes that are true: in any order, with cubes
 /// missing, skipped, repeated or foreign to the tree. It goes through the cubes from left to right and solves those on the spot that it
-/// needs and that have no outcome among the results. It fails only where a request for memory is refused.
+/// needs and that have no outcome among the results, all by one solver. It fails only where a request for memory is refused.
 pub fn gather(
     alloc: Global,
     formula: &Formula,
@@ -48,24 +84,36 @@ pub fn gather(
     ensures result { IfOk result (λ t. IsResultOf formula.now budget t) }
     ensures says { IfOk result (λ t. Says formula.now t) }
 {
-    let vars = formula.vars();
+    let _vars = formula.vars(); // it ensures what the proof needs of the formula
+    let mut source = Source {
+        known: Known::new(alloc, results)?,
+        solver: None,
+    };
+    let mut walk = Walk::start(alloc);
+    'cubes: loop {
+        let outcome = source.outcome(alloc, formula, budget, &walk.cube)?;
+        if let Some(tree) = walk.go_on(outcome)? {
+            return Ok(tree);
+        }
+    }
+}
+
+/// The result of the formula and the budget of which the results are whole: each cube of their tree has its outcome among them, or lies
+/// right of a model. Neither the formula nor the budget is asked for, and nothing is solved. It fails only where a request for memory is
+/// refused.
+pub fn assemble(alloc: Global, results: Vec<Solved>) -> Result<Tree, AllocError>
+    requires { (F : Formula) × (B : ℕ) × (F.vars < 2 ^ 31) × IsWhole F B (map solved_of results.items) }
+    ensures { IfOk result (λ t. (F : Formula) (B : ℕ) → IsWhole F B (map solved_of results.items) → IsResultOf F B t) }
+{
     let mut known = Known::new(alloc, results)?;
-    let mut nodes = Vec::new(alloc);
-    let mut cube = Cube::root(alloc);
-    loop {
-        match outcome(alloc, formula, &cube, budget, &mut known)? {
-            Outcome::Model(values) => return Ok(Tree::Model(values)),
-            Outcome::Exhausted(var) => {
-                prove!(var <= vars);
-                nodes.push(Node::Split(var))?;
-                cube.push(Lit::of(var, false))?;
-            }
-            Outcome::Refuted(refutation) => {
-                nodes.push(Node::Leaf(refutation))?;
-                if !go_right(&mut cube)? {
-                    return Ok(Tree::Refuted(nodes));
-                }
-            }
+    let mut walk = Walk::start(alloc);
+    'cubes: loop {
+        let outcome = match known.take(&walk.cube) {
+            Some(outcome) => outcome,
+            None => unreachable!(),
+        };
+        if let Some(tree) = walk.go_on(outcome)? {
+            return Ok(tree);
         }
     }
 }

@@ -1,11 +1,14 @@
 -- Cubes: one literal more, and the trail of a cube's first literals.
-use Rattle.std.proofs.Common.{◌≡◌, ℕ, zero, suc, ◌+◌, ◌<◌, false, List, [], ◌∷◌, ◌++◌, length, take, get_or, None, Some, Option, MatchOption, refl, ap, sym, subst, ◌∙◌, append_assoc, append-nil, arith}
+use Rattle.std.proofs.Common.{◌≡◌, ℕ, zero, suc, ◌+◌, ◌<◌, ◌≤◌, false, List, [], ◌∷◌, ◌++◌, length, take, get_or, None, Some, Option, MatchOption, refl, ap, sym, subst, ◌∙◌, append_assoc, append-nil, arith}
 use Rattle.std.specs.Option.{option_to_list}
 use Rattle.std.proofs.lemmas.List.{take_more, map-append}
+use Rattle.std.proofs.lemmas.List.Elements.{All-push, All-take}
+use Rattle.std.proofs.Math.Seq.{take-append_seam}
 use Rattle.theory.specs.Literals.{Literal, has_var, IsDistinctFrom, IsCube}
 use Rattle.theory.specs.Trails.{Entry, literals, cube_trail}
 use Rattle.theory.proofs.TrailLists.{literals-cube}
 use Rattle.theory.proofs.TrailEntries.{are_distinct-cube, are_distinct-push, IsCube-distinct}
+use Rattle.kernel.specs.Cubes.{AreOfVariables}
 
 pub IsCube-push : (Q : List Literal) (l : Literal) → IsCube Q → has_var Q l.var ≡ false → IsCube (Q ++ l ∷ [])
 IsCube-push Q l h free = IsCube-distinct (Q ++ l ∷ []) (are_distinct-push Q l (are_distinct-cube Q h) free)
@@ -21,6 +24,13 @@ last-is_new P (k ∷ Q) l h = subst (λ R. has_var R l.var ≡ false) (append_as
 -- a cube without its last literal is a cube
 pub IsCube-popped : (Q R : List Literal) (o : Option Literal) → IsCube Q → Q ≡ R ++ option_to_list o → IsCube R
 IsCube-popped Q R o h e = front-IsDistinctFrom [] R (option_to_list o) (subst IsCube e h)
+
+pub AreOfVariables-push : (Q : List Literal) (l : Literal) → AreOfVariables Q → 1 ≤ l.var → AreOfVariables (Q ++ l ∷ [])
+AreOfVariables-push Q l all one = All-push (λ (k : Literal). 1 ≤ k.var) Q l all one
+
+pub AreOfVariables-popped : (Q R : List Literal) (o : Option Literal) → AreOfVariables Q → Q ≡ R ++ option_to_list o → AreOfVariables R
+AreOfVariables-popped Q R o all e =
+    subst AreOfVariables (take-append_seam R (option_to_list o)) (All-take (λ (k : Literal). 1 ≤ k.var) (length R) (R ++ option_to_list o) (subst AreOfVariables e all))
 
 -- and the last literal is of another variable
 pub popped-is_new : (Q R : List Literal) (o : Option Literal) → IsCube Q → Q ≡ R ++ option_to_list o → (o ≡ None → Q ≡ [])

@@ -1,6 +1,7 @@
 //! Cubes: the parts into which a search is split.
 ghost use Rattle.std.specs.Prelude.{◌≡◌, [], ◌∷◌, ◌++◌, false, IfOk, OnOk, OnErr, MatchOption};
 ghost use Rattle.theory.specs.Literals.{IsCube, has_var};
+ghost use Rattle.kernel.specs.Cubes.{AreOfVariables};
 
 use cnf::Lit;
 use std::alloc::{AllocError, Global};
@@ -15,12 +16,13 @@ pub struct Cube {
 impl Model for Cube {
     ghost use Rattle.std.specs.Prelude.{List};
     ghost use Rattle.theory.specs.Literals.{Literal, IsCube};
+    ghost use Rattle.kernel.specs.Cubes.{AreOfVariables};
 
     ghost Value = { List Literal };
 
     ghost view = { λ a. a.lits.items };
 
-    ghost invariant = { λ a. IsCube a.lits.items };
+    ghost invariant = { λ a. IsCube a.lits.items × AreOfVariables a.lits.items };
 }
 
 impl Cube {
@@ -37,6 +39,7 @@ impl Cube {
     pub fn lits(&self) -> &[Lit]
         ensures lits { result.now ≡ self.now }
         ensures cube { IsCube self.now }
+        ensures variables { AreOfVariables self.now }
     {
         &self.lits
     }
@@ -50,6 +53,7 @@ impl Cube {
         let alloc = *self.lits.allocator();
         let mut lits = Vec::with_capacity(alloc, self.lits.len() + 1)?;
         lits.extend_from_slice(&self.lits)?;
+        let _var = lit.var(); // it ensures that it is a variable
         lits.push(lit)?;
         Ok(Cube { lits })
     }
@@ -61,6 +65,7 @@ impl Cube {
         ensures ok { OnOk result (self.new ≡ self.old ++ lit ∷ []) }
         ensures err { OnErr result (self.new ≡ self.old) }
     {
+        let _var = lit.var(); // it ensures that it is a variable
         self.lits.push(lit)?;
         Ok(())
     }

@@ -1,6 +1,10 @@
 //! Worked searches of cubes, and the halves of a cube.
+ghost use Rattle.std.specs.Prelude.{◌≡◌};
+
 use super::{EIGHT, FOUR, LEVEL_LEFT_OUT, cube_of, has_line, has_var, outcome, reads};
-use crate::{Outcome, split};
+use crate::{Outcome, Solver, split};
+use cnf::{Formula, read_formula};
+use std::alloc::{AllocError, Global};
 use std::test::Fail;
 
 /// Whether the outcome is this model.
@@ -116,6 +120,61 @@ fn one_conflict(rt: HostRuntime) -> Result<(), Fail> {
     for (cube, hints) in quarters {
         let refuted = outcome(rt.alloc(), EIGHT, &cube, 1)?;
         assert!(rt; is_refuted_from(refuted, &hints));
+    }
+    Ok(())
+}
+
+/// Whether the halves of the root, all eight clauses over three variables, come to what they come to by themselves, with two conflicts.
+fn halves_are_refuted(
+    alloc: Global,
+    formula: &Formula,
+    solver: &mut Solver,
+) -> Result<bool, AllocError>
+    requires { solver.old.formula ≡ formula.now }
+    ensures { solver.new.formula ≡ formula.now }
+{
+    let left = solver.solve(&cube_of(alloc, formula.vars(), &[-1])?, 2)?;
+    let right = solver.solve(&cube_of(alloc, formula.vars(), &[1])?, 2)?;
+    Ok(
+        is_refuted_by(left, &[2], &[1, 2], &[9, 3, 4])
+            && is_refuted_by(right, &[2], &[5, 6], &[9, 7, 8]),
+    )
+}
+
+#[test]
+fn one_solver_for_all_cubes(rt: HostRuntime) -> Result<(), Fail> {
+    let formula = read_formula(rt.alloc(), EIGHT)?;
+    let root = cube_of(rt.alloc(), formula.vars(), &[])?;
+    let mut solver = Solver::open(rt.alloc(), &formula)?;
+    assert!(rt; halves_are_refuted(rt.alloc(), &formula, &mut solver)?);
+    assert!(rt; matches!(solver.solve(&root, 2)?, Outcome::Exhausted(1)));
+    assert!(rt; halves_are_refuted(rt.alloc(), &formula, &mut solver)?);
+    for budget in [4, 1000] {
+        let Outcome::Refuted(refutation) = solver.solve(&root, budget)? else {
+            assert!(rt; false);
+            return Ok(());
+        };
+        assert_eq!(rt; refutation.lines.len(), 4);
+        assert!(rt; has_line(&refutation, 3, &[], &[10, 11, 7, 8]));
+    }
+    assert!(rt; halves_are_refuted(rt.alloc(), &formula, &mut solver)?);
+    Ok(())
+}
+
+#[test]
+fn models_in_turn(rt: HostRuntime) -> Result<(), Fail> {
+    let formula = read_formula(
+        rt.alloc(),
+        b"p cnf 3 4\n1 2 3 0\n1 2 -3 0\n-1 2 3 0\n-1 2 -3 0\n",
+    )?;
+    let mut solver = Solver::open(rt.alloc(), &formula)?;
+    for _ in 0..2 {
+        let refuted = solver.solve(&cube_of(rt.alloc(), formula.vars(), &[-1, -2])?, 1)?;
+        assert!(rt; is_refuted_from(refuted, &[1, 2]));
+        let model = solver.solve(&cube_of(rt.alloc(), formula.vars(), &[-1, 2])?, 1)?;
+        assert!(rt; is_model(model, &[false, true, false]));
+        let exhausted = solver.solve(&cube_of(rt.alloc(), formula.vars(), &[1])?, 1)?;
+        assert!(rt; matches!(exhausted, Outcome::Exhausted(2)));
     }
     Ok(())
 }

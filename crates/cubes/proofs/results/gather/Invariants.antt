@@ -1,16 +1,16 @@
-use Rattle.std.proofs.Common.{map}
-use Rattle.cubes.specs.Result.{node_of}
-use Rattle.cubes.specs.Solved.{AreTrue}
+use Rattle.std.proofs.Common.{◌+◌}
+use Rattle.cubes.specs.Source.{IsSource}
+use Rattle.cubes.specs.Walk.{nodes_of}
 use Rattle.cubes.proofs.Frames.{IsReached}
 use Rattle.cubes.proofs.Remaining.{left_from}
 use Rattle.cubes.proofs.results.gather.Given as goal
 
--- the cube is reached, with the nodes before it
-abbrev pub invariant-loop-cube : goal.invariant-loop-cube
-invariant-loop-cube l = record {
-  known : AreTrue l.formula l.budget l.known.results.items;
-  reached : IsReached l.formula l.budget l.cube (map node_of l.nodes.items);
+-- what is known is so, and the cube is reached, with the nodes before it
+abbrev pub invariant-cubes : goal.invariant-cubes
+invariant-cubes l = record {
+  source : IsSource l.formula l.budget l.source;
+  reached : IsReached l.formula l.budget l.walk.cube (nodes_of l.walk);
 }
 
-abbrev pub decreases-loop-cube : goal.decreases-loop-cube
-decreases-loop-cube l = left_from l.formula.vars l.cube
+abbrev pub decreases-cubes : goal.decreases-cubes
+decreases-cubes l = left_from (l.formula.vars + 1) l.walk.cube

@@ -1,0 +1,94 @@
+-- How the search of a cube begins, and what is so whatever it comes to.
+use Rattle.std.proofs.Common.{◌≡◌, ℕ, ◌≤◌, false, List, [], length, take, All, None, ap, sym, ◌∙◌, refl, subst, arith}
+use Rattle.std.proofs.Math.Seq.{take-length}
+use Rattle.theory.specs.Literals.{Literal, Clause, IsDistinctFrom}
+use Rattle.theory.specs.Truth.{Formula, IsOver}
+use Rattle.theory.specs.Trails.{literals, cube_trail}
+use Rattle.theory.specs.Reading.{max_vars}
+use Rattle.theory.specs.Lawful.{IsLawful}
+use Rattle.theory.specs.Results.{OutcomeSays}
+use Rattle.theory.specs.Search as definition
+use Rattle.theory.specs.Search.{first_clauses}
+use Rattle.theory.proofs.OpenTrails.{IsOpenBelow-cube_trail}
+use Rattle.theory.proofs.OutcomeLemmas.{Runs-says}
+use Rattle.theory.proofs.TrailLists.{literals-cube}
+use Rattle.kernel.specs.State.{State}
+use Rattle.cdcl.specs.Searching.{IsReady, Begins, GoesOn, search_of}
+use Rattle.cdcl.specs.declared.search.Search.{Search}
+use Rattle.cdcl.proofs.Progress.{IsDistinctFrom-lawful}
+
+take-whole : (n : ℕ) (K : List Clause) → n ≡ length K → take n K ≡ K
+take-whole n K e = ap (λ k. take k K) e ∙ take-length K
+
+-- a kernel that was just opened may go over to a cube
+pub IsReady-opened : (F : Formula) (Q : List Literal) (k : State)
+    → k ≡ record { vars = F.vars; first = length (first_clauses F); clauses = first_clauses F; trail = cube_trail Q; short = false } → k.vars ≤ max_vars → IsReady F k
+IsReady-opened F Q k opened few = rw opened (record {
+  has_memory = refl;
+  vars = refl;
+  few = rw opened at few;
+  first = refl;
+  clauses = take-length (first_clauses F);
+})
+
+-- the kernel goes over to the cube Q
+pub Begins-restart : (F : Formula) (Q : List Literal) (old : State) (s : Search) → IsReady F old → s.kernel ≡ record old { clauses = take old.first old.clauses; trail = cube_trail Q }
+    → IsLawful s.kernel.clauses s.kernel.trail → IsOver s.kernel.vars (literals s.kernel.trail) → All (IsOver s.kernel.vars) s.kernel.clauses
+    → s.conflicts ≡ 0 → s.decided ≡ None → s.lines.items ≡ [] → Begins F Q s
+Begins-restart F Q old s ready went lawful over clauses_over counted decided learnt = record {
+  ready = record {
+    has_memory = short;
+    vars = vars;
+    few = ready.few;
+    first = first;
+    clauses = take-whole s.kernel.first s.kernel.clauses (first ∙ sym (ap length clauses)) ∙ clauses;
+  };
+  searching = record {
+    has_memory = short;
+    few = let few = ready.few in let same = vars in omega arith;
+    within = let long = ap length clauses in let same = first in omega arith;
+    lawful = lawful;
+    open_below = rw (clauses, trail) (IsOpenBelow-cube_trail (first_clauses F) Q);
+    clauses_over = clauses_over;
+    trail_over = over;
+  };
+  begun = rw (clauses, trail, counted, decided, learnt) refl;
+}
+  where
+    short : s.kernel.short ≡ false
+    short = ap (λ (k : State). k.short) went ∙ ready.has_memory
+
+    vars : s.kernel.vars ≡ F.vars
+    vars = ap (λ (k : State). k.vars) went ∙ ready.vars
+
+    first : s.kernel.first ≡ length (first_clauses F)
+    first = ap (λ (k : State). k.first) went ∙ ready.first
+
+    clauses : s.kernel.clauses ≡ first_clauses F
+    clauses = ap (λ (k : State). k.clauses) went ∙ ready.clauses
+
+    trail : s.kernel.trail ≡ cube_trail Q
+    trail = ap (λ (k : State). k.trail) went
+
+-- the kernel may go over to another cube when the search has come to its end
+pub IsReady-GoesOn : (F : Formula) (k l : State) → IsReady F k → GoesOn k l → IsReady F l
+IsReady-GoesOn F k l ready goes = record {
+  has_memory = goes.3;
+  vars = goes.0 ∙ ready.vars;
+  few = ready.few;
+  first = goes.1 ∙ ready.first;
+  clauses = ap (λ n. take n l.clauses) goes.1 ∙ (goes.2 ∙ ready.clauses);
+}
+
+-- what a search that was begun runs to, is the cube's outcome
+pub Begins-runs : (F : Formula) (B : ℕ) (Q : List Literal) (s : Search) (o : definition.Outcome) → Begins F Q s → definition.RunsFrom s.kernel.vars B (search_of s) o → definition.Runs F B Q o
+Begins-runs F B Q s o begins runs = rw (begins.begun, begins.ready.vars) at runs
+
+-- what the outcome of the cube says
+pub Begins-says : (F : Formula) (B : ℕ) (Q : List Literal) (s : Search) (o : definition.Outcome) → Begins F Q s → IsOver F.vars Q → definition.RunsFrom s.kernel.vars B (search_of s) o → OutcomeSays F Q o
+Begins-says F B Q s o begins over runs =
+    let clauses : s.kernel.clauses ≡ first_clauses F = ap (λ (t : definition.Search). t.clauses) begins.begun in
+    let trail : s.kernel.trail ≡ cube_trail Q = ap (λ (t : definition.Search). t.trail) begins.begun in
+    let all : All (IsOver F.vars) (first_clauses F) = rw (clauses, begins.ready.vars) at begins.searching.clauses_over in
+    let lawful : IsLawful (first_clauses F) (cube_trail Q) = rw (clauses, trail) at begins.searching.lawful in
+    Runs-says F B Q o all (subst (IsDistinctFrom []) (literals-cube Q) (IsDistinctFrom-lawful (first_clauses F) [] (cube_trail Q) lawful)) over (Begins-runs F B Q s o begins runs)

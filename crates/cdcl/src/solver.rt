@@ -1,0 +1,89 @@
+//! Solving the cubes of a formula, one after the other.
+ghost use Rattle.std.specs.Prelude.{◌≡◌, ◌≤◌, true, false, IfOk, OnOk, OnErr, IsErr};
+ghost use Rattle.theory.specs.Truth.{IsOver};
+ghost use Rattle.theory.specs.Search.{Runs};
+ghost use Rattle.theory.specs.Results.{OutcomeSays};
+ghost use Rattle.cdcl.specs.Outcome.{outcome_of};
+
+use crate::outcome::Outcome;
+use crate::search::Search;
+use cnf::Formula;
+use kernel::Cube;
+use std::alloc::{AllocError, Global};
+use std::marker::Model;
+use std::snapshot::Snapshot;
+
+/// Solves cubes of one formula. The formula's clauses are copied once, and the room for analysis is made once, so that a cube costs what
+/// its search does and not what the formula holds. Once a call has met want of memory, each later one answers it.
+#[derive(Drop)]
+pub struct Solver {
+    search: Search,
+    // which formula it is; it is no data, and takes no room
+    formula: Snapshot<Formula>,
+    // whether a call has met want of memory
+    short: bool,
+}
+
+impl Model for Solver {
+    ghost use Rattle.std.specs.Prelude.{◌≡◌, false};
+    ghost use Rattle.cdcl.specs.Searching.{IsReady, Solving};
+
+    ghost Value = { Solving };
+
+    ghost view = { λ a. record { formula = a.formula.value; short = a.short } };
+
+    ghost invariant = { λ a. a.short ≡ false → IsReady a.formula.value a.search.kernel };
+}
+
+impl Solver {
+    /// A solver of a formula. It takes time and memory by the formula's literals and variables, and fails where that is refused.
+    pub fn open(alloc: Global, formula: &Formula) -> Result<Solver, AllocError>
+        ensures { IfOk result (λ s. s ≡ record { formula = formula.now; short = false }) }
+    {
+        Ok(Solver {
+            search: Search::open(alloc, formula)?,
+            formula: Snapshot::of(formula),
+            short: false,
+        })
+    }
+
+    /// The outcome of a cube over the formula's variables, with a budget of 1 to 100,000 conflicts: whatever cubes came before, it is the
+    /// same. It takes time by what the search does, and by the variables for a model alone. An error comes only where an earlier call has
+    /// met want of memory, or where a request for memory is refused, and from then on.
+    pub fn solve(&mut self, cube: &Cube, budget: u32) -> Result<Outcome, AllocError>
+        requires budget { (1 ≤ budget) × (budget ≤ 100000) }
+        requires over { IsOver self.old.formula.vars cube.now }
+        ensures runs { IfOk result (λ o. Runs self.old.formula budget cube.now (outcome_of o)) }
+        ensures says { IfOk result (λ o. OutcomeSays self.old.formula cube.now (outcome_of o)) }
+        ensures formula { self.new.formula ≡ self.old.formula }
+        ensures refused { OnErr result (self.new.short ≡ true) }
+        ensures has_memory { OnOk result (self.new.short ≡ false) }
+        ensures stays { self.old.short ≡ true → IsErr result }
+    {
+        if self.short {
+            return Err(AllocError);
+        }
+        self.short = true; // so it stays where one of the next calls fails
+        self.search.begin(cube)?;
+        let outcome = self.search.run(budget)?;
+        self.short = false;
+        Ok(outcome)
+    }
+}
+
+/// The outcome of one cube over the formula's variables, with a budget of 1 to 100,000 conflicts. It takes time and memory by the formula
+/// too: who has many cubes keeps a `Solver`. An error comes only where memory was refused.
+pub fn solve_cube(
+    alloc: Global,
+    formula: &Formula,
+    cube: &Cube,
+    budget: u32,
+) -> Result<Outcome, AllocError>
+    requires budget { (1 ≤ budget) × (budget ≤ 100000) }
+    requires over { IsOver formula.now.vars cube.now }
+    ensures runs { IfOk result (λ o. Runs formula.now budget cube.now (outcome_of o)) }
+    ensures says { IfOk result (λ o. OutcomeSays formula.now cube.now (outcome_of o)) }
+{
+    let mut solver = Solver::open(alloc, formula)?;
+    solver.solve(cube, budget)
+}

@@ -1,0 +1,134 @@
+-- Cubes as keys: the comparison of keys, which is that of the literals' numbers, tells cubes apart. So looking up is what it says.
+use Rattle.std.proofs.Common.{◌≡◌, ◌≢◌, ℕ, zero, suc, ◌≤◌, Bool, true, false, ◌&&◌, List, [], ◌∷◌, ◌++◌, All, Some, None, Contains, ◌⊎◌, inl, inr, refl, sym, ap, ap₂, ◌∙◌, arith, pos}
+use Rattle.std.specs.Cmp.{IsEquivalence}
+use Rattle.std.specs.Cmp.Lexicographic.{pointwise}
+use Rattle.std.specs.Prelude.{int_le}
+use Rattle.std.specs.Map.{KeepsOthers}
+use Rattle.std.proofs.Math.Dec.{leb-zero}
+use Rattle.std.proofs.lemmas.Bool.Decides.{Decides-int_eq}
+use Rattle.std.proofs.lemmas.Cmp.{int_eq_equiv, lists_equiv}
+use Rattle.std.proofs.lemmas.List.Elements.{All-head, All-tail, Contains-append_left, Contains-push, Contains-push_cases, All-contains}
+use Rattle.theory.specs.Literals.{Literal}
+use Rattle.theory.specs.Truth.{Formula}
+use Rattle.theory.specs.Search.{Runs}
+use Rattle.theory.specs.Search as search
+use Rattle.theory.specs.Results.{done, skipped, Solved, IsTrueOf}
+use Rattle.theory.proofs.Membership.{Contains-none}
+use Rattle.cnf.specs.Lits.{literal_of, number_of, signed}
+use Rattle.cnf.specs.contracts.lit.LitPartialEq.TheImpl.{ghosts}
+use Rattle.kernel.specs.Cubes.{AreOfVariables}
+use Rattle.cdcl.specs.Outcome.{outcome_of}
+use Rattle.cdcl.specs.declared.outcome.Outcome.{Outcome}
+use Rattle.cubes.specs.declared.known.Known.{Known}
+use Rattle.cubes.specs.Known.{AreKnown, AreOutcomes, known_of}
+
+not-negative : (v : ℕ) → int_le (pos 0) (pos v) ≡ true
+not-negative v = leb-zero v
+
+numbered : (positive : Bool) (v : ℕ) → 1 ≤ v → literal_of (signed positive v) ≡ record { var = v; positive = positive }
+numbered true v h = let e = not-negative v in rw e refl
+numbered false zero h = absurd (omega arith)
+numbered false (suc n) h = refl
+
+same-number : (k l : Literal) → 1 ≤ k.var → 1 ≤ l.var → number_of k ≡ number_of l → k ≡ l
+same-number k l h i e = sym (numbered k.positive k.var h) ∙ (ap literal_of e ∙ numbered l.positive l.var i)
+
+eq-same : (k l : Literal) → 1 ≤ k.var → 1 ≤ l.var → ghosts.eq k l ≡ true → k ≡ l
+eq-same k l h i e = same-number k l h i ((Decides-int_eq (number_of k) (number_of l)).0 e)
+
+eq-equiv : IsEquivalence ghosts.eq
+eq-equiv = record {
+  refl = λ k. int_eq_equiv.refl (number_of k);
+  symm = λ k l. int_eq_equiv.symm (number_of k) (number_of l);
+  congr = λ k l m. int_eq_equiv.congr (number_of k) (number_of l) (number_of m);
+}
+
+keys-equiv : IsEquivalence (pointwise ghosts.eq)
+keys-equiv = lists_equiv eq-equiv
+
+first : (a b : Bool) → a && b ≡ true → a ≡ true
+first true b h = refl
+first false b h = absurd (cc)
+
+second : (a b : Bool) → a && b ≡ true → b ≡ true
+second true b h = h
+second false b h = absurd (cc)
+
+pub keys-same : (P Q : List Literal) → AreOfVariables P → AreOfVariables Q → pointwise ghosts.eq P Q ≡ true → P ≡ Q
+keys-same [] [] p q h = refl
+keys-same [] (l ∷ Q) p q h = absurd (cc)
+keys-same (k ∷ P) [] p q h = absurd (cc)
+keys-same (k ∷ P) (l ∷ Q) p q h =
+    ap₂ (λ x xs. x ∷ xs) (eq-same k l (All-head (λ (x : Literal). 1 ≤ x.var) k P p) (All-head (λ (x : Literal). 1 ≤ x.var) l Q q) (first _ _ h)) (keys-same P Q (All-tail (λ (x : Literal). 1 ≤ x.var) k P p) (All-tail (λ (x : Literal). 1 ≤ x.var) l Q q) (second (ghosts.eq k l) (pointwise ghosts.eq P Q) h))
+
+-- what changes at one cube leaves the others
+pub known-others : (P Q : List Literal) (k n : Known) → AreOfVariables P → AreOfVariables Q → Q ≢ P
+    → KeepsOthers (λ x y. pointwise ghosts.eq x.items y.items) (λ key. pointwise ghosts.eq P key.items) k.outcomes.entries n.outcomes.entries → known_of n Q ≡ known_of k Q
+unfolding KeepsOthers
+known-others P Q k n p q other keeps = keeps (λ key. pointwise ghosts.eq Q key.items) (λ x y h. keys-equiv.congr Q x.items y.items h) (λ key h. go key.items (pointwise ghosts.eq Q key.items) refl h)
+  where
+    go : (R : List Literal) (b : Bool) → pointwise ghosts.eq Q R ≡ b → pointwise ghosts.eq P R ≡ true → pointwise ghosts.eq Q R ≡ false
+    go R true e h = absurd (other (keys-same Q P q p (keys-equiv.congr Q R P e ∙ (keys-equiv.symm R P ∙ h))))
+    go R false e h = e
+
+pub same_or_not : (P Q : List Literal) → AreOfVariables P → AreOfVariables Q → (Q ≡ P) ⊎ (Q ≢ P)
+same_or_not P Q p q = go (pointwise ghosts.eq Q P) refl
+  where
+    go : (b : Bool) → pointwise ghosts.eq Q P ≡ b → (Q ≡ P) ⊎ (Q ≢ P)
+    go true e = inl (keys-same Q P q p e)
+    go false e = inr (λ s. let own : pointwise ghosts.eq P P ≡ true = keys-equiv.refl P in let here : pointwise ghosts.eq P P ≡ false = rw s at e in cc)
+
+-- nothing is known at first
+pub AreKnown-none : (k : Known) → k.outcomes.entries ≡ [] → AreKnown [] k
+AreKnown-none k e = record {
+  found = λ Q o q h. absurd (let none : known_of k Q ≡ None = rw e refl in cc);
+  missing = λ Q o q h c. Contains-none _ c;
+}
+
+module _ (rs : List Solved) (k n : Known) (P : List Literal) (known : AreKnown rs k) where
+  -- a result without an outcome
+  pub AreKnown-skipped : (place : ℕ) → AreKnown (rs ++ record { cube = P; what = skipped place } ∷ []) k
+  AreKnown-skipped place = record {
+    found = λ Q o q h. Contains-append_left rs _ _ (known.found Q o q h);
+    missing = λ Q o q h c. go Q o q h (Contains-push_cases rs _ _ c);
+  }
+    where
+      go : (Q : List Literal) (o : search.Outcome) → AreOfVariables Q → known_of k Q ≡ None
+          → Contains rs (record { cube = Q; what = done o }) ⊎ ◌≡◌ {A = Solved} (record { cube = P; what = skipped place }) (record { cube = Q; what = done o }) → ⊥
+      go Q o q h (inl c) = known.missing Q o q h c
+      go Q o q h (inr e) = let apart : skipped place ≡ done o = ap (λ (r : Solved). r.what) e in cc
+
+  -- one outcome more
+  module _ (o : Outcome) (p : AreOfVariables P) (now : known_of n P ≡ Some o) (others : (Q : List Literal) → AreOfVariables Q → Q ≢ P → known_of n Q ≡ known_of k Q) where
+    pub AreKnown-done : AreKnown (rs ++ record { cube = P; what = done (outcome_of o) } ∷ []) n
+    AreKnown-done = record { found = λ Q a q h. find Q a q h (same_or_not P Q p q); missing = λ Q a q h c. lack Q a q h c (same_or_not P Q p q) }
+      where
+        find : (Q : List Literal) (a : Outcome) → AreOfVariables Q → known_of n Q ≡ Some a → (Q ≡ P) ⊎ (Q ≢ P)
+            → Contains (rs ++ record { cube = P; what = done (outcome_of o) } ∷ []) (record { cube = Q; what = done (outcome_of a) })
+        find Q a q h (inl e) =
+            let one : o ≡ a = (let two : known_of n P ≡ Some a = rw e at h in cc) in
+            rw (e, ← one) (Contains-push rs (record { cube = P; what = done (outcome_of o) }))
+        find Q a q h (inr other) = Contains-append_left rs _ _ (known.found Q a q (sym (others Q q other) ∙ h))
+
+        old : (Q : List Literal) (a : search.Outcome) → AreOfVariables Q → known_of k Q ≡ None → (Q ≢ P)
+            → Contains rs (record { cube = Q; what = done a }) ⊎ ◌≡◌ {A = Solved} (record { cube = P; what = done (outcome_of o) }) (record { cube = Q; what = done a }) → ⊥
+        old Q a q h other (inl c) = known.missing Q a q h c
+        old Q a q h other (inr e) = other (sym (ap (λ (r : Solved). r.cube) e))
+
+        lack : (Q : List Literal) (a : search.Outcome) → AreOfVariables Q → known_of n Q ≡ None → Contains (rs ++ record { cube = P; what = done (outcome_of o) } ∷ []) (record { cube = Q; what = done a })
+            → (Q ≡ P) ⊎ (Q ≢ P) → ⊥
+        lack Q a q h c (inl e) = let two : known_of n P ≡ None = rw e at h in cc
+        lack Q a q h c (inr other) = old Q a q (sym (others Q q other) ∙ h) other (Contains-push_cases rs _ _ c)
+
+-- what is handed out leaves the others as they were
+pub AreOutcomes-taken : (F : Formula) (B : ℕ) (k n : Known) (P : List Literal) → AreOfVariables P → known_of n P ≡ None → ((Q : List Literal) → AreOfVariables Q → Q ≢ P → known_of n Q ≡ known_of k Q)
+    → AreOutcomes F B k → AreOutcomes F B n
+AreOutcomes-taken F B k n P p gone others all Q o q h = go (same_or_not P Q p q)
+  where
+    go : (Q ≡ P) ⊎ (Q ≢ P) → Runs F B Q (outcome_of o)
+    go (inl e) = absurd (let two : known_of n P ≡ Some o = rw e at h in cc)
+    go (inr other) = all Q o q (sym (others Q q other) ∙ h)
+
+-- of true results, what is known is so
+pub AreOutcomes-known : (F : Formula) (B : ℕ) (rs : List Solved) (k : Known) → All (λ r. IsTrueOf F B r.cube r.what) rs → AreKnown rs k → AreOutcomes F B k
+AreOutcomes-known F B rs k all known Q o q h = All-contains (λ (r : Solved). IsTrueOf F B r.cube r.what) rs (record { cube = Q; what = done (outcome_of o) }) all (known.found Q o q h)

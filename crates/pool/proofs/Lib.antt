@@ -1,0 +1,13 @@
+pub mod Tallies
+pub mod DequeMoves
+pub mod RightAnswers
+pub mod WordCalls
+pub mod ListPlaces
+pub mod HandCalls
+pub mod Sharing
+pub mod Gathering
+pub mod Closings
+pub mod Sorting
+pub mod Homecoming
+pub mod NewHands
+pub mod FewHands

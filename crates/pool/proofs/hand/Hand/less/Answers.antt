@@ -1,0 +1,6 @@
+use Rattle.theory.specs.Ledger.{less}
+use Rattle.pool.proofs.HandCalls.{noted}
+use Rattle.pool.proofs.hand.Hand.less.Goals as goal
+
+pub returns-clause-noted : goal.returns-clause-noted
+returns-clause-noted c = let i = c.self.inside in noted i.number i.vars i.owner i.thieves.items i.words c.self.invariant _ (less) _ c.self.view_is c.less.ensures

@@ -1,0 +1,7 @@
+use Rattle.std.proofs.Common.{rules, ap, ◌∙◌}
+use Rattle.pool.specs.Words.{SeatView}
+use Rattle.pool.proofs.WordCalls.{says_halt}
+use Rattle.pool.proofs.seat.WordSeat.halt.Goals as goal
+
+pub fetch_max-requires : goal.fetch_max-requires
+fetch_max-requires c = let h = c.requires.hand in (search rules, search rules, says_halt _ _ _ h.0 h.1 (ap (λ (e : SeatView). e.notes.is_first) c.self.view_is ∙ h.3) (ap (λ (e : SeatView). e.notes.calls) c.self.view_is ∙ h.2))

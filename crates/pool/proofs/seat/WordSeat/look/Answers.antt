@@ -1,0 +1,7 @@
+use Rattle.std.proofs.Common.{rules, ap, ◌∙◌}
+use Rattle.pool.specs.Words.{SeatView}
+use Rattle.pool.proofs.WordCalls.{says_look}
+use Rattle.pool.proofs.seat.WordSeat.look.Goals as goal
+
+pub load-found-requires : goal.load-found-requires
+load-found-requires c = let h = c.requires.hand in (search rules, search rules, says_look _ _ _ h.0 h.1 (ap (λ (e : SeatView). e.notes.is_first) c.self.view_is ∙ h.3) (ap (λ (e : SeatView). e.notes.calls) c.self.view_is ∙ h.2))

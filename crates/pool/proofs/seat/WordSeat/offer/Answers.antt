@@ -1,0 +1,7 @@
+use Rattle.std.proofs.Common.{rules, ap, ◌∙◌}
+use Rattle.pool.specs.Words.{SeatView}
+use Rattle.pool.proofs.WordCalls.{says_offer}
+use Rattle.pool.proofs.seat.WordSeat.offer.Goals as goal
+
+pub fetch_min-requires : goal.fetch_min-requires
+fetch_min-requires c = let h = c.requires.hand in (search rules, search rules, says_offer _ _ _ h.0 h.1 (ap (λ (e : SeatView). e.notes.is_first) c.self.view_is ∙ h.3) (ap (λ (e : SeatView). e.notes.calls) c.self.view_is ∙ h.2) _ c.requires.small)

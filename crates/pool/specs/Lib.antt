@@ -1,0 +1,12 @@
+pub mod Tally
+pub mod DequeNotes
+pub mod Deque
+pub mod SeatNotes
+pub mod Words
+pub mod Ends
+pub mod Hands
+pub mod Pools
+pub mod Opening
+pub mod Closing
+pub mod Refusals
+pub mod Tests
