@@ -10,7 +10,7 @@ mod output;
 mod program;
 mod proof_input;
 mod proof_output;
-mod run;
+mod runs;
 #[cfg(test)]
 mod tests;
 mod verdict;
@@ -20,5 +20,5 @@ pub use checked_line::Checked;
 pub use fault::RunFault;
 pub use laws::runs_write_the_same;
 pub use program::command;
-pub use run::run_one;
+pub use runs::{run, run_one};
 pub use verdict::Verdict;

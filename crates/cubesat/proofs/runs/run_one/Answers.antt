@@ -2,7 +2,7 @@ use Rattle.std.proofs.Common.{map}
 use Rattle.theory.specs.Texts.{proof_text}
 use Rattle.lrat.specs.Steps.{step_of}
 use Rattle.cubesat.proofs.RunLemmas.{IsRunOf-made, RunSays-unread}
-use Rattle.cubesat.proofs.run.run_one.Goals as goal
+use Rattle.cubesat.proofs.runs.run_one.Goals as goal
 
 pub returns-in-Err : goal.returns-in-Err
 returns-in-Err g c =
