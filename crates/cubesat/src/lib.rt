@@ -8,6 +8,8 @@ mod fault;
 mod laws;
 mod output;
 mod program;
+mod proof_input;
+mod proof_output;
 mod run;
 #[cfg(test)]
 mod tests;

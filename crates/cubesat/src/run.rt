@@ -1,40 +1,51 @@
 //! A run without threads.
-ghost use Rattle.std.specs.Prelude.{◌≡◌, ◌≤◌, IfOk};
+ghost use Rattle.std.specs.Prelude.{◌≡◌, ◌≤◌, [], map, IfOk};
+ghost use Rattle.theory.specs.Texts.{proof_text};
+ghost use Rattle.lrat.specs.Steps.{step_of};
 ghost use Rattle.cubesat.specs.Run.{AreTexts, RunSays};
 
 use crate::fault::RunFault;
 use crate::output::write_text;
+use crate::proof_output::{room, write_proof};
 use crate::verdict::Verdict;
 use cnf::{Formula, read_from};
 use cubes::{Tree, solve_one};
-use join::{answer_bytes, join, proof_bytes};
+use join::{answer_bytes, join};
+use lrat::Step;
 use std::alloc::{AllocError, Global};
 use std::io::{Read, Write};
 
 /// What a run is to write.
 #[derive(Drop)]
-struct Texts {
+struct Output {
     verdict: Verdict,
-    proof: Vec<u8>,
+    proof: Vec<Step>,
+
+    /// Room for the proof's lines while they are written.
+    buffer: Vec<u8>,
     answer: Vec<u8>,
 }
 
-/// The texts for a formula.
-fn texts_of(alloc: Global, formula: &Formula, budget: u32) -> Result<Texts, AllocError>
+/// What is to be written for a formula. All memory of the run is taken here.
+fn output_of(alloc: Global, formula: &Formula, budget: u32) -> Result<Output, AllocError>
     requires { (1 ≤ budget) × (budget ≤ 100000) }
-    ensures { IfOk result (λ t. AreTexts formula.now budget t.verdict t.proof.items t.answer.items) }
+    ensures texts { IfOk result (λ o. AreTexts formula.now budget o.verdict (proof_text (map step_of o.proof.items)) o.answer.items) }
+    ensures buffer { IfOk result (λ o. o.buffer.items ≡ []) }
 {
     match solve_one(alloc, formula, budget)? {
-        Tree::Model(values) => Ok(Texts {
+        Tree::Model(values) => Ok(Output {
             verdict: Verdict::Satisfiable,
             proof: Vec::new(alloc),
+            buffer: Vec::new(alloc),
             answer: answer_bytes(alloc, formula, Some(&values))?,
         }),
         refuted => {
-            let steps = join(alloc, formula, refuted)?;
-            Ok(Texts {
+            let proof = join(alloc, formula, refuted)?;
+            let buffer = room(alloc, &proof)?;
+            Ok(Output {
                 verdict: Verdict::Unsatisfiable,
-                proof: proof_bytes(alloc, &steps)?,
+                proof,
+                buffer,
                 answer: answer_bytes(alloc, formula, None)?,
             })
         }
@@ -57,11 +68,11 @@ pub fn run_one<R: Read + Drop, W: Write, P: Write>(
         Ok(formula) => formula,
         Err(fault) => return Err(RunFault::of_read(fault)),
     };
-    let texts = match texts_of(alloc, &formula, budget) {
-        Ok(texts) => texts,
+    let mut output = match output_of(alloc, &formula, budget) {
+        Ok(output) => output,
         Err(_) => return Err(RunFault::NoMemory),
     };
-    write_text(proof, &texts.proof, RunFault::ProofWriteFailed)?;
-    write_text(answer, &texts.answer, RunFault::AnswerWriteFailed)?;
-    Ok(texts.verdict)
+    write_proof(proof, &output.proof, &mut output.buffer)?;
+    write_text(answer, &output.answer, RunFault::AnswerWriteFailed)?;
+    Ok(output.verdict)
 }

@@ -1,3 +1,6 @@
+use Rattle.std.proofs.Common.{map}
+use Rattle.theory.specs.Texts.{proof_text}
+use Rattle.lrat.specs.Steps.{step_of}
 use Rattle.cubesat.proofs.RunLemmas.{IsRunOf-made, RunSays-unread}
 use Rattle.cubesat.proofs.run.run_one.Goals as goal
 
@@ -8,9 +11,9 @@ returns-in-Err g c =
 
 pub returns : goal.returns
 returns g c = record {
-  proof = c.in-Ok-texts_of.texts.proof.items;
-  answer = c.in-Ok-texts_of.texts.answer.items;
-  run = IsRunOf-made (g.R.Read.remaining c.args.input) c.args.budget c.in-Ok.formula c.in-Ok-texts_of.texts.verdict c.in-Ok-texts_of.texts.proof.items c.in-Ok-texts_of.texts.answer.items c.in-Ok.ensures c.in-Ok-texts_of.ensures;
-  proof_written = rw c.deref.ensures.value at c.in_ok-write_text.ensures;
-  answer_written = rw c.deref-2.ensures.value at c.in_ok-write_text-2.ensures;
+  proof = proof_text (map step_of c.in-Ok-output_of.output.proof.items);
+  answer = c.in-Ok-output_of.output.answer.items;
+  run = IsRunOf-made (g.R.Read.remaining c.args.input) c.args.budget c.in-Ok.formula c.in-Ok-output_of.output.verdict (proof_text (map step_of c.in-Ok-output_of.output.proof.items)) c.in-Ok-output_of.output.answer.items c.in-Ok.ensures c.in-Ok-output_of.ensures.texts;
+  proof_written = rw c.deref.ensures.value at c.in_ok-write_proof.ensures;
+  answer_written = rw c.deref-2.ensures.value at c.in_ok-write_text.ensures;
 }
