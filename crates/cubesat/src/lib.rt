@@ -13,6 +13,7 @@ mod proof_output;
 mod runs;
 #[cfg(test)]
 mod tests;
+mod threaded;
 mod verdict;
 
 pub use check::check_run;
@@ -20,5 +21,6 @@ pub use checked_line::Checked;
 pub use fault::RunFault;
 pub use laws::runs_write_the_same;
 pub use program::command;
-pub use runs::{run, run_one};
+pub use runs::run_one;
+pub use threaded::run;
 pub use verdict::Verdict;

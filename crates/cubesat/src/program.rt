@@ -5,7 +5,7 @@ use crate::arguments::{Request, request_of};
 use crate::check::check_run;
 use crate::checked_line::Checked;
 use crate::fault::RunFault;
-use crate::runs::run;
+use crate::threaded::run;
 use crate::verdict::Verdict;
 use clap::error::ErrorKind;
 use cubes::OpenGate;

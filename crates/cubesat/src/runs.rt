@@ -1,4 +1,4 @@
-//! A run: from the bytes of a formula to those of the proof and the answer.
+//! A run without threads.
 ghost use Rattle.std.specs.Prelude.{◌≡◌, ◌≤◌, [], map, IfOk};
 ghost use Rattle.theory.specs.Texts.{proof_text};
 ghost use Rattle.lrat.specs.Steps.{step_of};
@@ -10,27 +10,25 @@ use crate::output::write_text;
 use crate::proof_output::{room, write_proof};
 use crate::verdict::Verdict;
 use cnf::{Formula, read_from};
-use cubes::{Gate, Tree, solve_one, solve_with};
+use cubes::{Tree, solve_one};
 use join::{answer_bytes, join};
 use lrat::Step;
 use std::alloc::{AllocError, Global};
 use std::io::{Read, Write};
-use std::sync::Wait;
-use std::thread::Threads;
 
 /// What a run is to write.
 #[derive(Drop)]
-struct Output {
-    verdict: Verdict,
-    proof: Vec<Step>,
+pub(crate) struct Output {
+    pub(crate) verdict: Verdict,
+    pub(crate) proof: Vec<Step>,
 
     /// Room for the proof's lines while they are written.
-    buffer: Vec<u8>,
-    answer: Vec<u8>,
+    pub(crate) buffer: Vec<u8>,
+    pub(crate) answer: Vec<u8>,
 }
 
 /// What is to be written for a formula, whose result is the tree. From here on the run takes no more memory.
-fn output_of(
+pub(crate) fn output_of(
     alloc: Global,
     formula: &Formula,
     budget: u32,
@@ -79,38 +77,6 @@ pub fn run_one<R: Read + Drop, W: Write, P: Write>(
         Err(fault) => return Err(RunFault::of_read(fault)),
     };
     let Ok(tree) = solve_one(alloc, &formula, budget) else {
-        return Err(RunFault::NoMemory);
-    };
-    let mut output = match output_of(alloc, &formula, budget, tree) {
-        Ok(output) => output,
-        Err(_) => return Err(RunFault::NoMemory),
-    };
-    write_proof(proof, &output.proof, &mut output.buffer)?;
-    write_text(answer, &output.answer, RunFault::AnswerWriteFailed)?;
-    Ok(output.verdict)
-}
-
-/// The same by 1 to 16 hands, each in a thread of its own where one can be started. Whatever the hands, the gate and the schedule, the same
-/// bytes are written.
-pub fn run<T: Threads + Wait + Sync, R: Read + Drop, W: Write, P: Write, G: Gate + Sync>(
-    rt: &T,
-    alloc: Global,
-    input: R,
-    answer: &mut W,
-    proof: &mut P,
-    budget: u32,
-    hands: usize,
-    gate: &G,
-) -> Result<Verdict, RunFault>
-    requires budget { (1 ≤ budget) × (budget ≤ 100000) }
-    requires hands { (1 ≤ hands) × (hands ≤ 16) }
-    ensures { RunSays (R.remaining input) budget (P.contents proof.old) (P.contents proof.new) (W.contents answer.old) (W.contents answer.new) result }
-{
-    let formula = match read_from(alloc, input) {
-        Ok(formula) => formula,
-        Err(fault) => return Err(RunFault::of_read(fault)),
-    };
-    let Ok(tree) = solve_with(rt, alloc, &formula, budget, hands, gate) else {
         return Err(RunFault::NoMemory);
     };
     let mut output = match output_of(alloc, &formula, budget, tree) {
