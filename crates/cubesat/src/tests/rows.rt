@@ -37,8 +37,16 @@ fn hands_agree<R: Threads + Wait + Sync>(
         let mut proof = Vec::new(alloc);
         let mut answer = Vec::new(alloc);
         let text = row.text.as_bytes();
-        let by_hands =
-            run(rt, alloc, text, &mut answer, &mut proof, row.budget, hands, &OpenGate)?;
+        let by_hands = run(
+            rt,
+            alloc,
+            text,
+            &mut answer,
+            &mut proof,
+            row.budget,
+            hands,
+            &OpenGate,
+        )?;
         let is_same = proof.as_slice() == row.proof.as_bytes()
             && answer.as_slice() == row.answer.as_bytes();
         if by_hands != verdict || !is_same {
