@@ -5,3 +5,12 @@ pub mod PlaceLemmas
 pub mod KnownLemmas
 pub mod WalkLemmas
 pub mod WholeWalks
+pub mod Carrying
+pub mod RoundParts
+pub mod WorkSteps
+pub mod HarvestParts
+pub mod CarryingSteps
+pub mod HalvesParts
+pub mod RoundEndings
+pub mod SameHands
+pub mod FreshHands

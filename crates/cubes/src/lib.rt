@@ -1,6 +1,9 @@
 //! The tree of splits over one cube's search: which cubes are solved, and the result that they give together.
 #![tactic(auto)]
 
+mod closing;
+mod gate;
+mod hands;
 mod known;
 mod next;
 mod place;
@@ -8,10 +11,15 @@ mod results;
 mod solved;
 #[cfg(test)]
 mod tests;
+mod threads;
 mod tree;
 mod walk;
 
+pub use closing::harvest;
+pub use gate::{Gate, OpenGate};
+pub use hands::{Worked, work};
 pub use place::place_of;
 pub use results::{assemble, gather, solve_one};
 pub use solved::{Solved, What};
+pub use threads::solve_with;
 pub use tree::{Node, Tree};

@@ -1,5 +1,5 @@
 //! The order in which a tree's cubes are gone through.
-ghost use Rattle.std.specs.Prelude.{◌≡◌, IfOk, Some, None, if◌then◌else◌};
+ghost use Rattle.std.specs.Prelude.{◌≡◌, ◌≤◌, IfOk, Some, None, length, drop, take, if◌then◌else◌};
 ghost use Rattle.cubes.specs.Next.{next_cube};
 
 use kernel::Cube;
@@ -10,10 +10,21 @@ use std::alloc::AllocError;
 pub(crate) fn go_right(cube: &mut Cube) -> Result<bool, AllocError>
     ensures { IfOk result (λ found. next_cube cube.old ≡ (if found then Some cube.new else None)) }
 {
-    while let Some(lit) = cube.pop() {
-        if !lit.positive() {
-            cube.push(lit.negated())?;
-            return Ok(true);
+    go_right_below(cube, 0)
+}
+
+/// The same below a cube of this many literals, with which this one begins.
+pub(crate) fn go_right_below(cube: &mut Cube, depth: usize) -> Result<bool, AllocError>
+    requires { depth ≤ length cube.old }
+    ensures next { IfOk result (λ found. next_cube (drop depth cube.old) ≡ (if found then Some (drop depth cube.new) else None)) }
+    ensures front { IfOk result (λ found. take depth cube.new ≡ take depth cube.old) }
+{
+    'below: while cube.lits().len() > depth {
+        if let Some(lit) = cube.pop() {
+            if !lit.positive() {
+                cube.push(lit.negated())?;
+                return Ok(true);
+            }
         }
     }
     Ok(false)

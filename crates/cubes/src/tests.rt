@@ -4,12 +4,14 @@ ghost use Rattle.theory.specs.Literals.{has_var};
 ghost use Rattle.theory.specs.Truth.{IsOver};
 ghost use Rattle.cubes.specs.Solved.{AreTrue};
 
-use crate::{Node, Solved, Tree, What, gather, place_of, solve_one};
+use crate::{Node, OpenGate, Solved, Tree, What, gather, place_of, solve_one, solve_with};
 use cdcl::{Outcome, Refutation, solve_cube};
 use cnf::{Formula, Lit, read_formula};
 use kernel::Cube;
 use std::alloc::{AllocError, Global};
 use std::test::Fail;
+
+mod hands;
 
 // all eight clauses over three variables
 const EIGHT: &[u8] =
@@ -195,6 +197,25 @@ fn solves_alone(rt: HostRuntime) -> Result<(), Fail> {
     assert!(rt; has_nodes(&tree, &NODES));
     let formula = read_formula(rt.alloc(), b"p cnf 2 1\n1 2 0\n")?;
     assert!(rt; is_model(&solve_one(rt.alloc(), &formula, 1000)?, &[false, true]));
+    Ok(())
+}
+
+#[test]
+fn solves_by_many_hands(rt: HostRuntime) -> Result<(), Fail> {
+    let formula = read_formula(rt.alloc(), EIGHT)?;
+    for hands in [1, 2, 4, 8, 16] {
+        for _ in 0..20 {
+            let tree = solve_with(&rt, rt.alloc(), &formula, 1, hands, &OpenGate)?;
+            assert!(rt; has_nodes(&tree, &NODES));
+        }
+    }
+    let formula = read_formula(rt.alloc(), b"p cnf 3 2\n1 2 3 0\n1 2 -3 0\n")?;
+    for hands in [1, 2, 8] {
+        for _ in 0..20 {
+            let tree = solve_with(&rt, rt.alloc(), &formula, 1, hands, &OpenGate)?;
+            assert!(rt; is_model(&tree, &[false, true, false]));
+        }
+    }
     Ok(())
 }
 

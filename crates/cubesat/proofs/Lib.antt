@@ -4,3 +4,5 @@ pub mod RunLemmas
 pub mod OneRun
 pub mod CheckLemmas
 pub mod CheckRuns
+pub mod StreamedLemmas
+pub mod ProofLemmas

@@ -1,13 +1,16 @@
 -- What a run says, by what its parts answered.
-use Rattle.std.proofs.Common.{◌≡◌, ℕ, true, false, List, Option, Result, Ok, Err, MatchResult, inl, inr, ◌⊎◌}
+use Rattle.std.proofs.Common.{◌≡◌, ℕ, true, false, List, Option, Result, Ok, Err, MatchResult, take, inl, inr, ◌⊎◌}
 use Rattle.std.specs.Result.{is_err}
+use Rattle.std.specs.Io.KnownBytes.{Appends}
 use Rattle.theory.specs.Truth as truth
 use Rattle.cnf.specs.declared.fault.ReadFault.{ReadFault}
 use Rattle.cnf.specs.declared.fault.ReadFault.TheVariants as reading
 use Rattle.cnf.specs.Faults.{IsReadOf}
 use Rattle.cubesat.specs.declared.verdict.Verdict.{Verdict}
 use Rattle.cubesat.specs.Faults.{fault_of_read}
-use Rattle.cubesat.specs.Run.{AreTexts, IsRunOf, IsUnreadable, RunSays}
+use Rattle.cubesat.specs.declared.fault.RunFault.{RunFault}
+use Rattle.cubesat.specs.declared.fault.RunFault.TheVariants.{ProofWriteFailed}
+use Rattle.cubesat.specs.Run.{AreTexts, IsRunOf, IsUnreadable, StopsInProof, RunSays}
 use Rattle.cubesat.proofs.WrittenLemmas.{Keeps-same}
 
 -- where a write failed, and where it didn't
@@ -44,3 +47,9 @@ RunSays-unread known p a B (reading.TooManyClauses x) h = unreadable known p a (
 RunSays-unread known p a B (reading.TooFewClauses x) h = unreadable known p a (reading.TooFewClauses x) h (λ e. cc)
 RunSays-unread known p a B (reading.ClauseNotEnded x) h = unreadable known p a (reading.ClauseNotEnded x) h (λ e. cc)
 RunSays-unread known p a B (reading.OverLimit x) h = unreadable known p a (reading.OverLimit x) h (λ e. cc)
+
+-- a run whose proof could not be written
+pub RunSays-stopped : (known : Option (List ℕ)) (B : ℕ) (p q a : Option (List ℕ)) (r : Result Verdict RunFault) (e : RunFault) (verdict : Verdict) (proof answer : List ℕ) → r ≡ Err e → IsRunOf known B verdict proof answer
+    → (e ≡ ProofWriteFailed) × (count : ℕ) × Appends p q (take count proof) → RunSays known B p q a a r
+RunSays-stopped known B p q a r e verdict proof answer f run h =
+    rw (f, h.0) (let stops : StopsInProof known B p q a a = record { verdict = verdict; proof = proof; answer = answer; run = run; count = h.1; proof_written = h.2; answer_kept = Keeps-same a } in stops)

@@ -4,7 +4,7 @@ use Rattle.cubesat.specs.declared.arguments.Request.{Request}
 use Rattle.cubesat.specs.declared.arguments.Request.TheVariants.{Solve, Check}
 
 abbrev pub IsRequest : Request → Type 0
-IsRequest (Solve budget proof file) = (1 ≤ budget) × (budget ≤ 100000)
+IsRequest (Solve budget hands proof file) = (1 ≤ budget) × (budget ≤ 100000) × (1 ≤ hands) × (hands ≤ 16)
 IsRequest (Check formula proof) = Unit {0}
 
 abbrev pub IsWithin : Option Request → Type 0

@@ -3,3 +3,4 @@ pub mod Faults
 pub mod Run
 pub mod Arguments
 pub mod Check
+pub mod Streamed

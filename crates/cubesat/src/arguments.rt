@@ -9,12 +9,16 @@ use std::alloc::{AllocError, Global};
 /// The largest budget.
 const MAX_BUDGET: u32 = 100_000;
 
+/// The most hands.
+const MAX_HANDS: u32 = 16;
+
 /// What the command line asks for.
 #[derive(Clone, Copy, Debug)]
 pub(crate) enum Request<'a> {
     /// Decide the formula in `file`, and write its proof to `proof`.
     Solve {
         budget: u32,
+        hands: usize,
         proof: &'a str,
         file: &'a str,
     },
@@ -32,6 +36,12 @@ fn solve_command<'a>(alloc: Global) -> Result<Command<'a>, AllocError> {
         .value_parser(clap::value_parser!(u32).range(1..=100_000))
         .default_value("1000")
         .help("Conflicts that a cube may have before it is split, 1 to 100000");
+    let hands = Arg::new(alloc, "hands")
+        .long("hands")
+        .value_name("N")
+        .value_parser(clap::value_parser!(u32).range(1..=16))
+        .default_value("1")
+        .help("Hands that solve cubes side by side, 1 to 16");
     let proof = Arg::new(alloc, "proof")
         .long("proof")
         .value_name("PATH")
@@ -43,6 +53,7 @@ fn solve_command<'a>(alloc: Global) -> Result<Command<'a>, AllocError> {
     Command::new(alloc, "solve")
         .about("Decide a formula: status 10 satisfiable, 20 unsatisfiable, 1 on a fault")
         .arg(budget)?
+        .arg(hands)?
         .arg(proof)?
         .arg(file)
 }
@@ -74,13 +85,15 @@ fn solve_request<'a>(matches: &ArgMatches<'a>) -> Option<Request<'a>>
     ensures { IsWithin result }
 {
     let budget = matches.get_one::<u32>("budget")?;
+    let hands = matches.get_one::<u32>("hands")?;
     let proof = matches.get_str("proof")?;
     let file = matches.get_str("FILE")?;
-    if budget < 1 || budget > MAX_BUDGET {
+    if budget < 1 || budget > MAX_BUDGET || hands < 1 || hands > MAX_HANDS {
         return None;
     }
     Some(Request::Solve {
         budget,
+        hands: hands as usize,
         proof,
         file,
     })

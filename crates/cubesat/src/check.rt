@@ -4,16 +4,15 @@ ghost use Rattle.cubesat.specs.Check.{CheckSays};
 use crate::checked_line::{Checked, checked_line};
 use crate::fault::RunFault;
 use crate::output::write_text;
-use cnf::{ReadFault, read_bytes, read_from};
+use crate::proof_input::feed_all;
+use cnf::read_from;
+use lrat::ProofStream;
 use std::alloc::Global;
 use std::io::{Read, Write};
 
-/// How many bytes of a proof are read: one more than it may have.
-const MOST: usize = 4_294_967_297;
-
 /// Checks a proof against the formula of a DIMACS text, by the checker of `lrat`: reads the formula, then the proof until 4,294,967,297
-/// bytes are there, and writes and flushes one line, `accepted` or why it is refused. `RunFault` says when each fault comes and what is
-/// written then.
+/// bytes are there, and writes and flushes one line, `accepted` or why it is refused. Each step is checked as its line ends, so it takes memory
+/// for the clauses that are there, and none for the text. `RunFault` says when each fault comes and what is written then.
 pub fn check_run<R: Read + Drop, P: Read + Drop, W: Write>(
     alloc: Global,
     formula: R,
@@ -26,12 +25,13 @@ pub fn check_run<R: Read + Drop, P: Read + Drop, W: Write>(
         Ok(formula) => formula,
         Err(fault) => return Err(RunFault::of_read(fault)),
     };
-    let proof = match read_bytes(alloc, &mut proof, MOST) {
-        Ok(proof) => proof,
-        Err(ReadFault::NoMemory) => return Err(RunFault::NoMemory),
-        Err(_) => return Err(RunFault::ProofReadFailed),
+    let mut stream = match ProofStream::new(alloc, &formula) {
+        Ok(stream) => stream,
+        Err(_) => return Err(RunFault::NoMemory),
     };
-    let line = match checked_line(alloc, &formula, proof) {
+    drop(formula);
+    feed_all(alloc, &mut proof, &mut stream)?;
+    let line = match checked_line(alloc, stream.verdict()) {
         Ok(line) => line,
         Err(_) => return Err(RunFault::NoMemory),
     };

@@ -1,10 +1,14 @@
 //! The line that the checker writes of a proof.
-ghost use Rattle.std.specs.Prelude.{◌≡◌, true, is_some, IfOk, IfSome};
+ghost use Rattle.std.specs.Prelude.{◌≡◌, ℕ, List, true, is_some, IfOk, IfSome, MatchResult};
+ghost use Rattle.theory.specs.Truth.{Formula};
+ghost use Rattle.theory.specs.ProofReading.{ProofReading, ProofReads};
+ghost use Rattle.theory.specs.Checking.{accepted};
+ghost use Rattle.lrat.specs.Running.{IsSaid};
+ghost use Rattle.lrat.specs.Streams.{answer_to, checked};
 ghost use Rattle.cubesat.specs.Check.{IsLine, place_in_text, place_in_steps, refused_text};
 
-use cnf::Formula;
 use itoa::Buffer;
-use lrat::{CheckFault, TextFault, check, read_proof};
+use lrat::{CheckFault, Refusal, TextFault};
 use std::alloc::{AllocError, Global};
 
 /// What the checker says of a proof.
@@ -93,27 +97,23 @@ fn refused_whole(alloc: Global, line: &[u8]) -> Result<CheckedLine, AllocError>
     })
 }
 
-/// The verdict on the text of a proof, and its line. It fails only where a request for memory is refused. The text is let go once its steps
-/// are read, so that its room serves the check.
+/// The line of a verdict on a proof. It fails only where a request for memory is refused.
 pub(crate) fn checked_line(
     alloc: Global,
-    formula: &Formula,
-    proof: Vec<u8>,
+    verdict: Result<(), Refusal>,
 ) -> Result<CheckedLine, AllocError>
-    ensures { IfOk result (λ l. IsLine formula.now proof.items l.checked l.text.items) }
+    ensures { (F : Formula) (bytes : List ℕ) (r : ProofReading) → ProofReads bytes r →
+        MatchResult verdict (λ _. answer_to F r ≡ checked accepted) (IsSaid (answer_to F r)) →
+        IfOk result (λ l. IsLine F bytes l.checked l.text.items) }
 {
-    let steps = match read_proof(alloc, &proof) {
-        Ok(steps) => steps,
-        Err(TextFault::TooLong) => return refused_whole(alloc, b"refused 45\n"),
-        Err(fault) => return refused(alloc, fault.number(), place_in_text(fault)),
-    };
-    drop(proof);
-    match check(alloc, formula, &steps) {
+    match verdict {
         Ok(()) => Ok(CheckedLine {
             checked: Checked::Accepted,
             text: Vec::from_slice(alloc, b"accepted\n")?,
         }),
-        Err(CheckFault::NoEmptyClause) => refused_whole(alloc, b"refused 30\n"),
-        Err(fault) => refused(alloc, fault.number(), place_in_steps(fault)),
+        Err(Refusal::Text(TextFault::TooLong)) => refused_whole(alloc, b"refused 45\n"),
+        Err(Refusal::Text(fault)) => refused(alloc, fault.number(), place_in_text(fault)),
+        Err(Refusal::Steps(CheckFault::NoEmptyClause)) => refused_whole(alloc, b"refused 30\n"),
+        Err(Refusal::Steps(fault)) => refused(alloc, fault.number(), place_in_steps(fault)),
     }
 }

@@ -8,9 +8,12 @@ mod fault;
 mod laws;
 mod output;
 mod program;
-mod run;
+mod proof_input;
+mod proof_output;
+mod runs;
 #[cfg(test)]
 mod tests;
+mod threaded;
 mod verdict;
 
 pub use check::check_run;
@@ -18,5 +21,6 @@ pub use checked_line::Checked;
 pub use fault::RunFault;
 pub use laws::runs_write_the_same;
 pub use program::command;
-pub use run::run_one;
+pub use runs::run_one;
+pub use threaded::run;
 pub use verdict::Verdict;

@@ -5,9 +5,9 @@ ghost use Rattle.std.specs.Io.KnownBytes.{Appends};
 use crate::fault::RunFault;
 use std::io::Write;
 
-/// Writes the text and flushes the writer. A write that answers an error, or takes no byte of a text that isn't empty, has failed, as has a
-/// flush that answers an error; then a beginning of the text is written, and the answer is `fault`.
-pub(crate) fn write_text<W: Write>(
+/// Writes the text. A write that answers an error, or takes no byte of a text that isn't empty, has failed; then a beginning of the text is
+/// written, and the answer is `fault`.
+pub(crate) fn write_bytes<W: Write>(
     writer: &mut W,
     text: &[u8],
     fault: RunFault,
@@ -22,6 +22,20 @@ pub(crate) fn write_text<W: Write>(
             Ok(count) => written += count,
         }
     }
+    Ok(())
+}
+
+/// Writes the text and flushes the writer. A flush that answers an error has failed, as has a write as in `write_bytes`; then a beginning of the
+/// text is written, and the answer is `fault`.
+pub(crate) fn write_text<W: Write>(
+    writer: &mut W,
+    text: &[u8],
+    fault: RunFault,
+) -> Result<(), RunFault>
+    ensures { MatchResult result (λ _. Appends (W.contents writer.old) (W.contents writer.new) text.now)
+        (λ e. (e ≡ fault) × (count : ℕ) × Appends (W.contents writer.old) (W.contents writer.new) (take count text.now)) }
+{
+    write_bytes(writer, text, fault)?;
     match writer.flush() {
         Ok(()) => Ok(()),
         Err(_) => Err(fault),

@@ -5,13 +5,16 @@ use crate::arguments::{Request, request_of};
 use crate::check::check_run;
 use crate::checked_line::Checked;
 use crate::fault::RunFault;
-use crate::run::run_one;
+use crate::threaded::run;
 use crate::verdict::Verdict;
 use clap::error::ErrorKind;
+use cubes::OpenGate;
 use std::alloc::Global;
 use std::fs;
 use std::fs::Files;
 use std::io::Write;
+use std::sync::Wait;
+use std::thread::Threads;
 
 /// The status of a satisfiable formula.
 const SATISFIABLE: u8 = 10;
@@ -50,16 +53,18 @@ fn print_no_file<E: Write>(faults: &mut E) -> u8 {
 }
 
 /// Decides the formula in the file, with its proof written to the other; the status.
-fn solve<R: Files, W: Write, E: Write>(
+fn solve<R: Files + Threads + Wait + Sync, W: Write, E: Write>(
     rt: &R,
     alloc: Global,
     budget: u32,
+    hands: usize,
     proof: &str,
     file: &str,
     answer: &mut W,
     faults: &mut E,
 ) -> u8
-    requires { (1 ≤ budget) × (budget ≤ 100000) }
+    requires budget { (1 ≤ budget) × (budget ≤ 100000) }
+    requires hands { (1 ≤ hands) × (hands ≤ 16) }
 {
     let Ok(input) = fs::open(rt, file) else {
         return print_no_file(faults);
@@ -67,7 +72,9 @@ fn solve<R: Files, W: Write, E: Write>(
     let Ok(mut proof) = fs::create(rt, proof) else {
         return print_no_file(faults);
     };
-    match run_one(alloc, input, answer, &mut proof, budget) {
+    match run(
+        rt, alloc, input, answer, &mut proof, budget, hands, &OpenGate,
+    ) {
         Ok(Verdict::Satisfiable) => SATISFIABLE,
         Ok(Verdict::Unsatisfiable) => UNSATISFIABLE,
         Err(fault) => {
@@ -105,7 +112,7 @@ fn check<R: Files, W: Write, E: Write>(
 /// Does all that the program does for a command line, of which the first word is the program's name: reads and writes its files, writes
 /// the answer to `answer` and faults to `faults`, and answers the exit status: 10 satisfiable, 20 unsatisfiable, 0 for help and
 /// for a proof that is accepted, 1 for one that is refused, on a fault or a wrong command line. A failed write to `faults` changes nothing else.
-pub fn command<R: Files, W: Write, E: Write>(
+pub fn command<R: Files + Threads + Wait + Sync, W: Write, E: Write>(
     rt: &R,
     alloc: Global,
     words: &[&str],
@@ -116,10 +123,11 @@ pub fn command<R: Files, W: Write, E: Write>(
         Ok(
             Request::Solve {
                 budget,
+                hands,
                 proof,
                 file,
             },
-        ) => solve(rt, alloc, budget, proof, file, answer, faults),
+        ) => solve(rt, alloc, budget, hands, proof, file, answer, faults),
         Ok(Request::Check { formula, proof }) => {
             check(rt, alloc, formula, proof, answer, faults)
         }

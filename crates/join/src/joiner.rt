@@ -15,11 +15,8 @@ ghost use Rattle.join.specs.Numbered.{AreUpTo, AreLines, IsNode, IsJoiner, AreSt
 use cdcl::Refutation;
 use cnf::{Formula, Lit};
 use cubes::{Node, Tree};
-use lrat::{Addition, Step};
+use lrat::{Addition, MAX_NUMBER, Step};
 use std::alloc::{AllocError, Global};
-
-/// The greatest number of a clause in a proof.
-const MAX_NUMBER: u64 = 9_223_372_036_854_775_807;
 
 /// A split on the way from the root: the way goes on in the half where the variable is false, or, once that half's last line has its
 /// number, in the half where it is true.

@@ -58,6 +58,15 @@ impl Cube {
         Ok(Cube { lits })
     }
 
+    /// A copy. It fails where a request for memory is refused.
+    pub fn copied(&self) -> Result<Cube, AllocError>
+        ensures { IfOk result (λ q. q ≡ self.now) }
+    {
+        Ok(Cube {
+            lits: Vec::from_slice(*self.lits.allocator(), &self.lits)?,
+        })
+    }
+
     /// Puts a literal at the end, whose variable isn't in the cube yet. It fails where a request for memory is refused, and leaves the
     /// cube as it was then.
     pub fn push(&mut self, lit: Lit) -> Result<(), AllocError>

@@ -1,12 +1,12 @@
 -- Additions: what is held true at first, and what the hints come to.
-use Rattle.std.proofs.Common.{◌≡◌, ℕ, zero, suc, ◌<◌, Bool, true, false, not, ◌||◌, List, [], ◌∷◌, length, Option, Some, None, is_some, cond, nat_eq, nat_le, eqb-true, refl, ap, sym, subst, ◌∙◌, inl, inr, get_or, arith, ne_eqb}
+use Rattle.std.proofs.Common.{◌≡◌, ℕ, zero, suc, ◌<◌, Bool, true, false, not, ◌||◌, List, [], ◌∷◌, length, Option, Some, None, cond, nat_eq, nat_le, eqb-true, refl, ap, sym, subst, ◌∙◌, inl, inr, get_or, arith}
 use Rattle.std.specs.List.{list_any}
 use Rattle.std.proofs.lemmas.Bool.{leb-true}
 use Rattle.theory.specs.Literals.{Literal, Clause, same, has, has_var, has_both_signs, negated, negations, without}
 use Rattle.theory.specs.Truth.{IsOver}
 use Rattle.theory.specs.Steps.{Group, Addition}
 use Rattle.theory.specs.ProofReading.{IsLiteral}
-use Rattle.theory.specs.Checking.{Numbered, Fault, clause_of, without_number, take_hints, is_closed, rup_fault, hints_fault, hint_after_conflict, id_not_rising, literal_out_of_range, both_signs, addition_fault, deleted, is_empty}
+use Rattle.theory.specs.Checking.{Numbered, Fault, take_hints, is_closed, rup_fault, hints_fault, hint_after_conflict, id_not_rising, literal_out_of_range, both_signs, addition_fault, is_empty}
 use Rattle.theory.proofs.LiteralLemmas.{same-eq}
 use Rattle.theory.proofs.LiteralSets.{false_unless, or-false_left, or-false_right, has-tail, has-cases, has-equal, has_var-none, other-same, negated-negated, has-negations, has-from_negations}
 use Rattle.lrat.specs.Assumed.{IsAssumed, AreSame}
@@ -78,28 +78,6 @@ passed V last K a h =
 pub is_empty-length : (c : Clause) → nat_eq (length c) 0 ≡ is_empty c
 is_empty-length [] = refl
 is_empty-length (l ∷ c) = false_unless (nat_eq (length (l ∷ c)) 0) (λ t. let n : length (l ∷ c) ≡ 0 = eqb-true (length (l ∷ c)) 0 t in absurd (omega arith))
-
--- numbers that aren't given away
-pub unused-added : (K : Numbered) (id last : ℕ) (c : Clause) → last < id → ((n : ℕ) → last < n → clause_of K n ≡ None) → (n : ℕ) → id < n → clause_of ((id, c) ∷ K) n ≡ None
-unused-added K id last c rising h n more = ap (λ b. cond b (Some c) (clause_of K n)) (ne_eqb id n (λ e. omega arith)) ∙ h n (omega arith)
-
-unused-without : (K : Numbered) (m n : ℕ) → clause_of K n ≡ None → clause_of (without_number K m) n ≡ None
-unused-without [] m n h = refl
-unused-without (e ∷ K) m n h = go (nat_eq e.0 n) refl (nat_eq e.0 m) h (unused-without K m n)
-  where
-    go : (x : Bool) → nat_eq e.0 n ≡ x → (y : Bool) → cond x (Some e.1) (clause_of K n) ≡ None → (clause_of K n ≡ None → clause_of (without_number K m) n ≡ None)
-        → clause_of (cond (not y) (e ∷ without_number K m) (without_number K m)) n ≡ None
-    go true t y g more = absurd (cc)
-    go false t true g more = more g
-    go false t false g more = ap (λ b. cond b (Some e.1) (clause_of (without_number K m) n)) t ∙ more g
-
-pub unused-deleted : (K L : Numbered) (ids : List ℕ) (n : ℕ) → deleted K ids ≡ Some L → clause_of K n ≡ None → clause_of L n ≡ None
-unused-deleted K L [] n h none = let same : K ≡ L = cc in subst (λ k. clause_of k n ≡ None) same none
-unused-deleted K L (m ∷ ids) n h none = go (is_some (clause_of K m)) h (λ g. unused-deleted (without_number K m) L ids n g (unused-without K m n none))
-  where
-    go : (b : Bool) → cond b (deleted (without_number K m) ids) None ≡ Some L → (deleted (without_number K m) ids ≡ Some L → clause_of L n ≡ None) → clause_of L n ≡ None
-    go true g more = more g
-    go false g more = absurd (cc)
 
 -- the literals are over the variables
 pub over-passed : (V : ℕ) (c : Clause) → list_any (λ l. not (nat_le l.var V)) c ≡ false → ((k : ℕ) (d : Literal) → k < length c → IsLiteral (get_or c k d)) → IsOver V c

@@ -1,25 +1,16 @@
 -- Steps, as they are tested one after the other.
-use Rattle.std.proofs.Common.{◌≡◌, ℕ, zero, suc, ◌+◌, ◌<◌, ◌≤◌, Bool, true, ◌||◌, List, [], ◌∷◌, length, drop, get_or, map, Option, Some, None, cond, refl, ap, sym, subst, ◌∙◌, arith, add-one, All, ne_eqb}
+use Rattle.std.proofs.Common.{◌≡◌, ℕ, zero, suc, ◌+◌, ◌<◌, ◌≤◌, Bool, true, ◌||◌, List, [], ◌∷◌, length, drop, get_or, map, Option, Some, None, is_some, cond, refl, ap, sym, subst, ◌∙◌, arith, add-one, All}
 use Rattle.std.proofs.Math.Seq.{drop-cons}
 use Rattle.std.proofs.lemmas.List.{drop-map, length-map}
 use Rattle.theory.specs.Literals.{Clause}
 use Rattle.theory.specs.Truth.{Formula, IsOver}
 use Rattle.theory.specs.Steps as theory
-use Rattle.theory.specs.Checking.{Numbered, numbered_from, clause_of, deleted, is_empty, Checker, Checked, Tested, leaves, faulty, refused, accepted, no_empty_clause, addition_fault, addition_test, deletion_test, added, test, check_from, checks}
+use Rattle.theory.specs.Checking.{Numbered, numbered_from, clause_of, without_number, deleted, is_empty, Checker, Checked, Tested, leaves, faulty, refused, accepted, no_empty_clause, addition_fault, addition_test, deletion_test, added, test, check_from, checks}
 use Rattle.theory.specs.Checking as checking
 use Rattle.lrat.specs.declared.check_fault.Fault.{Fault}
 use Rattle.lrat.specs.declared.check_fault.Fault.TheVariants.{IdNotRising, BothSigns, NoSuchClause, HintNotUnit, HintAfterConflict, NoConflict, MissingCandidate, BadCandidate, NoSuchDeletion, LiteralOutOfRange}
 use Rattle.lrat.specs.CheckFaults.{fault_of, fault_at, IsRefused}
 use Rattle.lrat.specs.Tested.{IsDeleted}
-
--- numbers below the first, and past the last
-pub unused-below : (cs : List Clause) (m n : ℕ) → n < m → clause_of (numbered_from m cs) n ≡ None
-unused-below [] m n less = refl
-unused-below (c ∷ cs) m n less = ap (λ b. cond b (Some c) (clause_of (numbered_from (m + 1) cs) n)) (ne_eqb m n (λ e. omega arith)) ∙ unused-below cs (m + 1) n (omega arith)
-
-pub unused-past : (cs : List Clause) (m n : ℕ) → m + length cs ≤ n → clause_of (numbered_from m cs) n ≡ None
-unused-past [] m n more = refl
-unused-past (c ∷ cs) m n more = ap (λ b. cond b (Some c) (clause_of (numbered_from (m + 1) cs) n)) (ne_eqb m n (λ e. omega arith)) ∙ unused-past cs (m + 1) n (omega arith)
 
 -- one clause more at the front
 pub numbered-more : (cs : List Clause) (a b i : ℕ) (x : Clause) → i < length cs → a ≡ i + 1 → b ≡ i → x ≡ get_or cs i x
@@ -88,3 +79,10 @@ check-ends V n s steps i past e = ap (check_from V n s) (none i steps past) ∙ 
     none zero (x ∷ xs) p = absurd (omega arith)
     none (suc i) [] p = refl
     none (suc i) (x ∷ xs) p = none i xs (omega arith)
+
+-- one number of a deletion
+pub deleted-next : (K L : Numbered) (ids : List ℕ) (i : ℕ) → i < length ids → is_some (clause_of K (get_or ids i 0)) ≡ true → L ≡ without_number K (get_or ids i 0)
+    → deleted L (drop (suc i) ids) ≡ deleted K (drop i ids)
+deleted-next K L [] i less some e = absurd (omega arith)
+deleted-next K L (n ∷ ns) zero less some e = ap (λ k. deleted k ns) e ∙ sym (ap (λ b. cond b (deleted (without_number K n) ns) None) some)
+deleted-next K L (n ∷ ns) (suc i) less some e = deleted-next K L ns i (omega arith) some e

@@ -22,3 +22,11 @@ pub mod AdditionLemmas
 pub mod CheckLemmas
 pub mod OccurrenceLemmas
 pub mod CandidateLemmas
+pub mod BegunWords
+pub mod StreamLemmas
+pub mod FlatLemmas
+pub mod FormulaClauses
+pub mod PackLemmas
+pub mod SweepLemmas
+pub mod PieceLemmas
+pub mod RunningLemmas

@@ -93,3 +93,15 @@ IsIndexed-stay old new o stay h = record {
 
 pub StayThere-none : (ss : List Slot) → StayThere [] ss
 StayThere-none ss = record { there = λ i s less g t. absurd (omega arith); longer = omega arith }
+
+-- a list is put in place of another that has the same place
+set-keeps : (L : List (List ℕ)) (i : ℕ) (xs ys : List ℕ) (k : ℕ) → xs ≡ list_at L i → (list_any (nat_eq k) xs ≡ true → list_any (nat_eq k) ys ≡ true) → (n : ℕ) → IsIn L n k → IsIn (slice_set L i ys) n k
+set-keeps [] i xs ys k e h n there = there
+set-keeps (z ∷ L) zero xs ys k e h zero there = h (ap (λ x. list_any (nat_eq k) x) e ∙ there)
+set-keeps (z ∷ L) zero xs ys k e h (suc n) there = there
+set-keeps (z ∷ L) (suc i) xs ys k e h zero there = there
+set-keeps (z ∷ L) (suc i) xs ys k e h (suc n) there = set-keeps L i xs ys k e h n there
+
+pub put-keeps : {X : Type 0} (f : X → List ℕ) (xs : List X) (i : ℕ) (x y : X) (k : ℕ) → i < length xs → x ≡ get_or xs i x → (list_any (nat_eq k) (f x) ≡ true → list_any (nat_eq k) (f y) ≡ true)
+    → (n : ℕ) → IsIn (map f xs) n k → IsIn (map f (slice_set xs i y)) n k
+put-keeps f xs i x y k less e h n there = subst (λ L. IsIn L n k) (sym (map-set f xs i y)) (set-keeps (map f xs) i (f x) (f y) k (list_of f xs i x less e) h n there)

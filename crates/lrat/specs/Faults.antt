@@ -20,6 +20,12 @@ fault_line (BadShape n) = Some n
 fault_line NoMemory = None
 fault_line TooLong = None
 
+-- the fault of a line of this number
+abbrev pub text_fault_at : theory.TextFault → ℕ → TextFault
+text_fault_at theory.bad_number n = BadNumber n
+text_fault_at theory.line_not_ended n = LineNotEnded n
+text_fault_at theory.bad_shape n = BadShape n
+
 -- the text has the fault; memory may run out at any text
 abbrev pub HasFault : List ℕ → TextFault → Type 0
 HasFault bytes (BadNumber n) = ProofReads bytes (line_fault theory.bad_number n)

@@ -14,3 +14,8 @@ pub mod Named
 pub mod Tested
 pub mod Occurrences
 pub mod Indexed
+pub mod Streams
+pub mod Flat
+pub mod Begun
+pub mod Pieces
+pub mod Running

@@ -6,6 +6,8 @@ use Rattle.theory.specs.ProofReading as theory
 use Rattle.lrat.specs.declared.line.Line.{Line}
 use Rattle.lrat.specs.declared.line.Part.{Part}
 use Rattle.lrat.specs.declared.line.Part.TheVariants.{Id, Literals, Hints, GroupHints, Ids, AdditionEnd, DeletionEnd}
+use Rattle.lrat.specs.declared.fault.LineFault.{LineFault}
+use Rattle.lrat.specs.declared.fault.LineFault.TheVariants as faults
 use Rattle.lrat.specs.declared.fault.TextFault.{TextFault}
 use Rattle.lrat.specs.declared.fault.TextFault.TheVariants.{BadNumber, LineNotEnded, BadShape, NoMemory, TooLong}
 use Rattle.lrat.specs.LineMachine.{State, at_id, at_clause, at_hints, at_group, at_ids, ended, LineReading, line_read, line_at_fault}
@@ -38,6 +40,11 @@ state_of l = state_at l.part l
 abbrev pub Takes : Option State → Bool → Line → Line → Type 0
 Takes answer true old new = answer ≡ Some (state_of new)
 Takes answer false old new = (answer ≡ None) × (new ≡ old)
+
+-- the fault, as the definitions have it
+abbrev pub kind_of : LineFault → theory.TextFault
+kind_of faults.BadNumber = theory.bad_number
+kind_of faults.BadShape = theory.bad_shape
 
 -- the fault is what the text is read as; memory may run out at any text
 abbrev pub IsFault : TextFault → ProofReading → Type 0

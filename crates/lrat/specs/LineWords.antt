@@ -1,5 +1,5 @@
 -- The first word of what is left of a text, and what it is.
-use Rattle.std.specs.Prelude.{ℕ, ◌≤◌, Bool, ◌&&◌, ◌||◌, nat_eq, nat_le, Option, Some, None, min, List, [], ◌∷◌, codes, if◌then◌else◌}
+use Rattle.std.specs.Prelude.{ℕ, ◌+◌, ◌≤◌, Bool, ◌&&◌, ◌||◌, nat_eq, nat_le, Option, Some, None, min, List, [], ◌∷◌, codes, if◌then◌else◌}
 use Rattle.theory.specs.Literals.{Literal, positive, negative}
 use Rattle.theory.specs.Texts.{lf}
 use Rattle.theory.specs.ProofReading.{max_literal, max_number}
@@ -23,7 +23,7 @@ after_word (b ∷ bytes) = if ends_word b then b ∷ bytes else after_word bytes
 
 -- a size, where each above the greatest is one above it
 abbrev pub capped : ℕ → ℕ
-capped n = min n 9223372036854775808
+capped n = min n (max_number + 1)
 
 -- what a word is
 abbrev pub word_of : List ℕ → Word

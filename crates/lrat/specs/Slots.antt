@@ -1,5 +1,5 @@
 -- Clauses in the order in which they came, with those that were taken away left in their places.
-use Rattle.std.specs.Prelude.{◌≡◌, ℕ, Bool, true, List, [], ◌∷◌, Option, Some, slice_get, if◌then◌else◌}
+use Rattle.std.specs.Prelude.{ℕ, Bool, List, [], ◌∷◌, if◌then◌else◌}
 use Rattle.theory.specs.Literals.{Clause}
 use Rattle.theory.specs.Checking.{Numbered}
 
@@ -24,8 +24,3 @@ there_before K (s ∷ ss) = there_before (put s K) ss
 
 abbrev pub there : Store → Numbered
 there s = there_before [] s.slots
-
--- the places by number are those of the clauses that are there
-pub record ArePlaces (slots : List Slot) (place : ℕ → Option ℕ) : Type 0 where
-  pub slot : (n i : ℕ) → place n ≡ Some i → (s : Slot) × (slice_get slots i ≡ Some s) × (s.id ≡ n) × (s.is_there ≡ true)
-  pub place_of : (i : ℕ) (s : Slot) → slice_get slots i ≡ Some s → s.is_there ≡ true → place s.id ≡ Some i

@@ -1,11 +1,12 @@
 -- What a step leaves of a checker.
-use Rattle.std.specs.Prelude.{◌≡◌, ℕ, ◌<◌, Bool, true, false, [], length, Option, Some, None}
+use Rattle.std.specs.Prelude.{◌≡◌, ℕ, Bool, true, false, [], length, Option, Some, None}
 use Rattle.theory.specs.Truth.{Formula}
 use Rattle.theory.specs.Checking as theory
-use Rattle.theory.specs.Checking.{Numbered, clause_of}
+use Rattle.theory.specs.Checking.{Numbered}
 use Rattle.lrat.specs.declared.checker.Checker.{Checker}
 use Rattle.lrat.specs.declared.check_fault.Fault.{Fault}
 use Rattle.lrat.specs.CheckFaults.{fault_of}
+use Rattle.lrat.specs.Flat.{AreUpTo}
 use Rattle.lrat.specs.Indexed.{IsIndexed}
 use Rattle.lrat.specs.Slots.{there}
 
@@ -21,13 +22,13 @@ checker_of s = record { clauses = there s.clauses; last = s.last; empty = s.empt
 abbrev pub start : Formula → theory.Checker
 start F = record { clauses = theory.numbered_from 1 F.clauses; last = length F.clauses; empty = false }
 
--- between two steps nothing is held true, and no number above the last is given away
+-- between two steps nothing is held true, and no clause has a number above the last
 pub record IsReady (V : ℕ) (s : Checker) : Type 0 where
   pub clauses_vars : s.clauses.vars ≡ V
   pub held_vars : s.held.vars ≡ V
   pub none_held : s.held.literals ≡ []
   pub indexed : IsIndexed s.clauses.slots s.occurrences
-  pub unused : (n : ℕ) → s.last < n → clause_of (there s.clauses) n ≡ None
+  pub up_to : AreUpTo s.last s.clauses.slots
 
 -- the step has the fault, or leaves the checker ready
 abbrev pub Tests : theory.Tested → ℕ → Option Fault → Checker → Type 0

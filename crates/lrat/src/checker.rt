@@ -1,5 +1,5 @@
 //! The checker of proofs: reverse unit propagation and resolution asymmetric tautologies, by hints.
-ghost use Rattle.std.specs.Prelude.{◌≡◌, ◌<◌, ◌≤◌, ◌^◌, ℕ, [], ◌∷◌, true, false, not, None, Some, map, IfOk, MatchOption, MatchResult, nat_le};
+ghost use Rattle.std.specs.Prelude.{◌≡◌, ◌<◌, ◌≤◌, ◌^◌, ℕ, [], ◌∷◌, true, false, not, None, Some, map, IfOk, OnOk, MatchOption, MatchResult, nat_le};
 ghost use Rattle.std.specs.List.{list_any};
 ghost use Rattle.theory.specs.Literals.{has_both_signs, negations};
 ghost use Rattle.theory.specs.Truth.{IsOver, Satisfiable};
@@ -8,6 +8,7 @@ ghost use Rattle.theory.specs.Checking.{accepted, addition_fault, checks, delete
 ghost use Rattle.theory.specs.Steps.{add, delete};
 ghost use Rattle.lrat.specs.Assumed.{AreSame};
 ghost use Rattle.lrat.specs.CheckFaults.{faults_of, IsRefused};
+ghost use Rattle.lrat.specs.Flat.{AreUpTo};
 ghost use Rattle.lrat.specs.Indexed.{IsIndexed};
 ghost use Rattle.lrat.specs.Occurrences.{StayThere};
 ghost use Rattle.lrat.specs.Slots.{there};
@@ -28,8 +29,8 @@ use std::alloc::{AllocError, Global};
 /// The clauses there, the last number given away, and whether an empty clause was added. Nothing is held true between
 /// steps.
 #[derive(Drop)]
-pub(crate) struct Checker<'a> {
-    clauses: Clauses<'a>,
+pub(crate) struct Checker {
+    clauses: Clauses,
     occurrences: Occurrences,
     held: Held,
     last: u64,
@@ -108,6 +109,7 @@ fn addition_fault(
 fn delete(clauses: &mut Clauses, ids: &[u64]) -> bool
     ensures deleted { IsDeleted (deleted (there clauses.old) ids.now) result (there clauses.new) }
     ensures stay { StayThere clauses.old.slots clauses.new.slots }
+    ensures up_to { (n : ℕ) → AreUpTo n clauses.old.slots → AreUpTo n clauses.new.slots }
     ensures vars { clauses.new.vars ≡ clauses.old.vars }
 {
     for id in ids {
@@ -118,33 +120,26 @@ fn delete(clauses: &mut Clauses, ids: &[u64]) -> bool
     true
 }
 
-impl<'a> Checker<'a> {
-    /// The checker of a formula, whose clauses have the numbers from 1 on. The latest clause is the first one, as in the
-    /// definition.
-    fn new(alloc: Global, formula: &'a Formula) -> Result<Checker<'a>, AllocError>
+impl Checker {
+    /// The checker of a formula, whose clauses have the numbers from 1 on.
+    pub(crate) fn new(alloc: Global, formula: &Formula) -> Result<Checker, AllocError>
         ensures start { IfOk result (λ s. checker_of s ≡ start formula.now) }
         ensures ready { IfOk result (λ s. IsReady formula.now.vars s) }
     {
-        let texts = formula.clauses();
-        let count = texts.len();
-        let mut clauses = Clauses::new(alloc, formula.vars(), count);
-        for done in 0..count {
-            let index = count - 1 - done;
-            clauses.push(index as u64 + 1, &texts[index])?;
-        }
         Ok(Checker {
-            clauses,
+            clauses: Clauses::new(alloc, formula)?,
             occurrences: Occurrences::new(alloc),
             held: Held::new(alloc, formula.vars())?,
-            last: count as u64,
+            last: formula.clauses().len() as u64,
             empty: false,
         })
     }
 
     /// Adds a clause, or answers the addition's fault.
-    fn add(&mut self, alloc: Global, addition: &'a Addition) -> Result<Option<Fault>, AllocError>
+    fn add(&mut self, alloc: Global, addition: &Addition) -> Result<Option<Fault>, AllocError>
         requires { IsReady self.old.held.vars self.old }
-        ensures { IfOk result (λ o. Tests (test self.old.held.vars (checker_of self.old) (add addition.now)) self.old.held.vars o self.new) }
+        ensures tested { IfOk result (λ o. Tests (test self.old.held.vars (checker_of self.old) (add addition.now)) self.old.held.vars o self.new) }
+        ensures vars { self.new.held.vars ≡ self.old.held.vars }
     {
         let fault = addition_fault(
             alloc,
@@ -170,7 +165,8 @@ impl<'a> Checker<'a> {
     /// Takes clauses away, or answers the deletion's fault.
     fn remove(&mut self, deletion: &Deletion) -> Option<Fault>
         requires { IsReady self.old.held.vars self.old }
-        ensures { Tests (test self.old.held.vars (checker_of self.old) (delete deletion.now)) self.old.held.vars result self.new }
+        ensures tested { Tests (test self.old.held.vars (checker_of self.old) (delete deletion.now)) self.old.held.vars result self.new }
+        ensures vars { self.new.held.vars ≡ self.old.held.vars }
     {
         if delete(&mut self.clauses, deletion.ids()) {
             None
@@ -179,14 +175,44 @@ impl<'a> Checker<'a> {
         }
     }
 
-    /// Takes a step, or answers its fault.
-    fn test(&mut self, alloc: Global, step: &'a Step) -> Result<Option<Fault>, AllocError>
+    /// Gives the memory of clauses that were taken away free, where they outnumber the others. Then the places change, so that the occurrences are
+    /// gathered anew when they are asked for next: that costs a list for each literal, and so is what has to be gained.
+    fn tidy(&mut self, alloc: Global) -> Result<(), AllocError>
         requires { IsReady self.old.held.vars self.old }
-        ensures { IfOk result (λ o. Tests (test self.old.held.vars (checker_of self.old) (step_of step.now)) self.old.held.vars o self.new) }
+        ensures same { OnOk result (checker_of self.new ≡ checker_of self.old) }
+        ensures ready { OnOk result (IsReady self.old.held.vars self.new) }
+        ensures vars { self.new.held.vars ≡ self.old.held.vars }
+    {
+        let lists = 2 * self.held.vars() as usize + 2;
+        if self.clauses.is_sparse(lists) {
+            self.clauses.pack(alloc)?;
+            self.occurrences = Occurrences::new(alloc);
+        }
+        Ok(())
+    }
+
+    /// Whether an empty clause was added.
+    pub(crate) fn is_refutation(&self) -> bool
+        ensures { result ≡ self.now.empty }
+    {
+        self.empty
+    }
+
+    /// Takes a step, or answers its fault.
+    pub(crate) fn test(&mut self, alloc: Global, step: &Step) -> Result<Option<Fault>, AllocError>
+        requires { IsReady self.old.held.vars self.old }
+        ensures tested { IfOk result (λ o. Tests (test self.old.held.vars (checker_of self.old) (step_of step.now)) self.old.held.vars o self.new) }
+        ensures vars { self.new.held.vars ≡ self.old.held.vars }
     {
         match step {
             Step::Add(addition) => self.add(alloc, addition),
-            Step::Delete(deletion) => Ok(self.remove(deletion)),
+            Step::Delete(deletion) => {
+                let fault = self.remove(deletion);
+                if fault.is_none() {
+                    self.tidy(alloc)?;
+                }
+                Ok(fault)
+            }
         }
     }
 }
@@ -211,7 +237,7 @@ pub fn check(alloc: Global, formula: &Formula, steps: &[Step]) -> Result<(), Che
             Err(_) => return Err(CheckFault::NoMemory),
         }
     }
-    if checker.empty {
+    if checker.is_refutation() {
         Ok(())
     } else {
         Err(CheckFault::NoEmptyClause)

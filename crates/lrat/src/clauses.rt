@@ -1,103 +1,176 @@
-//! The clauses that are there, by their numbers. Each one's literals stay where they are, in the formula or in a step.
-ghost use Rattle.std.specs.Prelude.{◌≡◌, ◌<◌, true, false, None, Some, is_some, [], ◌∷◌, length, IfOk, OnOk, OnErr, slice_get, MatchOption};
+//! The clauses that are there, by their numbers: their literals lie one behind the other in one list.
+ghost use Rattle.std.specs.Prelude.{◌≡◌, ◌≢◌, ℕ, ◌+◌, ◌<◌, ◌≤◌, true, false, None, Some, is_some, [], ◌∷◌, ◌++◌, length, IfOk, OnOk, OnErr, MatchOption, slice_get, nat_eq};
+ghost use Rattle.std.specs.List.{list_any};
 ghost use Rattle.std.specs.Option.{option_map};
 ghost use Rattle.theory.specs.Truth.{IsOver};
-ghost use Rattle.theory.specs.Checking.{clause_of, without_number};
+ghost use Rattle.theory.specs.Checking.{clause_of, numbered_from, without_number};
 ghost use Rattle.lrat.specs.Occurrences.{StayThere};
 ghost use Rattle.lrat.specs.Slots as slots;
 ghost use Rattle.lrat.specs.Slots.{there};
+ghost use Rattle.lrat.specs.Flat.{slots_in, packed, AreWithin, AreInOrder, AreUpTo};
+ghost use Rattle.lrat.specs.declared.clauses.Head as declared;
 
-use cnf::Lit;
+use cnf::{Formula, Lit};
 use std::alloc::{AllocError, Global};
-use std::collections::HashMap;
 use std::marker::Model;
 
-/// A clause, its number, and whether it is there.
-#[derive(Drop)]
-pub(crate) struct Slot<'a> {
+/// A clause's number, where its literals stand, and whether it is there.
+#[derive(Clone, Copy)]
+pub(crate) struct Head {
+    id: u64,
+    start: usize,
+    end: usize,
+    is_there: bool,
+}
+
+/// The place of the clause with a number, there or not: directly where no number was left out, else by halving.
+fn place_of(heads: &[Head], first: usize, id: u64) -> Option<usize>
+    requires { AreInOrder first heads.now }
+    ensures { MatchOption result
+        ((i : ℕ) (h : declared.Head) → slice_get heads.now i ≡ Some h → h.id ≢ id)
+        (λ i. (h : declared.Head) × (slice_get heads.now i ≡ Some h) × (h.id ≡ id)) }
+{
+    let number = id as usize;
+    if number == 0 {
+        return None;
+    }
+    if number <= first {
+        return Some(first - number);
+    }
+    if number <= heads.len() && heads[number - 1].id == id {
+        return Some(number - 1);
+    }
+    let mut low = first;
+    let mut high = heads.len();
+    while low < high {
+        let middle = low + (high - low) / 2;
+        let found = heads[middle].id;
+        if found == id {
+            return Some(middle);
+        }
+        if found < id {
+            low = middle + 1;
+        } else {
+            high = middle;
+        }
+    }
+    None
+}
+
+/// Puts a clause behind the others.
+fn append(
+    heads: &mut Vec<Head>,
+    lits: &mut Vec<Lit>,
     id: u64,
     is_there: bool,
-    clause: &'a [Lit],
+    clause: &[Lit],
+) -> Result<(), AllocError>
+    requires { AreWithin lits.old.items heads.old.items }
+    ensures ok { OnOk result (slots_in lits.new.items heads.new.items
+        ≡ slots_in lits.old.items heads.old.items ++ (record { id = id; is_there = is_there; clause = clause.now }) ∷ []) }
+    ensures err { OnErr result ((heads.new.items ≡ heads.old.items) × (slots_in lits.new.items heads.new.items ≡ slots_in lits.old.items heads.old.items)) }
+    ensures within { AreWithin lits.new.items heads.new.items }
+    ensures last { OnOk result ((h : declared.Head) × (h.id ≡ id) × (heads.new.items ≡ heads.old.items ++ h ∷ [])) }
+{
+    let start = lits.len();
+    lits.extend_from_slice(clause)?;
+    let end = lits.len();
+    heads.push(Head {
+        id,
+        start,
+        end,
+        is_there,
+    })?;
+    Ok(())
 }
 
-impl<'a> Model for Slot<'a> {
-    ghost use Rattle.lrat.specs.Slots as slots;
-
-    ghost Value = { slots.Slot };
-
-    ghost view = { λ a. record { id = a.id; is_there = a.is_there; clause = a.clause.now } };
-}
-
-/// Clauses over the variables 1 to `vars`, in the order in which they came, each with a number of its own.
-#[derive(Drop)]
-pub(crate) struct Clauses<'a> {
-    vars: u32,
-    // so many clauses come first, in falling order of their numbers
+/// The clauses that are there, with what is there of the formula's, in lists of their own. It takes memory by the literals
+/// of these.
+fn pack(
+    alloc: Global,
+    heads: &[Head],
+    lits: &[Lit],
     first: usize,
-    // a clause that was taken away leaves its slot
-    slots: Vec<Slot<'a>>,
-    // by number: the place of the clause's slot, where it is there
-    places: HashMap<u64, usize>,
+) -> Result<(Vec<Head>, Vec<Lit>), AllocError>
+    requires { AreWithin lits.now heads.now }
+    ensures within { IfOk result (λ r. AreWithin r.1.items r.0.items) }
+    ensures slots { IfOk result (λ r. slots_in r.1.items r.0.items ≡ packed first (slots_in lits.now heads.now)) }
+{
+    let mut packed_heads = Vec::new(alloc);
+    let mut packed_lits = Vec::new(alloc);
+    for place in 0..heads.len() {
+        let head = heads[place];
+        if head.is_there {
+            let clause = &lits[head.start..head.end];
+            append(&mut packed_heads, &mut packed_lits, head.id, true, clause)?;
+        } else if place < first {
+            append(&mut packed_heads, &mut packed_lits, head.id, false, &[])?;
+        }
+    }
+    Ok((packed_heads, packed_lits))
 }
 
-impl<'a> Model for Clauses<'a> {
-    ghost use Rattle.std.specs.Prelude.{All, nat_eq};
-    ghost use Rattle.std.specs.HashMap.{get};
-    ghost use Rattle.theory.specs.Truth.{IsOver};
-    ghost use Rattle.lrat.specs.Slots.{Store, ArePlaces};
+/// How many literals clauses have. The count stops at the greatest one.
+fn literal_count(clauses: &[Vec<Lit>]) -> usize {
+    let mut count = 0usize;
+    for clause in clauses {
+        count = count.saturating_add(clause.len());
+    }
+    count
+}
+
+/// Clauses over the variables 1 to `vars`, each with a number of its own: a formula's, and then those that were added.
+#[derive(Drop)]
+pub(crate) struct Clauses {
+    vars: u32,
+    // so many clauses come first, by falling numbers
+    first: usize,
+    heads: Vec<Head>,
+    lits: Vec<Lit>,
+    // how many clauses were taken away since the last packing, with their literals
+    dead: usize,
+}
+
+impl Model for Clauses {
+    ghost use Rattle.lrat.specs.Slots.{Store};
+    ghost use Rattle.lrat.specs.Flat.{slots_in, AreFlat};
 
     ghost Value = { Store };
 
-    ghost view = { λ a. record { vars = a.vars; slots = a.slots.items } };
+    ghost view = { λ a. record { vars = a.vars; slots = slots_in a.lits.items a.heads.items } };
 
-    ghost invariant = { λ a. ArePlaces a.slots.items (get nat_eq a.places) × All (λ s. IsOver a.vars s.clause) a.slots.items };
+    ghost invariant = { λ a. AreFlat a.vars a.first a.lits.items a.heads.items };
 }
 
-impl<'a> Clauses<'a> {
-    /// No clauses. Where the numbers from `first` down to 1 come first, and then each next one, `get` finds them the soonest.
-    pub(crate) fn new(alloc: Global, vars: u32, first: usize) -> Clauses<'a>
-        ensures { result ≡ record { vars = vars; slots = [] } }
+impl Clauses {
+    /// A formula's clauses, by the numbers from 1 on. It takes one walk over them.
+    pub(crate) fn new(alloc: Global, formula: &Formula) -> Result<Clauses, AllocError>
+        ensures there { IfOk result (λ a. there a ≡ numbered_from 1 formula.now.clauses) }
+        ensures up_to { IfOk result (λ a. AreUpTo (length formula.now.clauses) a.slots) }
+        ensures vars { IfOk result (λ a. a.vars ≡ formula.now.vars) }
     {
-        Clauses {
-            vars,
-            first,
-            slots: Vec::new(alloc),
-            places: HashMap::new(alloc),
+        let texts = formula.clauses();
+        let first = texts.len();
+        let mut heads = Vec::with_capacity(alloc, first)?;
+        let mut lits = Vec::with_capacity(alloc, literal_count(texts))?;
+        for done in 0..first {
+            let index = first - 1 - done;
+            append(&mut heads, &mut lits, index as u64 + 1, true, &texts[index])?;
         }
+        Ok(Clauses {
+            vars: formula.vars(),
+            first,
+            heads,
+            lits,
+            dead: 0,
+        })
     }
 
     /// The number of slots.
     pub(crate) fn len(&self) -> usize
         ensures { result ≡ length self.now.slots }
     {
-        self.slots.len()
-    }
-
-    /// The literals of the clause with a number, if it is there. Its slot is looked for where it stands if no number was left out, and else
-    /// by one look-up, which reads more of memory.
-    pub(crate) fn get(&self, id: u64) -> Option<&'a [Lit]>
-        ensures clause { option_map (λ c. c.now) result ≡ clause_of (there self.now) id }
-        ensures over { MatchOption result (Unit {0}) (λ c. IsOver self.now.vars c.now) }
-    {
-        let number = id as usize;
-        let likely = if number <= self.first {
-            self.first - number
-        } else {
-            number - 1
-        };
-        if likely < self.slots.len() {
-            let slot = &self.slots[likely];
-            if slot.is_there && slot.id == id {
-                return Some(slot.clause);
-            }
-        }
-        match self.places.get(&id) {
-            Some(place) => {
-                let slot = &self.slots[*place];
-                Some(slot.clause)
-            }
-            None => None,
-        }
+        self.heads.len()
     }
 
     /// The number of variables.
@@ -107,52 +180,51 @@ impl<'a> Clauses<'a> {
         self.vars
     }
 
-    /// The literals of the clause in the slot at a place, whether or not it is there.
-    pub(crate) fn clause(&self, place: usize) -> &'a [Lit]
-        requires { place < length self.now.slots }
-        ensures slot { (s : slots.Slot) × (slice_get self.now.slots place ≡ Some s) × (s.clause ≡ result.now) }
-        ensures over { IsOver self.now.vars result.now }
-    {
-        let slot = &self.slots[place];
-        slot.clause
-    }
-
     /// The number and the literals of the clause in the slot at a place, if it is there.
-    pub(crate) fn at(&self, place: usize) -> Option<(u64, &'a [Lit])>
+    pub(crate) fn at(&self, place: usize) -> Option<(u64, &[Lit])>
         requires { place < length self.now.slots }
         ensures over { MatchOption result (Unit {0}) (λ e. IsOver self.now.vars e.1.now) }
         ensures slot { (s : slots.Slot) → slice_get self.now.slots place ≡ Some s →
             MatchOption result (s.is_there ≡ false) (λ e. (s.is_there ≡ true) × (s.id ≡ e.0) × (s.clause ≡ e.1.now)) }
     {
-        let slot = &self.slots[place];
-        if slot.is_there {
-            Some((slot.id, slot.clause))
+        let head = self.heads[place];
+        if head.is_there {
+            Some((head.id, &self.lits[head.start..head.end]))
         } else {
             None
         }
     }
 
-    /// Puts a clause whose number isn't there.
-    pub(crate) fn push(&mut self, id: u64, clause: &'a [Lit]) -> Result<(), AllocError>
-        requires is_new { clause_of (there self.old) id ≡ None }
+    /// The literals of the clause with a number, if it is there.
+    pub(crate) fn get(&self, id: u64) -> Option<&[Lit]>
+        ensures clause { option_map (λ c. c.now) result ≡ clause_of (there self.now) id }
+        ensures over { MatchOption result (Unit {0}) (λ c. IsOver self.now.vars c.now) }
+    {
+        match place_of(&self.heads, self.first, id) {
+            Some(place) => {
+                let head = self.heads[place];
+                if head.is_there {
+                    Some(&self.lits[head.start..head.end])
+                } else {
+                    None
+                }
+            }
+            None => None,
+        }
+    }
+
+    /// Puts a clause whose number is above all others.
+    pub(crate) fn push(&mut self, id: u64, clause: &[Lit]) -> Result<(), AllocError>
+        requires positive { 0 < id }
+        requires above { (i : ℕ) (s : slots.Slot) → slice_get self.old.slots i ≡ Some s → s.id < id }
         requires over { IsOver self.old.vars clause.now }
         ensures ok { OnOk result (there self.new ≡ (id, clause.now) ∷ there self.old) }
         ensures stay { OnOk result (StayThere self.old.slots self.new.slots) }
         ensures vars { self.new.vars ≡ self.old.vars }
+        ensures up_to { OnOk result (AreUpTo id self.new.slots) }
+        ensures err { OnErr result (self.new ≡ self.old) }
     {
-        self.slots.push(Slot {
-            id,
-            is_there: true,
-            clause,
-        })?;
-        let place = self.slots.len() - 1;
-        match self.places.insert(id, place) {
-            Ok(_) => Ok(()),
-            Err(_) => {
-                let _ = self.slots.pop();
-                Err(AllocError)
-            }
-        }
+        append(&mut self.heads, &mut self.lits, id, true, clause)
     }
 
     /// Takes the clause with a number away, if it is there.
@@ -160,15 +232,75 @@ impl<'a> Clauses<'a> {
         ensures found { result ≡ is_some (clause_of (there self.old) id) }
         ensures removed { result ≡ true → there self.new ≡ without_number (there self.old) id }
         ensures stay { StayThere self.old.slots self.new.slots }
+        ensures up_to { (n : ℕ) → AreUpTo n self.old.slots → AreUpTo n self.new.slots }
         ensures vars { self.new.vars ≡ self.old.vars }
     {
-        match self.places.remove(&id) {
+        match place_of(&self.heads, self.first, id) {
             Some(place) => {
-                let slot = &mut self.slots[place];
-                slot.is_there = false;
+                let head = self.heads[place];
+                if !head.is_there {
+                    return false;
+                }
+                self.heads[place] = Head {
+                    id: head.id,
+                    start: head.start,
+                    end: head.end,
+                    is_there: false,
+                };
+                self.dead = self
+                    .dead
+                    .saturating_add(head.end - head.start)
+                    .saturating_add(1);
                 true
             }
             None => false,
         }
     }
+
+    /// Whether it is time to pack: more than half of what is held is of clauses that were taken away, and more than `cost`.
+    pub(crate) fn is_sparse(&self, cost: usize) -> bool {
+        self.dead > self.lits.len() / 2 + self.heads.len() / 2 && self.dead > cost
+    }
+
+    /// Gives the memory of clauses that were taken away free. Places change.
+    pub(crate) fn pack(&mut self, alloc: Global) -> Result<(), AllocError>
+        ensures same { there self.new ≡ there self.old }
+        ensures up_to { (n : ℕ) → AreUpTo n self.old.slots → AreUpTo n self.new.slots }
+        ensures vars { self.new.vars ≡ self.old.vars }
+        ensures err { OnErr result (self.new ≡ self.old) }
+    {
+        let (heads, lits) = pack(alloc, &self.heads, &self.lits, self.first)?;
+        self.heads = heads;
+        self.lits = lits;
+        self.dead = 0;
+        Ok(())
+    }
+
+    /// Whether the clause in the slot at a place is there.
+    pub(crate) fn is_there(&self, place: usize) -> bool
+        ensures { (s : slots.Slot) → slice_get self.now.slots place ≡ Some s → result ≡ s.is_there }
+    {
+        if place < self.heads.len() {
+            let head = self.heads[place];
+            head.is_there
+        } else {
+            false
+        }
+    }
+}
+
+/// Drops the places of clauses that were taken away from a list of places.
+pub(crate) fn sweep(places: &mut Vec<usize>, clauses: &Clauses)
+    ensures { (i : ℕ) (s : slots.Slot) → slice_get clauses.now.slots i ≡ Some s → s.is_there ≡ true →
+        list_any (nat_eq i) places.old.items ≡ true → list_any (nat_eq i) places.new.items ≡ true }
+{
+    let mut kept = 0;
+    for at in 0..places.len() {
+        let place = places[at];
+        if clauses.is_there(place) {
+            places[kept] = place;
+            kept += 1;
+        }
+    }
+    places.truncate(kept);
 }

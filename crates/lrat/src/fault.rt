@@ -1,6 +1,8 @@
 //! Why a text is no proof.
 ghost use Rattle.std.specs.Prelude.{◌≡◌};
-ghost use Rattle.lrat.specs.Faults.{fault_number, fault_line};
+ghost use Rattle.theory.specs.ProofReading.{line_fault};
+ghost use Rattle.lrat.specs.Faults.{fault_number, fault_line, text_fault_at};
+ghost use Rattle.lrat.specs.LineStates.{kind_of, IsFault};
 
 use std::alloc::{AllocError, AllocFailed};
 use thiserror::Error;
@@ -27,6 +29,26 @@ pub enum TextFault {
     /// The text has more than 4,294,967,296 bytes.
     #[error("the text is too long")]
     TooLong,
+}
+
+/// Why a line that is ended is at fault.
+#[derive(Clone, Copy)]
+pub(crate) enum LineFault {
+    BadNumber,
+    BadShape,
+}
+
+impl LineFault {
+    /// The fault of the line of this number.
+    pub(crate) fn at(self, number: u64) -> TextFault
+        ensures fault { IsFault result (line_fault (kind_of self) number) }
+        ensures same { result ≡ text_fault_at (kind_of self) number }
+    {
+        match self {
+            LineFault::BadNumber => TextFault::BadNumber(number),
+            LineFault::BadShape => TextFault::BadShape(number),
+        }
+    }
 }
 
 impl TextFault {

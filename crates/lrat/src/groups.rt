@@ -189,6 +189,7 @@ pub(crate) fn rat_fault(
         return Ok(fault);
     }
     occurrences.enter_all(alloc, clauses)?;
+    occurrences.sweep(pivot, clauses);
     let places = occurrences.of(pivot);
     if are_dealt_with(held, clauses, places, pivot, &named)? {
         Ok(None)

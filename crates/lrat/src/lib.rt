@@ -2,6 +2,7 @@
 #![tactic(auto)]
 
 mod assume;
+mod begun;
 mod check_fault;
 mod checker;
 #[cfg(test)]
@@ -17,16 +18,24 @@ mod occurrences;
 #[cfg(test)]
 mod plain_tests;
 mod read;
+mod refusal;
+mod size;
 mod step;
+mod stream;
 #[cfg(test)]
 mod tests;
+mod text;
 mod word;
 mod write;
 
 pub use check_fault::CheckFault;
 pub use checker::check;
 pub use fault::TextFault;
-pub use laws::{one_reading, written_is_read};
-pub use read::read_proof;
+pub use laws::{one_reading, stream_is_whole, written_is_read};
+pub use read::{MAX_BYTES, read_proof};
+pub use refusal::Refusal;
+pub use size::line_size;
 pub use step::{Addition, Deletion, Group, Step};
+pub use stream::ProofStream;
+pub use word::MAX_NUMBER;
 pub use write::write_step;

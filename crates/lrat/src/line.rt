@@ -1,11 +1,11 @@
 //! A line while it is read, word by word.
 ghost use Rattle.std.specs.Prelude.{◌≡◌, [], ◌∷◌, ◌++◌, IfOk, OnOk};
-ghost use Rattle.theory.specs.ProofReading.{line_fault, IsGroup, IsAddition, IsDeletion};
+ghost use Rattle.theory.specs.ProofReading.{IsGroup, IsAddition, IsDeletion};
 ghost use Rattle.lrat.specs.LineWords.{IsCounting};
 ghost use Rattle.lrat.specs.LineMachine.{at_id, on, fault_in, at_end, IsWithin};
-ghost use Rattle.lrat.specs.LineStates.{addition_of, group_of, deletion_of, state_at, state_of, Takes, IsFault, reading_of};
+ghost use Rattle.lrat.specs.LineStates.{addition_of, group_of, deletion_of, state_at, state_of, Takes, kind_of, reading_of};
 
-use crate::fault::TextFault;
+use crate::fault::LineFault;
 use crate::step::{Addition, Deletion, Group, Step};
 use crate::word::{MAX_LITERAL, MAX_NUMBER, Word};
 use cnf::Lit;
@@ -198,24 +198,24 @@ impl Line {
         }
     }
 
-    /// The fault of a word that can't stand next, on a line of this number.
-    pub fn fault(&self, word: Word, number: u64) -> TextFault
-        ensures { IsFault result (line_fault (fault_in (state_of self.now) word) number) }
+    /// The fault of a word that can't stand next.
+    pub(crate) fn fault(&self, word: Word) -> LineFault
+        ensures { kind_of result ≡ fault_in (state_of self.now) word }
     {
         let size = match word {
-            Word::Zero => return TextFault::BadShape(number),
+            Word::Zero => return LineFault::BadShape,
             Word::Positive(size) | Word::Negative(size) => size,
-            Word::Mark | Word::Other => return TextFault::BadNumber(number),
+            Word::Mark | Word::Other => return LineFault::BadNumber,
         };
         let limit = match self.part {
             Part::Literals => MAX_LITERAL,
-            Part::AdditionEnd | Part::DeletionEnd => return TextFault::BadShape(number),
+            Part::AdditionEnd | Part::DeletionEnd => return LineFault::BadShape,
             _ => MAX_NUMBER,
         };
         if size > limit {
-            TextFault::BadNumber(number)
+            LineFault::BadNumber
         } else {
-            TextFault::BadShape(number)
+            LineFault::BadShape
         }
     }
 

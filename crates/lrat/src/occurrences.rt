@@ -7,7 +7,7 @@ ghost use Rattle.theory.specs.Truth.{IsOver};
 ghost use Rattle.lrat.specs.Occurrences.{code, IsIn, Grows};
 ghost use Rattle.lrat.specs.Indexed.{IsIndexed};
 
-use crate::clauses::Clauses;
+use crate::clauses::{Clauses, sweep};
 use cnf::Lit;
 use std::alloc::{AllocError, Global};
 
@@ -84,7 +84,7 @@ impl Occurrences {
         }
     }
 
-    /// Enters the clauses that came since the last time.
+    /// Enters the clauses that came since the last time, and are there.
     pub(crate) fn enter_all(&mut self, alloc: Global, clauses: &Clauses) -> Result<(), AllocError>
         requires { IsIndexed clauses.now.slots self.old }
         ensures indexed { IsIndexed clauses.now.slots self.new }
@@ -93,11 +93,25 @@ impl Occurrences {
         let vars = clauses.vars();
         make_room(alloc, &mut self.lists, 2 * vars as usize + 2)?;
         while self.entered < clauses.len() {
-            let clause = clauses.clause(self.entered);
-            enter(&mut self.lists, vars, clause, self.entered)?;
+            if let Some((_, clause)) = clauses.at(self.entered) {
+                enter(&mut self.lists, vars, clause, self.entered)?;
+            }
             self.entered += 1;
         }
         Ok(())
+    }
+
+    /// Drops the places of clauses that aren't there any more from a literal's list. Each is met once, so that taking many clauses away costs
+    /// later steps nothing.
+    pub(crate) fn sweep(&mut self, lit: Lit, clauses: &Clauses)
+        requires { IsIndexed clauses.now.slots self.old }
+        ensures indexed { IsIndexed clauses.now.slots self.new }
+        ensures entered { self.new.entered ≡ self.old.entered }
+    {
+        let index = code(lit);
+        if index < self.lists.len() {
+            sweep(&mut self.lists[index], clauses);
+        }
     }
 
     /// The places of the clauses entered that have a literal; some may not be there any more.

@@ -13,8 +13,8 @@ use crate::step::Step;
 use crate::word::{LINE_FEED, Word, is_blank, read_word};
 use std::alloc::Global;
 
-/// The greatest length of a text.
-const MAX_BYTES: usize = 4_294_967_296;
+/// The greatest length of a proof's text, in bytes.
+pub const MAX_BYTES: usize = 4_294_967_296;
 
 /// Whether a line feed is among the bytes.
 fn has_line_feed(bytes: &[u8]) -> bool
@@ -35,7 +35,7 @@ fn refusal(line: &Line, word: Word, rest: &[u8], number: u64) -> TextFault
         IsFault result (line_fault fault number) }
 {
     if has_line_feed(rest) {
-        line.fault(word, number)
+        line.fault(word).at(number)
     } else {
         TextFault::LineNotEnded(number)
     }

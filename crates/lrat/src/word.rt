@@ -16,7 +16,7 @@ pub const MAX_NUMBER: u64 = 9_223_372_036_854_775_807;
 pub const MAX_LITERAL: u64 = 2_147_483_647;
 
 /// What stands for every number above the greatest.
-const ABOVE_MAX: u64 = MAX_NUMBER + 1;
+pub(crate) const ABOVE_MAX: u64 = MAX_NUMBER + 1;
 
 /// What a word is. The size of a number above the greatest is one above it.
 #[derive(Clone, Copy)]
@@ -46,14 +46,14 @@ pub fn is_blank(byte: u8) -> bool
 }
 
 /// Whether a byte is no byte of a word.
-fn ends_word(byte: u8) -> bool
+pub(crate) fn ends_word(byte: u8) -> bool
     ensures { result ≡ ends_word byte }
 {
     byte == LINE_FEED || is_blank(byte)
 }
 
 /// A number's size with one digit more.
-fn with_digit(size: u64, digit: u8) -> u64
+pub(crate) fn with_digit(size: u64, digit: u8) -> u64
     requires size { size ≤ ABOVE_MAX }
     requires digit { digit < 10 }
     ensures { result ≡ capped (size * 10 + digit) }

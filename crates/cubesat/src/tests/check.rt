@@ -1,4 +1,5 @@
 //! Worked rows of checking: the line written for the bytes of a formula and a proof.
+use super::faulty::Trickle;
 use super::{FOUR, FOUR_PROOF, WIDE, WIDE_PROOF};
 use crate::{Checked, RunFault, check_run};
 use cnf::{Place, ReadFault};
@@ -8,7 +9,10 @@ use std::test::Fail;
 
 const ACCEPTED: &str = "accepted\n";
 
-/// Checks that the proof has this line, and the verdict that it says.
+/// How many bytes of a proof its reader gives a call: so that words and lines are cut everywhere, and all at once.
+const PIECES: [usize; 5] = [1, 2, 3, 7, 1000];
+
+/// Checks that the proof has this line, and the verdict that it says, in whatever pieces it comes.
 fn has_line(
     rt: &impl Abort,
     alloc: Global,
@@ -16,15 +20,22 @@ fn has_line(
     proof: &str,
     line: &str,
 ) -> Result<(), Fail> {
-    let mut answer = Vec::new(alloc);
-    let checked = check_run(alloc, formula.as_bytes(), proof.as_bytes(), &mut answer)?;
-    assert_eq!(rt; answer.as_slice(), line.as_bytes(), "line of {proof}");
     let wanted = if line == ACCEPTED {
         Checked::Accepted
     } else {
         Checked::Refused
     };
-    assert_eq!(rt; checked, wanted, "verdict on {proof}");
+    for count in PIECES {
+        let mut answer = Vec::new(alloc);
+        let reader = Trickle::pieces(proof.as_bytes(), count);
+        let checked = check_run(alloc, formula.as_bytes(), reader, &mut answer)?;
+        assert_eq!(rt;
+            answer.as_slice(),
+            line.as_bytes(),
+            "line of {proof} by {count}"
+        );
+        assert_eq!(rt; checked, wanted, "verdict on {proof} by {count}");
+    }
     Ok(())
 }
 

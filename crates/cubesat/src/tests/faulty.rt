@@ -1,4 +1,4 @@
-//! Readers and writers that move a byte a call, and fail where a test wants it.
+//! Readers that give a few bytes a call, writers that take one, and failures where a test wants them.
 use std::alloc::Global;
 use std::io;
 use std::io::{ErrorKind, Read, Write};
@@ -10,26 +10,34 @@ enum End {
     Ends,
 }
 
-/// A reader that gives a byte a call.
+/// A reader that gives so many bytes a call.
 #[derive(Drop)]
 pub(crate) struct Trickle<'a> {
     left: &'a [u8],
+    count: usize,
     end: End,
 }
 
 impl<'a> Trickle<'a> {
-    /// Gives the bytes and ends.
+    /// Gives a byte a call and ends.
     pub(crate) fn whole(bytes: &'a [u8]) -> Trickle<'a> {
+        Trickle::pieces(bytes, 1)
+    }
+
+    /// Gives pieces of so many bytes, the last one of those that are left, and ends.
+    pub(crate) fn pieces(bytes: &'a [u8], count: usize) -> Trickle<'a> {
         Trickle {
             left: bytes,
+            count,
             end: End::Ends,
         }
     }
 
-    /// Fails behind the bytes.
+    /// Gives a byte a call and fails behind the last.
     pub(crate) fn broken(bytes: &'a [u8]) -> Trickle<'a> {
         Trickle {
             left: bytes,
+            count: 1,
             end: End::Fails,
         }
     }
@@ -37,15 +45,16 @@ impl<'a> Trickle<'a> {
 
 impl Read for Trickle<'_> {
     fn read(&mut self, buf: &mut [u8]) -> io::Result<usize> {
-        match (self.left.split_first(), buf.first_mut(), self.end) {
-            (Some((byte, left)), Some(place), _) => {
-                *place = *byte;
-                self.left = left;
-                Ok(1)
-            }
-            (_, _, End::Ends) => Ok(0),
-            (_, _, End::Fails) => Err(io::Error::from(ErrorKind::Interrupted)),
+        let count = self.count.min(self.left.len()).min(buf.len());
+        if count == 0 {
+            return match self.end {
+                End::Ends => Ok(0),
+                End::Fails => Err(io::Error::from(ErrorKind::Interrupted)),
+            };
         }
+        buf[..count].copy_from_slice(&self.left[..count]);
+        self.left = &self.left[count..];
+        Ok(count)
     }
 }
 

@@ -3,7 +3,9 @@ use super::{FOUR, FOUR_PROOF, WIDE, WIDE_PROOF};
 use crate::command;
 use std::process::Abort;
 use std::rt::{Env, Files};
+use std::sync::Wait;
 use std::test::Fail;
+use std::thread::Threads;
 use std::{env, fs};
 
 /// Paths in a folder for files that don't last, of this test alone.
@@ -21,7 +23,7 @@ struct Printed {
     faults: Vec<u8>,
 }
 
-fn run<R: Files + AllocGlobal>(rt: &R, words: &[&str]) -> Printed {
+fn run<R: Files + AllocGlobal + Threads + Wait + Sync>(rt: &R, words: &[&str]) -> Printed {
     let mut answer = Vec::new(rt.alloc());
     let mut faults = Vec::new(rt.alloc());
     let status = command(rt, rt.alloc(), words, &mut answer, &mut faults);
@@ -42,6 +44,8 @@ fn a_formula_is_decided(rt: HostRuntime) -> Result<(), Fail> {
         "solve",
         "--budget",
         "1",
+        "--hands",
+        "4",
         "--proof",
         proof.as_str(),
         formula.as_str(),
@@ -209,6 +213,12 @@ fn wrong_command_lines(rt: HostRuntime) {
             "cubesat", "solve", "--budget", budget, "--proof", "x.lrat", "x.cnf",
         ];
         is_wrong(&rt, &run(&rt, &words), budget);
+    }
+    for hands in ["0", "17", "x"] {
+        let words = [
+            "cubesat", "solve", "--hands", hands, "--proof", "x.lrat", "x.cnf",
+        ];
+        is_wrong(&rt, &run(&rt, &words), hands);
     }
 }
 

@@ -1,9 +1,14 @@
 //! Worked rows of runs with memory, readers and writers that serve.
+ghost use Rattle.std.specs.Prelude.{◌≤◌};
+
 use super::{FOUR, FOUR_PROOF};
-use crate::{Verdict, run_one, runs_write_the_same};
+use crate::{Verdict, run, run_one, runs_write_the_same};
+use cubes::OpenGate;
 use std::alloc::Global;
 use std::process::Abort;
+use std::sync::Wait;
 use std::test::Fail;
+use std::thread::Threads;
 
 /// A formula, a budget, its proof and its answer.
 #[derive(Clone, Copy)]
@@ -19,7 +24,39 @@ const EIGHT: &str =
 
 const UNSATISFIABLE: &str = "s UNSATISFIABLE\n";
 
-fn check(rt: &impl Abort, alloc: Global, row: &Row) -> Result<(), Fail> {
+/// Whether several hands write the same.
+fn hands_agree<R: Threads + Wait + Sync>(
+    rt: &R,
+    alloc: Global,
+    row: &Row,
+    verdict: Verdict,
+) -> Result<bool, Fail>
+    requires { (1 ≤ row.now.budget) × (row.now.budget ≤ 100000) }
+{
+    for hands in [1, 2, 8] {
+        let mut proof = Vec::new(alloc);
+        let mut answer = Vec::new(alloc);
+        let text = row.text.as_bytes();
+        let by_hands = run(
+            rt,
+            alloc,
+            text,
+            &mut answer,
+            &mut proof,
+            row.budget,
+            hands,
+            &OpenGate,
+        )?;
+        let is_same = proof.as_slice() == row.proof.as_bytes()
+            && answer.as_slice() == row.answer.as_bytes();
+        if by_hands != verdict || !is_same {
+            return Ok(false);
+        }
+    }
+    Ok(true)
+}
+
+fn check<R: Abort + Threads + Wait + Sync>(rt: &R, alloc: Global, row: &Row) -> Result<(), Fail> {
     if row.budget < 1 || row.budget > 100_000 {
         return Err(Fail::from("budget"));
     }
@@ -37,6 +74,7 @@ fn check(rt: &impl Abort, alloc: Global, row: &Row) -> Result<(), Fail> {
         Verdict::Satisfiable
     };
     assert_eq!(rt; verdict, wanted, "verdict of {at}");
+    assert!(rt; hands_agree(rt, alloc, row, verdict)?, "hands at {at}");
     Ok(())
 }
 

@@ -1,17 +1,32 @@
-use Rattle.cubesat.proofs.CheckRuns.{CheckSays-unread, IsCheckOf-made, IsProofUnread-made}
+use Rattle.std.proofs.Common.{rules}
+use Rattle.lrat.specs.Running.{stream_of, vars_of}
+use Rattle.cubesat.proofs.CheckRuns.{CheckSays-unread, IsCheckOf-made}
+use Rattle.cubesat.proofs.StreamedLemmas.{said-of_text, some_reading}
 use Rattle.cubesat.proofs.check.check_run.Goals as goal
 
 pub returns-in-Err : goal.returns-in-Err
 returns-in-Err g c =
     rw c.of_read.ensures (CheckSays-unread (g.R.Read.remaining c.args.formula) (g.P.Read.remaining c.args.proof) (g.W.Write.contents c.args.answer.now) c.in-Err.fault c.in-Err.ensures)
 
-pub returns-in-Err-read_bytes : goal.returns-in-Err-read_bytes
-returns-in-Err-read_bytes g c = IsProofUnread-made (g.R.Read.remaining c.args.formula) (g.W.Write.contents c.args.answer.now) c.in-Ok.formula c.in-Ok.ensures
-
 pub returns : goal.returns
-returns g c = record {
-  line = c.in-Ok-checked_line.line.text.items;
-  check = IsCheckOf-made (g.R.Read.remaining c.args.formula) (g.P.Read.remaining c.args.proof) c.in-Ok.formula c.in-Ok-read_bytes.proof.items c.in-Ok-checked_line.line.checked c.in-Ok-checked_line.line.text.items c.in-Ok.ensures c.in-Ok-read_bytes.ensures
-      c.in-Ok-checked_line.ensures;
-  written = rw c.deref.ensures.value at c.in_ok-write_text.ensures;
-}
+returns g c =
+    let F = c.in-Ok.formula in
+    let fed = c.in_ok-feed_all.ensures in
+    let r = some_reading fed.bytes in
+    let stream = c.in-Ok-new.stream in
+    record {
+      line = c.in-Ok-checked_line.line.text.items;
+      check = IsCheckOf-made (g.R.Read.remaining c.args.formula) (g.P.Read.remaining c.args.proof) F fed.bytes c.in-Ok-checked_line.line.checked c.in-Ok-checked_line.line.text.items c.in-Ok.ensures fed.are
+          (c.in-Ok-checked_line.ensures F fed.bytes r.0 r.1 (said-of_text F (vars_of stream) (stream_of stream) (stream_of c.feed_all.new.stream) fed.bytes r.0 c.verdict.result r.1 c.in-Ok-new.ensures.vars c.in-Ok-new.ensures.begin fed.fed c.verdict.ensures));
+      written = rw c.deref.ensures.value at c.in_ok-write_text.ensures;
+    }
+
+pub returns-in_err-write_text : goal.returns-in_err-write_text
+returns-in_err-write_text g c =
+    let F = c.in-Ok.formula in
+    let fed = c.in_ok-feed_all.ensures in
+    let r = some_reading fed.bytes in
+    let stream = c.in-Ok-new.stream in
+    let check = IsCheckOf-made (g.R.Read.remaining c.args.formula) (g.P.Read.remaining c.args.proof) F fed.bytes c.in-Ok-checked_line.line.checked c.in-Ok-checked_line.line.text.items c.in-Ok.ensures fed.are
+    (c.in-Ok-checked_line.ensures F fed.bytes r.0 r.1 (said-of_text F (vars_of stream) (stream_of stream) (stream_of c.feed_all.new.stream) fed.bytes r.0 c.verdict.result r.1 c.in-Ok-new.ensures.vars c.in-Ok-new.ensures.begin fed.fed c.verdict.ensures)) in
+    search rules

@@ -1,8 +1,15 @@
-use Rattle.cubesat.proofs.WrittenLemmas.{Appends-more, written-within}
+use Rattle.std.proofs.Common.{refl, length, subst, sym}
+use Rattle.std.specs.Io.KnownBytes.{Appends}
+use Rattle.std.proofs.Math.Seq.{take-length}
+use Rattle.cubesat.proofs.WrittenLemmas.{Appends-kept}
 use Rattle.cubesat.proofs.output.write_text.Goals as goal
 
-pub loop-written-preserved : goal.loop-written-preserved
-loop-written-preserved g c = record {
-  within = written-within c.args.text.now c.loop-written.written c.in-Ok.count c.loop-written.invariant.within c.in-Ok.ensures.bound;
-  begun = Appends-more _ _ _ c.args.text.now c.loop-written.written c.in-Ok.count c.loop-written.invariant.begun c.in-Ok.ensures.bytes;
-}
+pub returns-in-Err : goal.returns-in-Err
+returns-in-Err g c =
+    let text = c.args.text.now in
+    let a = g.W.Write.contents c.args.writer.now in
+    let d = g.W.Write.contents c.flush.new.self in (
+      refl,
+      length text,
+      subst (Appends a d) (sym (take-length text)) (Appends-kept a (g.W.Write.contents c.write_bytes.new.writer) d text c.in_ok-write_bytes.ensures c.flush.ensures.bytes),
+    )

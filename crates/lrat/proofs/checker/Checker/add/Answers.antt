@@ -1,8 +1,8 @@
-use Rattle.std.proofs.Common.{◌≡◌, ◌∙◌, ◌||◌, [], Bool, true, false, ap, sym, refl}
+use Rattle.std.proofs.Common.{arith, ◌≡◌, ◌∙◌, ◌||◌, [], Bool, true, false, ap, sym, refl}
 use Rattle.std.proofs.lemmas.Bool.{leb-false}
 use Rattle.lrat.specs.CheckFaults.{faults_of}
 use Rattle.lrat.specs.Tested.{checker_of}
-use Rattle.lrat.proofs.AdditionLemmas.{passed, is_empty-length, unused-added}
+use Rattle.lrat.proofs.AdditionLemmas.{passed, is_empty-length}
 use Rattle.lrat.proofs.CheckLemmas.{add-leaves}
 use Rattle.lrat.proofs.GroupLemmas.{no_fault}
 use Rattle.lrat.proofs.OccurrenceLemmas.{IsIndexed-stay}
@@ -17,8 +17,8 @@ or-false : (a b : Bool) → b ≡ false → a ≡ a || b
 or-false true b h = refl
 or-false false b h = sym h
 
-pub returns-then-is_empty : goal.returns-then-is_empty
-returns-then-is_empty c =
+pub returns-then-is_empty-clause-tested : goal.returns-then-is_empty-clause-tested
+returns-then-is_empty-clause-tested c =
     let s = checker_of c.args.self.now in
     let a = c.args.addition.now in
     let none = ap faults_of (sym (no_fault c.in_ok-fault.fault (sym c.is_some.ensures ∙ c.if-is_some.false))) ∙ c.in_ok-fault.ensures.fault in
@@ -30,12 +30,12 @@ returns-then-is_empty c =
         held_vars = c.go_back.ensures.vars ∙ c.addition_fault.ensures.vars;
         indexed = IsIndexed-stay _ _ c.addition_fault.new.occurrences c.in_ok-push.ensures.stay c.addition_fault.ensures.indexed;
         none_held = c.go_back.ensures.left [] refl (Extends-nothing c.addition_fault.new.held.literals);
-        unused = λ n more. rw clauses (unused-added _ a.id c.args.self.now.last a.clause (leb-false a.id c.args.self.now.last (passed _ _ _ a none).0) c.requires.unused n (rw c.id-self.ensures.id at more));
+        up_to = rw c.id-self.ensures.id (rw c.id.ensures.id at c.in_ok-push.ensures.up_to);
       },
     )
 
-pub returns-else-is_empty : goal.returns-else-is_empty
-returns-else-is_empty c =
+pub returns-else-is_empty-clause-tested : goal.returns-else-is_empty-clause-tested
+returns-else-is_empty-clause-tested c =
     let s = checker_of c.args.self.now in
     let a = c.args.addition.now in
     let none = ap faults_of (sym (no_fault c.in_ok-fault.fault (sym c.is_some.ensures ∙ c.if-is_some.false))) ∙ c.in_ok-fault.ensures.fault in
@@ -47,6 +47,21 @@ returns-else-is_empty c =
         held_vars = c.go_back.ensures.vars ∙ c.addition_fault.ensures.vars;
         indexed = IsIndexed-stay _ _ c.addition_fault.new.occurrences c.in_ok-push.ensures.stay c.addition_fault.ensures.indexed;
         none_held = c.go_back.ensures.left [] refl (Extends-nothing c.addition_fault.new.held.literals);
-        unused = λ n more. rw clauses (unused-added _ a.id c.args.self.now.last a.clause (leb-false a.id c.args.self.now.last (passed _ _ _ a none).0) c.requires.unused n (rw c.id-self.ensures.id at more));
+        up_to = rw c.id-self.ensures.id (rw c.id.ensures.id at c.in_ok-push.ensures.up_to);
       },
     )
+
+pub push-requires-clause-positive : goal.push-requires-clause-positive
+push-requires-clause-positive c =
+    let a = c.args.addition.now in
+    let none = ap faults_of (sym (no_fault c.in_ok-fault.fault (sym c.is_some.ensures ∙ c.if-is_some.false))) ∙ c.in_ok-fault.ensures.fault in
+    let rises = leb-false a.id c.args.self.now.last (passed _ _ _ a none).0 in
+    rw c.id.ensures.id (omega arith)
+
+pub push-requires-clause-above : goal.push-requires-clause-above
+push-requires-clause-above c =
+    let a = c.args.addition.now in
+    let none = ap faults_of (sym (no_fault c.in_ok-fault.fault (sym c.is_some.ensures ∙ c.if-is_some.false))) ∙ c.in_ok-fault.ensures.fault in
+    let rises = leb-false a.id c.args.self.now.last (passed _ _ _ a none).0 in
+    let id = c.id.ensures.id in
+    λ i s g. let up = c.requires.up_to i s g in omega arith

@@ -1,0 +1,74 @@
+-- From the hands that came home to the closed pool, and the results of all.
+use Rattle.std.proofs.Common.{◌≡◌, ℕ, zero, suc, ◌<◌, ◌≤◌, ◌^◌, false, List, [], ◌∷◌, ◌++◌, map, flat_map, length, Option, Some, slice_get, All, refl, sym, ap, ◌∙◌, subst, arith}
+use Rattle.std.proofs.lemmas.List.{length-map, map-append}
+use Rattle.std.proofs.lemmas.List.Elements.{All-map, All-head, All-tail, All-cons, All-nil}
+use Rattle.theory.specs.Truth.{Formula}
+use Rattle.theory.specs.Ledger.{Ledger}
+use Rattle.theory.specs.Order.{IsAllOnce, IsInOrder}
+use Rattle.theory.specs.Literals.{Literal}
+use Rattle.theory.specs.Work.{IsWork}
+use Rattle.theory.specs.Harvest.{Share, ledgers_of, results_of, IsClosed, IsHarvest}
+use Rattle.theory.proofs.Membership.{slice_get-map}
+use Rattle.theory.proofs.Harvests.{IsClosed-IsHarvest}
+use Rattle.pool.specs.Hands.{HandView}
+use Rattle.pool.specs.Pools.{AreLedgersOf}
+use Rattle.cubes.specs.declared.hands.Worked.{Worked}
+use Rattle.cubes.specs.Solved.{solved_of}
+use Rattle.cubes.specs.Shares.{share_of, AreInOrder}
+
+shares-ledgers : (works : List Worked) → ledgers_of (map share_of works) ≡ map (λ (h : HandView). h.ledger) (map (λ (w : Worked). w.hand) works)
+shares-ledgers [] = refl
+shares-ledgers (w ∷ works) = ap (λ ls. w.hand.ledger ∷ ls) (shares-ledgers works)
+
+pub shares-results : (works : List Worked) → results_of (map share_of works) ≡ map solved_of (flat_map (λ (w : Worked). w.solved.items) works)
+shares-results [] = refl
+shares-results (w ∷ works) = ap (λ rs. map solved_of w.solved.items ++ rs) (shares-results works) ∙ sym (map-append solved_of w.solved.items (flat_map (λ (v : Worked). v.solved.items) works))
+
+slice_get-mapped : {A X : Type 0} (f : A → X) (xs : List A) (k : ℕ) (x : A) → slice_get xs k ≡ Some x → slice_get (map f xs) k ≡ Some (f x)
+slice_get-mapped f [] k x h = absurd (cc)
+slice_get-mapped f (y ∷ xs) zero x h = let e : y ≡ x = cc in ap (λ a. Some (f a)) e
+slice_get-mapped f (y ∷ xs) (suc k) x h = slice_get-mapped f xs k x h
+
+ledgers-in_order : (works : List Worked) → AreInOrder works → AreLedgersOf (map (λ (w : Worked). w.hand) works) (map (λ (h : HandView). h.ledger) (map (λ (w : Worked). w.hand) works))
+ledgers-in_order works ordered = record {
+  as_many = length-map (map (λ (w : Worked). w.hand) works) (λ (h : HandView). h.ledger);
+  each = λ place h e. at place h e (slice_get-map (λ (w : Worked). w.hand) works place h e);
+}
+  where
+    at : (place : ℕ) (h : HandView) → slice_get (map (λ (w : Worked). w.hand) works) place ≡ Some h → (w : Worked) × (slice_get works place ≡ Some w) × (w.hand ≡ h)
+        → slice_get (map (λ (g : HandView). g.ledger) (map (λ (w : Worked). w.hand) works)) h.number ≡ Some h.ledger
+    at place h e w =
+        let number : h.number ≡ place = sym (ap (λ (g : HandView). g.number) w.2) ∙ ordered place w.0 w.1 in
+        ap (slice_get (map (λ (g : HandView). g.ledger) (map (λ (w : Worked). w.hand) works))) number ∙ slice_get-mapped (λ (g : HandView). g.ledger) (map (λ (w : Worked). w.hand) works) place h e
+
+none-short : (F : Formula) (B : ℕ) (works : List Worked) → All (λ w. IsWork F B w.short_of_memory w.hand.ledger (map solved_of w.solved.items)) works → All (λ w. w.short_of_memory ≡ false) works
+    → All (λ w. IsWork F B false w.hand.ledger (map solved_of w.solved.items)) works
+none-short F B [] all long = All-nil (λ (w : Worked). IsWork F B false w.hand.ledger (map solved_of w.solved.items))
+none-short F B (w ∷ works) all long =
+    All-cons (λ (v : Worked). IsWork F B false v.hand.ledger (map solved_of v.solved.items)) w works
+    (subst (λ b. IsWork F B b w.hand.ledger (map solved_of w.solved.items)) (All-head (λ (v : Worked). v.short_of_memory ≡ false) w works long)
+    (All-head (λ (v : Worked). IsWork F B v.short_of_memory v.hand.ledger (map solved_of v.solved.items)) w works all))
+    (none-short F B works (All-tail (λ (v : Worked). IsWork F B v.short_of_memory v.hand.ledger (map solved_of v.solved.items)) w works all) (All-tail (λ (v : Worked). v.short_of_memory ≡ false) w works long))
+
+pub closed-from : (F : Formula) (B : ℕ) (works : List Worked) (hands : List HandView) (root : List Literal) (left : List (List Literal)) (least : Option ℕ) (undone : ℕ) → 1 ≤ length works → AreInOrder works
+    → All (λ w. IsWork F B w.short_of_memory w.hand.ledger (map solved_of w.solved.items)) works → All (λ w. w.short_of_memory ≡ false) works → hands ≡ map (λ (w : Worked). w.hand) works → root ≡ []
+    → ((ledgers : List Ledger) → AreLedgersOf hands ledgers → IsAllOnce root ledgers left) → ((ledgers : List Ledger) → AreLedgersOf hands ledgers → IsInOrder ledgers least undone) → length left < 2 ^ 64
+    → IsClosed F B (map share_of works) left least undone
+closed-from F B works hands root left least undone some ordered all long same at_root once order few =
+    let ledgers : List Ledger = map (λ (h : HandView). h.ledger) (map (λ (w : Worked). w.hand) works) in
+    let of_hands : AreLedgersOf hands ledgers = subst (λ hs. AreLedgersOf hs ledgers) (sym same) (ledgers-in_order works ordered) in
+    let n : length (map share_of works) ≡ length works = length-map works share_of in
+    record {
+      some_hand = omega arith;
+      works = All-map (λ s. IsWork F B false s.ledger s.results) share_of works (none-short F B works all long);
+      once = rw shares-ledgers (subst (λ r. IsAllOnce r ledgers left) at_root (once ledgers of_hands));
+      in_order = rw shares-ledgers (order ledgers of_hands);
+      few_left = few;
+    }
+
+-- so nothing was left and none to be done
+pub closed-whole : (F : Formula) (B : ℕ) (works : List Worked) (left : List (List Literal)) (least : Option ℕ) (undone : ℕ) → IsClosed F B (map share_of works) left least undone → IsHarvest F B (map share_of works) left undone
+closed-whole F B works left least undone closed = IsClosed-IsHarvest F B (map share_of works) left least undone closed
+
+pub closed-empty : (F : Formula) (B : ℕ) (shares : List Share) (left : List (List Literal)) (least : Option ℕ) (undone : ℕ) → IsHarvest F B shares left undone → IsClosed F B shares left least undone → IsClosed F B shares [] least 0
+closed-empty F B shares left least undone harvest closed = rw (harvest.none_left, harvest.none_undone) at closed

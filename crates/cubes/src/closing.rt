@@ -1,0 +1,64 @@
+//! What all hands have done, once they are home.
+ghost use Rattle.std.specs.Prelude.{◌≡◌, ℕ, ◌≤◌, false, List, [], map, flat_map, length, All, Option, Some, IfOk, slice_get};
+ghost use Rattle.theory.specs.Literals.{Literal};
+ghost use Rattle.theory.specs.Ledger.{times};
+ghost use Rattle.theory.specs.Harvest.{IsClosed, ledgers_of};
+ghost use Rattle.theory.specs.Ledger.{all_got};
+ghost use Rattle.theory.specs.Work.{IsWork};
+ghost use Rattle.theory.specs.Results.{IsWhole};
+ghost use Rattle.pool.specs.Pools.{AreAllOf};
+ghost use Rattle.cubes.specs.Solved.{solved_of};
+ghost use Rattle.cubes.specs.Shares.{share_of, AreInOrder};
+
+use crate::hands::Worked;
+use crate::solved::Solved;
+use cnf::Formula;
+use pool::{Hand, Pool};
+use std::alloc::{AllocError, Global};
+
+/// The hands, and their results one list after the other.
+fn parted(alloc: Global, works: Vec<Worked>) -> Result<(Vec<Hand>, Vec<Solved>), AllocError>
+    ensures hands { IfOk result (λ r. r.0.items ≡ map (λ w. w.hand) works.items) }
+    ensures results { IfOk result (λ r. r.1.items ≡ flat_map (λ w. w.solved.items) works.items) }
+{
+    let mut hands = Vec::new(alloc);
+    let mut results = Vec::new(alloc);
+    for worked in works {
+        let Worked {
+            hand,
+            mut solved,
+            short_of_memory: _,
+        } = worked;
+        hands.push(hand)?;
+        results.append(&mut solved)?;
+    }
+    Ok((hands, results))
+}
+
+/// The results of all hands of a pool, one list after the other, once the pool is closed. The hands come in the order of their numbers;
+/// each did its work for this formula and this budget, and none is short of memory. At the close no cube was left and none to be done, and
+/// the results are enough for the whole tree. It waits for nothing, and fails only where a request for memory is refused.
+pub fn harvest(
+    alloc: Global,
+    formula: &Formula,
+    budget: u32,
+    pool: Pool,
+    works: Vec<Worked>,
+) -> Result<Vec<Solved>, AllocError>
+    requires pool { AreAllOf pool (map (λ w. w.hand) works.items) }
+    requires some { 1 ≤ length works.items }
+    requires in_order { AreInOrder works.items }
+    requires root { pool.root ≡ [] }
+    requires works { All (λ w. IsWork formula.now budget w.short_of_memory w.hand.ledger (map solved_of w.solved.items)) works.items }
+    requires long { All (λ w. w.short_of_memory ≡ false) works.items }
+    ensures results { IfOk result (λ r. r.items ≡ flat_map (λ w. w.solved.items) works.items) }
+    ensures closed { IfOk result (λ _. (least : Option ℕ) × IsClosed formula.now budget (map share_of works.items) [] least 0) }
+    ensures once { IfOk result (λ _. (Q : List Literal) → times Q (flat_map all_got (ledgers_of (map share_of works.items))) ≤ 1) }
+    ensures whole { IfOk result (λ r. IsWhole formula.now budget (map solved_of r.items)) }
+{
+    let _vars = formula.vars(); // the formula and the budget are there for the contract alone
+    let _budget = budget;
+    let (hands, results) = parted(alloc, works)?;
+    let _closing = pool.close(hands)?;
+    Ok(results)
+}

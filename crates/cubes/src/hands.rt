@@ -1,0 +1,278 @@
+//! The work of a hand: it takes cubes from the pool, solves them, and puts the halves of those that are exhausted.
+ghost use Rattle.std.specs.Prelude.{◌≡◌, ◌≤◌, ℕ, List, false, IfOk, OnOk, OnErr, MatchOption, is_ok};
+ghost use Rattle.theory.specs.Literals.{Literal, IsVariable, has_var};
+ghost use Rattle.theory.specs.Truth.{Formula, IsOver};
+ghost use Rattle.theory.specs.Search.{Runs};
+ghost use Rattle.theory.specs.Ledger.{IsFit};
+ghost use Rattle.cdcl.specs.Outcome.{outcome_of};
+ghost use Rattle.pool.specs.Hands.{SameHand};
+ghost use Rattle.cubes.specs.Hands.{Gets, IsWorker, EndsIn, Settles, AddsRound, AddsHandOn, AddsHalves, AddsCarried, Worked_as};
+
+use crate::gate::Gate;
+use crate::next::go_right_below;
+use crate::place::place_of;
+use crate::results::solve;
+use crate::solved::{Solved, What};
+use cdcl::{Outcome, Solver, split};
+use cnf::{Formula, Lit};
+use kernel::Cube;
+use pool::{Hand, Taken};
+use std::alloc::{AllocError, Global};
+use std::sync::Wait;
+use std::thread;
+
+/// The deepest cubes that lie in the pool: with more literals, places in the tree could not be told apart by 32 bits.
+const DEEPEST: usize = 32;
+
+/// What a hand leaves behind when it goes home.
+#[derive(Drop)]
+pub struct Worked {
+    pub hand: Hand,
+    pub solved: Vec<Solved>,
+    /// Whether a request for memory was refused, so that not all is done.
+    pub short_of_memory: bool,
+}
+
+/// How the work goes on behind a cube that was solved.
+#[derive(Clone, Copy)]
+pub(crate) enum Ending {
+    Model,
+    Refuted,
+    /// It is exhausted, in this variable.
+    Exhausted(u32),
+}
+
+/// A hand at its work.
+#[derive(Drop)]
+pub(crate) struct Worker {
+    pub(crate) hand: Hand,
+    /// Its solver, once it has got a cube.
+    pub(crate) solver: Option<Solver>,
+    pub(crate) solved: Vec<Solved>,
+}
+
+/// One cube more, from the hand's own deque or else from another's.
+fn next(hand: &mut Hand) -> Option<Cube>
+    ensures same { SameHand hand.old hand.new }
+    ensures got { MatchOption result (hand.new ≡ hand.old)
+        (λ c. IsFit hand.old.vars c × Gets hand.old.ledger hand.new.ledger c) }
+{
+    if let Some(cube) = hand.take() {
+        return Some(cube);
+    }
+    let own = hand.number();
+    let count = hand.hands();
+    'others: for from in 0..count {
+        if from != own {
+            if let Taken::Got(cube) = hand.steal(from) {
+                return Some(cube);
+            }
+        }
+    }
+    None
+}
+
+fn ending_of(outcome: &Outcome) -> Ending
+    ensures { (F : Formula) (B : ℕ) (Q : List Literal) → Runs F B Q (outcome_of outcome.now) → EndsIn F Q (outcome_of outcome.now) result }
+{
+    match outcome {
+        Outcome::Model(_) => Ending::Model,
+        Outcome::Refuted(_) => Ending::Refuted,
+        Outcome::Exhausted(var) => Ending::Exhausted(*var),
+    }
+}
+
+impl Worker {
+    /// Solves a cube here, and keeps its result.
+    fn settle(&mut self, formula: &Formula, budget: u32, cube: &Cube) -> Result<Ending, AllocError>
+        requires budget { (1 ≤ budget) × (budget ≤ 100000) }
+        requires over { IsOver formula.now.vars cube.now }
+        requires worker { IsWorker formula.now self.old }
+        ensures hand { self.new.hand ≡ self.old.hand }
+        ensures settles { IfOk result (λ e. Settles formula.now budget cube.now e self.old.solved.items self.new.solved.items) }
+        ensures worker { OnOk result (IsWorker formula.now self.new) }
+        ensures none { OnErr result (self.new.solved.items ≡ self.old.solved.items) }
+    {
+        let alloc = *self.solved.allocator();
+        let copy = cube.copied()?;
+        let outcome = solve(alloc, formula, budget, cube, &mut self.solver)?;
+        let ending = ending_of(&outcome);
+        let what = What::Done(outcome);
+        self.solved.push(Solved { cube: copy, what })?;
+        Ok(ending)
+    }
+}
+
+impl Worker {
+    /// Hands a half of a cube on: it is put, or where that is refused, or where it is too deep for the pool, carried on here.
+    fn hand_on(&mut self, formula: &Formula, budget: u32, half: Cube) -> Result<(), AllocError>
+        requires budget { (1 ≤ budget) × (budget ≤ 100000) }
+        requires over { IsOver formula.now.vars half }
+        requires worker { IsWorker formula.now self.old }
+        ensures same { SameHand self.old.hand self.new.hand }
+        ensures worker { OnOk result (IsWorker formula.now self.new) }
+        ensures part { AddsHandOn formula.now budget (is_ok result) half self.old.hand.ledger self.new.hand.ledger self.old.solved.items self.new.solved.items }
+    {
+        if half.lits().len() > DEEPEST {
+            return self.carry_on(formula, budget, half);
+        }
+        self.hand.more();
+        match self.hand.put(half) {
+            Ok(()) => Ok(()),
+            Err(refused) => {
+                self.hand.less();
+                self.carry_on(formula, budget, refused)
+            }
+        }
+    }
+
+    /// Hands both halves of an exhausted cube on, the false one first.
+    fn hand_on_halves(
+        &mut self,
+        formula: &Formula,
+        budget: u32,
+        cube: &Cube,
+        var: u32,
+    ) -> Result<(), AllocError>
+        requires budget { (1 ≤ budget) × (budget ≤ 100000) }
+        requires over { IsOver formula.now.vars cube.now }
+        requires variable { IsVariable formula.now.vars var }
+        requires free { has_var cube.now var ≡ false }
+        requires worker { IsWorker formula.now self.old }
+        ensures same { SameHand self.old.hand self.new.hand }
+        ensures worker { OnOk result (IsWorker formula.now self.new) }
+        ensures part { AddsHalves formula.now budget (is_ok result) cube.now var self.old.hand.ledger self.new.hand.ledger self.old.solved.items self.new.solved.items }
+    {
+        let _vars = formula.vars(); // it ensures that there are fewer than 2^31
+        let (left, right) = split(cube, var)?;
+        self.hand_on(formula, budget, left)?;
+        self.hand_on(formula, budget, right)
+    }
+
+    /// Carries a half on here: solves the cubes of its tree from left to right, up to the first model.
+    fn carry_on(&mut self, formula: &Formula, budget: u32, half: Cube) -> Result<(), AllocError>
+        requires budget { (1 ≤ budget) × (budget ≤ 100000) }
+        requires over { IsOver formula.now.vars half }
+        requires worker { IsWorker formula.now self.old }
+        ensures same { SameHand self.old.hand self.new.hand }
+        ensures worker { OnOk result (IsWorker formula.now self.new) }
+        ensures part { AddsCarried formula.now budget (is_ok result) half self.old.hand.ledger self.new.hand.ledger self.old.solved.items self.new.solved.items }
+    {
+        let _vars = formula.vars(); // it ensures that there are fewer than 2^31
+        let depth = half.lits().len();
+        let mut cube = half;
+        'cubes: loop {
+            match self.settle(formula, budget, &cube)? {
+                Ending::Model => {
+                    self.hand.offer(place_of(&cube));
+                    return Ok(());
+                }
+                Ending::Exhausted(var) => cube.push(Lit::of(var, false))?,
+                Ending::Refuted => {
+                    if !go_right_below(&mut cube, depth)? {
+                        return Ok(());
+                    }
+                }
+            }
+        }
+    }
+
+    /// What is done with a cube that was got from the pool.
+    fn round<G: Gate>(
+        &mut self,
+        formula: &Formula,
+        budget: u32,
+        gate: &G,
+        cube: Cube,
+    ) -> Result<(), AllocError>
+        requires budget { (1 ≤ budget) × (budget ≤ 100000) }
+        requires over { IsOver formula.now.vars cube }
+        requires worker { IsWorker formula.now self.old }
+        ensures same { SameHand self.old.hand self.new.hand }
+        ensures worker { OnOk result (IsWorker formula.now self.new) }
+        ensures part { AddsRound formula.now budget (is_ok result) cube self.old.hand.ledger self.new.hand.ledger self.old.solved.items self.new.solved.items }
+    {
+        let place = place_of(&cube);
+        let seen = self.hand.look();
+        if let Some(least) = seen {
+            if least < place {
+                let what = What::Skipped(least);
+                self.solved.push(Solved { cube, what })?;
+                self.hand.less();
+                return Ok(());
+            }
+        }
+        gate.before(self.hand.number(), &cube);
+        let ending = self.settle(formula, budget, &cube);
+        gate.after(self.hand.number(), &cube);
+        match ending? {
+            Ending::Model => self.hand.offer(place),
+            Ending::Refuted => {}
+            Ending::Exhausted(var) => self.hand_on_halves(formula, budget, &cube, var)?,
+        }
+        self.hand.less();
+        Ok(())
+    }
+}
+
+impl Worker {
+    fn home(self, short_of_memory: bool) -> Worked
+        ensures hand { result.hand ≡ self.hand }
+        ensures solved { result.solved.items ≡ self.solved.items }
+        ensures short { result.short_of_memory ≡ short_of_memory }
+    {
+        let Worker {
+            hand,
+            solver: _,
+            solved,
+        } = self;
+        Worked {
+            hand,
+            solved,
+            short_of_memory,
+        }
+    }
+}
+
+/// The work of a hand: it takes cubes from its own deque, or else steals from the others, until nothing is left to be done or a hand
+/// halted. Each cube that it gets is skipped where a model lies left of it, and else solved, and the halves of an exhausted one are put.
+/// It is the caller that waits: until nothing is left to be done by any hand.
+pub fn work<R: Wait, G: Gate>(
+    rt: &R,
+    alloc: Global,
+    hand: Hand,
+    formula: &Formula,
+    budget: u32,
+    gate: &G,
+) -> Worked
+    requires budget { (1 ≤ budget) × (budget ≤ 100000) }
+    requires vars { hand.vars ≡ formula.now.vars }
+    ensures same { SameHand hand result.hand }
+    ensures work { Worked_as formula.now budget result.short_of_memory hand.ledger result.hand.ledger result.solved.items }
+{
+    let mut worker = Worker {
+        hand,
+        solver: None,
+        solved: Vec::new(alloc),
+    };
+    'turns: for _ in rt.forever() {
+        if worker.hand.halted() {
+            break;
+        }
+        match next(&mut worker.hand) {
+            Some(cube) => {
+                if worker.round(formula, budget, gate, cube).is_err() {
+                    worker.hand.halt();
+                    return worker.home(true);
+                }
+            }
+            None => {
+                if worker.hand.still_open() == 0 {
+                    break;
+                }
+                thread::yield_now(); // another hand is at work on what is left
+            }
+        }
+    }
+    worker.home(false)
+}

@@ -1,0 +1,104 @@
+//! The result of a formula, by several hands in threads of their own.
+ghost use Rattle.std.specs.Prelude.{◌≡◌, ◌≤◌, ◌<◌, ℕ, [], false, map, length, All, IfOk, slice_index_or};
+ghost use Rattle.pool.specs.Hands.{HandView};
+ghost use Rattle.pool.specs.Pools.{AreNew};
+ghost use Rattle.cubes.specs.declared.hands.Worked.{Worked};
+ghost use Rattle.cubes.specs.Result.{IsResultOf, Says};
+ghost use Rattle.cubes.specs.Shares.{HasDone};
+
+use crate::closing::harvest;
+use crate::gate::Gate;
+use crate::hands::{Worked, work};
+use crate::results::{assemble, solve_one};
+use crate::tree::Tree;
+use cnf::Formula;
+use kernel::Cube;
+use pool::{Hand, Pool};
+use std::alloc::{AllocError, Global};
+use std::sync::Wait;
+use std::thread;
+use std::thread::Threads;
+
+/// What each hand leaves behind, in the order of the hands. Each works in a thread of its own, where one can be started.
+fn all_work<R: Threads + Wait + Sync, G: Gate + Sync>(
+    rt: &R,
+    alloc: Global,
+    formula: &Formula,
+    budget: u32,
+    gate: &G,
+    hands: Vec<Hand>,
+) -> Result<Vec<Worked>, AllocError>
+    requires budget { (1 ≤ budget) × (budget ≤ 100000) }
+    requires vars { All (λ h. h.vars ≡ formula.now.vars) hands.items }
+    ensures len { IfOk result (λ v. length v.items ≡ length hands.items) }
+    ensures each { IfOk result (λ v. (i : ℕ) (d : HandView) (e : Worked) → i < length hands.items
+        → HasDone formula.now budget (slice_index_or hands.items i d) (slice_index_or v.items i e)) }
+{
+    thread::map_vec(
+        rt,
+        hands,
+        &|hand: Hand| -> Worked
+            requires { (1 ≤ budget) × (budget ≤ 100000) × (hand.vars ≡ formula.now.vars) }
+            ensures { HasDone formula.entry.now budget hand result }
+        { work(rt, alloc, hand, formula, budget, gate) },
+    )
+}
+
+fn is_short(works: &[Worked]) -> bool
+    ensures { result ≡ false → All (λ w. w.short_of_memory ≡ false) works.now }
+{
+    for worked in works {
+        if worked.short_of_memory {
+            return true;
+        }
+    }
+    false
+}
+
+/// The result, by these hands of the pool.
+fn solve_by_hands<R: Threads + Wait + Sync, G: Gate + Sync>(
+    rt: &R,
+    alloc: Global,
+    formula: &Formula,
+    budget: u32,
+    gate: &G,
+    pool: Pool,
+    hands: Vec<Hand>,
+) -> Result<Tree, AllocError>
+    requires budget { (1 ≤ budget) × (budget ≤ 100000) }
+    requires some { 1 ≤ pool.hands }
+    requires root { pool.root ≡ [] }
+    requires hands { AreNew pool formula.now.vars hands.items }
+    ensures result { IfOk result (λ t. IsResultOf formula.now budget t) }
+    ensures says { IfOk result (λ t. Says formula.now t) }
+{
+    let _vars = formula.vars(); // it ensures what the proof needs of the formula
+    let works = all_work(rt, alloc, formula, budget, gate, hands)?;
+    if is_short(&works) {
+        return Err(AllocError);
+    }
+    let results = harvest(alloc, formula, budget, pool, works)?;
+    assemble(alloc, results)
+}
+
+/// The result of the formula with a budget of 1 to 100,000 conflicts a cube, by 1 to 16 hands, each in a thread of its own where one can
+/// be started. It is the same for any number of hands, any gate and any schedule. It fails only where a request for memory is refused,
+/// once all hands are home. If the pool isn't opened, all is solved here.
+pub fn solve_with<R: Threads + Wait + Sync, G: Gate + Sync>(
+    rt: &R,
+    alloc: Global,
+    formula: &Formula,
+    budget: u32,
+    hands: usize,
+    gate: &G,
+) -> Result<Tree, AllocError>
+    requires budget { (1 ≤ budget) × (budget ≤ 100000) }
+    requires hands { (1 ≤ hands) × (hands ≤ 16) }
+    ensures result { IfOk result (λ t. IsResultOf formula.now budget t) }
+    ensures says { IfOk result (λ t. Says formula.now t) }
+{
+    match pool::open(alloc, hands, formula.vars(), Cube::root(alloc)) {
+        Ok((pool, all)) => solve_by_hands(rt, alloc, formula, budget, gate, pool, all),
+        Err(_) => solve_one(alloc, formula, budget),
+    }
+}

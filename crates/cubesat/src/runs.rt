@@ -1,0 +1,89 @@
+//! A run without threads.
+ghost use Rattle.std.specs.Prelude.{◌≡◌, ◌≤◌, [], map, IfOk};
+ghost use Rattle.theory.specs.Texts.{proof_text};
+ghost use Rattle.lrat.specs.Steps.{step_of};
+ghost use Rattle.cubes.specs.Result.{IsResultOf, Says};
+ghost use Rattle.cubesat.specs.Run.{AreTexts, RunSays};
+
+use crate::fault::RunFault;
+use crate::output::write_text;
+use crate::proof_output::{room, write_proof};
+use crate::verdict::Verdict;
+use cnf::{Formula, read_from};
+use cubes::{Tree, solve_one};
+use join::{answer_bytes, join};
+use lrat::Step;
+use std::alloc::{AllocError, Global};
+use std::io::{Read, Write};
+
+/// What a run is to write.
+#[derive(Drop)]
+pub(crate) struct Output {
+    pub(crate) verdict: Verdict,
+    pub(crate) proof: Vec<Step>,
+
+    /// Room for the proof's lines while they are written.
+    pub(crate) buffer: Vec<u8>,
+    pub(crate) answer: Vec<u8>,
+}
+
+/// What is to be written for a formula, whose result is the tree. From here on the run takes no more memory.
+pub(crate) fn output_of(
+    alloc: Global,
+    formula: &Formula,
+    budget: u32,
+    tree: Tree,
+) -> Result<Output, AllocError>
+    requires result { IsResultOf formula.now budget tree }
+    requires says { Says formula.now tree }
+    ensures texts { IfOk result (λ o. AreTexts formula.now budget o.verdict (proof_text (map step_of o.proof.items)) o.answer.items) }
+    ensures buffer { IfOk result (λ o. o.buffer.items ≡ []) }
+{
+    let _budget = budget; // it is there for the contract alone
+    match tree {
+        Tree::Model(values) => Ok(Output {
+            verdict: Verdict::Satisfiable,
+            proof: Vec::new(alloc),
+            buffer: Vec::new(alloc),
+            answer: answer_bytes(alloc, formula, Some(&values))?,
+        }),
+        refuted => {
+            let proof = join(alloc, formula, refuted)?;
+            let buffer = room(alloc, &proof)?;
+            Ok(Output {
+                verdict: Verdict::Unsatisfiable,
+                proof,
+                buffer,
+                answer: answer_bytes(alloc, formula, None)?,
+            })
+        }
+    }
+}
+
+/// Decides the formula of a DIMACS text, with a budget of 1 to 100,000 conflicts a cube: writes the proof, flushes it, and then writes and
+/// flushes the answer. The proof of a satisfiable formula is empty. `RunFault` says when each fault comes and what is written then.
+pub fn run_one<R: Read + Drop, W: Write, P: Write>(
+    alloc: Global,
+    input: R,
+    answer: &mut W,
+    proof: &mut P,
+    budget: u32,
+) -> Result<Verdict, RunFault>
+    requires { (1 ≤ budget) × (budget ≤ 100000) }
+    ensures { RunSays (R.remaining input) budget (P.contents proof.old) (P.contents proof.new) (W.contents answer.old) (W.contents answer.new) result }
+{
+    let formula = match read_from(alloc, input) {
+        Ok(formula) => formula,
+        Err(fault) => return Err(RunFault::of_read(fault)),
+    };
+    let Ok(tree) = solve_one(alloc, &formula, budget) else {
+        return Err(RunFault::NoMemory);
+    };
+    let mut output = match output_of(alloc, &formula, budget, tree) {
+        Ok(output) => output,
+        Err(_) => return Err(RunFault::NoMemory),
+    };
+    write_proof(proof, &output.proof, &mut output.buffer)?;
+    write_text(answer, &output.answer, RunFault::AnswerWriteFailed)?;
+    Ok(output.verdict)
+}

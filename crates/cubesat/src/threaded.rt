@@ -1,0 +1,47 @@
+//! A run by several hands.
+ghost use Rattle.std.specs.Prelude.{◌≤◌};
+ghost use Rattle.cubesat.specs.Run.{RunSays};
+
+use crate::fault::RunFault;
+use crate::output::write_text;
+use crate::proof_output::write_proof;
+use crate::runs::output_of;
+use crate::verdict::Verdict;
+use cnf::read_from;
+use cubes::{Gate, solve_with};
+use std::alloc::Global;
+use std::io::{Read, Write};
+use std::sync::Wait;
+use std::thread::Threads;
+
+/// What `run_one` does, by 1 to 16 hands, each in a thread of its own where one can be started. Whatever the hands, the gate and the
+/// schedule, the same bytes are written.
+pub fn run<T: Threads + Wait + Sync, R: Read + Drop, W: Write, P: Write, G: Gate + Sync>(
+    rt: &T,
+    alloc: Global,
+    input: R,
+    answer: &mut W,
+    proof: &mut P,
+    budget: u32,
+    hands: usize,
+    gate: &G,
+) -> Result<Verdict, RunFault>
+    requires budget { (1 ≤ budget) × (budget ≤ 100000) }
+    requires hands { (1 ≤ hands) × (hands ≤ 16) }
+    ensures { RunSays (R.remaining input) budget (P.contents proof.old) (P.contents proof.new) (W.contents answer.old) (W.contents answer.new) result }
+{
+    let formula = match read_from(alloc, input) {
+        Ok(formula) => formula,
+        Err(fault) => return Err(RunFault::of_read(fault)),
+    };
+    let Ok(tree) = solve_with(rt, alloc, &formula, budget, hands, gate) else {
+        return Err(RunFault::NoMemory);
+    };
+    let mut output = match output_of(alloc, &formula, budget, tree) {
+        Ok(output) => output,
+        Err(_) => return Err(RunFault::NoMemory),
+    };
+    write_proof(proof, &output.proof, &mut output.buffer)?;
+    write_text(answer, &output.answer, RunFault::AnswerWriteFailed)?;
+    Ok(output.verdict)
+}
