@@ -5,7 +5,8 @@ use Rattle.theory.specs.Truth.{IsOver}
 use Rattle.theory.specs.Status.{is_unit_in, unit_literal}
 use Rattle.theory.specs.Propagation.{Closed, Closes, grows, least_false, least_unit, clause_at}
 use Rattle.theory.specs.Trails.{Trail, literals, current_level}
-use Rattle.theory.proofs.LawfulTrails.{least_unit-at, unit_literal-facts}
+use Rattle.theory.specs.Lawful.{IsLawful}
+use Rattle.theory.proofs.LawfulTrails.{IsLawful-unit, least_unit-at, unit_literal-facts}
 use Rattle.theory.proofs.OverVariables.{clause_at-over}
 use Rattle.theory.proofs.TrailEntries.{literals-at}
 use Rattle.theory.proofs.ClauseLemmas.{unit-fresh}
@@ -105,6 +106,10 @@ Grew-Closes K T new U a g h =
 pub Grew-falls : (K : List Clause) (T new : Trail) → Grew K T new → open_among (literals new) K < open_among (literals T) K
 Grew-falls K T new g =
     rw (g.pushed, literals-at T (record { lit = g.lit; reason = Some g.number; level = g.level }) []) (open_among-falls (literals T) K (g.number, g.lit) g.unit)
+
+pub Grew-lawful : (K : List Clause) (T new : Trail) → Grew K T new → IsLawful K T → IsLawful K new
+Grew-lawful K T new g h =
+    rw (g.pushed, g.level_is) (IsLawful-unit K T (g.number, g.lit) h g.unit)
 
 -- the literal of a unit clause is of a free variable, one of those that the clauses are over
 pub least_unit-free : (P : List Literal) (K : List Clause) (u : ℕ × Literal) → least_unit P K ≡ Some u → has_var P u.1.var ≡ false

@@ -80,7 +80,7 @@ pub IsOrdered-take : (V : ℕ) (T : Trail) (n : ℕ) → IsOrdered V T → IsOrd
 IsOrdered-take V T n h = IsOrdered-front V (take n T) (drop n T) (rw take-append-drop h)
 
 -- the entries up to a level are those in front
-rising-at : (low : ℕ) (T : Trail) (k : ℕ) (d : Entry) → IsRisingFrom low T → k < length T → low ≤ (get_or T k d).level
+pub rising-at : (low : ℕ) (T : Trail) (k : ℕ) (d : Entry) → IsRisingFrom low T → k < length T → low ≤ (get_or T k d).level
 rising-at low [] k d h less = absurd (omega arith)
 rising-at low (e ∷ T) zero d h less = h.0
 rising-at low (e ∷ T) (suc k) d h less =

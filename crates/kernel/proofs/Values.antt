@@ -3,7 +3,10 @@ use Rattle.std.proofs.Common.{◌≡◌, ℕ, Bool, true, false, not, [], ◌∷
 use Rattle.theory.specs.Literals.{Literal, negated, has, has_var}
 use Rattle.theory.specs.Trails.{Entry, Trail, literals, entry_of}
 use Rattle.theory.proofs.LiteralSets.{has-equal, has-tail}
+use Rattle.std.proofs.Math.Bool.{beq}
+use Rattle.theory.proofs.ClauseWalks.{beq-same, beq-other}
 use Rattle.kernel.specs.Tables.{value_in}
+use Rattle.kernel.specs.Visiting.{IsTruth}
 use Rattle.kernel.proofs.NextFree.{is_some-value_in}
 
 -- the value of a variable says which of its literals is on the trail
@@ -33,3 +36,11 @@ value-false T l b h p = value-literal T (negated l) b h (other b l.positive p)
 
 pub value-none : (T : Trail) (v : ℕ) → value_in T v ≡ None → has_var (literals T) v ≡ false
 value-none T v h = sym (is_some-value_in T v) ∙ ap is_some h
+
+-- what the value of a variable says of a literal
+pub truth-some : (T : Trail) (l : Literal) (b s : Bool) → value_in T l.var ≡ Some b → s ≡ l.positive → IsTruth (literals T) l (Some (beq b s))
+truth-some T l b s h e = go (beq b s) refl
+  where
+    go : (q : Bool) → beq b s ≡ q → IsTruth (literals T) l (Some q)
+    go true f = value-true T l b h (beq-same b s f ∙ e)
+    go false f = value-false T l b h (λ one. beq-other b s f (one ∙ sym e))

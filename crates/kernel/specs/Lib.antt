@@ -1,8 +1,12 @@
 -- What a kernel and its parts are seen as. Trails and propagation are said in the crate `theory`.
 pub mod Answer
+pub mod Attaching
 pub mod Cubes
+pub mod Cutting
 pub mod Held
 pub mod Pieces
-pub mod Scan
 pub mod State
 pub mod Tables
+pub mod Visiting
+pub mod Waiting
+pub mod Watching

@@ -61,19 +61,15 @@ fn count_lits(clauses: &[Vec<Lit>]) -> usize
 }
 
 impl Clauses {
-    /// A copy of clauses, with room for no more. It fails where a request for memory is refused.
-    pub fn copied(alloc: Global, clauses: &[Vec<Lit>]) -> Result<Clauses, AllocError>
+    /// No clauses, with room for these. It fails where a request for memory is refused.
+    pub fn with_room(alloc: Global, clauses: &[Vec<Lit>]) -> Result<Clauses, AllocError>
         requires { sum_by (λ c. length c.items) clauses.now ≤ max_literals }
-        ensures { IfOk result (λ k. k ≡ map (λ c. c.items) clauses.now) }
+        ensures { IfOk result (λ k. k ≡ []) }
     {
-        let mut copy = Clauses {
+        Ok(Clauses {
             lits: Vec::with_capacity(alloc, count_lits(clauses))?,
             ends: Vec::with_capacity(alloc, clauses.len())?,
-        };
-        for clause in clauses {
-            copy.push(clause)?;
-        }
-        Ok(copy)
+        })
     }
 
     /// How many clauses there are.

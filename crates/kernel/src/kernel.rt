@@ -1,5 +1,5 @@
 //! The kernel: the clauses and the trail of one cube's search.
-ghost use Rattle.std.specs.Prelude.{◌≡◌, ◌+◌, ◌^◌, ◌<◌, ◌≤◌, true, false, None, [], ◌∷◌, ◌++◌, length, take, All, IfOk, IfSome, IfNone, OnOk, OnErr, IsErr, slice_get, if◌then◌else◌};
+ghost use Rattle.std.specs.Prelude.{◌≡◌, ◌+◌, ◌^◌, ◌<◌, ◌≤◌, true, false, None, [], ◌∷◌, ◌++◌, length, take, All, IfOk, IfSome, IfNone, OnOk, OnErr, IsErr, slice_get, if◌then◌else◌, ◌⊎◌};
 ghost use Rattle.std.specs.Option.{option_map};
 ghost use Rattle.theory.specs.Literals.{IsVariable, IsCube, has_var};
 ghost use Rattle.theory.specs.Truth.{IsOver};
@@ -9,13 +9,14 @@ ghost use Rattle.theory.specs.Lawful.{IsLawful};
 ghost use Rattle.theory.specs.Learnable.{IsLearnable};
 ghost use Rattle.theory.specs.Reading.{max_vars};
 ghost use Rattle.theory.specs.Search.{first_clauses};
+ghost use Rattle.theory.specs.Propagation as closing;
+ghost use Rattle.theory.specs.Trails as trails;
 ghost use Rattle.kernel.specs.Answer.{closed_of};
 
-use crate::clauses::Clauses;
 use crate::closed::Closed;
 use crate::cube::Cube;
 use crate::entry::Entry;
-use crate::scan;
+use crate::propagator::Propagator;
 use crate::trail::Trail;
 use cnf::{Formula, Lit};
 use std::alloc::{AllocError, Global};
@@ -26,33 +27,45 @@ use std::marker::Model;
 /// stands.
 #[derive(Drop)]
 pub struct Kernel {
-    clauses: Clauses,
+    // the clauses, and their watches
+    propagator: Propagator,
     // how many of the clauses are the formula's; the others were learnt
     first: usize,
+    // the formula's clauses of one literal, which wait as units when a cube begins
+    singles: Vec<u32>,
+    // the formula's first empty clause
+    empty: Option<u32>,
     trail: Trail,
+    // how many entries of the trail were served: the clauses that watch the negation of their literal were visited
+    served: usize,
+    // how many entries of an earlier level's trail count as served at most; no bound unless a decision was made before all were
+    floor: usize,
     // whether a call has met want of memory
     short: bool,
 }
 
 impl Model for Kernel {
-    ghost use Rattle.std.specs.Prelude.{◌≤◌, All, length};
+    ghost use Rattle.std.specs.Prelude.{◌≡◌, ◌≤◌, All, length, false};
     ghost use Rattle.theory.specs.Truth.{IsOver};
     ghost use Rattle.theory.specs.Trails.{literals};
     ghost use Rattle.theory.specs.Lawful.{IsLawful};
     ghost use Rattle.kernel.specs.State.{State};
+    ghost use Rattle.kernel.specs.Visiting.{kept_of};
+    ghost use Rattle.kernel.specs.Attaching.{IsWatching};
 
     ghost Value = { State };
 
     ghost view = { λ a. record {
       vars = a.trail.vars;
       first = a.first;
-      clauses = a.clauses;
+      clauses = a.propagator.clauses;
       trail = a.trail.entries;
       short = a.short;
     } };
 
     ghost invariant = { λ a.
-        IsLawful a.clauses a.trail.entries × All (IsOver a.trail.vars) a.clauses × (a.first ≤ length a.clauses) };
+        IsLawful a.propagator.clauses a.trail.entries × All (IsOver a.trail.vars) a.propagator.clauses × (a.first ≤ length a.propagator.clauses)
+        × (a.short ≡ false → IsWatching a.trail.vars a.first a.propagator.clauses a.trail.entries a.served a.floor (kept_of a.propagator) a.singles.items a.empty) };
 }
 
 /// Puts a cube's literals on a trail without entries.
@@ -72,6 +85,17 @@ fn put_cube(trail: &mut Trail, lits: &[Lit])
     }
 }
 
+/// How many entries of the earlier levels count as served at most, once a decision was made: no fewer than before, where all were.
+fn floor_of(floor: usize, served: usize, entries: usize) -> usize
+    ensures { ((entries ≤ served) × (result ≡ floor)) ⊎ ((result ≤ served) × (result ≤ floor)) }
+{
+    if served < entries {
+        floor.min(served)
+    } else {
+        floor
+    }
+}
+
 impl Kernel {
     /// The kernel of a formula and a cube: the formula's clauses, and the cube's literals on the trail at level 0. It takes time by the
     /// literals, and memory for them and for one entry of each variable; it fails where that is refused.
@@ -88,13 +112,21 @@ impl Kernel {
             IsLawful k.clauses k.trail × IsOver k.vars (literals k.trail) × All (IsOver k.vars) k.clauses) }
         ensures few { IfOk result (λ k. k.vars ≤ max_vars) }
     {
-        let clauses = Clauses::copied(alloc, formula.clauses())?;
-        let mut trail = Trail::with_room(alloc, formula.vars())?;
+        let vars = formula.vars();
+        let clauses = formula.clauses();
+        let mut propagator = Propagator::with_room(alloc, vars, clauses)?;
+        let singles = propagator.attach_all(alloc, clauses)?;
+        let empty = propagator.conflict;
+        let mut trail = Trail::with_room(alloc, vars)?;
         put_cube(&mut trail, cube.lits());
         Ok(Kernel {
-            first: clauses.len(),
-            clauses,
+            first: propagator.clauses.len(),
+            propagator,
+            singles,
+            empty,
             trail,
+            served: 0,
+            floor: usize::MAX,
             short: false,
         })
     }
@@ -122,14 +154,20 @@ impl Kernel {
             return Err(AllocError);
         }
         self.trail.clear();
-        self.clauses.truncate(self.first);
+        if let Err(error) = self.propagator.cut(self.first, &self.singles, self.empty) {
+            self.short = true;
+            return Err(error);
+        }
         put_cube(&mut self.trail, cube.lits());
+        self.served = 0;
+        self.floor = usize::MAX;
         Ok(())
     }
 
     /// Propagation: while no clause is false, the unit clause of least number puts its literal on the trail, with that number as
     /// reason, at the current level. The answer is the false clause of least number, or `Quiet` where none is false or unit. It
-    /// takes time by all literals for each entry, and fails only where an earlier call has met want of memory.
+    /// takes time by the clauses that watch a literal which became false. It fails where a request for memory is refused, and from then
+    /// on; the trail then ends on the way: what propagation leads to from it, it leads to from the trail before.
     pub fn close(&mut self) -> Result<Closed, AllocError>
         ensures ok { IfOk result (λ a. Closes self.old.clauses self.old.trail (closed_of a) self.new.trail) }
         ensures kept { (self.new.vars ≡ self.old.vars) × (self.new.clauses ≡ self.old.clauses) × (self.new.first ≡ self.old.first) }
@@ -138,11 +176,21 @@ impl Kernel {
         ensures stays { self.old.short ≡ true → IsErr result }
         ensures unchanged { self.old.short ≡ true → self.new.trail ≡ self.old.trail }
         ensures was { OnOk result (self.old.short ≡ false) }
+        ensures onward { (a : closing.Closed) (U : trails.Trail) → Closes self.old.clauses self.new.trail a U → Closes self.old.clauses self.old.trail a U }
     {
         if self.short {
             return Err(AllocError);
         }
-        Ok(scan::close(&self.clauses, &mut self.trail))
+        match self.propagator.propagate(&mut self.trail, self.served) {
+            Ok(closed) => {
+                self.served = self.trail.entries().len();
+                Ok(closed)
+            }
+            Err(error) => {
+                self.short = true;
+                Err(error)
+            }
+        }
     }
 
     /// Makes a free literal true at the next level, without a reason, after propagation came to rest. It takes no memory.
@@ -158,6 +206,7 @@ impl Kernel {
         if self.short {
             return;
         }
+        self.floor = floor_of(self.floor, self.served, self.trail.entries().len());
         let level = self.trail.level() + 1;
         self.trail.push(Entry {
             lit,
@@ -172,9 +221,12 @@ impl Kernel {
         ensures { self.new ≡
             (if self.old.short then self.old else record self.old { trail = up_to self.old.trail level }) }
     {
-        if !self.short {
-            self.trail.back_to(level);
+        if self.short {
+            return;
         }
+        self.trail.back_to(level);
+        self.propagator.calm();
+        self.served = self.floor.min(self.trail.entries().len());
     }
 
     /// Puts a clause behind the others, and answers its number. Its variables are distinct and of the formula; one of its literals is
@@ -193,8 +245,8 @@ impl Kernel {
         if self.short {
             return Err(AllocError);
         }
-        match self.clauses.push(clause) {
-            Ok(()) => Ok(self.clauses.len() as u64),
+        match self.propagator.attach_learnt(&self.trail, clause) {
+            Ok(()) => Ok(self.propagator.clauses.len() as u64),
             Err(error) => {
                 self.short = true;
                 Err(error)
@@ -269,11 +321,16 @@ impl Kernel {
         self.trail.entries()
     }
 
+    /// How many visits of clauses `close` has made since `open`; the greatest number stays.
+    pub fn visits(&self) -> u64 {
+        self.propagator.visits
+    }
+
     /// The literals of the clause of a number, which is one from 1 up to the number of clauses.
     pub fn clause(&self, number: u64) -> &[Lit]
         requires { (1 ≤ number) × (number ≤ length self.now.clauses) }
         ensures { result.now ≡ clause_at self.now.clauses number }
     {
-        self.clauses.get(number as usize - 1)
+        self.propagator.clauses.get(number as usize - 1)
     }
 }

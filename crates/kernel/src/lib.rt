@@ -1,13 +1,17 @@
 //! The kernel of the search in one cube: its clauses, its trail, and propagation over them.
 #![tactic(auto)]
 
+mod attach;
 mod clauses;
 mod closed;
 mod cube;
+mod cut;
 mod entry;
 mod kernel;
-mod scan;
+mod propagator;
 mod trail;
+mod units;
+mod watch;
 
 pub use closed::Closed;
 pub use cube::Cube;

@@ -1,11 +1,13 @@
 //! The trail, with tables by variable, so that each look-up is one step.
 ghost use Rattle.std.specs.Prelude.{◌≡◌, ◌≤◌, ◌<◌, ◌^◌, ◌+◌, ℕ, [], ◌∷◌, ◌++◌, true, false, length, take, IfOk, IfSome, IfNone, None, Some, slice_get, slice_index, slice_index_or, if◌then◌else◌, ◌⊎◌, is_some};
 ghost use Rattle.theory.specs.Literals.{IsVariable, has_var};
-ghost use Rattle.theory.specs.Trails.{literals, current_level, entry_of, least_free, up_to};
+ghost use Rattle.theory.specs.Trails.{literals, current_level, entry_of, level_of, least_free, up_to};
 ghost use Rattle.kernel.specs.Held.{IsOrdered, IsRisingFrom};
 ghost use Rattle.kernel.specs.Tables.{value_in};
+ghost use Rattle.kernel.specs.Visiting.{IsTruth};
 
 use crate::entry::Entry;
+use cnf::Lit;
 use std::alloc::{AllocError, Global};
 use std::marker::Model;
 
@@ -154,6 +156,29 @@ impl Trail {
         ensures ordered { IsOrdered self.now.vars self.now.entries }
     {
         self.values[var as usize]
+    }
+
+    /// Whether a literal is true, and none while its variable is free.
+    pub fn truth(&self, lit: Lit) -> Option<bool>
+        requires { lit.var ≤ self.now.vars }
+        ensures truth { IsTruth (literals self.now.entries) lit result }
+        ensures ordered { IsOrdered self.now.vars self.now.entries }
+    {
+        match self.value(lit.var()) {
+            None => None,
+            Some(value) => Some(value == lit.positive()),
+        }
+    }
+
+    /// The level of a literal's variable, or 0 while it is free.
+    pub fn level_of(&self, lit: Lit) -> u32
+        requires { lit.var ≤ self.now.vars }
+        ensures { result ≡ level_of self.now.entries lit }
+    {
+        match self.entry(lit.var()) {
+            None => 0,
+            Some(entry) => entry.level,
+        }
     }
 
     /// The place of a variable's entry, counted from 0, and none while it is free.

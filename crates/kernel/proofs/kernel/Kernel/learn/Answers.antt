@@ -6,8 +6,10 @@ use Rattle.kernel.proofs.kernel.Kernel.learn.Goals as goal
 
 pub invariant_of-self : goal.invariant_of-self
 invariant_of-self c =
-    let asked = (rw (← c.self.view_is) at c.requires) c.if-self.false in (
-      rw c.in-Ok.ensures.ok (IsLawful-append _ _ _ c.self.invariant.0),
-      rw c.in-Ok.ensures.ok (All-push (IsOver c.self.inside.trail.vars) _ _ c.self.invariant.1 asked.0),
-      rw (c.in-Ok.ensures.ok, length-append) (omega (arith, c.self.invariant.2)),
+    let asked = (rw (← c.self.view_is) at c.requires) c.if-self.false in
+    let e = c.in-Ok.ensures in (
+      rw e.clauses (IsLawful-append _ _ _ c.self.invariant.0),
+      rw e.clauses (All-push (IsOver c.self.inside.trail.vars) _ _ c.self.invariant.1 asked.0),
+      rw (e.clauses, length-append) (omega (arith, c.self.invariant.2)),
+      λ h. e.watching c.self.inside.first c.self.inside.served c.self.inside.floor c.self.inside.singles.items c.self.inside.empty c.self.invariant.2 (c.self.invariant.3 h),
     )

@@ -1,0 +1,415 @@
+-- One turn of the loop that visits the entries of a list, which was taken out.
+use Rattle.std.proofs.Common.{◌≡◌, ◌≢◌, ℕ, suc, zero, ◌+◌, ◌-◌, ◌*◌, ◌<◌, ◌≤◌, true, false, ◌||◌, List, [], ◌∷◌, ◌++◌, length, get_or, set, take, map, Some, None, refl, ap, sym, subst, ◌∙◌, ◌⊎◌, inl, inr, arith, All}
+use Rattle.theory.specs.Truth.{IsOver}
+use Rattle.kernel.proofs.Visits.{code-within, over-var}
+use Rattle.std.proofs.lemmas.List.{map-set, map-append, length-map, length-set, get_or-set_same, get_or-set_other, get_or-take, set-get_or, take-map, length-take-le, get_or_default}
+use Rattle.std.proofs.Math.Seq.{map-set_same, take-set-lt}
+use Rattle.std.proofs.Math.ListN.{get_or-map}
+use Rattle.std.proofs.lemmas.Bool.{cases_eq}
+use Rattle.std.specs.List.{swap_remove}
+use Rattle.theory.specs.Literals.{Literal, Clause, same, has, negated}
+use Rattle.theory.specs.Status.{is_false, others_false}
+use Rattle.theory.specs.Trails.{Trail, literals}
+use Rattle.theory.proofs.LiteralLemmas.{same-eq, same-refl, or-left, or-right, true_or_false}
+use Rattle.kernel.specs.declared.watch.Watched.{Watched}
+use Rattle.kernel.specs.declared.watch.Watch.{Watch}
+use Rattle.kernel.specs.Watching.{At, IsConsistent, IsBeside, IsFull, code, lesser, list_at, moved, Walks, IsNext, Tending, held, other_true, reached, Reached}
+use Rattle.kernel.specs.Visiting.{Kept, places, entries_at, tending, with_list, IsEntry, AreEntriesOf, AreEntries, Replaces, IsLast, CanVisit, IsStay, IsVisit, satisfied, behind, unit, clashes, moves}
+use Rattle.kernel.proofs.LiteralFacts.{true_false}
+use Rattle.kernel.proofs.Places.{At-one, At-get, At-set, At-push, code-one}
+use Rattle.kernel.proofs.Steps.{both}
+use Rattle.kernel.proofs.Walking.{Visits, Walks-good, Walks-unit, Walks-false, Walks-move, gone-true, all-from}
+
+-- a write is forgotten where a later one goes over it
+set-over : {X : Type 0} (xs : List X) (i j : ℕ) (a b c : X) → i ≢ j → set (set (set xs i a) j b) i c ≡ set (set xs j b) i c
+set-over [] i j a b c ne = refl
+set-over (x ∷ xs) zero zero a b c ne = absurd (ne refl)
+set-over (x ∷ xs) zero (suc j) a b c ne = refl
+set-over (x ∷ xs) (suc i) zero a b c ne = ap (λ ys. b ∷ ys) (set-set xs i a c)
+  where
+    set-set : {X : Type 0} (xs : List X) (i : ℕ) (a c : X) → set (set xs i a) i c ≡ set xs i c
+    set-set [] i a c = refl
+    set-set (x ∷ xs) zero a c = refl
+    set-set (x ∷ xs) (suc i) a c = ap (λ ys. x ∷ ys) (set-set xs i a c)
+set-over (x ∷ xs) (suc i) (suc j) a b c ne = ap (λ ys. x ∷ ys) (set-over xs i j a b c (λ e. ne (ap suc e)))
+
+take-take : {X : Type 0} (xs : List X) (m : ℕ) → take m (take (suc m) xs) ≡ take m xs
+take-take [] zero = refl
+take-take [] (suc m) = refl
+take-take (x ∷ xs) zero = refl
+take-take (x ∷ xs) (suc m) = ap (λ ys. x ∷ ys) (take-take xs m)
+
+-- a write into a front, of which less is looked at
+take-set-take : {X : Type 0} (xs : List X) (m i : ℕ) (v : X) → take m (set (take (suc m) xs) i v) ≡ take m (set xs i v)
+take-set-take [] m i v = refl
+take-set-take (x ∷ xs) zero zero v = refl
+take-set-take (x ∷ xs) zero (suc i) v = refl
+take-set-take (x ∷ xs) (suc m) zero v = ap (λ ys. v ∷ ys) (take-take xs m)
+take-set-take (x ∷ xs) (suc m) (suc i) v = ap (λ ys. x ∷ ys) (take-set-take xs m i v)
+
+-- the entries once the one at the place j left, and the last of the first m + 1 took its place
+abbrev pub left : List Watch → ℕ → ℕ → Watch → List Watch
+left ws m j d = take m (set ws j (get_or ws m d))
+
+-- their places
+left-places : (ws : List Watch) (m j n : ℕ) (d : Watch) → m < length ws → places (take m (set ws j (get_or ws m d))) ≡ swap_remove (places (take (m + 1) ws)) j n
+left-places ws m j n d h =
+    sym (take-map (λ (e : Watch). e.clause) m (set ws j (get_or ws m d)))
+    ∙ ap (take m) (map-set (λ (e : Watch). e.clause) ws j (get_or ws m d))
+    ∙ sym (take-set-take (places ws) m j (get_or ws m d).clause)
+    ∙ ap (λ k. take m (set (take k (places ws)) j (get_or ws m d).clause)) one
+    ∙ (λ i. take (size i) (set (front i) j (last i)))
+  where
+    one : suc m ≡ m + 1
+    one = omega arith
+
+    front : take (m + 1) (places ws) ≡ places (take (m + 1) ws)
+    front = take-map (λ (e : Watch). e.clause) (m + 1) ws
+
+    long : length (places (take (m + 1) ws)) ≡ m + 1
+    long = length-map (take (m + 1) ws) (λ (e : Watch). e.clause) ∙ length-take-le (m + 1) ws (omega (arith, h))
+
+    size : m ≡ length (places (take (m + 1) ws)) - 1
+    size = omega (arith, long)
+
+    last : (get_or ws m d).clause ≡ get_or (places (take (m + 1) ws)) (length (places (take (m + 1) ws)) - 1) n
+    last =
+        sym (get_or-map (λ (e : Watch). e.clause) ws m d)
+        ∙ get_or_default (places ws) m d.clause n (subst (λ k. m < k) (sym (length-map ws (λ (e : Watch). e.clause))) h)
+        ∙ sym (get_or-take (m + 1) (places ws) m n (omega arith))
+        ∙ (λ i. get_or (front i) (size i) n)
+
+-- each of them was there
+left-was : (ws : List Watch) (m j q : ℕ) (d x : Watch) → m < length ws → At (take m (set ws j (get_or ws m d))) q x → (p : ℕ) × At (take (m + 1) ws) p x
+left-was ws m j q d x h a = go (At-set ws j (get_or ws m d) q x inner)
+  where
+    size : length (take m (set ws j (get_or ws m d))) ≡ m
+    size = length-take-le m (set ws j (get_or ws m d)) (omega (arith, h, length-set ws j (get_or ws m d)))
+
+    below : q < m
+    below = omega (arith, size, a.0)
+
+    inner : At (set ws j (get_or ws m d)) q x
+    inner = (omega (arith, below, h, length-set ws j (get_or ws m d)), sym (get_or-take m (set ws j (get_or ws m d)) q x below) ∙ a.1)
+
+    long : length (take (m + 1) ws) ≡ m + 1
+    long = length-take-le (m + 1) ws (omega (arith, h))
+
+    front : (p : ℕ) → p ≤ m → At ws p x → At (take (m + 1) ws) p x
+    front p l b = (omega (arith, long, l), get_or-take (m + 1) ws p x (omega (arith, l)) ∙ b.1)
+
+    go : ((q ≡ j) × (x ≡ get_or ws m d)) ⊎ ((q ≢ j) × At ws q x) → (p : ℕ) × At (take (m + 1) ws) p x
+    go (inl (e, f)) = (m, front m (omega arith) (h, get_or_default ws m x d h ∙ sym f))
+    go (inr (ne, b)) = (q, front q (omega (arith, below)) b)
+
+pub At-places : (ws : List Watch) (j : ℕ) (e : Watch) → At ws j e → At (places ws) j e.clause
+At-places ws j e a = (subst (λ n. j < n) (sym (length-map ws (λ (x : Watch). x.clause))) a.0, get_or-map (λ (x : Watch). x.clause) ws j e ∙ ap (λ (x : Watch). x.clause) a.1)
+
+-- the list that was taken out, among the others
+pub list-is : (k : Kept) (g : Literal) (ws : List Watch) → code g < length k.lists → list_at (tending (with_list k g ws)).lists g ≡ places ws
+list-is k g ws h =
+    ap (λ (ls : List (List ℕ)). get_or ls (code g) []) (map-set places k.lists (code g) ws)
+    ∙ get_or-set_same (map places k.lists) (code g) (places ws) [] (subst (λ n. code g < n) (sym (length-map k.lists places)) h)
+
+entries-is : (k : Kept) (g : Literal) (ws : List Watch) → code g < length k.lists → entries_at (set k.lists (code g) ws) g ≡ ws
+entries-is k g ws h = get_or-set_same k.lists (code g) ws [] h
+
+lists-long : (k : Kept) (g : Literal) (ws : List Watch) → length (tending (with_list k g ws)).lists ≡ length k.lists
+lists-long k g ws = length-map (set k.lists (code g) ws) places ∙ length-set k.lists (code g) ws
+
+module _ (floor : ℕ) (K : List Clause) (T : Trail) (n : ℕ) (g : Literal) (k : Kept) (ws : List Watch) (j : ℕ) (e : Watch) (h : code g < length k.lists) (next : IsNext T n g) (s : Walks floor K T n g (tending (with_list k g ws)) j) (entries : AreEntries K (with_list k g ws)) (at : At ws j e) where
+  listed : At (list_at (tending (with_list k g ws)).lists g) j e.clause
+  listed = subst (λ (ns : List ℕ). At ns j e.clause) (sym (list-is k g ws h)) (At-places ws j e at)
+
+  full : IsFull K e.clause
+  full = s.tends.listed.within (code g) (list_at (tending (with_list k g ws)).lists g) e.clause (At-get (tending (with_list k g ws)).lists (code g) [] (subst (λ n. code g < n) (sym (lists-long k g ws)) h)) (j, listed.0, listed.1)
+
+  its-entry : IsEntry K k.pairs g e
+  its-entry = entries g j e (subst (λ (xs : List Watch). At xs j e) (sym (entries-is k g ws h)) at)
+
+  nonempty : (c : Clause) → At K e.clause c → c ≡ [] → ⊥
+  nonempty c a z = full.1 (subst (λ (x : Clause). At K e.clause x) z a)
+
+  pub can-visit : CanVisit K (literals T) g e k
+  can-visit = record {
+    within = full.0;
+    gone = gone-true T n g next;
+    entry = its-entry;
+    length_pairs = s.tends.listed.length_pairs;
+    pair = λ c w a b. (s.tends.listed.pairs e.clause c w a b (nonempty c a), s.tends.exact.exact g e.clause w (j, listed.0, listed.1) b);
+  }
+
+  c-at : At K e.clause (get_or K e.clause [])
+  c-at = At-get K e.clause [] full.0
+
+  w-at : (w : Watched) × At k.pairs e.clause w
+  w-at = (get_or k.pairs e.clause record { first = g; second = g }, At-get k.pairs e.clause record { first = g; second = g } (omega (arith, full.0, s.tends.listed.length_pairs)))
+
+  visits : Visits K T g (tending (with_list k g ws)) j e.clause (get_or K e.clause []) w-at.0
+  visits = record { clause = c-at; watch = w-at.1; listed = listed; gone = gone-true T n g next }
+
+  -- the entry stays with another blocker
+  kept-places : (b : Literal) → places (set ws j (record e { blocker = b })) ≡ places ws
+  kept-places b = map-set_same (λ (x : Watch). x.clause) ws j (record e { blocker = b }) e (ap (λ (x : Watch). x.clause) (sym at.1))
+
+  same-tending : (u : Kept) (b : Literal) → tending (with_list u g (set ws j (record e { blocker = b }))) ≡ tending (with_list u g ws)
+  same-tending u b =
+      let one : map places (set u.lists (code g) (set ws j (record e { blocker = b }))) ≡ map places (set u.lists (code g) ws) =
+      map-set places u.lists (code g) (set ws j (record e { blocker = b })) ∙ ap (λ ns. set (map places u.lists) (code g) ns) (kept-places b) ∙ sym (map-set places u.lists (code g) ws) in
+      (λ i. record { pairs = u.pairs; lists = one i; units = u.units; least = u.least })
+
+  all-false-but : (P : List Literal) (c : Clause) (b : Literal) → IsLast P c b → others_false P c b ≡ true
+  all-false-but P c b last = all-from (λ l. same b l || has P (negated l)) c (λ l m. by l m (true_or_false (same b l)))
+    where
+      by : (l : Literal) → has c l ≡ true → (same b l ≡ true) ⊎ (same b l ≡ false) → same b l || has P (negated l) ≡ true
+      by l m (inl x) = or-left (same b l) (has P (negated l)) x
+      by l m (inr x) = or-right (same b l) (has P (negated l)) (last l m x)
+
+  all-false : (P : List Literal) (c : Clause) (b : Literal) → IsLast P c b → has P (negated b) ≡ true → is_false P c ≡ true
+  all-false P c b last gone = all-from (λ l. has P (negated l)) c (λ l m. by l m (true_or_false (same b l)))
+    where
+      by : (l : Literal) → has c l ≡ true → (same b l ≡ true) ⊎ (same b l ≡ false) → has P (negated l) ≡ true
+      by l m (inl x) = subst (λ (y : Literal). has P (negated y) ≡ true) (same-eq b l x) gone
+      by l m (inr x) = last l m x
+
+  stays-walk : (u : Kept) (b : Literal) → IsVisit K (literals T) g e k u (Some b) → Walks floor K T n g (tending (with_list u g ws)) (j + 1)
+  stays-walk u b (satisfied stay t is) =
+      subst (λ (x : Kept). Walks floor K T n g (tending (with_list x g ws)) (j + 1)) (sym is)
+      (Walks-good floor K T n g (tending (with_list k g ws)) j e.clause (get_or K e.clause []) w-at.0 visits (held (other_true (get_or K e.clause []) b c-at (stay.blocker_in (get_or K e.clause []) c-at) t)) s)
+  stays-walk u b (behind stay least le is) =
+      subst (λ (x : Kept). Walks floor K T n g (tending (with_list x g ws)) (j + 1)) (sym is)
+      (Walks-good floor K T n g (tending (with_list k g ws)) j e.clause (get_or K e.clause []) w-at.0 visits (reached (subst (λ o. Reached o e.clause) (sym least) le)) s)
+  stays-walk u b (unit stay last free perm pairs lists least) =
+      Walks-unit floor K T n g b (tending (with_list k g ws)) (tending (with_list u g ws)) j e.clause (get_or K e.clause []) w-at.0 pairs (ap (λ (ls : List (List Watch)). map places (set ls (code g) ws)) lists) least perm next visits
+      (last (get_or K e.clause []) w-at.0 c-at w-at.1).0 free (stay.blocker_in (get_or K e.clause []) c-at) (all-false-but (literals T) (get_or K e.clause []) b (last (get_or K e.clause []) w-at.0 c-at w-at.1).1) s
+  stays-walk u b (clashes stay last gone is) =
+      subst (λ (x : Kept). Walks floor K T n g (tending (with_list x g ws)) (j + 1)) (sym is)
+      (Walks-false floor K T n g b (tending (with_list k g ws)) (tending (with_list (record k { least = Some (lesser k.least e.clause) }) g ws)) j e.clause (get_or K e.clause []) w-at.0 refl refl refl refl visits
+      (all-false (literals T) (get_or K e.clause []) b (last (get_or K e.clause []) c-at) gone) s)
+
+  pub turn-stays : (u : Kept) (b : Literal) → IsVisit K (literals T) g e k u (Some b) → Walks floor K T n g (tending (with_list u g (set ws j (record e { blocker = b })))) (j + 1)
+  turn-stays u b v = subst (λ (t : Tending). Walks floor K T n g t (j + 1)) (sym (same-tending u b)) (stays-walk u b v)
+
+  -- what the entries say stays
+  same-kept : (u : Kept) (b : Literal) → IsVisit K (literals T) g e k u (Some b) → IsStay K e b × (u.pairs ≡ k.pairs) × (u.lists ≡ k.lists)
+  same-kept u b (satisfied stay t is) = (stay, ap (λ (x : Kept). x.pairs) is, ap (λ (x : Kept). x.lists) is)
+  same-kept u b (behind stay least le is) = (stay, ap (λ (x : Kept). x.pairs) is, ap (λ (x : Kept). x.lists) is)
+  same-kept u b (unit stay last free perm pairs lists least) = (stay, pairs, lists)
+  same-kept u b (clashes stay last gone is) = (stay, ap (λ (x : Kept). x.pairs) is, ap (λ (x : Kept). x.lists) is)
+
+  new-entry : (b : Literal) → IsStay K e b → IsEntry K k.pairs g (record e { blocker = b })
+  new-entry b stay = record {
+    blocker_in = stay.blocker_in;
+    short = λ x c w p q. let r = its-entry.short x c w p q in (r.0, subst (λ (l : Literal). IsBeside w g l) (sym (stay.short x)) r.1);
+    long = its-entry.long;
+  }
+
+  of-list : (l : Literal) (xs : List Watch) → code l ≢ code g → entries_at (set k.lists (code g) xs) l ≡ entries_at k.lists l
+  of-list l xs ne = get_or-set_other k.lists (code g) (code l) xs [] ne
+
+  other-entries : (l : Literal) → code l ≢ code g → AreEntriesOf K k.pairs l (entries_at k.lists l)
+  other-entries l ne p x a = entries l p x (subst (λ (ys : List Watch). At ys p x) (sym (of-list l ws ne)) a)
+
+  g-entries : AreEntriesOf K k.pairs g ws
+  g-entries p x a = entries g p x (subst (λ (ys : List Watch). At ys p x) (sym (entries-is k g ws h)) a)
+
+  pub turn-stays-entries : (u : Kept) (b : Literal) → IsVisit K (literals T) g e k u (Some b) → AreEntries K (with_list u g (set ws j (record e { blocker = b })))
+  turn-stays-entries u b v l p x a = go (cases_eq (code l) (code g))
+    where
+      r : IsStay K e b × (u.pairs ≡ k.pairs) × (u.lists ≡ k.lists)
+      r = same-kept u b v
+
+      a' : At (entries_at (set k.lists (code g) (set ws j (record e { blocker = b }))) l) p x
+      a' = subst (λ (ls : List (List Watch)). At (entries_at (set ls (code g) (set ws j (record e { blocker = b }))) l) p x) r.2 a
+
+      found : ((p ≡ j) × (x ≡ record e { blocker = b })) ⊎ ((p ≢ j) × At ws p x) → IsEntry K k.pairs g x
+      found (inl (i, f)) = subst (λ (y : Watch). IsEntry K k.pairs g y) (sym f) (new-entry b r.0)
+      found (inr (ne, f)) = g-entries p x f
+
+      go : (code l ≡ code g) ⊎ (code l ≢ code g) → IsEntry K u.pairs l x
+      go (inl i) =
+          let same_lit : l ≡ g = code-one l g i in
+          let here : At (set ws j (record e { blocker = b })) p x = subst (λ (ys : List Watch). At ys p x) (entries-is k g (set ws j (record e { blocker = b })) h) (subst (λ (y : Literal). At (entries_at (set k.lists (code g) (set ws j (record e { blocker = b }))) y) p x) same_lit a') in
+          rw (r.1, same_lit) (found (At-set ws j (record e { blocker = b }) p x here))
+      go (inr ne) = rw r.1 (other-entries l ne p x (subst (λ (ys : List Watch). At ys p x) (of-list l (set ws j (record e { blocker = b })) ne) a'))
+
+  -- another clause's entry says the same where the clause of this one watches another literal
+  moved-entry : (y z l : Literal) (x : Watch) → e.is_short ≡ false → IsEntry K k.pairs l x → IsEntry K (set k.pairs e.clause (both y z)) l x
+  moved-entry y z l x not_short r = record { blocker_in = r.blocker_in; short = λ i c w a b. go i c w a (At-set k.pairs e.clause (both y z) x.clause w b); long = r.long }
+    where
+      go : x.is_short ≡ true → (c : Clause) (w : Watched) → At K x.clause c → ((x.clause ≡ e.clause) × (w ≡ both y z)) ⊎ ((x.clause ≢ e.clause) × At k.pairs x.clause w) → (length c ≤ 2) × IsBeside w l x.blocker
+      go i c w a (inl (f, _)) =
+          let short = (r.short i c w-at.0 a (subst (λ m. At k.pairs m w-at.0) (sym f) w-at.1)).0 in
+          let long = its-entry.long not_short c (subst (λ m. At K m c) f a) in
+          absurd (omega (arith, short, long))
+      go i c w a (inr (_, b)) = r.short i c w a b
+
+  module _ (u : Kept) (new : List Watch) (ok : IsConsistent (literals T)) (room : (c : Clause) (l : Literal) → At K e.clause c → has c l ≡ true → code l < length k.lists)
+      (was : (p : ℕ) (x : Watch) → At new p x → (q : ℕ) × At ws q x) (gone : places new ≡ swap_remove (places ws) j e.clause) where
+    -- what a move is made of
+    record Move (y z : Literal) : Type 0 where
+      not_short : e.is_short ≡ false
+      beside : IsBeside w-at.0 g y
+      y_in : has (get_or K e.clause []) y ≡ true
+      replaces : Replaces (literals T) (get_or K e.clause []) y z
+      pairs : u.pairs ≡ set k.pairs e.clause (both y z)
+      lists : u.lists ≡ set k.lists (code z) (entries_at k.lists z ++ record { clause = e.clause; blocker = y; is_short = false } ∷ [])
+      units : u.units ≡ k.units
+      least : u.least ≡ k.least
+
+    made : IsVisit K (literals T) g e k u None → (y : Literal) × (z : Literal) × Move y z
+    made (moves {k = y} {z = z} long facts pairs lists units least) =
+        let f = facts (get_or K e.clause []) w-at.0 c-at w-at.1 in
+        (y, z, record { not_short = long; beside = f.0; y_in = f.1; replaces = f.2; pairs = pairs; lists = lists; units = units; least = least })
+
+    module _ (y z : Literal) (m : Move y z) where
+      z_g : same z g ≡ false
+      z_g = go (true_or_false (same z g))
+        where
+          go : (same z g ≡ true) ⊎ (same z g ≡ false) → same z g ≡ false
+          go (inl f) = absurd (true_false (has (literals T) (negated z)) (subst (λ (x : Literal). has (literals T) (negated x) ≡ true) (sym (same-eq z g f)) (gone-true T n g next)) m.replaces.not_false)
+          go (inr f) = f
+
+      codes : code z ≢ code g
+      codes f = true_false (same z g) (rw (code-one z g f) (same-refl g)) z_g
+
+      hz : code z < length k.lists
+      hz = room (get_or K e.clause []) z c-at m.replaces.member
+
+      lists-moved : (tending (with_list u g new)).lists ≡ moved (tending (with_list k g ws)).lists g z e.clause j e.clause
+      lists-moved =
+          ap (λ (ls : List (List Watch)). map places (set ls (code g) new)) m.lists
+          ∙ map-set places (set k.lists (code z) (entries_at k.lists z ++ record { clause = e.clause; blocker = y; is_short = false } ∷ [])) (code g) new
+          ∙ (λ i. set (inner i) (code g) (gone i))
+          ∙ sym (set-over (map places k.lists) (code g) (code z) (places ws) (places (entries_at k.lists z) ++ e.clause ∷ []) (swap_remove (places ws) j e.clause) (λ f. codes (sym f)))
+          ∙ (λ i. set (set (outer i) (code z) (of_z i ++ e.clause ∷ [])) (code g) (swap_remove (of_g i) j e.clause))
+        where
+          outer : set (map places k.lists) (code g) (places ws) ≡ map places (set k.lists (code g) ws)
+          outer = sym (map-set places k.lists (code g) ws)
+
+          of_g : places ws ≡ list_at (tending (with_list k g ws)).lists g
+          of_g = sym (list-is k g ws h)
+
+          inner : map places (set k.lists (code z) (entries_at k.lists z ++ record { clause = e.clause; blocker = y; is_short = false } ∷ [])) ≡ set (map places k.lists) (code z) (places (entries_at k.lists z) ++ e.clause ∷ [])
+          inner = map-set places k.lists (code z) (entries_at k.lists z ++ record { clause = e.clause; blocker = y; is_short = false } ∷ [])
+              ∙ ap (λ ns. set (map places k.lists) (code z) ns) (map-append (λ (x : Watch). x.clause) (entries_at k.lists z) (record { clause = e.clause; blocker = y; is_short = false } ∷ []))
+
+          of_z : places (entries_at k.lists z) ≡ list_at (tending (with_list k g ws)).lists z
+          of_z = sym (ap (λ (ls : List (List ℕ)). get_or ls (code z) []) (map-set places k.lists (code g) ws) ∙ get_or-set_other (map places k.lists) (code g) (code z) (places ws) [] codes ∙ get_or-map places k.lists (code z) [])
+
+      walks-on : Walks floor K T n g (tending (with_list u g new)) j
+      walks-on =
+          Walks-move floor K T n g y z (tending (with_list k g ws)) (tending (with_list u g new)) j e.clause (get_or K e.clause []) w-at.0 m.pairs lists-moved m.units m.least ok
+          (subst (λ i. code g < i) (sym (lists-long k g ws)) h) (subst (λ i. code z < i) (sym (lists-long k g ws)) hz) next visits m.beside m.replaces s
+
+      entries-on : AreEntries K (with_list u g new)
+      entries-on l p x a = rw m.pairs (go (cases_eq (code l) (code g)) (cases_eq (code l) (code z)) (subst (λ (ls : List (List Watch)). At (entries_at (set ls (code g) new) l) p x) m.lists a))
+        where
+          fresh : Watch
+          fresh = record { clause = e.clause; blocker = y; is_short = false }
+
+          its-c : (c : Clause) → At K e.clause c → has c y ≡ true
+          its-c c b = subst (λ (d : Clause). has d y ≡ true) (At-one K e.clause (get_or K e.clause []) c c-at b) m.y_in
+
+          new-one : IsEntry K (set k.pairs e.clause (both y z)) z (record { clause = e.clause; blocker = y; is_short = false })
+          new-one = record { blocker_in = its-c; short = λ i c w b d. absurd (true_false false i refl); long = λ i c b. its-entry.long m.not_short c b }
+
+          of_g : code l ≡ code g → At (entries_at (set (set k.lists (code z) (entries_at k.lists z ++ fresh ∷ [])) (code g) new) l) p x → IsEntry K (set k.pairs e.clause (both y z)) l x
+          of_g i b =
+              let lit : l ≡ g = code-one l g i in
+              let here : At new p x = subst (λ (ys : List Watch). At ys p x)
+              (get_or-set_same (set k.lists (code z) (entries_at k.lists z ++ fresh ∷ [])) (code g) new [] (subst (λ q. code g < q) (sym (length-set k.lists (code z) (entries_at k.lists z ++ fresh ∷ []))) h))
+              (subst (λ (v : Literal). At (entries_at (set (set k.lists (code z) (entries_at k.lists z ++ fresh ∷ [])) (code g) new) v) p x) lit b) in
+              let old = was p x here in
+              moved-entry y z l x m.not_short (rw lit (g-entries old.0 x old.1))
+
+          of_z : code l ≢ code g → code l ≡ code z → At (entries_at (set k.lists (code z) (entries_at k.lists z ++ fresh ∷ [])) l) p x → IsEntry K (set k.pairs e.clause (both y z)) l x
+          of_z ne i b =
+              let lit : l ≡ z = code-one l z i in
+              let here : At (entries_at k.lists z ++ fresh ∷ []) p x = subst (λ (ys : List Watch). At ys p x) (get_or-set_same k.lists (code z) (entries_at k.lists z ++ fresh ∷ []) [] hz)
+              (subst (λ (v : Literal). At (entries_at (set k.lists (code z) (entries_at k.lists z ++ fresh ∷ [])) v) p x) lit b) in
+              rw lit (split (At-push (entries_at k.lists z) fresh p x here))
+            where
+              split : At (entries_at k.lists z) p x ⊎ ((p ≡ length (entries_at k.lists z)) × (x ≡ fresh)) → IsEntry K (set k.pairs e.clause (both y z)) z x
+              split (inl f) = moved-entry y z z x m.not_short (other-entries z codes p x f)
+              split (inr (_, f)) = subst (λ (v : Watch). IsEntry K (set k.pairs e.clause (both y z)) z v) (sym f) new-one
+
+          go : (code l ≡ code g) ⊎ (code l ≢ code g) → (code l ≡ code z) ⊎ (code l ≢ code z) → At (entries_at (set (set k.lists (code z) (entries_at k.lists z ++ fresh ∷ [])) (code g) new) l) p x → IsEntry K (set k.pairs e.clause (both y z)) l x
+          go (inl i) _ b = of_g i b
+          go (inr ne) (inl i) b = of_z ne i (subst (λ (ys : List Watch). At ys p x) (get_or-set_other (set k.lists (code z) (entries_at k.lists z ++ fresh ∷ [])) (code g) (code l) new [] ne) b)
+          go (inr ne) (inr apart) b =
+              moved-entry y z l x m.not_short (other-entries l ne p x
+              (subst (λ (ys : List Watch). At ys p x) (get_or-set_other (set k.lists (code z) (entries_at k.lists z ++ fresh ∷ [])) (code g) (code l) new [] ne ∙ get_or-set_other k.lists (code z) (code l) (entries_at k.lists z ++ fresh ∷ []) [] apart) b))
+
+    pub turn-moves : IsVisit K (literals T) g e k u None → Walks floor K T n g (tending (with_list u g new)) j
+    turn-moves v = let r = made v in walks-on r.0 r.1 r.2
+
+    pub turn-moves-entries : IsVisit K (literals T) g e k u None → AreEntries K (with_list u g new)
+    turn-moves-entries v = let r = made v in entries-on r.0 r.1 r.2
+
+-- what the program reads and writes
+pub written : (list : List Watch) (end place : ℕ) (e d : Watch) (b : Literal) → place < end → end ≤ length list → e ≡ get_or list place e
+    → take end (set list place record { clause = (get_or list place d).clause; blocker = b; is_short = (get_or list place d).is_short }) ≡ set (take end list) place (record e { blocker = b })
+written list end place e d b low high read =
+    take-set-lt end list place record { clause = (get_or list place d).clause; blocker = b; is_short = (get_or list place d).is_short } low
+    ∙ (λ i. set (take end list) place record { clause = (one i).clause; blocker = b; is_short = (one i).is_short })
+  where
+    one : get_or list place d ≡ e
+    one = get_or_default list place d e (omega (arith, low, high)) ∙ sym read
+
+pub read-at : (list : List Watch) (end place : ℕ) (e : Watch) → place < end → end ≤ length list → e ≡ get_or list place e → At (take end list) place e
+read-at list end place e low high read = (omega (arith, low, high, length-take-le end list high), get_or-take end list place e low ∙ sym read)
+
+pub left-list : (list : List Watch) (end place : ℕ) (x : Watch) → place < end → end ≤ length list → x ≡ get_or list (end - 1) x → take (end - 1) (set list place x) ≡ left list (end - 1) place x
+left-list list end place x low high read = ap (λ (y : Watch). take (end - 1) (set list place y)) read
+
+pub left-places-at : (list : List Watch) (end place n : ℕ) (x : Watch) → place < end → end ≤ length list → places (left list (end - 1) place x) ≡ swap_remove (places (take end list)) place n
+left-places-at list end place n x low high =
+    left-places list (end - 1) place n x (omega (arith, low, high)) ∙ ap (λ k. swap_remove (places (take k list)) place n) (let z : end - 1 + 1 ≡ end = omega (arith, low) in z)
+
+pub left-was-at : (list : List Watch) (end place q : ℕ) (x y : Watch) → place < end → end ≤ length list → At (left list (end - 1) place x) q y → (p : ℕ) × At (take end list) p y
+left-was-at list end place q x y low high a =
+    let r = left-was list (end - 1) place q x y (omega (arith, low, high)) a in
+    (r.0, subst (λ k. At (take k list) r.0 y) (let z : end - 1 + 1 ≡ end = omega (arith, low) in z) r.1)
+
+-- the lists' length, as a program has it
+pub code-inside : {V : Type 0} (f : V → List Watch) (vs : List V) (n : ℕ) (g : Literal) (T : Trail) (served : ℕ) → length vs ≡ 2 * n + 2 → IsOver n (literals T) → IsNext T served g → code g < length (map f vs)
+code-inside f vs n g T served long over next = code-within g n (length (map f vs)) (over-var n (literals T) (negated g) over (gone-true T served g next)) (length-map vs f ∙ long)
+
+pub room-of : {V : Type 0} (f : V → List Watch) (vs : List V) (n : ℕ) (K : List Clause) (m : ℕ) → length vs ≡ 2 * n + 2 → All (IsOver n) K → m < length K → (c : Clause) (l : Literal) → At K m c → has c l ≡ true → code l < length (map f vs)
+room-of f vs n K m long over inside c l a h =
+    code-within l n (length (map f vs)) (over-var n c l (subst (λ (d : Clause). IsOver n d) (At-one K m (get_or K m []) c (At-get K m [] inside) a) (over m [] inside)) h) (length-map vs f ∙ long)
+
+pub all-visited : (k : Kept) (g : Literal) (list : List Watch) (end place : ℕ) → code g < length k.lists → end ≤ length list → end ≤ place → length (list_at (tending (with_list k g (take end list))).lists g) ≤ place
+all-visited k g list end place h inside done =
+    let size : length (list_at (tending (with_list k g (take end list))).lists g) ≡ end =
+    ap length (list-is k g (take end list) h) ∙ length-map (take end list) (λ (e : Watch). e.clause) ∙ length-take-le end list inside in
+    omega (arith, size, done)
+
+set-twice : {X : Type 0} (xs : List X) (i : ℕ) (a c : X) → set (set xs i a) i c ≡ set xs i c
+set-twice [] i a c = refl
+set-twice (x ∷ xs) zero a c = refl
+set-twice (x ∷ xs) (suc i) a c = ap (λ ys. x ∷ ys) (set-twice xs i a c)
+
+-- a list that was taken out stands beside the others
+pub taken-out : {V : Type 0} (f : V → List Watch) (vs : List V) (g : Literal) (at : ℕ) (empty before : V) (ws : List Watch) → at ≡ code g → code g < length vs → before ≡ get_or vs at before → ws ≡ f before
+    → set (map f (set vs at empty)) (code g) ws ≡ map f vs
+taken-out f vs g at empty before ws is inside read its =
+    (λ i. set (map f (set vs (is i) empty)) (code g) (its i))
+    ∙ ap (λ ys. set ys (code g) (f before)) (map-set f vs (code g) empty)
+    ∙ set-twice (map f vs) (code g) (f empty) (f before)
+    ∙ ap (λ x. set (map f vs) (code g) x) old
+    ∙ set-get_or (map f vs) (code g) []
+  where
+    within : code g < length (map f vs)
+    within = subst (λ n. code g < n) (sym (length-map vs f)) inside
+
+    old : f before ≡ get_or (map f vs) (code g) []
+    old = ap f (subst (λ x. before ≡ get_or vs x before) is read) ∙ sym (get_or-map f vs (code g) before) ∙ get_or_default (map f vs) (code g) (f before) [] within
+
+-- and is put back
+pub put-back : {V : Type 0} (f : V → List Watch) (vs : List V) (g : Literal) (at : ℕ) (after : V) (ws : List Watch) → at ≡ code g → f after ≡ ws → map f (set vs at after) ≡ set (map f vs) (code g) ws
+put-back f vs g at after ws is its = map-set f vs at after ∙ (λ i. set (map f vs) (is i) (its i))
+
+pub gone-inside : {V : Type 0} (vs : List V) (n : ℕ) (g : Literal) (T : Trail) (served : ℕ) → length vs ≡ 2 * n + 2 → IsOver n (literals T) → IsNext T served g → code g < length vs
+gone-inside vs n g T served long over next = code-within g n (length vs) (over-var n (literals T) (negated g) over (gone-true T served g next)) long

@@ -1,0 +1,278 @@
+//! Clauses that come to the end and are watched, and those that are cut off again.
+ghost use Rattle.std.specs.Prelude.{◌≡◌, ◌+◌, ◌<◌, ◌≤◌, ◌*◌, ◌∷◌, [], ◌++◌, All, IfOk, OnOk, OnErr, IfSome, IfNone, IsSome, Some, None, length, map, Bool, true, false, nat_le, ℕ, ◌^◌, List, Option, sum_by};
+ghost use Rattle.theory.specs.Literals.{Literal, same, has};
+ghost use Rattle.theory.specs.Status.{unit_literal};
+ghost use Rattle.theory.specs.Trails.{literals, level_of};
+ghost use Rattle.theory.specs.Truth.{IsOver};
+ghost use Rattle.theory.specs.Learnable.{IsLearnable};
+ghost use Rattle.theory.specs.Reading.{max_literals};
+ghost use Rattle.kernel.specs.Watching.{code, IsPair, lesser};
+ghost use Rattle.kernel.specs.Visiting.{kept_of};
+ghost use Rattle.kernel.specs.Attaching.{with_entry, attached, IsLater, IsWatching};
+
+use crate::clauses::Clauses;
+use crate::propagator::{Propagator, code};
+use crate::trail::Trail;
+use crate::units::Units;
+use crate::watch::{Watch, Watched};
+use cnf::Lit;
+use smallvec::SmallVec;
+use std::alloc::{AllocError, Global};
+
+/// Two literals of a clause to be watched where no variable has a value: the first, and the first other one if there is one.
+pub fn first_two(clause: &[Lit]) -> Option<Watched>
+    ensures none { IfNone result (clause.now ≡ []) }
+    ensures pair { IfSome result (λ w. IsPair clause.now w) }
+{
+    if clause.is_empty() {
+        return None;
+    }
+    let first = clause[0];
+    for lit in clause {
+        if !lit.same(&first) {
+            return Some(Watched {
+                first,
+                second: *lit,
+            });
+        }
+    }
+    Some(Watched {
+        first,
+        second: first,
+    })
+}
+
+/// The first literal without a value.
+fn free_literal(trail: &Trail, clause: &[Lit]) -> Option<Lit>
+    requires { IsOver trail.now.vars clause.now }
+    ensures unit { (l : Literal) → unit_literal (literals trail.now.entries) clause.now ≡ Some l → result ≡ Some l }
+    ensures member { IfSome result (λ l. has clause.now l ≡ true) }
+{
+    for lit in clause {
+        if trail.truth(*lit).is_none() {
+            return Some(*lit);
+        }
+    }
+    None
+}
+
+/// Whether a literal other than `free` is to take the place of the latest one so far, which is `free` before the first.
+fn is_later(trail: &Trail, free: Lit, latest: Lit, lit: Lit) -> bool
+    requires latest { latest.var ≤ trail.now.vars }
+    requires lit { lit.var ≤ trail.now.vars }
+    ensures { IsLater trail.now.entries free latest lit result }
+{
+    if lit.same(&free) {
+        return false;
+    }
+    if latest.same(&free) {
+        return true;
+    }
+    trail.level_of(latest) < trail.level_of(lit)
+}
+
+/// A literal other than `free` of the greatest level, or `free` itself where there is no other.
+fn latest_literal(trail: &Trail, clause: &[Lit], free: Lit) -> Lit
+    requires over { IsOver trail.now.vars clause.now }
+    requires free { has clause.now free ≡ true }
+    ensures pair { IsPair clause.now record { first = free; second = result } }
+    ensures latest { (l : Literal) → has clause.now l ≡ true → same free l ≡ false → level_of trail.now.entries l ≤ level_of trail.now.entries result }
+{
+    let mut latest = free;
+    for lit in clause {
+        let lit = *lit;
+        if is_later(trail, free, latest, lit) {
+            latest = lit;
+        }
+    }
+    latest
+}
+
+/// The literals of a learnt clause to be watched: the free one, and one that became false at the greatest level. Going back frees the
+/// second no later than any other, so the clause is found each time that it becomes unit or false.
+pub fn learnt_watched(trail: &Trail, clause: &[Lit]) -> Option<Watched>
+    requires { IsOver trail.now.vars clause.now }
+    ensures pair { (l : Literal) → unit_literal (literals trail.now.entries) clause.now ≡ Some l → IfSome result (λ w. (w.first ≡ l) × IsPair clause.now w
+        × ((k : Literal) → has clause.now k ≡ true → same l k ≡ false → level_of trail.now.entries k ≤ level_of trail.now.entries w.second)) }
+    ensures some { (l : Literal) → unit_literal (literals trail.now.entries) clause.now ≡ Some l → IsSome result }
+{
+    let free = free_literal(trail, clause)?;
+    Some(Watched {
+        first: free,
+        second: latest_literal(trail, clause, free),
+    })
+}
+
+impl Propagator {
+    /// Puts an entry into the list of a literal.
+    fn list(&mut self, lit: Lit, watch: Watch) -> Result<(), AllocError>
+        requires { code lit < length self.old.lists.items }
+        ensures lists { OnOk result ((kept_of self.new).lists ≡ with_entry (kept_of self.old).lists lit watch) }
+        ensures kept { (self.new.clauses ≡ self.old.clauses) × (self.new.pairs ≡ self.old.pairs) × (self.new.units ≡ self.old.units) × (self.new.conflict ≡ self.old.conflict)
+            × (length self.new.lists.items ≡ length self.old.lists.items) }
+    {
+        self.lists[code(lit)].push(watch)?;
+        Ok(())
+    }
+
+    /// Puts a clause at the end, in the lists of the literals that it is to watch. Where a request for memory is refused, the clauses
+    /// are as they were. There is room for 2^32 - 1 clauses; one more counts as a request that is refused.
+    pub fn attach(&mut self, clause: &[Lit], watched: Watched) -> Result<(), AllocError>
+        requires first { code watched.first < length self.old.lists.items }
+        requires second { code watched.second < length self.old.lists.items }
+        ensures clauses { OnOk result (self.new.clauses ≡ self.old.clauses ++ clause.now ∷ []) }
+        ensures pairs { OnOk result (self.new.pairs.items ≡ self.old.pairs.items ++ watched ∷ []) }
+        ensures lists { OnOk result ((kept_of self.new).lists ≡ attached (kept_of self.old).lists watched (length self.old.clauses) (nat_le (length clause.now) 2)) }
+        ensures small { OnOk result (length self.old.clauses < 2 ^ 32) }
+        ensures kept { (self.new.units ≡ self.old.units) × (self.new.conflict ≡ self.old.conflict) × (length self.new.lists.items ≡ length self.old.lists.items) }
+        ensures refused { OnErr result (self.new.clauses ≡ self.old.clauses) }
+    {
+        let number = self.clauses.len();
+        if number >= u32::MAX as usize {
+            return Err(AllocError);
+        }
+        let is_short = clause.len() <= 2;
+        self.list(
+            watched.first,
+            Watch {
+                clause: number as u32,
+                blocker: watched.second,
+                is_short,
+            },
+        )?;
+        if !watched.first.same(&watched.second) {
+            self.list(
+                watched.second,
+                Watch {
+                    clause: number as u32,
+                    blocker: watched.first,
+                    is_short,
+                },
+            )?;
+        }
+        self.pairs.push(watched)?;
+        self.clauses.push(clause)
+    }
+
+    /// Puts an empty clause at the end. It is false from the beginning on, and watches nothing.
+    fn attach_empty(&mut self) -> Result<(), AllocError>
+        ensures clauses { OnOk result (self.new.clauses ≡ self.old.clauses ++ [] ∷ []) }
+        ensures pairs { OnOk result ((w : Watched) × (self.new.pairs.items ≡ self.old.pairs.items ++ w ∷ [])) }
+        ensures least { OnOk result (self.new.conflict ≡ Some (lesser self.old.conflict (length self.old.clauses))) }
+        ensures kept { (self.new.units ≡ self.old.units) × (self.new.lists ≡ self.old.lists) }
+    {
+        let number = self.clauses.len();
+        if number >= u32::MAX as usize {
+            return Err(AllocError);
+        }
+        self.pairs.push(Watched::default())?;
+        self.clauses.push(&[])?;
+        self.conflict = Some(match self.conflict {
+            None => number as u32,
+            Some(least) => least.min(number as u32),
+        });
+        Ok(())
+    }
+
+    /// Puts a clause of the formula at the end, before anything is decided: it is watched, and noted where it is empty or of one literal.
+    fn attach_first(&mut self, clause: &[Lit], singles: &mut Vec<u32>) -> Result<(), AllocError>
+        requires lists { (V : ℕ) × IsOver V clause.now × (length self.old.lists.items ≡ 2 * V + 2) }
+        ensures clauses { OnOk result (self.new.clauses ≡ self.old.clauses ++ clause.now ∷ []) }
+        ensures watching { OnOk result ((V : ℕ) → IsOver V clause.now → IsWatching V (length self.old.clauses) self.old.clauses [] 0 0 (kept_of self.old) singles.old.items self.old.conflict
+            → IsWatching V (length self.new.clauses) self.new.clauses [] 0 0 (kept_of self.new) singles.new.items self.new.conflict) }
+        ensures lists { length self.new.lists.items ≡ length self.old.lists.items }
+    {
+        match first_two(clause) {
+            None => self.attach_empty()?,
+            Some(watched) => {
+                let number = self.clauses.len();
+                self.attach(clause, watched)?;
+                if watched.first.same(&watched.second) {
+                    self.units.push(number as u32)?;
+                    singles.push(number as u32)?;
+                }
+            }
+        }
+        Ok(())
+    }
+
+    /// Puts a learnt clause at the end: one of its literals is free, and the others are false. It waits as a unit from then on. Where a
+    /// request for memory is refused, the clauses are as they were.
+    pub fn attach_learnt(&mut self, trail: &Trail, clause: &[Lit]) -> Result<(), AllocError>
+        requires over { IsOver trail.now.vars clause.now }
+        requires learnable { IsLearnable trail.now.entries clause.now }
+        requires lists { length self.old.lists.items ≡ 2 * trail.now.vars + 2 }
+        ensures clauses { OnOk result (self.new.clauses ≡ self.old.clauses ++ clause.now ∷ []) }
+        ensures watching { OnOk result ((first at floor : ℕ) (single : List ℕ) (empty : Option ℕ) → first ≤ length self.old.clauses
+            → IsWatching trail.now.vars first self.old.clauses trail.now.entries at floor (kept_of self.old) single empty
+            → IsWatching trail.now.vars first self.new.clauses trail.now.entries at floor (kept_of self.new) single empty) }
+        ensures refused { OnErr result (self.new.clauses ≡ self.old.clauses) }
+    {
+        let _entries = trail.entries(); // it ensures what the proof needs of the trail
+        let number = self.clauses.len();
+        if number >= u32::MAX as usize {
+            return Err(AllocError);
+        }
+        match learnt_watched(trail, clause) {
+            None => unreachable!(),
+            Some(watched) => {
+                self.units.push(number as u32)?;
+                self.attach(clause, watched)?;
+                Ok(())
+            }
+        }
+    }
+
+    /// Attaches the formula's clauses, before anything is decided. It answers those of one literal.
+    pub fn attach_all(
+        &mut self,
+        alloc: Global,
+        clauses: &[Vec<Lit>],
+    ) -> Result<Vec<u32>, AllocError>
+        requires over { (V : ℕ) × All (λ c. IsOver V c.items) clauses.now × (length self.old.lists.items ≡ 2 * V + 2) }
+        requires none { self.old.clauses ≡ [] }
+        ensures clauses { OnOk result (self.new.clauses ≡ map (λ c. c.items) clauses.now) }
+        ensures watching { IfOk result (λ s. (V : ℕ) → All (λ c. IsOver V c.items) clauses.now → IsWatching V 0 [] [] 0 0 (kept_of self.old) [] self.old.conflict
+            → IsWatching V (length self.new.clauses) self.new.clauses [] 0 0 (kept_of self.new) s.items self.new.conflict) }
+    {
+        let mut singles = Vec::new(alloc);
+        for clause in clauses {
+            self.attach_first(clause, &mut singles)?;
+        }
+        Ok(singles)
+    }
+}
+
+/// Lists without entries.
+fn no_entries(alloc: Global, count: usize) -> Result<Vec<SmallVec<Watch, 4>>, AllocError>
+    ensures { IfOk result (λ ls. (length ls.items ≡ count) × All (λ v. v.items ≡ []) ls.items) }
+{
+    let mut lists = Vec::with_capacity(alloc, count)?;
+    while lists.len() < count {
+        lists.push(SmallVec::new(alloc))?;
+    }
+    Ok(lists)
+}
+
+impl Propagator {
+    /// No clauses, with room for those of a formula over the variables 1 to `vars`.
+    pub fn with_room(
+        alloc: Global,
+        vars: u32,
+        clauses: &[Vec<Lit>],
+    ) -> Result<Propagator, AllocError>
+        requires small { vars < 2 ^ 31 }
+        requires few { sum_by (λ c. length c.items) clauses.now ≤ max_literals }
+        ensures none { IfOk result (λ p. (p.clauses ≡ []) × (length p.lists.items ≡ 2 * vars + 2)) }
+        ensures watching { IfOk result (λ p. IsWatching vars 0 [] [] 0 0 (kept_of p) [] p.conflict) }
+    {
+        Ok(Propagator {
+            clauses: Clauses::with_room(alloc, clauses)?,
+            pairs: Vec::with_capacity(alloc, clauses.len())?,
+            lists: no_entries(alloc, 2 * vars as usize + 2)?,
+            units: Units::new(alloc),
+            conflict: None,
+            visits: 0,
+        })
+    }
+}

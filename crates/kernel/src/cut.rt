@@ -1,0 +1,124 @@
+//! The learnt clauses of a cube are cut off again.
+ghost use Rattle.std.specs.Prelude.{◌≡◌, ◌+◌, ◌<◌, ◌≤◌, ◌*◌, ◌∷◌, [], ◌++◌, All, IfOk, OnOk, OnErr, Some, None, length, map, take, drop, slice_index_or, slice_set, ℕ, List, ◌⊎◌};
+ghost use Rattle.std.specs.List.{Contains};
+ghost use Rattle.std.specs.List.Sorted.{IsPermutation};
+ghost use Rattle.theory.specs.Truth.{IsOver};
+ghost use Rattle.theory.specs.Trails as trails;
+ghost use Rattle.theory.specs.Literals.{Clause};
+ghost use Rattle.kernel.specs.declared.watch.Watch.{Watch};
+ghost use Rattle.kernel.specs.declared.watch.Watched.{Watched};
+ghost use Rattle.kernel.specs.Watching.{code, At};
+ghost use Rattle.kernel.specs.Visiting.{kept_of};
+ghost use Rattle.kernel.specs.Attaching.{IsWatching};
+ghost use Rattle.kernel.specs.Cutting.{IsKeptBelow, AreKeptBelow, AreCodesOf};
+
+use crate::propagator::{Propagator, code};
+use crate::watch::Watch;
+use std::alloc::AllocError;
+
+/// Takes the entries of clauses from `first` on out of a list; the answer is how many stay. Their order isn't kept.
+fn keep_below(list: &mut [Watch], first: usize) -> usize
+    ensures within { result ≤ length list.new }
+    ensures kept { IsKeptBelow first list.old (take result list.new) }
+{
+    let mut end = list.len();
+    let mut place = 0;
+    while place < end {
+        if (list[place].clause as usize) < first {
+            place += 1;
+        } else {
+            end -= 1;
+            list[place] = list[end];
+        }
+    }
+    end
+}
+
+impl Propagator {
+    /// Where the lists stand that have entries of clauses from `first` on, by rising number; some stand here twice.
+    fn lists_from(&self, first: usize) -> Result<Vec<usize>, AllocError>
+        requires first { first ≤ length self.now.pairs.items }
+        requires lists { (n : ℕ) (w : Watched) → first ≤ n → At self.now.pairs.items n w → (code w.first < length self.now.lists.items) × (code w.second < length self.now.lists.items) }
+        ensures within { IfOk result (λ cs. All (λ n. n < length self.now.lists.items) cs.items) }
+        ensures codes { IfOk result (λ cs. AreCodesOf first self.now.pairs.items cs.items) }
+    {
+        let alloc = *self.lists.allocator();
+        let mut codes = Vec::new(alloc);
+        for index in first..self.pairs.len() {
+            let watched = self.pairs[index];
+            codes.push(code(watched.first))?;
+            codes.push(code(watched.second))?;
+        }
+        codes.sort_unstable();
+        Ok(codes)
+    }
+
+    /// Takes the entries of clauses from `first` on out of a list.
+    fn drop_list(&mut self, at: usize, first: usize)
+        requires { at < length self.old.lists.items }
+        ensures kept { (self.new.clauses ≡ self.old.clauses) × (self.new.pairs ≡ self.old.pairs) × (self.new.units ≡ self.old.units) × (self.new.conflict ≡ self.old.conflict) }
+        ensures long { length self.new.lists.items ≡ length self.old.lists.items }
+        ensures list { (ws : List Watch) × ((kept_of self.new).lists ≡ slice_set (kept_of self.old).lists at ws) × IsKeptBelow first (slice_index_or (kept_of self.old).lists at []) ws }
+    {
+        let list = &mut self.lists[at];
+        let end = keep_below(list.as_mut_slice(), first);
+        list.truncate(end);
+    }
+
+    /// Takes the entries of clauses from `first` on out of some lists. A list that is named twice in a row is gone through once.
+    fn drop_from(&mut self, codes: &[usize], first: usize)
+        requires { All (λ n. n < length self.old.lists.items) codes.now }
+        ensures kept { (self.new.clauses ≡ self.old.clauses) × (self.new.pairs ≡ self.old.pairs) × (self.new.units ≡ self.old.units) × (self.new.conflict ≡ self.old.conflict) }
+        ensures lists { AreKeptBelow first codes.now (kept_of self.old).lists (kept_of self.new).lists }
+        ensures long { length self.new.lists.items ≡ length self.old.lists.items }
+    {
+        let mut last = None;
+        for code in codes {
+            let code = *code;
+            if last != Some(code) {
+                self.drop_list(code, first);
+                last = Some(code);
+            }
+        }
+    }
+
+    /// Cuts the clauses from `first` on off, with their entries in the lists, and begins anew with the formula's clauses of one literal
+    /// as units, and its first empty clause. It takes time by the clauses cut off, by the lists that they were in, and by the
+    /// formula's clauses of one literal. Where a request for memory is refused, the clauses are as they were or cut.
+    pub fn cut(
+        &mut self,
+        first: usize,
+        singles: &[u32],
+        empty: Option<u32>,
+    ) -> Result<(), AllocError>
+        requires inside { first ≤ length self.old.clauses }
+        requires watching { (V : ℕ) × (T : trails.Trail) × (at : ℕ) × (floor : ℕ) × IsWatching V first self.old.clauses T at floor (kept_of self.old) singles.now empty }
+        requires over { (V : ℕ) × All (IsOver V) self.old.clauses × (length self.old.lists.items ≡ 2 * V + 2) }
+        ensures clauses { OnOk result (self.new.clauses ≡ take first self.old.clauses) }
+        ensures watching { OnOk result ((V at floor : ℕ) (T : trails.Trail) → IsWatching V first self.old.clauses T at floor (kept_of self.old) singles.now empty
+            → IsWatching V first self.new.clauses [] 0 0 (kept_of self.new) singles.now empty) }
+        ensures refused { OnErr result ((self.new.clauses ≡ self.old.clauses) ⊎ (self.new.clauses ≡ take first self.old.clauses)) }
+    {
+        let codes = self.lists_from(first)?;
+        self.drop_from(&codes, first);
+        self.pairs.truncate(first);
+        self.clauses.truncate(first);
+        self.units.clear();
+        self.conflict = empty;
+        self.wait(singles)?;
+        Ok(())
+    }
+
+    /// Notes clauses as units.
+    fn wait(&mut self, clauses: &[u32]) -> Result<(), AllocError>
+        requires { self.old.units ≡ [] }
+        ensures units { OnOk result (IsPermutation clauses.now self.new.units) }
+        ensures kept { (self.new.clauses ≡ self.old.clauses) × (self.new.pairs ≡ self.old.pairs) × (self.new.lists ≡ self.old.lists) × (self.new.conflict ≡ self.old.conflict) }
+    {
+        for clause in clauses {
+            let number = *clause;
+            self.units.push(number)?;
+        }
+        Ok(())
+    }
+}

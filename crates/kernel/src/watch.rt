@@ -1,0 +1,57 @@
+//! Which literals a clause watches, and the entries of the lists of those that watch a literal.
+ghost use Rattle.std.specs.Prelude.{◌≡◌, true, false, if◌then◌else◌};
+ghost use Rattle.theory.specs.Literals.{same};
+
+use cnf::Lit;
+
+/// The two watched literals of a clause. They are one only where the clause has no other literal; those of an empty clause mean nothing.
+#[derive(Clone, Copy)]
+pub struct Watched {
+    pub first: Lit,
+    pub second: Lit,
+}
+
+/// An entry of a literal's list: a clause that watches it. Where the blocker, some other literal of the clause, is true, the clause need
+/// not be looked at; most visits end there, without a look at the clause's own memory. Of a clause of at most two literals the blocker is
+/// the literal that is left, so it is never looked at.
+/// Source: blocking literals as in MiniSat 2.2, and special watches of binary clauses as in CaDiCaL.
+#[derive(Clone, Copy)]
+pub struct Watch {
+    /// The place of the clause.
+    pub clause: u32,
+    pub blocker: Lit,
+    /// Whether the clause has at most two literals.
+    pub is_short: bool,
+}
+
+/// The watched literal beside one.
+pub fn beside(watched: Watched, lit: Lit) -> Lit
+    ensures { result ≡ (if same watched.first lit then watched.second else watched.first) }
+{
+    if watched.first.same(&lit) {
+        watched.second
+    } else {
+        watched.first
+    }
+}
+
+// what stands beside an empty clause
+impl Default for Watched {
+    fn default() -> Watched {
+        Watched {
+            first: Lit::of(1, true),
+            second: Lit::of(1, true),
+        }
+    }
+}
+
+// what fills the unused inline places of a list
+impl Default for Watch {
+    fn default() -> Watch {
+        Watch {
+            clause: 0,
+            blocker: Lit::of(1, true),
+            is_short: true,
+        }
+    }
+}
