@@ -23,7 +23,7 @@ impl Dice {
 
     /// The number of a literal over the variables 1 to `vars`.
     pub fn number(&mut self, vars: u32) -> i32 {
-        let var = self.below((vars as u64).max(1)).wrapping_add(1) as i32;
+        let var = self.below((vars as u64).max(1)).wrapping_add(1).min(99) as i32;
         if self.below(2) == 0 {
             var
         } else {
@@ -53,7 +53,7 @@ impl Dice {
 /// Puts a number below 100.
 fn put_number(text: &mut Vec<u8>, number: u64) -> Result<(), AllocError> {
     if number >= 10 {
-        text.push(b'0'.wrapping_add((number / 10) as u8))?;
+        text.push(b'0'.wrapping_add((number / 10).min(9) as u8))?;
     }
     text.push(b'0'.wrapping_add((number % 10) as u8))?;
     Ok(())
@@ -82,7 +82,7 @@ pub fn formula_text(alloc: Global, dice: &mut Dice) -> Result<Vec<u8>, AllocErro
     put_number(&mut text, clauses)?;
     text.push(b'\n')?;
     for _ in 0..clauses {
-        put_clause(&mut text, dice, vars as u32)?;
+        put_clause(&mut text, dice, vars.min(9) as u32)?;
     }
     Ok(text)
 }

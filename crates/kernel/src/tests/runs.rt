@@ -90,7 +90,7 @@ impl Twins {
     }
 
     fn back_to(&mut self, dice: &mut Dice) {
-        let level = dice.below((self.kernel.level() as u64).max(1)) as u32;
+        let level = dice.below((self.kernel.level() as u64).max(1)).min(99) as u32;
         if back_to(&mut self.kernel, level) {
             self.scan.back_to(level);
         }
@@ -145,12 +145,12 @@ impl Twins {
     }
 }
 
-/// Whether the kernel and the scan agree in a run of seven operations over one formula.
+/// Whether the kernel and the scan agree in a run of twenty operations over one formula.
 fn agrees(alloc: Global, dice: &mut Dice) -> Result<bool, Fail> {
     let text = formula_text(alloc, dice)?;
     let formula = read_formula(alloc, &text)?;
     let mut twins = Twins::open(alloc, dice, &formula)?;
-    for _ in 0..7 {
+    for _ in 0..20 {
         match twins.close()? {
             None => return Ok(false),
             Some(Closed::Quiet) => twins.after_quiet(alloc, dice)?,

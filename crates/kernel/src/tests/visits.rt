@@ -18,7 +18,7 @@ fn thousand(alloc: Global) -> Result<Vec<u8>, AllocError> {
 #[test]
 fn each_watching_clause_is_visited_once(rt: HostRuntime) -> Result<(), Fail> {
     let formula = read_formula(rt.alloc(), &thousand(rt.alloc())?)?;
-    let cube = cube_of(rt.alloc(), 2, &[-1])?;
+    let cube = cube_of(rt.alloc(), formula.vars(), &[-1])?;
     let mut kernel = Kernel::open(rt.alloc(), &formula, &cube)?;
     assert_eq!(rt; kernel.visits(), 0);
     let wanted = [(-1, 0, 0), (2, 1, 0)];
