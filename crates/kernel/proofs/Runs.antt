@@ -6,7 +6,7 @@ use Rattle.theory.specs.Truth.{IsOver}
 use Rattle.theory.specs.Trails.{Entry, Trail, literals, level_at, current_level, entry_of}
 use Rattle.theory.specs.Learnable.{IsLearnable}
 use Rattle.theory.proofs.LiteralLemmas.{same-eq, same-refl}
-use Rattle.theory.proofs.LiteralSets.{true_false, false_unless, has-head, has_var-has}
+use Rattle.theory.proofs.LiteralSets.{true_false, false_unless, has-head, has-tail, has_var-has}
 use Rattle.kernel.specs.Tables.{value_in}
 use Rattle.kernel.proofs.NextFree.{is_some-value_in}
 use Rattle.kernel.proofs.Values.{value-literal}
@@ -57,6 +57,45 @@ IsLearnable-two T l f e at one level free = record {
 
     other : same f l ≡ false
     other = false_unless (same f l) (λ t. differ (ap (λ (x : Literal). x.var) (same-eq f l t)))
+
+    or-any : (b : Bool) → b || true ≡ true
+    or-any true = refl
+    or-any false = refl
+
+pub IsOver-three : (V : ℕ) (k l f : Literal) → IsVariable V k.var → IsVariable V l.var → IsVariable V f.var → IsOver V (k ∷ l ∷ f ∷ [])
+IsOver-three V k l f h i j = All-cons (λ (x : Literal). IsVariable V x.var) k (l ∷ f ∷ []) h (IsOver-two V l f i j)
+
+-- a false literal, one that is false at the current level, and a free one
+pub IsLearnable-three : (T : Trail) (k l f : Literal) (d e : Entry) → entry_of T k.var ≡ Some d → same d.lit (negated k) ≡ true
+    → entry_of T l.var ≡ Some e → same e.lit (negated l) ≡ true → e.level ≡ current_level T → nat_eq k.var l.var ≡ false
+    → has_var (literals T) f.var ≡ false → IsLearnable T (k ∷ l ∷ f ∷ [])
+IsLearnable-three T k l f d e at-k one-k at-l one-l level differ free = record {
+  distinct = rw (differ, apart k there-k, apart l there-l) refl;
+  free = f;
+  unit = rw (taken k there-k, taken l there-l, free, there-k, there-l, same-refl f, or-any (same f k), or-any (same f l)) refl;
+  latest = inr (l, has-tail k l (l ∷ f ∷ []) (has-head l (f ∷ [])), other, ap level_at at-l ∙ level);
+}
+  where
+    there : (x : Literal) (y : Entry) → entry_of T x.var ≡ Some y → same y.lit (negated x) ≡ true → has (literals T) (negated x) ≡ true
+    there x y at one = value-literal T (negated x) (not x.positive) (ap (option_map (λ (z : Entry). z.lit.positive)) at ∙ ap (λ (z : Literal). Some z.positive) (same-eq y.lit (negated x) one)) refl
+
+    there-k : has (literals T) (negated k) ≡ true
+    there-k = there k d at-k one-k
+
+    there-l : has (literals T) (negated l) ≡ true
+    there-l = there l e at-l one-l
+
+    taken : (x : Literal) → has (literals T) (negated x) ≡ true → has_var (literals T) x.var ≡ true
+    taken x h = has_var-has (literals T) (negated x) h
+
+    distant : (x : Literal) → has (literals T) (negated x) ≡ true → f.var ≡ x.var → ⊥
+    distant x h v = true_false (has_var (literals T) x.var) (taken x h) (subst (λ v. has_var (literals T) v ≡ false) v free)
+
+    apart : (x : Literal) → has (literals T) (negated x) ≡ true → nat_eq x.var f.var ≡ false
+    apart x h = false_unless (nat_eq x.var f.var) (λ t. distant x h (sym (eqb-true x.var f.var t)))
+
+    other : same f l ≡ false
+    other = false_unless (same f l) (λ t. distant l there-l (ap (λ (x : Literal). x.var) (same-eq f l t)))
 
     or-any : (b : Bool) → b || true ≡ true
     or-any true = refl

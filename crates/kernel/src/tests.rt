@@ -1,17 +1,20 @@
 //! Runs of the kernel that tests make: each step asks for what the kernel's contracts want, and tells whether it could be done.
-ghost use Rattle.std.specs.Prelude.{◌≡◌, true, false, IfOk};
-ghost use Rattle.theory.specs.Literals.{IsVariable, has_var};
+ghost use Rattle.std.specs.Prelude.{◌≡◌, true, false, IfOk, IfSome, Some};
+ghost use Rattle.theory.specs.Literals.{IsVariable, has_var, negated, same};
 ghost use Rattle.theory.specs.Truth.{IsOver};
-ghost use Rattle.theory.specs.Trails.{literals};
+ghost use Rattle.theory.specs.Trails.{literals, entry_of};
 
-use crate::{Closed, Cube, Kernel};
+use crate::{Closed, Cube, Entry, Kernel};
 use cnf::{Lit, read_formula};
 use std::alloc::{AllocError, Global};
 use std::test::Fail;
 
+mod dice;
 mod look_ups;
 mod restarts;
 mod rows;
+mod runs;
+mod scan;
 mod visits;
 
 fn has_var(lits: &[Lit], var: u32) -> bool
@@ -166,6 +169,43 @@ fn learn_pair(kernel: &mut Kernel, number: i32, free: i32) -> Result<bool, Alloc
     }
     let learnt = kernel.learn(&[lit, free])?;
     Ok(reads(kernel.clause(learnt), &[number, free.number()]))
+}
+
+/// The entry that makes a literal false, if one does.
+fn falsifier(kernel: &Kernel, lit: Lit) -> Option<Entry>
+    ensures { IfSome result (λ e. IsVariable kernel.now.vars lit.var × (entry_of kernel.now.trail lit.var ≡ Some e) × (same e.lit (negated lit) ≡ true)) }
+{
+    if lit.var() > kernel.vars() {
+        return None;
+    }
+    let entry = kernel.entry(lit.var())?;
+    if entry.lit.same(&lit.negated()) {
+        Some(entry)
+    } else {
+        None
+    }
+}
+
+/// A clause of a false literal, one that is false at the current level, and a free one.
+fn learn_three(kernel: &mut Kernel, numbers: [i32; 3]) -> Result<bool, AllocError> {
+    let (Some(other), Some(lit), Some(free)) = (
+        Lit::new(numbers[0]),
+        Lit::new(numbers[1]),
+        Lit::new(numbers[2]),
+    ) else {
+        return Ok(false);
+    };
+    let Some(_) = falsifier(kernel, other) else {
+        return Ok(false);
+    };
+    let Some(entry) = falsifier(kernel, lit) else {
+        return Ok(false);
+    };
+    if other.var() == lit.var() || entry.level != kernel.level() || !is_free(kernel, free) {
+        return Ok(false);
+    }
+    let learnt = kernel.learn(&[other, lit, free])?;
+    Ok(reads(kernel.clause(learnt), &numbers))
 }
 
 fn acts(kernel: &mut Kernel, act: Act) -> Result<bool, AllocError> {
