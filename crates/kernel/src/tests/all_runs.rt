@@ -4,6 +4,7 @@
 //! The runs are gone through like the words of a dictionary. A kernel can't be copied, so each run is replayed from its first operation;
 //! operations that aren't lawful where a run stands change nothing, and are passed over on the same kernel.
 use super::scan::Scan;
+use super::visits::thousand;
 use super::{
     are_same, back_to, cube_of, decide, learn_pair, learn_turned_pair, learn_unit, lits_of,
 };
@@ -266,6 +267,13 @@ fn all_runs_of_six_operations(rt: HostRuntime) -> Result<(), Fail> {
     for text in FORMULAS {
         assert!(rt; agree(rt.alloc(), text, &[])?);
     }
+    Ok(())
+}
+
+#[test]
+fn all_runs_over_a_thousand_clauses(rt: HostRuntime) -> Result<(), Fail> {
+    let text = thousand(rt.alloc())?;
+    assert!(rt; agree(rt.alloc(), &text, &[])?);
     Ok(())
 }
 

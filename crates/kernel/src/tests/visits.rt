@@ -6,7 +6,7 @@ use std::alloc::{AllocError, Global};
 use std::test::Fail;
 
 /// The formula of four variables that has one clause a thousand times.
-fn thousand(alloc: Global) -> Result<Vec<u8>, AllocError> {
+pub fn thousand(alloc: Global) -> Result<Vec<u8>, AllocError> {
     let mut text = Vec::new(alloc);
     text.extend_from_slice(b"p cnf 4 1000\n")?;
     for _ in 0..1000 {
