@@ -2,6 +2,7 @@
 use Rattle.std.proofs.Common.{◌≡◌, ℕ, ◌<◌, ◌≤◌, Bool, false, List, [], ◌++◌, length, take, Option, Some, None, IfSome, Result, Ok, Err, ◌⊎◌, inl, inr, refl, sym, ap, subst, ◌∙◌, append-nil, arith}
 use Rattle.std.proofs.lemmas.List.{take_at, take_all, nil_from_length, length-take}
 use Rattle.std.proofs.lemmas.Bool.{cases_lt}
+use Rattle.std.proofs.KnownBytes.{Consumes-trans}
 use Rattle.std.specs.Io.KnownBytes.{Consumes, IsAtEnd}
 use Rattle.theory.specs.Truth.{Formula}
 use Rattle.theory.specs.Reading.{max_bytes, Reading, Reads, formula, refusal}
@@ -32,6 +33,10 @@ pub last-read : (n : ℕ) (old mid new : Option (List ℕ)) (text longer : List 
 last-read n old mid new text longer room more h r e l =
     let last = r.none e in
     rw r.are (at_end n old mid new text r.bytes h r.taken last.1 (nil_from_length r.bytes last.0) l)
+
+-- what was taken of a reader, where one more read was made
+pub last-taken : (old mid new : Option (List ℕ)) (text longer : List ℕ) (room : ℕ) (more : Bool) → Consumes old mid text → ReadsOn mid new text longer room more → Consumes old new longer
+last-taken old mid new text longer room more h r = rw r.are (Consumes-trans old mid new text r.bytes h r.taken)
 
 -- a front that is over the limit is read as the whole
 Reads-front : (n : ℕ) (xs : List ℕ) (r : Reading) → max_bytes < n → Reads (take n xs) r → Reads xs r

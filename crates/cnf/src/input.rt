@@ -46,11 +46,13 @@ fn read_chunk<R: Read>(
 }
 
 /// The bytes of a reader, `most` of them at most: it reads until a read gives no bytes, until an error, or until so many are there. Any error
-/// of the reader is `ReadFailed`, and no read is tried again; where memory is refused, the answer is `NoMemory`, and what was read is let go.
+/// of the reader is `ReadFailed`, and no read is tried again; where memory is refused, the answer is `NoMemory`, and what was read is let go. What
+/// comes behind the bytes is left to the reader.
 pub fn read_bytes<R: Read>(alloc: Global, input: &mut R, most: usize) -> Result<Vec<u8>, ReadFault>
-    ensures { MatchResult result
+    ensures bytes { MatchResult result
         (λ text. IfSome (R.remaining input.old) (λ bytes. text.items ≡ take most bytes))
         IsReadFault }
+    ensures taken { IfOk result (λ text. Consumes (R.remaining input.old) (R.remaining input.new) text.items) }
 {
     let mut text = Vec::new(alloc);
     let mut chunk = zeros(alloc, CHUNK)?;
