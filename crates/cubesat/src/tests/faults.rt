@@ -1,8 +1,9 @@
 //! What stands after a fault of solving: readers and writers that fail at each place.
 use super::faulty::{Full, Limited, Trickle};
 use super::{FOUR, FOUR_PROOF};
-use crate::{RunFault, Verdict, run_one};
+use crate::{RunFault, Verdict, run, run_one};
 use cnf::{Place, ReadFault};
+use cubes::OpenGate;
 
 const REFUTED: &[u8] = b"s UNSATISFIABLE\n";
 
@@ -137,5 +138,68 @@ fn faults_have_numbers(rt: HostRuntime) {
     ];
     for (fault, number) in faults {
         assert_eq!(rt; fault.number(), number);
+    }
+}
+
+#[test]
+fn several_hands(rt: HostRuntime) {
+    for hands in [1, 2, 8] {
+        let mut proof = Limited::new(rt.alloc(), 5);
+        let mut answer = Limited::new(rt.alloc(), 1000);
+        let text = FOUR.as_bytes();
+        let result = run(
+            &rt,
+            rt.alloc(),
+            text,
+            &mut answer,
+            &mut proof,
+            1,
+            hands,
+            &OpenGate,
+        );
+        assert_eq!(rt; result, Err(RunFault::ProofWriteFailed), "{hands} hands");
+        assert_eq!(rt;
+            proof.taken.as_slice(),
+            b"5 1 0".as_slice(),
+            "{hands} hands"
+        );
+        assert!(rt; answer.taken.is_empty(), "{hands} hands");
+
+        let mut proof = Limited::new(rt.alloc(), 1000);
+        let mut answer = Limited::new(rt.alloc(), 3);
+        let text = b"p cnf 2 1\n1 2 0\n".as_slice();
+        let result = run(
+            &rt,
+            rt.alloc(),
+            text,
+            &mut answer,
+            &mut proof,
+            1000,
+            hands,
+            &OpenGate,
+        );
+        assert_eq!(rt; result, Err(RunFault::AnswerWriteFailed), "{hands} hands");
+        assert!(rt; proof.taken.is_empty(), "{hands} hands");
+        assert_eq!(rt; answer.taken.as_slice(), b"s S".as_slice(), "{hands} hands");
+
+        let mut proof = Limited::new(rt.alloc(), 1000);
+        let mut answer = Limited::new(rt.alloc(), 1000);
+        let input = Trickle::broken(b"p cnf");
+        let result = run(
+            &rt,
+            rt.alloc(),
+            input,
+            &mut answer,
+            &mut proof,
+            1000,
+            hands,
+            &OpenGate,
+        );
+        assert_eq!(rt;
+            result,
+            Err(RunFault::Read(ReadFault::ReadFailed)),
+            "{hands} hands"
+        );
+        assert!(rt; proof.taken.is_empty() && answer.taken.is_empty());
     }
 }
