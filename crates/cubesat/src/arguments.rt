@@ -27,6 +27,11 @@ pub(crate) enum Request<'a> {
         formula: &'a str,
         proof: &'a str,
     },
+    /// Say what a number that the program printed means, and the one behind it.
+    Explain {
+        number: u32,
+        behind: Option<u32>,
+    },
 }
 
 fn solve_command<'a>(alloc: Global) -> Result<Command<'a>, AllocError> {
@@ -71,12 +76,39 @@ fn check_command<'a>(alloc: Global) -> Result<Command<'a>, AllocError> {
         .arg(proof)
 }
 
+fn explain_command<'a>(alloc: Global) -> Result<Command<'a>, AllocError> {
+    let number = Arg::new(alloc, "NUMBER")
+        .required(true)
+        .value_parser(clap::value_parser!(u32))
+        .help("The number behind `fault` or `refused`");
+    let behind = Arg::new(alloc, "REFUSAL")
+        .value_parser(clap::value_parser!(u32))
+        .help("The number behind `refusal`");
+    Command::new(alloc, "explain")
+        .about("Say what a number means that `solve` or `check` printed, and what to change")
+        .arg(number)?
+        .arg(behind)
+}
+
+/// The version, and the kit that the program was proved and built by.
+const VERSION: &str = "0.2.0 (rattle-kit-13b logic dac8208d650f15bf)";
+
+const EXAMPLES: &str = "Examples:
+  cubesat solve --proof f.lrat f.cnf              decide f.cnf
+  cubesat solve --hands 4 --proof f.lrat f.cnf    the same bytes, by four threads
+  cubesat check f.cnf f.lrat                      check the proof
+  cubesat explain 51 5                            what `fault 51: refusal 5` means";
+
 fn whole_command<'a>(alloc: Global) -> Result<Command<'a>, AllocError> {
     Command::new(alloc, "cubesat")
+        .bin_name("cubesat")?
         .about("A SAT solver with LRAT proofs")
+        .version(VERSION)
+        .after_help(EXAMPLES)
         .subcommand_required(true)
         .subcommand(solve_command(alloc)?)?
-        .subcommand(check_command(alloc)?)
+        .subcommand(check_command(alloc)?)?
+        .subcommand(explain_command(alloc)?)
 }
 
 /// The request of a subcommand's matches. The command has been built so that each value is there and in its range; this is tested again,
@@ -107,6 +139,14 @@ fn check_request<'a>(matches: &ArgMatches<'a>) -> Option<Request<'a>>
     Some(Request::Check { formula, proof })
 }
 
+fn explain_request<'a>(matches: &ArgMatches<'a>) -> Option<Request<'a>>
+    ensures { IsWithin result }
+{
+    let number = matches.get_one::<u32>("NUMBER")?;
+    let behind = matches.get_one::<u32>("REFUSAL");
+    Some(Request::Explain { number, behind })
+}
+
 /// What the words ask for; the program's name is the first one. An error is the parser's, with its message.
 pub(crate) fn request_of<'a>(alloc: Global, words: &'a [&'a str]) -> Result<Request<'a>, Error>
     ensures { IfOk result IsRequest }
@@ -116,6 +156,7 @@ pub(crate) fn request_of<'a>(alloc: Global, words: &'a [&'a str]) -> Result<Requ
     if let Some((name, matches)) = matches.subcommand() {
         let request = match name {
             "check" => check_request(matches),
+            "explain" => explain_request(matches),
             _ => solve_request(matches),
         };
         if let Some(request) = request {

@@ -4,6 +4,7 @@
 mod arguments;
 mod check;
 mod checked_line;
+mod explanations;
 mod fault;
 mod laws;
 mod output;

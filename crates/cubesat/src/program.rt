@@ -4,6 +4,7 @@ ghost use Rattle.std.specs.Prelude.{◌≤◌};
 use crate::arguments::{Request, request_of};
 use crate::check::check_run;
 use crate::checked_line::Checked;
+use crate::explanations::explanation;
 use crate::fault::RunFault;
 use crate::threaded::run;
 use crate::verdict::Verdict;
@@ -11,8 +12,9 @@ use clap::error::ErrorKind;
 use cubes::OpenGate;
 use std::alloc::Global;
 use std::fs;
-use std::fs::Files;
+use std::fs::{Files, OpenFile};
 use std::io::Write;
+use std::os::unix::fs::MetadataExt;
 use std::sync::Wait;
 use std::thread::Threads;
 use std::time::Clock;
@@ -26,7 +28,7 @@ const UNSATISFIABLE: u8 = 20;
 /// The status of a proof that is accepted.
 const ACCEPTED: u8 = 0;
 
-/// The status of a request for help.
+/// The status of a request for help, for the version or for an explanation.
 const SHOWN: u8 = 0;
 
 /// The status of a fault, of a proof that is refused and of a wrong command line.
@@ -53,7 +55,18 @@ fn print_no_file<E: Write>(faults: &mut E) -> u8 {
     FAILED
 }
 
-/// Decides the formula in the file, with its proof written to the other; the status.
+/// Whether a path leads to the file that is open, however it is spelled, by the file's device and number on it. Only a regular file counts: a
+/// terminal, say, loses nothing by being opened twice.
+fn leads_to<R: Files>(rt: &R, file: &R::File, path: &str) -> bool {
+    match (file.metadata(), fs::metadata(rt, path)) {
+        (Ok(open), Ok(there)) => {
+            open.is_file() && open.dev() == there.dev() && open.ino() == there.ino()
+        }
+        _ => false,
+    }
+}
+
+/// Decides the formula in the file, with its proof written to the other; the status. The proof isn't written over the formula.
 fn solve<R: Files + Threads + Wait + Clock + Sync, W: Write, E: Write>(
     rt: &R,
     alloc: Global,
@@ -70,6 +83,13 @@ fn solve<R: Files + Threads + Wait + Clock + Sync, W: Write, E: Write>(
     let Ok(input) = fs::open(rt, file) else {
         return print_no_file(faults);
     };
+    if leads_to(rt, &input, proof) {
+        let _ = writeln!(
+            faults,
+            "fault 57: the proof would be written over the formula"
+        );
+        return FAILED;
+    }
     let Ok(mut proof) = fs::create(rt, proof) else {
         return print_no_file(faults);
     };
@@ -110,9 +130,40 @@ fn check<R: Files, W: Write, E: Write>(
     }
 }
 
+/// Prints the explanation of a number; whether there is one.
+fn print_explanation<W: Write, E: Write>(number: u32, answer: &mut W, faults: &mut E) -> bool {
+    match explanation(number) {
+        Some(text) => {
+            let _ = writeln!(answer, "{number}: {text}");
+            true
+        }
+        None => {
+            let _ = writeln!(
+                faults,
+                "cubesat: no fault or refusal has the number {number}"
+            );
+            false
+        }
+    }
+}
+
+/// Says what a number means, and the one behind it; the status.
+fn explain<W: Write, E: Write>(
+    number: u32,
+    behind: Option<u32>,
+    answer: &mut W,
+    faults: &mut E,
+) -> u8 {
+    let mut is_known = print_explanation(number, answer, faults);
+    if let Some(behind) = behind {
+        is_known = print_explanation(behind, answer, faults) && is_known;
+    }
+    if is_known { SHOWN } else { FAILED }
+}
+
 /// Does all that the program does for a command line, of which the first word is the program's name: reads and writes its files, writes
-/// the answer to `answer` and faults to `faults`, and answers the exit status: 10 satisfiable, 20 unsatisfiable, 0 for help and
-/// for a proof that is accepted, 1 for one that is refused, on a fault or a wrong command line. A failed write to `faults` changes nothing else.
+/// the answer to `answer` and faults to `faults`, and answers the exit status: 10 satisfiable, 20 unsatisfiable, 0 for help, for an
+/// explanation and for a proof that is accepted, 1 for one that is refused, on a fault or a wrong command line. A failed write to `faults` changes nothing else.
 pub fn command<R: Files + Threads + Wait + Clock + Sync, W: Write, E: Write>(
     rt: &R,
     alloc: Global,
@@ -132,6 +183,7 @@ pub fn command<R: Files + Threads + Wait + Clock + Sync, W: Write, E: Write>(
         Ok(Request::Check { formula, proof }) => {
             check(rt, alloc, formula, proof, answer, faults)
         }
+        Ok(Request::Explain { number, behind }) => explain(number, behind, answer, faults),
         Err(error) if error.kind() == ErrorKind::OutOfMemory => {
             print_fault(faults, RunFault::NoMemory);
             FAILED

@@ -1,5 +1,5 @@
 //! Worked rows: the bytes of the proof and the answer for the bytes of a formula, and the line for those of a proof; what failing readers and
-//! writers leave; two hands at a gate; proofs of many steps, and those with one byte changed; examples from end to end; the program.
+//! writers leave; two hands at a gate; proofs of many steps, and those with one byte changed; examples from end to end; the program and its options.
 mod check;
 mod check_faults;
 mod examples;
@@ -8,9 +8,11 @@ mod faulty;
 mod gates;
 mod long_proofs;
 mod one_byte;
+mod options;
 mod other_solvers;
 mod program;
 mod rows;
+mod same_file;
 
 /// All four clauses over two variables.
 const FOUR: &str = "p cnf 2 4\n1 2 0\n1 -2 0\n-1 2 0\n-1 -2 0\n";

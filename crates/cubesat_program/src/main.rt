@@ -17,10 +17,24 @@ fn borrowed<'a>(alloc: Global, words: &'a [String]) -> Result<Vec<&'a str>, Allo
     words.iter().map(|word| word.as_str()).collect(alloc)
 }
 
-fn main(rt: HostRuntime) -> io::Result<ExitCode> {
+fn run(rt: &HostRuntime) -> io::Result<u8> {
     let alloc = rt.alloc();
-    let words = words(&rt, alloc)?;
+    let words = words(rt, alloc)?;
     let words = borrowed(alloc, &words)?;
-    let status = command(&rt, alloc, &words, &mut rt.stdout(), &mut rt.stderr());
-    Ok(ExitCode::from(status))
+    Ok(command(rt, alloc, &words, &mut rt.stdout(), &mut rt.stderr()))
+}
+
+/// Want of memory has its fault also where the command line isn't read yet.
+fn main(rt: HostRuntime) -> ExitCode {
+    match run(&rt) {
+        Ok(status) => ExitCode::from(status),
+        Err(error) if error.kind() == io::ErrorKind::OutOfMemory => {
+            let _ = eprintln!(rt; "fault 52");
+            ExitCode::from(1)
+        }
+        Err(_) => {
+            let _ = eprintln!(rt; "cubesat: the command line isn't text");
+            ExitCode::from(1)
+        }
+    }
 }

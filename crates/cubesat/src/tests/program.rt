@@ -10,7 +10,7 @@ use std::time::Clock;
 use std::{env, fs};
 
 /// Paths in a folder for files that don't last, of this test alone.
-fn path_of<R: Env + AllocGlobal>(rt: &R, name: &str) -> Result<String, Fail> {
+pub(super) fn path_of<R: Env + AllocGlobal>(rt: &R, name: &str) -> Result<String, Fail> {
     let folder = env::temp_dir(rt)?;
     let folder = folder.as_path().display();
     Ok(format!(in rt.alloc(); "{folder}/cubesat_{name}")?)
@@ -18,13 +18,16 @@ fn path_of<R: Env + AllocGlobal>(rt: &R, name: &str) -> Result<String, Fail> {
 
 /// What a command line printed, and its status.
 #[derive(Drop)]
-struct Printed {
-    status: u8,
-    answer: Vec<u8>,
-    faults: Vec<u8>,
+pub(super) struct Printed {
+    pub(super) status: u8,
+    pub(super) answer: Vec<u8>,
+    pub(super) faults: Vec<u8>,
 }
 
-fn run<R: Files + AllocGlobal + Threads + Wait + Clock + Sync>(rt: &R, words: &[&str]) -> Printed {
+pub(super) fn run<R: Files + AllocGlobal + Threads + Wait + Clock + Sync>(
+    rt: &R,
+    words: &[&str],
+) -> Printed {
     let mut answer = Vec::new(rt.alloc());
     let mut faults = Vec::new(rt.alloc());
     let status = command(rt, rt.alloc(), words, &mut answer, &mut faults);
@@ -225,12 +228,12 @@ fn wrong_command_lines(rt: HostRuntime) {
 
 #[test]
 fn help_is_shown(rt: HostRuntime) {
-    let printed = run(&rt, &["cubesat", "--help"]);
+    let printed = run(&rt, &["./another_name", "--help"]);
     assert_eq!(rt; printed.status, 0);
     assert!(rt; printed.faults.is_empty());
     assert!(rt;
         printed
             .answer
-            .starts_with(b"A SAT solver with LRAT proofs\n")
+            .starts_with(b"A SAT solver with LRAT proofs\n\nUsage: cubesat")
     );
 }
