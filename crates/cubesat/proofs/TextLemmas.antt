@@ -11,7 +11,7 @@ use Rattle.cubes.specs.Result.{IsResultOf, Says}
 use Rattle.join.specs.Numbered.{AreStepsOf, AreAccepted}
 use Rattle.theory.specs.ProofReading.{IsStep}
 use Rattle.lrat.proofs.WrittenTexts.{proof_text-ProofReads}
-use Rattle.cubesat.specs.Run.{IsAccepted}
+use Rattle.cubesat.specs.Answer.{IsAccepted}
 
 pub model-texts : (F : Formula) (M lent : List Bool) (proof answer : List ℕ) → IsFirst F M → lent ≡ M → proof ≡ [] → answer ≡ answer_text (Some lent) → IsSatisfiableText F proof answer
 model-texts F M lent proof answer first same empty text = record { model = M; first = first; proof_is = empty; answer_is = text ∙ ap (λ m. answer_text (Some m)) same }
