@@ -1,5 +1,5 @@
 -- The next free variable, after one entry more, and after the entries behind a place are taken off.
-use Rattle.std.proofs.Common.{◌≡◌, ℕ, ◌<◌, ◌≤◌, Bool, true, false, List, [], ◌∷◌, ◌++◌, length, get_or, Option, Some, None, option_map, is_some, nat_eq, refl, ap, sym, subst, ◌∙◌, inl, inr, ◌⊎◌, arith}
+use Rattle.std.proofs.Common.{◌≡◌, ℕ, ◌<◌, ◌≤◌, Bool, true, false, List, [], ◌∷◌, ◌++◌, length, slice_index, Option, Some, None, option_map, is_some, nat_eq, refl, ap, sym, subst, ◌∙◌, inl, inr, ◌⊎◌, arith}
 use Rattle.std.proofs.lemmas.List.{map-append}
 use Rattle.std.proofs.lemmas.Bool.{cases_lt}
 use Rattle.theory.specs.Literals.{has_var, IsVariable}
@@ -9,9 +9,10 @@ use Rattle.theory.proofs.LiteralLemmas.{or-cases, or-left, or-right}
 use Rattle.theory.proofs.LiteralSets.{false_unless, has_var-append_left, literal_of_var}
 use Rattle.theory.proofs.OverVariables.{AreOver-from_IsOver}
 use Rattle.kernel.specs.Held.{IsOrdered}
+use Rattle.kernel.specs.declared.truth.Truth.{Truth}
 use Rattle.kernel.specs.Tables.{value_in, AreTables, IsNextFree}
 use Rattle.kernel.proofs.LeastFree.{least_free-found, least_free-none}
-use Rattle.kernel.proofs.Tables.{entry_of-none, is_some-entry_of, has_var-push, distinct-behind}
+use Rattle.kernel.proofs.Tables.{entry_of-none, is_some-entry_of, place_in-none, place_in-zero, has_var-push, distinct-behind}
 
 pub least_free-next : (V n : ℕ) (T : Trail) → IsNextFree V T n → n ≤ V → least_free V T ≡ Some n
 least_free-next V n T h most = least_free-found V n T h.low most h.free h.taken
@@ -39,24 +40,32 @@ pub entry_of-beyond : (V : ℕ) (T : Trail) (v : ℕ) → IsOrdered V T → V < 
 entry_of-beyond V T v ordered past = entry_of-none T v (has_var-beyond V T v ordered.over past)
 
 -- one entry more
-pub IsNextFree-push : (V n m : ℕ) (T : Trail) (e : Entry) (values : List (Option Bool)) (places : List ℕ) → IsNextFree V T n → IsOver V (literals (T ++ e ∷ []))
-    → AreTables V (T ++ e ∷ []) values places → n ≤ m → m ≤ length values → ((v : ℕ) → n ≤ v → v < m → is_some (get_or values v None) ≡ true) → get_or values m None ≡ None
+pub IsNextFree-push : (V n m : ℕ) (T : Trail) (e : Entry) (truths : List Truth) (places : List ℕ) → IsNextFree V T n → IsOver V (literals (T ++ e ∷ []))
+    → AreTables V (T ++ e ∷ []) truths places → n ≤ m → m ≤ length places → ((v : ℕ) → n ≤ v → v < m → 1 ≤ slice_index places v) → slice_index places m ≡ 0
     → IsNextFree V (T ++ e ∷ []) m
-IsNextFree-push V n m T e values places h over tables low high before found = record {
+IsNextFree-push V n m T e truths places h over tables low high before found = record {
   low = let one = h.low in omega arith;
-  high = let long = tables.values_long in omega arith;
+  high = let long = tables.places_long in omega arith;
   taken = λ u first less. elim (cases_lt u n) [
     | inl old ↦ has_var-push T e u ∙ or-left (has_var (literals T) u) (nat_eq u e.lit.var) (h.taken u first old)
-    | inr past ↦ sym (is_some-value_in (T ++ e ∷ []) u) ∙ (ap is_some (sym (tables.value_at u (within u less))) ∙ before u past less)
+    | inr past ↦ true_unless (has_var (literals (T ++ e ∷ [])) u) (λ none.
+        let here = tables.place_at u (within u less) in
+        let zero = place_in-none (T ++ e ∷ []) u none in
+        let some = before u past less in
+        absurd (omega arith))
   ];
   free = elim (cases_lt V m) [
     | inl past ↦ has_var-beyond V (T ++ e ∷ []) m over past
-    | inr most ↦ sym (is_some-value_in (T ++ e ∷ []) m) ∙ (ap is_some (sym (tables.value_at m most)) ∙ ap is_some found)
+    | inr most ↦ sym (is_some-entry_of (T ++ e ∷ []) m) ∙ ap is_some (place_in-zero (T ++ e ∷ []) m (sym (tables.place_at m most) ∙ found))
   ];
 }
   where
     within : (u : ℕ) → u < m → u ≤ V
-    within u less = let long = tables.values_long in omega arith
+    within u less = let long = tables.places_long in omega arith
+
+    true_unless : (b : Bool) → (b ≡ false → ⊥) → b ≡ true
+    true_unless true h = refl
+    true_unless false h = absurd (h refl)
 
 -- the entries behind taken off
 has_var-parts : (A B : Trail) (v : ℕ) → has_var (literals (A ++ B)) v ≡ true → (has_var (literals A) v ≡ true) ⊎ (has_var (literals B) v ≡ true)

@@ -1,11 +1,12 @@
 -- What the value of a variable says of its literals.
-use Rattle.std.proofs.Common.{◌≡◌, ℕ, Bool, true, false, not, [], ◌∷◌, Some, None, option_map, cond, nat_eq, eqb-true, is_some, refl, ap, sym, ◌∙◌}
-use Rattle.theory.specs.Literals.{Literal, negated, has, has_var}
+use Rattle.std.proofs.Common.{◌≡◌, ℕ, Bool, true, false, not, [], ◌∷◌, Option, Some, None, option_map, cond, nat_eq, eqb-true, is_some, refl, ap, sym, subst, ◌∙◌}
+use Rattle.theory.specs.Literals.{Literal, same_sign, negated, has, has_var}
 use Rattle.theory.specs.Trails.{Entry, Trail, literals, entry_of}
 use Rattle.theory.proofs.LiteralSets.{has-equal, has-tail}
-use Rattle.std.proofs.Math.Bool.{beq}
-use Rattle.theory.proofs.ClauseWalks.{beq-same, beq-other}
-use Rattle.kernel.specs.Tables.{value_in}
+use Rattle.theory.proofs.LiteralSets.{true_false}
+use Rattle.kernel.specs.declared.truth.Truth.{Truth}
+use Rattle.kernel.specs.declared.truth.Truth.TheVariants.{Satisfied, Falsified}
+use Rattle.kernel.specs.Tables.{value_in, value_of, truth_of}
 use Rattle.kernel.specs.Visiting.{IsTruth}
 use Rattle.kernel.proofs.NextFree.{is_some-value_in}
 
@@ -37,10 +38,22 @@ value-false T l b h p = value-literal T (negated l) b h (other b l.positive p)
 pub value-none : (T : Trail) (v : ℕ) → value_in T v ≡ None → has_var (literals T) v ≡ false
 value-none T v h = sym (is_some-value_in T v) ∙ ap is_some h
 
--- what the value of a variable says of a literal
-pub truth-some : (T : Trail) (l : Literal) (b s : Bool) → value_in T l.var ≡ Some b → s ≡ l.positive → IsTruth (literals T) l (Some (beq b s))
-truth-some T l b s h e = go (beq b s) refl
+-- what the tables say of a literal
+pub truth-value : (T : Trail) (l : Literal) (t : Truth) → t ≡ truth_of (value_in T l.var) l.positive → IsTruth (literals T) l (value_of t)
+truth-value T l t h = subst (λ u. IsTruth (literals T) l (value_of u)) (sym h) (go (value_in T l.var) refl)
   where
-    go : (q : Bool) → beq b s ≡ q → IsTruth (literals T) l (Some q)
-    go true f = value-true T l b h (beq-same b s f ∙ e)
-    go false f = value-false T l b h (λ one. beq-other b s f (one ∙ sym e))
+    signs : (b s : Bool) → value_in T l.var ≡ Some b → l.positive ≡ s → IsTruth (literals T) l (value_of (cond (same_sign s b) Satisfied Falsified))
+    signs true true v p = value-true T l true v (sym p)
+    signs true false v p = value-false T l true v (λ e. true_false l.positive (sym e) p)
+    signs false true v p = value-false T l false v (λ e. true_false l.positive p (sym e))
+    signs false false v p = value-true T l false v (sym p)
+
+    go : (o : Option Bool) → value_in T l.var ≡ o → IsTruth (literals T) l (value_of (truth_of o l.positive))
+    go None v = value-none T l.var v
+    go (Some b) v = signs b l.positive v refl
+
+-- what they say of a variable's literal that isn't negated is the value of the variable
+pub positive-value : (o : Option Bool) → value_of (truth_of o true) ≡ o
+positive-value None = refl
+positive-value (Some true) = refl
+positive-value (Some false) = refl

@@ -11,12 +11,12 @@ ghost use Rattle.kernel.specs.Visiting.{kept_of};
 ghost use Rattle.kernel.specs.Attaching.{with_entry, attached, IsLater, IsWatching};
 
 use crate::clauses::Clauses;
-use crate::propagator::{Propagator, code};
+use crate::propagator::Propagator;
 use crate::trail::Trail;
+use crate::truth::code;
 use crate::units::Units;
 use crate::watch::{Watch, Watched};
 use cnf::Lit;
-use smallvec::SmallVec;
 use std::alloc::{AllocError, Global};
 
 /// Two literals of a clause to be watched where no variable has a value: the first, and the first other one if there is one.
@@ -243,13 +243,35 @@ impl Propagator {
     }
 }
 
-/// Lists without entries.
-fn no_entries(alloc: Global, count: usize) -> Result<Vec<SmallVec<Watch, 4>>, AllocError>
-    ensures { IfOk result (λ ls. (length ls.items ≡ count) × All (λ v. v.items ≡ []) ls.items) }
+/// Counts an entry for the list of a literal.
+fn count_entry(counts: &mut [u32], lit: Lit) {
+    let at = code(lit);
+    if at < counts.len() {
+        counts[at] = counts[at].saturating_add(1);
+    }
+}
+
+/// How many entries each of so many lists will have at most once the clauses are attached: those of a clause of one literal count twice.
+fn count_entries(alloc: Global, clauses: &[Vec<Lit>], lists: usize) -> Result<Vec<u32>, AllocError>
+    ensures { IfOk result (λ counts. length counts.items ≡ lists) }
 {
-    let mut lists = Vec::with_capacity(alloc, count)?;
-    while lists.len() < count {
-        lists.push(SmallVec::new(alloc))?;
+    let mut counts = vec![in alloc; 0; lists]?;
+    for clause in clauses {
+        if let Some(watched) = first_two(clause) {
+            count_entry(&mut counts, watched.first);
+            count_entry(&mut counts, watched.second);
+        }
+    }
+    Ok(counts)
+}
+
+/// Lists without entries, each with room for so many.
+fn no_entries(alloc: Global, counts: &[u32]) -> Result<Vec<Vec<Watch>>, AllocError>
+    ensures { IfOk result (λ ls. (length ls.items ≡ length counts.now) × All (λ v. v.items ≡ []) ls.items) }
+{
+    let mut lists = Vec::with_capacity(alloc, counts.len())?;
+    for count in counts {
+        lists.push(Vec::with_capacity(alloc, *count as usize)?)?;
     }
     Ok(lists)
 }
@@ -266,10 +288,11 @@ impl Propagator {
         ensures none { IfOk result (λ p. (p.clauses ≡ []) × (length p.lists.items ≡ 2 * vars + 2)) }
         ensures watching { IfOk result (λ p. IsWatching vars 0 [] [] 0 0 (kept_of p) [] p.conflict) }
     {
+        let counts = count_entries(alloc, clauses, 2 * vars as usize + 2)?;
         Ok(Propagator {
             clauses: Clauses::with_room(alloc, clauses)?,
             pairs: Vec::with_capacity(alloc, clauses.len())?,
-            lists: no_entries(alloc, 2 * vars as usize + 2)?,
+            lists: no_entries(alloc, &counts)?,
             units: Units::new(alloc),
             conflict: None,
             visits: 0,

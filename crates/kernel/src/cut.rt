@@ -12,7 +12,8 @@ ghost use Rattle.kernel.specs.Visiting.{kept_of};
 ghost use Rattle.kernel.specs.Attaching.{IsWatching};
 ghost use Rattle.kernel.specs.Cutting.{IsKeptBelow, AreKeptBelow, AreCodesOf};
 
-use crate::propagator::{Propagator, code};
+use crate::propagator::Propagator;
+use crate::truth::code;
 use crate::watch::Watch;
 use std::alloc::AllocError;
 

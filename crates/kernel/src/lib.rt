@@ -10,6 +10,7 @@ mod entry;
 mod kernel;
 mod propagator;
 mod trail;
+mod truth;
 mod units;
 mod watch;
 

@@ -21,10 +21,10 @@ use crate::clauses::Clauses;
 use crate::closed::Closed;
 use crate::entry::Entry;
 use crate::trail::Trail;
+use crate::truth::code;
 use crate::units::Units;
 use crate::watch::{Watch, Watched, beside};
 use cnf::Lit;
-use smallvec::SmallVec;
 use std::alloc::{AllocError, Global};
 use std::mem;
 
@@ -34,22 +34,15 @@ pub struct Propagator {
     pub clauses: Clauses,
     /// By clause: its watched literals.
     pub pairs: Vec<Watched>,
-    /// By literal: the clauses that watch it.
-    pub lists: Vec<SmallVec<Watch, 4>>,
+    /// By literal: the clauses that watch it. They are made with the room that the formula's clauses take, so that opening never moves
+    /// one; each visit of a list takes it out and puts it back, so it is a small value.
+    pub lists: Vec<Vec<Watch>>,
     /// The clauses that were found unit.
     pub units: Units,
     /// The least clause that was found false.
     pub conflict: Option<u32>,
     /// How many entries of lists were looked at; the greatest number stays.
     pub visits: u64,
-}
-
-/// Where a literal's list stands among all.
-pub fn code(lit: Lit) -> usize
-    ensures { result ≡ code lit }
-{
-    let double = 2 * lit.var() as usize;
-    if lit.positive() { double + 1 } else { double }
 }
 
 /// The first literal that isn't false, other than `except`.
@@ -233,7 +226,7 @@ impl Propagator {
         let gone = entry.lit.negated();
         let at = code(gone);
         let alloc = *self.lists.allocator();
-        let mut list = mem::replace(&mut self.lists[at], SmallVec::new(alloc));
+        let mut list = mem::replace(&mut self.lists[at], Vec::new(alloc));
         self.visits = self.visits.saturating_add(list.len() as u64);
         let end = self.visit_all(trail, gone, list.as_mut_slice())?;
         list.truncate(end);

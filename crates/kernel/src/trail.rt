@@ -1,12 +1,14 @@
-//! The trail, with tables by variable, so that each look-up is one step.
-ghost use Rattle.std.specs.Prelude.{◌≡◌, ◌≤◌, ◌<◌, ◌^◌, ◌+◌, ℕ, [], ◌∷◌, ◌++◌, true, false, length, take, IfOk, IfSome, IfNone, None, Some, slice_get, slice_index, slice_index_or, if◌then◌else◌, ◌⊎◌, is_some};
-ghost use Rattle.theory.specs.Literals.{IsVariable, has_var};
+//! The trail, with tables by literal and by variable, so that each look-up is one step.
+ghost use Rattle.std.specs.Prelude.{◌≡◌, ◌≤◌, ◌<◌, ◌^◌, ◌+◌, ◌*◌, ℕ, [], ◌∷◌, ◌++◌, true, false, length, take, IfOk, IfSome, IfNone, None, Some, slice_get, slice_index, slice_index_or, if◌then◌else◌, ◌⊎◌, is_some};
+ghost use Rattle.theory.specs.Literals.{Literal, IsVariable, has_var};
 ghost use Rattle.theory.specs.Trails.{literals, current_level, entry_of, level_of, least_free, up_to};
 ghost use Rattle.kernel.specs.Held.{IsOrdered, IsRisingFrom};
-ghost use Rattle.kernel.specs.Tables.{value_in};
+ghost use Rattle.kernel.specs.Tables.{value_in, spot};
+ghost use Rattle.kernel.specs.declared.truth.Truth.TheVariants.{Unassigned};
 ghost use Rattle.kernel.specs.Visiting.{IsTruth};
 
 use crate::entry::Entry;
+use crate::truth::{Truth, put_truths, spot};
 use cnf::Lit;
 use std::alloc::{AllocError, Global};
 use std::marker::Model;
@@ -16,8 +18,9 @@ use std::marker::Model;
 pub struct Trail {
     vars: u32,
     entries: Vec<Entry>,
-    // by variable: its truth value, and none while it is free
-    values: Vec<Option<bool>>,
+    // by literal, in order of their numbers: what the entries say of it. Propagation asks for literals many times an entry, so one load
+    // and one comparison have to answer; a value by variable, compared with the literal's sign, takes several times the instructions
+    truths: Vec<Truth>,
     // by variable: how many entries there are up to its own, and 0 while it is free
     places: Vec<u32>,
     // the least free variable, or the number behind the last one
@@ -34,7 +37,7 @@ impl Model for Trail {
     ghost view = { λ a. record { vars = a.vars; entries = a.entries.items } };
 
     ghost invariant = { λ a. IsOrdered a.vars a.entries.items × (a.vars ≤ vec_capacity a.entries)
-        × (a.vars < 2 ^ 31) × AreTables a.vars a.entries.items a.values.items a.places.items
+        × (a.vars < 2 ^ 31) × AreTables a.vars a.entries.items a.truths.items a.places.items
         × IsNextFree a.vars a.entries.items a.next_free };
 }
 
@@ -56,19 +59,19 @@ fn count_up_to(entries: &[Entry], level: u32) -> usize
 }
 
 /// Makes the variables of entries free in the tables.
-fn free_all(values: &mut [Option<bool>], places: &mut [u32], dropped: &[Entry])
-    requires { (v : ℕ) → has_var (literals dropped.now) v ≡ true →
-        (v < length values.old) × (v < length places.old) }
-    ensures values { (v : ℕ) → slice_index_or values.new v None ≡
-        (if has_var (literals dropped.now) v then None else slice_index_or values.old v None) }
+fn free_all(truths: &mut [Truth], places: &mut [u32], vars: u32, dropped: &[Entry])
+    requires within { (v : ℕ) → has_var (literals dropped.now) v ≡ true → IsVariable vars v × (v < length places.old) }
+    requires long { length truths.old ≡ 2 * vars + 1 }
+    ensures truths { (l : Literal) → l.var ≤ vars → slice_index_or truths.new (spot vars l) Unassigned ≡
+        (if has_var (literals dropped.now) l.var then Unassigned else slice_index_or truths.old (spot vars l) Unassigned) }
     ensures places { (v : ℕ) → slice_index places.new v ≡
         (if has_var (literals dropped.now) v then 0 else slice_index places.old v) }
 {
+    let free = Truth::Unassigned;
     for entry in dropped {
         let entry = *entry;
-        let var = entry.lit.var() as usize;
-        values[var] = None;
-        places[var] = 0;
+        put_truths(truths, vars, entry.lit, free, free);
+        places[entry.lit.var() as usize] = 0;
     }
 }
 
@@ -86,17 +89,17 @@ fn least_var(dropped: &[Entry], bound: u32) -> u32
     least
 }
 
-/// The first number, from one on, that has no value.
-fn first_without_value(values: &[Option<bool>], from: u32) -> u32
-    requires within { from ≤ length values.now }
-    requires small { length values.now < 2 ^ 32 }
+/// The first number, from one on, whose variable has no entry.
+fn first_without_entry(places: &[u32], from: u32) -> u32
+    requires within { from ≤ length places.now }
+    requires small { length places.now < 2 ^ 32 }
     ensures low { from ≤ result }
-    ensures high { result ≤ length values.now }
-    ensures before { (v : ℕ) → from ≤ v → v < result → is_some (slice_index_or values.now v None) ≡ true }
-    ensures found { slice_index_or values.now result None ≡ None }
+    ensures high { result ≤ length places.now }
+    ensures before { (v : ℕ) → from ≤ v → v < result → 1 ≤ slice_index places.now v }
+    ensures found { slice_index places.now result ≡ 0 }
 {
     let mut var = from;
-    while (var as usize) < values.len() && values[var as usize].is_some() {
+    while (var as usize) < places.len() && places[var as usize] != 0 {
         var += 1;
     }
     var
@@ -112,7 +115,7 @@ impl Trail {
         Ok(Trail {
             vars,
             entries: Vec::with_capacity(alloc, count)?,
-            values: vec![in alloc; None; count + 1]?,
+            truths: vec![in alloc; Truth::Unassigned; 2 * count + 1]?,
             places: vec![in alloc; 0; count + 1]?,
             next_free: 1,
         })
@@ -155,7 +158,7 @@ impl Trail {
         ensures value { result ≡ value_in self.now.entries var }
         ensures ordered { IsOrdered self.now.vars self.now.entries }
     {
-        self.values[var as usize]
+        self.truths[self.vars as usize + var as usize].value()
     }
 
     /// Whether a literal is true, and none while its variable is free.
@@ -164,10 +167,7 @@ impl Trail {
         ensures truth { IsTruth (literals self.now.entries) lit result }
         ensures ordered { IsOrdered self.now.vars self.now.entries }
     {
-        match self.value(lit.var()) {
-            None => None,
-            Some(value) => Some(value == lit.positive()),
-        }
+        self.truths[spot(self.vars, lit)].value()
     }
 
     /// The level of a literal's variable, or 0 while it is free.
@@ -227,9 +227,15 @@ impl Trail {
             Err(_) => unreachable!(),
         }
         let var = entry.lit.var();
-        self.values[var as usize] = Some(entry.lit.positive());
+        put_truths(
+            &mut self.truths,
+            self.vars,
+            entry.lit,
+            Truth::Satisfied,
+            Truth::Falsified,
+        );
         self.places[var as usize] = self.entries.len() as u32;
-        self.next_free = first_without_value(&self.values, self.next_free);
+        self.next_free = first_without_entry(&self.places, self.next_free);
     }
 
     /// Takes the entries above a level off. It takes time by them.
@@ -256,7 +262,7 @@ impl Trail {
         ensures vars { self.new.vars ≡ self.old.vars }
     {
         let dropped = &self.entries[count..];
-        free_all(&mut self.values, &mut self.places, dropped);
+        free_all(&mut self.truths, &mut self.places, self.vars, dropped);
         self.next_free = least_var(dropped, self.next_free);
         self.entries.truncate(count);
     }

@@ -6,7 +6,7 @@ use Rattle.kernel.proofs.propagator.Propagator.drop_list.Goals as goal
 
 pub returns-clause-list : goal.returns-clause-list
 returns-clause-list c =
-    let whole = refilled (length c.index_mut-list.result.now.items) c.keep_below-end.new.list _ (ap length (sym c.as_mut_slice.ensures.value) ∙ sym c.keep_below-end.auto.list) in
+    let whole = refilled c.index_mut-list.result.now.len c.keep_below-end.new.list _ (c.index_mut-list.result.now.ok.0 ∙ (ap length (sym c.as_mut_slice.ensures.value) ∙ sym c.keep_below-end.auto.list)) in
     let new = c.truncate.ensures.items ∙ ap (take c.keep_below-end.result) whole in
     let old = old-list (λ v. v.items) c.args.self.now.lists.items c.args.at c.index_mut-list.result.now c.requires c.index_mut-list.ensures.value in (
       c.truncate.new.self.items,

@@ -39,7 +39,7 @@ index_mut-requires-2 c =
 
 pub returns-clause-served : goal.returns-clause-served
 returns-clause-served c floor served =
-    let whole = refilled (length c.replace-list.result.items) c.visit_all.new.list _ (ap length (sym c.as_mut_slice.ensures.value) ∙ sym c.visit_all.auto.list) in
+    let whole = refilled c.replace-list.result.len c.visit_all.new.list _ (c.replace-list.result.ok.0 ∙ (ap length (sym c.as_mut_slice.ensures.value) ∙ sym c.visit_all.auto.list)) in
     let lists = put-back (λ v. v.items) c.visit_all.new.self.lists.items c.negated-gone.result c.code-at.result c.truncate.new.self (take c.in_ok-end.end c.visit_all.new.list) c.code-at.ensures (c.truncate.ensures.items ∙ ap (take c.in_ok-end.end) whole) in
     let s = serves c.args.trail.now.entries c.entries.result.now c.args.place c.index-entries-place.result c.entry.inside.lit c.negated-gone.result c.entries.ensures.entries c.index-entries-place.is (ap (λ (e : Entry). e.lit) c.entry.view_is) c.negated-gone.ensures c.requires.inside in
     let h = gone-inside c.args.self.now.lists.items c.args.trail.now.vars c.negated-gone.result c.args.trail.now.entries c.args.place c.requires.lists c.entries.ensures.ordered.over s.next in
@@ -50,6 +50,6 @@ returns-clause-served c floor served =
 
 pub returns-clause-entries : goal.returns-clause-entries
 returns-clause-entries c =
-    let whole = refilled (length c.replace-list.result.items) c.visit_all.new.list _ (ap length (sym c.as_mut_slice.ensures.value) ∙ sym c.visit_all.auto.list) in
+    let whole = refilled c.replace-list.result.len c.visit_all.new.list _ (c.replace-list.result.ok.0 ∙ (ap length (sym c.as_mut_slice.ensures.value) ∙ sym c.visit_all.auto.list)) in
     let lists = put-back (λ v. v.items) c.visit_all.new.self.lists.items c.negated-gone.result c.code-at.result c.truncate.new.self (take c.in_ok-end.end c.visit_all.new.list) c.code-at.ensures (c.truncate.ensures.items ∙ ap (take c.in_ok-end.end) whole) in
     rw lists c.in_ok-end.ensures.entries

@@ -1,6 +1,7 @@
-use Rattle.std.proofs.Common.{◌≡◌, ◌+◌, length, arith, ap, ◌∙◌}
+use Rattle.std.proofs.Common.{◌≡◌, ◌+◌, length, drop, arith, ap, sym, ◌∙◌}
 use Rattle.theory.specs.Trails.{Entry}
 use Rattle.kernel.proofs.Ordered.{IsOrdered-push, length-free}
+use Rattle.kernel.proofs.GoingBack.{refilled}
 use Rattle.kernel.proofs.Tables.{AreTables-put}
 use Rattle.kernel.proofs.NextFree.{IsNextFree-push}
 use Rattle.kernel.proofs.trail.Trail.push.Goals as goal
@@ -35,13 +36,16 @@ invariant_of-self c =
     let T = c.self.inside.entries.items in
     let ordered = IsOrdered-push c.self.inside.vars T c.args.entry c.self.invariant.0 is_variable is_free (rw (← c.self.view_is) at c.requires.is_latest) in
     let var : c.var-var.result ≡ c.args.entry.lit.var = c.var-var.ensures.var ∙ ap (λ (e : Entry). e.lit.var) c.entry.view_is in
-    let positive : c.positive.result ≡ c.args.entry.lit.positive = c.positive.ensures ∙ ap (λ (e : Entry). e.lit.positive) c.entry.view_is in
+    let lit : c.entry.inside.lit ≡ c.args.entry.lit = ap (λ (e : Entry). e.lit) c.entry.view_is in
     let last : c.len.result ≡ length T + 1 = omega arith in
-    let tables = AreTables-put c.self.inside.vars T c.push.new.self.items c.args.entry c.self.inside.values.items c.self.inside.places.items c.var-var.result c.positive.result c.len.result c.self.invariant.3 is_variable is_free var positive last c.in-Ok.ensures.items in
-    let next = rw c.deref.ensures.value at c.first_without_value-self-inside.ensures in (
+    let tables = AreTables-put c.self.inside.vars T c.push.new.self.items c.args.entry c.entry.inside.lit c.self.inside.truths.items c.put_truths.new.truths c.self.inside.places.items c.var-var.result c.len.result c.self.invariant.3 is_variable is_free lit var last c.in-Ok.ensures.items
+    (rw c.deref_mut.ensures.value at c.put_truths.ensures) in
+    let truths_long : length c.put_truths.new.truths ≡ length c.self.inside.truths.items = c.put_truths.auto.truths ∙ ap length c.deref_mut.ensures.value in
+    let truths_back = refilled c.self.inside.truths.len c.put_truths.new.truths (drop (length c.put_truths.new.truths) c.self.inside.truths.items) (c.self.inside.truths.ok.0 ∙ sym truths_long) in
+    let next = rw c.deref.ensures.value at c.first_without_entry-self-inside.ensures in (
       rw c.in-Ok.ensures.items ordered,
       omega arith,
       c.self.invariant.2,
-      tables,
-      rw c.in-Ok.ensures.items (IsNextFree-push c.self.inside.vars c.self.inside.next_free c.first_without_value-self-inside.result T c.args.entry _ _ c.self.invariant.4 ordered.over (rw c.in-Ok.ensures.items at tables) next.low next.high next.before next.found),
+      rw truths_back tables,
+      rw c.in-Ok.ensures.items (IsNextFree-push c.self.inside.vars c.self.inside.next_free c.first_without_entry-self-inside.result T c.args.entry _ _ c.self.invariant.4 ordered.over (rw c.in-Ok.ensures.items at tables) next.low next.high next.before next.found),
     )

@@ -1,12 +1,8 @@
-use Rattle.std.proofs.Common.{◌∙◌, sym, ap}
-use Rattle.kernel.specs.Tables.{value_in}
-use Rattle.kernel.proofs.Values.{truth-some, value-none}
+use Rattle.kernel.proofs.Tables.{AreTables-truth}
+use Rattle.kernel.proofs.Values.{truth-value}
 use Rattle.kernel.proofs.trail.Trail.truth.Goals as goal
 
-pub returns-in-None-clause-truth : goal.returns-in-None-clause-truth
-returns-in-None-clause-truth c = value-none c.args.self.now.entries c.args.lit.var (ap (value_in c.args.self.now.entries) (sym c.var.ensures.var) ∙ sym c.in-None.ensures.value)
-
-pub returns-in-Some-clause-truth : goal.returns-in-Some-clause-truth
-returns-in-Some-clause-truth c =
-    truth-some c.args.self.now.entries c.args.lit c.in-Some.value c.positive.result
-    (ap (value_in c.args.self.now.entries) (sym c.var.ensures.var) ∙ sym c.in-Some.ensures.value) c.positive.ensures
+pub returns-clause-truth : goal.returns-clause-truth
+returns-clause-truth c =
+    let t = AreTables-truth _ _ c.self.inside.truths.items _ c.args.lit c.spot.result c.index.result.now c.self.invariant.3 (rw (← c.self.view_is) at c.requires) c.spot.ensures c.index.ensures in
+    rw (c.value.ensures, ← c.self.view_is) (truth-value c.self.inside.entries.items c.args.lit c.index.result.now t)
