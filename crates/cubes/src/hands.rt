@@ -10,6 +10,7 @@ ghost use Rattle.cubes.specs.Hands.{Gets, IsWorker, EndsIn, Settles, AddsRound, 
 
 use crate::gate::Gate;
 use crate::next::go_right_below;
+use crate::pause::Pauses;
 use crate::place::place_of;
 use crate::results::solve;
 use crate::solved::{Solved, What};
@@ -19,7 +20,7 @@ use kernel::Cube;
 use pool::{Hand, Taken};
 use std::alloc::{AllocError, Global};
 use std::sync::Wait;
-use std::thread;
+use std::time::Clock;
 
 /// The deepest cubes that lie in the pool: with more literals, places in the tree could not be told apart by 32 bits.
 const DEEPEST: usize = 32;
@@ -236,8 +237,9 @@ impl Worker {
 
 /// The work of a hand: it takes cubes from its own deque, or else steals from the others, until nothing is left to be done or a hand
 /// halted. Each cube that it gets is skipped where a model lies left of it, and else solved, and the halves of an exhausted one are put.
-/// It is the caller that waits: until nothing is left to be done by any hand.
-pub fn work<R: Wait, G: Gate>(
+/// It is the caller that waits: until nothing is left to be done by any hand. A hand that finds no cube yields its processor, a hundred
+/// times, and then sleeps between its looks, for 50 microseconds at first and for up to a millisecond, until it gets one.
+pub fn work<R: Wait + Clock, G: Gate>(
     rt: &R,
     alloc: Global,
     hand: Hand,
@@ -255,22 +257,26 @@ pub fn work<R: Wait, G: Gate>(
         solver: None,
         solved: Vec::new(alloc),
     };
+    let mut pauses = Pauses::none();
     'turns: for _ in rt.forever() {
-        if worker.hand.halted() {
+        let is_halted = worker.hand.halted();
+        if is_halted {
             break;
         }
         match next(&mut worker.hand) {
             Some(cube) => {
+                pauses = Pauses::none();
                 if worker.round(formula, budget, gate, cube).is_err() {
                     worker.hand.halt();
                     return worker.home(true);
                 }
             }
             None => {
-                if worker.hand.still_open() == 0 {
+                let open = worker.hand.still_open();
+                if open == 0 {
                     break;
                 }
-                thread::yield_now(); // another hand is at work on what is left
+                pauses.pause(rt); // another hand is at work on what is left
             }
         }
     }

@@ -6,6 +6,7 @@ mod gate;
 mod hands;
 mod known;
 mod next;
+mod pause;
 mod place;
 mod results;
 mod solved;

@@ -1,15 +1,18 @@
 //! The result of a formula, by several hands in threads of their own.
 ghost use Rattle.std.specs.Prelude.{◌≡◌, ◌≤◌, ◌<◌, ℕ, [], false, map, length, All, IfOk, slice_index_or};
+ghost use Rattle.theory.specs.Results.{IsWhole};
 ghost use Rattle.pool.specs.Hands.{HandView};
 ghost use Rattle.pool.specs.Pools.{AreNew};
 ghost use Rattle.cubes.specs.declared.hands.Worked.{Worked};
 ghost use Rattle.cubes.specs.Result.{IsResultOf, Says};
 ghost use Rattle.cubes.specs.Shares.{HasDone};
+ghost use Rattle.cubes.specs.Solved.{solved_of};
 
 use crate::closing::harvest;
 use crate::gate::Gate;
 use crate::hands::{Worked, work};
 use crate::results::{assemble, solve_one};
+use crate::solved::Solved;
 use crate::tree::Tree;
 use cnf::Formula;
 use kernel::Cube;
@@ -18,9 +21,10 @@ use std::alloc::{AllocError, Global};
 use std::sync::Wait;
 use std::thread;
 use std::thread::Threads;
+use std::time::Clock;
 
 /// What each hand leaves behind, in the order of the hands. Each works in a thread of its own, where one can be started.
-fn all_work<R: Threads + Wait + Sync, G: Gate + Sync>(
+fn all_work<R: Threads + Wait + Clock + Sync, G: Gate + Sync>(
     rt: &R,
     alloc: Global,
     formula: &Formula,
@@ -55,8 +59,31 @@ fn is_short(works: &[Worked]) -> bool
     false
 }
 
+/// The results of these hands of the pool, once all are home. They are enough for the whole tree.
+pub(crate) fn results_by_hands<R: Threads + Wait + Clock + Sync, G: Gate + Sync>(
+    rt: &R,
+    alloc: Global,
+    formula: &Formula,
+    budget: u32,
+    gate: &G,
+    pool: Pool,
+    hands: Vec<Hand>,
+) -> Result<Vec<Solved>, AllocError>
+    requires budget { (1 ≤ budget) × (budget ≤ 100000) }
+    requires some { 1 ≤ pool.hands }
+    requires root { pool.root ≡ [] }
+    requires hands { AreNew pool formula.now.vars hands.items }
+    ensures { IfOk result (λ r. IsWhole formula.now budget (map solved_of r.items)) }
+{
+    let works = all_work(rt, alloc, formula, budget, gate, hands)?;
+    if is_short(&works) {
+        return Err(AllocError);
+    }
+    harvest(alloc, formula, budget, pool, works)
+}
+
 /// The result, by these hands of the pool.
-fn solve_by_hands<R: Threads + Wait + Sync, G: Gate + Sync>(
+fn solve_by_hands<R: Threads + Wait + Clock + Sync, G: Gate + Sync>(
     rt: &R,
     alloc: Global,
     formula: &Formula,
@@ -73,18 +100,14 @@ fn solve_by_hands<R: Threads + Wait + Sync, G: Gate + Sync>(
     ensures says { IfOk result (λ t. Says formula.now t) }
 {
     let _vars = formula.vars(); // it ensures what the proof needs of the formula
-    let works = all_work(rt, alloc, formula, budget, gate, hands)?;
-    if is_short(&works) {
-        return Err(AllocError);
-    }
-    let results = harvest(alloc, formula, budget, pool, works)?;
+    let results = results_by_hands(rt, alloc, formula, budget, gate, pool, hands)?;
     assemble(alloc, results)
 }
 
 /// The result of the formula with a budget of 1 to 100,000 conflicts a cube, by 1 to 16 hands, each in a thread of its own where one can
 /// be started. It is the same for any number of hands, any gate and any schedule. It fails only where a request for memory is refused,
 /// once all hands are home. If the pool isn't opened, all is solved here.
-pub fn solve_with<R: Threads + Wait + Sync, G: Gate + Sync>(
+pub fn solve_with<R: Threads + Wait + Clock + Sync, G: Gate + Sync>(
     rt: &R,
     alloc: Global,
     formula: &Formula,

@@ -15,6 +15,7 @@ use std::fs::Files;
 use std::io::Write;
 use std::sync::Wait;
 use std::thread::Threads;
+use std::time::Clock;
 
 /// The status of a satisfiable formula.
 const SATISFIABLE: u8 = 10;
@@ -53,7 +54,7 @@ fn print_no_file<E: Write>(faults: &mut E) -> u8 {
 }
 
 /// Decides the formula in the file, with its proof written to the other; the status.
-fn solve<R: Files + Threads + Wait + Sync, W: Write, E: Write>(
+fn solve<R: Files + Threads + Wait + Clock + Sync, W: Write, E: Write>(
     rt: &R,
     alloc: Global,
     budget: u32,
@@ -112,7 +113,7 @@ fn check<R: Files, W: Write, E: Write>(
 /// Does all that the program does for a command line, of which the first word is the program's name: reads and writes its files, writes
 /// the answer to `answer` and faults to `faults`, and answers the exit status: 10 satisfiable, 20 unsatisfiable, 0 for help and
 /// for a proof that is accepted, 1 for one that is refused, on a fault or a wrong command line. A failed write to `faults` changes nothing else.
-pub fn command<R: Files + Threads + Wait + Sync, W: Write, E: Write>(
+pub fn command<R: Files + Threads + Wait + Clock + Sync, W: Write, E: Write>(
     rt: &R,
     alloc: Global,
     words: &[&str],

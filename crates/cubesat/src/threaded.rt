@@ -14,10 +14,11 @@ use std::alloc::Global;
 use std::io::{Read, Write};
 use std::sync::Wait;
 use std::thread::Threads;
+use std::time::Clock;
 
 /// What `run_one` does, by 1 to 16 hands, each in a thread of its own where one can be started. Whatever the hands, the gate and the
 /// schedule, the same bytes are written.
-pub fn run<T: Threads + Wait + Sync, R: Read + Drop, W: Write, P: Write, G: Gate + Sync>(
+pub fn run<T: Threads + Wait + Clock + Sync, R: Read + Drop, W: Write, P: Write, G: Gate + Sync>(
     rt: &T,
     alloc: Global,
     input: R,

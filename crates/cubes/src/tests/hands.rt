@@ -7,9 +7,10 @@ use kernel::Cube;
 use std::alloc::Global;
 use std::sync::Wait;
 use std::test::Fail;
+use std::time::Clock;
 
 // a model with the first variable true, and one left of it
-const TWO_MODELS: &[u8] = b"p cnf 3 4\n1 2 3 0\n1 2 -3 0\n-1 2 3 0\n-1 2 -3 0\n";
+pub(super) const TWO_MODELS: &[u8] = b"p cnf 3 4\n1 2 3 0\n1 2 -3 0\n-1 2 3 0\n-1 2 -3 0\n";
 
 // each assignment but those with all of the first 39 variables false
 const DEEP: &[u8] = b"p cnf 40 2
@@ -18,7 +19,11 @@ const DEEP: &[u8] = b"p cnf 40 2
 ";
 
 /// What the one hand of a pool leaves behind.
-fn worked<R: Wait>(rt: &R, alloc: Global, formula: &Formula) -> Result<Option<Worked>, Fail> {
+fn worked<R: Wait + Clock>(
+    rt: &R,
+    alloc: Global,
+    formula: &Formula,
+) -> Result<Option<Worked>, Fail> {
     let (_pool, mut hands) = pool::open(alloc, 1, formula.vars(), Cube::root(alloc))?;
     match hands.pop() {
         Some(hand) if hand.vars() == formula.vars() => Ok(Some(work(
@@ -28,7 +33,7 @@ fn worked<R: Wait>(rt: &R, alloc: Global, formula: &Formula) -> Result<Option<Wo
     }
 }
 
-fn reads(lits: &[Lit], wanted: &[i32]) -> bool {
+pub(super) fn reads(lits: &[Lit], wanted: &[i32]) -> bool {
     if lits.len() != wanted.len() {
         return false;
     }
@@ -40,7 +45,7 @@ fn reads(lits: &[Lit], wanted: &[i32]) -> bool {
     true
 }
 
-fn is_result(solved: &Solved, numbers: &[i32], given: Given) -> bool {
+pub(super) fn is_result(solved: &Solved, numbers: &[i32], given: Given) -> bool {
     let is_as_wanted = match &solved.what {
         What::Done(outcome) => is_given(outcome, given),
         What::Skipped(place) => matches!(given, Given::Skipped(wanted) if wanted == *place),

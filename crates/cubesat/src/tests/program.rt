@@ -6,6 +6,7 @@ use std::rt::{Env, Files};
 use std::sync::Wait;
 use std::test::Fail;
 use std::thread::Threads;
+use std::time::Clock;
 use std::{env, fs};
 
 /// Paths in a folder for files that don't last, of this test alone.
@@ -23,7 +24,7 @@ struct Printed {
     faults: Vec<u8>,
 }
 
-fn run<R: Files + AllocGlobal + Threads + Wait + Sync>(rt: &R, words: &[&str]) -> Printed {
+fn run<R: Files + AllocGlobal + Threads + Wait + Clock + Sync>(rt: &R, words: &[&str]) -> Printed {
     let mut answer = Vec::new(rt.alloc());
     let mut faults = Vec::new(rt.alloc());
     let status = command(rt, rt.alloc(), words, &mut answer, &mut faults);

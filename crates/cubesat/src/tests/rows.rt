@@ -9,6 +9,7 @@ use std::process::Abort;
 use std::sync::Wait;
 use std::test::Fail;
 use std::thread::Threads;
+use std::time::Clock;
 
 /// A formula, a budget, its proof and its answer.
 #[derive(Clone, Copy)]
@@ -25,7 +26,7 @@ const EIGHT: &str =
 const UNSATISFIABLE: &str = "s UNSATISFIABLE\n";
 
 /// Whether several hands write the same.
-fn hands_agree<R: Threads + Wait + Sync>(
+fn hands_agree<R: Threads + Wait + Clock + Sync>(
     rt: &R,
     alloc: Global,
     row: &Row,
@@ -56,7 +57,11 @@ fn hands_agree<R: Threads + Wait + Sync>(
     Ok(true)
 }
 
-fn check<R: Abort + Threads + Wait + Sync>(rt: &R, alloc: Global, row: &Row) -> Result<(), Fail> {
+fn check<R: Abort + Threads + Wait + Clock + Sync>(
+    rt: &R,
+    alloc: Global,
+    row: &Row,
+) -> Result<(), Fail> {
     if row.budget < 1 || row.budget > 100_000 {
         return Err(Fail::from("budget"));
     }

@@ -1,19 +1,6 @@
 use Rattle.std.proofs.Common.{Result, Ok, Err, IfOk}
-use Rattle.cubes.proofs.FreshHands.{home-in_order, home-all, home-works}
 use Rattle.cubes.proofs.WalkLemmas.{says}
 use Rattle.cubes.proofs.threads.solve_by_hands.Goals as goal
-
-pub harvest-requires-clause-pool : goal.harvest-requires-clause-pool
-harvest-requires-clause-pool g c =
-    home-all c.args.formula.now c.args.budget c.args.pool c.args.hands.items c.in_ok-works.works.items c.requires.hands c.in_ok-works.ensures.len c.in_ok-works.ensures.each
-
-pub harvest-requires-clause-in_order : goal.harvest-requires-clause-in_order
-harvest-requires-clause-in_order g c =
-    home-in_order c.args.formula.now c.args.budget c.args.pool c.args.hands.items c.in_ok-works.works.items c.requires.hands c.in_ok-works.ensures.len c.in_ok-works.ensures.each
-
-pub harvest-requires-clause-works : goal.harvest-requires-clause-works
-harvest-requires-clause-works g c =
-    home-works c.args.formula.now c.args.budget c.args.pool c.args.hands.items c.in_ok-works.works.items c.requires.hands c.in_ok-works.ensures.len c.in_ok-works.ensures.each
 
 -- what is so of each answer, is so of this one
 if_ok : {T E : Type 0} (r : Result T E) (P Q : T → Type 0) → ((t : T) → P t → Q t) → IfOk r P → IfOk r Q
@@ -22,4 +9,4 @@ if_ok (Err e) P Q more h = tt
 
 pub returns-clause-says : goal.returns-clause-says
 returns-clause-says g c =
-    if_ok c.assemble.result _ _ (λ t every. says c.args.formula.now c.args.budget t c.vars-vars.ensures.within.formula (every c.args.formula.now c.args.budget c.in_ok-results.ensures.whole)) c.assemble.ensures
+    if_ok c.assemble.result _ _ (λ t every. says c.args.formula.now c.args.budget t c.vars-vars.ensures.within.formula (every c.args.formula.now c.args.budget c.in_ok-results.ensures)) c.assemble.ensures
