@@ -1,4 +1,4 @@
-//! Worked rows: places of cubes, and the tree that is gathered from results of cubes, with a budget of one conflict.
+//! Worked rows, with a budget of one conflict: places of cubes, trees that are gathered from results, and what hands do and bring home.
 ghost use Rattle.std.specs.Prelude.{◌≡◌, IfOk, OnOk};
 ghost use Rattle.theory.specs.Literals.{has_var};
 ghost use Rattle.theory.specs.Truth.{IsOver};
@@ -11,7 +11,9 @@ use kernel::Cube;
 use std::alloc::{AllocError, Global};
 use std::test::Fail;
 
+mod gates;
 mod hands;
+mod harvests;
 
 // all eight clauses over three variables
 const EIGHT: &[u8] =

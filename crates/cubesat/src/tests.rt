@@ -1,10 +1,11 @@
 //! Worked rows: the bytes of the proof and the answer for the bytes of a formula, and the line for those of a proof; what failing readers and
-//! writers leave; proofs of many steps, and those with one byte changed; examples from end to end; the program.
+//! writers leave; two hands at a gate; proofs of many steps, and those with one byte changed; examples from end to end; the program.
 mod check;
 mod check_faults;
 mod examples;
 mod faults;
 mod faulty;
+mod gates;
 mod long_proofs;
 mod one_byte;
 mod other_solvers;

@@ -13,11 +13,11 @@ use std::time::Clock;
 
 /// A formula, a budget, its proof and its answer.
 #[derive(Clone, Copy)]
-struct Row {
-    text: &'static str,
+struct Row<'a> {
+    text: &'a str,
     budget: u32,
-    proof: &'static str,
-    answer: &'static str,
+    proof: &'a str,
+    answer: &'a str,
 }
 
 const EIGHT: &str =
@@ -29,7 +29,7 @@ const UNSATISFIABLE: &str = "s UNSATISFIABLE\n";
 fn hands_agree<R: Threads + Wait + Clock + Sync>(
     rt: &R,
     alloc: Global,
-    row: &Row,
+    row: &Row<'_>,
     verdict: Verdict,
 ) -> Result<bool, Fail>
     requires { (1 ≤ row.now.budget) × (row.now.budget ≤ 100000) }
@@ -60,7 +60,7 @@ fn hands_agree<R: Threads + Wait + Clock + Sync>(
 fn check<R: Abort + Threads + Wait + Clock + Sync>(
     rt: &R,
     alloc: Global,
-    row: &Row,
+    row: &Row<'_>,
 ) -> Result<(), Fail> {
     if row.budget < 1 || row.budget > 100_000 {
         return Err(Fail::from("budget"));
@@ -214,13 +214,16 @@ fn a_deep_tree(rt: HostRuntime) -> Result<(), Fail> {
     let front =
         "1 2 3 4 5 6 7 8 9 10 11 12 13 14 15 16 17 18 19 20 21 22 23 24 25 26 27 28 29 30 31 32 33 34 35 36 37 38 39";
     let text = format!(in rt.alloc(); "p cnf 40 2\n{front} 40 0\n{front} -40 0\n")?;
-    let mut proof = Vec::new(rt.alloc());
-    let mut answer = Vec::new(rt.alloc());
-    let verdict = run_one(rt.alloc(), text.as_bytes(), &mut answer, &mut proof, 1)?;
-    assert_eq!(rt; verdict, Verdict::Satisfiable);
-    assert!(rt; proof.is_empty());
     let wanted =
         "s SATISFIABLE\nv -1 -2 -3 -4 -5 -6 -7 -8 -9 -10 -11 -12 -13 -14 -15 -16 -17 -18 -19 -20 -21\nv -22 -23 -24 -25 -26 -27 -28 -29 -30 -31 -32 -33 -34 -35 -36 -37 -38 39 -40 0\n";
-    assert_eq!(rt; answer.as_slice(), wanted.as_bytes());
-    Ok(())
+    check(
+        &rt,
+        rt.alloc(),
+        &Row {
+            text: text.as_str(),
+            budget: 1,
+            proof: "",
+            answer: wanted,
+        },
+    )
 }
