@@ -4,3 +4,4 @@ pub mod Run
 pub mod Arguments
 pub mod Check
 pub mod Streamed
+pub mod Written

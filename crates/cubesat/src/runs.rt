@@ -1,9 +1,10 @@
 //! A run without threads.
-ghost use Rattle.std.specs.Prelude.{◌≡◌, ◌≤◌, [], map, IfOk};
+ghost use Rattle.std.specs.Prelude.{◌≡◌, ◌≤◌, [], IfOk};
 ghost use Rattle.theory.specs.Texts.{proof_text};
-ghost use Rattle.lrat.specs.Steps.{step_of};
+ghost use Rattle.join.specs.Walking.{lines_left, IsLawful};
 ghost use Rattle.cubes.specs.Result.{IsResultOf, Says};
 ghost use Rattle.cubesat.specs.Run.{AreTexts, RunSays};
+ghost use Rattle.cubesat.specs.Written.{IsAnswer};
 
 use crate::fault::RunFault;
 use crate::output::write_text;
@@ -11,8 +12,7 @@ use crate::proof_output::{room, write_proof};
 use crate::verdict::Verdict;
 use cnf::{Formula, read_from};
 use cubes::{Tree, solve_one};
-use join::{answer_bytes, join};
-use lrat::Step;
+use join::{Lines, answer_bytes};
 use std::alloc::{AllocError, Global};
 use std::io::{Read, Write};
 
@@ -20,11 +20,34 @@ use std::io::{Read, Write};
 #[derive(Drop)]
 pub(crate) struct Output {
     pub(crate) verdict: Verdict,
-    pub(crate) proof: Vec<Step>,
 
-    /// Room for the proof's lines while they are written.
+    /// The proof's lines, which are made as they are written.
+    pub(crate) lines: Lines,
+
+    /// Room for them on their way.
     pub(crate) buffer: Vec<u8>,
     pub(crate) answer: Vec<u8>,
+}
+
+/// The verdict and the text of the answer.
+fn answer_of(
+    alloc: Global,
+    formula: &Formula,
+    tree: &Tree,
+) -> Result<(Verdict, Vec<u8>), AllocError>
+    requires { Says formula.now tree.now }
+    ensures { IfOk result (λ p. IsAnswer tree.now p.0 p.1.items) }
+{
+    match tree {
+        Tree::Model(values) => {
+            let answer = answer_bytes(alloc, formula, Some(values))?;
+            Ok((Verdict::Satisfiable, answer))
+        }
+        Tree::Refuted(_) => {
+            let answer = answer_bytes(alloc, formula, None)?;
+            Ok((Verdict::Unsatisfiable, answer))
+        }
+    }
 }
 
 /// What is to be written for a formula, whose result is the tree. From here on the run takes no more memory.
@@ -36,28 +59,20 @@ pub(crate) fn output_of(
 ) -> Result<Output, AllocError>
     requires result { IsResultOf formula.now budget tree }
     requires says { Says formula.now tree }
-    ensures texts { IfOk result (λ o. AreTexts formula.now budget o.verdict (proof_text (map step_of o.proof.items)) o.answer.items) }
+    ensures texts { IfOk result (λ o. AreTexts formula.now budget o.verdict (proof_text (lines_left o.lines)) o.answer.items) }
+    ensures lines { IfOk result (λ o. IsLawful o.lines) }
     ensures buffer { IfOk result (λ o. o.buffer.items ≡ []) }
 {
     let _budget = budget; // it is there for the contract alone
-    match tree {
-        Tree::Model(values) => Ok(Output {
-            verdict: Verdict::Satisfiable,
-            proof: Vec::new(alloc),
-            buffer: Vec::new(alloc),
-            answer: answer_bytes(alloc, formula, Some(&values))?,
-        }),
-        refuted => {
-            let proof = join(alloc, formula, refuted)?;
-            let buffer = room(alloc, &proof)?;
-            Ok(Output {
-                verdict: Verdict::Unsatisfiable,
-                proof,
-                buffer,
-                answer: answer_bytes(alloc, formula, None)?,
-            })
-        }
-    }
+    let (verdict, answer) = answer_of(alloc, formula, &tree)?;
+    let lines = Lines::of(alloc, formula, tree)?;
+    let buffer = room(alloc, &lines)?;
+    Ok(Output {
+        verdict,
+        lines,
+        buffer,
+        answer,
+    })
 }
 
 /// Decides the formula of a DIMACS text, with a budget of 1 to 100,000 conflicts a cube: writes the proof, flushes it, and then writes and
@@ -83,7 +98,7 @@ pub fn run_one<R: Read + Drop, W: Write, P: Write>(
         Ok(output) => output,
         Err(_) => return Err(RunFault::NoMemory),
     };
-    write_proof(proof, &output.proof, &mut output.buffer)?;
+    write_proof(proof, &mut output.lines, &mut output.buffer)?;
     write_text(answer, &output.answer, RunFault::AnswerWriteFailed)?;
     Ok(output.verdict)
 }

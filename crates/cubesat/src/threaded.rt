@@ -41,7 +41,7 @@ pub fn run<T: Threads + Wait + Sync, R: Read + Drop, W: Write, P: Write, G: Gate
         Ok(output) => output,
         Err(_) => return Err(RunFault::NoMemory),
     };
-    write_proof(proof, &output.proof, &mut output.buffer)?;
+    write_proof(proof, &mut output.lines, &mut output.buffer)?;
     write_text(answer, &output.answer, RunFault::AnswerWriteFailed)?;
     Ok(output.verdict)
 }

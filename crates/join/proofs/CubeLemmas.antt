@@ -3,7 +3,7 @@ use Rattle.std.proofs.Common.{◌≡◌, ℕ, List, [], ◌∷◌, ◌++◌, map
 use Rattle.std.specs.Option.{is_none}
 use Rattle.std.proofs.lemmas.List.{map-append, reverse-append, reverse-reverse}
 use Rattle.theory.specs.Literals.{Literal, negated, negations}
-use Rattle.join.specs.declared.joiner.Half.{Half}
+use Rattle.join.specs.declared.line.Half.{Half}
 use Rattle.join.specs.Joining.{cube_of, literal_in}
 
 -- the negation of the literal of a split

@@ -1,7 +1,9 @@
 pub mod TreeSteps
 pub mod CubeLemmas
-pub mod ListLemmas
 pub mod NumberLemmas
 pub mod TreeLemmas
 pub mod JoinLemmas
 pub mod LineLemmas
+pub mod WalkLemmas
+pub mod StepLemmas
+pub mod LawLemmas

@@ -1,5 +1,5 @@
 -- The numbers and variables in a tree that is a formula's.
-use Rattle.std.proofs.Common.{◌≡◌, ℕ, ◌+◌, ◌<◌, ◌≤◌, Bool, true, false, List, [], ◌∷◌, ◌++◌, length, length-append, Option, Some, None, refl, ap, subst, ◌∙◌, cond, nat_eq, nat_le, eqb-true, arith}
+use Rattle.std.proofs.Common.{◌≡◌, ℕ, ◌+◌, ◌<◌, ◌≤◌, true, List, [], ◌∷◌, ◌++◌, length, length-append, Option, Some, None, refl, ap, subst, ◌∙◌, arith}
 use Rattle.std.proofs.lemmas.List.Elements.{All-nil, All-cons, All-weaker}
 use Rattle.theory.specs.Literals.{Literal, Clause, IsVariable, positive, negative, negations}
 use Rattle.theory.specs.Truth.{Formula}
@@ -57,7 +57,7 @@ replayed-lines V N n Q K (line ∷ lines) few count h =
       replayed-lines V N (n + 1) Q (K ++ line.clause ∷ []) lines few longer h.1,
     )
 
-refutation-lines : (F : Formula) (Q : List Literal) (lines : List Line) → IsWithinLimits F → AreRefutation F.vars (length (first_clauses F)) Q (first_clauses F) lines
+pub refutation-lines : (F : Formula) (Q : List Literal) (lines : List Line) → IsWithinLimits F → AreRefutation F.vars (length (first_clauses F)) Q (first_clauses F) lines
     → (0 < length lines) × AreLines (length (first_clauses F)) lines
 refutation-lines F Q lines within h =
     let long = ap length h.ends ∙ length-append h.before (h.last ∷ []) in

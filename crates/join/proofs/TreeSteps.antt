@@ -1,10 +1,9 @@
 -- The nodes of a tree give its lines.
-use Rattle.std.proofs.Common.{◌≡◌, ℕ, ◌+◌, ◌-◌, List, [], ◌∷◌, ◌++◌, Option, Some, None, refl, ap, ◌∙◌, append_assoc, arith}
-use Rattle.theory.specs.Truth.{Assignment}
-use Rattle.theory.specs.Trees.{Tree, satisfied, refutation, split, first_model, or_else, Node, nodes_of}
+use Rattle.std.proofs.Common.{◌≡◌, ℕ, ◌+◌, ◌-◌, List, [], ◌∷◌, ◌++◌, Some, None, refl, ap, ◌∙◌, append_assoc, arith}
+use Rattle.theory.specs.Trees.{Tree, satisfied, refutation, split, first_model, Node, nodes_of}
 use Rattle.theory.specs.Steps.{Step}
 use Rattle.theory.specs.Proofs.{tree_steps, additions}
-use Rattle.join.specs.declared.joiner.Half.{Half}
+use Rattle.join.specs.declared.line.Half.{Half}
 use Rattle.join.specs.Joining.{State, on_node, on_nodes, climb, cube_of}
 use Rattle.theory.proofs.AcceptedProofs.{or_else-none}
 

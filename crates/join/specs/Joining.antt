@@ -1,12 +1,11 @@
 -- How a tree's nodes, one after the other, give the lines of its proof.
-use Rattle.std.specs.Prelude.{ℕ, ◌+◌, ◌-◌, List, [], ◌∷◌, ◌++◌, map, reverse, length, Option, Some, None}
-use Rattle.theory.specs.Literals.{Literal, positive, negative}
+use Rattle.std.specs.Prelude.{ℕ, ◌+◌, ◌-◌, List, [], ◌∷◌, ◌++◌, map, length, Option, Some, None}
+use Rattle.theory.specs.Literals.{Literal, positive, negative, negations}
 use Rattle.theory.specs.Trees as trees
-use Rattle.theory.specs.Steps.{Step}
-use Rattle.theory.specs.Proofs.{leaf_steps, split_steps}
-use Rattle.lrat.specs.Steps.{step_of}
-use Rattle.join.specs.declared.joiner.Half.{Half}
-use Rattle.join.specs.declared.joiner.Joiner.{Joiner}
+use Rattle.theory.specs.Steps.{Step, add}
+use Rattle.theory.specs.Learning.{Line}
+use Rattle.theory.specs.Proofs.{renumbered, leaf_steps, split_steps}
+use Rattle.join.specs.declared.line.Half.{Half}
 
 abbrev pub literal_in : ℕ → Option ℕ → Literal
 literal_in x None = negative x
@@ -22,9 +21,6 @@ pub record State : Type 0 where
   pub halves : List Half
   pub next : ℕ
   pub steps : List Step
-
-abbrev pub state_of : Joiner → State
-state_of j = record { halves = reverse j.halves.items; next = j.next; steps = map step_of j.steps.items }
 
 -- what follows a subtree's last line: on to the half beside it, or, behind that, the line of their split, and so on
 abbrev pub climb : List Half → ℕ → List Step → State
@@ -42,3 +38,24 @@ on_node N s (trees.refuted_leaf lines) = climb s.halves (s.next + length lines) 
 abbrev pub on_nodes : ℕ → State → List trees.Node → State
 on_nodes N s [] = s
 on_nodes N s (n ∷ ns) = on_nodes N (on_node N s n) ns
+
+-- the line of a leaf whose first line has the number first
+abbrev pub learnt_line : ℕ → ℕ → ℕ → List Literal → Line → Step
+learnt_line N first n Q line = add (record { id = n; clause = line.clause ++ negations Q; hints = map (renumbered N first) line.hints; groups = [] })
+
+-- the line of a split
+abbrev pub split_line : ℕ → List Literal → ℕ → ℕ → Step
+split_line n Q left right = add (record { id = n; clause = negations Q; hints = left ∷ right ∷ []; groups = [] })
+
+-- the lines from a node on
+abbrev pub lines_below : ℕ → ℕ → List Half → List trees.Node → List Step
+lines_below N n hs nodes = (on_nodes N (record { halves = hs; next = n; steps = [] }) nodes).steps
+
+-- the lines from within a leaf on, of which some lines are left, or none
+abbrev pub lines_from : ℕ → ℕ → ℕ → List Half → List Line → List trees.Node → List Step
+lines_from N first n hs leaf nodes = (on_nodes N (climb hs (n + length leaf) (leaf_steps N first n (cube_of hs) leaf)) nodes).steps
+
+-- the lines from a leaf on that was looked for: without one there are none
+abbrev pub lines_entered : ℕ → ℕ → ℕ → List Half → List Line → List trees.Node → List Step
+lines_entered N first n hs [] nodes = []
+lines_entered N first n hs (line ∷ leaf) nodes = lines_from N first n hs (line ∷ leaf) nodes

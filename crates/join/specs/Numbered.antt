@@ -1,20 +1,20 @@
 -- The numbers and variables in a tree and in its lines are within their limits.
-use Rattle.std.specs.Prelude.{◌≡◌, ℕ, ◌+◌, ◌<◌, ◌≤◌, ◌^◌, List, [], ◌∷◌, map, length, Option, Some, None, All}
+use Rattle.std.specs.Prelude.{◌≡◌, ℕ, ◌+◌, ◌<◌, ◌≤◌, List, [], ◌∷◌, map, length, Option, Some, None, All}
 use Rattle.theory.specs.Literals.{IsVariable}
 use Rattle.theory.specs.Truth.{Formula, IsOver}
-use Rattle.theory.specs.Reading.{max_vars, max_clauses}
+use Rattle.theory.specs.Reading.{max_vars}
 use Rattle.theory.specs.Learning.{Line}
 use Rattle.theory.specs.Trees as trees
 use Rattle.theory.specs.Steps.{Step}
 use Rattle.theory.specs.Proofs.{proof}
 use Rattle.theory.specs.Checking.{checks, accepted}
-use Rattle.theory.specs.ProofReading.{IsStep}
-use Rattle.lrat.specs.Steps.{step_of}
+use Rattle.theory.specs.ProofReading.{IsStep, max_proof_bytes}
+use Rattle.theory.specs.Texts.{proof_text}
 use Rattle.cubes.specs.Result.{node_of}
+use Rattle.cubes.specs.declared.tree.Node.{Node}
 use Rattle.cubes.specs.declared.tree.Tree.{Tree}
 use Rattle.cubes.specs.declared.tree.Tree.TheVariants.{Model, Refuted}
-use Rattle.join.specs.declared.joiner.Half.{Half}
-use Rattle.join.specs.declared.joiner.Joiner.{Joiner}
+use Rattle.join.specs.declared.line.Half.{Half}
 
 -- each hint is a number from 1 to n
 abbrev pub AreUpTo : ℕ → List ℕ → Type 0
@@ -43,13 +43,10 @@ pub record IsHalf (n : ℕ) (h : Half) : Type 0 where
   pub variable : IsVariable max_vars h.var
   pub left : IsBefore n h.left
 
--- what a joiner keeps
-pub record IsJoiner (j : Joiner) : Type 0 where
-  pub clauses : j.clauses ≤ max_clauses
-  pub begun : j.clauses < j.next
-  pub fits : j.next ≤ 2 ^ 63
-  pub halves : All (IsHalf j.next) j.halves.items
-  pub steps : All IsStep (map step_of j.steps.items)
+-- the nodes of a result: a model has none
+abbrev pub AreNodesOf : Tree → List Node → Type 0
+AreNodesOf (Model values) nodes = nodes ≡ []
+AreNodesOf (Refuted ns) nodes = nodes ≡ ns.items
 
 -- the steps for a result: none for a model, and else the proof of the tree whose nodes they are
 abbrev pub AreStepsOf : Formula → Tree → List Step → Type 0
@@ -60,3 +57,7 @@ AreStepsOf F (Refuted nodes) steps = (t : trees.Tree) → trees.first_model t �
 abbrev pub AreAccepted : Formula → Tree → List Step → Type 0
 AreAccepted F (Model values) steps = Unit {0}
 AreAccepted F (Refuted nodes) steps = checks F steps ≡ accepted
+
+-- each number of the steps is within its limit, where their text is no longer than a proof may be
+abbrev pub AreWithin : List Step → Type 0
+AreWithin steps = length (proof_text steps) ≤ max_proof_bytes → All IsStep steps

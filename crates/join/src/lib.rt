@@ -2,11 +2,16 @@
 #![tactic(auto)]
 
 mod answer;
-mod joiner;
+mod line;
+mod lines;
 mod proof_text;
+mod room;
+mod steps;
 #[cfg(test)]
 mod tests;
 
 pub use answer::answer_bytes;
-pub use joiner::join;
+pub use line::ProofLine;
+pub use lines::Lines;
 pub use proof_text::proof_bytes;
+pub use steps::join;

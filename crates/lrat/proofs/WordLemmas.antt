@@ -1,10 +1,11 @@
 -- How a line grows, word by word.
-use Rattle.std.proofs.Common.{◌≡◌, ℕ, ◌+◌, ◌<◌, List, [], ◌∷◌, ◌++◌, map, length, drop, get_or, decimal, refl, sym, ap, ◌∙◌, append_assoc}
+use Rattle.std.proofs.Common.{◌≡◌, ℕ, ◌+◌, ◌<◌, List, [], ◌∷◌, ◌++◌, map, length, drop, get_or, decimal, refl, sym, ap, ◌∙◌, append_assoc, append-nil}
 use Rattle.std.proofs.lemmas.List.{drop_more}
 use Rattle.std.specs.List.{join_with_byte}
 use Rattle.theory.specs.Steps.{Group, Addition, Deletion, add, delete}
 use Rattle.theory.specs.Texts.{space, lf, literal_text, zero_text, group_words, groups_words, step_text, step_words}
-use Rattle.lrat.specs.Words.{spaced, Extends}
+use Rattle.theory.specs.Literals.{Clause}
+use Rattle.lrat.specs.Words.{spaced, begun_line, Extends}
 
 -- more bytes, and once more
 pub Extends-trans : (old mid new : List ℕ) → Extends old mid → Extends mid new → Extends old new
@@ -47,14 +48,20 @@ deletion-text d out id mark ids p q r =
 addition_words : Addition → List (List ℕ)
 addition_words a = decimal a.id ∷ ((map literal_text a.clause ++ zero_text ∷ []) ++ map decimal a.hints ++ groups_words a.groups)
 
+-- the line of an addition up to its groups, as it is written
+pub line-begun : (n : ℕ) (c : Clause) (ns : List ℕ) (out id clause mark hints : List ℕ) → id ≡ out ++ decimal n ++ space ∷ [] → clause ≡ id ++ spaced (map literal_text c) → mark ≡ clause ++ 48 ∷ space ∷ []
+    → hints ≡ mark ++ spaced (map decimal ns) → hints ≡ out ++ begun_line n c ns
+line-begun n c ns out id clause mark hints p q r s =
+    s ∙ ap (λ x. x ++ spaced (map decimal ns)) (r ∙ ap (λ x. x ++ 48 ∷ space ∷ []) (q ∙ ap (λ x. x ++ spaced (map literal_text c)) p)) ∙ joined
+  where
+    joined : ((((out ++ decimal n ++ space ∷ []) ++ spaced (map literal_text c)) ++ 48 ∷ space ∷ []) ++ spaced (map decimal ns)) ≡ out ++ begun_line n c ns
+    joined = simp append_assoc
+
 -- the text of an addition, as it is written
-pub addition-text : (a : Addition) (out id clause mark hints groups : List ℕ) → id ≡ out ++ decimal a.id ++ space ∷ []
-    → clause ≡ id ++ spaced (map literal_text a.clause) → mark ≡ clause ++ 48 ∷ space ∷ [] → hints ≡ mark ++ spaced (map decimal a.hints)
-    → groups ≡ hints ++ spaced (groups_words a.groups) → groups ++ 48 ∷ lf ∷ [] ≡ out ++ step_text (add a)
+pub addition-text : (a : Addition) (out hints groups : List ℕ) → hints ≡ out ++ begun_line a.id a.clause a.hints → groups ≡ hints ++ spaced (groups_words a.groups) → groups ++ 48 ∷ lf ∷ [] ≡ out ++ step_text (add a)
 unfolding addition_words
-addition-text a out id clause mark hints groups p q r s t =
+addition-text a out hints groups s t =
     ap (λ x. x ++ 48 ∷ lf ∷ []) t ∙ ap (λ x. (x ++ spaced (groups_words a.groups)) ++ 48 ∷ lf ∷ []) s
-    ∙ ap (λ x. ((x ++ spaced (map decimal a.hints)) ++ spaced (groups_words a.groups)) ++ 48 ∷ lf ∷ []) (r ∙ ap (λ x. x ++ 48 ∷ space ∷ []) (q ∙ ap (λ x. x ++ spaced (map literal_text a.clause)) p))
     ∙ joined
     ∙ ap (λ x. out ++ (x ++ lf ∷ [])) (sym words)
   where
@@ -64,6 +71,10 @@ addition-text a out id clause mark hints groups p q r s t =
     words : join_with_byte space (step_words (add a)) ≡ (decimal a.id ++ space ∷ (spaced (map literal_text a.clause) ++ 48 ∷ space ∷ (spaced (map decimal a.hints) ++ spaced (groups_words a.groups)))) ++ zero_text
     words = join-spaced (addition_words a) zero_text ∙ ap (λ x. x ++ zero_text) spaced_words
 
-    joined : ((((((out ++ decimal a.id ++ space ∷ []) ++ spaced (map literal_text a.clause)) ++ 48 ∷ space ∷ []) ++ spaced (map decimal a.hints)) ++ spaced (groups_words a.groups)) ++ 48 ∷ lf ∷ [])
+    joined : (((out ++ begun_line a.id a.clause a.hints) ++ spaced (groups_words a.groups)) ++ 48 ∷ lf ∷ [])
         ≡ out ++ (((decimal a.id ++ space ∷ (spaced (map literal_text a.clause) ++ 48 ∷ space ∷ (spaced (map decimal a.hints) ++ spaced (groups_words a.groups)))) ++ zero_text) ++ lf ∷ [])
     joined = simp append_assoc
+
+-- the text of an addition without groups
+pub clause-text : (n : ℕ) (c : Clause) (ns : List ℕ) (out hints : List ℕ) → hints ≡ out ++ begun_line n c ns → hints ++ 48 ∷ lf ∷ [] ≡ out ++ step_text (add (record { id = n; clause = c; hints = ns; groups = [] }))
+clause-text n c ns out hints e = addition-text (record { id = n; clause = c; hints = ns; groups = [] }) out hints hints e (sym (append-nil hints))

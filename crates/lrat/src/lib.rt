@@ -38,4 +38,4 @@ pub use size::line_size;
 pub use step::{Addition, Deletion, Group, Step};
 pub use stream::ProofStream;
 pub use word::MAX_NUMBER;
-pub use write::write_step;
+pub use write::{write_clause, write_step};

@@ -1,8 +1,9 @@
 //! The text of a step.
 ghost use Rattle.std.specs.Prelude.{◌≡◌, [], ◌∷◌, ◌++◌, map, codes, decimal, OnOk, OnErr};
 ghost use Rattle.theory.specs.Texts.{space, literal_text, group_words, groups_words, step_text};
+ghost use Rattle.theory.specs.Steps.{add};
 ghost use Rattle.lrat.specs.Steps.{step_of};
-ghost use Rattle.lrat.specs.Words.{spaced, Extends};
+ghost use Rattle.lrat.specs.Words.{spaced, begun_line, Extends};
 
 use crate::step::{Addition, Deletion, Group, Step};
 use cnf::Lit;
@@ -82,15 +83,44 @@ fn append_end(out: &mut Vec<u8>) -> Result<(), AllocError>
     out.extend_from_slice(b"0\n")
 }
 
+/// Appends a clause's number, the clause, and the hints before the first group.
+fn append_clause(
+    id: u64,
+    clause: &[Lit],
+    hints: &[u64],
+    out: &mut Vec<u8>,
+) -> Result<(), AllocError>
+    ensures ok { OnOk result (out.new.items ≡ out.old.items ++ begun_line id clause.now hints.now) }
+    ensures extends { Extends out.old.items out.new.items }
+{
+    append_number(id, out)?;
+    append_literals(clause, out)?;
+    out.extend_from_slice(b"0 ")?;
+    append_numbers(hints, out)?;
+    Ok(())
+}
+
+/// Appends the line of an addition without groups, of which only the parts are there: its words with single spaces, and a line feed. Where a
+/// growth is refused, a beginning of the line may stand. No other memory is taken.
+pub fn write_clause(
+    id: u64,
+    clause: &[Lit],
+    hints: &[u64],
+    out: &mut Vec<u8>,
+) -> Result<(), AllocError>
+    ensures { OnOk result (out.new.items ≡ out.old.items ++ step_text (add (record { id = id; clause = clause.now; hints = hints.now; groups = [] }))) }
+{
+    append_clause(id, clause, hints, out)?;
+    append_end(out)?;
+    Ok(())
+}
+
 /// Appends the line of an addition.
 fn append_addition(addition: &Addition, out: &mut Vec<u8>) -> Result<(), AllocError>
     ensures ok { OnOk result (out.new.items ≡ out.old.items ++ step_text (step_of (Step.Add addition.now))) }
     ensures extends { Extends out.old.items out.new.items }
 {
-    append_number(addition.id(), out)?;
-    append_literals(addition.clause(), out)?;
-    out.extend_from_slice(b"0 ")?;
-    append_numbers(addition.hints(), out)?;
+    append_clause(addition.id(), addition.clause(), addition.hints(), out)?;
     append_groups(addition.groups(), out)?;
     append_end(out)
 }

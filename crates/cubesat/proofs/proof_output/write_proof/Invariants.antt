@@ -1,6 +1,15 @@
-use Rattle.cubesat.proofs.ProofLemmas.{IsOnItsWay, text_to}
+use Rattle.std.proofs.Common.{length}
+use Rattle.theory.specs.Texts.{proof_text}
+use Rattle.join.specs.Walking.{lines_left, IsLawful}
+use Rattle.cubesat.proofs.ProofLemmas.{IsOnItsWay}
 use Rattle.cubesat.proofs.proof_output.write_proof.Given as goal
 
 -- the lines so far are written, or stand in the buffer
-abbrev pub invariant-loop-step : goal.invariant-loop-step
-invariant-loop-step g l = IsOnItsWay (g.W.Write.contents l.fn.writer) (g.W.Write.contents l.writer) l.buffer.items (text_to l.steps l.step-index)
+abbrev pub invariant-lines : goal.invariant-lines
+invariant-lines g l = record {
+  lawful : IsLawful l.lines;
+  way : IsOnItsWay (g.W.Write.contents l.fn.writer) (g.W.Write.contents l.writer) l.buffer.items (lines_left l.lines) (proof_text (lines_left l.fn.lines));
+}
+
+abbrev pub decreases-lines : goal.decreases-lines
+decreases-lines g l = length (lines_left l.lines)

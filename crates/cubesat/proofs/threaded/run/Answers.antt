@@ -1,6 +1,6 @@
-use Rattle.std.proofs.Common.{map, rules}
+use Rattle.std.proofs.Common.{rules}
 use Rattle.theory.specs.Texts.{proof_text}
-use Rattle.lrat.specs.Steps.{step_of}
+use Rattle.join.specs.Walking.{lines_left}
 use Rattle.cubesat.proofs.RunLemmas.{IsRunOf-made, RunSays-unread, RunSays-stopped}
 use Rattle.cubesat.proofs.threaded.run.Goals as goal
 
@@ -11,16 +11,16 @@ returns-in-Err g c =
 
 pub returns : goal.returns
 returns g c = record {
-  proof = proof_text (map step_of c.in-Ok-output_of.output.proof.items);
+  proof = proof_text (lines_left c.in-Ok-output_of.output.lines);
   answer = c.in-Ok-output_of.output.answer.items;
-  run = IsRunOf-made (g.R.Read.remaining c.args.input) c.args.budget c.in-Ok.formula c.in-Ok-output_of.output.verdict (proof_text (map step_of c.in-Ok-output_of.output.proof.items)) c.in-Ok-output_of.output.answer.items c.in-Ok.ensures c.in-Ok-output_of.ensures.texts;
-  proof_written = rw c.deref.ensures.value at c.in_ok-write_proof.ensures;
-  answer_written = rw c.deref-2.ensures.value at c.in_ok-write_text.ensures;
+  run = IsRunOf-made (g.R.Read.remaining c.args.input) c.args.budget c.in-Ok.formula c.in-Ok-output_of.output.verdict (proof_text (lines_left c.in-Ok-output_of.output.lines)) c.in-Ok-output_of.output.answer.items c.in-Ok.ensures c.in-Ok-output_of.ensures.texts;
+  proof_written = c.in_ok-write_proof.ensures;
+  answer_written = rw c.deref.ensures.value at c.in_ok-write_text.ensures;
 }
 
 pub returns-in_err-write_proof : goal.returns-in_err-write_proof
 returns-in_err-write_proof g c =
     RunSays-stopped (g.R.Read.remaining c.args.input) c.args.budget (g.P.Write.contents c.args.proof.now) (g.P.Write.contents c.write_proof.new.writer) (g.W.Write.contents c.args.answer.now) c.from_residual.result c.in_err-write_proof.field-0.0
-    c.in-Ok-output_of.output.verdict (proof_text (map step_of c.in-Ok-output_of.output.proof.items)) c.in-Ok-output_of.output.answer.items (search rules)
-    (IsRunOf-made (g.R.Read.remaining c.args.input) c.args.budget c.in-Ok.formula c.in-Ok-output_of.output.verdict (proof_text (map step_of c.in-Ok-output_of.output.proof.items)) c.in-Ok-output_of.output.answer.items c.in-Ok.ensures c.in-Ok-output_of.ensures.texts)
-    (rw c.deref.ensures.value at c.in_err-write_proof.ensures)
+    c.in-Ok-output_of.output.verdict (proof_text (lines_left c.in-Ok-output_of.output.lines)) c.in-Ok-output_of.output.answer.items (search rules)
+    (IsRunOf-made (g.R.Read.remaining c.args.input) c.args.budget c.in-Ok.formula c.in-Ok-output_of.output.verdict (proof_text (lines_left c.in-Ok-output_of.output.lines)) c.in-Ok-output_of.output.answer.items c.in-Ok.ensures c.in-Ok-output_of.ensures.texts)
+    c.in_err-write_proof.ensures

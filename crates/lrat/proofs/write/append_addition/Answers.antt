@@ -5,7 +5,5 @@ use Rattle.lrat.proofs.write.append_addition.Goals as goal
 pub returns-clause-ok : goal.returns-clause-ok
 returns-clause-ok c =
     IfOk-equal _ _ _ _ c.append_end.ensures.ok
-    (addition-text c.args.addition.now c.args.out.now.items c.append_number.new.out.items c.append_literals.new.out.items c.extend_from_slice.new.self.items
-    c.append_numbers.new.out.items c.append_groups.new.out.items (rw (← c.id.ensures.id) c.in_ok-append_number.ensures.ok)
-    (rw (← c.clause.ensures.clause) c.in_ok-append_literals.ensures.ok) c.in_ok-extend_from_slice.ensures.items
-    (rw (← c.hints.ensures.hints) c.in_ok-append_numbers.ensures.ok) (rw (← c.groups.ensures.groups) c.in_ok-append_groups.ensures.ok))
+    (addition-text c.args.addition.now c.args.out.now.items c.append_clause.new.out.items c.append_groups.new.out.items
+    (rw (← c.id.ensures.id, ← c.clause.ensures.clause, ← c.hints.ensures.hints) c.in_ok-append_clause.ensures.ok) (rw (← c.groups.ensures.groups) c.in_ok-append_groups.ensures.ok))

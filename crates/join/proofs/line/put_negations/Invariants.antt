@@ -1,6 +1,6 @@
 use Rattle.std.proofs.Common.{◌≡◌, ◌++◌, map, drop}
 use Rattle.join.proofs.CubeLemmas.{opposite}
-use Rattle.join.proofs.joiner.put_negations.Given as goal
+use Rattle.join.proofs.line.put_negations.Given as goal
 
 -- what is left gives the rest
 abbrev pub invariant-loop-half : goal.invariant-loop-half

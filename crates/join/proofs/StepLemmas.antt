@@ -1,0 +1,112 @@
+-- The numbers in a tree's proof are within their limits, where its text is no longer than a proof may be.
+use Rattle.std.proofs.Common.{◌≡◌, ℕ, suc, ◌+◌, ◌-◌, ◌<◌, ◌≤◌, true, List, [], ◌∷◌, ◌++◌, length, length-append, map, None, refl, ap, sym, subst, ◌∙◌, append_assoc, arith, All}
+use Rattle.std.proofs.lemmas.List.Elements.{All-nil, All-cons, All-push, All-append, All-weaker, All-map}
+use Rattle.std.proofs.lemmas.List.{map-append}
+use Rattle.lrat.specs.declared.step.Step as steps
+use Rattle.lrat.specs.Steps.{step_of}
+use Rattle.theory.specs.Literals.{Literal, IsVariable, positive, negative, negated, negations}
+use Rattle.theory.specs.Truth.{Formula, IsOver}
+use Rattle.theory.specs.Reading.{IsWithinLimits, max_vars}
+use Rattle.theory.specs.Learning.{Line}
+use Rattle.theory.specs.Search.{refuted, exhausted, first_clauses}
+use Rattle.theory.specs.Steps.{Step}
+use Rattle.std.specs.List.{join_with_byte}
+use Rattle.theory.specs.Texts.{lf, space, step_words, step_text, proof_text}
+use Rattle.theory.specs.Trees.{Tree, satisfied, refutation, split, IsTree, first_model, false_half, true_half}
+use Rattle.theory.specs.Proofs.{additions, renumbered, leaf_steps, tree_steps, split_steps, proof}
+use Rattle.theory.specs.ProofReading.{IsStep, max_number, max_proof_bytes}
+use Rattle.theory.specs.Lawful.{are_distinct}
+use Rattle.theory.proofs.AcceptedProofs.{or_else-none}
+use Rattle.theory.proofs.OutcomeLemmas.{Runs-says}
+use Rattle.theory.proofs.OverVariables.{AreOver, IsOver-from_AreOver, AreOver-snoc}
+use Rattle.theory.proofs.TrailEntries.{are_distinct-push, IsCube-distinct}
+use Rattle.join.specs.Joining.{split_line, learnt_line}
+use Rattle.join.specs.Numbered.{AreUpTo, AreLines}
+use Rattle.join.proofs.NumberLemmas.{AreUpTo-renumbered, IsAddition-line}
+use Rattle.join.proofs.TreeLemmas.{refutation-lines}
+
+-- each line of a text has a byte
+pub few-steps : (steps : List Step) → length steps ≤ length (proof_text steps)
+few-steps [] = omega arith
+few-steps (s ∷ ss) =
+    let more = few-steps ss in
+    let whole = length-append (step_text s) (proof_text ss) in
+    let line : 1 ≤ length (step_text s) = let e = length-append {A = ℕ} (join_with_byte space (step_words s)) (lf ∷ []) in omega (arith, e) in
+    omega arith
+
+leaf-length : (N first n : ℕ) (Q : List Literal) (lines : List Line) → length (leaf_steps N first n Q lines) ≡ length lines
+leaf-length N first n Q [] = refl
+leaf-length N first n Q (line ∷ lines) = ap suc (leaf-length N first (n + 1) Q lines)
+
+tree-length : (N n : ℕ) (Q : List Literal) (t : Tree) → length (tree_steps N n Q t) ≡ additions t
+tree-length N n Q (satisfied M) = refl
+tree-length N n Q (refutation lines) = leaf-length N n n Q lines
+tree-length N n Q (split x l r) =
+    let left = tree-length N n (false_half Q x) l in
+    let right = tree-length N (n + additions l) (true_half Q x) r in
+    let all = length-append (tree_steps N n (false_half Q x) l ++ tree_steps N (n + additions l) (true_half Q x) r)
+    (split_steps (n + additions l + additions r) Q (n + additions l - 1) (n + additions l + additions r - 1)) in
+    let both = length-append (tree_steps N n (false_half Q x) l) (tree_steps N (n + additions l) (true_half Q x) r) in
+    omega arith
+
+IsOver-opposites : (V : ℕ) (Q : List Literal) → V ≤ max_vars → IsOver V Q → IsOver max_vars (negations Q)
+IsOver-opposites V Q few h =
+    All-map (λ (l : Literal). IsVariable max_vars l.var) negated Q (All-weaker (λ (l : Literal). IsVariable V l.var) (λ (l : Literal). IsVariable max_vars (negated l).var) (λ l v. let low = v.0 in let high = v.1 in (low, omega arith)) Q h)
+
+leaf-steps : (N first n k : ℕ) (Q : List Literal) (lines : List Line) → N < first → n ≡ first + k → n + length lines ≤ max_number + 1 → IsOver max_vars (negations Q) → AreLines (N + k) lines
+    → All IsStep (leaf_steps N first n Q lines)
+leaf-steps N first n k Q [] low number fits over h = All-nil IsStep
+leaf-steps N first n k Q (line ∷ lines) low number fits over h =
+    let later : N + k + 1 ≡ N + (k + 1) = omega arith in
+    let before : first + k - 1 ≡ n - 1 = omega arith in
+    All-cons IsStep (learnt_line N first n Q line) (leaf_steps N first (n + 1) Q lines)
+    (IsAddition-line n (line.clause ++ negations Q) (map (renumbered N first) line.hints) (omega arith) (omega arith) (All-append (λ (l : Literal). IsVariable max_vars l.var) line.clause (negations Q) h.0 over)
+    (subst (λ m. AreUpTo m (map (renumbered N first) line.hints)) before (AreUpTo-renumbered N first k line.hints low h.1)))
+    (leaf-steps N first (n + 1) (k + 1) Q lines low (omega arith) (omega arith) over (subst (λ m. AreLines m lines) later h.2))
+
+-- the lines of a tree without a model, of which there is one at least
+tree-steps : (F : Formula) (B n : ℕ) (Q : List Literal) (t : Tree) → IsWithinLimits F → are_distinct Q ≡ true → AreOver F.vars Q → IsTree F B Q t → first_model t ≡ None → length (first_clauses F) < n
+    → n + additions t ≤ max_number + 1 → All IsStep (tree_steps (length (first_clauses F)) n Q t) × (1 ≤ additions t)
+tree-steps F B n Q (satisfied M) within distinct over h none low fits = absurd (cc)
+tree-steps F B n Q (refutation lines) within distinct over h none low fits =
+    let are = refutation-lines F Q lines within (Runs-says F B Q (refuted lines) within.formula (IsCube-distinct Q distinct) (IsOver-from_AreOver F.vars Q over) h).1 in
+    let same : length (first_clauses F) + 0 ≡ length (first_clauses F) = omega arith in (
+      leaf-steps (length (first_clauses F)) n n 0 Q lines low (omega arith) fits (IsOver-opposites F.vars Q within.vars (IsOver-from_AreOver F.vars Q over))
+          (subst (λ m. AreLines m lines) (sym same) are.1),
+      are.0,
+    )
+tree-steps F B n Q (split x l r) within distinct over h none low fits =
+    let both = or_else-none (first_model l) (first_model r) none in
+    let says = Runs-says F B Q (exhausted x) within.formula (IsCube-distinct Q distinct) (IsOver-from_AreOver F.vars Q over) h.0 in
+    let left = tree-steps F B n (false_half Q x) l within (are_distinct-push Q (negative x) distinct says.1) (AreOver-snoc F.vars Q (negative x) over says.0) h.1 both.0 low (omega arith) in
+    let right = tree-steps F B (n + additions l) (true_half Q x) r within (are_distinct-push Q (positive x) distinct says.1) (AreOver-snoc F.vars Q (positive x) over says.0) h.2 both.1 (omega arith) (omega arith) in
+    let some = left.1 in
+    let more = right.1 in
+    let hints : AreUpTo (n + additions l + additions r - 1) ((n + additions l - 1) ∷ (n + additions l + additions r - 1) ∷ []) =
+    All-cons (λ h. (1 ≤ h) × (h ≤ n + additions l + additions r - 1)) (n + additions l - 1) ((n + additions l + additions r - 1) ∷ []) (omega arith, omega arith)
+    (All-cons (λ h. (1 ≤ h) × (h ≤ n + additions l + additions r - 1)) (n + additions l + additions r - 1) [] (omega arith, omega arith) (All-nil (λ h. (1 ≤ h) × (h ≤ n + additions l + additions r - 1)))) in
+    let over_all : IsOver max_vars (negations Q) = IsOver-opposites F.vars Q within.vars (IsOver-from_AreOver F.vars Q over) in
+    let last : All IsStep (split_steps (n + additions l + additions r) Q (n + additions l - 1) (n + additions l + additions r - 1)) =
+    All-cons IsStep (split_line (n + additions l + additions r) Q (n + additions l - 1) (n + additions l + additions r - 1)) []
+    (IsAddition-line (n + additions l + additions r) (negations Q) ((n + additions l - 1) ∷ (n + additions l + additions r - 1) ∷ []) (omega arith) (omega arith) over_all hints) (All-nil IsStep) in
+    let N = length (first_clauses F) in (
+      All-append IsStep (tree_steps N n (false_half Q x) l ++ tree_steps N (n + additions l) (true_half Q x) r) (split_steps (n + additions l + additions r) Q (n + additions l - 1) (n + additions l + additions r - 1))
+          (All-append IsStep (tree_steps N n (false_half Q x) l) (tree_steps N (n + additions l) (true_half Q x) r) left.0 right.0) last,
+      omega arith,
+    )
+
+pub proof-within : (F : Formula) (B : ℕ) (t : Tree) → IsWithinLimits F → IsTree F B [] t → first_model t ≡ None → length (proof_text (proof F t)) ≤ max_proof_bytes → All IsStep (proof F t)
+proof-within F B t within h none short =
+    let few = few-steps (proof F t) in
+    let count = tree-length (length (first_clauses F)) (length (first_clauses F) + 1) [] t in
+    let clauses = within.clauses in
+    (tree-steps F B (length (first_clauses F) + 1) [] t within refl (λ l a. absurd (cc)) h none (omega arith) (omega arith)).0
+
+-- a line more in the list of steps
+pub steps-more : (old new : List steps.Step) (step : steps.Step) (line : Step) (before after whole : List Step) → All IsStep (map step_of old) → map step_of old ++ before ≡ whole → before ≡ line ∷ after → IsStep line
+    → new ≡ old ++ step ∷ [] → step_of step ≡ line → All IsStep (map step_of new) × (map step_of new ++ after ≡ whole)
+steps-more old new step line before after whole within is goes fits pushed same =
+    let made : map step_of new ≡ map step_of old ++ line ∷ [] = ap (map step_of) pushed ∙ map-append step_of old (step ∷ []) ∙ ap (λ s. map step_of old ++ s ∷ []) same in (
+      subst (All IsStep) (sym made) (All-push IsStep (map step_of old) line within fits),
+      ap (λ ss. ss ++ after) made ∙ append_assoc (map step_of old) (line ∷ []) after ∙ ap (λ ss. map step_of old ++ ss) (sym goes) ∙ is,
+    )

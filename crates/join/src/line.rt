@@ -1,0 +1,141 @@
+//! A line of a proof: what a leaf's line or a split gives.
+ghost use Rattle.std.specs.Prelude.{◌≡◌, ℕ, ◌≤◌, ◌<◌, ◌^◌, ◌+◌, ◌-◌, ◌++◌, map, reverse, All, IfOk, OnOk};
+ghost use Rattle.theory.specs.Literals.{IsVariable, negations};
+ghost use Rattle.theory.specs.Truth.{IsOver};
+ghost use Rattle.theory.specs.Reading.{max_vars, max_clauses};
+ghost use Rattle.theory.specs.Proofs.{renumbered};
+ghost use Rattle.theory.specs.ProofReading.{IsStep, max_number};
+ghost use Rattle.lrat.specs.Steps.{step_of};
+ghost use Rattle.join.specs.Joining.{cube_of, learnt_line, split_line};
+ghost use Rattle.join.specs.Numbered.{AreUpTo};
+ghost use Rattle.join.specs.Walking.{line_of};
+
+use cdcl::Line;
+use cnf::Lit;
+use lrat::{Addition, Step};
+use std::alloc::{AllocError, Global};
+
+/// A split on the way from the root: the way goes on in the half where the variable is false, or, once that half's last line has its
+/// number, in the half where it is true.
+#[derive(Drop)]
+pub(crate) struct Half {
+    pub(crate) var: u32,
+    pub(crate) left: Option<u64>,
+}
+
+/// A line of a proof: the clause's number, the clause, and the numbers of its hints. It takes up one line after the other, and so keeps its memory.
+#[derive(Drop)]
+pub struct ProofLine {
+    pub id: u64,
+    pub clause: Vec<Lit>,
+    pub hints: Vec<u64>,
+}
+
+/// Puts the negations of the cube's literals behind a clause.
+fn put_negations(halves: &[Half], clause: &mut Vec<Lit>) -> Result<(), AllocError>
+    requires { All (λ h. (1 ≤ h.var) × (h.var < 2 ^ 31)) halves.now }
+    ensures { OnOk result (clause.new.items ≡ clause.old.items ++ negations (cube_of (reverse halves.now))) }
+{
+    for half in halves {
+        // While the left half has no last line yet, the cube holds the variable as false.
+        clause.push(Lit::of(half.var, half.left.is_none()))?;
+    }
+    Ok(())
+}
+
+/// The number in the proof of a clause or a line of the cube, where the cube's first line has the number `first`.
+fn renumbered(hint: u64, clauses: u64, first: u64) -> u64
+    requires { hint + first < 2 ^ 64 }
+    ensures { result ≡ renumbered clauses first hint }
+{
+    if hint <= clauses {
+        hint
+    } else {
+        first + (hint - clauses - 1)
+    }
+}
+
+/// Puts a cube's hints behind others, by their numbers in the proof.
+fn put_renumbered(
+    hints: &[u64],
+    clauses: u64,
+    first: u64,
+    out: &mut Vec<u64>,
+) -> Result<(), AllocError>
+    requires { All (λ h. h + first < 2 ^ 64) hints.now }
+    ensures { OnOk result (out.new.items ≡ out.old.items ++ map (renumbered clauses first) hints.now) }
+{
+    for hint in hints {
+        out.push(renumbered(*hint, clauses, first))?;
+    }
+    Ok(())
+}
+
+impl ProofLine {
+    /// A line that takes no more memory while clauses and hints have no more elements.
+    pub(crate) fn with_room(
+        alloc: Global,
+        literals: usize,
+        hints: usize,
+    ) -> Result<ProofLine, AllocError> {
+        Ok(ProofLine {
+            id: 0,
+            clause: Vec::with_capacity(alloc, literals)?,
+            hints: Vec::with_capacity(alloc, hints)?,
+        })
+    }
+
+    /// Becomes the line for a line of a leaf, whose first one has the number `first`.
+    pub(crate) fn learn(
+        &mut self,
+        id: u64,
+        learnt: &Line,
+        halves: &[Half],
+        clauses: u64,
+        first: u64,
+    ) -> Result<(), AllocError>
+        requires id { (first ≤ id) × (id ≤ max_number) }
+        requires first { (clauses < first) × (clauses ≤ max_clauses) }
+        requires halves { All (λ h. IsVariable max_vars h.var) halves.now }
+        requires clause { IsOver max_vars learnt.now.clause }
+        requires hints { AreUpTo (clauses + (id - first)) learnt.now.hints }
+        ensures line { OnOk result (line_of self.new ≡ learnt_line clauses first id (cube_of (reverse halves.now)) learnt.now) }
+        ensures within { OnOk result (IsStep (line_of self.new)) }
+    {
+        self.id = id;
+        self.clause.clear();
+        self.clause.extend_from_slice(learnt.clause())?;
+        put_negations(halves, &mut self.clause)?;
+        self.hints.clear();
+        put_renumbered(learnt.hints(), clauses, first, &mut self.hints)?;
+        Ok(())
+    }
+
+    /// Becomes the line of a split, behind the last line of the right half; `left` is the number of the left half's last line.
+    pub(crate) fn split(&mut self, id: u64, left: u64, halves: &[Half]) -> Result<(), AllocError>
+        requires id { id ≤ max_number }
+        requires left { (1 ≤ left) × (left < id) }
+        requires halves { All (λ h. IsVariable max_vars h.var) halves.now }
+        ensures line { OnOk result (line_of self.new ≡ split_line id (cube_of (reverse halves.now)) left (id - 1)) }
+        ensures within { OnOk result (IsStep (line_of self.new)) }
+    {
+        self.id = id;
+        self.clause.clear();
+        put_negations(halves, &mut self.clause)?;
+        self.hints.clear();
+        self.hints.push(left)?;
+        self.hints.push(id - 1)?;
+        Ok(())
+    }
+
+    /// The line as a step with memory of its own.
+    pub(crate) fn to_step(&self, alloc: Global) -> Result<Step, AllocError>
+        requires { IsStep (line_of self.now) }
+        ensures { IfOk result (λ step. step_of step ≡ line_of self.now) }
+    {
+        let clause = Vec::from_slice(alloc, &self.clause)?;
+        let hints = Vec::from_slice(alloc, &self.hints)?;
+        let addition = Addition::new(self.id, clause, hints, Vec::new(alloc));
+        Ok(Step::Add(addition))
+    }
+}
