@@ -2,6 +2,7 @@ pub mod WrittenLemmas
 pub mod TextLemmas
 pub mod RunLemmas
 pub mod OneRun
+pub mod RightAnswers
 pub mod CheckLemmas
 pub mod CheckRuns
 pub mod StreamedLemmas

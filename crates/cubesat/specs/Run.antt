@@ -1,23 +1,17 @@
 -- What a run has read and written.
-use Rattle.std.specs.Prelude.{◌≡◌, ◌≢◌, ℕ, ◌+◌, ◌≤◌, List, length, Option, take, IfSome, Result, Ok, Err, ◌⊎◌}
+use Rattle.std.specs.Prelude.{◌≡◌, ◌≢◌, ℕ, ◌+◌, List, Option, take, IfSome, Result, Ok, Err, ◌⊎◌}
 use Rattle.std.specs.Io.KnownBytes.{Appends, Keeps}
 use Rattle.theory.specs.Truth as truth
 use Rattle.theory.specs.Reading.{Reads, formula, max_bytes}
-use Rattle.theory.specs.Steps.{Step}
-use Rattle.theory.specs.ProofReading.{ProofReads, steps, max_proof_bytes}
-use Rattle.theory.specs.Checking.{checks, accepted}
 use Rattle.theory.specs.Written.{IsSatisfiableText, IsUnsatisfiableText}
 use Rattle.cnf.specs.declared.fault.ReadFault.{ReadFault}
 use Rattle.cnf.specs.declared.fault.ReadFault.TheVariants as reading
 use Rattle.cnf.specs.Faults.{IsReadOf}
+use Rattle.cubesat.specs.Answer.{IsAccepted}
 use Rattle.cubesat.specs.declared.fault.RunFault.{RunFault}
 use Rattle.cubesat.specs.declared.fault.RunFault.TheVariants.{Read, NoMemory, ProofWriteFailed, AnswerWriteFailed, ProofReadFailed}
 use Rattle.cubesat.specs.declared.verdict.Verdict.{Verdict}
 use Rattle.cubesat.specs.declared.verdict.Verdict.TheVariants.{Satisfiable, Unsatisfiable}
-
--- where a proof's text is no longer than such a text may be, it is read as steps that the checker accepts
-abbrev pub IsAccepted : truth.Formula → List ℕ → Type 0
-IsAccepted F proof = length proof ≤ max_proof_bytes → (ss : List Step) × ProofReads proof (steps ss) × (checks F ss ≡ accepted)
 
 -- the texts of the proof and the answer for a formula and a budget, and the verdict that they give
 abbrev pub AreTexts : truth.Formula → ℕ → Verdict → List ℕ → List ℕ → Type 0

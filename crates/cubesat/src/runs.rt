@@ -3,6 +3,7 @@ ghost use Rattle.std.specs.Prelude.{◌≡◌, ◌≤◌, [], IfOk};
 ghost use Rattle.theory.specs.Texts.{proof_text};
 ghost use Rattle.join.specs.Walking.{lines_left, IsLawful};
 ghost use Rattle.cubes.specs.Result.{IsResultOf, Says};
+ghost use Rattle.cubesat.specs.Answer.{IsRightAnswer};
 ghost use Rattle.cubesat.specs.Run.{AreTexts, RunSays};
 ghost use Rattle.cubesat.specs.Written.{IsAnswer};
 
@@ -76,7 +77,8 @@ pub(crate) fn output_of(
 }
 
 /// Decides the formula of a DIMACS text, with a budget of 1 to 100,000 conflicts a cube: writes the proof, flushes it, and then writes and
-/// flushes the answer. The proof of a satisfiable formula is empty. `RunFault` says when each fault comes and what is written then.
+/// flushes the answer. The proof of a satisfiable formula is empty. `RunFault` says when each fault comes and what is written then. Of the two
+/// clauses `says` is all of it, with the very bytes; `answer_is_right` says of a run that ends well only that its answer is right.
 pub fn run_one<R: Read + Drop, W: Write, P: Write>(
     alloc: Global,
     input: R,
@@ -85,7 +87,8 @@ pub fn run_one<R: Read + Drop, W: Write, P: Write>(
     budget: u32,
 ) -> Result<Verdict, RunFault>
     requires { (1 ≤ budget) × (budget ≤ 100000) }
-    ensures { RunSays (R.remaining input) budget (P.contents proof.old) (P.contents proof.new) (W.contents answer.old) (W.contents answer.new) result }
+    ensures says { RunSays (R.remaining input) budget (P.contents proof.old) (P.contents proof.new) (W.contents answer.old) (W.contents answer.new) result }
+    ensures answer_is_right { IfOk result (IsRightAnswer (R.remaining input) (P.contents proof.old) (P.contents proof.new) (W.contents answer.old) (W.contents answer.new)) }
 {
     let formula = match read_from(alloc, input) {
         Ok(formula) => formula,

@@ -1,5 +1,6 @@
 //! A run by several hands.
-ghost use Rattle.std.specs.Prelude.{◌≤◌};
+ghost use Rattle.std.specs.Prelude.{◌≤◌, IfOk};
+ghost use Rattle.cubesat.specs.Answer.{IsRightAnswer};
 ghost use Rattle.cubesat.specs.Run.{RunSays};
 
 use crate::fault::RunFault;
@@ -28,7 +29,8 @@ pub fn run<T: Threads + Wait + Sync, R: Read + Drop, W: Write, P: Write, G: Gate
 ) -> Result<Verdict, RunFault>
     requires budget { (1 ≤ budget) × (budget ≤ 100000) }
     requires hands { (1 ≤ hands) × (hands ≤ 16) }
-    ensures { RunSays (R.remaining input) budget (P.contents proof.old) (P.contents proof.new) (W.contents answer.old) (W.contents answer.new) result }
+    ensures says { RunSays (R.remaining input) budget (P.contents proof.old) (P.contents proof.new) (W.contents answer.old) (W.contents answer.new) result }
+    ensures answer_is_right { IfOk result (IsRightAnswer (R.remaining input) (P.contents proof.old) (P.contents proof.new) (W.contents answer.old) (W.contents answer.new)) }
 {
     let formula = match read_from(alloc, input) {
         Ok(formula) => formula,

@@ -62,6 +62,35 @@ IsLearnable-two T l f e at one level free = record {
     or-any true = refl
     or-any false = refl
 
+-- the same, the free one first
+pub IsLearnable-turned : (T : Trail) (f l : Literal) (e : Entry) → entry_of T l.var ≡ Some e → same e.lit (negated l) ≡ true → e.level ≡ current_level T
+    → has_var (literals T) f.var ≡ false → IsLearnable T (f ∷ l ∷ [])
+IsLearnable-turned T f l e at one level free = record {
+  distinct = rw apart refl;
+  free = f;
+  unit = rw (taken, free, there, same-refl f, or-any (same f l)) refl;
+  latest = inr (l, has-tail f l (l ∷ []) (has-head l []), other, ap level_at at ∙ level);
+}
+  where
+    there : has (literals T) (negated l) ≡ true
+    there = value-literal T (negated l) (not l.positive) (ap (option_map (λ (x : Entry). x.lit.positive)) at ∙ ap (λ (x : Literal). Some x.positive) (same-eq e.lit (negated l) one)) refl
+
+    taken : has_var (literals T) l.var ≡ true
+    taken = has_var-has (literals T) (negated l) there
+
+    differ : f.var ≡ l.var → ⊥
+    differ v = true_false (has_var (literals T) l.var) taken (subst (λ v. has_var (literals T) v ≡ false) v free)
+
+    apart : nat_eq f.var l.var ≡ false
+    apart = false_unless (nat_eq f.var l.var) (λ t. differ (eqb-true f.var l.var t))
+
+    other : same f l ≡ false
+    other = false_unless (same f l) (λ t. differ (ap (λ (x : Literal). x.var) (same-eq f l t)))
+
+    or-any : (b : Bool) → b || true ≡ true
+    or-any true = refl
+    or-any false = refl
+
 pub IsOver-three : (V : ℕ) (k l f : Literal) → IsVariable V k.var → IsVariable V l.var → IsVariable V f.var → IsOver V (k ∷ l ∷ f ∷ [])
 IsOver-three V k l f h i j = All-cons (λ (x : Literal). IsVariable V x.var) k (l ∷ f ∷ []) h (IsOver-two V l f i j)
 

@@ -9,6 +9,7 @@ use cnf::{Lit, read_formula};
 use std::alloc::{AllocError, Global};
 use std::test::Fail;
 
+mod all_runs;
 mod dice;
 mod look_ups;
 mod restarts;
@@ -78,21 +79,35 @@ fn reads(clause: &[Lit], wanted: &[i32]) -> bool {
     true
 }
 
-/// Whether the variables have these values.
-fn has_values(kernel: &Kernel, wanted: &[(u32, Option<bool>)]) -> bool {
-    for want in wanted {
-        let value = kernel.value(want.0);
-        let positive = kernel.entry(want.0).map(|entry| entry.lit.positive());
-        if value != want.1 || positive != want.1 {
+/// Whether two trails are the same.
+fn are_same(left: &[Entry], right: &[Entry]) -> bool {
+    if left.len() != right.len() {
+        return false;
+    }
+    for (one, other) in left.iter().zip(right) {
+        let one = *one;
+        let other = *other;
+        if !one.lit.same(&other.lit) || one.reason != other.reason || one.level != other.level {
             return false;
         }
     }
     true
 }
 
+/// The literals of these numbers.
+fn lits_of(alloc: Global, numbers: &[i32]) -> Result<Vec<Lit>, AllocError> {
+    let mut lits = Vec::new(alloc);
+    for number in numbers {
+        if let Some(lit) = Lit::new(*number) {
+            lits.push(lit)?;
+        }
+    }
+    Ok(lits)
+}
+
 /// What comes before the next propagation.
 #[derive(Clone, Copy)]
-enum Act {
+enum Act<'a> {
     Nothing,
     /// A decision of a free variable.
     Decide(i32),
@@ -101,6 +116,8 @@ enum Act {
     LearnUnit(i32),
     /// Going back, and a clause of a literal that is false at the level and a free one.
     LearnPair(u32, i32, i32),
+    /// Another cube.
+    Restart(&'a [i32]),
 }
 
 /// Whether the literal is of a free variable.
@@ -171,6 +188,21 @@ fn learn_pair(kernel: &mut Kernel, number: i32, free: i32) -> Result<bool, Alloc
     Ok(reads(kernel.clause(learnt), &[number, free.number()]))
 }
 
+/// As `learn_pair`, with the free literal first.
+fn learn_turned_pair(kernel: &mut Kernel, number: i32, free: i32) -> Result<bool, AllocError> {
+    let (Some(lit), Some(free)) = (Lit::new(number), Lit::new(free)) else {
+        return Ok(false);
+    };
+    let Some(entry) = falsifier(kernel, lit) else {
+        return Ok(false);
+    };
+    if entry.level != kernel.level() || !is_free(kernel, free) {
+        return Ok(false);
+    }
+    let learnt = kernel.learn(&[free, lit])?;
+    Ok(reads(kernel.clause(learnt), &[free.number(), number]))
+}
+
 /// The entry that makes a literal false, if one does.
 fn falsifier(kernel: &Kernel, lit: Lit) -> Option<Entry>
     ensures { IfSome result (λ e. IsVariable kernel.now.vars lit.var × (entry_of kernel.now.trail lit.var ≡ Some e) × (same e.lit (negated lit) ≡ true)) }
@@ -208,7 +240,12 @@ fn learn_three(kernel: &mut Kernel, numbers: [i32; 3]) -> Result<bool, AllocErro
     Ok(reads(kernel.clause(learnt), &numbers))
 }
 
-fn acts(kernel: &mut Kernel, act: Act) -> Result<bool, AllocError> {
+fn restart(alloc: Global, kernel: &mut Kernel, numbers: &[i32]) -> Result<(), AllocError> {
+    let cube = cube_of(alloc, kernel.vars(), numbers)?;
+    kernel.restart(&cube)
+}
+
+fn acts(alloc: Global, kernel: &mut Kernel, act: Act) -> Result<bool, AllocError> {
     match act {
         Act::Nothing => Ok(true),
         Act::Decide(number) => decide(kernel, number),
@@ -225,18 +262,39 @@ fn acts(kernel: &mut Kernel, act: Act) -> Result<bool, AllocError> {
             }
             learn_pair(kernel, number, free)
         }
+        Act::Restart(numbers) => {
+            restart(alloc, kernel, numbers)?;
+            Ok(true)
+        }
     }
 }
 
-/// Whether an act can be done, and propagation then answers this and leaves these entries.
-fn row(
-    kernel: &mut Kernel,
-    act: Act,
+/// An act, what propagation then answers, and the entries that it leaves: number, reason or 0, level.
+#[derive(Clone, Copy)]
+struct Row<'a> {
+    act: Act<'a>,
     answer: Closed,
-    wanted: &[(i32, u64, u32)],
-) -> Result<bool, AllocError> {
-    if !acts(kernel, act)? {
-        return Ok(false);
+    wanted: &'a [(i32, u64, u32)],
+}
+
+impl<'a> Row<'a> {
+    fn new(act: Act<'a>, answer: Closed, wanted: &'a [(i32, u64, u32)]) -> Row<'a> {
+        Row {
+            act,
+            answer,
+            wanted,
+        }
     }
-    Ok(kernel.close()? == answer && stands(kernel, wanted))
+}
+
+/// Whether a kernel that is opened with a cube goes through these rows.
+fn goes(alloc: Global, text: &[u8], numbers: &[i32], rows: &[Row]) -> Result<bool, Fail> {
+    let mut kernel = opened(alloc, text, numbers)?;
+    for row in rows {
+        let is_done = acts(alloc, &mut kernel, row.act)?;
+        if !is_done || kernel.close()? != row.answer || !stands(&kernel, row.wanted) {
+            return Ok(false);
+        }
+    }
+    Ok(true)
 }

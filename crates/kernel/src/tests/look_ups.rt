@@ -1,64 +1,113 @@
 //! Worked look-ups: values, entries, levels and the least free variable; and cubes.
-use super::{Act, cube_of, decide, has_values, opened, reads, row};
+use super::{Act, acts, cube_of, decide, opened, reads};
 use crate::{Closed, Cube, Kernel};
-use std::alloc::AllocError;
+use std::alloc::{AllocError, Global};
 use std::test::Fail;
+
+/// What look-ups answer after propagation came to rest: the level, the least free variable, and the values of the numbers from 0 on.
+#[derive(Clone, Copy)]
+struct Seen<'a> {
+    act: Act<'a>,
+    level: u32,
+    least_free: Option<u32>,
+    values: &'a [Option<bool>],
+}
+
+/// Whether the variables have these values and, where they have one, an entry of that sign, in its place.
+fn has_values(kernel: &Kernel, wanted: &[Option<bool>]) -> bool {
+    let mut var = 0u32;
+    for value in wanted {
+        let positive = kernel.entry(var).map(|entry| entry.lit.positive());
+        if kernel.value(var) != *value || positive != *value || !has_place(kernel, var) {
+            return false;
+        }
+        var = var.saturating_add(1);
+    }
+    true
+}
+
+/// Whether a variable's place is that of its entry, and none while it is free.
+fn has_place(kernel: &Kernel, var: u32) -> bool {
+    match kernel.place(var) {
+        None => kernel.value(var).is_none(),
+        Some(place) => match kernel.trail().get(place) {
+            None => false,
+            Some(entry) => {
+                let entry = *entry;
+                entry.lit.var() == var
+            }
+        },
+    }
+}
+
+fn sees(alloc: Global, text: &[u8], wanted: &[Seen]) -> Result<bool, Fail> {
+    let mut kernel = opened(alloc, text, &[])?;
+    for seen in wanted {
+        if !acts(alloc, &mut kernel, seen.act)? || kernel.close()? != Closed::Quiet {
+            return Ok(false);
+        }
+        let found = (kernel.level(), kernel.least_free());
+        if found != (seen.level, seen.least_free) || !has_values(&kernel, seen.values) {
+            return Ok(false);
+        }
+    }
+    Ok(true)
+}
 
 #[test]
 fn no_variables(rt: HostRuntime) -> Result<(), Fail> {
-    let mut kernel = opened(rt.alloc(), b"p cnf 0 0\n", &[])?;
-    assert!(rt; row(&mut kernel, Act::Nothing, Closed::Quiet, &[])?);
-    assert_eq!(rt;
-        (kernel.vars(), kernel.level(), kernel.least_free()),
-        (0, 0, None)
-    );
-    assert!(rt; has_values(&kernel, &[(0, None), (1, None), (u32::MAX, None)]));
+    let wanted = [Seen {
+        act: Act::Nothing,
+        level: 0,
+        least_free: None,
+        values: &[None, None],
+    }];
+    assert!(rt; sees(rt.alloc(), b"p cnf 0 0\n", &wanted)?);
+    let kernel = opened(rt.alloc(), b"p cnf 0 0\n", &[])?;
+    assert_eq!(rt; (kernel.vars(), kernel.value(u32::MAX)), (0, None));
     Ok(())
 }
 
 #[test]
-fn looks_up(rt: HostRuntime) -> Result<(), Fail> {
-    let mut kernel = opened(rt.alloc(), b"p cnf 4 2\n2 -1 0\n-4 3 0\n", &[])?;
-    assert!(rt;
-        row(
-            &mut kernel,
-            Act::Decide(1),
-            Closed::Quiet,
-            &[(1, 0, 1), (2, 1, 1)]
-        )?
-    );
-    assert_eq!(rt; (kernel.level(), kernel.least_free()), (1, Some(3)));
-    let wanted = [(1, 0, 1), (2, 1, 1), (-3, 0, 2), (-4, 2, 2)];
-    assert!(rt; row(&mut kernel, Act::Decide(-3), Closed::Quiet, &wanted)?);
-    assert_eq!(rt; (kernel.level(), kernel.least_free()), (2, None));
-    assert_eq!(rt; (kernel.place(0), kernel.place(1)), (None, Some(0)));
-    assert_eq!(rt; (kernel.place(4), kernel.place(5)), (Some(3), None));
-    assert!(rt;
-        has_values(
-            &kernel,
-            &[(0, None), (1, Some(true)), (3, Some(false)), (5, None)]
-        )
-    );
-    Ok(())
-}
-
-#[test]
-fn goes_back(rt: HostRuntime) -> Result<(), Fail> {
-    let mut kernel = opened(rt.alloc(), b"p cnf 4 2\n2 -1 0\n-4 3 0\n", &[])?;
-    let decided = decide(&mut kernel, 1)? && decide(&mut kernel, -3)?;
-    assert!(rt; decided && kernel.least_free() == Some(4));
-    assert!(rt;
-        row(
-            &mut kernel,
-            Act::BackTo(1),
-            Closed::Quiet,
-            &[(1, 0, 1), (2, 1, 1)]
-        )?
-    );
-    assert_eq!(rt; kernel.least_free(), Some(3));
-    assert!(rt; has_values(&kernel, &[(2, Some(true)), (3, None), (4, None)]));
-    assert!(rt; row(&mut kernel, Act::BackTo(0), Closed::Quiet, &[])?);
-    assert_eq!(rt; kernel.least_free(), Some(1));
+fn looks_up_and_goes_back(rt: HostRuntime) -> Result<(), Fail> {
+    let yes = Some(true);
+    let no = Some(false);
+    let none = [None, None, None, None, None, None];
+    let one = [None, yes, yes, None, None, None];
+    let all = [None, yes, yes, no, no, None];
+    let wanted = [
+        Seen {
+            act: Act::Decide(1),
+            level: 1,
+            least_free: Some(3),
+            values: &one,
+        },
+        Seen {
+            act: Act::Decide(-3),
+            level: 2,
+            least_free: None,
+            values: &all,
+        },
+        Seen {
+            act: Act::BackTo(1),
+            level: 1,
+            least_free: Some(3),
+            values: &one,
+        },
+        Seen {
+            act: Act::Decide(-3),
+            level: 2,
+            least_free: None,
+            values: &all,
+        },
+        Seen {
+            act: Act::BackTo(0),
+            level: 0,
+            least_free: Some(1),
+            values: &none,
+        },
+    ];
+    assert!(rt; sees(rt.alloc(), b"p cnf 4 2\n2 -1 0\n-4 3 0\n", &wanted)?);
     Ok(())
 }
 

@@ -1,8 +1,8 @@
 //! Runs over many small formulas: after each operation the kernel answers what a scan of all clauses does, with the same trail.
 use super::dice::{Dice, formula_text};
 use super::scan::Scan;
-use super::{back_to, cube_of, decide, learn_pair, learn_three, learn_unit};
-use crate::{Closed, Entry, Kernel};
+use super::{are_same, back_to, cube_of, decide, learn_pair, learn_three, learn_unit, lits_of};
+use crate::{Closed, Kernel};
 use cnf::{Formula, Lit, read_formula};
 use std::alloc::{AllocError, Global};
 use std::test::Fail;
@@ -12,30 +12,6 @@ use std::test::Fail;
 struct Twins {
     kernel: Kernel,
     scan: Scan,
-}
-
-fn are_same(left: &[Entry], right: &[Entry]) -> bool {
-    if left.len() != right.len() {
-        return false;
-    }
-    for (one, other) in left.iter().zip(right) {
-        let one = *one;
-        let other = *other;
-        if !one.lit.same(&other.lit) || one.reason != other.reason || one.level != other.level {
-            return false;
-        }
-    }
-    true
-}
-
-fn lits_of(alloc: Global, numbers: &[i32]) -> Result<Vec<Lit>, AllocError> {
-    let mut lits = Vec::new(alloc);
-    for number in numbers {
-        if let Some(lit) = Lit::new(*number) {
-            lits.push(lit)?;
-        }
-    }
-    Ok(lits)
 }
 
 /// The negation of the last entry's literal, which is false at the current level; 0 where there is no entry.
