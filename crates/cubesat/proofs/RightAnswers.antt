@@ -1,5 +1,5 @@
 -- What a run that ended well has written is a right answer.
-use Rattle.std.proofs.Common.{◌≡◌, ℕ, List, Option, Some, None, Result, Ok, Err, IfOk, IfSome, take}
+use Rattle.std.proofs.Common.{ℕ, List, Option, Result, Ok, Err, IfOk}
 use Rattle.theory.specs.Truth.{Formula}
 use Rattle.cubesat.specs.Answer.{IsRight, IsRightAnswer}
 use Rattle.cubesat.specs.Run.{AreTexts, WritesBoth, RunSays}

@@ -1,9 +1,16 @@
 //! What stands after a fault of solving: readers and writers that fail at each place.
+ghost use Rattle.std.specs.Prelude.{◌≤◌};
+
 use super::faulty::{Full, Limited, Trickle};
 use super::{FOUR, FOUR_PROOF};
 use crate::{RunFault, Verdict, run, run_one};
 use cnf::{Place, ReadFault};
 use cubes::OpenGate;
+use std::alloc::Global;
+use std::process::Abort;
+use std::sync::Wait;
+use std::thread::Threads;
+use std::time::Clock;
 
 const REFUTED: &[u8] = b"s UNSATISFIABLE\n";
 
@@ -141,65 +148,60 @@ fn faults_have_numbers(rt: HostRuntime) {
     }
 }
 
+/// What stands where the proof's writer fails under so many hands.
+fn stops_in_proof<R: Abort + Threads + Wait + Clock + Sync>(rt: &R, alloc: Global, hands: usize)
+    requires { (1 ≤ hands) × (hands ≤ 16) }
+{
+    let mut proof = Limited::new(alloc, 5);
+    let mut answer = Limited::new(alloc, 1000);
+    let text = FOUR.as_bytes();
+    let result = run(
+        rt,
+        alloc,
+        text,
+        &mut answer,
+        &mut proof,
+        1,
+        hands,
+        &OpenGate,
+    );
+    assert_eq!(rt; result, Err(RunFault::ProofWriteFailed), "{hands} hands");
+    assert_eq!(rt;
+        proof.taken.as_slice(),
+        b"5 1 0".as_slice(),
+        "{hands} hands"
+    );
+    assert!(rt; answer.taken.is_empty(), "{hands} hands");
+}
+
+/// What stands where the answer's writer fails under so many hands.
+fn stops_in_answer<R: Abort + Threads + Wait + Clock + Sync>(rt: &R, alloc: Global, hands: usize)
+    requires { (1 ≤ hands) × (hands ≤ 16) }
+{
+    let mut proof = Limited::new(alloc, 1000);
+    let mut answer = Limited::new(alloc, 3);
+    let text = b"p cnf 2 1\n1 2 0\n".as_slice();
+    let result = run(
+        rt,
+        alloc,
+        text,
+        &mut answer,
+        &mut proof,
+        1000,
+        hands,
+        &OpenGate,
+    );
+    assert_eq!(rt; result, Err(RunFault::AnswerWriteFailed), "{hands} hands");
+    assert!(rt; proof.taken.is_empty(), "{hands} hands");
+    assert_eq!(rt; answer.taken.as_slice(), b"s S".as_slice(), "{hands} hands");
+}
+
 #[test]
-fn several_hands(rt: HostRuntime) {
-    for hands in [1, 2, 8] {
-        let mut proof = Limited::new(rt.alloc(), 5);
-        let mut answer = Limited::new(rt.alloc(), 1000);
-        let text = FOUR.as_bytes();
-        let result = run(
-            &rt,
-            rt.alloc(),
-            text,
-            &mut answer,
-            &mut proof,
-            1,
-            hands,
-            &OpenGate,
-        );
-        assert_eq!(rt; result, Err(RunFault::ProofWriteFailed), "{hands} hands");
-        assert_eq!(rt;
-            proof.taken.as_slice(),
-            b"5 1 0".as_slice(),
-            "{hands} hands"
-        );
-        assert!(rt; answer.taken.is_empty(), "{hands} hands");
-
-        let mut proof = Limited::new(rt.alloc(), 1000);
-        let mut answer = Limited::new(rt.alloc(), 3);
-        let text = b"p cnf 2 1\n1 2 0\n".as_slice();
-        let result = run(
-            &rt,
-            rt.alloc(),
-            text,
-            &mut answer,
-            &mut proof,
-            1000,
-            hands,
-            &OpenGate,
-        );
-        assert_eq!(rt; result, Err(RunFault::AnswerWriteFailed), "{hands} hands");
-        assert!(rt; proof.taken.is_empty(), "{hands} hands");
-        assert_eq!(rt; answer.taken.as_slice(), b"s S".as_slice(), "{hands} hands");
-
-        let mut proof = Limited::new(rt.alloc(), 1000);
-        let mut answer = Limited::new(rt.alloc(), 1000);
-        let input = Trickle::broken(b"p cnf");
-        let result = run(
-            &rt,
-            rt.alloc(),
-            input,
-            &mut answer,
-            &mut proof,
-            1000,
-            hands,
-            &OpenGate,
-        );
-        assert_eq!(rt;
-            result,
-            Err(RunFault::Read(ReadFault::ReadFailed)),
-            "{hands} hands"
-        );
-        assert!(rt; proof.taken.is_empty() && answer.taken.is_empty());
-    }
+fn writers_that_fail_under_several_hands(rt: HostRuntime) {
+    stops_in_proof(&rt, rt.alloc(), 1);
+    stops_in_proof(&rt, rt.alloc(), 2);
+    stops_in_proof(&rt, rt.alloc(), 8);
+    stops_in_answer(&rt, rt.alloc(), 1);
+    stops_in_answer(&rt, rt.alloc(), 2);
+    stops_in_answer(&rt, rt.alloc(), 8);
 }
