@@ -13,7 +13,7 @@ const EXPLANATIONS: [(u32, &str); 33] = [
     ),
     (
         3,
-        "Second header: the word `p` stands behind the header line. Were two formulas written into one file?",
+        "Second header: the word `p` stands behind the header line. Perhaps two formulas were written into one file.",
     ),
     (
         4,
