@@ -17,24 +17,28 @@ fn borrowed<'a>(alloc: Global, words: &'a [String]) -> Result<Vec<&'a str>, Allo
     words.iter().map(|word| word.as_str()).collect(alloc)
 }
 
-fn run(rt: &HostRuntime) -> io::Result<u8> {
-    let alloc = rt.alloc();
-    let words = words(rt, alloc)?;
-    let words = borrowed(alloc, &words)?;
-    Ok(command(rt, alloc, &words, &mut rt.stdout(), &mut rt.stderr()))
+/// What is said of a command line that can't be read: want of memory has its fault also here.
+fn line_of(error: &io::Error) -> &'static str {
+    if error.kind() == io::ErrorKind::OutOfMemory {
+        "fault 52"
+    } else {
+        "cubesat: the command line isn't text"
+    }
 }
 
-/// Want of memory has its fault also where the command line isn't read yet.
 fn main(rt: HostRuntime) -> ExitCode {
-    match run(&rt) {
-        Ok(status) => ExitCode::from(status),
-        Err(error) if error.kind() == io::ErrorKind::OutOfMemory => {
-            let _ = eprintln!(rt; "fault 52");
-            ExitCode::from(1)
+    let alloc = rt.alloc();
+    let words = match words(&rt, alloc) {
+        Ok(words) => words,
+        Err(error) => {
+            let _ = eprintln!(rt; "{}", line_of(&error));
+            return ExitCode::from(1);
         }
-        Err(_) => {
-            let _ = eprintln!(rt; "cubesat: the command line isn't text");
-            ExitCode::from(1)
-        }
-    }
+    };
+    let Ok(words) = borrowed(alloc, &words) else {
+        let _ = eprintln!(rt; "fault 52");
+        return ExitCode::from(1);
+    };
+    let status = command(&rt, alloc, &words, &mut rt.stdout(), &mut rt.stderr());
+    ExitCode::from(status)
 }
