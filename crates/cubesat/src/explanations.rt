@@ -37,7 +37,7 @@ const EXPLANATIONS: [(u32, &str); 33] = [
     ),
     (
         9,
-        "Over a limit: the header counts more variables or clauses than can be read, or there are more literals or bytes than that. The limits are 65,535 variables, 1,000,000 clauses, 8,000,000 literals and 67,108,864 bytes.",
+        "Over a limit: the header counts more variables or clauses than can be read, or there are more literals or bytes than that. The limits are 262,143 variables, 1,000,000 clauses, 8,000,000 literals and 67,108,864 bytes.",
     ),
     (
         10,

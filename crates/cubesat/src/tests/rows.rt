@@ -23,6 +23,9 @@ struct Row<'a> {
 const EIGHT: &str =
     "p cnf 3 8\n1 2 3 0\n1 2 -3 0\n1 -2 3 0\n1 -2 -3 0\n-1 2 3 0\n-1 2 -3 0\n-1 -2 3 0\n-1 -2 -3 0\n";
 
+/// Variable 3 stands in no clause.
+const FOUR_AND_UNUSED: &str = "p cnf 3 4\n1 2 0\n1 -2 0\n-1 2 0\n-1 -2 0\n";
+
 const UNSATISFIABLE: &str = "s UNSATISFIABLE\n";
 
 /// Whether several hands write the same.
@@ -98,17 +101,32 @@ fn refuted_formulas(rt: HostRuntime) -> Result<(), Fail> {
         (
             EIGHT,
             1,
-            "9 1 2 0 1 2 0\n10 1 -2 0 3 4 0\n11 1 0 9 10 0\n12 -1 2 0 5 6 0\n13 -1 -2 0 7 8 0\n14 -1 0 12 13 0\n15 0 11 14 0\n",
+            "9 2 1 0 1 2 0\n10 1 0 9 3 4 0\n10 d 9 0\n11 2 -1 0 5 6 0\n12 -1 0 11 7 8 0\n12 d 11 0\n13 0 10 12 0\n",
         ),
         (
             EIGHT,
             2,
-            "9 2 1 0 1 2 0\n10 1 0 9 3 4 0\n11 2 -1 0 5 6 0\n12 -1 0 11 7 8 0\n13 0 10 12 0\n",
+            "9 2 1 0 1 2 0\n10 1 0 9 3 4 0\n10 d 9 0\n11 2 -1 0 5 6 0\n12 -1 0 11 7 8 0\n12 d 11 0\n13 0 10 12 0\n",
         ),
         (
             EIGHT,
             4,
             "9 1 2 0 1 2 0\n10 1 0 9 3 4 0\n11 2 0 10 5 6 0\n12 0 10 11 7 8 0\n",
+        ),
+        (
+            FOUR_AND_UNUSED,
+            2,
+            "5 -3 0 0\n6 1 0 1 2 0\n7 0 6 3 4 0\n",
+        ),
+        (
+            FOUR_AND_UNUSED,
+            1,
+            "5 -3 0 0\n6 1 0 1 2 0\n7 -1 0 3 4 0\n8 0 6 7 0\n",
+        ),
+        (
+            "p cnf 3 5\n1 -3 0\n1 2 0\n1 -2 0\n-1 2 0\n-1 -2 0\n",
+            1,
+            "6 -3 0 0\n7 1 0 2 3 0\n8 -1 0 4 5 0\n9 0 7 8 0\n",
         ),
     ];
     for (text, budget, proof) in rows {
@@ -164,6 +182,8 @@ fn satisfiable_formulas(rt: HostRuntime) -> Result<(), Fail> {
             1,
             "s SATISFIABLE\nv -1 2 -3 0\n",
         ),
+        // No clause asks for variable 2, so it is pure; a proof would begin with its line.
+        ("p cnf 2 1\n1 -2 0\n", 1, "s SATISFIABLE\nv -1 -2 0\n"),
     ];
     for (text, budget, answer) in rows {
         check(
@@ -208,7 +228,7 @@ fn value_lines_have_78_bytes(rt: HostRuntime) -> Result<(), Fail> {
     )
 }
 
-/// At budget 1 the cubes go 39 literals deep: only the variable 39 is true.
+/// At budget 1 the root is exhausted by its first conflict; only the variable 39 is true in the first model.
 #[test]
 fn a_deep_tree(rt: HostRuntime) -> Result<(), Fail> {
     let front =
