@@ -1,6 +1,6 @@
 //! The clauses of a text, token by token.
 ghost use Rattle.std.specs.Prelude.{◌≡◌, ◌+◌, ◌≤◌, ◌<◌, [], ◌∷◌, ◌++◌, map, sum_by, length, slice_range, vec_len, MatchResult};
-ghost use Rattle.theory.specs.Reading.{end_of, max_bytes};
+ghost use Rattle.theory.specs.Reading.{end_of, max_bytes, max_vars};
 ghost use Rattle.theory.proofs.ReadingMachine.{at_body};
 ghost use Rattle.cnf.specs.Faults.{IsRefusal, IsReadAs};
 ghost use Rattle.cnf.specs.Tokens.{behind_header};
@@ -39,7 +39,7 @@ struct Clauses {
 
     ghost counted: { literals ≡ sum_by length (map (λ c. c.items) whole.items) + length begun.items },
     ghost few: { literals ≤ 8000000 },
-    ghost small: { vars ≤ 65535 },
+    ghost small: { vars ≤ max_vars },
     ghost room: { vec_len whole ≤ wanted },
 }
 
@@ -48,7 +48,7 @@ impl Clauses {
 
     /// No clauses, behind a header.
     fn new(alloc: Global, header: &Header) -> Clauses
-        requires { header.now.vars ≤ 65535 }
+        requires { header.now.vars ≤ max_vars }
         ensures { state_of result ≡ at_body header.now.vars header.now.clauses [] [] }
     {
         Clauses {
@@ -150,7 +150,7 @@ impl Clauses {
 pub fn read_clauses(alloc: Global, bytes: &[u8], header: &Header) -> Result<Formula, ReadFault>
     requires short { length bytes.now ≤ max_bytes }
     requires within { header.now.end ≤ length bytes.now }
-    requires vars { header.now.vars ≤ 65535 }
+    requires vars { header.now.vars ≤ max_vars }
     requires so_far { reading_of bytes.now ≡ reads_from (at_body header.now.vars header.now.clauses [] []) behind_header bytes.now header.now.end }
     ensures { IsReadAs bytes.now result }
 {

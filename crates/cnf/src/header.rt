@@ -1,5 +1,6 @@
 //! The header of a text: `p cnf`, the number of variables and the number of clauses.
 ghost use Rattle.std.specs.Prelude.{◌≡◌, ℕ, ◌≤◌, ◌<◌, length, MatchResult, Option, []};
+ghost use Rattle.theory.specs.Reading.{max_vars};
 ghost use Rattle.theory.proofs.ReadingMachine.{at_cnf, at_vars, at_body};
 ghost use Rattle.cnf.specs.Faults.{IsRefusal};
 ghost use Rattle.cnf.specs.Tokens.{in_header, behind_header};
@@ -10,7 +11,7 @@ use crate::number::{Number, read_number};
 use crate::scan::{is_text, place_at, skip_blanks, skip_comment, skip_to_token, word_end};
 
 /// The most variables of a formula.
-pub const MAX_VARS: u32 = 65_535;
+pub const MAX_VARS: u32 = 262_143;
 
 /// The most clauses of a formula.
 pub const MAX_CLAUSES: u32 = 1_000_000;
@@ -80,7 +81,7 @@ fn read_limited(bytes: &[u8], from: usize, most: u32) -> Result<Number, ReadFaul
 /// The header of a text.
 pub fn read_header(bytes: &[u8]) -> Result<Header, ReadFault>
     ensures { MatchResult result
-        (λ h. (h.end ≤ length bytes.now) × (h.vars ≤ 65535) × (h.clauses ≤ 1000000)
+        (λ h. (h.end ≤ length bytes.now) × (h.vars ≤ max_vars) × (h.clauses ≤ 1000000)
         × (reading_of bytes.now ≡ reads_from (at_body h.vars h.clauses [] []) behind_header bytes.now h.end))
         (IsRefusal (λ r. reading_of bytes.now ≡ r)) }
 {

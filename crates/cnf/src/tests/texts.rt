@@ -37,10 +37,11 @@ fn expect_refusal(
 
 #[test]
 fn reads_formulas(rt: HostRuntime) -> Result<(), Fail> {
-    let rows: [(&[u8], u32, &[i32]); 11] = [
+    let rows: [(&[u8], u32, &[i32]); 12] = [
         (b"p cnf 0 0\n", 0, &[]),
         (b"p cnf 0 1\n0\n", 0, &[0]),
         (b"p cnf 21 0\n", 21, &[]),
+        (b"p cnf 65536 0\n", 65536, &[]),
         (b"p cnf 2 1\n1 2 0\n", 2, &[1, 2, 0]),
         (b"p cnf 2 1\r\n1 2 0\r\n", 2, &[1, 2, 0]),
         (b"c x\np cnf 2 1\n1\nc mid\n2 0\n", 2, &[1, 2, 0]),
@@ -53,9 +54,9 @@ fn reads_formulas(rt: HostRuntime) -> Result<(), Fail> {
             &[1, 2, 0, 1, -2, 0, -1, 2, 0, -1, -2, 0],
         ),
         (
-            b"p cnf 65535 1\n-65535 65535 0\n",
-            65535,
-            &[-65535, 65535, 0],
+            b"p cnf 262143 1\n-262143 262143 0\n",
+            262143,
+            &[-262143, 262143, 0],
         ),
     ];
     for (text, vars, numbers) in rows {
@@ -66,7 +67,7 @@ fn reads_formulas(rt: HostRuntime) -> Result<(), Fail> {
 
 #[test]
 fn refuses(rt: HostRuntime) {
-    let rows: [(&[u8], u32, u64, u64); 35] = [
+    let rows: [(&[u8], u32, u64, u64); 36] = [
         (b"", 1, 1, 1),
         (b"1 0\n", 1, 1, 1),
         (b" c a\n", 1, 1, 2),
@@ -94,11 +95,12 @@ fn refuses(rt: HostRuntime) {
         (b"p cnf 1 1\n0\n0\n", 6, 3, 1),
         (b"p cnf 1 2\n1 0\n", 7, 3, 1),
         (b"p cnf 65535 1000000\n", 7, 2, 1),
+        (b"p cnf 262143 1000000\n", 7, 2, 1),
         (b"p cnf 1 1\nc 1 0", 7, 2, 6),
         (b"p cnf 1 1\n1", 8, 2, 2),
         (b"p cnf 1 2\n1 0 1\n\n", 8, 4, 1),
-        (b"p cnf 65536 0\n", 9, 1, 7),
-        (b"p cnf 65536", 9, 1, 7),
+        (b"p cnf 262144 0\n", 9, 1, 7),
+        (b"p cnf 262144", 9, 1, 7),
         (b"p cnf 1 1000001\n", 9, 1, 9),
         (b"p cnf 4294967297 1\n", 9, 1, 7),
         (b"p cnf 1 18446744073709551617 1\n", 9, 1, 9),
