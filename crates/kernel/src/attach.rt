@@ -5,6 +5,7 @@ ghost use Rattle.theory.specs.Status.{unit_literal};
 ghost use Rattle.theory.specs.Trails.{literals, level_of};
 ghost use Rattle.theory.specs.Truth.{IsOver};
 ghost use Rattle.theory.specs.Learnable.{IsLearnable};
+ghost use Rattle.theory.specs.Pure.{unit_clauses};
 ghost use Rattle.theory.specs.Reading.{max_literals};
 ghost use Rattle.kernel.specs.Watching.{code, IsPair, lesser};
 ghost use Rattle.kernel.specs.Visiting.{kept_of};
@@ -223,46 +224,95 @@ impl Propagator {
         }
     }
 
-    /// Attaches the formula's clauses, before anything is decided. It answers those of one literal.
+    /// Attaches the formula's clauses, before anything is decided, and notes those of one literal.
     pub fn attach_all(
         &mut self,
-        alloc: Global,
         clauses: &[Vec<Lit>],
-    ) -> Result<Vec<u32>, AllocError>
+        singles: &mut Vec<u32>,
+    ) -> Result<(), AllocError>
         requires over { (V : ℕ) × All (λ c. IsOver V c.items) clauses.now × (length self.old.lists.items ≡ 2 * V + 2) }
-        requires none { self.old.clauses ≡ [] }
-        ensures clauses { OnOk result (self.new.clauses ≡ map (λ c. c.items) clauses.now) }
-        ensures watching { IfOk result (λ s. (V : ℕ) → All (λ c. IsOver V c.items) clauses.now → IsWatching V 0 [] [] 0 0 (kept_of self.old) [] self.old.conflict
-            → IsWatching V (length self.new.clauses) self.new.clauses [] 0 0 (kept_of self.new) s.items self.new.conflict) }
+        ensures clauses { OnOk result (self.new.clauses ≡ self.old.clauses ++ map (λ c. c.items) clauses.now) }
+        ensures watching { OnOk result ((V : ℕ) → All (λ c. IsOver V c.items) clauses.now → IsWatching V (length self.old.clauses) self.old.clauses [] 0 0 (kept_of self.old) singles.old.items self.old.conflict
+            → IsWatching V (length self.new.clauses) self.new.clauses [] 0 0 (kept_of self.new) singles.new.items self.new.conflict) }
+        ensures lists { length self.new.lists.items ≡ length self.old.lists.items }
     {
-        let mut singles = Vec::new(alloc);
         for clause in clauses {
-            self.attach_first(clause, &mut singles)?;
+            self.attach_first(clause, singles)?;
         }
-        Ok(singles)
+        Ok(())
+    }
+
+    /// Attaches a clause of each of these literals, before anything is decided, and notes them as those of one literal.
+    pub fn attach_units(&mut self, units: &[Lit], singles: &mut Vec<u32>) -> Result<(), AllocError>
+        requires over { (V : ℕ) × IsOver V units.now × (length self.old.lists.items ≡ 2 * V + 2) }
+        ensures clauses { OnOk result (self.new.clauses ≡ self.old.clauses ++ unit_clauses units.now) }
+        ensures watching { OnOk result ((V : ℕ) → IsOver V units.now → IsWatching V (length self.old.clauses) self.old.clauses [] 0 0 (kept_of self.old) singles.old.items self.old.conflict
+            → IsWatching V (length self.new.clauses) self.new.clauses [] 0 0 (kept_of self.new) singles.new.items self.new.conflict) }
+    {
+        for lit in units {
+            self.attach_first(&[*lit], singles)?;
+        }
+        Ok(())
     }
 }
 
 /// Counts an entry for the list of a literal.
-fn count_entry(counts: &mut [u32], lit: Lit) {
+fn count_entry(counts: &mut [u32], lit: Lit)
+    ensures { length counts.new ≡ length counts.old }
+{
     let at = code(lit);
     if at < counts.len() {
         counts[at] = counts[at].saturating_add(1);
     }
 }
 
-/// How many entries each of so many lists will have at most once the clauses are attached: those of a clause of one literal count twice.
-fn count_entries(alloc: Global, clauses: &[Vec<Lit>], lists: usize) -> Result<Vec<u32>, AllocError>
-    ensures { IfOk result (λ counts. length counts.items ≡ lists) }
+/// Counts the entries of clauses: those of a clause of one literal count twice. It answers how many these are.
+fn count_clauses(counts: &mut [u32], clauses: &[Vec<Lit>]) -> usize
+    ensures kept { length counts.new ≡ length counts.old }
+    ensures few { result ≤ length clauses.now }
 {
-    let mut counts = vec![in alloc; 0; lists]?;
+    let mut singles = 0;
     for clause in clauses {
         if let Some(watched) = first_two(clause) {
-            count_entry(&mut counts, watched.first);
-            count_entry(&mut counts, watched.second);
+            count_entry(counts, watched.first);
+            count_entry(counts, watched.second);
+            if watched.first.same(&watched.second) {
+                singles += 1;
+            }
         }
     }
-    Ok(counts)
+    singles
+}
+
+/// How much room clauses take among the watches.
+#[derive(Drop)]
+pub struct Room {
+    /// By list: how many entries it has at most.
+    pub entries: Vec<u32>,
+    /// How many clauses are of one literal.
+    pub singles: usize,
+}
+
+impl Room {
+    /// The room of these clauses, and of a clause of each of these literals, among so many lists.
+    pub fn of(
+        alloc: Global,
+        lists: usize,
+        clauses: &[Vec<Lit>],
+        units: &[Lit],
+    ) -> Result<Room, AllocError>
+        ensures { IfOk result (λ r. length r.entries.items ≡ lists) }
+    {
+        let mut entries = vec![in alloc; 0; lists]?;
+        let singles = count_clauses(&mut entries, clauses);
+        for lit in units {
+            count_entry(&mut entries, *lit);
+        }
+        Ok(Room {
+            entries,
+            singles: singles + units.len(),
+        })
+    }
 }
 
 /// Lists without entries, each with room for so many.
@@ -277,23 +327,22 @@ fn no_entries(alloc: Global, counts: &[u32]) -> Result<Vec<Vec<Watch>>, AllocErr
 }
 
 impl Propagator {
-    /// No clauses, with room for those of a formula over the variables 1 to `vars`.
+    /// No clauses, with the room of those of a formula and of a clause of each of these literals. The counts go.
     pub fn with_room(
         alloc: Global,
-        vars: u32,
+        room: Room,
         clauses: &[Vec<Lit>],
+        units: &[Lit],
     ) -> Result<Propagator, AllocError>
-        requires small { vars < 2 ^ 31 }
         requires few { sum_by (λ c. length c.items) clauses.now ≤ max_literals }
-        ensures none { IfOk result (λ p. (p.clauses ≡ []) × (length p.lists.items ≡ 2 * vars + 2)) }
-        ensures watching { IfOk result (λ p. IsWatching vars 0 [] [] 0 0 (kept_of p) [] p.conflict) }
+        ensures none { IfOk result (λ p. (p.clauses ≡ []) × (length p.lists.items ≡ length room.entries.items)) }
+        ensures watching { IfOk result (λ p. (V : ℕ) → length room.entries.items ≡ 2 * V + 2 → IsWatching V 0 [] [] 0 0 (kept_of p) [] p.conflict) }
     {
-        let counts = count_entries(alloc, clauses, 2 * vars as usize + 2)?;
         Ok(Propagator {
-            clauses: Clauses::with_room(alloc, clauses)?,
-            pairs: Vec::with_capacity(alloc, clauses.len())?,
-            lists: no_entries(alloc, &counts)?,
-            units: Units::new(alloc),
+            clauses: Clauses::with_room(alloc, clauses, units)?,
+            pairs: Vec::with_capacity(alloc, clauses.len() + units.len())?,
+            lists: no_entries(alloc, &room.entries)?,
+            units: Units::with_room(alloc, room.singles)?,
             conflict: None,
             visits: 0,
         })

@@ -61,14 +61,18 @@ fn count_lits(clauses: &[Vec<Lit>]) -> usize
 }
 
 impl Clauses {
-    /// No clauses, with room for these. It fails where a request for memory is refused.
-    pub fn with_room(alloc: Global, clauses: &[Vec<Lit>]) -> Result<Clauses, AllocError>
+    /// No clauses, with room for these, and for a clause of each of these literals. It fails where a request for memory is refused.
+    pub fn with_room(
+        alloc: Global,
+        clauses: &[Vec<Lit>],
+        units: &[Lit],
+    ) -> Result<Clauses, AllocError>
         requires { sum_by (λ c. length c.items) clauses.now ≤ max_literals }
         ensures { IfOk result (λ k. k ≡ []) }
     {
         Ok(Clauses {
-            lits: Vec::with_capacity(alloc, count_lits(clauses))?,
-            ends: Vec::with_capacity(alloc, clauses.len())?,
+            lits: Vec::with_capacity(alloc, count_lits(clauses) + units.len())?,
+            ends: Vec::with_capacity(alloc, clauses.len() + units.len())?,
         })
     }
 

@@ -83,9 +83,9 @@ impl Propagator {
         }
     }
 
-    /// Cuts the clauses from `first` on off, with their entries in the lists, and begins anew with the formula's clauses of one literal
-    /// as units, and its first empty clause. It takes time by the clauses cut off, by the lists that they were in, and by the
-    /// formula's clauses of one literal. Where a request for memory is refused, the clauses are as they were or cut.
+    /// Cuts the clauses from `first` on off, with their entries in the lists, and begins anew with those of one literal before it as
+    /// units, and with the first empty one. It takes time by the clauses cut off, by the lists that they were in, and by those of one
+    /// literal. Where a request for memory is refused, the clauses are as they were or cut.
     pub fn cut(
         &mut self,
         first: usize,

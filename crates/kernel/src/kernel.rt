@@ -3,16 +3,17 @@ ghost use Rattle.std.specs.Prelude.{◌≡◌, ◌+◌, ◌^◌, ◌<◌, ◌≤
 ghost use Rattle.std.specs.Option.{option_map};
 ghost use Rattle.theory.specs.Literals.{IsVariable, IsCube, has_var};
 ghost use Rattle.theory.specs.Truth.{IsOver};
+ghost use Rattle.theory.specs.Pure.{unit_clauses};
 ghost use Rattle.theory.specs.Trails.{literals, current_level, entry_of, cube_trail, up_to, least_free};
 ghost use Rattle.theory.specs.Propagation.{clause_at, Closes, quiet};
 ghost use Rattle.theory.specs.Lawful.{IsLawful};
 ghost use Rattle.theory.specs.Learnable.{IsLearnable};
 ghost use Rattle.theory.specs.Reading.{max_vars};
-ghost use Rattle.theory.specs.Search.{first_clauses};
 ghost use Rattle.theory.specs.Propagation as closing;
 ghost use Rattle.theory.specs.Trails as trails;
 ghost use Rattle.kernel.specs.Answer.{closed_of};
 
+use crate::attach::Room;
 use crate::closed::Closed;
 use crate::cube::Cube;
 use crate::entry::Entry;
@@ -29,11 +30,11 @@ use std::marker::Model;
 pub struct Kernel {
     // the clauses, and their watches
     propagator: Propagator,
-    // how many of the clauses are the formula's; the others were learnt
+    // how many of the clauses were there from the beginning: the formula's, and the units behind them; the others were learnt
     first: usize,
-    // the formula's clauses of one literal, which wait as units when a cube begins
+    // those of one literal among them, which wait as units when a cube begins
     singles: Vec<u32>,
-    // the formula's first empty clause
+    // the first empty one among them
     empty: Option<u32>,
     trail: Trail,
     // how many entries of the trail were served: the clauses that watch the negation of their literal were visited
@@ -103,8 +104,33 @@ impl Kernel {
         requires { IsOver formula.now.vars cube.now }
         ensures opened { IfOk result (λ k. k ≡ record {
           vars = formula.now.vars;
-          first = length (first_clauses formula.now);
-          clauses = first_clauses formula.now;
+          first = length formula.now.clauses;
+          clauses = formula.now.clauses;
+          trail = cube_trail cube.now;
+          short = false;
+        }) }
+        ensures lawful { IfOk result (λ k.
+            IsLawful k.clauses k.trail × IsOver k.vars (literals k.trail) × All (IsOver k.vars) k.clauses) }
+        ensures few { IfOk result (λ k. k.vars ≤ max_vars) }
+    {
+        let kernel = Kernel::open_with(alloc, formula, &[], cube)?;
+        Ok(kernel)
+    }
+
+    /// As `open`, with a clause of one literal for each of the units behind the formula's clauses. These are of distinct variables. Their
+    /// clauses stay for each cube, as the formula's do. It takes time and memory for them too, and fails where memory is refused.
+    pub fn open_with(
+        alloc: Global,
+        formula: &Formula,
+        units: &[Lit],
+        cube: &Cube,
+    ) -> Result<Kernel, AllocError>
+        requires cube { IsOver formula.now.vars cube.now }
+        requires units { IsCube units.now × IsOver formula.now.vars units.now }
+        ensures opened { IfOk result (λ k. k ≡ record {
+          vars = formula.now.vars;
+          first = length (formula.now.clauses ++ unit_clauses units.now);
+          clauses = formula.now.clauses ++ unit_clauses units.now;
           trail = cube_trail cube.now;
           short = false;
         }) }
@@ -114,8 +140,11 @@ impl Kernel {
     {
         let vars = formula.vars();
         let clauses = formula.clauses();
-        let mut propagator = Propagator::with_room(alloc, vars, clauses)?;
-        let singles = propagator.attach_all(alloc, clauses)?;
+        let room = Room::of(alloc, 2 * vars as usize + 2, clauses, units)?;
+        let mut singles = Vec::with_capacity(alloc, room.singles)?;
+        let mut propagator = Propagator::with_room(alloc, room, clauses, units)?;
+        propagator.attach_all(clauses, &mut singles)?;
+        propagator.attach_units(units, &mut singles)?;
         let empty = propagator.conflict;
         let mut trail = Trail::with_room(alloc, vars)?;
         put_cube(&mut trail, cube.lits());

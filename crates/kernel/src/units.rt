@@ -1,5 +1,5 @@
 //! The clauses that were found unit and wait for their turn, the least first.
-ghost use Rattle.std.specs.Prelude.{◌≡◌, ◌≤◌, [], ◌∷◌, OnOk, IfSome, IfNone, All, map};
+ghost use Rattle.std.specs.Prelude.{◌≡◌, ◌≤◌, [], ◌∷◌, IfOk, OnOk, IfSome, IfNone, All, map};
 ghost use Rattle.std.specs.BinaryHeap.{IsHeap, heap_items};
 ghost use Rattle.std.specs.Ordering.{nat_cmp};
 ghost use Rattle.std.specs.List.Sorted.{IsPermutation};
@@ -46,14 +46,14 @@ fn take_least(heap: &mut BinaryHeap<Reverse<u32>>) -> Option<u32>
 }
 
 impl Units {
-    /// No numbers. It takes no memory.
-    pub fn new(alloc: Global) -> Units
-        ensures { result ≡ [] }
+    /// No numbers, with room for so many. It fails where a request for memory is refused.
+    pub fn with_room(alloc: Global, count: usize) -> Result<Units, AllocError>
+        ensures { IfOk result (λ u. u ≡ []) }
     {
-        Units {
+        Ok(Units {
             slot: None,
-            heap: BinaryHeap::new(alloc),
-        }
+            heap: BinaryHeap::with_capacity(alloc, count)?,
+        })
     }
 
     /// Puts a number in.

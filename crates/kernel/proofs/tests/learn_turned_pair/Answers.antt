@@ -1,4 +1,4 @@
-use Rattle.std.proofs.Common.{◌≡◌, ap, sym, ◌∙◌}
+use Rattle.std.proofs.Common.{ap, sym, ◌∙◌}
 use Rattle.theory.specs.Trails.{Entry}
 use Rattle.kernel.proofs.Runs.{IsOver-two, IsLearnable-turned}
 use Rattle.kernel.proofs.tests.learn_turned_pair.Goals as goal
