@@ -1,6 +1,6 @@
 //! Where the clauses are that have a literal: for each literal a list of places, to which clauses are entered one after
 //! the other.
-ghost use Rattle.std.specs.Prelude.{◌≡◌, ◌<◌, ◌≤◌, ◌^◌, ◌+◌, ◌*◌, ℕ, true, length, map, OnOk, vec_len, nat_eq, []};
+ghost use Rattle.std.specs.Prelude.{◌≡◌, ◌<◌, ◌≤◌, ◌^◌, ◌+◌, ◌*◌, ℕ, true, length, map, IfOk, OnOk, vec_len, nat_eq, []};
 ghost use Rattle.std.specs.List.{list_any};
 ghost use Rattle.theory.specs.Literals.{Literal, has};
 ghost use Rattle.theory.specs.Truth.{IsOver};
@@ -18,17 +18,67 @@ pub(crate) fn code(lit: Lit) -> usize
     2 * lit.var() as usize + if lit.positive() { 1 } else { 0 }
 }
 
-/// Makes room for so many lists.
-pub(crate) fn make_room(
+/// Counts a literal at the place of its list.
+fn count_literal(counts: &mut [usize], lit: Lit)
+    ensures { length counts.new ≡ length counts.old }
+{
+    let at = code(lit);
+    if at < counts.len() {
+        counts[at] = counts[at].saturating_add(1);
+    }
+}
+
+/// Counts the literals of a clause.
+fn count_clause(counts: &mut [usize], clause: &[Lit])
+    ensures { length counts.new ≡ length counts.old }
+{
+    for lit in clause {
+        count_literal(counts, *lit);
+    }
+}
+
+/// How many clauses there have each literal, for so many lists.
+fn count_all(alloc: Global, clauses: &Clauses, lists: usize) -> Result<Vec<usize>, AllocError>
+    ensures { IfOk result (λ counts. length counts.items ≡ lists) }
+{
+    let mut counts = vec![in alloc; 0; lists]?;
+    for place in 0..clauses.len() {
+        if let Some((_, clause)) = clauses.at(place) {
+            count_clause(&mut counts, clause);
+        }
+    }
+    Ok(counts)
+}
+
+/// Makes as many lists as there are counts, each with room for its count.
+fn make_lists(
+    alloc: Global,
+    lists: &mut Vec<Vec<usize>>,
+    counts: &[usize],
+) -> Result<(), AllocError>
+    ensures room { OnOk result (length counts.now ≤ vec_len lists.new) }
+    ensures grows { Grows (map (λ v. v.items) lists.old.items) (map (λ v. v.items) lists.new.items) }
+{
+    while lists.len() < counts.len() {
+        lists.push(Vec::with_capacity(alloc, counts[lists.len()])?)?;
+    }
+    Ok(())
+}
+
+/// Makes room for so many lists, where it isn't there. The literals are counted first, so that each list is made with its room: a formula of a
+/// million clauses is entered without a list that grows.
+fn make_room(
     alloc: Global,
     lists: &mut Vec<Vec<usize>>,
     count: usize,
+    clauses: &Clauses,
 ) -> Result<(), AllocError>
     ensures room { OnOk result (count ≤ vec_len lists.new) }
     ensures grows { Grows (map (λ v. v.items) lists.old.items) (map (λ v. v.items) lists.new.items) }
 {
-    while lists.len() < count {
-        lists.push(Vec::new(alloc))?;
+    if lists.len() < count {
+        let counts = count_all(alloc, clauses, count)?;
+        make_lists(alloc, lists, &counts)?;
     }
     Ok(())
 }
@@ -91,7 +141,7 @@ impl Occurrences {
         ensures all { OnOk result (self.new.entered ≡ length clauses.now.slots) }
     {
         let vars = clauses.vars();
-        make_room(alloc, &mut self.lists, 2 * vars as usize + 2)?;
+        make_room(alloc, &mut self.lists, 2 * vars as usize + 2, clauses)?;
         while self.entered < clauses.len() {
             if let Some((_, clause)) = clauses.at(self.entered) {
                 enter(&mut self.lists, vars, clause, self.entered)?;
