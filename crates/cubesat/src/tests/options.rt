@@ -15,16 +15,13 @@ const EIGHT: &str = "p cnf 3 8
 1 2 3 0\n1 2 -3 0\n1 -2 3 0\n1 -2 -3 0\n-1 2 3 0\n-1 2 -3 0\n-1 -2 3 0\n-1 -2 -3 0
 ";
 
-/// Their proofs at a budget of 1, of 2, and of 4 and more.
+const SPLIT: &str =
+    "9 2 1 0 1 2 0\n10 1 0 9 3 4 0\n10 d 9 0\n11 2 -1 0 5 6 0\n12 -1 0 11 7 8 0\n12 d 11 0\n13 0 10 12 0\n";
+
+/// Their proofs at budgets that exhaust the root, and at 4 and more.
 const BUDGETS: [(&str, &str); 6] = [
-    (
-        "1",
-        "9 1 2 0 1 2 0\n10 1 -2 0 3 4 0\n11 1 0 9 10 0\n12 -1 2 0 5 6 0\n13 -1 -2 0 7 8 0\n14 -1 0 12 13 0\n15 0 11 14 0\n",
-    ),
-    (
-        "2",
-        "9 2 1 0 1 2 0\n10 1 0 9 3 4 0\n11 2 -1 0 5 6 0\n12 -1 0 11 7 8 0\n13 0 10 12 0\n",
-    ),
+    ("1", SPLIT),
+    ("2", SPLIT),
     ("4", LEARNT),
     ("1000", LEARNT),
     ("99999", LEARNT),
