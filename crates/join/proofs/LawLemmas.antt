@@ -1,18 +1,18 @@
--- What is kept between two lines.
+-- What is kept on the way through a tree.
 use Rattle.std.proofs.Common.{◌≡◌, ℕ, ◌-◌, ◌<◌, List, [], ◌∷◌, ◌++◌, length, length-append, Some, ap, sym, subst, arith, All}
 use Rattle.std.proofs.lemmas.List.Elements.{All-push, All-pop, All-nil}
 use Rattle.std.specs.Vec.Iter.{into_iter_items}
 use Rattle.join.specs.declared.line.Half.{Half}
-use Rattle.join.specs.declared.lines.Lines.{Lines}
+use Rattle.join.specs.declared.walk.Walk.{Walk}
 use Rattle.join.specs.Numbered.{IsHalf}
-use Rattle.join.specs.Walking.{IsLawful, IsUnder}
+use Rattle.join.specs.Walking.{IsAt, IsUnder}
 
 -- the splits on the way without the last one
 pub AreHalves-popped : (n : ℕ) (hs left : List Half) (h : Half) → hs ≡ left ++ h ∷ [] → All (IsHalf n) hs → All (IsHalf n) left × IsHalf n h
 AreHalves-popped n hs left h e all = let parts = All-pop (IsHalf n) hs left (Some h) e all in (parts.0, parts.1)
 
 -- behind a left half, on the way down the right one
-pub IsUnder-right : (l m : Lines) (before : List Half) (h : Half) → IsLawful l → into_iter_items l.leaf ≡ [] → l.halves.items ≡ before ++ h ∷ [] → m.halves.items ≡ before ++ record { var = h.var; left = Some (l.next - 1) } ∷ []
+pub IsUnder-right : (l m : Walk) (before : List Half) (h : Half) → IsAt l l.next → into_iter_items l.leaf ≡ [] → l.halves.items ≡ before ++ h ∷ [] → m.halves.items ≡ before ++ record { var = h.var; left = Some (l.next - 1) } ∷ []
     → m.clauses ≡ l.clauses → m.next ≡ l.next → into_iter_items m.leaf ≡ [] → into_iter_items m.nodes ≡ into_iter_items l.nodes → IsUnder m
 IsUnder-right l m before h keeps over popped pushed clauses next none nodes =
     let low = keeps.first in
@@ -29,7 +29,7 @@ IsUnder-right l m before h keeps over popped pushed clauses next none nodes =
     }
 
 -- at the root
-pub IsUnder-root : (l m : Lines) → IsLawful l → m.halves.items ≡ [] → m.clauses ≡ l.clauses → m.next ≡ l.next → into_iter_items m.leaf ≡ [] → into_iter_items m.nodes ≡ into_iter_items l.nodes → IsUnder m
+pub IsUnder-root : (l m : Walk) → IsAt l l.next → m.halves.items ≡ [] → m.clauses ≡ l.clauses → m.next ≡ l.next → into_iter_items m.leaf ≡ [] → into_iter_items m.nodes ≡ into_iter_items l.nodes → IsUnder m
 IsUnder-root l m keeps root clauses next none nodes =
     let low = keeps.first in
     let begun = keeps.begun in

@@ -7,3 +7,4 @@ pub mod LineLemmas
 pub mod WalkLemmas
 pub mod StepLemmas
 pub mod LawLemmas
+pub mod DueLemmas

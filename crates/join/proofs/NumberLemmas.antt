@@ -1,15 +1,16 @@
 -- The numbers and variables in a proof's lines.
-use Rattle.std.proofs.Common.{◌≡◌, ℕ, ◌+◌, ◌-◌, ◌^◌, ◌<◌, ◌≤◌, Bool, true, false, List, [], ◌∷◌, ◌++◌, map, reverse, refl, sym, subst, cond, nat_le, Option, Some, None, arith, All}
-use Rattle.std.proofs.lemmas.List.Elements.{All-append, All-cons, All-map, All-weaker, All-nil}
+use Rattle.std.proofs.Common.{◌≡◌, ℕ, ◌+◌, ◌-◌, ◌^◌, ◌<◌, ◌≤◌, Bool, true, false, List, [], ◌∷◌, ◌++◌, map, length, reverse, refl, sym, subst, cond, nat_le, Option, Some, None, arith, All}
+use Rattle.std.proofs.lemmas.List.Elements.{All-append, All-cons, All-head, All-map, All-weaker, All-nil}
 use Rattle.std.proofs.lemmas.Bool.{leb-true, leb-false}
 use Rattle.theory.specs.Literals.{Literal, IsVariable, negations}
 use Rattle.theory.specs.Truth.{IsOver}
 use Rattle.theory.specs.Reading.{max_vars, max_clauses}
 use Rattle.theory.specs.Learning.{Line}
-use Rattle.theory.specs.Proofs.{renumbered}
+use Rattle.theory.specs.Proofs.{renumbered, numbers_from}
+use Rattle.theory.proofs.DeletedNumbers.{numbers_from-All}
 use Rattle.join.specs.declared.line.Half.{Half}
 use Rattle.join.specs.Joining.{cube_of, learnt_line, split_line}
-use Rattle.theory.specs.Steps.{add}
+use Rattle.theory.specs.Steps.{add, delete}
 use Rattle.theory.specs.ProofReading.{IsStep, IsNumber, IsLiteral, IsGroup, IsAddition, max_number}
 use Rattle.join.specs.Numbered.{IsHalf, IsBefore, AreUpTo}
 use Rattle.join.proofs.CubeLemmas.{opposite, negations-reversed}
@@ -67,7 +68,7 @@ IsStep-split n left hs fits low before halves =
     (All-cons (λ h. (1 ≤ h) × (h ≤ n - 1)) left ((n - 1) ∷ []) (low, omega arith) (All-cons (λ h. (1 ≤ h) × (h ≤ n - 1)) (n - 1) [] (omega arith, omega arith) (All-nil (λ h. (1 ≤ h) × (h ≤ n - 1)))))
 
 -- a hint and the number of the first line make a number
-pub fits-renumbered : (N first n : ℕ) (hints : List ℕ) → first ≤ n → n ≤ max_number → N ≤ max_clauses → AreUpTo (N + (n - first)) hints → All (λ h. h + first < 2 ^ 64) hints
+pub fits-renumbered : (N first n : ℕ) (hints : List ℕ) → first ≤ n → n ≤ max_number → N ≤ max_clauses + max_vars → AreUpTo (N + (n - first)) hints → All (λ h. h + first < 2 ^ 64) hints
 fits-renumbered N first n hints begun fits few h = All-weaker (λ h. (1 ≤ h) × (h ≤ N + (n - first))) (λ h. h + first < 2 ^ 64) (λ h w. let most = w.1 in omega arith) hints h
 
 pub within-learnt : (N first n : ℕ) (hs : List Half) (line : Line) (clause : List Literal) (hints : List ℕ) → first ≤ n → n ≤ max_number → N < first → All (λ h. IsVariable max_vars h.var) hs → IsOver max_vars line.clause
@@ -78,3 +79,18 @@ within-learnt N first n hs line clause hints begun fits low halves over up_to c 
 pub within-split : (n left : ℕ) (hs : List Half) (clause : List Literal) (hints : List ℕ) → n ≤ max_number → 1 ≤ left → left < n → All (λ h. IsVariable max_vars h.var) hs
     → clause ≡ negations (cube_of (reverse hs)) → hints ≡ left ∷ (n - 1) ∷ [] → IsStep (add (record { id = n; clause = clause; hints = hints; groups = [] }))
 within-split n left hs clause hints fits low before halves c h = rw (c, h) (IsStep-split n left hs fits low before halves)
+
+-- the numbers of a leaf's lines but the last one
+pub AreBelow-from : (first last : ℕ) → 1 ≤ first → All (λ n. (1 ≤ n) × (n < last)) (numbers_from first (last - first))
+AreBelow-from first last low =
+    All-weaker (λ n. (first ≤ n) × (n < first + (last - first))) (λ n. (1 ≤ n) × (n < last)) (λ n w. let from = w.0 in let to = w.1 in (omega arith, omega arith)) (numbers_from first (last - first))
+    (numbers_from-All first (last - first))
+
+-- a deletion of numbers below its own
+pub IsStep-deletion : (last : ℕ) (ns : List ℕ) → last ≤ max_number → 0 < length ns → All (λ n. (1 ≤ n) × (n < last)) ns → IsStep (delete (record { id = last; ids = ns }))
+IsStep-deletion last [] fits some h = absurd (omega arith)
+IsStep-deletion last (n ∷ ns) fits some h =
+    let here = All-head (λ n. (1 ≤ n) × (n < last)) n ns h in
+    let low = here.0 in
+    let high = here.1 in
+    record { id = (omega arith, fits); ids = All-weaker (λ n. (1 ≤ n) × (n < last)) IsNumber (λ n w. let from = w.0 in let to = w.1 in (from, omega arith)) (n ∷ ns) h }

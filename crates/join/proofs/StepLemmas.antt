@@ -9,12 +9,15 @@ use Rattle.theory.specs.Truth.{Formula, IsOver}
 use Rattle.theory.specs.Reading.{IsWithinLimits, max_vars}
 use Rattle.theory.specs.Learning.{Line}
 use Rattle.theory.specs.Search.{refuted, exhausted, first_clauses}
-use Rattle.theory.specs.Steps.{Step}
+use Rattle.theory.specs.Steps.{Step, delete}
 use Rattle.std.specs.List.{join_with_byte}
 use Rattle.theory.specs.Texts.{lf, space, step_words, step_text, proof_text}
 use Rattle.theory.specs.Trees.{Tree, satisfied, refutation, split, IsTree, first_model, false_half, true_half}
-use Rattle.theory.specs.Proofs.{additions, renumbered, leaf_steps, tree_steps, split_steps, proof}
-use Rattle.theory.specs.ProofReading.{IsStep, max_number, max_proof_bytes}
+use Rattle.theory.specs.Proofs.{additions, renumbered, leaf_steps, refuted_steps, tree_steps, split_steps, deletion, numbers_from, prelude, proof}
+use Rattle.theory.proofs.PreludeSteps.{IsStep-prelude}
+use Rattle.theory.proofs.PureVariables.{length-first_clauses, length-pure_literals}
+use Rattle.theory.proofs.DeletedNumbers.{numbers_from-All}
+use Rattle.theory.specs.ProofReading.{IsStep, IsNumber, max_number, max_proof_bytes}
 use Rattle.theory.specs.Lawful.{are_distinct}
 use Rattle.theory.proofs.AcceptedProofs.{or_else-none}
 use Rattle.theory.proofs.OutcomeLemmas.{Runs-says}
@@ -38,9 +41,13 @@ leaf-length : (N first n : ℕ) (Q : List Literal) (lines : List Line) → lengt
 leaf-length N first n Q [] = refl
 leaf-length N first n Q (line ∷ lines) = ap suc (leaf-length N first (n + 1) Q lines)
 
-tree-length : (N n : ℕ) (Q : List Literal) (t : Tree) → length (tree_steps N n Q t) ≡ additions t
-tree-length N n Q (satisfied M) = refl
-tree-length N n Q (refutation lines) = leaf-length N n n Q lines
+-- a tree's steps are its additions and some deletions
+tree-length : (N n : ℕ) (Q : List Literal) (t : Tree) → additions t ≤ length (tree_steps N n Q t)
+tree-length N n Q (satisfied M) = omega arith
+tree-length N n Q (refutation lines) =
+    let leaf = leaf-length N n n Q lines in
+    let all = length-append (leaf_steps N n n Q lines) (deletion Q (n + length lines - 1) (numbers_from n (length lines - 1))) in
+    omega arith
 tree-length N n Q (split x l r) =
     let left = tree-length N n (false_half Q x) l in
     let right = tree-length N (n + additions l) (true_half Q x) r in
@@ -64,15 +71,37 @@ leaf-steps N first n k Q (line ∷ lines) low number fits over h =
     (subst (λ m. AreUpTo m (map (renumbered N first) line.hints)) before (AreUpTo-renumbered N first k line.hints low h.1)))
     (leaf-steps N first (n + 1) (k + 1) Q lines low (omega arith) (omega arith) over (subst (λ m. AreLines m lines) later h.2))
 
+deletion-within : (Q : List Literal) (last : ℕ) (ns : List ℕ) → IsNumber last → All IsNumber ns → All IsStep (deletion Q last ns)
+deletion-within [] last ns h all = All-nil IsStep
+deletion-within (l ∷ Q) last [] h all = All-nil IsStep
+deletion-within (l ∷ Q) last (n ∷ ns) h all = All-cons IsStep (delete (record { id = last; ids = n ∷ ns })) [] (record { id = h; ids = all }) (All-nil IsStep)
+
+-- the lines of a refuted cube, and what deletes its learnt clauses
+refuted-steps : (N n : ℕ) (Q : List Literal) (lines : List Line) → N < n → 0 < length lines → n + length lines ≤ max_number + 1 → IsOver max_vars (negations Q) → AreLines N lines → All IsStep (refuted_steps N n Q lines)
+refuted-steps N n Q lines low some fits over are =
+    let same : N ≡ N + 0 = omega arith in
+    All-append IsStep (leaf_steps N n n Q lines) (deletion Q (n + length lines - 1) (numbers_from n (length lines - 1)))
+    (leaf-steps N n n 0 Q lines low (omega arith) fits over (subst (λ m. AreLines m lines) same are))
+    (deletion-within Q (n + length lines - 1) (numbers_from n (length lines - 1)) (omega arith, omega arith)
+    (All-weaker (λ k. (n ≤ k) × (k < n + (length lines - 1))) IsNumber (λ k w. let from = w.0 in let to = w.1 in (omega arith, omega arith)) (numbers_from n (length lines - 1)) (numbers_from-All n (length lines - 1))))
+
+-- the line of a split, and what deletes the last lines of its halves
+split-steps : (n left right : ℕ) (Q : List Literal) → n ≤ max_number → 1 ≤ left → left < n → 1 ≤ right → right < n → IsOver max_vars (negations Q) → All IsStep (split_steps n Q left right)
+split-steps n left right Q fits some before more behind over =
+    let hints : AreUpTo (n - 1) (left ∷ right ∷ []) =
+    All-cons (λ h. (1 ≤ h) × (h ≤ n - 1)) left (right ∷ []) (some, omega arith)
+    (All-cons (λ h. (1 ≤ h) × (h ≤ n - 1)) right [] (more, omega arith) (All-nil (λ h. (1 ≤ h) × (h ≤ n - 1)))) in
+    All-cons IsStep (split_line n Q left right) (deletion Q n (left ∷ right ∷ []))
+    (IsAddition-line n (negations Q) (left ∷ right ∷ []) (omega arith) fits over hints)
+    (deletion-within Q n (left ∷ right ∷ []) (omega arith, fits) (All-weaker (λ h. (1 ≤ h) × (h ≤ n - 1)) IsNumber (λ h w. let from = w.0 in let to = w.1 in (from, omega arith)) (left ∷ right ∷ []) hints))
+
 -- the lines of a tree without a model, of which there is one at least
 tree-steps : (F : Formula) (B n : ℕ) (Q : List Literal) (t : Tree) → IsWithinLimits F → are_distinct Q ≡ true → AreOver F.vars Q → IsTree F B Q t → first_model t ≡ None → length (first_clauses F) < n
     → n + additions t ≤ max_number + 1 → All IsStep (tree_steps (length (first_clauses F)) n Q t) × (1 ≤ additions t)
 tree-steps F B n Q (satisfied M) within distinct over h none low fits = absurd (cc)
 tree-steps F B n Q (refutation lines) within distinct over h none low fits =
-    let are = refutation-lines F Q lines within (Runs-says F B Q (refuted lines) within.formula (IsCube-distinct Q distinct) (IsOver-from_AreOver F.vars Q over) h).1 in
-    let same : length (first_clauses F) + 0 ≡ length (first_clauses F) = omega arith in (
-      leaf-steps (length (first_clauses F)) n n 0 Q lines low (omega arith) fits (IsOver-opposites F.vars Q within.vars (IsOver-from_AreOver F.vars Q over))
-          (subst (λ m. AreLines m lines) (sym same) are.1),
+    let are = refutation-lines F Q lines within (Runs-says F B Q (refuted lines) within.formula (IsCube-distinct Q distinct) (IsOver-from_AreOver F.vars Q over) h).1 in (
+      refuted-steps (length (first_clauses F)) n Q lines low are.0 fits (IsOver-opposites F.vars Q within.vars (IsOver-from_AreOver F.vars Q over)) are.1,
       are.0,
     )
 tree-steps F B n Q (split x l r) within distinct over h none low fits =
@@ -82,13 +111,8 @@ tree-steps F B n Q (split x l r) within distinct over h none low fits =
     let right = tree-steps F B (n + additions l) (true_half Q x) r within (are_distinct-push Q (positive x) distinct says.1) (AreOver-snoc F.vars Q (positive x) over says.0) h.2 both.1 (omega arith) (omega arith) in
     let some = left.1 in
     let more = right.1 in
-    let hints : AreUpTo (n + additions l + additions r - 1) ((n + additions l - 1) ∷ (n + additions l + additions r - 1) ∷ []) =
-    All-cons (λ h. (1 ≤ h) × (h ≤ n + additions l + additions r - 1)) (n + additions l - 1) ((n + additions l + additions r - 1) ∷ []) (omega arith, omega arith)
-    (All-cons (λ h. (1 ≤ h) × (h ≤ n + additions l + additions r - 1)) (n + additions l + additions r - 1) [] (omega arith, omega arith) (All-nil (λ h. (1 ≤ h) × (h ≤ n + additions l + additions r - 1)))) in
-    let over_all : IsOver max_vars (negations Q) = IsOver-opposites F.vars Q within.vars (IsOver-from_AreOver F.vars Q over) in
-    let last : All IsStep (split_steps (n + additions l + additions r) Q (n + additions l - 1) (n + additions l + additions r - 1)) =
-    All-cons IsStep (split_line (n + additions l + additions r) Q (n + additions l - 1) (n + additions l + additions r - 1)) []
-    (IsAddition-line (n + additions l + additions r) (negations Q) ((n + additions l - 1) ∷ (n + additions l + additions r - 1) ∷ []) (omega arith) (omega arith) over_all hints) (All-nil IsStep) in
+    let last = split-steps (n + additions l + additions r) (n + additions l - 1) (n + additions l + additions r - 1) Q (omega arith) (omega arith) (omega arith) (omega arith) (omega arith)
+    (IsOver-opposites F.vars Q within.vars (IsOver-from_AreOver F.vars Q over)) in
     let N = length (first_clauses F) in (
       All-append IsStep (tree_steps N n (false_half Q x) l ++ tree_steps N (n + additions l) (true_half Q x) r) (split_steps (n + additions l + additions r) Q (n + additions l - 1) (n + additions l + additions r - 1))
           (All-append IsStep (tree_steps N n (false_half Q x) l) (tree_steps N (n + additions l) (true_half Q x) r) left.0 right.0) last,
@@ -97,10 +121,15 @@ tree-steps F B n Q (split x l r) within distinct over h none low fits =
 
 pub proof-within : (F : Formula) (B : ℕ) (t : Tree) → IsWithinLimits F → IsTree F B [] t → first_model t ≡ None → length (proof_text (proof F t)) ≤ max_proof_bytes → All IsStep (proof F t)
 proof-within F B t within h none short =
+    let N = length (first_clauses F) in
     let few = few-steps (proof F t) in
-    let count = tree-length (length (first_clauses F)) (length (first_clauses F) + 1) [] t in
+    let whole = length-append (prelude F) (tree_steps N (N + 1) [] t) in
+    let count = tree-length N (N + 1) [] t in
     let clauses = within.clauses in
-    (tree-steps F B (length (first_clauses F) + 1) [] t within refl (λ l a. absurd (cc)) h none (omega arith) (omega arith)).0
+    let vars = within.vars in
+    let first = length-first_clauses F in
+    let units = length-pure_literals F in
+    All-append IsStep (prelude F) (tree_steps N (N + 1) [] t) (IsStep-prelude F within) (tree-steps F B (N + 1) [] t within refl (λ l a. absurd (cc)) h none (omega arith) (omega arith)).0
 
 -- a line more in the list of steps
 pub steps-more : (old new : List steps.Step) (step : steps.Step) (line : Step) (before after whole : List Step) → All IsStep (map step_of old) → map step_of old ++ before ≡ whole → before ≡ line ∷ after → IsStep line

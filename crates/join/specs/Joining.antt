@@ -4,7 +4,7 @@ use Rattle.theory.specs.Literals.{Literal, positive, negative, negations}
 use Rattle.theory.specs.Trees as trees
 use Rattle.theory.specs.Steps.{Step, add}
 use Rattle.theory.specs.Learning.{Line}
-use Rattle.theory.specs.Proofs.{renumbered, leaf_steps, split_steps}
+use Rattle.theory.specs.Proofs.{renumbered, leaf_steps, refuted_steps, split_steps, deletion, numbers_from}
 use Rattle.join.specs.declared.line.Half.{Half}
 
 abbrev pub literal_in : ℕ → Option ℕ → Literal
@@ -33,11 +33,15 @@ climb (h ∷ hs) n steps = elim h.left [
 -- what follows a node, where N is the number of the clauses that a search begins with
 abbrev pub on_node : ℕ → State → trees.Node → State
 on_node N s (trees.split_on x) = record s { halves = record { var = x; left = None } ∷ s.halves }
-on_node N s (trees.refuted_leaf lines) = climb s.halves (s.next + length lines) (s.steps ++ leaf_steps N s.next s.next (cube_of s.halves) lines)
+on_node N s (trees.refuted_leaf lines) = climb s.halves (s.next + length lines) (s.steps ++ refuted_steps N s.next (cube_of s.halves) lines)
 
 abbrev pub on_nodes : ℕ → State → List trees.Node → State
 on_nodes N s [] = s
 on_nodes N s (n ∷ ns) = on_nodes N (on_node N s n) ns
+
+-- the line of a pure variable's negation
+abbrev pub unit_line : ℕ → Literal → Step
+unit_line n l = add (record { id = n; clause = l ∷ []; hints = []; groups = [] })
 
 -- the line of a leaf whose first line has the number first
 abbrev pub learnt_line : ℕ → ℕ → ℕ → List Literal → Line → Step
@@ -51,9 +55,14 @@ split_line n Q left right = add (record { id = n; clause = negations Q; hints = 
 abbrev pub lines_below : ℕ → ℕ → List Half → List trees.Node → List Step
 lines_below N n hs nodes = (on_nodes N (record { halves = hs; next = n; steps = [] }) nodes).steps
 
+-- what is left of a leaf's lines, of which the next has the number n, and what they leave to be deleted; behind the last one nothing is left
+abbrev pub leaf_left : ℕ → ℕ → ℕ → List Literal → List Line → List Step
+leaf_left N first n Q [] = []
+leaf_left N first n Q (line ∷ lines) = leaf_steps N first n Q (line ∷ lines) ++ deletion Q (n + length lines) (numbers_from first (n + length lines - first))
+
 -- the lines from within a leaf on, of which some lines are left, or none
 abbrev pub lines_from : ℕ → ℕ → ℕ → List Half → List Line → List trees.Node → List Step
-lines_from N first n hs leaf nodes = (on_nodes N (climb hs (n + length leaf) (leaf_steps N first n (cube_of hs) leaf)) nodes).steps
+lines_from N first n hs leaf nodes = (on_nodes N (climb hs (n + length leaf) (leaf_left N first n (cube_of hs) leaf)) nodes).steps
 
 -- the lines from a leaf on that was looked for: without one there are none
 abbrev pub lines_entered : ℕ → ℕ → ℕ → List Half → List Line → List trees.Node → List Step

@@ -1,12 +1,13 @@
 -- The numbers and variables in a tree and in its lines are within their limits.
-use Rattle.std.specs.Prelude.{◌≡◌, ℕ, ◌+◌, ◌<◌, ◌≤◌, List, [], ◌∷◌, map, length, Option, Some, None, All}
-use Rattle.theory.specs.Literals.{IsVariable}
+use Rattle.std.specs.Prelude.{◌≡◌, ℕ, ◌+◌, ◌-◌, ◌<◌, ◌≤◌, List, [], ◌∷◌, map, length, Option, Some, None, All}
+use Rattle.theory.specs.Literals.{Literal, IsVariable}
 use Rattle.theory.specs.Truth.{Formula, IsOver}
 use Rattle.theory.specs.Reading.{max_vars}
+use Rattle.theory.specs.Pure.{pure_literals}
 use Rattle.theory.specs.Learning.{Line}
 use Rattle.theory.specs.Trees as trees
 use Rattle.theory.specs.Steps.{Step}
-use Rattle.theory.specs.Proofs.{proof}
+use Rattle.theory.specs.Proofs.{proof, numbers_from}
 use Rattle.theory.specs.Checking.{checks, accepted}
 use Rattle.theory.specs.ProofReading.{IsStep, max_proof_bytes}
 use Rattle.theory.specs.Texts.{proof_text}
@@ -15,6 +16,8 @@ use Rattle.cubes.specs.declared.tree.Node.{Node}
 use Rattle.cubes.specs.declared.tree.Tree.{Tree}
 use Rattle.cubes.specs.declared.tree.Tree.TheVariants.{Model, Refuted}
 use Rattle.join.specs.declared.line.Half.{Half}
+use Rattle.join.specs.declared.line.Due.{Due}
+use Rattle.join.specs.declared.line.Due.TheVariants.{Nothing, Leaf, Halves}
 
 -- each hint is a number from 1 to n
 abbrev pub AreUpTo : ℕ → List ℕ → Type 0
@@ -42,6 +45,28 @@ IsBefore n (Some left) = (1 ≤ left) × (left < n)
 pub record IsHalf (n : ℕ) (h : Half) : Type 0 where
   pub variable : IsVariable max_vars h.var
   pub left : IsBefore n h.left
+
+-- the numbers of the clauses that are due behind a cube's last line; first is the number of a leaf's first line
+abbrev pub numbers_due : Due → ℕ → ℕ → List ℕ
+numbers_due Nothing first last = []
+numbers_due Leaf first last = numbers_from first (last - first)
+numbers_due (Halves left) first last = left ∷ (last - 1) ∷ []
+
+-- what a leaf's line leaves to be deleted, where these are still to come
+abbrev pub due_behind : List Line → Due
+due_behind [] = Leaf
+due_behind (line ∷ lines) = Nothing
+
+-- the left half's last line stands before that of the right one, which stands before that of the split
+abbrev pub IsDue : Due → ℕ → Type 0
+IsDue Nothing last = Unit {0}
+IsDue Leaf last = Unit {0}
+IsDue (Halves left) last = (1 ≤ left) × (left < last)
+
+-- the pure literals that the proof of a result begins with: that of a model has none
+abbrev pub AreUnitsOf : Formula → Tree → List Literal → Type 0
+AreUnitsOf F (Model values) units = units ≡ []
+AreUnitsOf F (Refuted nodes) units = units ≡ pure_literals F
 
 -- the nodes of a result: a model has none
 abbrev pub AreNodesOf : Tree → List Node → Type 0

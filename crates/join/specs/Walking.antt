@@ -1,75 +1,112 @@
 -- The lines of a proof that are still to come, and what is kept on the way.
-use Rattle.std.specs.Prelude.{◌≡◌, ℕ, ◌+◌, ◌-◌, ◌<◌, ◌≤◌, Bool, true, false, List, [], ◌∷◌, map, reverse, length, All}
+use Rattle.std.specs.Prelude.{◌≡◌, ℕ, ◌+◌, ◌-◌, ◌<◌, ◌≤◌, Bool, true, false, List, [], ◌∷◌, ◌++◌, map, reverse, length, All}
 use Rattle.std.specs.Vec.Iter.{into_iter_items}
+use Rattle.theory.specs.Literals.{Literal}
 use Rattle.theory.specs.Truth.{IsOver}
 use Rattle.theory.specs.Reading.{max_vars, max_clauses}
-use Rattle.theory.specs.Steps.{Step, add}
+use Rattle.theory.specs.Steps.{Step, add, delete}
+use Rattle.theory.specs.Proofs.{unit_steps, deletion}
+use Rattle.theory.specs.ProofReading.{IsStep, max_number}
+use Rattle.cubes.specs.declared.tree.Node.{Node}
 use Rattle.cubes.specs.Result.{node_of}
+use Rattle.join.specs.declared.line.Due.{Due}
+use Rattle.join.specs.declared.line.Due.TheVariants.{Halves}
+use Rattle.join.specs.declared.line.Kind.{Kind}
+use Rattle.join.specs.declared.line.Kind.TheVariants.{Addition, Deletion}
 use Rattle.join.specs.declared.line.ProofLine.{ProofLine}
 use Rattle.join.specs.declared.lines.Lines.{Lines}
-use Rattle.join.specs.declared.lines.Source.{Source}
-use Rattle.join.specs.declared.lines.Source.TheVariants.{Learnt, Split, End}
+use Rattle.join.specs.declared.walk.Walk.{Walk}
+use Rattle.join.specs.declared.walk.Source.{Source}
+use Rattle.join.specs.declared.walk.Source.TheVariants.{Learnt, Split, End}
 use Rattle.join.specs.Joining.{cube_of, learnt_line, split_line, lines_below, lines_from, lines_entered}
-use Rattle.join.specs.Numbered.{AreUpTo, AreLines, AreNodes, IsHalf}
+use Rattle.join.specs.Numbered.{AreUpTo, AreLines, AreNodes, IsHalf, IsDue, numbers_due, due_behind}
+
+-- a line by its kind: the numbers are the hints, or those of the clauses to be deleted
+abbrev pub step_by : Kind → ℕ → List Literal → List ℕ → Step
+step_by Addition n clause numbers = add (record { id = n; clause = clause; hints = numbers; groups = [] })
+step_by Deletion n clause numbers = delete (record { id = n; ids = numbers })
 
 abbrev pub line_of : ProofLine → Step
-line_of l = add (record { id = l.id; clause = l.clause.items; hints = l.hints.items; groups = [] })
+line_of l = step_by l.kind l.id l.clause.items l.numbers.items
 
--- the lines that are still to come
+-- the tree's lines that are still to come, but for a deletion that is due
+abbrev pub tree_left : Walk → List Step
+tree_left w = lines_from w.clauses w.first w.next (reverse w.halves.items) (into_iter_items w.leaf) (map node_of (into_iter_items w.nodes))
+
+-- what is deleted behind the line of the number last
+abbrev pub deletion_of : Due → Walk → ℕ → List Step
+deletion_of due w last = deletion (cube_of (reverse w.halves.items)) last (numbers_due due w.first last)
+
+-- the tree's lines that are still to come, where the next one is given just now and leaves this to be deleted
+abbrev pub tree_behind : Due → Walk → List Step
+tree_behind due w = deletion_of due w w.next
+    ++ lines_from w.clauses w.first (w.next + 1) (reverse w.halves.items) (into_iter_items w.leaf) (map node_of (into_iter_items w.nodes))
+
+-- the tree's lines from the next node on
+abbrev pub tree_under : Walk → List Step
+tree_under w = lines_below w.clauses w.next (reverse w.halves.items) (map node_of (into_iter_items w.nodes))
+
+-- the tree's lines from the leaf on that was looked for
+abbrev pub tree_reached : Walk → List Step
+tree_reached w = lines_entered w.clauses w.first w.next (reverse w.halves.items) (into_iter_items w.leaf) (map node_of (into_iter_items w.nodes))
+
+-- the lines that are still to come: the pure literals' ones, the deletion that is due, and the tree's
 abbrev pub lines_left : Lines → List Step
-lines_left l = lines_from l.clauses l.first l.next (reverse l.halves.items) (into_iter_items l.leaf) (map node_of (into_iter_items l.nodes))
+lines_left l = unit_steps l.unit (into_iter_items l.units) ++ (deletion_of l.due l.walk (l.walk.next - 1) ++ tree_left l.walk)
 
--- the same, where the next line is given just now
-abbrev pub lines_behind : Lines → List Step
-lines_behind l = lines_from l.clauses l.first (l.next + 1) (reverse l.halves.items) (into_iter_items l.leaf) (map node_of (into_iter_items l.nodes))
+-- what is kept between two lines of a tree, where the next one has the number n
+pub record IsAt (w : Walk) (n : ℕ) : Type 0 where
+  pub clauses : w.clauses ≤ max_clauses + max_vars
+  pub first : w.clauses < w.first
+  pub begun : w.first ≤ n
+  pub halves : All (IsHalf n) w.halves.items
+  pub started : length (into_iter_items w.leaf) ≡ 0 → 0 < length w.halves.items → w.first < n
+  pub leaf : AreLines (w.clauses + (n - w.first)) (into_iter_items w.leaf)
+  pub nodes : AreNodes w.clauses (map node_of (into_iter_items w.nodes))
 
--- the lines from the next node on
-abbrev pub lines_under : Lines → List Step
-lines_under l = lines_below l.clauses l.next (reverse l.halves.items) (map node_of (into_iter_items l.nodes))
+-- what is kept between two lines
+pub record IsLawful (l : Lines) : Type 0 where
+  pub walk : IsAt l.walk l.walk.next
+  pub fits : l.walk.next ≤ max_number + 1
+  pub due : IsDue l.due (l.walk.next - 1)
+  pub unit : 1 ≤ l.unit
+  pub units : l.unit + length (into_iter_items l.units) ≤ max_number
 
--- the lines from the leaf on that was looked for
-abbrev pub lines_reached : Lines → List Step
-lines_reached l = lines_entered l.clauses l.first l.next (reverse l.halves.items) (into_iter_items l.leaf) (map node_of (into_iter_items l.nodes))
-
--- what is kept between two lines, where the next one has the number n
-pub record IsAt (l : Lines) (n : ℕ) : Type 0 where
-  pub clauses : l.clauses ≤ max_clauses
-  pub first : l.clauses < l.first
-  pub begun : l.first ≤ n
-  pub halves : All (IsHalf n) l.halves.items
-  pub started : length (into_iter_items l.leaf) ≡ 0 → 0 < length l.halves.items → l.first < n
-  pub leaf : AreLines (l.clauses + (n - l.first)) (into_iter_items l.leaf)
-  pub nodes : AreNodes l.clauses (map node_of (into_iter_items l.nodes))
-
-abbrev pub IsLawful : Lines → Type 0
-IsLawful l = IsAt l l.next
+-- before a tree's first line
+pub record IsBegun (N : ℕ) (tree : List Node) (w : Walk) : Type 0 where
+  pub clauses : w.clauses ≡ N
+  pub next : w.next ≡ N + 1
+  pub halves : w.halves.items ≡ []
+  pub first : w.first ≡ N + 1
+  pub leaf : into_iter_items w.leaf ≡ []
+  pub nodes : into_iter_items w.nodes ≡ tree
 
 -- what is kept on the way down to a leaf
-pub record IsUnder (l : Lines) : Type 0 where
-  pub clauses : l.clauses ≤ max_clauses
-  pub begun : l.clauses < l.next
-  pub halves : All (IsHalf l.next) l.halves.items
-  pub leaf : into_iter_items l.leaf ≡ []
-  pub nodes : AreNodes l.clauses (map node_of (into_iter_items l.nodes))
+pub record IsUnder (w : Walk) : Type 0 where
+  pub clauses : w.clauses ≤ max_clauses + max_vars
+  pub begun : w.clauses < w.next
+  pub halves : All (IsHalf w.next) w.halves.items
+  pub leaf : into_iter_items w.leaf ≡ []
+  pub nodes : AreNodes w.clauses (map node_of (into_iter_items w.nodes))
 
 -- where a leaf was looked for, it is there, or there is none
-pub record Reaches (old new : Lines) : Type 0 where
-  pub rest : lines_under old ≡ lines_reached new
-  pub lawful : 0 < length (into_iter_items new.leaf) → IsLawful new
+pub record Reaches (old new : Walk) : Type 0 where
+  pub rest : tree_under old ≡ tree_reached new
+  pub lawful : 0 < length (into_iter_items new.leaf) → IsAt new new.next
   pub clauses : new.clauses ≡ old.clauses
   pub next : new.next ≡ old.next
 
--- the lines that were to come, by where the first of them comes from
-abbrev pub Gives : Lines → Lines → Source → Type 0
-Gives old new (Learnt line) = lines_left old ≡ learnt_line new.clauses new.first new.next (cube_of (reverse new.halves.items)) line ∷ lines_behind new
-Gives old new (Split left) = lines_left old ≡ split_line new.next (cube_of (reverse new.halves.items)) left (new.next - 1) ∷ lines_behind new
-Gives old new End = lines_left old ≡ []
+-- the tree's lines that were to come, by where the first of them comes from
+abbrev pub Gives : Walk → Walk → Source → Type 0
+Gives old new (Learnt line) = tree_left old ≡ learnt_line new.clauses new.first new.next (cube_of (reverse new.halves.items)) line ∷ tree_behind (due_behind (into_iter_items new.leaf)) new
+Gives old new (Split left) = tree_left old ≡ split_line new.next (cube_of (reverse new.halves.items)) left (new.next - 1) ∷ tree_behind (Halves left) new
+Gives old new End = tree_left old ≡ []
 
 -- that line is within the limits
-abbrev pub IsWithin : Lines → Source → Type 0
-IsWithin l (Learnt line) = IsAt l (l.next + 1) × IsOver max_vars line.clause × AreUpTo (l.clauses + (l.next - l.first)) line.hints × (l.first ≤ l.next)
-IsWithin l (Split left) = IsAt l (l.next + 1) × (1 ≤ left) × (left < l.next)
-IsWithin l End = Unit {0}
+abbrev pub IsWithin : Walk → Source → Type 0
+IsWithin w (Learnt line) = IsAt w (w.next + 1) × IsOver max_vars line.clause × AreUpTo (w.clauses + (w.next - w.first)) line.hints × (w.first ≤ w.next)
+IsWithin w (Split left) = IsAt w (w.next + 1) × (1 ≤ left) × (left < w.next)
+IsWithin w End = Unit {0}
 
 -- whether there was one more line
 abbrev pub GoesOn : List Step → List Step → Step → Bool → Type 0
@@ -79,3 +116,18 @@ GoesOn old new line false = old ≡ []
 abbrev pub OnMore : Type 0 → Bool → Type 0
 OnMore P true = P
 OnMore P false = Unit {0}
+
+-- a line was made, which was the first of those to come
+pub record IsMade (old new : Lines) : Type 0 where
+  pub rest : lines_left old ≡ line_of new.line ∷ lines_left new
+  pub within : IsStep (line_of new.line)
+  pub lawful : IsLawful new
+
+-- or there was none of its kind, and all are still to come
+pub record IsKept (old new : Lines) : Type 0 where
+  pub rest : lines_left old ≡ lines_left new
+  pub lawful : IsLawful new
+
+abbrev pub Makes : Lines → Lines → Bool → Type 0
+Makes old new true = IsMade old new
+Makes old new false = IsKept old new

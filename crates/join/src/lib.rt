@@ -9,9 +9,10 @@ mod room;
 mod steps;
 #[cfg(test)]
 mod tests;
+mod walk;
 
 pub use answer::answer_bytes;
-pub use line::ProofLine;
+pub use line::{Kind, ProofLine};
 pub use lines::Lines;
 pub use proof_text::proof_bytes;
 pub use steps::join;

@@ -1,18 +1,19 @@
-//! A line of a proof: what a leaf's line or a split gives.
+//! A line of a proof: what a pure literal, a leaf's line or a split gives, and what is deleted behind them.
 ghost use Rattle.std.specs.Prelude.{◌≡◌, ℕ, ◌≤◌, ◌<◌, ◌^◌, ◌+◌, ◌-◌, ◌++◌, map, reverse, All, IfOk, OnOk};
 ghost use Rattle.theory.specs.Literals.{IsVariable, negations};
 ghost use Rattle.theory.specs.Truth.{IsOver};
 ghost use Rattle.theory.specs.Reading.{max_vars, max_clauses};
-ghost use Rattle.theory.specs.Proofs.{renumbered};
+ghost use Rattle.theory.specs.Steps.{delete};
+ghost use Rattle.theory.specs.Proofs.{renumbered, numbers_from};
 ghost use Rattle.theory.specs.ProofReading.{IsStep, max_number};
 ghost use Rattle.lrat.specs.Steps.{step_of};
-ghost use Rattle.join.specs.Joining.{cube_of, learnt_line, split_line};
-ghost use Rattle.join.specs.Numbered.{AreUpTo};
+ghost use Rattle.join.specs.Joining.{cube_of, unit_line, learnt_line, split_line};
+ghost use Rattle.join.specs.Numbered.{AreUpTo, IsDue, numbers_due};
 ghost use Rattle.join.specs.Walking.{line_of};
 
 use cdcl::Line;
 use cnf::Lit;
-use lrat::{Addition, Step};
+use lrat::{Addition, Deletion, Step};
 use std::alloc::{AllocError, Global};
 
 /// A split on the way from the root: the way goes on in the half where the variable is false, or, once that half's last line has its
@@ -23,12 +24,41 @@ pub(crate) struct Half {
     pub(crate) left: Option<u64>,
 }
 
-/// A line of a proof: the clause's number, the clause, and the numbers of its hints. It takes up one line after the other, and so keeps its memory.
+/// What the last line of a cube leaves to be deleted.
+#[derive(Clone, Copy)]
+pub(crate) enum Due {
+    Nothing,
+
+    /// The lines of the leaf before its last one.
+    Leaf,
+
+    /// The last lines of a split's halves; the number is that of the left one.
+    Halves(u64),
+}
+
+/// What a line does.
+#[derive(Clone, Copy)]
+pub enum Kind {
+    /// It adds a clause.
+    Addition,
+
+    /// It deletes clauses.
+    Deletion,
+}
+
+/// A line of a proof. It takes up one line after the other, and so keeps its memory.
 #[derive(Drop)]
 pub struct ProofLine {
+    pub kind: Kind,
+
+    /// The number of the clause, or for a deletion that of the clause added last.
     pub id: u64,
+
+    /// The clause that is added.
     pub clause: Vec<Lit>,
-    pub hints: Vec<u64>,
+
+    /// The hints, or the numbers of the clauses to be deleted.
+    pub numbers: Vec<u64>,
 }
 
 /// Puts the negations of the cube's literals behind a clause.
@@ -71,18 +101,43 @@ fn put_renumbered(
     Ok(())
 }
 
+/// Puts the numbers from the first one on, up to the end, behind others.
+fn put_numbers(first: u64, end: u64, out: &mut Vec<u64>) -> Result<(), AllocError>
+    ensures { OnOk result (out.new.items ≡ out.old.items ++ numbers_from first (end - first)) }
+{
+    for number in first..end {
+        out.push(number)?;
+    }
+    Ok(())
+}
+
 impl ProofLine {
-    /// A line that takes no more memory while clauses and hints have no more elements.
+    /// A line that takes no more memory while clauses have no more literals, and hints or deletions no more numbers.
     pub(crate) fn with_room(
         alloc: Global,
         literals: usize,
-        hints: usize,
+        numbers: usize,
     ) -> Result<ProofLine, AllocError> {
         Ok(ProofLine {
+            kind: Kind::Addition,
             id: 0,
             clause: Vec::with_capacity(alloc, literals)?,
-            hints: Vec::with_capacity(alloc, hints)?,
+            numbers: Vec::with_capacity(alloc, numbers)?,
         })
+    }
+
+    /// Becomes the line of a pure variable's negation. It has no hints: no clause there has the variable itself, so nothing is to be shown.
+    pub(crate) fn unit(&mut self, id: u64, literal: Lit) -> Result<(), AllocError>
+        requires { (1 ≤ id) × (id ≤ max_number) }
+        ensures line { OnOk result (line_of self.new ≡ unit_line id literal) }
+        ensures within { OnOk result (IsStep (line_of self.new)) }
+    {
+        self.kind = Kind::Addition;
+        self.id = id;
+        self.clause.clear();
+        self.clause.push(literal)?;
+        self.numbers.clear();
+        Ok(())
     }
 
     /// Becomes the line for a line of a leaf, whose first one has the number `first`.
@@ -95,19 +150,20 @@ impl ProofLine {
         first: u64,
     ) -> Result<(), AllocError>
         requires id { (first ≤ id) × (id ≤ max_number) }
-        requires first { (clauses < first) × (clauses ≤ max_clauses) }
+        requires first { (clauses < first) × (clauses ≤ max_clauses + max_vars) }
         requires halves { All (λ h. IsVariable max_vars h.var) halves.now }
         requires clause { IsOver max_vars learnt.now.clause }
         requires hints { AreUpTo (clauses + (id - first)) learnt.now.hints }
         ensures line { OnOk result (line_of self.new ≡ learnt_line clauses first id (cube_of (reverse halves.now)) learnt.now) }
         ensures within { OnOk result (IsStep (line_of self.new)) }
     {
+        self.kind = Kind::Addition;
         self.id = id;
         self.clause.clear();
         self.clause.extend_from_slice(learnt.clause())?;
         put_negations(halves, &mut self.clause)?;
-        self.hints.clear();
-        put_renumbered(learnt.hints(), clauses, first, &mut self.hints)?;
+        self.numbers.clear();
+        put_renumbered(learnt.hints(), clauses, first, &mut self.numbers)?;
         Ok(())
     }
 
@@ -119,12 +175,36 @@ impl ProofLine {
         ensures line { OnOk result (line_of self.new ≡ split_line id (cube_of (reverse halves.now)) left (id - 1)) }
         ensures within { OnOk result (IsStep (line_of self.new)) }
     {
+        self.kind = Kind::Addition;
         self.id = id;
         self.clause.clear();
         put_negations(halves, &mut self.clause)?;
-        self.hints.clear();
-        self.hints.push(left)?;
-        self.hints.push(id - 1)?;
+        self.numbers.clear();
+        self.numbers.push(left)?;
+        self.numbers.push(id - 1)?;
+        Ok(())
+    }
+
+    /// Becomes the line that deletes what is due behind a cube's last line, which has the number `last`; where nothing is, it has no numbers. `first` is the
+    /// number of a leaf's first line.
+    pub(crate) fn delete(&mut self, last: u64, due: Due, first: u64) -> Result<(), AllocError>
+        requires first { 1 ≤ first }
+        requires due { IsDue due last }
+        ensures line { OnOk result (line_of self.new ≡ delete (record { id = last; ids = numbers_due due first last })) }
+        ensures within { OnOk result (All (λ n. (1 ≤ n) × (n < last)) self.new.numbers.items) }
+    {
+        self.kind = Kind::Deletion;
+        self.id = last;
+        self.clause.clear();
+        self.numbers.clear();
+        match due {
+            Due::Nothing => {}
+            Due::Leaf => put_numbers(first, last, &mut self.numbers)?,
+            Due::Halves(left) => {
+                self.numbers.push(left)?;
+                self.numbers.push(last - 1)?;
+            }
+        }
         Ok(())
     }
 
@@ -133,9 +213,14 @@ impl ProofLine {
         requires { IsStep (line_of self.now) }
         ensures { IfOk result (λ step. step_of step ≡ line_of self.now) }
     {
-        let clause = Vec::from_slice(alloc, &self.clause)?;
-        let hints = Vec::from_slice(alloc, &self.hints)?;
-        let addition = Addition::new(self.id, clause, hints, Vec::new(alloc));
-        Ok(Step::Add(addition))
+        let numbers = Vec::from_slice(alloc, &self.numbers)?;
+        match self.kind {
+            Kind::Addition => {
+                let clause = Vec::from_slice(alloc, &self.clause)?;
+                let addition = Addition::new(self.id, clause, numbers, Vec::new(alloc));
+                Ok(Step::Add(addition))
+            }
+            Kind::Deletion => Ok(Step::Delete(Deletion::new(self.id, numbers))),
+        }
     }
 }

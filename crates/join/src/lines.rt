@@ -1,14 +1,17 @@
-//! The lines of a refuted tree's proof, one after the other: the left subtree's, the right subtree's, then the line of the split.
-ghost use Rattle.std.specs.Prelude.{◌≡◌, ℕ, ◌≤◌, ◌<◌, IfOk, OnOk};
+//! The lines of a refuted tree's proof, one after the other: those of the pure literals, and then, subtree by subtree, the left half's lines, the right
+//! half's, and that of the split, with what each leaves to be deleted.
+ghost use Rattle.std.specs.Prelude.{◌≡◌, ℕ, ◌+◌, ◌≤◌, [], IfOk};
+ghost use Rattle.std.specs.Bool.{OnFalse};
+ghost use Rattle.std.specs.Vec.Iter.{into_iter_items};
 ghost use Rattle.theory.specs.ProofReading.{IsStep, max_number};
 ghost use Rattle.cubes.specs.Result.{IsResultOf};
-ghost use Rattle.join.specs.Numbered.{AreNodesOf, AreStepsOf, AreAccepted, AreWithin};
-ghost use Rattle.join.specs.Walking.{line_of, lines_left, Gives, GoesOn, IsLawful, IsUnder, IsWithin, OnMore, Reaches};
+ghost use Rattle.join.specs.Numbered.{AreNodesOf, AreUnitsOf, AreStepsOf, AreAccepted, AreWithin};
+ghost use Rattle.join.specs.Walking.{line_of, lines_left, GoesOn, IsLawful, Makes, OnMore};
 
-use crate::line::{Half, ProofLine};
+use crate::line::{Due, ProofLine};
 use crate::room::Need;
-use cdcl::Line;
-use cnf::Formula;
+use crate::walk::{Source, Walk, due_behind};
+use cnf::{Formula, Lit};
 use cubes::{Node, Tree};
 use lrat::MAX_NUMBER;
 use std::alloc::{AllocError, Global};
@@ -18,39 +21,33 @@ use std::vec::IntoIter;
 /// let go on the way.
 #[derive(Drop)]
 pub struct Lines {
-    /// How many clauses the search of a cube begins with: the numbers up to it are theirs.
-    clauses: u64,
+    /// The pure literals whose lines are still to come.
+    units: IntoIter<Lit>,
 
-    /// The number of the next line.
-    next: u64,
+    /// The number of the next one's line.
+    unit: u64,
 
-    /// The splits on the way from the root.
-    halves: Vec<Half>,
+    /// The way through the tree.
+    walk: Walk,
 
-    /// The number of the first line of the leaf that was reached last.
-    first: u64,
-
-    /// That leaf's lines that are still to come.
-    leaf: IntoIter<Line>,
-
-    /// The nodes behind that leaf.
-    nodes: IntoIter<Node>,
+    /// What the tree's line that was given last leaves to be deleted.
+    due: Due,
 
     /// The line that was given last.
     line: ProofLine,
 }
 
-/// Where the next line comes from.
-#[derive(Drop)]
-enum Source {
-    /// A line of a leaf.
-    Learnt(Line),
-
-    /// A split of which both halves are done; the number is that of the left half's last line.
-    Split(u64),
-
-    /// There is no more line.
-    End,
+/// The pure literals that a result's proof begins with; that of a model has none.
+fn units_of(alloc: Global, formula: &Formula, tree: &Tree) -> Result<Vec<Lit>, AllocError>
+    ensures { IfOk result (λ units. AreUnitsOf formula.now tree.now units.items) }
+{
+    match tree {
+        Tree::Model(_) => Ok(Vec::new(alloc)),
+        Tree::Refuted(_) => {
+            let units = formula.pure(alloc)?;
+            Ok(units)
+        }
+    }
 }
 
 /// The nodes of a result; a model has none.
@@ -74,17 +71,17 @@ impl Lines {
         ensures lawful { IfOk result IsLawful }
     {
         let clauses = formula.clauses().len() as u64;
+        let units = units_of(alloc, formula, &tree)?;
+        let first_clauses = clauses + units.len() as u64;
         let nodes = nodes_of(alloc, tree);
         let need = Need::of(&nodes, formula.vars() as usize);
         let literals = need.literals.saturating_add(need.splits);
         Ok(Lines {
-            clauses,
-            next: clauses + 1,
-            halves: Vec::with_capacity(alloc, need.splits)?,
-            first: clauses + 1,
-            leaf: Vec::new(alloc).into_iter(),
-            nodes: nodes.into_iter(),
-            line: ProofLine::with_room(alloc, literals, need.hints)?,
+            units: units.into_iter(),
+            unit: clauses + 1,
+            walk: Walk::over(alloc, first_clauses, nodes, need.splits)?,
+            due: Due::Nothing,
+            line: ProofLine::with_room(alloc, literals, need.numbers)?,
         })
     }
 
@@ -95,57 +92,76 @@ impl Lines {
         &self.line
     }
 
-    /// The most bytes that a line's text has: 12 a literal, 21 a hint, 25 for the number and the zeros. A size stops at the greatest one.
+    /// The most bytes that a line's text has: 12 a literal, 21 a hint or a number to be deleted, 25 for the line's own number and the marks. A size stops at
+    /// the greatest one.
     pub fn line_size(&self) -> usize {
         let literals = self.line.clause.capacity().saturating_mul(12);
-        let hints = self.line.hints.capacity().saturating_mul(21);
-        literals.saturating_add(hints).saturating_add(25)
+        let numbers = self.line.numbers.capacity().saturating_mul(21);
+        literals.saturating_add(numbers).saturating_add(25)
     }
 
-    /// Goes down to the next leaf, if there is one.
-    fn descend(&mut self) -> Result<(), AllocError>
-        requires { IsUnder self.old }
-        ensures { OnOk result (Reaches self.old self.new) }
+    /// Makes the next pure literal's line, if there is one.
+    fn next_unit(&mut self) -> Result<bool, AllocError>
+        requires { IsLawful self.old }
+        ensures made { IfOk result (λ more. Makes self.old self.new more) }
+        ensures none { IfOk result (λ more. OnFalse more (into_iter_items self.new.units ≡ [])) }
     {
-        while let Some(node) = self.nodes.next() {
-            match node {
-                Node::Split(var) => self.halves.push(Half { var, left: None })?,
-                Node::Leaf(refutation) => {
-                    self.first = self.next;
-                    self.leaf = refutation.lines.into_iter();
-                    return Ok(());
-                }
-            }
-        }
-        Ok(())
+        let Some(literal) = self.units.next() else {
+            return Ok(false);
+        };
+        self.line.unit(self.unit, literal)?;
+        self.unit += 1;
+        Ok(true)
     }
 
-    /// Goes on to where the next line comes from: the leaf's next line; behind its last one the split above whose halves are both done, or else the
-    /// first leaf of the half beside it.
-    fn next_source(&mut self) -> Result<Source, AllocError>
+    /// Makes the deletion that is due, if there is one. Behind the root's last line nothing is deleted: that is the empty clause, with which a proof ends.
+    fn next_deletion(&mut self) -> Result<bool, AllocError>
         requires lawful { IsLawful self.old }
-        requires fits { self.old.next ≤ max_number }
-        ensures gives { IfOk result (λ s. Gives self.old self.new s) }
-        ensures within { IfOk result (λ s. IsWithin self.new s) }
-        ensures next { OnOk result (self.new.next ≡ self.old.next) }
+        requires units { into_iter_items self.old.units ≡ [] }
+        ensures made { IfOk result (λ more. Makes self.old self.new more) }
+        ensures none { IfOk result (λ more. OnFalse more ((into_iter_items self.new.units ≡ []) × (self.new.due ≡ Due.Nothing))) }
     {
-        if let Some(learnt) = self.leaf.next() {
-            return Ok(Source::Learnt(learnt));
+        let due = self.due;
+        self.due = Due::Nothing;
+        if self.walk.halves.is_empty() {
+            return Ok(false);
         }
-        if let Some(half) = self.halves.pop() {
-            if let Some(left) = half.left {
-                return Ok(Source::Split(left));
+        self.line.delete(self.walk.next - 1, due, self.walk.first)?;
+        Ok(!self.line.numbers.is_empty())
+    }
+
+    /// Makes the tree's next clause, if there is one.
+    fn next_addition(&mut self) -> Result<bool, AllocError>
+        requires lawful { IsLawful self.old }
+        requires units { into_iter_items self.old.units ≡ [] }
+        requires due { self.old.due ≡ Due.Nothing }
+        ensures rest { IfOk result (λ more. GoesOn (lines_left self.old) (lines_left self.new) (line_of self.new.line) more) }
+        ensures within { IfOk result (λ more. OnMore (IsStep (line_of self.new.line)) more) }
+        ensures lawful { IfOk result (λ more. OnMore (IsLawful self.new) more) }
+    {
+        if self.walk.next > MAX_NUMBER {
+            return Err(AllocError);
+        }
+        let id = self.walk.next;
+        match self.walk.next_source()? {
+            Source::Learnt(learnt) => {
+                self.line.learn(
+                    id,
+                    &learnt,
+                    &self.walk.halves,
+                    self.walk.clauses,
+                    self.walk.first,
+                )?;
+                self.due = due_behind(&self.walk.leaf);
             }
-            self.halves.push(Half {
-                var: half.var,
-                left: Some(self.next - 1),
-            })?;
+            Source::Split(left) => {
+                self.line.split(id, left, &self.walk.halves)?;
+                self.due = Due::Halves(left);
+            }
+            Source::End => return Ok(false),
         }
-        self.descend()?;
-        match self.leaf.next() {
-            Some(learnt) => Ok(Source::Learnt(learnt)),
-            None => Ok(Source::End),
-        }
+        self.walk.next += 1;
+        Ok(true)
     }
 
     /// Makes the next line, which `line` shows then; it answers whether there was one more. It fails only where a request for memory is refused, or
@@ -156,19 +172,13 @@ impl Lines {
         ensures within { IfOk result (λ more. OnMore (IsStep (line_of self.new.line)) more) }
         ensures lawful { IfOk result (λ more. OnMore (IsLawful self.new) more) }
     {
-        if self.next > MAX_NUMBER {
-            return Err(AllocError);
+        if self.next_unit()? {
+            return Ok(true);
         }
-        let id = self.next;
-        match self.next_source()? {
-            Source::Learnt(learnt) => {
-                self.line
-                    .learn(id, &learnt, &self.halves, self.clauses, self.first)?;
-            }
-            Source::Split(left) => self.line.split(id, left, &self.halves)?,
-            Source::End => return Ok(false),
+        if self.next_deletion()? {
+            return Ok(true);
         }
-        self.next += 1;
-        Ok(true)
+        let more = self.next_addition()?;
+        Ok(more)
     }
 }

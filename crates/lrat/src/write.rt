@@ -1,7 +1,7 @@
 //! The text of a step.
 ghost use Rattle.std.specs.Prelude.{◌≡◌, [], ◌∷◌, ◌++◌, map, codes, decimal, OnOk, OnErr};
 ghost use Rattle.theory.specs.Texts.{space, literal_text, group_words, groups_words, step_text};
-ghost use Rattle.theory.specs.Steps.{add};
+ghost use Rattle.theory.specs.Steps.{add, delete};
 ghost use Rattle.lrat.specs.Steps.{step_of};
 ghost use Rattle.lrat.specs.Words.{spaced, begun_line, Extends};
 
@@ -125,15 +125,32 @@ fn append_addition(addition: &Addition, out: &mut Vec<u8>) -> Result<(), AllocEr
     append_end(out)
 }
 
+/// Appends the line that deletes the clauses of these numbers.
+fn append_ids(id: u64, ids: &[u64], out: &mut Vec<u8>) -> Result<(), AllocError>
+    ensures ok { OnOk result (out.new.items ≡ out.old.items ++ step_text (delete (record { id = id; ids = ids.now }))) }
+    ensures extends { Extends out.old.items out.new.items }
+{
+    append_number(id, out)?;
+    out.extend_from_slice(b"d ")?;
+    append_numbers(ids, out)?;
+    append_end(out)
+}
+
+/// Appends the line of a deletion, of which only the parts are there: the number that it carries, and those of the clauses that it deletes. Where
+/// a growth is refused, a beginning of the line may stand. No other memory is taken.
+pub fn write_deletion(id: u64, ids: &[u64], out: &mut Vec<u8>) -> Result<(), AllocError>
+    ensures { OnOk result (out.new.items ≡ out.old.items ++ step_text (delete (record { id = id; ids = ids.now }))) }
+{
+    append_ids(id, ids, out)?;
+    Ok(())
+}
+
 /// Appends the line of a deletion.
 fn append_deletion(deletion: &Deletion, out: &mut Vec<u8>) -> Result<(), AllocError>
     ensures ok { OnOk result (out.new.items ≡ out.old.items ++ step_text (step_of (Step.Delete deletion.now))) }
     ensures extends { Extends out.old.items out.new.items }
 {
-    append_number(deletion.id(), out)?;
-    out.extend_from_slice(b"d ")?;
-    append_numbers(deletion.ids(), out)?;
-    append_end(out)
+    append_ids(deletion.id(), deletion.ids(), out)
 }
 
 /// Appends the step's line: its words with single spaces, and a line feed. A refused growth leaves the vector as it was.

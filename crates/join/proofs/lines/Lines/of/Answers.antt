@@ -1,15 +1,21 @@
-use Rattle.std.proofs.Common.{◌≡◌, List, length, ap, sym, ◌∙◌, refl}
+use Rattle.std.proofs.Common.{◌≡◌, ◌+◌, List, length, ap, sym, ◌∙◌, refl, arith}
 use Rattle.std.proofs.lemmas.List.{length-map}
 use Rattle.theory.specs.Literals.{Clause}
+use Rattle.join.specs.declared.line.Due.TheVariants.{Nothing}
+use Rattle.join.specs.declared.lines.Lines.{Lines}
 use Rattle.join.proofs.JoinLemmas.{begun-steps, accepted-steps, within-steps, IsLawful-begun}
 use Rattle.join.proofs.lines.Lines.of.Goals as goal
 
 pub returns-clause-steps : goal.returns-clause-steps
 returns-clause-steps c =
-    let N = length c.clauses.result.now in
-    let count : N ≡ length c.args.formula.now.clauses = sym (length-map _ _) ∙ ap (λ (K : List Clause). length K) c.clauses.ensures.clauses in
-    rw (c.in_ok-with_capacity.ensures.items, c.into_iter.ensures.rest, c.new.ensures.items, c.into_iter-2.ensures.rest)
-    (begun-steps c.args.formula.now N c.args.tree c.nodes_of-nodes.result.items count c.nodes_of-nodes.ensures)
+    let C = length c.clauses.result.now in
+    let units = c.in_ok-units.units in
+    let count : C ≡ length c.args.formula.now.clauses = sym (length-map _ _) ∙ ap (λ (K : List Clause). length K) c.clauses.ensures.clauses in
+    let long = units.ok in
+    let len = c.len.ensures in
+    let l : Lines = record { units = c.into_iter.result; unit = C + 1; walk = c.in_ok-over.field-0; due = Nothing; line = c.in_ok-with_room.field-0 } in
+    begun-steps l c.args.formula.now (C + c.len.result) c.args.tree units.items c.nodes_of-nodes.result.items (ap (λ n. n + 1) count) c.into_iter.ensures.rest refl c.in_ok-over.ensures
+    (omega arith) c.in_ok-units.ensures c.nodes_of-nodes.ensures
 
 pub returns-clause-within : goal.returns-clause-within
 returns-clause-within c =
@@ -21,7 +27,11 @@ returns-clause-accepted c =
 
 pub returns-clause-lawful : goal.returns-clause-lawful
 returns-clause-lawful c =
-    let N = length c.clauses.result.now in
-    let count : N ≡ length c.args.formula.now.clauses = sym (length-map _ _) ∙ ap (λ (K : List Clause). length K) c.clauses.ensures.clauses in
-    IsLawful-begun _ c.args.formula.now c.requires.0 c.args.tree c.nodes_of-nodes.result.items c.clauses.ensures.within count refl refl c.in_ok-with_capacity.ensures.items (c.into_iter.ensures.rest ∙ c.new.ensures.items) c.into_iter-2.ensures.rest
-    c.requires.1 c.nodes_of-nodes.ensures
+    let C = length c.clauses.result.now in
+    let units = c.in_ok-units.units in
+    let count : C ≡ length c.args.formula.now.clauses = sym (length-map _ _) ∙ ap (λ (K : List Clause). length K) c.clauses.ensures.clauses in
+    let long = units.ok in
+    let len = c.len.ensures in
+    let l : Lines = record { units = c.into_iter.result; unit = C + 1; walk = c.in_ok-over.field-0; due = Nothing; line = c.in_ok-with_room.field-0 } in
+    IsLawful-begun l c.args.formula.now c.requires.0 (C + c.len.result) c.args.tree units.items c.nodes_of-nodes.result.items c.clauses.ensures.within (ap (λ n. n + 1) count) c.into_iter.ensures.rest refl
+    c.in_ok-over.ensures (omega arith) c.in_ok-units.ensures c.requires.1 c.nodes_of-nodes.ensures

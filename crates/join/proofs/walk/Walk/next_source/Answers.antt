@@ -3,11 +3,11 @@ use Rattle.std.proofs.lemmas.List.{nil_from_length}
 use Rattle.std.specs.Vec.Iter.{into_iter_items}
 use Rattle.cubes.specs.Result.{node_of}
 use Rattle.join.specs.Joining.{lines_entered}
-use Rattle.join.specs.Walking.{lines_left, lines_under}
+use Rattle.join.specs.Walking.{tree_left, tree_under}
 use Rattle.join.proofs.LawLemmas.{IsUnder-right, IsUnder-root}
 use Rattle.join.proofs.WalkLemmas.{lines_from-learnt, gives-learnt, gives-split, goes-right, goes-down}
-use Rattle.join.proofs.lines.Lines.next_source.Goals.{in-Some-pop+in_default-left+in_ok-push, in_default-pop}
-use Rattle.join.proofs.lines.Lines.next_source.Goals as goal
+use Rattle.join.proofs.walk.Walk.next_source.Goals.{in-Some-pop+in_default-left+in_ok-push, in_default-pop}
+use Rattle.join.proofs.walk.Walk.next_source.Goals as goal
 
 pub returns-in-Some-clause-gives : goal.returns-in-Some-clause-gives
 returns-in-Some-clause-gives c =
@@ -50,7 +50,7 @@ returns-in-Some-next-clause-gives c =
     let before = l.leaf.rest.ok in
     let zero = c.in_default.ensures.cases.0 in
     let none : into_iter_items l.leaf ≡ [] = nil_from_length _ (omega arith) in
-    let under : lines_left l ≡ lines_under c.match-pop.self =
+    let under : tree_left l ≡ tree_under c.match-pop.self =
     elim c.match-pop.branch [
       | in-Some-pop+in_default-left+in_ok-push w ↦ rw w.self-is
           (goes-right l.clauses l.first l.next l.halves.items c.pop.new.self.items w.push.new.self.items w.in-Some-pop.half (into_iter_items l.leaf) (map node_of (into_iter_items l.nodes)) none w.in-Some-pop.ensures.items w.in_default-left.is w.in_ok-push.ensures.items)
