@@ -16,6 +16,7 @@ mod restarts;
 mod rows;
 mod runs;
 mod scan;
+mod units;
 mod visits;
 
 fn has_var(lits: &[Lit], var: u32) -> bool
@@ -48,6 +49,13 @@ fn opened(alloc: Global, text: &[u8], numbers: &[i32]) -> Result<Kernel, Fail> {
     let formula = read_formula(alloc, text)?;
     let cube = cube_of(alloc, formula.vars(), numbers)?;
     Ok(Kernel::open(alloc, &formula, &cube)?)
+}
+
+fn opened_with(alloc: Global, text: &[u8], units: &[i32], numbers: &[i32]) -> Result<Kernel, Fail> {
+    let formula = read_formula(alloc, text)?;
+    let units = cube_of(alloc, formula.vars(), units)?;
+    let cube = cube_of(alloc, formula.vars(), numbers)?;
+    Ok(Kernel::open_with(alloc, &formula, units.lits(), &cube)?)
 }
 
 /// Whether the trail has these entries: number, reason or 0, level.
@@ -287,14 +295,25 @@ impl<'a> Row<'a> {
     }
 }
 
-/// Whether a kernel that is opened with a cube goes through these rows.
-fn goes(alloc: Global, text: &[u8], numbers: &[i32], rows: &[Row]) -> Result<bool, Fail> {
-    let mut kernel = opened(alloc, text, numbers)?;
+/// Whether a kernel goes through these rows.
+fn goes_on(alloc: Global, kernel: &mut Kernel, rows: &[Row]) -> Result<bool, AllocError> {
     for row in rows {
-        let is_done = acts(alloc, &mut kernel, row.act)?;
-        if !is_done || kernel.close()? != row.answer || !stands(&kernel, row.wanted) {
+        let is_done = acts(alloc, kernel, row.act)?;
+        if !is_done || kernel.close()? != row.answer || !stands(kernel, row.wanted) {
             return Ok(false);
         }
     }
     Ok(true)
+}
+
+/// Whether a kernel that is opened with a cube goes through these rows.
+fn goes(alloc: Global, text: &[u8], numbers: &[i32], rows: &[Row]) -> Result<bool, Fail> {
+    let mut kernel = opened(alloc, text, numbers)?;
+    Ok(goes_on(alloc, &mut kernel, rows)?)
+}
+
+/// Whether a kernel that is opened with units, at the root, goes through these rows.
+fn goes_with(alloc: Global, text: &[u8], units: &[i32], rows: &[Row]) -> Result<bool, Fail> {
+    let mut kernel = opened_with(alloc, text, units, &[])?;
+    Ok(goes_on(alloc, &mut kernel, rows)?)
 }

@@ -77,11 +77,12 @@ struct Twins {
 }
 
 impl Twins {
-    fn open(alloc: Global, formula: &Formula) -> Result<Twins, AllocError> {
-        let cube = cube_of(alloc, formula.vars(), &[])?;
+    fn open(alloc: Global, formula: &Formula, units: &[i32]) -> Result<Twins, AllocError> {
+        let units = cube_of(alloc, formula.vars(), units)?;
+        let root = cube_of(alloc, formula.vars(), &[])?;
         Ok(Twins {
-            kernel: Kernel::open(alloc, formula, &cube)?,
-            scan: Scan::open(alloc, formula.clauses(), cube.lits())?,
+            kernel: Kernel::open_with(alloc, formula, units.lits(), &root)?,
+            scan: Scan::open(alloc, formula.clauses(), units.lits(), root.lits())?,
             is_quiet: false,
             is_back: false,
             agree: true,
@@ -191,18 +192,24 @@ impl Twins {
     }
 }
 
-/// The kernel and the scan after a run that begins with the whole formula. Where the kernel was used for another cube before, that leaves no
-/// trace.
+/// What a run begins from: a formula, and units behind it. Where the kernel was used for another cube before, that leaves no trace.
+#[derive(Clone, Copy)]
+struct Start<'a> {
+    formula: &'a Formula,
+    units: &'a [i32],
+    before: &'a [i32],
+}
+
+/// The kernel and the scan after a run.
 fn replayed(
     alloc: Global,
-    formula: &Formula,
-    before: &[i32],
+    start: &Start,
     all: &[Operation],
     run: &[usize],
 ) -> Result<Twins, AllocError> {
-    let mut twins = Twins::open(alloc, formula)?;
-    if !before.is_empty() {
-        twins.use_for(alloc, before)?;
+    let mut twins = Twins::open(alloc, start.formula, start.units)?;
+    if !start.before.is_empty() {
+        twins.use_for(alloc, start.before)?;
     }
     for place in run {
         if let Some(operation) = all.get(*place) {
@@ -218,14 +225,19 @@ const LONGEST: usize = 6;
 // more than the runs of any formula here
 const MOST: u32 = 1_000_000;
 
-/// Whether the kernel and the scan agree in all runs over a formula.
-fn agree(alloc: Global, text: &[u8], before: &[i32]) -> Result<bool, Fail> {
+/// Whether the kernel and the scan agree in all runs over a formula and units behind it.
+fn agree(alloc: Global, text: &[u8], units: &[i32], before: &[i32]) -> Result<bool, Fail> {
     let formula = read_formula(alloc, text)?;
+    let start = Start {
+        formula: &formula,
+        units,
+        before,
+    };
     let all = operations(alloc)?;
     let mut run: Vec<usize> = Vec::new(alloc);
     let mut from = 0usize;
     for _ in 0..MOST {
-        let mut twins = replayed(alloc, &formula, before, &all, &run)?;
+        let mut twins = replayed(alloc, &start, &all, &run)?;
         match twins.first_lawful(alloc, &all, from)? {
             Some(_) if !twins.agree => return Ok(false),
             Some(place) if run.len() + 1 < LONGEST => {
@@ -265,7 +277,7 @@ const FORMULAS: [&[u8]; 17] = [
 #[test]
 fn all_runs_of_six_operations(rt: HostRuntime) -> Result<(), Fail> {
     for text in FORMULAS {
-        assert!(rt; agree(rt.alloc(), text, &[])?);
+        assert!(rt; agree(rt.alloc(), text, &[], &[])?);
     }
     Ok(())
 }
@@ -273,14 +285,30 @@ fn all_runs_of_six_operations(rt: HostRuntime) -> Result<(), Fail> {
 #[test]
 fn all_runs_over_a_thousand_clauses(rt: HostRuntime) -> Result<(), Fail> {
     let text = thousand(rt.alloc())?;
-    assert!(rt; agree(rt.alloc(), &text, &[])?);
+    assert!(rt; agree(rt.alloc(), &text, &[], &[])?);
     Ok(())
 }
 
 #[test]
 fn all_runs_behind_other_cubes(rt: HostRuntime) -> Result<(), Fail> {
     for text in FORMULAS {
-        assert!(rt; agree(rt.alloc(), text, &[-1, 2])?);
+        assert!(rt; agree(rt.alloc(), text, &[], &[-1, 2])?);
+    }
+    Ok(())
+}
+
+#[test]
+fn all_runs_with_a_unit(rt: HostRuntime) -> Result<(), Fail> {
+    for text in FORMULAS {
+        assert!(rt; agree(rt.alloc(), text, &[-2], &[])?);
+    }
+    Ok(())
+}
+
+#[test]
+fn all_runs_with_units_behind_other_cubes(rt: HostRuntime) -> Result<(), Fail> {
+    for text in FORMULAS {
+        assert!(rt; agree(rt.alloc(), text, &[3, -1], &[-1, 2])?);
     }
     Ok(())
 }

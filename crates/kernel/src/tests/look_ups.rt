@@ -123,16 +123,16 @@ fn decide_all(kernel: &mut Kernel) -> Result<bool, AllocError> {
 
 fn decide_least(kernel: &mut Kernel) -> Result<bool, AllocError> {
     match kernel.least_free() {
-        Some(var) if var < 65536 => decide(kernel, -(var as i32)),
+        Some(var) if var < 262144 => decide(kernel, -(var as i32)),
         _ => Ok(false),
     }
 }
 
 #[test]
 fn decides_each_of_many_variables(rt: HostRuntime) -> Result<(), Fail> {
-    let mut kernel = opened(rt.alloc(), b"p cnf 65535 0\n", &[])?;
+    let mut kernel = opened(rt.alloc(), b"p cnf 262143 0\n", &[])?;
     assert!(rt; decide_all(&mut kernel)?);
-    assert_eq!(rt; kernel.level(), 65535);
+    assert_eq!(rt; kernel.level(), 262143);
     Ok(())
 }
 

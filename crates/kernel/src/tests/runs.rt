@@ -30,9 +30,11 @@ impl Twins {
         let vars = formula.vars();
         let numbers = [dice.number_or_0(vars), dice.number_or_0(vars)];
         let cube = cube_of(alloc, formula.vars(), &numbers)?;
+        let numbers = [dice.number_or_0(vars), dice.number_or_0(vars)];
+        let units = cube_of(alloc, formula.vars(), &numbers)?;
         Ok(Twins {
-            kernel: Kernel::open(alloc, formula, &cube)?,
-            scan: Scan::open(alloc, formula.clauses(), cube.lits())?,
+            kernel: Kernel::open_with(alloc, formula, units.lits(), &cube)?,
+            scan: Scan::open(alloc, formula.clauses(), units.lits(), cube.lits())?,
         })
     }
 

@@ -7,20 +7,29 @@ use std::alloc::{AllocError, Global};
 #[derive(Drop)]
 pub struct Scan {
     clauses: Vec<Vec<Lit>>,
-    // how many of the clauses are the formula's
+    // how many of the clauses were there from the beginning
     first: usize,
     trail: Vec<Entry>,
 }
 
 impl Scan {
-    pub fn open(alloc: Global, clauses: &[Vec<Lit>], cube: &[Lit]) -> Result<Scan, AllocError> {
+    /// The clauses, those of the units behind them, and the cube.
+    pub fn open(
+        alloc: Global,
+        clauses: &[Vec<Lit>],
+        units: &[Lit],
+        cube: &[Lit],
+    ) -> Result<Scan, AllocError> {
         let mut scan = Scan {
             clauses: Vec::new(alloc),
-            first: clauses.len(),
+            first: clauses.len().saturating_add(units.len()),
             trail: Vec::new(alloc),
         };
         for clause in clauses {
             scan.learn(clause)?;
+        }
+        for unit in units {
+            scan.learn(&[*unit])?;
         }
         scan.restart(cube)?;
         Ok(scan)
