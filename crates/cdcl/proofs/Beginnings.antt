@@ -11,6 +11,7 @@ use Rattle.theory.specs.Search as definition
 use Rattle.theory.specs.Search.{first_clauses}
 use Rattle.theory.proofs.OpenTrails.{IsOpenBelow-cube_trail}
 use Rattle.theory.proofs.OutcomeLemmas.{Runs-says}
+use Rattle.theory.proofs.PureVariables.{IsFormula-searched}
 use Rattle.theory.proofs.TrailLists.{literals-cube}
 use Rattle.kernel.specs.State.{State}
 use Rattle.cdcl.specs.Searching.{IsReady, Begins, GoesOn, search_of}
@@ -81,14 +82,14 @@ IsReady-GoesOn F k l ready goes = record {
 }
 
 -- what a search that was begun runs to, is the cube's outcome
-pub Begins-runs : (F : Formula) (B : ℕ) (Q : List Literal) (s : Search) (o : definition.Outcome) → Begins F Q s → definition.RunsFrom s.kernel.vars B (search_of s) o → definition.Runs F B Q o
+pub Begins-runs : (F : Formula) (B : ℕ) (Q : List Literal) (s : Search) (o : definition.Outcome) → Begins F Q s → definition.RunsFrom s.kernel.vars (definition.budget_of B Q) (search_of s) o → definition.Runs F B Q o
 Begins-runs F B Q s o begins runs = rw (begins.begun, begins.ready.vars) at runs
 
 -- what the outcome of the cube says
-pub Begins-says : (F : Formula) (B : ℕ) (Q : List Literal) (s : Search) (o : definition.Outcome) → Begins F Q s → IsOver F.vars Q → definition.RunsFrom s.kernel.vars B (search_of s) o → OutcomeSays F Q o
+pub Begins-says : (F : Formula) (B : ℕ) (Q : List Literal) (s : Search) (o : definition.Outcome) → Begins F Q s → IsOver F.vars Q → definition.RunsFrom s.kernel.vars (definition.budget_of B Q) (search_of s) o → OutcomeSays F Q o
 Begins-says F B Q s o begins over runs =
     let clauses : s.kernel.clauses ≡ first_clauses F = ap (λ (t : definition.Search). t.clauses) begins.begun in
     let trail : s.kernel.trail ≡ cube_trail Q = ap (λ (t : definition.Search). t.trail) begins.begun in
     let all : All (IsOver F.vars) (first_clauses F) = rw (clauses, begins.ready.vars) at begins.searching.clauses_over in
     let lawful : IsLawful (first_clauses F) (cube_trail Q) = rw (clauses, trail) at begins.searching.lawful in
-    Runs-says F B Q o all (subst (IsDistinctFrom []) (literals-cube Q) (IsDistinctFrom-lawful (first_clauses F) [] (cube_trail Q) lawful)) over (Begins-runs F B Q s o begins runs)
+    Runs-says F B Q o (IsFormula-searched F all) (subst (IsDistinctFrom []) (literals-cube Q) (IsDistinctFrom-lawful (first_clauses F) [] (cube_trail Q) lawful)) over (Begins-runs F B Q s o begins runs)

@@ -3,6 +3,7 @@
 #![tactic(auto)]
 
 mod analysis;
+mod budget;
 mod halves;
 mod level;
 mod marks;

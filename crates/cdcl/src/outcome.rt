@@ -4,8 +4,8 @@ ghost use Rattle.std.specs.Prelude.{◌≡◌};
 use cnf::Lit;
 use std::marker::Model;
 
-/// A learnt clause without the cube's literals, by rising variable, and the numbers of the clauses that it was resolved from. Inside
-/// a cube the numbers above the formula's count the cube's own lines.
+/// A learnt clause without the cube's literals, by rising variable, and the numbers of the clauses that it was resolved from. Behind the
+/// formula's clauses come the unit clauses of its pure literals; the numbers above these count the cube's own lines.
 #[derive(Drop)]
 pub struct Line {
     clause: Vec<Lit>,
@@ -59,9 +59,10 @@ pub struct Refutation {
 /// What the search in a cube comes to.
 #[derive(Drop)]
 pub enum Outcome {
-    /// The truth values of the variables 1, 2 and so on: the first assignment that satisfies the formula and the cube.
+    /// The truth values of the variables 1, 2 and so on: the first assignment that satisfies the formula and the cube and has the pure
+    /// variables false.
     Model(Vec<bool>),
-    /// No assignment satisfies the formula and the cube.
+    /// No assignment satisfies the formula and the cube and has the pure variables false.
     Refuted(Refutation),
     /// The budget of conflicts is used up; the variable is the first one that was decided.
     Exhausted(u32),

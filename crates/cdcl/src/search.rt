@@ -46,12 +46,13 @@ fn values(alloc: Global, kernel: &Kernel) -> Result<Vec<bool>, AllocError>
 }
 
 impl Search {
-    /// A search of a formula, before its first cube.
+    /// A search of a formula, before its first cube: over its clauses, and behind them a unit clause for each pure literal.
     pub(crate) fn open(alloc: Global, formula: &Formula) -> Result<Search, AllocError>
         ensures { IfOk result (λ s. IsReady formula.now s.kernel) }
     {
+        let units = formula.pure(alloc)?;
         Ok(Search {
-            kernel: Kernel::open(alloc, formula, &Cube::root(alloc))?,
+            kernel: Kernel::open_with(alloc, formula, &units, &Cube::root(alloc))?,
             conflicts: 0,
             decided: None,
             lines: Vec::new(alloc),

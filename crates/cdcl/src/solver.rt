@@ -5,6 +5,7 @@ ghost use Rattle.theory.specs.Search.{Runs};
 ghost use Rattle.theory.specs.Results.{OutcomeSays};
 ghost use Rattle.cdcl.specs.Outcome.{outcome_of};
 
+use crate::budget::budget_of;
 use crate::outcome::Outcome;
 use crate::search::Search;
 use cnf::Formula;
@@ -13,8 +14,9 @@ use std::alloc::{AllocError, Global};
 use std::marker::Model;
 use std::snapshot::Snapshot;
 
-/// Solves cubes of one formula. The formula's clauses are copied once, and the room for analysis is made once, so that a cube costs what
-/// its search does and not what the formula holds. Once a call has met want of memory, each later one answers it.
+/// Solves cubes of one formula. The formula's clauses are copied once, with a unit clause for each of its pure literals, and the room for
+/// analysis is made once, so that a cube costs what its search does and not what the formula holds. A cube's budget is the root's times one
+/// more than the cube's literals, and at most 1,000,000. Once a call has met want of memory, each later one answers it.
 #[derive(Drop)]
 pub struct Solver {
     search: Search,
@@ -47,9 +49,9 @@ impl Solver {
         })
     }
 
-    /// The outcome of a cube over the formula's variables, with a budget of 1 to 100,000 conflicts: whatever cubes came before, it is the
-    /// same. It takes time by what the search does, and by the variables for a model alone. An error comes only where an earlier call has
-    /// met want of memory, or where a request for memory is refused, and from then on.
+    /// The outcome of a cube over the formula's variables, where the root has a budget of 1 to 100,000 conflicts, and the cube one by its
+    /// literals: whatever cubes came before, it is the same. It takes time by what the search does, and by the variables for a model
+    /// alone. An error comes only where an earlier call has met want of memory, or where a request for memory is refused, and from then on.
     pub fn solve(&mut self, cube: &Cube, budget: u32) -> Result<Outcome, AllocError>
         requires budget { (1 ≤ budget) × (budget ≤ 100000) }
         requires over { IsOver self.old.formula.vars cube.now }
@@ -65,14 +67,15 @@ impl Solver {
         }
         self.short = true; // so it stays where one of the next calls fails
         self.search.begin(cube)?;
-        let outcome = self.search.run(budget)?;
+        let conflicts = budget_of(budget, cube.lits().len());
+        let outcome = self.search.run(conflicts)?;
         self.short = false;
         Ok(outcome)
     }
 }
 
-/// The outcome of one cube over the formula's variables, with a budget of 1 to 100,000 conflicts. It takes time and memory by the formula
-/// too: who has many cubes keeps a `Solver`. An error comes only where memory was refused.
+/// The outcome of one cube over the formula's variables, where the root has a budget of 1 to 100,000 conflicts, and the cube one by its
+/// literals. It takes time and memory by the formula too: who has many cubes keeps a `Solver`. An error comes only where memory was refused.
 pub fn solve_cube(
     alloc: Global,
     formula: &Formula,

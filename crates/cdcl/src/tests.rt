@@ -10,7 +10,9 @@ use kernel::{Closed, Cube, Kernel};
 use std::alloc::{AllocError, Global};
 use std::test::Fail;
 
+mod budgets;
 mod conflicts;
+mod pure;
 mod searches;
 
 // all four clauses over two variables

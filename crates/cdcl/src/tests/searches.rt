@@ -7,8 +7,14 @@ use cnf::{Formula, read_formula};
 use std::alloc::{AllocError, Global};
 use std::test::Fail;
 
+// without the last clause the second variable would be pure, and no level left out
+const NO_PURE_VARIABLE: &[u8] = b"p cnf 4 3\n1 3 4 0\n1 3 -4 0\n2 -2 0\n";
+
+// a model with the first variable true, and one left of it
+const TWO_MODELS: &[u8] = b"p cnf 3 4\n1 2 3 0\n1 2 -3 0\n-1 2 3 0\n-1 2 -3 0\n";
+
 /// Whether the outcome is this model.
-fn is_model(outcome: Outcome, wanted: &[bool]) -> bool {
+pub(super) fn is_model(outcome: Outcome, wanted: &[bool]) -> bool {
     match outcome {
         Outcome::Model(values) => &values[..] == wanted,
         _ => false,
@@ -16,7 +22,7 @@ fn is_model(outcome: Outcome, wanted: &[bool]) -> bool {
 }
 
 /// Whether the cube is refuted by one line, without a clause, from these hints.
-fn is_refuted_from(outcome: Outcome, hints: &[u64]) -> bool {
+pub(super) fn is_refuted_from(outcome: Outcome, hints: &[u64]) -> bool {
     match outcome {
         Outcome::Refuted(refutation) => refutation.lines.len() == 1
             && has_line(&refutation, 0, &[], hints),
@@ -25,7 +31,7 @@ fn is_refuted_from(outcome: Outcome, hints: &[u64]) -> bool {
 }
 
 /// Whether the cube is refuted by two lines: a clause from its hints, and the empty clause from the others.
-fn is_refuted_by(outcome: Outcome, clause: &[i32], hints: &[u64], last: &[u64]) -> bool {
+pub(super) fn is_refuted_by(outcome: Outcome, clause: &[i32], hints: &[u64], last: &[u64]) -> bool {
     match outcome {
         Outcome::Refuted(refutation) => {
             refutation.lines.len() == 2
@@ -73,8 +79,10 @@ fn two_variables(rt: HostRuntime) -> Result<(), Fail> {
 fn a_level_left_out(rt: HostRuntime) -> Result<(), Fail> {
     let exhausted = outcome(rt.alloc(), LEVEL_LEFT_OUT, &[], 1)?;
     assert!(rt; matches!(exhausted, Outcome::Exhausted(1)));
-    let model = outcome(rt.alloc(), LEVEL_LEFT_OUT, &[], 2)?;
-    assert!(rt; is_model(model, &[false, false, true, false]));
+    for text in [LEVEL_LEFT_OUT, NO_PURE_VARIABLE] {
+        let model = outcome(rt.alloc(), text, &[], 2)?;
+        assert!(rt; is_model(model, &[false, false, true, false]));
+    }
     Ok(())
 }
 
@@ -104,12 +112,21 @@ fn two_conflicts(rt: HostRuntime) -> Result<(), Fail> {
 }
 
 #[test]
-fn one_conflict(rt: HostRuntime) -> Result<(), Fail> {
+fn one_conflict_at_the_root(rt: HostRuntime) -> Result<(), Fail> {
     let root = outcome(rt.alloc(), EIGHT, &[], 1)?;
     assert!(rt; matches!(root, Outcome::Exhausted(1)));
-    for half in [-1, 1] {
-        let exhausted = outcome(rt.alloc(), EIGHT, &[half], 1)?;
-        assert!(rt; matches!(exhausted, Outcome::Exhausted(2)));
+    // a cube of one literal has two conflicts
+    let cubes: [(i32, i32, [u64; 2], [u64; 3]); 3] = [
+        (-1, 2, [1, 2], [9, 3, 4]),
+        (1, 2, [5, 6], [9, 7, 8]),
+        (3, 1, [2, 4], [9, 6, 8]),
+    ];
+    for (literal, learnt, hints, last) in cubes {
+        let refuted = outcome(rt.alloc(), EIGHT, &[literal], 1)?;
+        assert!(rt;
+            is_refuted_by(refuted, &[learnt], &hints, &last),
+            "cube {literal}"
+        );
     }
     let quarters = [
         ([-1, -2], [1, 2]),
@@ -163,31 +180,34 @@ fn one_solver_for_all_cubes(rt: HostRuntime) -> Result<(), Fail> {
 
 #[test]
 fn models_in_turn(rt: HostRuntime) -> Result<(), Fail> {
-    let formula = read_formula(
-        rt.alloc(),
-        b"p cnf 3 4\n1 2 3 0\n1 2 -3 0\n-1 2 3 0\n-1 2 -3 0\n",
-    )?;
+    let formula = read_formula(rt.alloc(), TWO_MODELS)?;
     let mut solver = Solver::open(rt.alloc(), &formula)?;
     for _ in 0..2 {
         let refuted = solver.solve(&cube_of(rt.alloc(), formula.vars(), &[-1, -2])?, 1)?;
         assert!(rt; is_refuted_from(refuted, &[1, 2]));
-        let model = solver.solve(&cube_of(rt.alloc(), formula.vars(), &[-1, 2])?, 1)?;
+        let model = solver.solve(&cube_of(rt.alloc(), formula.vars(), &[-1])?, 1)?;
         assert!(rt; is_model(model, &[false, true, false]));
-        let exhausted = solver.solve(&cube_of(rt.alloc(), formula.vars(), &[1])?, 1)?;
-        assert!(rt; matches!(exhausted, Outcome::Exhausted(2)));
+        let exhausted = solver.solve(&cube_of(rt.alloc(), formula.vars(), &[])?, 1)?;
+        assert!(rt; matches!(exhausted, Outcome::Exhausted(1)));
     }
     Ok(())
 }
 
 #[test]
 fn models_of_some_cubes(rt: HostRuntime) -> Result<(), Fail> {
-    let text = b"p cnf 3 4\n1 2 3 0\n1 2 -3 0\n-1 2 3 0\n-1 2 -3 0\n";
-    let left = outcome(rt.alloc(), text, &[-1], 1)?;
-    assert!(rt; matches!(left, Outcome::Exhausted(2)));
-    let refuted = outcome(rt.alloc(), text, &[-1, -2], 1)?;
+    let root = outcome(rt.alloc(), TWO_MODELS, &[], 1)?;
+    assert!(rt; matches!(root, Outcome::Exhausted(1)));
+    let refuted = outcome(rt.alloc(), TWO_MODELS, &[-1, -2], 1)?;
     assert!(rt; is_refuted_from(refuted, &[1, 2]));
-    let model = outcome(rt.alloc(), text, &[-1, 2], 1)?;
-    assert!(rt; is_model(model, &[false, true, false]));
+    let models: [(&[i32], [bool; 3]); 3] = [
+        (&[-1], [false, true, false]),
+        (&[-1, 2], [false, true, false]),
+        (&[1], [true, true, false]),
+    ];
+    for (cube, values) in models {
+        let model = outcome(rt.alloc(), TWO_MODELS, cube, 1)?;
+        assert!(rt; is_model(model, &values), "cube {cube:?}");
+    }
     Ok(())
 }
 
