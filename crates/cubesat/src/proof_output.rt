@@ -1,14 +1,14 @@
 //! The text of a proof, as it is written: line by line through one buffer.
-ghost use Rattle.std.specs.Prelude.{◌≡◌, ℕ, [], take, IfOk, MatchResult};
+ghost use Rattle.std.specs.Prelude.{◌≡◌, ℕ, [], ◌++◌, take, IfOk, OnOk, MatchResult};
 ghost use Rattle.std.specs.Io.KnownBytes.{Appends};
-ghost use Rattle.theory.specs.Texts.{proof_text};
-ghost use Rattle.join.specs.Walking.{lines_left, IsLawful, OnMore};
+ghost use Rattle.theory.specs.Texts.{proof_text, step_text};
+ghost use Rattle.join.specs.Walking.{line_of, lines_left, IsLawful, OnMore};
 ghost use Rattle.cubesat.specs.Written.{Puts};
 
 use crate::fault::RunFault;
 use crate::output::{write_bytes, write_text};
-use join::Lines;
-use lrat::write_clause;
+use join::{Kind, Lines, ProofLine};
+use lrat::{write_clause, write_deletion};
 use std::alloc::{AllocError, Global};
 use std::io::Write;
 
@@ -22,6 +22,17 @@ pub(crate) fn room(alloc: Global, lines: &Lines) -> Result<Vec<u8>, AllocError>
     Vec::with_capacity(alloc, lines.line_size().saturating_add(ENOUGH))
 }
 
+/// Puts a line behind the buffer's text.
+fn put_text(line: &ProofLine, buffer: &mut Vec<u8>) -> Result<(), AllocError>
+    ensures { OnOk result (buffer.new.items ≡ buffer.old.items ++ step_text (line_of line.now)) }
+{
+    match line.kind {
+        Kind::Addition => write_clause(line.id, &line.clause, &line.numbers, buffer)?,
+        Kind::Deletion => write_deletion(line.id, &line.numbers, buffer)?,
+    }
+    Ok(())
+}
+
 /// Puts the next line into the buffer; it answers whether there was one more.
 fn put_line(lines: &mut Lines, buffer: &mut Vec<u8>) -> Result<bool, AllocError>
     requires { IsLawful lines.old }
@@ -31,8 +42,7 @@ fn put_line(lines: &mut Lines, buffer: &mut Vec<u8>) -> Result<bool, AllocError>
     if !lines.next_line()? {
         return Ok(false);
     }
-    let line = lines.line();
-    write_clause(line.id, &line.clause, &line.hints, buffer)?;
+    put_text(lines.line(), buffer)?;
     Ok(true)
 }
 
