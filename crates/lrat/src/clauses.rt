@@ -1,5 +1,5 @@
 //! The clauses that are there, by their numbers: their literals lie one behind the other in one list.
-ghost use Rattle.std.specs.Prelude.{◌≡◌, ◌≢◌, ℕ, ◌+◌, ◌<◌, ◌≤◌, true, false, None, Some, is_some, [], ◌∷◌, ◌++◌, length, IfOk, OnOk, OnErr, MatchOption, slice_get, nat_eq};
+ghost use Rattle.std.specs.Prelude.{◌≡◌, ◌≢◌, ℕ, ◌+◌, ◌<◌, ◌≤◌, true, false, None, Some, is_some, [], ◌∷◌, ◌++◌, length, IfOk, IfSome, OnOk, OnErr, MatchOption, slice_get, nat_eq};
 ghost use Rattle.std.specs.List.{list_any};
 ghost use Rattle.std.specs.Option.{option_map};
 ghost use Rattle.theory.specs.Truth.{IsOver};
@@ -23,7 +23,17 @@ pub(crate) struct Head {
     is_there: bool,
 }
 
-/// The place of the clause with a number, there or not: directly where no number was left out, else by halving.
+/// The place that the clause with a number has, if no number between it and the last clause's was left out.
+fn place_from_last(heads: &[Head], id: u64) -> Option<usize>
+    ensures { IfSome result (λ p. p < length heads.now) }
+{
+    let last = heads.len().checked_sub(1)?;
+    let behind = heads[last].id.checked_sub(id)?;
+    last.checked_sub(behind as usize)
+}
+
+/// The place of the clause with a number, there or not: directly where no number was left out before it or behind it, else by halving. Most hints of
+/// a proof that deletes what is done with are to clauses that were added last, or to the formula's.
 fn place_of(heads: &[Head], first: usize, id: u64) -> Option<usize>
     requires { AreInOrder first heads.now }
     ensures { MatchOption result
@@ -39,6 +49,11 @@ fn place_of(heads: &[Head], first: usize, id: u64) -> Option<usize>
     }
     if number <= heads.len() && heads[number - 1].id == id {
         return Some(number - 1);
+    }
+    if let Some(place) = place_from_last(heads, id) {
+        if heads[place].id == id {
+            return Some(place);
+        }
     }
     let mut low = first;
     let mut high = heads.len();
