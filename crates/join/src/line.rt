@@ -185,8 +185,8 @@ impl ProofLine {
         Ok(())
     }
 
-    /// Becomes the line that deletes what is due behind a cube's last line, which has the number `last`; where nothing is, it has no numbers. `first` is the
-    /// number of a leaf's first line.
+    /// Becomes the line that deletes what is due behind a cube's last line, which has the number `last`; where nothing is, it has no numbers.
+    /// `first` is the number of a leaf's first line.
     pub(crate) fn delete(&mut self, last: u64, due: Due, first: u64) -> Result<(), AllocError>
         requires first { 1 ≤ first }
         requires due { IsDue due last }

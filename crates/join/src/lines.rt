@@ -1,5 +1,5 @@
-//! The lines of a refuted tree's proof, one after the other: those of the pure literals, and then, subtree by subtree, the left half's lines, the right
-//! half's, and that of the split, with what each leaves to be deleted.
+//! The lines of a refuted tree's proof, one after the other: those of the pure literals, and then, subtree by subtree, the left half's
+//! lines, the right half's, and that of the split, with what each leaves to be deleted.
 ghost use Rattle.std.specs.Prelude.{◌≡◌, ℕ, ◌+◌, ◌≤◌, [], IfOk};
 ghost use Rattle.std.specs.Bool.{OnFalse};
 ghost use Rattle.std.specs.Vec.Iter.{into_iter_items};
@@ -61,8 +61,8 @@ fn nodes_of(alloc: Global, tree: Tree) -> Vec<Node>
 }
 
 impl Lines {
-    /// The lines for a formula's result: those of its tree, and none for a model. All memory that they need is asked for here; it fails only where
-    /// that is refused.
+    /// The lines for a formula's result: those of its pure literals and of its tree, and none for a model. All memory that they need is asked
+    /// for here; it fails only where that is refused.
     pub fn of(alloc: Global, formula: &Formula, tree: Tree) -> Result<Lines, AllocError>
         requires { (budget : ℕ) × IsResultOf formula.now budget tree }
         ensures steps { IfOk result (λ l. AreStepsOf formula.now tree (lines_left l)) }
@@ -92,8 +92,8 @@ impl Lines {
         &self.line
     }
 
-    /// The most bytes that a line's text has: 12 a literal, 21 a hint or a number to be deleted, 25 for the line's own number and the marks. A size stops at
-    /// the greatest one.
+    /// The most bytes that a line's text has: 12 a literal, 21 a hint or a number to be deleted, 25 for the line's own number and the marks.
+    /// A size stops at the greatest one.
     pub fn line_size(&self) -> usize {
         let literals = self.line.clause.capacity().saturating_mul(12);
         let numbers = self.line.numbers.capacity().saturating_mul(21);
@@ -114,7 +114,8 @@ impl Lines {
         Ok(true)
     }
 
-    /// Makes the deletion that is due, if there is one. Behind the root's last line nothing is deleted: that is the empty clause, with which a proof ends.
+    /// Makes the deletion that is due, if there is one. Behind the root's last line nothing is deleted: that is the empty clause, with which
+    /// a proof ends.
     fn next_deletion(&mut self) -> Result<bool, AllocError>
         requires lawful { IsLawful self.old }
         requires units { into_iter_items self.old.units ≡ [] }
