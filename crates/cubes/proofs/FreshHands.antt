@@ -1,15 +1,11 @@
 -- Hands that came home: what they did from the empty ledgers on, and that they are the pool's.
-use Rattle.std.proofs.Common.{◌≡◌, ◌≢◌, ℕ, zero, suc, ◌<◌, ◌≤◌, Bool, false, List, [], ◌∷◌, ◌++◌, map, flat_map, length, replicate, Option, Some, None, slice_get, slice_index_or, All, refl, sym, ap, ◌∙◌, subst, zero-le, arith}
+use Rattle.std.proofs.Common.{◌≡◌, ℕ, zero, suc, ◌<◌, Bool, List, [], ◌∷◌, map, length, Some, slice_get, slice_index_or, All, refl, sym, ap, ◌∙◌, subst, zero-le, arith}
 use Rattle.std.proofs.lemmas.List.{length-map}
-use Rattle.std.proofs.lemmas.List.Elements.{All-nil, All-from_get_or}
-use Rattle.std.proofs.lemmas.Option.{slice_get-get_or}
-use Rattle.theory.specs.Literals.{Literal}
+use Rattle.std.proofs.lemmas.List.Elements.{All-nil}
 use Rattle.theory.specs.Truth.{Formula}
-use Rattle.theory.specs.Trees.{IsCubeOf}
-use Rattle.theory.specs.Places.{place_of}
 use Rattle.theory.specs.Results as results
-use Rattle.theory.specs.Ledger.{Ledger, all_got, joined, offer, halt}
-use Rattle.theory.specs.Work.{IsHalfOfGot, IsFoundedOn, IsTruthful, IsThorough, IsPassedOver, IsDealtWith, IsWork, WentHome}
+use Rattle.theory.specs.Ledger.{Ledger, all_got, joined, halt}
+use Rattle.theory.specs.Work.{IsHalfOfGot, IsFoundedOn, IsTruthful, IsThorough, IsWork}
 use Rattle.theory.specs.Round.{HasWorked}
 use Rattle.theory.proofs.Membership.{Contains-none, slice_get-map, slice_get-below}
 use Rattle.theory.proofs.Joining.{IsTruthful-joined, IsThorough-joined}

@@ -70,9 +70,10 @@ impl Source {
     }
 }
 
-/// The result of the formula with a budget of 1 to 100,000 conflicts a cube, from results of cubes that are true: in any order, with cubes
-/// missing, skipped, repeated or foreign to the tree. It goes through the cubes from left to right and solves those on the spot that it
-/// needs and that have no outcome among the results, all by one solver. It fails only where a request for memory is refused.
+/// The result of the formula with a budget of 1 to 100,000 conflicts for the root, from which a cube's budget grows with its literals. It
+/// comes from results of cubes that are true: in any order, with cubes missing, skipped, repeated or foreign to the tree. `gather` goes
+/// through the cubes from left to right and solves those on the spot that it needs and that have no outcome among the results, all by one
+/// solver. It fails only where a request for memory is refused.
 pub fn gather(
     alloc: Global,
     formula: &Formula,
@@ -118,7 +119,7 @@ pub fn assemble(alloc: Global, results: Vec<Solved>) -> Result<Tree, AllocError>
     }
 }
 
-/// The result of the formula with a budget of 1 to 100,000 conflicts a cube. It fails only where a request for memory is refused.
+/// The result of the formula with a budget of 1 to 100,000 conflicts for the root. It fails only where a request for memory is refused.
 pub fn solve_one(alloc: Global, formula: &Formula, budget: u32) -> Result<Tree, AllocError>
     requires { (1 ≤ budget) × (budget ≤ 100000) }
     ensures result { IfOk result (λ t. IsResultOf formula.now budget t) }

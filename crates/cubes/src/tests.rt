@@ -1,16 +1,19 @@
-//! Worked rows, with a budget of one conflict: places of cubes, trees that are gathered from results, and what hands do and bring home.
+//! Worked rows, mostly with a budget of one conflict for the root: places of cubes, trees that are gathered from results, and what hands
+//! do and bring home.
 ghost use Rattle.std.specs.Prelude.{◌≡◌, IfOk, OnOk};
 ghost use Rattle.theory.specs.Literals.{has_var};
 ghost use Rattle.theory.specs.Truth.{IsOver};
 ghost use Rattle.cubes.specs.Solved.{AreTrue};
 
-use crate::{Node, OpenGate, Solved, Tree, What, gather, place_of, solve_one, solve_with};
+use crate::{Node, OpenGate, Solved, Tree, What, gather, place_of, solve_with};
 use cdcl::{Outcome, Refutation, solve_cube};
 use cnf::{Formula, Lit, read_formula};
 use kernel::Cube;
 use std::alloc::{AllocError, Global};
 use std::test::Fail;
 
+mod alone;
+mod deep;
 mod gates;
 mod hands;
 mod harvests;
@@ -18,6 +21,12 @@ mod harvests;
 // all eight clauses over three variables
 const EIGHT: &[u8] =
     b"p cnf 3 8\n1 2 3 0\n1 2 -3 0\n1 -2 3 0\n1 -2 -3 0\n-1 2 3 0\n-1 2 -3 0\n-1 -2 3 0\n-1 -2 -3 0\n";
+
+// all sixteen clauses over four variables
+const SIXTEEN: &[u8] = b"p cnf 4 16
+1 2 3 4 0\n1 2 3 -4 0\n1 2 -3 4 0\n1 2 -3 -4 0\n1 -2 3 4 0\n1 -2 3 -4 0\n1 -2 -3 4 0\n1 -2 -3 -4 0
+-1 2 3 4 0\n-1 2 3 -4 0\n-1 2 -3 4 0\n-1 2 -3 -4 0\n-1 -2 3 4 0\n-1 -2 3 -4 0\n-1 -2 -3 4 0\n-1 -2 -3 -4 0
+";
 
 /// What a cube comes to.
 #[derive(Clone, Copy)]
@@ -28,11 +37,14 @@ enum Given {
     Skipped(u64),
 }
 
-/// What a node has to be: a leaf has one line, the empty clause with these hints.
+/// A line of a leaf: its clause, and its hints.
+type WantedLine = (&'static [i32], &'static [u64]);
+
+/// What a node has to be.
 #[derive(Clone, Copy)]
 enum Wanted {
     Split(u32),
-    Leaf([u64; 2]),
+    Leaf(&'static [WantedLine]),
 }
 
 fn has_var(lits: &[Lit], var: u32) -> bool
@@ -110,16 +122,36 @@ fn gathered(
     Ok(Some(gather(alloc, formula, 1, results)?))
 }
 
-fn is_one_line(refutation: &Refutation, hints: &[u64]) -> bool {
-    let lines = &refutation.lines;
-    lines.len() == 1 && lines[0].clause().is_empty() && lines[0].hints() == hints
+/// Whether a clause or a cube has these literals.
+fn reads(lits: &[Lit], wanted: &[i32]) -> bool {
+    if lits.len() != wanted.len() {
+        return false;
+    }
+    for (lit, number) in lits.iter().zip(wanted) {
+        if lit.number() != *number {
+            return false;
+        }
+    }
+    true
+}
+
+fn are_lines(refutation: &Refutation, wanted: &[WantedLine]) -> bool {
+    if refutation.lines.len() != wanted.len() {
+        return false;
+    }
+    for (line, (clause, hints)) in refutation.lines.iter().zip(wanted) {
+        if !reads(line.clause(), clause) || line.hints() != *hints {
+            return false;
+        }
+    }
+    true
 }
 
 fn is_node(node: &Node, wanted: Wanted) -> bool {
     match node {
         Node::Split(var) => matches!(wanted, Wanted::Split(var_wanted) if var_wanted == *var),
         Node::Leaf(refutation) =>
-            matches!(wanted, Wanted::Leaf(hints) if is_one_line(refutation, &hints)),
+            matches!(wanted, Wanted::Leaf(lines) if are_lines(refutation, lines)),
     }
 }
 
@@ -147,30 +179,28 @@ fn is_model(tree: &Tree, wanted: &[bool]) -> bool {
 }
 
 // the tree of the eight clauses
-const NODES: [Wanted; 7] = [
+const NODES: [Wanted; 3] = [
     Wanted::Split(1),
-    Wanted::Split(2),
-    Wanted::Leaf([1, 2]),
-    Wanted::Leaf([3, 4]),
-    Wanted::Split(2),
-    Wanted::Leaf([5, 6]),
-    Wanted::Leaf([7, 8]),
+    Wanted::Leaf(&[(&[2], &[1, 2]), (&[], &[9, 3, 4])]),
+    Wanted::Leaf(&[(&[2], &[5, 6]), (&[], &[9, 7, 8])]),
 ];
 
-// its leaves from right to left, between two results that don't serve
-const ROWS: [(&[i32], Given); 6] = [
+// cubes below its leaves and beside it, from right to left, behind a result that doesn't serve; then its leaves
+const ROWS: [(&[i32], Given); 8] = [
     (&[1], Given::Skipped(0)),
     (&[1, 2], Given::Refuted),
     (&[1, -2], Given::Refuted),
     (&[-1, 2], Given::Refuted),
     (&[-1, -2], Given::Refuted),
-    (&[3], Given::Exhausted(1)),
+    (&[3], Given::Refuted),
+    (&[1], Given::Refuted),
+    (&[-1], Given::Refuted),
 ];
 
 #[test]
 fn gathers_a_refuted_tree(rt: HostRuntime) -> Result<(), Fail> {
     let formula = read_formula(rt.alloc(), EIGHT)?;
-    for (start, end) in [(0, 0), (1, 5), (0, 5), (1, 6)] {
+    for (start, end) in [(0, 0), (1, 5), (0, 5), (1, 6), (6, 8), (0, 8)] {
         let tree = gathered(rt.alloc(), &formula, &ROWS[start..end])?.ok_or("another result")?;
         assert!(rt; has_nodes(&tree, &NODES), "results {start} to {end}");
     }
@@ -190,15 +220,6 @@ fn gathers_the_first_model(rt: HostRuntime) -> Result<(), Fail> {
     let rows: [(&[i32], Given); 1] = [(&[1], Given::Model(&[true, false, false]))];
     let tree = gathered(rt.alloc(), &formula, &rows)?.ok_or("another result")?;
     assert!(rt; is_model(&tree, &[false, true, false]));
-    Ok(())
-}
-
-#[test]
-fn solves_alone(rt: HostRuntime) -> Result<(), Fail> {
-    let tree = solve_one(rt.alloc(), &read_formula(rt.alloc(), EIGHT)?, 1)?;
-    assert!(rt; has_nodes(&tree, &NODES));
-    let formula = read_formula(rt.alloc(), b"p cnf 2 1\n1 2 0\n")?;
-    assert!(rt; is_model(&solve_one(rt.alloc(), &formula, 1000)?, &[false, true]));
     Ok(())
 }
 

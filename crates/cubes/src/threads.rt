@@ -104,8 +104,8 @@ fn solve_by_hands<R: Threads + Wait + Clock + Sync, G: Gate + Sync>(
     assemble(alloc, results)
 }
 
-/// The result of the formula with a budget of 1 to 100,000 conflicts a cube, by 1 to 16 hands, each in a thread of its own where one can
-/// be started. It is the same for any number of hands, any gate and any schedule. It fails only where a request for memory is refused,
+/// The result of the formula with a budget of 1 to 100,000 conflicts for the root, by 1 to 16 hands, each in a thread of its own where one
+/// can be started. It is the same for any number of hands, any gate and any schedule. It fails only where a request for memory is refused,
 /// once all hands are home. If the pool isn't opened, all is solved here.
 pub fn solve_with<R: Threads + Wait + Clock + Sync, G: Gate + Sync>(
     rt: &R,

@@ -1,26 +1,36 @@
 //! A gate that counts: each cube of a tree is solved once, whatever the hands.
-use super::EIGHT;
-use super::hands::reads;
+use super::{EIGHT, SIXTEEN, reads};
 use crate::{Gate, solve_with};
 use cnf::read_formula;
 use kernel::Cube;
 use std::sync::atomic::{AtomicU64, Ordering};
 use std::test::Fail;
 
-/// The cubes of the tree of the eight clauses.
-const CUBES: [&[i32]; 7] = [&[], &[-1], &[1], &[-1, -2], &[-1, 2], &[1, -2], &[1, 2]];
+/// The cubes of a tree, from the root on.
+type Cubes = &'static [&'static [i32]];
 
-/// How often a gate was passed with each of the cubes, and with any other.
+// each with the cubes of its tree
+const TREES: [(&[u8], Cubes); 2] = [
+    (EIGHT, &[&[], &[-1], &[1]]),
+    (
+        SIXTEEN,
+        &[&[], &[-1], &[1], &[-1, -2], &[-1, 2], &[1, -2], &[1, 2]],
+    ),
+];
+
+/// How often a gate was passed with each of the cubes of a tree, which are seven at most, and with any other.
 #[derive(Drop)]
 struct Passed {
-    cubes: [AtomicU64; 7],
+    cubes: Cubes,
+    counts: [AtomicU64; 7],
     others: AtomicU64,
 }
 
 impl Passed {
-    fn none() -> Passed {
+    fn none(cubes: Cubes) -> Passed {
         Passed {
-            cubes: [
+            cubes,
+            counts: [
                 AtomicU64::new(0),
                 AtomicU64::new(0),
                 AtomicU64::new(0),
@@ -34,7 +44,7 @@ impl Passed {
     }
 
     fn add(&self, cube: &Cube) {
-        for (count, numbers) in self.cubes.iter().zip(&CUBES) {
+        for (count, numbers) in self.counts.iter().zip(self.cubes) {
             if reads(cube.lits(), numbers) {
                 count.fetch_add(1, Ordering::SeqCst);
                 return;
@@ -45,8 +55,8 @@ impl Passed {
 
     /// Whether it was passed once with each of the cubes, and with no other.
     fn is_once_each(&self) -> bool {
-        for count in &self.cubes {
-            if count.load(Ordering::SeqCst) != 1 {
+        for (index, count) in self.counts.iter().enumerate() {
+            if count.load(Ordering::SeqCst) != u64::from(index < self.cubes.len()) {
                 return false;
             }
         }
@@ -72,16 +82,18 @@ impl Gate for Counter {
 
 #[test]
 fn each_cube_is_solved_once(rt: HostRuntime) -> Result<(), Fail> {
-    let formula = read_formula(rt.alloc(), EIGHT)?;
-    for hands in [1, 4] {
-        for _ in 0..20 {
-            let gate = Counter {
-                before: Passed::none(),
-                after: Passed::none(),
-            };
-            solve_with(&rt, rt.alloc(), &formula, 1, hands, &gate)?;
-            assert!(rt; gate.before.is_once_each(), "{hands} hands");
-            assert!(rt; gate.after.is_once_each(), "{hands} hands");
+    for (text, cubes) in TREES {
+        let formula = read_formula(rt.alloc(), text)?;
+        for hands in [1, 2, 4] {
+            for _ in 0..20 {
+                let gate = Counter {
+                    before: Passed::none(cubes),
+                    after: Passed::none(cubes),
+                };
+                solve_with(&rt, rt.alloc(), &formula, 1, hands, &gate)?;
+                assert!(rt; gate.before.is_once_each(), "{hands} hands");
+                assert!(rt; gate.after.is_once_each(), "{hands} hands");
+            }
         }
     }
     Ok(())

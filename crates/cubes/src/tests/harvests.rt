@@ -1,10 +1,11 @@
-//! Worked rows: what the hands of a pool bring home together, with a budget of one conflict, and the tree that is assembled from it.
+//! Worked rows: what the hands of a pool bring home together, with a budget of one conflict for the root, and the tree that is
+//! assembled from it.
 ghost use Rattle.std.specs.Prelude.{◌≤◌, map, IfOk};
 ghost use Rattle.theory.specs.Results.{IsWhole};
 ghost use Rattle.cubes.specs.Solved.{solved_of};
 
 use super::hands::{TWO_MODELS, is_result};
-use super::{EIGHT, Given, NODES, has_nodes, is_model};
+use super::{EIGHT, Given, NODES, SIXTEEN, has_nodes, is_model};
 use crate::threads::results_by_hands;
 use crate::{OpenGate, Solved, Tree, assemble};
 use cnf::{Formula, read_formula};
@@ -55,14 +56,10 @@ fn are_these(results: &[Solved], rows: &[Row]) -> bool {
 #[test]
 fn two_hands_bring_each_result_once(rt: HostRuntime) -> Result<(), Fail> {
     let formula = read_formula(rt.alloc(), EIGHT)?;
-    let rows: [Row; 7] = [
+    let rows: [Row; 3] = [
         (&[], Given::Exhausted(1)),
-        (&[-1], Given::Exhausted(2)),
-        (&[1], Given::Exhausted(2)),
-        (&[-1, -2], Given::Refuted),
-        (&[-1, 2], Given::Refuted),
-        (&[1, -2], Given::Refuted),
-        (&[1, 2], Given::Refuted),
+        (&[-1], Given::Refuted),
+        (&[1], Given::Refuted),
     ];
     for _ in 0..20 {
         let results = harvested(&rt, rt.alloc(), &formula, 2)?;
@@ -74,17 +71,33 @@ fn two_hands_bring_each_result_once(rt: HostRuntime) -> Result<(), Fail> {
 }
 
 #[test]
-fn one_hand_brings_what_it_skipped(rt: HostRuntime) -> Result<(), Fail> {
-    let formula = read_formula(rt.alloc(), TWO_MODELS)?;
-    let place = 1_073_741_824;
+fn more_hands_bring_each_result_once(rt: HostRuntime) -> Result<(), Fail> {
+    let formula = read_formula(rt.alloc(), SIXTEEN)?;
     let rows: [Row; 7] = [
         (&[], Given::Exhausted(1)),
         (&[-1], Given::Exhausted(2)),
         (&[1], Given::Exhausted(2)),
         (&[-1, -2], Given::Refuted),
-        (&[-1, 2], Given::Model(&[false, true, false])),
-        (&[1, -2], Given::Skipped(place)),
-        (&[1, 2], Given::Skipped(place)),
+        (&[-1, 2], Given::Refuted),
+        (&[1, -2], Given::Refuted),
+        (&[1, 2], Given::Refuted),
+    ];
+    for hands in [2, 4] {
+        for _ in 0..20 {
+            let results = harvested(&rt, rt.alloc(), &formula, hands)?;
+            assert!(rt; are_these(&results, &rows));
+        }
+    }
+    Ok(())
+}
+
+#[test]
+fn one_hand_brings_what_it_skipped(rt: HostRuntime) -> Result<(), Fail> {
+    let formula = read_formula(rt.alloc(), TWO_MODELS)?;
+    let rows: [Row; 3] = [
+        (&[], Given::Exhausted(1)),
+        (&[-1], Given::Model(&[false, true, false])),
+        (&[1], Given::Skipped(0)),
     ];
     let results = harvested(&rt, rt.alloc(), &formula, 1)?;
     assert!(rt; are_these(&results, &rows));
