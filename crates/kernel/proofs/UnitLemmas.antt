@@ -1,16 +1,17 @@
--- What the greatest of reversed numbers is.
-use Rattle.std.proofs.Common.{◌≡◌, ℕ, ◌≤◌, ◌<◌, false, List, [], ◌∷◌, ◌++◌, map, All, Option, Some, None, IfSome, IfNone, min, max, sym, subst, arith, ◌⊎◌, inl, inr}
-use Rattle.std.specs.Option.{option_to_list}
+-- Numbers that wait in a queue by rising size and in a heap.
+use Rattle.std.proofs.Common.{◌≡◌, ℕ, ◌+◌, ◌≤◌, ◌<◌, false, List, [], ◌∷◌, ◌++◌, map, drop, length, get_or, All, nat_lt, Option, Some, None, IfSome, sym, subst, ap, arith, append_assoc, ◌-◌, ◌⊎◌, inl, inr}
+use Rattle.std.specs.List.{AllByRecursion, Contains, slice_index}
 use Rattle.std.specs.List.Sorted.{IsPermutation}
-use Rattle.std.proofs.lemmas.List.Sorted.{All-permutation, IsPermutation-trans, IsPermutation-cons, IsPermutation-append_left, IsPermutation-append_comm, IsPermutation-refl}
-use Rattle.std.proofs.lemmas.Bool.{cases_lt}
-use Rattle.kernel.specs.Waiting.{IsBefore}
-use Rattle.std.specs.List.{AllByRecursion}
 use Rattle.std.specs.Ordering.{is_lt, nat_cmp}
 use Rattle.std.specs.declared.cmp.Reverse.{Reverse}
-use Rattle.std.proofs.lemmas.List.Elements.{All-from_recursion, All-cons, All-weaker, All-tail}
+use Rattle.std.proofs.lemmas.Bool.{cases_lt, ltb-false}
+use Rattle.std.proofs.lemmas.List.{get_or_append_left, get_or_push, get_or-drop, length-drop, length_push}
+use Rattle.std.proofs.lemmas.List.Elements.{All-from_recursion, All-append, All-weaker}
+use Rattle.std.proofs.lemmas.List.Sorted.{IsPermutation-trans, IsPermutation-sym, IsPermutation-middle, IsPermutation-append_right}
 use Rattle.std.proofs.lemmas.Map.Keys.{ge_from_not_lt}
+use Rattle.kernel.specs.Waiting.{IsRisingFrom}
 
+-- what the greatest of reversed numbers is
 none-below : (x : ℕ) (xs : List (Reverse ℕ)) → AllByRecursion (λ y. is_lt (nat_cmp y.0 x) ≡ false) xs → AllByRecursion (λ m. x ≤ m) (map (λ r. r.0) xs)
 none-below x [] h = tt
 none-below x (y ∷ xs) h = (ge_from_not_lt y.0 x h.0, none-below x xs h.1)
@@ -18,37 +19,63 @@ none-below x (y ∷ xs) h = (ge_from_not_lt y.0 x h.0, none-below x xs h.1)
 pub All-not_below : (x : ℕ) (xs : List (Reverse ℕ)) → AllByRecursion (λ y. is_lt (nat_cmp y.0 x) ≡ false) xs → All (λ m. x ≤ m) (map (λ r. r.0) xs)
 All-not_below x xs h = All-from_recursion (λ m. x ≤ m) (map (λ r. r.0) xs) (none-below x xs h)
 
-two-exchanged : (x y : ℕ) (ns : List ℕ) → IsPermutation (x ∷ y ∷ ns) (y ∷ x ∷ ns)
-two-exchanged x y ns = IsPermutation-append_left ns (x ∷ y ∷ []) (y ∷ x ∷ []) (IsPermutation-append_comm (x ∷ []) (y ∷ []))
+-- the number at the top of a heap stands in it
+pub top-there : (xs : List (Reverse ℕ)) (x : Reverse ℕ) → 0 < length xs → x ≡ get_or xs 0 x → Contains (map (λ r. r.0) xs) x.0
+top-there [] x h e = absurd (omega (arith, h))
+top-there (y ∷ ys) x h e = (0, (let z : 0 < length (map (λ r. r.0) (y ∷ ys)) = omega arith in z), ap (λ (r : Reverse ℕ). r.0) (sym e))
 
--- of the number in the slot and a new one the smaller takes the slot
-pub pushed-units : (least number a b : ℕ) (olds news : List ℕ) → a ≡ min least number → b ≡ max least number → IsPermutation (b ∷ olds) news → IsPermutation (number ∷ least ∷ olds) (a ∷ news)
-pushed-units least number a b olds news ea eb p = go (cases_lt least number)
+-- a number at the end that is no less than those from a place on
+pub rising-push : (head : ℕ) (ns : List ℕ) (n : ℕ) → head ≤ length ns → IsRisingFrom head ns → All (λ m. m ≤ n) (drop head ns) → IsRisingFrom head (ns ++ n ∷ [])
+rising-push head ns n within rising all i j low le high = go (cases_lt j (length ns)) (cases_lt i (length ns))
   where
-    go : (least < number) ⊎ (number ≤ least) → IsPermutation (number ∷ least ∷ olds) (a ∷ news)
-    go (inl h) =
-        let x : a ≡ least = omega (arith, ea, h) in
-        let y : b ≡ number = omega (arith, eb, h) in
-        IsPermutation-trans (number ∷ least ∷ olds) (least ∷ number ∷ olds) (a ∷ news) (two-exchanged number least olds)
-        (subst (λ k. IsPermutation (least ∷ number ∷ olds) (k ∷ news)) (sym x) (IsPermutation-cons least (number ∷ olds) news (subst (λ k. IsPermutation (k ∷ olds) news) y p)))
-    go (inr h) =
-        let x : a ≡ number = omega (arith, ea, h) in
-        let y : b ≡ least = omega (arith, eb, h) in
-        subst (λ k. IsPermutation (number ∷ least ∷ olds) (k ∷ news)) (sym x) (IsPermutation-cons number (least ∷ olds) news (subst (λ k. IsPermutation (k ∷ olds) news) y p))
+    long : length (ns ++ n ∷ []) ≡ length ns + 1
+    long = length_push ns n
 
-pub pushed-before : (least number a b : ℕ) (olds news : List ℕ) → a ≡ min least number → b ≡ max least number → IsPermutation (b ∷ olds) news → All (λ m. least ≤ m) olds → All (λ m. a ≤ m) news
-pushed-before least number a b olds news ea eb p all =
-    All-permutation (λ m. a ≤ m) (b ∷ olds) news p
-    (All-cons (λ m. a ≤ m) b olds (omega (arith, ea, eb)) (All-weaker (λ m. least ≤ m) (λ m. a ≤ m) (λ m h. omega (arith, ea, h)) olds all))
+    old : (k : ℕ) → k < length ns → slice_index (ns ++ n ∷ []) k ≡ slice_index ns k
+    old k h = get_or_append_left ns (n ∷ []) 0 k h
 
--- what is left behind the least
-pub popped-before : (o : Option ℕ) (olds news : List ℕ) → IfNone o ((olds ≡ []) × (news ≡ [])) → IfSome o (λ n. IsPermutation olds (n ∷ news)) → IfSome o (λ n. All (λ m. n ≤ m) olds) → IsBefore o news
-popped-before None olds news none taken least = none.1
-popped-before (Some n) olds news none taken least = All-behind n news (All-permutation (λ m. n ≤ m) olds (n ∷ news) taken least)
-  where
-    All-behind : (n : ℕ) (ns : List ℕ) → All (λ m. n ≤ m) (n ∷ ns) → All (λ m. n ≤ m) ns
-    All-behind n ns all = All-tail (λ m. n ≤ m) n ns all
+    new : (k : ℕ) → length ns ≡ k → slice_index (ns ++ n ∷ []) k ≡ n
+    new k h = get_or_push ns n 0 k h
 
-pub popped-units : (least : ℕ) (o : Option ℕ) (olds news : List ℕ) → IfNone o ((olds ≡ []) × (news ≡ [])) → IfSome o (λ n. IsPermutation olds (n ∷ news)) → IsPermutation (least ∷ olds) (least ∷ (option_to_list o ++ news))
-popped-units least None olds news none taken = rw (none.0, none.1) (IsPermutation-refl (least ∷ []))
-popped-units least (Some n) olds news none taken = IsPermutation-cons least olds (n ∷ news) taken
+    below : (k d : ℕ) → k < length (drop head ns) → get_or ns (head + k) d ≤ n
+    below k d h = subst (λ m. m ≤ n) (get_or-drop head ns k d) (all k d h)
+
+    at_most : i < length ns → slice_index ns i ≤ n
+    at_most h =
+        let more : (k : ℕ) × (head + k ≡ i) = gap head i low in
+        subst (λ m. slice_index ns m ≤ n) more.1 (below more.0 0 (let e = length-drop head ns in let f = more.1 in omega arith))
+      where
+        gap : (a b : ℕ) → a ≤ b → (k : ℕ) × (a + k ≡ b)
+        gap a b h = (b - a, omega (arith, h))
+
+    go : (j < length ns) ⊎ (length ns ≤ j) → (i < length ns) ⊎ (length ns ≤ i) → slice_index (ns ++ n ∷ []) i ≤ slice_index (ns ++ n ∷ []) j
+    go (inl h) b = let k : i < length ns = omega (arith, le, h) in rw (old i k, old j h) (rising i j low le h)
+    go (inr h) (inl k) = rw (old i k, new j (omega (arith, h, high, long))) (at_most k)
+    go (inr h) (inr k) = rw (new i (omega (arith, k, le, high, long)), new j (omega (arith, h, high, long))) (omega arith)
+
+-- a number more in the queue, or in the heap
+pub queued-units : (q h : List ℕ) (n : ℕ) → IsPermutation (n ∷ (q ++ h)) ((q ++ n ∷ []) ++ h)
+queued-units q h n = subst (λ (ns : List ℕ). IsPermutation (n ∷ (q ++ h)) ns) (sym (append_assoc q (n ∷ []) h)) (IsPermutation-sym (q ++ n ∷ h) (n ∷ (q ++ h)) (IsPermutation-middle q n h))
+
+pub heaped-units : (q h u : List ℕ) (n : ℕ) → IsPermutation (n ∷ h) u → IsPermutation (n ∷ (q ++ h)) (q ++ u)
+heaped-units q h u n p =
+    IsPermutation-trans (n ∷ (q ++ h)) (q ++ n ∷ h) (q ++ u) (IsPermutation-sym (q ++ n ∷ h) (n ∷ (q ++ h)) (IsPermutation-middle q n h)) (IsPermutation-append_right q (n ∷ h) u p)
+
+-- the least of the heap taken out
+unheaped-units : (q h u : List ℕ) (n : ℕ) → IsPermutation h (n ∷ u) → IsPermutation (q ++ h) (n ∷ (q ++ u))
+unheaped-units q h u n p = IsPermutation-trans (q ++ h) (q ++ n ∷ u) (n ∷ (q ++ u)) (IsPermutation-append_right q h (n ∷ u) p) (IsPermutation-middle q n u)
+
+-- a number that stands in the heap and is less than those of the queue
+pub least-unheaped : (o : Option ℕ) (q h : List ℕ) (m first : ℕ) → Contains h m → m < first → All (λ k. first ≤ k) q → IfSome o (λ n. All (λ k. n ≤ k) h) → IfSome o (λ n. All (λ k. n ≤ k) (q ++ h))
+least-unheaped None q h m first there less queue all = tt
+least-unheaped (Some n) q h m first there less queue all =
+    let here : n ≤ m = subst (λ k. n ≤ k) there.2 (all there.0 m there.1) in
+    All-append (λ k. n ≤ k) q h (All-weaker (λ k. first ≤ k) (λ k. n ≤ k) (λ k f. omega (arith, f, less, here)) q queue) all
+
+pub taken-unheaped : (o : Option ℕ) (q h u : List ℕ) → IfSome o (λ n. IsPermutation h (n ∷ u)) → IfSome o (λ n. IsPermutation (q ++ h) (n ∷ (q ++ u)))
+taken-unheaped None q h u p = tt
+taken-unheaped (Some n) q h u p = unheaped-units q h u n p
+
+-- no number of the heap is less than one that its least isn't less than
+pub none-less : (number least : ℕ) (ns : List ℕ) → nat_lt least number ≡ false → All (λ k. least ≤ k) ns → All (λ k. number ≤ k) ns
+none-less number least ns h all = let low = ltb-false least number h in All-weaker (λ k. least ≤ k) (λ k. number ≤ k) (λ k f. omega (arith, f, low)) ns all

@@ -1,7 +1,6 @@
--- The units that wait: the least in a slot, the others in a heap.
-use Rattle.std.specs.Prelude.{◌≡◌, ℕ, ◌≤◌, List, [], Option, Some, None, All}
+-- The units that wait: those that came by rising size in a queue, the others in a heap.
+use Rattle.std.specs.Prelude.{ℕ, ◌<◌, ◌≤◌, List, length, slice_index}
 
--- the number in the slot is at most each of the others; where there is none, there are no others
-abbrev pub IsBefore : Option ℕ → List ℕ → Type 0
-IsBefore None ns = ns ≡ []
-IsBefore (Some n) ns = All (λ m. n ≤ m) ns
+-- from a place on no number is less than one before it
+abbrev pub IsRisingFrom : ℕ → List ℕ → Type 0
+IsRisingFrom head ns = (i j : ℕ) → head ≤ i → i ≤ j → j < length ns → slice_index ns i ≤ slice_index ns j

@@ -9,6 +9,7 @@ mod cut;
 mod entry;
 mod kernel;
 mod propagator;
+mod queue;
 mod trail;
 mod truth;
 mod units;

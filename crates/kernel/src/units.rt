@@ -1,34 +1,47 @@
 //! The clauses that were found unit and wait for their turn, the least first.
-ghost use Rattle.std.specs.Prelude.{◌≡◌, ◌≤◌, [], ◌∷◌, IfOk, OnOk, IfSome, IfNone, All, map};
+ghost use Rattle.std.specs.Prelude.{◌≡◌, ◌<◌, ◌≤◌, ℕ, true, false, [], ◌∷◌, IfOk, OnOk, IfSome, IfNone, All, map};
 ghost use Rattle.std.specs.BinaryHeap.{IsHeap, heap_items};
+ghost use Rattle.std.specs.List.{Contains};
 ghost use Rattle.std.specs.Ordering.{nat_cmp};
 ghost use Rattle.std.specs.List.Sorted.{IsPermutation};
 
+use crate::queue::Queue;
 use std::alloc::{AllocError, Global};
 use std::cmp::Reverse;
 use std::collections::BinaryHeap;
 use std::marker::Model;
 
-/// Places of clauses, each as often as it was put in. Most of the time at most one waits: that one stands in a slot of its own, and the
-/// heap is touched only where two wait at once.
+/// Places of clauses, each as often as it was put in. One that is no less than those of the queue goes to its end, the others go into a
+/// heap. So the heap is touched only where a smaller one comes while others wait; the clauses of one literal, which come by rising number
+/// when a cube begins, take one step each.
 #[derive(Drop)]
 pub struct Units {
-    slot: Option<u32>,
+    queue: Queue,
     heap: BinaryHeap<Reverse<u32>>,
 }
 
 impl Model for Units {
     ghost use Rattle.std.specs.Prelude.{List, ℕ, map, ◌++◌};
-    ghost use Rattle.std.specs.Option.{option_to_list};
     ghost use Rattle.std.specs.BinaryHeap.{IsHeap, heap_items};
     ghost use Rattle.std.specs.Ordering.{nat_cmp};
-    ghost use Rattle.kernel.specs.Waiting.{IsBefore};
 
     ghost Value = { List ℕ };
 
-    ghost view = { λ u. option_to_list u.slot ++ map (λ r. r.0) (heap_items u.heap) };
+    ghost view = { λ u. u.queue ++ map (λ r. r.0) (heap_items u.heap) };
 
-    ghost invariant = { λ u. IsHeap (λ x y. nat_cmp y.0 x.0) (heap_items u.heap) × IsBefore u.slot (map (λ r. r.0) (heap_items u.heap)) };
+    ghost invariant = { λ u. IsHeap (λ x y. nat_cmp y.0 x.0) (heap_items u.heap) };
+}
+
+/// Whether a number of the heap is less than this one.
+fn has_below(heap: &BinaryHeap<Reverse<u32>>, number: u32) -> bool
+    requires heap { IsHeap (λ x y. nat_cmp y.0 x.0) (heap_items heap.now) }
+    ensures below { result ≡ true → (m : ℕ) × Contains (map (λ r. r.0) (heap_items heap.now)) m × (m < number) }
+    ensures none { result ≡ false → All (λ m. number ≤ m) (map (λ r. r.0) (heap_items heap.now)) }
+{
+    match heap.peek() {
+        None => false,
+        Some(least) => least.0 < number,
+    }
 }
 
 /// Takes the least number out of the heap.
@@ -46,13 +59,13 @@ fn take_least(heap: &mut BinaryHeap<Reverse<u32>>) -> Option<u32>
 }
 
 impl Units {
-    /// No numbers, with room for so many. It fails where a request for memory is refused.
+    /// No numbers, with room for so many that come by rising size. It fails where a request for memory is refused.
     pub fn with_room(alloc: Global, count: usize) -> Result<Units, AllocError>
         ensures { IfOk result (λ u. u ≡ []) }
     {
         Ok(Units {
-            slot: None,
-            heap: BinaryHeap::with_capacity(alloc, count)?,
+            queue: Queue::with_room(alloc, count)?,
+            heap: BinaryHeap::new(alloc),
         })
     }
 
@@ -60,12 +73,10 @@ impl Units {
     pub fn push(&mut self, number: u32) -> Result<(), AllocError>
         ensures { OnOk result (IsPermutation (number ∷ self.old) self.new) }
     {
-        match self.slot {
-            None => self.slot = Some(number),
-            Some(least) => {
-                self.heap.push(Reverse(least.max(number)))?;
-                self.slot = Some(least.min(number));
-            }
+        if self.queue.takes(number) {
+            self.queue.push(number)?;
+        } else {
+            self.heap.push(Reverse(number))?;
         }
         Ok(())
     }
@@ -77,16 +88,21 @@ impl Units {
         ensures taken { IfSome result (λ n. IsPermutation self.old (n ∷ self.new)) }
         ensures least { IfSome result (λ n. All (λ m. n ≤ m) self.old) }
     {
-        let least = self.slot?;
-        self.slot = take_least(&mut self.heap);
-        Some(least)
+        let Some(first) = self.queue.first() else {
+            return take_least(&mut self.heap);
+        };
+        if has_below(&self.heap, first) {
+            take_least(&mut self.heap)
+        } else {
+            self.queue.pop()
+        }
     }
 
     /// Takes all numbers out.
     pub fn clear(&mut self)
         ensures { self.new ≡ [] }
     {
-        self.slot = None;
+        self.queue.clear();
         self.heap.clear();
     }
 }

@@ -1,12 +1,10 @@
-use Rattle.kernel.proofs.UnitLemmas.{popped-units, popped-before}
+use Rattle.kernel.proofs.UnitLemmas.{taken-unheaped, least-unheaped}
 use Rattle.kernel.proofs.units.Units.pop.Goals as goal
 
-pub invariant_of-self : goal.invariant_of-self
-invariant_of-self c = (
-  c.take_least-self-inside.ensures.heap,
-  popped-before _ _ _ c.take_least-self-inside.ensures.none c.take_least-self-inside.ensures.taken c.take_least-self-inside.ensures.least,
-)
+pub returns-then-has_below-clause-taken : goal.returns-then-has_below-clause-taken
+returns-then-has_below-clause-taken c = rw (← c.self.view_is) (taken-unheaped _ _ _ _ c.take_least-then-has_below.ensures.taken)
 
-pub returns-clause-taken : goal.returns-clause-taken
-returns-clause-taken c =
-    rw (← c.self.view_is, c.in_ok-least.was) (popped-units _ _ _ _ c.take_least-self-inside.ensures.none c.take_least-self-inside.ensures.taken)
+pub returns-then-has_below-clause-least : goal.returns-then-has_below-clause-least
+returns-then-has_below-clause-least c =
+    let below = c.has_below.ensures.below c.if-has_below.true in
+    rw (← c.self.view_is) (least-unheaped _ _ _ below.0 c.in-Some.first below.1 below.2 c.in-Some.ensures.least c.take_least-then-has_below.ensures.least)

@@ -1,0 +1,92 @@
+//! Numbers that come by rising size and are taken out in that order.
+ghost use Rattle.std.specs.Prelude.{◌≡◌, ◌≤◌, true, [], ◌∷◌, ◌++◌, All, OnOk, IfOk, IfSome, IfNone};
+ghost use Rattle.std.specs.List.{Contains};
+
+use std::alloc::{AllocError, Global};
+use std::marker::Model;
+
+/// Numbers by rising size. It begins anew at the front of its memory each time that it becomes empty.
+#[derive(Drop)]
+pub struct Queue {
+    items: Vec<u32>,
+    // how many were taken out
+    head: usize,
+}
+
+impl Model for Queue {
+    ghost use Rattle.std.specs.Prelude.{List, ℕ, ◌≤◌, length, drop};
+    ghost use Rattle.kernel.specs.Waiting.{IsRisingFrom};
+
+    ghost Value = { List ℕ };
+
+    ghost view = { λ q. drop q.head q.items.items };
+
+    ghost invariant = { λ q. (q.head ≤ length q.items.items) × IsRisingFrom q.head q.items.items };
+}
+
+impl Queue {
+    /// No numbers, with room for so many. It fails where a request for memory is refused.
+    pub fn with_room(alloc: Global, count: usize) -> Result<Queue, AllocError>
+        ensures { IfOk result (λ q. q ≡ []) }
+    {
+        Ok(Queue {
+            items: Vec::with_capacity(alloc, count)?,
+            head: 0,
+        })
+    }
+
+    /// Whether each number is at most this one.
+    pub fn takes(&self, number: u32) -> bool
+        ensures { result ≡ true → All (λ m. m ≤ number) self.now }
+    {
+        let count = self.items.len();
+        count == self.head || self.items[count - 1] <= number
+    }
+
+    /// Puts a number at the end that is no less than the others.
+    pub fn push(&mut self, number: u32) -> Result<(), AllocError>
+        requires { All (λ m. m ≤ number) self.old }
+        ensures { OnOk result (self.new ≡ self.old ++ number ∷ []) }
+    {
+        self.items.push(number)?;
+        Ok(())
+    }
+
+    /// The least number.
+    pub fn first(&self) -> Option<u32>
+        ensures none { IfNone result (self.now ≡ []) }
+        ensures there { IfSome result (λ n. Contains self.now n) }
+        ensures least { IfSome result (λ n. All (λ m. n ≤ m) self.now) }
+    {
+        if self.head < self.items.len() {
+            Some(self.items[self.head])
+        } else {
+            None
+        }
+    }
+
+    /// Takes the least number out.
+    pub fn pop(&mut self) -> Option<u32>
+        ensures none { IfNone result ((self.old ≡ []) × (self.new ≡ [])) }
+        ensures taken { IfSome result (λ n. self.old ≡ n ∷ self.new) }
+        ensures least { IfSome result (λ n. All (λ m. n ≤ m) self.old) }
+    {
+        if self.head == self.items.len() {
+            return None;
+        }
+        let least = self.items[self.head];
+        self.head += 1;
+        if self.head == self.items.len() {
+            self.clear();
+        }
+        Some(least)
+    }
+
+    /// Takes all numbers out.
+    pub fn clear(&mut self)
+        ensures { self.new ≡ [] }
+    {
+        self.items.clear();
+        self.head = 0;
+    }
+}
