@@ -266,7 +266,7 @@ fn count_entry(counts: &mut [u32], lit: Lit)
     }
 }
 
-/// Counts the entries of clauses: those of a clause of one literal count twice. It answers how many these are.
+/// Counts the entries of clauses. It answers how many clauses are of one literal.
 fn count_clauses(counts: &mut [u32], clauses: &[Vec<Lit>]) -> usize
     ensures kept { length counts.new ≡ length counts.old }
     ensures few { result ≤ length clauses.now }
@@ -275,9 +275,10 @@ fn count_clauses(counts: &mut [u32], clauses: &[Vec<Lit>]) -> usize
     for clause in clauses {
         if let Some(watched) = first_two(clause) {
             count_entry(counts, watched.first);
-            count_entry(counts, watched.second);
             if watched.first.same(&watched.second) {
                 singles += 1;
+            } else {
+                count_entry(counts, watched.second);
             }
         }
     }
