@@ -27,6 +27,7 @@ pub mod TrailFacts
 pub mod Turns
 pub mod UnitLemmas
 pub mod Values
+pub mod Replacements
 pub mod Visits
 pub mod Walking
 pub mod WatchChoice

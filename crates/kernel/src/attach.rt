@@ -13,6 +13,7 @@ ghost use Rattle.kernel.specs.Attaching.{with_entry, attached, IsLater, IsWatchi
 
 use crate::clauses::Clauses;
 use crate::propagator::Propagator;
+use crate::replacement::Starts;
 use crate::trail::Trail;
 use crate::truth::code;
 use crate::units::Units;
@@ -345,6 +346,7 @@ impl Propagator {
             lists: no_entries(alloc, &room.entries)?,
             units: Units::with_room(alloc, room.singles)?,
             conflict: None,
+            starts: Starts::with_room(alloc, clauses.len() + units.len())?,
             visits: 0,
         })
     }

@@ -10,6 +10,7 @@ mod entry;
 mod kernel;
 mod propagator;
 mod queue;
+mod replacement;
 mod trail;
 mod truth;
 mod units;

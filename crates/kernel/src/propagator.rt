@@ -20,6 +20,7 @@ ghost use Rattle.kernel.specs.Visiting.{IsTruth, Kept, kept_of, entries_at, CanV
 use crate::clauses::Clauses;
 use crate::closed::Closed;
 use crate::entry::Entry;
+use crate::replacement::{Starts, replacement};
 use crate::trail::Trail;
 use crate::truth::code;
 use crate::units::Units;
@@ -41,23 +42,10 @@ pub struct Propagator {
     pub units: Units,
     /// The least clause that was found false.
     pub conflict: Option<u32>,
+    /// Where long clauses are looked through from.
+    pub starts: Starts,
     /// How many entries of lists were looked at; the greatest number stays.
     pub visits: u64,
-}
-
-/// The first literal that isn't false, other than `except`.
-fn replacement(trail: &Trail, clause: &[Lit], except: Lit) -> Option<Lit>
-    requires { IsOver trail.now.vars clause.now }
-    ensures some { IfSome result (λ z. Replaces (literals trail.now.entries) clause.now except z) }
-    ensures none { IfNone result (IsLast (literals trail.now.entries) clause.now except) }
-{
-    for lit in clause {
-        let lit = *lit;
-        if trail.truth(lit) != Some(false) && !lit.same(&except) {
-            return Some(lit);
-        }
-    }
-    None
 }
 
 /// A clause that is unit, and the literal that it is unit in.
@@ -135,7 +123,8 @@ impl Propagator {
         if value == Some(true) {
             return Ok(Some(other));
         }
-        match replacement(trail, self.clauses.get(clause as usize), other) {
+        let lits = self.clauses.get(clause as usize);
+        match replacement(trail, lits, other, &mut self.starts, clause as usize) {
             Some(lit) => {
                 self.watch(clause, other, lit)?;
                 Ok(None)

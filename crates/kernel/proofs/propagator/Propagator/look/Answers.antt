@@ -14,25 +14,25 @@ returns-then-eq-clause-visit c =
     satisfied (looked-stays _ _ _ _ _ c.requires.visit _ _ c.requires.long seen) (rw (is-some _ _ (sym c.eq.ensures ∙ c.if-eq.true)) at c.truth-value.ensures.truth) refl
 
 pub replacement-requires : goal.replacement-requires
-replacement-requires c = clause-over _ _ _ _ _ c.requires.visit c.args.trail.now.vars c.get.result.now c.requires.over (clause-read _ _ _ _ _ c.requires.visit c.get.result.now c.get.ensures)
+replacement-requires c = clause-over _ _ _ _ _ c.requires.visit c.args.trail.now.vars c.get-lits.result.now c.requires.over (clause-read _ _ _ _ _ c.requires.visit c.get-lits.result.now c.get-lits.ensures)
 
 pub watch-requires-clause-listed : goal.watch-requires-clause-listed
 watch-requires-clause-listed c =
     code-within c.in-Some.lit c.args.trail.now.vars _
-    (over-var c.args.trail.now.vars c.get.result.now c.in-Some.lit
-    (clause-over _ _ _ _ _ c.requires.visit c.args.trail.now.vars c.get.result.now c.requires.over (clause-read _ _ _ _ _ c.requires.visit c.get.result.now c.get.ensures)) c.in-Some.ensures.some.member)
+    (over-var c.args.trail.now.vars c.get-lits.result.now c.in-Some.lit
+    (clause-over _ _ _ _ _ c.requires.visit c.args.trail.now.vars c.get-lits.result.now c.requires.over (clause-read _ _ _ _ _ c.requires.visit c.get-lits.result.now c.get-lits.ensures)) c.in-Some.ensures.some.member)
     c.requires.lists
 
 pub returns-in_ok-watch-in-Some-clause-visit : goal.returns-in_ok-watch-in-Some-clause-visit
 returns-in_ok-watch-in-Some-clause-visit c =
     let seen = looked _ _ _ _ _ c.requires.visit c.index.result.now c.beside-other.result c.index.ensures c.beside-other.ensures in
-    looked-moves _ _ _ _ _ c.requires.visit (kept_of c.watch.new.self) c.index.result.now c.beside-other.result c.in-Some.lit c.get.result.now c.requires.long seen
-    (clause-read _ _ _ _ _ c.requires.visit c.get.result.now c.get.ensures) c.in-Some.ensures.some c.in_ok-watch-in-Some.ensures.watched
+    looked-moves _ _ _ _ _ c.requires.visit (kept_of c.watch.new.self) c.index.result.now c.beside-other.result c.in-Some.lit c.get-lits.result.now c.requires.long seen
+    (clause-read _ _ _ _ _ c.requires.visit c.get-lits.result.now c.get-lits.ensures) c.in-Some.ensures.some c.in_ok-watch-in-Some.ensures.watched
 
 pub returns-in_ok-note-in-None-clause-visit : goal.returns-in_ok-note-in-None-clause-visit
 returns-in_ok-note-in-None-clause-visit c =
     let seen = looked _ _ _ _ _ c.requires.visit c.index.result.now c.beside-other.result c.index.ensures c.beside-other.ensures in
     let kept = c.in_ok-note-in-None.ensures.kept in
     noted _ _ _ _ _ c.requires.visit (kept_of c.note.new.self) c.beside-other.result c.truth-value.result (looked-stays _ _ _ _ _ c.requires.visit _ _ c.requires.long seen)
-    (looked-last _ _ _ _ _ c.requires.visit c.index.result.now c.beside-other.result c.get.result.now seen (clause-read _ _ _ _ _ c.requires.visit c.get.result.now c.get.ensures) c.in-None.ensures.none)
+    (looked-last _ _ _ _ _ c.requires.visit c.index.result.now c.beside-other.result c.get-lits.result.now seen (clause-read _ _ _ _ _ c.requires.visit c.get-lits.result.now c.get-lits.ensures) c.in-None.ensures.none)
     c.truth-value.ensures.truth (isnt-some _ _ (sym c.eq.ensures ∙ c.if-eq.false)) c.in_ok-note-in-None.ensures.unit c.in_ok-note-in-None.ensures.clashes (rw kept.1 refl) (rw kept.2 refl)
