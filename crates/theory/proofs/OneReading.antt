@@ -31,7 +31,7 @@ CanGoOn-front ts us c = record { more = us ++ c.more; value = c.value; readable 
 CanGoOn-mark : (xs m ys : List Placed) (a : Placed) → ys ≡ xs ++ a ∷ m → CanGoOn (tokens_in ys) → CanGoOn (tokens_in xs ++ a.token ∷ [])
 CanGoOn-mark xs m ys a e c =
     CanGoOn-front (tokens_in xs ++ a.token ∷ []) (tokens_in m)
-        (subst CanGoOn (ap tokens_in e ∙ map-append (λ t. t.token) xs (a ∷ m) ∙ sym (append_assoc (tokens_in xs) (a.token ∷ []) (tokens_in m))) c)
+    (subst CanGoOn (ap tokens_in e ∙ map-append (λ t. t.token) xs (a ∷ m) ∙ sym (append_assoc (tokens_in xs) (a.token ∷ []) (tokens_in m))) c)
 
 abbrev SameRefusal : (f g : ReadFault) (p q : Place) → Type 0
 SameRefusal f g p q = (f ≡ g) × (p ≡ q)

@@ -113,11 +113,7 @@ fn refuted_formulas(rt: HostRuntime) -> Result<(), Fail> {
             4,
             "9 1 2 0 1 2 0\n10 1 0 9 3 4 0\n11 2 0 10 5 6 0\n12 0 10 11 7 8 0\n",
         ),
-        (
-            FOUR_AND_UNUSED,
-            2,
-            "5 -3 0 0\n6 1 0 1 2 0\n7 0 6 3 4 0\n",
-        ),
+        (FOUR_AND_UNUSED, 2, "5 -3 0 0\n6 1 0 1 2 0\n7 0 6 3 4 0\n"),
         (
             FOUR_AND_UNUSED,
             1,
