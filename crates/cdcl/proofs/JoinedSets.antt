@@ -1,8 +1,6 @@
 -- Sets in marks with the places that wait: a literal comes, the place looked at is taken, another is looked at.
-use Rattle.std.proofs.Common.{◌≡◌, ℕ, ◌+◌, ◌-◌, ◌<◌, ◌≤◌, Bool, true, false, ◌&&◌, ◌||◌, List, [], ◌∷◌, ◌++◌, length, take, Some, slice_get, slice_set, slice_index_or, refl, ap, sym, subst, ◌∙◌, nat_eq, eqb-true, eq-eqb, arith, cond, count_by, IsPermutation}
-use Rattle.std.specs.BinaryHeap.{heap_items, IsHeap}
+use Rattle.std.proofs.Common.{◌≡◌, ℕ, ◌+◌, ◌-◌, ◌<◌, ◌≤◌, Bool, true, false, ◌&&◌, ◌||◌, List, [], ◌∷◌, ◌++◌, length, filter, take, Some, slice_get, slice_set, slice_index_or, refl, ap, sym, subst, ◌∙◌, nat_eq, eqb-true, eq-eqb, arith, cond, count_by, IsPermutation}
 use Rattle.std.specs.List.{list_any}
-use Rattle.std.specs.Ordering.{nat_cmp}
 use Rattle.std.proofs.lemmas.List.Elements.{All-push}
 use Rattle.std.proofs.lemmas.List.Folds.{list_any-append}
 use Rattle.std.proofs.lemmas.List.Sorted.{All-permutation, list_any-IsPermutation}
@@ -20,6 +18,7 @@ use Rattle.cdcl.specs.declared.marks.Marks.{Marks}
 use Rattle.cdcl.specs.Marks.{AreSeen, IsSet, IsClear, CanJoin, CanResolve, is_resolvable}
 use Rattle.cdcl.proofs.PlaceLemmas.{entry_of-placed}
 use Rattle.cdcl.proofs.Pending.{IsTop, pending-more, pending-less, pending-empty, pending-done}
+use Rattle.cdcl.proofs.SeenVariables.{AreSeen-marked}
 use Rattle.cdcl.proofs.SetLemmas.{has_var-with_literal, has_var-from_without, with_literal-there}
 use Rattle.cdcl.proofs.MarkedSets.{is_in, inside, entry-false, IsMarked-more, IsMarked-less, IsMarked-none}
 
@@ -45,10 +44,10 @@ AreSeen-less vars S l seen h = record { within = h.within; all = λ v a. h.all v
 pub IsSet-more : (k : State) (S : Clause) (bound place : ℕ) (e : Entry) (old new : Marks) → IsLawful k.clauses k.trail → IsOver k.vars (literals k.trail)
     → slice_get k.trail place ≡ Some e → place < bound → slice_index_or old.marked.items e.lit.var false ≡ false → IsSet k S bound old
     → new.marked.items ≡ slice_set old.marked.items e.lit.var true → new.seen.items ≡ old.seen.items ++ e.lit.var ∷ []
-    → new.current ≡ cond (nat_eq e.level (current_level k.trail)) 1 0 + old.current → IsHeap nat_cmp (heap_items new.pending)
-    → ((q : ℕ) → count_by (λ p. nat_eq p q) (heap_items new.pending) ≡ cond (is_resolvable k.trail e && nat_eq place q) 1 0 + count_by (λ p. nat_eq p q) (heap_items old.pending))
+    → new.current ≡ cond (nat_eq e.level (current_level k.trail)) 1 0 + old.current
+    → ((q : ℕ) → count_by (λ p. nat_eq p q) new.pending ≡ cond (is_resolvable k.trail e && nat_eq place q) 1 0 + count_by (λ p. nat_eq p q) old.pending)
     → IsSet k (with_literal (negated e.lit) S) bound new
-IsSet-more k S bound place e old new lawful over at below is_new h marked seen current ordered pending =
+IsSet-more k S bound place e old new lawful over at below is_new h marked seen current pending =
     let there = entry_of-placed k.clauses k.trail place e lawful at in
     let f = entry-false k.trail e there in
     let here = AreOver-from_IsOver k.vars (literals k.trail) over (negated (negated e.lit)) f in
@@ -57,8 +56,7 @@ IsSet-more k S bound place e old new lawful over at below is_new h marked seen c
       is = IsMarked-more k S old.marked.items new.marked.items old.current new.current (negated e.lit) lawful h.is f is_new
           (inside k old.marked.items (negated e.lit) over h.is.long f) marked (rw level current);
       seen = AreSeen-more k.vars S (negated e.lit) old.seen.items new.seen.items here.1 h.seen seen;
-      ordered = ordered;
-      pending = pending-more k.clauses k.trail S bound place e (heap_items old.pending) (heap_items new.pending) lawful at below (sym (h.is.marks e.lit.var) ∙ is_new) h.pending pending;
+      pending = pending-more k.clauses k.trail S bound place e old.pending new.pending lawful at below (sym (h.is.marks e.lit.var) ∙ is_new) h.pending pending;
     }
 
 -- a literal that is in already
@@ -79,26 +77,23 @@ IsSet-less k S bound e old new lawful over at a h marked current seen pending =
       is = IsMarked-less k S old.marked.items new.marked.items old.current new.current (negated e.lit) lawful h.is a
           (inside k old.marked.items (negated e.lit) over h.is.long (entry-false k.trail e there)) marked (rw level current);
       seen = rw seen (AreSeen-less k.vars S (negated e.lit) old.seen.items h.seen);
-      ordered = rw pending h.ordered;
-      pending = rw pending (pending-less k.clauses k.trail S bound e (heap_items old.pending) lawful at h.pending);
+      pending = rw pending (pending-less k.clauses k.trail S bound e old.pending lawful at h.pending);
     }
 
 -- the greatest place is looked at
 pub IsSet-top : (k : State) (S : Clause) (bound place : ℕ) (old new : Marks) → IsSet k S bound old → new.marked ≡ old.marked → new.current ≡ old.current → new.seen ≡ old.seen
-    → IsHeap nat_cmp (heap_items new.pending) → IsTop k.trail S bound place (heap_items new.pending) → IsSet k S place new
-IsSet-top k S bound place old new h marked current seen ordered top = record {
+    → IsTop k.trail S bound place new.pending → IsSet k S place new
+IsSet-top k S bound place old new h marked current seen top = record {
   is = rw (marked, current) h.is;
   seen = rw seen h.seen;
-  ordered = ordered;
   pending = top.pending;
 }
 
 -- all places were looked at
-pub IsSet-done : (k : State) (S : Clause) (bound : ℕ) (m : Marks) → heap_items m.pending ≡ [] → IsSet k S bound m → IsSet k S 0 m
+pub IsSet-done : (k : State) (S : Clause) (bound : ℕ) (m : Marks) → m.pending ≡ [] → IsSet k S bound m → IsSet k S 0 m
 IsSet-done k S bound m none h = record {
   is = h.is;
   seen = h.seen;
-  ordered = h.ordered;
   pending = rw none (pending-done k.trail S);
 }
 
@@ -107,7 +102,6 @@ pub IsSet-clear : (k : State) (bound : ℕ) (m : Marks) → k.vars < length m.ma
 IsSet-clear k bound m long h = record {
   is = IsMarked-none k m.marked.items m.current long h.none h.zero;
   seen = record { within = rw h.unseen (λ i d inside. absurd (omega (arith, inside))); all = λ v a. absurd (cc) };
-  ordered = h.ordered;
   pending = rw h.done (pending-empty k.trail bound);
 }
 
@@ -162,16 +156,23 @@ IsSet-sorted k S bound old new marked current pending moved h = record {
     within = All-permutation (λ v. v ≤ k.vars) old.seen.items new.seen.items moved h.seen.within;
     all = λ v a. sym (list_any-IsPermutation (λ w. nat_eq w v) old.seen.items new.seen.items moved) ∙ h.seen.all v a;
   };
-  ordered = rw pending h.ordered;
   pending = rw pending h.pending;
 }
 
--- a heap without places in another's place
+-- those of the variables seen that are marked
+pub IsSet-marked : (k : State) (S : Clause) (bound : ℕ) (old new : Marks) → new.marked ≡ old.marked → new.current ≡ old.current → new.pending ≡ old.pending
+    → new.seen.items ≡ filter (λ v. slice_index_or old.marked.items v false) old.seen.items → IsSet k S bound old → IsSet k S bound new
+IsSet-marked k S bound old new marked current pending kept h = record {
+  is = rw (marked, current) h.is;
+  seen = AreSeen-marked k S old.marked.items old.current old.seen.items new.seen.items h.is kept h.seen;
+  pending = rw pending h.pending;
+}
+
+-- no places in the place of none
 pub IsSet-empty : (k : State) (S : Clause) (bound : ℕ) (old new : Marks) → new.marked ≡ old.marked → new.current ≡ old.current → new.seen ≡ old.seen
-    → heap_items old.pending ≡ [] → heap_items new.pending ≡ [] → IsSet k S bound old → IsSet k S bound new
+    → old.pending ≡ [] → new.pending ≡ [] → IsSet k S bound old → IsSet k S bound new
 IsSet-empty k S bound old new marked current seen none empty h = record {
   is = rw (marked, current) h.is;
   seen = rw seen h.seen;
-  ordered = rw empty (rw none at h.ordered);
   pending = rw empty (rw none at h.pending);
 }

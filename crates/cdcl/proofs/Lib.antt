@@ -1,4 +1,6 @@
 pub mod PlaceLemmas
+pub mod FlagLemmas
+pub mod PlaceBags
 pub mod Pending
 pub mod WalkLemmas
 pub mod TrailValues

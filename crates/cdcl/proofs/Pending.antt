@@ -1,10 +1,9 @@
 -- The places of the trail where a set may yet be resolved: one comes, one is looked at, the others stay.
-use Rattle.std.proofs.Common.{◌≡◌, ◌≢◌, ℕ, suc, ◌+◌, ◌<◌, ◌≤◌, Bool, true, false, ◌&&◌, ◌||◌, List, [], ◌∷◌, Option, Some, None, slice_get, refl, ap, sym, subst, ◌∙◌, nat_lt, nat_eq, eqb-true, eq-eqb, ltb-true, ltb-false, inl, inr, arith, cond, count_by, All, IsPermutation}
-use Rattle.std.specs.BinaryHeap.{IsUpperBound}
-use Rattle.std.specs.Ordering.{nat_cmp}
+use Rattle.std.proofs.Common.{◌≡◌, ◌≢◌, ℕ, suc, max, ◌+◌, ◌<◌, ◌≤◌, Bool, true, false, ◌&&◌, ◌||◌, List, [], ◌∷◌, Option, Some, None, slice_get, refl, ap, sym, subst, ◌∙◌, nat_lt, nat_eq, eqb-true, eq-eqb, ltb-true, ltb-false, inl, inr, arith, cond, count_by, All, IsPermutation}
 use Rattle.std.proofs.lemmas.List.Sums.{sum_by-cons}
-use Rattle.std.proofs.lemmas.List.Sorted.{le_from_greatest, sum_by_pushed, sum_by_popped}
+use Rattle.std.proofs.lemmas.List.Sorted.{All-permutation, sum_by_pushed, sum_by_popped}
 use Rattle.std.proofs.lemmas.List.Elements.{All-tail}
+use Rattle.std.proofs.Math.Nat.{le-max_left, le-max_right, max-le}
 use Rattle.theory.specs.Literals.{Clause, negated, has_var, without}
 use Rattle.theory.specs.Trails.{Trail, Entry}
 use Rattle.theory.specs.Lawful.{IsLawful}
@@ -121,7 +120,7 @@ pub record IsTop (T : Trail) (S : Clause) (bound place : ℕ) (new : List ℕ) :
   pub between : (q : ℕ) → place < q → q < bound → is_open T S (slice_get T q) ≡ false
   pub pending : ArePending T S place new
 
-pub pending-top : (T : Trail) (S : Clause) (bound place : ℕ) (old new : List ℕ) → ArePending T S bound old → IsPermutation old (place ∷ new) → IsUpperBound nat_cmp place new
+pub pending-top : (T : Trail) (S : Clause) (bound place : ℕ) (old new : List ℕ) → ArePending T S bound old → IsPermutation old (place ∷ new) → All (λ q. q ≤ place) new
     → IsTop T S bound place new
 pending-top T S bound place old new h moved greatest = record {
   below = ltb-true place bound (and-left (nat_lt place bound) _ top);
@@ -131,11 +130,8 @@ pending-top T S bound place old new h moved greatest = record {
   pending = λ q. go q (nat_lt q place) refl;
 }
   where
-    all : All (λ y. y ≤ place) new
-    all = le_from_greatest place new greatest
-
     beyond : (q : ℕ) → place < q → times q new ≡ 0
-    beyond q above = times-above q place new all above
+    beyond q above = times-above q place new greatest above
 
     popped : (q : ℕ) → place < q → times q new ≡ times q old
     popped q above =
@@ -188,17 +184,41 @@ pending-empty T bound q = go (nat_lt q bound) (slice_get T q)
     go true (Some e) = refl
     go false o = refl
 
--- the first of the places, which is the greatest
+-- the number behind the greatest of the places, or 0
 abbrev pub top_of : List ℕ → ℕ
 top_of [] = 0
-top_of (x ∷ xs) = suc x
+top_of (x ∷ xs) = max (suc x) (top_of xs)
+
+pub top-most : (places : List ℕ) (bound : ℕ) → ((q : ℕ) → bound ≤ q → times q places ≡ 0) → top_of places ≤ bound
+top-most [] bound h = omega arith
+top-most (x ∷ xs) bound h =
+    let rest = top-most xs bound (λ q most. (let sum = sum_by-cons (λ p. cond (nat_eq p q) 1 0) x xs in let none = h q most in omega arith)) in
+    let first : suc x ≤ bound = elim (true_or_false (nat_lt x bound)) [
+      | inl e ↦ ltb-true x bound e
+      | inr e ↦ (let most = ltb-false x bound e in let sum = sum_by-cons (λ p. cond (nat_eq p x) 1 0) x xs in let none = h x most in
+          let one : ◌≡◌ {A = ℕ} (cond (nat_eq x x) 1 0) 1 = ap (λ b. cond b 1 0) (eq-eqb x x refl) in absurd (omega arith))
+    ] in
+    max-le first rest
 
 pub top-below : (T : Trail) (S : Clause) (bound : ℕ) (places : List ℕ) → ArePending T S bound places → top_of places ≤ bound
-top-below T S bound [] h = omega arith
-top-below T S bound (x ∷ xs) h =
-    let sum = sum_by-cons (λ p. cond (nat_eq p x) 1 0) x xs in
-    let one : ◌≡◌ {A = ℕ} (cond (nat_eq x x) 1 0) 1 = ap (λ b. cond b 1 0) (eq-eqb x x refl) in
-    let was = h x in
-    let both = one-is (nat_lt x bound && is_open T S (slice_get T x)) (omega arith) in
-    let less = ltb-true x bound (and-left (nat_lt x bound) _ both) in
-    omega arith
+top-below T S bound places h = top-most places bound (λ q most. h q ∙ ap (λ b. cond (b && is_open T S (slice_get T q)) 1 0) (lt-false q bound most))
+
+-- a place that waits is before it
+pub top-there : (place : ℕ) (places : List ℕ) → 1 ≤ times place places → place < top_of places
+top-there place [] h = absurd (omega (arith, h))
+top-there place (x ∷ xs) h = elim (true_or_false (nat_eq x place)) [
+  | inl e ↦ (let same = eqb-true x place e in let most = le-max_left (suc x) (top_of xs) in omega arith)
+  | inr e ↦ (let sum = sum_by-cons (λ p. cond (nat_eq p place) 1 0) x xs in
+      let none : ◌≡◌ {A = ℕ} (cond (nat_eq x place) 1 0) 0 = ap (λ b. cond b 1 0) e in
+      let rest = top-there place xs (omega arith) in let most = le-max_right (suc x) (top_of xs) in omega arith)
+]
+
+pub top-popped : (place : ℕ) (old new : List ℕ) → IsPermutation old (place ∷ new) → place < top_of old
+top-popped place old new moved =
+    let sum = times-popped place place old new moved in
+    let one : ◌≡◌ {A = ℕ} (cond (nat_eq place place) 1 0) 1 = ap (λ b. cond b 1 0) (eq-eqb place place refl) in
+    top-there place old (omega arith)
+
+-- the places behind the greatest are at most it
+pub rest-below : (place : ℕ) (old new : List ℕ) → IsPermutation old (place ∷ new) → All (λ q. q ≤ place) old → All (λ q. q ≤ place) new
+rest-below place old new moved all = All-tail (λ q. q ≤ place) place new (All-permutation (λ q. q ≤ place) old (place ∷ new) moved all)

@@ -1,7 +1,11 @@
 -- The variables of a set, looked at in rising order among those that were seen.
-use Rattle.std.proofs.Common.{◌≡◌, ℕ, zero, suc, ◌+◌, ◌-◌, ◌<◌, ◌≤◌, Bool, true, false, ◌||◌, add-one, List, [], ◌∷◌, ◌++◌, length, get_or, slice_set, slice_index_or, refl, ap, sym, subst, ◌∙◌, nat_eq, eqb-true, eq-eqb, nat_lt, ltb-true, ltb-false, inl, inr, arith}
+use Rattle.std.proofs.Common.{◌≡◌, ℕ, zero, suc, ◌+◌, ◌-◌, ◌<◌, ◌≤◌, Bool, true, false, ◌||◌, add-one, List, [], ◌∷◌, ◌++◌, length, filter, get_or, slice_set, slice_index_or, refl, ap, sym, subst, ◌∙◌, nat_eq, eqb-true, eq-eqb, nat_lt, ltb-true, ltb-false, inl, inr, arith}
 use Rattle.std.specs.List.{list_any}
 use Rattle.std.specs.List.Sorted.{IsNonDecreasing}
+use Rattle.std.proofs.lemmas.List.{get_or-drop}
+use Rattle.std.proofs.lemmas.List.Elements.{All-filter}
+use Rattle.std.proofs.lemmas.List.Filters.{FiltersInPlace}
+use Rattle.std.proofs.lemmas.Map.Views.{any-filter_same}
 use Rattle.theory.specs.Literals.{Clause, has_var}
 use Rattle.theory.specs.Trails.{entry_of}
 use Rattle.theory.specs.Lawful.{IsLawful}
@@ -93,3 +97,21 @@ IsTaken-gone k S now i var seen clause all sorted inside is t mark =
 -- behind the last one there is none
 pub none-beyond : (vars : ℕ) (S : Clause) (seen : List ℕ) (i : ℕ) → AreSeen vars S seen → IsNonDecreasing seen → i ≡ length seen → (v : ℕ) → last_of seen i < v → has_var S v ≡ false
 none-beyond vars S seen i h sorted end v low = none-between vars S seen i v h sorted (omega arith) low (λ inside. absurd (omega (arith, inside, end)))
+
+-- what isn't filtered yet is as it was
+pub unfiltered : (p : ℕ → Bool) (xs ys : List ℕ) (k i d : ℕ) → FiltersInPlace p xs ys k i → get_or ys i d ≡ get_or xs i d
+unfiltered p xs ys k i d h =
+    let same : i + 0 ≡ i = omega arith in
+    ap (λ j. get_or ys j d) (sym same) ∙ (sym (get_or-drop i ys 0 d) ∙ (ap (λ (l : List ℕ). get_or l 0 d) h.rest ∙ (get_or-drop i xs 0 d ∙ ap (λ j. get_or xs j d) same)))
+
+-- those that are marked are enough
+pub AreSeen-marked : (k : State) (S : Clause) (marked : List Bool) (n : ℕ) (seen kept : List ℕ) → IsMarked k S marked n → kept ≡ filter (λ v. slice_index_or marked v false) seen
+    → AreSeen k.vars S seen → AreSeen k.vars S kept
+AreSeen-marked k S marked n seen kept m is h = record {
+  within = rw is (All-filter (λ v. slice_index_or marked v false) (λ v. v ≤ k.vars) seen h.within);
+  all = λ v a. rw is (there v a);
+}
+  where
+    there : (v : ℕ) → has_var S v ≡ true → list_any (λ w. nat_eq w v) (filter (λ w. slice_index_or marked w false) seen) ≡ true
+    there v a =
+        any-filter_same (λ w. nat_eq w v) (λ w. slice_index_or marked w false) true (λ w e. ap (λ x. slice_index_or marked x false) (eqb-true w v e) ∙ (m.marks v ∙ a)) seen ∙ h.all v a

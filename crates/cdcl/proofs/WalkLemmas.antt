@@ -1,7 +1,5 @@
 -- The walk of analysis over the places where the set may be resolved, from the end of the trail.
-use Rattle.std.proofs.Common.{◌≡◌, ℕ, zero, suc, true, false, ◌+◌, ◌-◌, ◌<◌, ◌≤◌, ◌^◌, List, [], ◌∷◌, ◌++◌, length, take, drop, get_or, slice_get, Option, Some, None, refl, ap, sym, subst, ◌∙◌, reverse, arith, IsPermutation}
-use Rattle.std.specs.BinaryHeap.{heap_items, IsHeap, IsUpperBound}
-use Rattle.std.specs.Ordering.{nat_cmp}
+use Rattle.std.proofs.Common.{◌≡◌, ℕ, zero, suc, true, false, ◌+◌, ◌-◌, ◌<◌, ◌≤◌, ◌^◌, List, [], ◌∷◌, ◌++◌, length, take, drop, get_or, slice_get, Option, Some, None, refl, ap, sym, subst, ◌∙◌, reverse, arith, All, IsPermutation}
 use Rattle.std.proofs.lemmas.List.{take_more, reverse-append}
 use Rattle.std.proofs.Math.Seq.{take-length}
 use Rattle.theory.specs.Literals.{Clause, has_var, without}
@@ -87,12 +85,12 @@ pub record IsLookedAt (k : State) (n place : ℕ) (e : Entry) (m : Marks) (hints
   pub rest : walk k.clauses k.trail (take (place + 1) k.trail) set (reverse hints) ≡ walk k.clauses k.trail k.trail (with_literals (clause_at k.clauses n) []) (n ∷ [])
 
 -- the greatest place comes
-top : (k : State) (n place : ℕ) (m : Marks) (hints places : List ℕ) → (h : IsWalked k n m hints) → IsPermutation (heap_items m.pending) (place ∷ places) → IsUpperBound nat_cmp place places
+top : (k : State) (n place : ℕ) (m : Marks) (hints places : List ℕ) → (h : IsWalked k n m hints) → IsPermutation m.pending (place ∷ places) → All (λ q. q ≤ place) places
     → IsTop k.trail h.set h.bound place places
-top k n place m hints places h moved greatest = pending-top k.trail h.set h.bound place (heap_items m.pending) places h.is.pending moved greatest
+top k n place m hints places h moved greatest = pending-top k.trail h.set h.bound place m.pending places h.is.pending moved greatest
 
-pub top-inside : (k : State) (n place : ℕ) (m : Marks) (hints places : List ℕ) → IsWalked k n m hints → IsPermutation (heap_items m.pending) (place ∷ places)
-    → IsUpperBound nat_cmp place places → place < length k.trail
+pub top-inside : (k : State) (n place : ℕ) (m : Marks) (hints places : List ℕ) → IsWalked k n m hints → IsPermutation m.pending (place ∷ places)
+    → All (λ q. q ≤ place) places → place < length k.trail
 top-inside k n place m hints places h moved greatest =
     let below = (top k n place m hints places h moved greatest).below in
     let within = h.within in
@@ -100,11 +98,11 @@ top-inside k n place m hints places h moved greatest =
 
 -- its entry is read; A is the trail as it was lent
 pub IsWalked-popped : (k : State) (n place : ℕ) (e : Entry) (A : Trail) (old new : Marks) (hints : List ℕ) → IsWalked k n old hints → A ≡ k.trail → e ≡ get_or A place e
-    → new.marked ≡ old.marked → new.current ≡ old.current → new.seen ≡ old.seen → IsHeap nat_cmp (heap_items new.pending)
-    → IsPermutation (heap_items old.pending) (place ∷ heap_items new.pending) → IsUpperBound nat_cmp place (heap_items new.pending)
+    → new.marked ≡ old.marked → new.current ≡ old.current → new.seen ≡ old.seen
+    → IsPermutation old.pending (place ∷ new.pending) → All (λ q. q ≤ place) new.pending
     → IsLookedAt k n place e new hints
-IsWalked-popped k n place e A old new hints h lent read marked current seen ordered moved greatest =
-    let t = top k n place old hints (heap_items new.pending) h moved greatest in
+IsWalked-popped k n place e A old new hints h lent read marked current seen moved greatest =
+    let t = top k n place old hints new.pending h moved greatest in
     let below = t.below in
     let within = h.within in
     let found = placed-there k.trail place (omega arith) in
@@ -114,7 +112,7 @@ IsWalked-popped k n place e A old new hints h lent read marked current seen orde
       set = h.set;
       at = at;
       is_open_there = subst (λ o. is_open k.trail h.set o ≡ true) at t.is_open_there;
-      is = IsSet-top k h.set h.bound place old new h.is marked current seen ordered t;
+      is = IsSet-top k h.set h.bound place old new h.is marked current seen t;
       rest =
           sym (walk-between k.clauses k.trail (h.bound - (place + 1)) (place + 1) h.bound h.set (reverse hints) n_between within
           (λ q low high. t.between q (omega (arith, low)) high)) ∙ h.rest;
@@ -181,32 +179,23 @@ IsWalked-next k n place e old new hints more h r = record {
 }
 
 -- the places that wait are below it
-pub Resolves-below : (k : State) (e : Entry) (S : Clause) (place : ℕ) (before hints : List ℕ) (m : Marks) → Resolves k e S place before m hints → top_of (heap_items m.pending) ≤ place
+pub Resolves-below : (k : State) (e : Entry) (S : Clause) (place : ℕ) (before hints : List ℕ) (m : Marks) → Resolves k e S place before m hints → top_of m.pending ≤ place
 Resolves-below k e S place before hints m r =
-    top-below k.trail (resolved_by k.clauses e (S, reverse before) (reason_used k.trail S e)).0 place (heap_items m.pending) r.is.pending
-
--- and it was the first of them
-pub top-first : (places : List ℕ) (place : ℕ) → 0 < length places → place ≡ get_or places 0 place → top_of places ≡ place + 1
-top-first [] place some is = absurd (omega (arith, some))
-top-first (x ∷ xs) place some is = omega (arith, is)
+    top-below k.trail (resolved_by k.clauses e (S, reverse before) (reason_used k.trail S e)).0 place m.pending r.is.pending
 
 -- no place waits any more
-walked : (k : State) (n : ℕ) (m : Marks) (hints : List ℕ) → (h : IsWalked k n m hints) → heap_items m.pending ≡ []
+walked : (k : State) (n : ℕ) (m : Marks) (hints : List ℕ) → (h : IsWalked k n m hints) → m.pending ≡ []
     → (h.set, reverse hints) ≡ walk k.clauses k.trail k.trail (with_literals (clause_at k.clauses n) []) (n ∷ [])
 walked k n m hints h none =
     let pending = rw none at h.is.pending in
     let all : h.bound ≡ h.bound + 0 = omega arith in
     sym (walk-between k.clauses k.trail h.bound 0 h.bound h.set (reverse hints) all h.within (λ q low high. pending-none k.trail h.set h.bound q pending high)) ∙ h.rest
 
-pub IsWalked-set : (k : State) (n : ℕ) (m : Marks) (hints : List ℕ) → IsWalked k n m hints → heap_items m.pending ≡ []
+pub IsWalked-set : (k : State) (n : ℕ) (m : Marks) (hints : List ℕ) → IsWalked k n m hints → m.pending ≡ []
     → IsSet k (walk k.clauses k.trail k.trail (with_literals (clause_at k.clauses n) []) (n ∷ [])).0 0 m
 IsWalked-set k n m hints h none =
     subst (λ (w : Clause × List ℕ). IsSet k w.0 0 m) (walked k n m hints h none) (IsSet-done k h.set h.bound m none h.is)
 
-pub IsWalked-hints : (k : State) (n : ℕ) (m : Marks) (hints : List ℕ) → IsWalked k n m hints → heap_items m.pending ≡ []
+pub IsWalked-hints : (k : State) (n : ℕ) (m : Marks) (hints : List ℕ) → IsWalked k n m hints → m.pending ≡ []
     → reverse hints ≡ (walk k.clauses k.trail k.trail (with_literals (clause_at k.clauses n) []) (n ∷ [])).1
 IsWalked-hints k n m hints h none = ap (λ (w : Clause × List ℕ). w.1) (walked k n m hints h none)
-
-pub none-left : (xs : List ℕ) (n : ℕ) → n ≡ length xs → n ≡ 0 → xs ≡ []
-none-left [] n len zero_long = refl
-none-left (x ∷ xs) n len zero_long = absurd (omega (arith, len, zero_long))

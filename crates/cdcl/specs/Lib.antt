@@ -2,4 +2,5 @@
 pub mod Learnt
 pub mod Outcome
 pub mod Searching
+pub mod Flags
 pub mod Marks

@@ -1,9 +1,7 @@
 -- Sets of literals that are false on the trail, held as marks of their variables, and the places of the trail where one is yet to be
 -- looked at.
 use Rattle.std.specs.Prelude.{◌≡◌, ℕ, ◌<◌, ◌≤◌, ◌^◌, Bool, true, false, ◌&&◌, ◌||◌, nat_eq, nat_lt, List, [], ◌∷◌, length, take, reverse, All, Option, Some, None, if◌then◌else◌, count_by, slice_get, slice_index_or}
-use Rattle.std.specs.BinaryHeap.{heap_items, IsHeap}
 use Rattle.std.specs.List.{list_any}
-use Rattle.std.specs.Ordering.{nat_cmp}
 use Rattle.theory.specs.Literals.{Literal, Clause, has, has_var, negated}
 use Rattle.theory.specs.Truth.{IsOver}
 use Rattle.theory.specs.Status.{is_false}
@@ -43,16 +41,14 @@ ArePending T S bound places = (q : ℕ) → count_by (λ p. nat_eq p q) places �
 pub record IsSet (k : State) (S : Clause) (bound : ℕ) (m : Marks) : Type 0 where
   pub is : IsMarked k S m.marked.items m.current
   pub seen : AreSeen k.vars S m.seen.items
-  pub ordered : IsHeap nat_cmp (heap_items m.pending)
-  pub pending : ArePending k.trail S bound (heap_items m.pending)
+  pub pending : ArePending k.trail S bound m.pending
 
 -- no literal is in the set
 pub record IsClear (m : Marks) : Type 0 where
   pub none : (v : ℕ) → slice_index_or m.marked.items v false ≡ false
   pub zero : m.current ≡ 0
   pub unseen : m.seen.items ≡ []
-  pub done : heap_items m.pending ≡ []
-  pub ordered : IsHeap nat_cmp (heap_items m.pending)
+  pub done : m.pending ≡ []
 
 -- the marks stand for some set, whose places from a bound on were looked at, and the literals of c are false below the bound
 pub record CanJoin (k : State) (c : Clause) (m : Marks) : Type 0 where

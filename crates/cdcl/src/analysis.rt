@@ -1,7 +1,5 @@
 //! Analysis of a conflict: resolution back to the first unique implication point.
-ghost use Rattle.std.specs.Prelude.{◌≡◌, ℕ, ◌<◌, ◌≤◌, ◌^◌, ◌++◌, ◌∷◌, [], All, IfOk, OnOk, Some, length, reverse, not, filter, slice_get, true};
-ghost use Rattle.std.specs.BinaryHeap.{heap_items, IsHeap};
-ghost use Rattle.std.specs.Ordering.{nat_cmp};
+ghost use Rattle.std.specs.Prelude.{◌≡◌, ℕ, ◌<◌, ◌≤◌, ◌^◌, ◌++◌, ◌∷◌, [], All, IfOk, OnOk, Some, length, reverse, not, filter, slice_get, slice_index_or, true, false};
 ghost use Rattle.theory.specs.Literals.{Clause};
 ghost use Rattle.theory.specs.Trails.{literals, entry_of};
 ghost use Rattle.theory.specs.Propagation.{least_false, clause_at};
@@ -74,7 +72,7 @@ fn walk(
     ensures set { OnOk result (IsSet kernel.now
         (walk kernel.now.clauses kernel.now.trail kernel.now.trail (with_literals (clause_at kernel.now.clauses conflict) []) (conflict ∷ [])).0
         0 marks.new) }
-    ensures done { OnOk result (heap_items marks.new.pending ≡ []) }
+    ensures done { OnOk result (marks.new.pending ≡ []) }
     ensures hints { OnOk result (reverse hints.new.items
         ≡ (walk kernel.now.clauses kernel.now.trail kernel.now.trail (with_literals (clause_at kernel.now.clauses conflict) []) (conflict ∷ [])).1) }
 {
@@ -97,17 +95,34 @@ fn put_negation(kernel: &Kernel, clause: &mut Vec<Lit>, var: u32) -> Result<(), 
     Ok(())
 }
 
-/// The literals of the set without those of the cube. It leaves no mark.
+/// Leaves those of the variables that are marked, in their order.
+fn keep_marked(seen: &mut Vec<u32>, marked: &[bool])
+    requires { All (λ v. v < length marked.now) seen.old.items }
+    ensures { seen.new.items ≡ filter (λ v. slice_index_or marked.now v false) seen.old.items }
+{
+    let mut kept = 0;
+    for at in 0..seen.len() {
+        let var = seen[at];
+        if marked[var as usize] {
+            seen[kept] = var;
+            kept += 1;
+        }
+    }
+    seen.truncate(kept);
+}
+
+/// The literals of the set without those of the cube. It leaves no mark. Most variables that were seen were resolved away again, so they go before the
+/// others are sorted.
 fn take_clause(alloc: Global, kernel: &Kernel, marks: &mut Marks) -> Result<Vec<Lit>, AllocError>
     requires long { kernel.now.vars < length marks.old.marked.items }
     requires seen { All (λ v. v ≤ kernel.now.vars) marks.old.seen.items }
-    requires done { heap_items marks.old.pending ≡ [] }
-    requires ordered { IsHeap nat_cmp (heap_items marks.old.pending) }
+    requires done { marks.old.pending ≡ [] }
     ensures clause { IfOk result (λ c. (S : Clause) → (bound : ℕ) → IsSet kernel.now S bound marks.old
         → c.items ≡ filter (λ l. not (is_of_cube kernel.now.trail l)) S) }
     ensures clear { OnOk result ((S : Clause) → (bound : ℕ) → IsSet kernel.now S bound marks.old → IsClear marks.new) }
 {
     let _trail = kernel.trail(); // it ensures what the proof needs of the trail
+    keep_marked(&mut marks.seen, &marks.marked);
     marks.seen.sort_unstable();
     let mut clause = Vec::new(alloc);
     for at in 0..marks.seen.len() {

@@ -4,10 +4,12 @@
 
 mod analysis;
 mod budget;
+mod flags;
 mod halves;
 mod level;
 mod marks;
 mod outcome;
+mod places;
 mod search;
 mod solver;
 

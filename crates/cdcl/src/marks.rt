@@ -1,5 +1,5 @@
 //! Sets of literals that are false on the trail, as marks of their variables: what resolution works on. Each step costs what it
-//! looks at, and a logarithm for each place that waits.
+//! looks at, and a logarithm for each place of level 0 that waits.
 ghost use Rattle.std.specs.Prelude.{◌≡◌, ◌<◌, ◌≤◌, ◌+◌, ◌∷◌, [], ℕ, IfOk, OnOk, length, take, true, false, Some, None, slice_get, slice_index_or};
 ghost use Rattle.theory.specs.Literals.{Clause, has, negated, without};
 ghost use Rattle.theory.specs.Trails.{Entry, literals, entry_of};
@@ -9,10 +9,10 @@ ghost use Rattle.theory.specs.Learning.{with_literal, with_literals, resolved, r
 ghost use Rattle.kernel.specs.State.{State};
 ghost use Rattle.cdcl.specs.Marks.{IsMarked, IsSet, IsClear, CanJoin, CanResolve, is_open};
 
+use crate::places::Places;
 use cnf::Lit;
 use kernel::{Entry, Kernel};
 use std::alloc::{AllocError, Global};
-use std::collections::BinaryHeap;
 use std::marker::Model;
 
 /// A set of literals that are false on the trail.
@@ -25,7 +25,7 @@ pub(crate) struct Marks {
     /// The variables of all literals that were put in.
     pub(crate) seen: Vec<u32>,
     /// The places on the trail that are yet to be looked at: those of the literals of level 0 or of the current one.
-    pub(crate) pending: BinaryHeap<usize>,
+    pub(crate) pending: Places,
 }
 
 /// Puts the negation of the literal at a place into the set, which doesn't have it.
@@ -42,9 +42,9 @@ fn put_at(kernel: &Kernel, marks: &mut Marks, place: usize) -> Result<(), AllocE
     marks.seen.push(var)?;
     if entry.level == kernel.level() {
         marks.current += 1;
-        marks.pending.push(place)?;
+        marks.pending.push_near(place)?;
     } else if entry.level == 0 {
-        marks.pending.push(place)?;
+        marks.pending.push_far(place)?;
     }
     Ok(())
 }
@@ -174,7 +174,7 @@ impl Room {
                 marked: vec![in alloc; false; count]?,
                 current: 0,
                 seen: Vec::new(alloc),
-                pending: BinaryHeap::new(alloc),
+                pending: Places::with_room(alloc, count)?,
             }),
         }
     }

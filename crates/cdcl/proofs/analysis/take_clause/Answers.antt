@@ -1,6 +1,6 @@
 use Rattle.std.proofs.Common.{arith, ◌≡◌, ◌≤◌, ◌<◌, ◌∙◌, ℕ, All, get_or, false, refl, sym, length}
 use Rattle.std.proofs.lemmas.List.{length-set, get_or_default}
-use Rattle.std.proofs.lemmas.List.Elements.{All-get_or}
+use Rattle.std.proofs.lemmas.List.Elements.{All-get_or, All-filter}
 use Rattle.std.proofs.lemmas.List.Sorted.{All-permutation, IsNonDecreasingBy-from_sort}
 use Rattle.std.specs.List.Sorted.{IsNonDecreasing}
 use Rattle.theory.specs.Literals.{Clause, has_var}
@@ -8,7 +8,7 @@ use Rattle.cdcl.specs.Marks.{IsSet}
 use Rattle.cdcl.proofs.MarkedSets.{mark-read}
 use Rattle.cdcl.proofs.TakenClauses.{IsTaken-begin, IsTaken-end, IsTaken-clear}
 use Rattle.cdcl.proofs.SeenVariables.{last_of, IsTaken-found, IsTaken-gone, none-beyond}
-use Rattle.cdcl.proofs.JoinedSets.{IsSet-sorted}
+use Rattle.cdcl.proofs.JoinedSets.{IsSet-sorted, IsSet-marked}
 use Rattle.cdcl.proofs.analysis.take_clause.Goals as goal
 use Rattle.cdcl.proofs.analysis.take_clause.Goals.{then-index+in_ok-put_negation, else-index}
 
@@ -23,7 +23,7 @@ loop-at-init c = record {
 pub index-requires : goal.index-requires
 index-requires c =
     let all : All (λ v. v ≤ c.args.kernel.now.vars) c.loop-at.marks.seen.items =
-    rw c.loop-at.invariant.seen (All-permutation (λ v. v ≤ c.args.kernel.now.vars) _ _ c.sort_unstable.ensures.permutation c.requires.seen) in
+    rw c.loop-at.invariant.seen (All-permutation (λ v. v ≤ c.args.kernel.now.vars) _ _ c.sort_unstable.ensures.permutation (rw c.keep_marked.ensures (All-filter _ (λ v. v ≤ c.args.kernel.now.vars) _ c.requires.seen))) in
     let len = c.len-at-end.ensures in
     let ok = c.sort_unstable.new.self.ok.0 in
     let inside : c.loop-at.at < length c.loop-at.marks.seen.items = rw c.loop-at.invariant.seen (omega (arith, c.loop-at-test.true)) in
@@ -35,7 +35,7 @@ index-requires c =
 pub index_mut-requires : goal.index_mut-requires
 index_mut-requires c =
     let all : All (λ v. v ≤ c.args.kernel.now.vars) c.loop-at.marks.seen.items =
-    rw c.loop-at.invariant.seen (All-permutation (λ v. v ≤ c.args.kernel.now.vars) _ _ c.sort_unstable.ensures.permutation c.requires.seen) in
+    rw c.loop-at.invariant.seen (All-permutation (λ v. v ≤ c.args.kernel.now.vars) _ _ c.sort_unstable.ensures.permutation (rw c.keep_marked.ensures (All-filter _ (λ v. v ≤ c.args.kernel.now.vars) _ c.requires.seen))) in
     let len = c.len-at-end.ensures in
     let ok = c.sort_unstable.new.self.ok.0 in
     let inside : c.loop-at.at < length c.loop-at.marks.seen.items = rw c.loop-at.invariant.seen (omega (arith, c.loop-at-test.true)) in
@@ -47,7 +47,7 @@ index_mut-requires c =
 pub loop-at-preserved : goal.loop-at-preserved
 loop-at-preserved c =
     let all : All (λ v. v ≤ c.args.kernel.now.vars) c.loop-at.marks.seen.items =
-    rw c.loop-at.invariant.seen (All-permutation (λ v. v ≤ c.args.kernel.now.vars) _ _ c.sort_unstable.ensures.permutation c.requires.seen) in
+    rw c.loop-at.invariant.seen (All-permutation (λ v. v ≤ c.args.kernel.now.vars) _ _ c.sort_unstable.ensures.permutation (rw c.keep_marked.ensures (All-filter _ (λ v. v ≤ c.args.kernel.now.vars) _ c.requires.seen))) in
     let len = c.len-at-end.ensures in
     let ok = c.sort_unstable.new.self.ok.0 in
     let inside : c.loop-at.at < length c.loop-at.marks.seen.items = rw c.loop-at.invariant.seen (omega (arith, c.loop-at-test.true)) in
@@ -82,7 +82,9 @@ loop-at-preserved c =
 
 sorted_set : (c : goal.After-marks-2-1) → (S : Clause) → (bound : ℕ) → IsSet c.args.kernel.now S bound c.args.marks.now
     → IsSet c.args.kernel.now S bound (record c.args.marks.now { seen = c.sort_unstable.new.self })
-sorted_set c S bound h = IsSet-sorted c.args.kernel.now S bound c.args.marks.now _ refl refl refl c.sort_unstable.ensures.permutation h
+sorted_set c S bound h =
+    IsSet-sorted c.args.kernel.now S bound (record c.args.marks.now { seen = c.keep_marked.new.seen }) _ refl refl refl c.sort_unstable.ensures.permutation
+    (IsSet-marked c.args.kernel.now S bound c.args.marks.now _ refl refl refl (rw c.deref.ensures.value at c.keep_marked.ensures) h)
 
 beyond : (c : goal.After-marks-2-1) → (S : Clause) → (bound : ℕ) → IsSet c.args.kernel.now S bound c.args.marks.now
     → (v : ℕ) → last_of c.loop-at.marks.seen.items c.loop-at.at < v → has_var S v ≡ false
@@ -104,5 +106,4 @@ returns-clause-clear c S bound h = record {
   zero = refl;
   unseen = c.clear.ensures.items;
   done = rw c.loop-at.invariant.pending c.requires.done;
-  ordered = rw c.loop-at.invariant.pending c.requires.ordered;
 }

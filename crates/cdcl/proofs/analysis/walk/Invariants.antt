@@ -1,4 +1,3 @@
-use Rattle.std.specs.BinaryHeap.{heap_items}
 use Rattle.cdcl.proofs.Pending.{top_of}
 use Rattle.cdcl.proofs.WalkLemmas.{IsWalked}
 use Rattle.cdcl.proofs.analysis.walk.Given as goal
@@ -9,4 +8,4 @@ invariant-loop-place l = IsWalked l.kernel l.conflict l.marks l.hints.items
 
 -- each place is below the one before
 abbrev pub decreases-loop-place : goal.decreases-loop-place
-decreases-loop-place l = top_of (heap_items l.marks.pending)
+decreases-loop-place l = top_of l.marks.pending

@@ -1,5 +1,4 @@
 use Rattle.std.proofs.Common.{◌≡◌, ◌∙◌, true, false, slice_set, ap, sym, nat_eq, eq-eqb, eqb-true, ◌++◌, ◌∷◌, [], arith}
-use Rattle.std.specs.BinaryHeap.{heap_items}
 use Rattle.theory.specs.Trails.{Entry, current_level}
 use Rattle.theory.proofs.LiteralSets.{false_unless}
 use Rattle.cdcl.proofs.PlaceLemmas.{placed-there, entry-read, entry_of-placed}
@@ -22,8 +21,8 @@ overflow_add-marks c =
     let few = c.requires.marks.few in
     omega arith
 
-pub returns-in_ok-push-2 : goal.returns-in_ok-push-2
-returns-in_ok-push-2 c S bound e at below h =
+pub returns-in_ok-push_near : goal.returns-in_ok-push_near
+returns-in_ok-push_near c S bound e at below h =
     let entry = c.entry.view_is ∙ entry-read c.args.kernel.now.trail _ c.args.place c.index-trail-place.result e c.trail.ensures.trail c.index-trail-place.is at in
     let v = c.var-var.ensures.var ∙ ap (λ (x : Entry). x.lit.var) entry in
     let current : nat_eq e.level (current_level c.args.kernel.now.trail) ≡ true =
@@ -32,11 +31,10 @@ returns-in_ok-push-2 c S bound e at below h =
     (ap (λ x. slice_set c.args.marks.now.marked.items x true) v)
     (c.in_ok-push.ensures.items ∙ ap (λ x. c.args.marks.now.seen.items ++ x ∷ []) v)
     (rw current (omega arith))
-    (c.in_ok-push-2.ensures.heap_order h.ordered)
-    (pending-pushed _ c.args.place _ _ (resolvable-current c.args.kernel.now.trail e current) c.in_ok-push-2.ensures.permutation)
+    (pending-pushed _ c.args.place _ _ (resolvable-current c.args.kernel.now.trail e current) c.in_ok-push_near.ensures)
 
-pub returns-in_ok-push-3 : goal.returns-in_ok-push-3
-returns-in_ok-push-3 c S bound e at below h =
+pub returns-in_ok-push_far : goal.returns-in_ok-push_far
+returns-in_ok-push_far c S bound e at below h =
     let entry = c.entry.view_is ∙ entry-read c.args.kernel.now.trail _ c.args.place c.index-trail-place.result e c.trail.ensures.trail c.index-trail-place.is at in
     let v = c.var-var.ensures.var ∙ ap (λ (x : Entry). x.lit.var) entry in
     let level = ap (λ (x : Entry). x.level) entry in
@@ -47,8 +45,7 @@ returns-in_ok-push-3 c S bound e at below h =
     (ap (λ x. slice_set c.args.marks.now.marked.items x true) v)
     (c.in_ok-push.ensures.items ∙ ap (λ x. c.args.marks.now.seen.items ++ x ∷ []) v)
     (rw current (omega arith))
-    (c.in_ok-push-3.ensures.heap_order h.ordered)
-    (pending-pushed _ c.args.place _ _ (resolvable-zero c.args.kernel.now.trail e zero) c.in_ok-push-3.ensures.permutation)
+    (pending-pushed _ c.args.place _ _ (resolvable-zero c.args.kernel.now.trail e zero) c.in_ok-push_far.ensures)
 
 pub returns-else-entry-eq0 : goal.returns-else-entry-eq0
 returns-else-entry-eq0 c S bound e at below h =
@@ -62,5 +59,4 @@ returns-else-entry-eq0 c S bound e at below h =
     (ap (λ x. slice_set c.args.marks.now.marked.items x true) v)
     (c.in_ok-push.ensures.items ∙ ap (λ x. c.args.marks.now.seen.items ++ x ∷ []) v)
     (rw current (omega arith))
-    h.ordered
-    (pending-kept _ c.args.place (heap_items c.args.marks.now.pending) (resolvable-neither c.args.kernel.now.trail e zero current))
+    (pending-kept _ c.args.place c.args.marks.now.pending (resolvable-neither c.args.kernel.now.trail e zero current))
