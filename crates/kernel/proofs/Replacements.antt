@@ -1,9 +1,10 @@
 -- Another literal of a clause to watch, looked for in one part of the clause and then in the other.
-use Rattle.std.proofs.Common.{◌≡◌, ℕ, ◌-◌, true, List, length, take, drop, Option, Some, None, IfSome, IfNone, sym, subst, ◌⊎◌, inl, inr, arith}
+use Rattle.std.proofs.Common.{◌≡◌, ℕ, ◌+◌, ◌-◌, ◌<◌, ◌≤◌, Bool, true, false, not, ◌||◌, cond, List, length, take, drop, get_or, Option, Some, None, IfSome, IfNone, refl, sym, subst, ◌⊎◌, inl, inr, arith}
 use Rattle.std.proofs.lemmas.List.{take-append-drop, take_all, length-drop}
-use Rattle.theory.specs.Literals.{Literal, Clause, has, negated}
+use Rattle.theory.specs.Literals.{Literal, Clause, same, has, negated}
 use Rattle.theory.proofs.LiteralSets.{has-append_left, has-append_right, has-append_cases}
 use Rattle.kernel.specs.Visiting.{IsLast, Replaces}
+use Rattle.kernel.proofs.Visits.{has-get, last-more}
 
 -- the part of a clause from a place on
 abbrev pub from_place : Clause → ℕ → Clause
@@ -42,3 +43,27 @@ some-weaker A B f None a = a
 pub none-weaker : {X : Type 0} (A B : Type 0) → (A → B) → (o : Option X) → IfNone o A → IfNone o B
 none-weaker A B f (Some x) a = a
 none-weaker A B f None a = f a
+
+-- a clause is gone through to its end: one literal more, which is found or not
+pub found-more : (P : List Literal) (c : Clause) (i : ℕ) (l k : Literal) (o : Option Literal) (is_open : Bool) → l ≡ get_or c i l → i < length c
+    → (is_open ≡ true → (same l k ≡ false) × (has P (negated l) ≡ false)) → IfSome o (λ z. Replaces P c k z) → IfSome (cond is_open (Some l) o) (λ z. Replaces P c k z)
+found-more P c i l k o true read inside when_open so_far = record {
+  member = subst (λ (x : Literal). has c x ≡ true) (sym read) (has-get c i l inside);
+  apart = (when_open refl).0;
+  not_false = (when_open refl).1;
+}
+found-more P c i l k o false read inside when_open so_far = so_far
+
+pub none-more : (P : List Literal) (c : Clause) (i : ℕ) (l k : Literal) (o : Option Literal) (is_open : Bool) → l ≡ get_or c i l → i < length c
+    → (is_open ≡ false → (same l k ≡ true) ⊎ (has P (negated l) ≡ true)) → IfNone o (IsLast P (take i c) k) → IfNone (cond is_open (Some l) o) (IsLast P (take (i + 1) c) k)
+none-more P c i l k o true read inside when_closed so_far = tt
+none-more P c i l k (Some z) false read inside when_closed so_far = tt
+none-more P c i l k None false read inside when_closed so_far = last-more P c i l k read inside (when_closed refl) so_far
+
+pub none-whole : (P : List Literal) (c : Clause) (i : ℕ) (k : Literal) (o : Option Literal) → length c ≤ i → IfNone o (IsLast P (take i c) k) → IfNone o (IsLast P c k)
+none-whole P c i k o all found = subst (λ (d : Clause). IfNone o (IsLast P d k)) (take_all i c all) found
+
+pub neither : (a b : Bool) → not (a || b) ≡ true → (a ≡ false) × (b ≡ false)
+neither false false h = (refl, refl)
+neither false true h = absurd (cc)
+neither true b h = absurd (cc)

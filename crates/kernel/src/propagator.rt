@@ -14,6 +14,7 @@ ghost use Rattle.theory.specs.Propagation as closing;
 ghost use Rattle.theory.specs.Trails as closing_trails;
 ghost use Rattle.kernel.specs.Answer.{closed_of};
 ghost use Rattle.kernel.specs.Held.{IsOrdered};
+ghost use Rattle.kernel.specs.Tables.{value_of};
 ghost use Rattle.kernel.specs.Watching.{code, lesser, At, IsNext, IsServed, Tends, AllGood, chosen};
 ghost use Rattle.kernel.specs.Visiting.{IsTruth, Kept, kept_of, entries_at, CanVisit, IsVisit, IsLast, Replaces, tending, with_list, AreEntries};
 
@@ -22,7 +23,7 @@ use crate::closed::Closed;
 use crate::entry::Entry;
 use crate::replacement::{Starts, replacement};
 use crate::trail::Trail;
-use crate::truth::code;
+use crate::truth::{Truth, code};
 use crate::units::Units;
 use crate::watch::{Watch, Watched, beside};
 use cnf::Lit;
@@ -69,14 +70,14 @@ fn chosen(trail: &Trail, watched: Watched) -> Lit
 
 impl Propagator {
     /// Notes a clause all of whose literals but one are false: it is unit where that has no value, and else false.
-    fn note(&mut self, clause: u32, value: Option<bool>) -> Result<(), AllocError>
-        ensures unit { OnOk result (value ≡ None → IsPermutation (clause ∷ self.old.units) self.new.units × (self.new.conflict ≡ self.old.conflict)) }
-        ensures clashes { OnOk result ((b : Bool) → value ≡ Some b → (self.new.units ≡ self.old.units) × (self.new.conflict ≡ Some (lesser self.old.conflict clause))) }
+    fn note(&mut self, clause: u32, status: Truth) -> Result<(), AllocError>
+        ensures unit { OnOk result (value_of status ≡ None → IsPermutation (clause ∷ self.old.units) self.new.units × (self.new.conflict ≡ self.old.conflict)) }
+        ensures clashes { OnOk result ((b : Bool) → value_of status ≡ Some b → (self.new.units ≡ self.old.units) × (self.new.conflict ≡ Some (lesser self.old.conflict clause))) }
         ensures kept { (self.new.clauses ≡ self.old.clauses) × (self.new.pairs ≡ self.old.pairs) × (self.new.lists ≡ self.old.lists) }
     {
-        match value {
-            None => self.units.push(clause),
-            Some(_) => {
+        match status {
+            Truth::Unassigned => self.units.push(clause),
+            _ => {
                 self.conflict = Some(match self.conflict {
                     None => clause,
                     Some(least) => least.min(clause),
@@ -119,8 +120,8 @@ impl Propagator {
     {
         let clause = watch.clause;
         let other = beside(self.pairs[clause as usize], gone);
-        let value = trail.truth(other);
-        if value == Some(true) {
+        let status = trail.status(other);
+        if status.is_satisfied() {
             return Ok(Some(other));
         }
         let lits = self.clauses.get(clause as usize);
@@ -130,7 +131,7 @@ impl Propagator {
                 Ok(None)
             }
             None => {
-                self.note(clause, value)?;
+                self.note(clause, status)?;
                 Ok(Some(other))
             }
         }
@@ -146,8 +147,8 @@ impl Propagator {
         ensures visit { IfOk result (λ r. IsVisit self.old.clauses (literals trail.now.entries) gone watch (kept_of self.old) (kept_of self.new) r) }
         ensures kept { (self.new.clauses ≡ self.old.clauses) × (length self.new.lists.items ≡ length self.old.lists.items) }
     {
-        let value = trail.truth(watch.blocker);
-        if value == Some(true) {
+        let status = trail.status(watch.blocker);
+        if status.is_satisfied() {
             return Ok(Some(watch.blocker));
         }
         if let Some(least) = self.conflict {
@@ -156,7 +157,7 @@ impl Propagator {
             }
         }
         if watch.is_short {
-            self.note(watch.clause, value)?;
+            self.note(watch.clause, status)?;
             return Ok(Some(watch.blocker));
         }
         self.look(trail, gone, watch)

@@ -3,7 +3,8 @@
 //! A clause of many literals that become false one after the other would be gone through from its front each time, and so take the square of its length.
 //! So a long clause is gone through from where a literal was found last, and then from its front. Source: Gent, 'Optimal Implementation of Watched
 //! Literals and More General Techniques' (JAIR 2013). On one clause of 262,143 literals it is the difference between a second and a minute.
-ghost use Rattle.std.specs.Prelude.{◌≡◌, ◌<◌, ◌≤◌, IfSome, IfNone, length, slice_index_or};
+ghost use Rattle.std.specs.Prelude.{◌≡◌, ◌<◌, ◌≤◌, ◌⊎◌, true, false, IfSome, IfNone, length, slice_index_or};
+ghost use Rattle.theory.specs.Literals.{same, has, negated};
 ghost use Rattle.theory.specs.Truth.{IsOver};
 ghost use Rattle.theory.specs.Trails.{literals};
 ghost use Rattle.kernel.specs.Visiting.{IsLast, Replaces};
@@ -11,6 +12,10 @@ ghost use Rattle.kernel.specs.Visiting.{IsLast, Replaces};
 use crate::trail::Trail;
 use cnf::Lit;
 use std::alloc::{AllocError, Global};
+
+/// A clause of at most so many literals is gone through to its end: where the search ends can't be foretold, and the branch that ends it costs
+/// more than the few literals behind.
+const FEW: usize = 4;
 
 /// A clause of more literals than this is long. Others are gone through faster than a place of theirs is read.
 const LONG: usize = 64;
@@ -48,6 +53,34 @@ impl Starts {
     }
 }
 
+/// Whether a literal isn't false, and other than `except`. Both are always asked: which of a clause's literals are so can't be foretold,
+/// and one branch for both is missed less often than two.
+fn is_open(trail: &Trail, lit: Lit, except: Lit) -> bool
+    requires { lit.var ≤ trail.now.vars }
+    ensures yes { result ≡ true → (same lit except ≡ false) × (has (literals trail.now.entries) (negated lit) ≡ false) }
+    ensures no { result ≡ false → (same lit except ≡ true) ⊎ (has (literals trail.now.entries) (negated lit) ≡ true) }
+{
+    let is_false = trail.status(lit).is_falsified();
+    let is_except = lit.same(&except);
+    !(is_false | is_except)
+}
+
+/// A literal that isn't false, other than `except`: the last such one of the clause, which is gone through to its end.
+fn last_open(trail: &Trail, clause: &[Lit], except: Lit) -> Option<Lit>
+    requires { IsOver trail.now.vars clause.now }
+    ensures some { IfSome result (λ z. Replaces (literals trail.now.entries) clause.now except z) }
+    ensures none { IfNone result (IsLast (literals trail.now.entries) clause.now except) }
+{
+    let mut found = None;
+    for place in 0..clause.len() {
+        let lit = clause[place];
+        if is_open(trail, lit, except) {
+            found = Some(lit);
+        }
+    }
+    found
+}
+
 /// The first literal that isn't false, other than `except`, with its place.
 fn first_open(trail: &Trail, clause: &[Lit], except: Lit) -> Option<(usize, Lit)>
     requires { IsOver trail.now.vars clause.now }
@@ -57,7 +90,7 @@ fn first_open(trail: &Trail, clause: &[Lit], except: Lit) -> Option<(usize, Lit)
 {
     for place in 0..clause.len() {
         let lit = clause[place];
-        if trail.truth(lit) != Some(false) && !lit.same(&except) {
+        if is_open(trail, lit, except) {
             return Some((place, lit));
         }
     }
@@ -89,6 +122,9 @@ pub fn replacement(
     ensures some { IfSome result (λ z. Replaces (literals trail.now.entries) clause.now except z) }
     ensures none { IfNone result (IsLast (literals trail.now.entries) clause.now except) }
 {
+    if clause.len() <= FEW {
+        return last_open(trail, clause, except);
+    }
     if clause.len() <= LONG {
         return match first_open(trail, clause, except) {
             Some((_, lit)) => Some(lit),

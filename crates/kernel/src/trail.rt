@@ -3,7 +3,7 @@ ghost use Rattle.std.specs.Prelude.{◌≡◌, ◌≤◌, ◌<◌, ◌^◌, ◌+
 ghost use Rattle.theory.specs.Literals.{Literal, IsVariable, has_var};
 ghost use Rattle.theory.specs.Trails.{literals, current_level, entry_of, level_of, least_free, up_to};
 ghost use Rattle.kernel.specs.Held.{IsOrdered, IsRisingFrom};
-ghost use Rattle.kernel.specs.Tables.{value_in, spot};
+ghost use Rattle.kernel.specs.Tables.{value_in, value_of, spot};
 ghost use Rattle.kernel.specs.declared.truth.Truth.TheVariants.{Unassigned};
 ghost use Rattle.kernel.specs.Visiting.{IsTruth};
 
@@ -167,7 +167,17 @@ impl Trail {
         ensures truth { IsTruth (literals self.now.entries) lit result }
         ensures ordered { IsOrdered self.now.vars self.now.entries }
     {
-        self.truths[spot(self.vars, lit)].value()
+        self.status(lit).value()
+    }
+
+    /// What is said of a literal. Propagation asks for it in place of the truth value: whether it is `Satisfied` is one comparison, and
+    /// one branch that the processor can't foretell, where a truth value takes two.
+    pub fn status(&self, lit: Lit) -> Truth
+        requires { lit.var ≤ self.now.vars }
+        ensures truth { IsTruth (literals self.now.entries) lit (value_of result) }
+        ensures ordered { IsOrdered self.now.vars self.now.entries }
+    {
+        self.truths[spot(self.vars, lit)]
     }
 
     /// The level of a literal's variable, or 0 while it is free.

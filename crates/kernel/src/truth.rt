@@ -1,5 +1,5 @@
 //! What a trail says of literals, in a table by literal.
-ghost use Rattle.std.specs.Prelude.{◌≡◌, ◌<◌, ◌≤◌, ◌+◌, ◌*◌, length};
+ghost use Rattle.std.specs.Prelude.{◌≡◌, ◌≢◌, ◌<◌, ◌≤◌, ◌+◌, ◌*◌, true, false, Some, length};
 ghost use Rattle.kernel.specs.Watching.{code};
 ghost use Rattle.kernel.specs.Tables.{value_of, spot, with_truths};
 
@@ -22,6 +22,30 @@ impl Truth {
             Truth::Unassigned => None,
             Truth::Satisfied => Some(true),
             Truth::Falsified => Some(false),
+        }
+    }
+
+    /// Whether the literal is true.
+    pub fn is_satisfied(self) -> bool
+        ensures yes { result ≡ true → value_of self ≡ Some true }
+        ensures no { result ≡ false → value_of self ≢ Some true }
+    {
+        match self {
+            Truth::Satisfied => true,
+            Truth::Unassigned => false,
+            Truth::Falsified => false,
+        }
+    }
+
+    /// Whether the literal is false.
+    pub fn is_falsified(self) -> bool
+        ensures yes { result ≡ true → value_of self ≡ Some false }
+        ensures no { result ≡ false → value_of self ≢ Some false }
+    {
+        match self {
+            Truth::Falsified => true,
+            Truth::Unassigned => false,
+            Truth::Satisfied => false,
         }
     }
 }

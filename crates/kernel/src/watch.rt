@@ -24,15 +24,13 @@ pub struct Watch {
     pub is_short: bool,
 }
 
-/// The watched literal beside one.
+/// The watched literal beside one. Which of the two it is can't be foretold, so it is chosen by its place and not by a branch.
 pub fn beside(watched: Watched, lit: Lit) -> Lit
     ensures { result ≡ (if same watched.first lit then watched.second else watched.first) }
 {
-    if watched.first.same(&lit) {
-        watched.second
-    } else {
-        watched.first
-    }
+    let both = [watched.first, watched.second];
+    let place = usize::from(watched.first.same(&lit));
+    both[place]
 }
 
 // what stands beside an empty clause
