@@ -67,7 +67,9 @@ fn solve_command<'a>(alloc: Global) -> Result<Command<'a>, AllocError> {
         .value_name("N")
         .value_parser(clap::value_parser!(u32).range(1..=100_000))
         .default_value("1000")
-        .help("Conflicts that the first search may have before it is split, 1 to 100000; a cube of d literals has d + 1 times as many, at most 1000000");
+        .help(
+            "Conflicts that the first search may have before it is split, 1 to 100000; a cube of d literals has d + 1 times as many, at most 1000000",
+        );
     let hands = Arg::new(alloc, "hands")
         .long("hands")
         .value_name("N")

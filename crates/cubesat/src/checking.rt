@@ -12,13 +12,12 @@ use crate::notes::{note_check, note_number};
 use crate::progress::show_progress;
 use crate::watched::check_counted;
 use std::alloc::Global;
-use std::fs;
 use std::fs::Files;
 use std::io::{Read, Write};
 use std::sync::Wait;
-use std::thread;
 use std::thread::Threads;
 use std::time::Clock;
+use std::{fs, thread};
 
 /// The status of a proof that is accepted.
 const ACCEPTED: u8 = 0;

@@ -51,7 +51,10 @@ pub(crate) fn print_line<E: Write>(out: &mut E, manner: Manner, seconds: u64, fi
         Stage::Joining => write!(out, "{start}c {seconds} s: joining{end}"),
         Stage::Writing => {
             let proof = figures.proof;
-            write!(out, "{start}c {seconds} s: {proof} of the proof written{end}")
+            write!(
+                out,
+                "{start}c {seconds} s: {proof} of the proof written{end}"
+            )
         }
         Stage::Checking => {
             let proof = figures.proof;

@@ -14,14 +14,13 @@ use crate::verdict::Verdict;
 use crate::watched::{Effort, run_counted};
 use cubes::OpenGate;
 use std::alloc::Global;
-use std::fs;
 use std::fs::{Files, OpenFile};
 use std::io::{Read, Write};
 use std::os::unix::fs::MetadataExt;
 use std::sync::Wait;
-use std::thread;
 use std::thread::Threads;
 use std::time::Clock;
+use std::{fs, thread};
 
 /// The status of a satisfiable formula.
 const SATISFIABLE: u8 = 10;

@@ -46,13 +46,6 @@ fn main(rt: HostRuntime) -> ExitCode {
     } else {
         Screen::Stream
     };
-    let status = command(
-        &rt,
-        alloc,
-        &words,
-        &mut rt.stdout(),
-        &mut faults,
-        screen,
-    );
+    let status = command(&rt, alloc, &words, &mut rt.stdout(), &mut faults, screen);
     ExitCode::from(status)
 }

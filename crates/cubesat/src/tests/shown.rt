@@ -48,7 +48,12 @@ const RUNS: [(&str, &str, &str, &str, &str); 4] = [
 /// Whether a text names the stages behind one another, each with its time.
 fn has_stages(text: &str) -> bool {
     let mut rest = text;
-    for name in ["\nc reading: ", "\nc solving: ", "\nc joining: ", "\nc writing: "] {
+    for name in [
+        "\nc reading: ",
+        "\nc solving: ",
+        "\nc joining: ",
+        "\nc writing: ",
+    ] {
         match rest.split_once(name) {
             Some((_, behind)) => rest = behind,
             None => return false,
@@ -158,8 +163,14 @@ const LINES: [(Stage, &str); 5] = [
         "c 12 s: 3 cubes solved, at most 2 waiting, depth 2, at least 0.00 % of the tree closed",
     ),
     (Stage::Joining, "c 12 s: joining"),
-    (Stage::Writing, "c 12 s: 2 lines, 7 bytes of the proof written"),
-    (Stage::Checking, "c 12 s: 2 lines, 7 bytes of the proof read"),
+    (
+        Stage::Writing,
+        "c 12 s: 2 lines, 7 bytes of the proof written",
+    ),
+    (
+        Stage::Checking,
+        "c 12 s: 2 lines, 7 bytes of the proof read",
+    ),
 ];
 
 #[test]

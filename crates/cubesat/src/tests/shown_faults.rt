@@ -52,7 +52,15 @@ fn a_check_says_what_it_does(rt: HostRuntime) -> Result<(), Fail> {
     let rows = [
         (good, proof, "accepted\n", "", 0, 0, ""),
         (good, cut, "refused 27 step 2\n", "", 27, 0, ""),
-        (bad, proof, "", "fault 51: refusal 5 at line 2, column 3\n", 51, 5, "the formula is"),
+        (
+            bad,
+            proof,
+            "",
+            "fault 51: refusal 5 at line 2, column 3\n",
+            51,
+            5,
+            "the formula is",
+        ),
         (good, ".", "", "fault 55\n", 55, 0, "the proof is"),
         (good, missing, "", "fault 56\n", 56, 0, "the file is"),
         (missing, proof, "", "fault 56\n", 56, 0, "the file is"),
@@ -60,12 +68,29 @@ fn a_check_says_what_it_does(rt: HostRuntime) -> Result<(), Fail> {
     for (formula, proof, answer, fault, number, behind, concerns) in rows {
         let printed = run(&rt, &["cubesat", "check", "--verbose", formula, proof]);
         assert_eq!(rt; printed.answer.as_slice(), answer.as_bytes());
-        let numbers = if number == 0 { String::new(rt.alloc()) } else { line_of(&rt, number)? };
-        let numbers_behind = if behind == 0 { String::new(rt.alloc()) } else { line_of(&rt, behind)? };
-        let file = if number == 51 || formula == missing { formula } else { proof };
-        let last = if concerns.is_empty() { String::new(rt.alloc()) } else { format!(in rt.alloc(); "c {concerns} {file}\n")? };
+        let numbers = if number == 0 {
+            String::new(rt.alloc())
+        } else {
+            line_of(&rt, number)?
+        };
+        let numbers_behind = if behind == 0 {
+            String::new(rt.alloc())
+        } else {
+            line_of(&rt, behind)?
+        };
+        let file = if number == 51 || formula == missing {
+            formula
+        } else {
+            proof
+        };
+        let last = if concerns.is_empty() {
+            String::new(rt.alloc())
+        } else {
+            format!(in rt.alloc(); "c {concerns} {file}\n")?
+        };
         let wanted = format!(in rt.alloc();
-            "c reading the formula from {formula}\nc checking the proof in {proof}\n{fault}{numbers}{numbers_behind}{last}")?;
+            "c reading the formula from {formula}\nc checking the proof in {proof}\n{fault}{numbers}{numbers_behind}{last}"
+        )?;
         assert_eq!(rt; printed.faults.as_slice(), wanted.as_bytes());
     }
     Ok(())
@@ -80,15 +105,29 @@ fn a_run_says_what_it_does(rt: HostRuntime) -> Result<(), Fail> {
     // the formula, the proof, the fault's line, its numbers, and whether both files are concerned
     let rows = [
         (good, proof, "", 0, 0),
-        (bad, proof, "fault 51: refusal 5 at line 2, column 3\n", 51, 5),
+        (
+            bad,
+            proof,
+            "fault 51: refusal 5 at line 2, column 3\n",
+            51,
+            5,
+        ),
         (good, missing, "fault 56\n", 56, 0),
         (good, good, same, 57, 0),
     ];
     for (formula, proof, fault, number, behind) in rows {
         let words = ["cubesat", "solve", "--verbose", "--proof", proof, formula];
         let printed = run(&rt, &words);
-        let numbers = if number == 0 { String::new(rt.alloc()) } else { line_of(&rt, number)? };
-        let numbers_behind = if behind == 0 { String::new(rt.alloc()) } else { line_of(&rt, behind)? };
+        let numbers = if number == 0 {
+            String::new(rt.alloc())
+        } else {
+            line_of(&rt, number)?
+        };
+        let numbers_behind = if behind == 0 {
+            String::new(rt.alloc())
+        } else {
+            line_of(&rt, behind)?
+        };
         let files = match number {
             51 => format!(in rt.alloc(); "c the formula is {formula}\n")?,
             56 => format!(in rt.alloc(); "c the file is {proof}\n")?,
@@ -96,7 +135,8 @@ fn a_run_says_what_it_does(rt: HostRuntime) -> Result<(), Fail> {
             _ => String::new(rt.alloc()),
         };
         let wanted = format!(in rt.alloc();
-            "c reading the formula from {formula}\nc solving it, hands 1, budget 1000 conflicts\nc writing the proof to {proof}\n{fault}{numbers}{numbers_behind}{files}")?;
+            "c reading the formula from {formula}\nc solving it, hands 1, budget 1000 conflicts\nc writing the proof to {proof}\n{fault}{numbers}{numbers_behind}{files}"
+        )?;
         assert_eq!(rt; printed.faults.as_slice(), wanted.as_bytes());
     }
     Ok(())
