@@ -3,7 +3,7 @@ ghost use Rattle.std.specs.Prelude.{◌≤◌, IfOk};
 ghost use Rattle.cubesat.specs.Arguments.{IsRequest, IsWithin};
 
 use clap::error::ErrorKind;
-use clap::{Arg, ArgMatches, Command, Error};
+use clap::{Arg, ArgAction, ArgMatches, Command, Error};
 use std::alloc::{AllocError, Global};
 
 /// The largest budget.
@@ -11,6 +11,23 @@ const MAX_BUDGET: u32 = 100_000;
 
 /// The most hands.
 const MAX_HANDS: u32 = 16;
+
+const STATS: &str = "Print to standard error what the run took: cubes, lines, times, memory";
+
+const SOLVE_PROGRESS: &str = "Print to standard error about once a second how far the run is";
+
+const CHECK_PROGRESS: &str =
+    "Print to standard error about once a second how much of the proof is read";
+
+const VERBOSE: &str = "Print to standard error what is done, and what a fault or refusal means";
+
+/// What is shown of a run, beside its answer and its faults.
+#[derive(Clone, Copy, Debug)]
+pub(crate) struct Shown {
+    pub(crate) stats: bool,
+    pub(crate) progress: bool,
+    pub(crate) verbose: bool,
+}
 
 /// What the command line asks for.
 #[derive(Clone, Copy, Debug)]
@@ -21,11 +38,13 @@ pub(crate) enum Request<'a> {
         hands: usize,
         proof: &'a str,
         file: &'a str,
+        shown: Shown,
     },
     /// Check the proof in `proof` against the formula in `formula`.
     Check {
         formula: &'a str,
         proof: &'a str,
+        shown: Shown,
     },
     /// Say what a number that the program printed means, and the one behind it.
     Explain {
@@ -34,13 +53,23 @@ pub(crate) enum Request<'a> {
     },
 }
 
+/// An option that takes no value.
+fn flag<'a>(alloc: Global, name: &'a str, help: &'a str) -> Arg<'a> {
+    Arg::new(alloc, name)
+        .long(name)
+        .action(ArgAction::SetTrue)
+        .help(help)
+}
+
 fn solve_command<'a>(alloc: Global) -> Result<Command<'a>, AllocError> {
     let budget = Arg::new(alloc, "budget")
         .long("budget")
         .value_name("N")
         .value_parser(clap::value_parser!(u32).range(1..=100_000))
         .default_value("1000")
-        .help("Conflicts that a cube may have before it is split, 1 to 100000");
+        .help(
+            "Conflicts that the first search may have before it is split, 1 to 100000; a cube of d literals has d + 1 times as many, at most 1000000",
+        );
     let hands = Arg::new(alloc, "hands")
         .long("hands")
         .value_name("N")
@@ -60,6 +89,9 @@ fn solve_command<'a>(alloc: Global) -> Result<Command<'a>, AllocError> {
         .arg(budget)?
         .arg(hands)?
         .arg(proof)?
+        .arg(flag(alloc, "stats", STATS))?
+        .arg(flag(alloc, "progress", SOLVE_PROGRESS))?
+        .arg(flag(alloc, "verbose", VERBOSE))?
         .arg(file)
 }
 
@@ -72,6 +104,8 @@ fn check_command<'a>(alloc: Global) -> Result<Command<'a>, AllocError> {
         .help("The proof, in LRAT");
     Command::new(alloc, "check")
         .about("Check a proof: status 0 accepted, 1 refused or on a fault")
+        .arg(flag(alloc, "progress", CHECK_PROGRESS))?
+        .arg(flag(alloc, "verbose", VERBOSE))?
         .arg(formula)?
         .arg(proof)
 }
@@ -96,6 +130,7 @@ const VERSION: &str = "0.3.0 (rattle-kit-13b logic dac8208d650f15bf)";
 const EXAMPLES: &str = "Examples:
   cubesat solve --proof f.lrat f.cnf              decide f.cnf
   cubesat solve --hands 4 --proof f.lrat f.cnf    the same bytes, by four threads
+  cubesat solve --stats --proof f.lrat f.cnf      and what it took
   cubesat check f.cnf f.lrat                      check the proof
   cubesat explain 51 5                            what `fault 51: refusal 5` means";
 
@@ -120,6 +155,11 @@ fn solve_request<'a>(matches: &ArgMatches<'a>) -> Option<Request<'a>>
     let hands = matches.get_one::<u32>("hands")?;
     let proof = matches.get_str("proof")?;
     let file = matches.get_str("FILE")?;
+    let shown = Shown {
+        stats: matches.get_flag("stats"),
+        progress: matches.get_flag("progress"),
+        verbose: matches.get_flag("verbose"),
+    };
     if budget < 1 || budget > MAX_BUDGET || hands < 1 || hands > MAX_HANDS {
         return None;
     }
@@ -128,6 +168,7 @@ fn solve_request<'a>(matches: &ArgMatches<'a>) -> Option<Request<'a>>
         hands: hands as usize,
         proof,
         file,
+        shown,
     })
 }
 
@@ -136,7 +177,16 @@ fn check_request<'a>(matches: &ArgMatches<'a>) -> Option<Request<'a>>
 {
     let formula = matches.get_str("FORMULA")?;
     let proof = matches.get_str("PROOF")?;
-    Some(Request::Check { formula, proof })
+    let shown = Shown {
+        stats: false,
+        progress: matches.get_flag("progress"),
+        verbose: matches.get_flag("verbose"),
+    };
+    Some(Request::Check {
+        formula,
+        proof,
+        shown,
+    })
 }
 
 fn explain_request<'a>(matches: &ArgMatches<'a>) -> Option<Request<'a>>

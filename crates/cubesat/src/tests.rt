@@ -13,6 +13,8 @@ mod other_solvers;
 mod program;
 mod rows;
 mod same_file;
+mod shown;
+mod shown_faults;
 
 /// All four clauses over two variables.
 const FOUR: &str = "p cnf 2 4\n1 2 0\n1 -2 0\n-1 2 0\n-1 -2 0\n";

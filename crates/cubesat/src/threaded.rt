@@ -4,6 +4,7 @@ ghost use Rattle.cubesat.specs.Answer.{IsRightAnswer};
 ghost use Rattle.cubesat.specs.Run.{RunSays};
 
 use crate::fault::RunFault;
+use crate::observer::{Observer, Unobserved};
 use crate::output::write_text;
 use crate::proof_output::write_proof;
 use crate::runs::output_of;
@@ -15,6 +16,50 @@ use std::io::{Read, Write};
 use std::sync::Wait;
 use std::thread::Threads;
 use std::time::Clock;
+
+/// The stages of `run`, each of which an observer is told of as it ends.
+pub(crate) fn run_observed<
+    T: Threads + Wait + Clock + Sync,
+    R: Read + Drop,
+    W: Write,
+    P: Write,
+    G: Gate + Sync,
+    O: Observer,
+>(
+    rt: &T,
+    alloc: Global,
+    input: R,
+    answer: &mut W,
+    proof: &mut P,
+    budget: u32,
+    hands: usize,
+    gate: &G,
+    observer: &O,
+) -> Result<Verdict, RunFault>
+    requires budget { (1 ≤ budget) × (budget ≤ 100000) }
+    requires hands { (1 ≤ hands) × (hands ≤ 16) }
+    ensures says { RunSays (R.remaining input) budget (P.contents proof.old) (P.contents proof.new) (W.contents answer.old) (W.contents answer.new) result }
+    ensures answer_is_right { IfOk result (IsRightAnswer (R.remaining input) (P.contents proof.old) (P.contents proof.new) (W.contents answer.old) (W.contents answer.new)) }
+{
+    let formula = match read_from(alloc, input) {
+        Ok(formula) => formula,
+        Err(fault) => return Err(RunFault::of_read(fault)),
+    };
+    observer.read(&formula);
+    let Ok(tree) = solve_with(rt, alloc, &formula, budget, hands, gate) else {
+        return Err(RunFault::NoMemory);
+    };
+    observer.solved(&tree);
+    let mut output = match output_of(alloc, &formula, budget, tree) {
+        Ok(output) => output,
+        Err(_) => return Err(RunFault::NoMemory),
+    };
+    observer.joined();
+    write_proof(proof, &mut output.lines, &mut output.buffer)?;
+    observer.written();
+    write_text(answer, &output.answer, RunFault::AnswerWriteFailed)?;
+    Ok(output.verdict)
+}
 
 /// What `run_one` does, by 1 to 16 hands, each in a thread of its own where one can be started. Whatever the hands, the gate and the
 /// schedule, the same bytes are written.
@@ -33,18 +78,8 @@ pub fn run<T: Threads + Wait + Clock + Sync, R: Read + Drop, W: Write, P: Write,
     ensures says { RunSays (R.remaining input) budget (P.contents proof.old) (P.contents proof.new) (W.contents answer.old) (W.contents answer.new) result }
     ensures answer_is_right { IfOk result (IsRightAnswer (R.remaining input) (P.contents proof.old) (P.contents proof.new) (W.contents answer.old) (W.contents answer.new)) }
 {
-    let formula = match read_from(alloc, input) {
-        Ok(formula) => formula,
-        Err(fault) => return Err(RunFault::of_read(fault)),
-    };
-    let Ok(tree) = solve_with(rt, alloc, &formula, budget, hands, gate) else {
-        return Err(RunFault::NoMemory);
-    };
-    let mut output = match output_of(alloc, &formula, budget, tree) {
-        Ok(output) => output,
-        Err(_) => return Err(RunFault::NoMemory),
-    };
-    write_proof(proof, &mut output.lines, &mut output.buffer)?;
-    write_text(answer, &output.answer, RunFault::AnswerWriteFailed)?;
-    Ok(output.verdict)
+    let observer = Unobserved;
+    run_observed(
+        rt, alloc, input, answer, proof, budget, hands, gate, &observer,
+    )
 }

@@ -1,8 +1,9 @@
 //! The program `cubesat`.
 #![tactic(auto)]
 
-use cubesat::command;
+use cubesat::{Screen, command};
 use std::alloc::{AllocError, Global};
+use std::io::IsTerminal;
 use std::process::ExitCode;
 use std::rt::Env;
 use std::{env, io};
@@ -39,6 +40,12 @@ fn main(rt: HostRuntime) -> ExitCode {
         let _ = eprintln!(rt; "fault 52");
         return ExitCode::from(1);
     };
-    let status = command(&rt, alloc, &words, &mut rt.stdout(), &mut rt.stderr());
+    let mut faults = rt.stderr();
+    let screen = if faults.is_terminal() {
+        Screen::Terminal
+    } else {
+        Screen::Stream
+    };
+    let status = command(&rt, alloc, &words, &mut rt.stdout(), &mut faults, screen);
     ExitCode::from(status)
 }

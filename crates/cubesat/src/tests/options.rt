@@ -2,7 +2,7 @@
 use super::faulty::Limited;
 use super::program::{path_of, run};
 use super::{FOUR, FOUR_PROOF};
-use crate::command;
+use crate::{Screen, command};
 use std::fs;
 use std::rt::{Env, Files};
 use std::sync::Wait;
@@ -11,11 +11,11 @@ use std::thread::Threads;
 use std::time::Clock;
 
 // all eight clauses over three variables
-const EIGHT: &str = "p cnf 3 8
+pub(super) const EIGHT: &str = "p cnf 3 8
 1 2 3 0\n1 2 -3 0\n1 -2 3 0\n1 -2 -3 0\n-1 2 3 0\n-1 2 -3 0\n-1 -2 3 0\n-1 -2 -3 0
 ";
 
-const SPLIT: &str =
+pub(super) const SPLIT: &str =
     "9 2 1 0 1 2 0\n10 1 0 9 3 4 0\n10 d 9 0\n11 2 -1 0 5 6 0\n12 -1 0 11 7 8 0\n12 d 11 0\n13 0 10 12 0\n";
 
 /// Their proofs at budgets that exhaust the root, and at 4 and more.
@@ -115,7 +115,14 @@ fn is_silent<R: Files + AllocGlobal + Threads + Wait + Clock + Sync>(
 ) -> bool {
     let mut answer = Vec::new(rt.alloc());
     let mut faults = Limited::new(rt.alloc(), 0);
-    let status = command(rt, rt.alloc(), words, &mut answer, &mut faults);
+    let status = command(
+        rt,
+        rt.alloc(),
+        words,
+        &mut answer,
+        &mut faults,
+        Screen::Stream,
+    );
     status == 1 && answer.is_empty() && faults.refusals > 0
 }
 

@@ -3,7 +3,7 @@ use Rattle.theory.specs.Texts.{proof_text}
 use Rattle.join.specs.Walking.{lines_left}
 use Rattle.cubesat.proofs.RightAnswers.{says-right}
 use Rattle.cubesat.proofs.RunLemmas.{IsRunOf-made, RunSays-unread, RunSays-stopped}
-use Rattle.cubesat.proofs.threaded.run.Goals as goal
+use Rattle.cubesat.proofs.threaded.run_observed.Goals as goal
 
 pub returns-in-Err-clause-says : goal.returns-in-Err-clause-says
 returns-in-Err-clause-says g c =

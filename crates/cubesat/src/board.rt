@@ -1,0 +1,61 @@
+//! The figures of a run that is going on. All its threads share them, and one at a time writes them.
+
+use crate::figures::{Figures, Stage};
+use std::sync::{Mutex, Wait};
+use std::thread;
+use std::time::{Clock, Duration, Instant};
+
+/// How long is slept between two looks at a line that another thread is to erase.
+const LOOK: u64 = 1;
+
+/// The figures, and when the run began.
+#[derive(Drop)]
+pub(crate) struct Board {
+    figures: Mutex<Figures>,
+    since: Option<Instant>,
+}
+
+impl Board {
+    /// A run begins.
+    pub(crate) fn new<R: Clock>(rt: &R, stage: Stage) -> Board {
+        Board {
+            figures: Mutex::new(Figures::none(stage)),
+            since: Instant::now(rt).ok(),
+        }
+    }
+
+    pub(crate) fn figures(&self) -> &Mutex<Figures> {
+        &self.figures
+    }
+
+    /// The milliseconds since it began; 0 where the clock can't be read.
+    pub(crate) fn now<R: Clock>(&self, rt: &R) -> u64 {
+        let Some(since) = self.since else {
+            return 0;
+        };
+        match since.elapsed(rt) {
+            Ok(time) => time
+                .as_secs()
+                .saturating_mul(1000)
+                .saturating_add(u64::from(time.subsec_millis())),
+            Err(_) => 0,
+        }
+    }
+
+    /// What is counted so far.
+    pub(crate) fn look<R: Wait>(&self, rt: &R) -> Figures {
+        *self.figures.lock(rt)
+    }
+
+    /// Ends the showing of progress, and waits until no line of it stands on the terminal. One stands there only where its thread runs.
+    pub(crate) fn end_progress<R: Wait + Clock>(&self, rt: &R) {
+        self.figures.lock(rt).end_progress();
+        for _ in rt.forever() {
+            let figures = self.look(rt);
+            if !figures.is_drawn {
+                break;
+            }
+            thread::sleep(rt, Duration::from_millis(LOOK));
+        }
+    }
+}

@@ -1,0 +1,97 @@
+//! `check`: its files, and what is printed of the run.
+
+use crate::arguments::Shown;
+use crate::board::Board;
+use crate::check::check_run;
+use crate::checked_line::Checked;
+use crate::fault::RunFault;
+use crate::fault_lines::{FAILED, Screen, print_fault_of, print_no_file};
+use crate::figures::Stage;
+use crate::kept::{Beginning, KeptWriter};
+use crate::notes::{note_check, note_number};
+use crate::progress::show_progress;
+use crate::watched::check_counted;
+use std::alloc::Global;
+use std::fs::Files;
+use std::io::{Read, Write};
+use std::sync::Wait;
+use std::thread::Threads;
+use std::time::Clock;
+use std::{fs, thread};
+
+/// The status of a proof that is accepted.
+const ACCEPTED: u8 = 0;
+
+/// A check with its progress shown. It writes what `check_run` writes.
+fn check_shown<
+    R: Threads + Wait + Clock + Sync,
+    F: Read + Drop,
+    P: Read + Drop,
+    W: Write,
+    E: Write + Send,
+>(
+    rt: &R,
+    alloc: Global,
+    formula: F,
+    proof: P,
+    answer: &mut W,
+    faults: &mut E,
+    screen: Screen,
+) -> Result<Checked, RunFault> {
+    let board = Board::new(rt, Stage::Checking);
+    let manner = screen.manner();
+    let (_, result) = thread::join(
+        rt,
+        || show_progress(rt, &board, faults, manner),
+        || check_counted(rt, alloc, &board, formula, proof, answer),
+    );
+    result
+}
+
+/// Checks the proof in the file against the formula in the other; the status.
+pub(crate) fn check<R: Files + Threads + Wait + Clock + Sync, W: Write, E: Write + Send>(
+    rt: &R,
+    alloc: Global,
+    file: &str,
+    path: &str,
+    shown: Shown,
+    answer: &mut W,
+    faults: &mut E,
+    screen: Screen,
+) -> u8 {
+    if shown.verbose {
+        note_check(faults, file, path);
+    }
+    let Ok(formula) = fs::open(rt, file) else {
+        return print_no_file(faults, file, shown.verbose);
+    };
+    let Ok(proof) = fs::open(rt, path) else {
+        return print_no_file(faults, path, shown.verbose);
+    };
+    let mut kept = KeptWriter {
+        inner: answer,
+        beginning: Beginning::none(),
+    };
+    let result = if shown.progress {
+        check_shown(rt, alloc, formula, proof, &mut kept, faults, screen)
+    } else {
+        check_run(alloc, formula, proof, &mut kept)
+    };
+    let KeptWriter {
+        inner: _,
+        beginning,
+    } = kept;
+    match result {
+        Ok(Checked::Accepted) => ACCEPTED,
+        Ok(Checked::Refused) => {
+            if let (true, Some(number)) = (shown.verbose, beginning.refusal()) {
+                note_number(faults, number);
+            }
+            FAILED
+        }
+        Err(fault) => {
+            print_fault_of(faults, fault, file, path, shown.verbose);
+            FAILED
+        }
+    }
+}

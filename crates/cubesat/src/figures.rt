@@ -1,0 +1,208 @@
+//! What is counted in a run, as plain numbers; a number that can't grow stays as it is.
+
+use crate::cube_counts::CubeCounts;
+use cnf::Formula;
+use cubes::{Node, Tree};
+use std::fmt;
+use std::fmt::{Display, Formatter};
+
+/// The size of a formula.
+#[derive(Clone, Copy)]
+pub(crate) struct FormulaSize {
+    pub(crate) vars: u32,
+    pub(crate) clauses: usize,
+    pub(crate) literals: usize,
+}
+
+impl FormulaSize {
+    pub(crate) fn of(formula: &Formula) -> FormulaSize {
+        let mut literals = 0usize;
+        for clause in formula.clauses() {
+            literals = literals.saturating_add(clause.len());
+        }
+        FormulaSize {
+            vars: formula.vars(),
+            clauses: formula.clauses().len(),
+            literals,
+        }
+    }
+}
+
+/// The size of a tree of splits without a model.
+#[derive(Clone, Copy)]
+pub(crate) struct TreeSize {
+    pub(crate) splits: u64,
+    pub(crate) leaves: u64,
+    /// The lines that were learnt in the refuted cubes.
+    pub(crate) learnt: usize,
+}
+
+impl TreeSize {
+    fn of_nodes(nodes: &[Node]) -> TreeSize {
+        let mut size = TreeSize {
+            splits: 0,
+            leaves: 0,
+            learnt: 0,
+        };
+        for node in nodes {
+            match node {
+                Node::Split(_) => size.splits = size.splits.saturating_add(1),
+                Node::Leaf(refutation) => {
+                    size.leaves = size.leaves.saturating_add(1);
+                    size.learnt = size.learnt.saturating_add(refutation.lines.len());
+                }
+            }
+        }
+        size
+    }
+
+    /// The size of the tree; of one with a model only the model is known.
+    pub(crate) fn of(tree: &Tree) -> Option<TreeSize> {
+        match tree {
+            Tree::Model(_) => None,
+            Tree::Refuted(nodes) => Some(TreeSize::of_nodes(nodes)),
+        }
+    }
+}
+
+/// How much of a text went by.
+#[derive(Clone, Copy)]
+pub(crate) struct TextSize {
+    pub(crate) lines: usize,
+    pub(crate) bytes: usize,
+}
+
+impl TextSize {
+    pub(crate) fn none() -> TextSize {
+        TextSize { lines: 0, bytes: 0 }
+    }
+
+    pub(crate) fn of(text: &[u8]) -> TextSize {
+        let mut lines = 0usize;
+        for byte in text {
+            if *byte == b'\n' {
+                lines = lines.saturating_add(1);
+            }
+        }
+        TextSize {
+            lines,
+            bytes: text.len(),
+        }
+    }
+
+    fn add(&mut self, piece: TextSize) {
+        self.lines = self.lines.saturating_add(piece.lines);
+        self.bytes = self.bytes.saturating_add(piece.bytes);
+    }
+}
+
+impl Display for TextSize {
+    fn fmt<W: fmt::Write>(&self, f: &mut Formatter<W>) -> fmt::Result {
+        let (lines, bytes) = (self.lines, self.bytes);
+        write!(f, "{lines} lines, {bytes} bytes")
+    }
+}
+
+/// How a stage of a run ended.
+#[derive(Clone, Copy)]
+pub(crate) struct StageEnd {
+    /// Milliseconds since the run began.
+    pub(crate) at: u64,
+    /// The most memory that the process had by then, in KiB, where the system tells it.
+    pub(crate) peak: Option<u64>,
+}
+
+/// What a run is at.
+#[derive(Clone, Copy, Debug, PartialEq, Eq)]
+pub(crate) enum Stage {
+    Reading,
+    Solving,
+    Joining,
+    Writing,
+    /// `check` reads the formula, and then the proof.
+    Checking,
+}
+
+/// All that is counted in a run; none of what it didn't come to.
+#[derive(Clone, Copy)]
+pub(crate) struct Figures {
+    pub(crate) stage: Stage,
+    /// Whether no more progress is to be shown.
+    pub(crate) is_ended: bool,
+    /// Whether a line of progress stands on the terminal.
+    pub(crate) is_drawn: bool,
+    pub(crate) formula: Option<FormulaSize>,
+    pub(crate) cubes: CubeCounts,
+    pub(crate) tree: Option<TreeSize>,
+    pub(crate) proof: TextSize,
+    pub(crate) read: Option<StageEnd>,
+    pub(crate) solved: Option<StageEnd>,
+    pub(crate) joined: Option<StageEnd>,
+    pub(crate) written: Option<StageEnd>,
+}
+
+impl Figures {
+    pub(crate) fn none(stage: Stage) -> Figures {
+        Figures {
+            stage,
+            is_ended: false,
+            is_drawn: false,
+            formula: None,
+            cubes: CubeCounts::none(),
+            tree: None,
+            proof: TextSize::none(),
+            read: None,
+            solved: None,
+            joined: None,
+            written: None,
+        }
+    }
+
+    pub(crate) fn begin_cube(&mut self, hand: usize, depth: usize, last: Option<bool>) {
+        self.cubes.begin(hand, depth, last);
+    }
+
+    pub(crate) fn end_cube(&mut self, hand: usize, depth: usize) {
+        self.cubes.end(hand, depth);
+    }
+
+    /// A piece of the proof goes by.
+    pub(crate) fn add_proof(&mut self, piece: TextSize) {
+        self.proof.add(piece);
+    }
+
+    pub(crate) fn end_reading(&mut self, size: FormulaSize, end: StageEnd) {
+        self.stage = Stage::Solving;
+        self.formula = Some(size);
+        self.read = Some(end);
+    }
+
+    pub(crate) fn end_solving(&mut self, size: Option<TreeSize>, end: StageEnd) {
+        self.stage = Stage::Joining;
+        self.tree = size;
+        self.solved = Some(end);
+    }
+
+    pub(crate) fn end_joining(&mut self, end: StageEnd) {
+        self.stage = Stage::Writing;
+        self.joined = Some(end);
+    }
+
+    pub(crate) fn end_writing(&mut self, end: StageEnd) {
+        self.written = Some(end);
+    }
+
+    pub(crate) fn end_progress(&mut self) {
+        self.is_ended = true;
+    }
+
+    /// A line is about to be drawn; whether it still may be.
+    pub(crate) fn draw(&mut self) -> bool {
+        self.is_drawn = !self.is_ended;
+        self.is_drawn
+    }
+
+    pub(crate) fn erase(&mut self) {
+        self.is_drawn = false;
+    }
+}

@@ -1,0 +1,53 @@
+//! What `--verbose` prints: lines that begin with `c`, of what is done, and of what a fault means.
+
+use crate::explanations::explanation;
+use std::io::Write;
+
+/// Prints a line. A failed write changes nothing.
+fn note<E: Write>(out: &mut E, said: &str, what: &str) {
+    let _ = writeln!(out, "c {said} {what}");
+}
+
+/// What `solve` is about to do.
+pub(crate) fn note_solve<E: Write>(
+    out: &mut E,
+    budget: u32,
+    hands: usize,
+    file: &str,
+    proof: &str,
+) {
+    note(out, "reading the formula from", file);
+    let _ = writeln!(
+        out,
+        "c solving it, hands {hands}, budget {budget} conflicts"
+    );
+    note(out, "writing the proof to", proof);
+}
+
+/// What `check` is about to do.
+pub(crate) fn note_check<E: Write>(out: &mut E, formula: &str, proof: &str) {
+    note(out, "reading the formula from", formula);
+    note(out, "checking the proof in", proof);
+}
+
+/// What a number means.
+pub(crate) fn note_number<E: Write>(out: &mut E, number: u32) {
+    if let Some(text) = explanation(number) {
+        let _ = writeln!(out, "c {number}: {text}");
+    }
+}
+
+/// Which files a fault concerns.
+pub(crate) fn note_files<E: Write>(out: &mut E, number: u32, formula: &str, proof: &str) {
+    if number == 51 || number == 57 {
+        note(out, "the formula is", formula);
+    }
+    if number == 53 || number == 55 || number == 57 {
+        note(out, "the proof is", proof);
+    }
+}
+
+/// Which file can't be opened or created.
+pub(crate) fn note_file<E: Write>(out: &mut E, file: &str) {
+    note(out, "the file is", file);
+}

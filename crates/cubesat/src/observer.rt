@@ -1,0 +1,33 @@
+//! Who is told of the stages of a run.
+
+use cnf::Formula;
+use cubes::Tree;
+
+/// Told of each stage of a run as it ends. What an observer does changes nothing that the run writes.
+pub(crate) trait Observer {
+    /// The formula is read.
+    fn read(&self, formula: &Formula);
+
+    /// It is solved.
+    fn solved(&self, tree: &Tree);
+
+    /// The answer is made, and all that the proof's lines are made of as they are written.
+    fn joined(&self);
+
+    /// The proof is written; the answer comes next.
+    fn written(&self);
+}
+
+/// The observer that does nothing.
+#[derive(Clone, Copy)]
+pub(crate) struct Unobserved;
+
+impl Observer for Unobserved {
+    fn read(&self, _formula: &Formula) {}
+
+    fn solved(&self, _tree: &Tree) {}
+
+    fn joined(&self) {}
+
+    fn written(&self) {}
+}

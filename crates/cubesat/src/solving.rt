@@ -1,0 +1,161 @@
+//! `solve`: its files, and what is printed of the run.
+ghost use Rattle.std.specs.Prelude.{◌≤◌};
+
+use crate::arguments::Shown;
+use crate::board::Board;
+use crate::fault::RunFault;
+use crate::fault_lines::{FAILED, Screen, print_fault_of, print_no_file};
+use crate::figures::Stage;
+use crate::notes::{note_files, note_number, note_solve};
+use crate::progress::show_progress;
+use crate::statistics::print_statistics;
+use crate::threaded::run;
+use crate::verdict::Verdict;
+use crate::watched::{Effort, run_counted};
+use cubes::OpenGate;
+use std::alloc::Global;
+use std::fs::{Files, OpenFile};
+use std::io::{Read, Write};
+use std::os::unix::fs::MetadataExt;
+use std::sync::Wait;
+use std::thread::Threads;
+use std::time::Clock;
+use std::{fs, thread};
+
+/// The status of a satisfiable formula.
+const SATISFIABLE: u8 = 10;
+
+/// The status of an unsatisfiable formula.
+const UNSATISFIABLE: u8 = 20;
+
+/// Whether a path leads to the file that is open, however it is spelled, by the file's device and number on it. Only a regular file counts: a
+/// terminal, say, loses nothing by being opened twice.
+fn leads_to<R: Files>(rt: &R, file: &R::File, path: &str) -> bool {
+    match (file.metadata(), fs::metadata(rt, path)) {
+        (Ok(open), Ok(there)) => {
+            open.is_file() && open.dev() == there.dev() && open.ino() == there.ino()
+        }
+        _ => false,
+    }
+}
+
+/// Prints that the proof would be written over the formula; the status.
+fn print_same_file<E: Write>(faults: &mut E, file: &str, proof: &str, is_explained: bool) -> u8 {
+    let _ = writeln!(
+        faults,
+        "fault 57: the proof would be written over the formula"
+    );
+    if is_explained {
+        note_number(faults, 57);
+        note_files(faults, 57, file, proof);
+    }
+    FAILED
+}
+
+/// A run that is counted, with its progress shown by a thread beside it. Where that can't be started, nothing is shown.
+fn run_with_progress<
+    R: Files + Threads + Wait + Clock + Sync,
+    I: Read + Drop,
+    W: Write,
+    P: Write,
+    E: Write + Send,
+>(
+    rt: &R,
+    alloc: Global,
+    board: &Board,
+    effort: Effort,
+    input: I,
+    answer: &mut W,
+    proof: &mut P,
+    faults: &mut E,
+    screen: Screen,
+) -> Result<Verdict, RunFault> {
+    let manner = screen.manner();
+    let (_, result) = thread::join(
+        rt,
+        || show_progress(rt, board, faults, manner),
+        || run_counted(rt, alloc, board, effort, input, answer, proof),
+    );
+    result
+}
+
+/// A run with what is shown of it. It writes what `run` writes.
+fn run_shown<
+    R: Files + Threads + Wait + Clock + Sync,
+    I: Read + Drop,
+    W: Write,
+    P: Write,
+    E: Write + Send,
+>(
+    rt: &R,
+    alloc: Global,
+    effort: Effort,
+    input: I,
+    answer: &mut W,
+    proof: &mut P,
+    shown: Shown,
+    faults: &mut E,
+    screen: Screen,
+) -> Result<Verdict, RunFault> {
+    let board = Board::new(rt, Stage::Reading);
+    let result = if shown.progress {
+        run_with_progress(
+            rt, alloc, &board, effort, input, answer, proof, faults, screen,
+        )
+    } else {
+        run_counted(rt, alloc, &board, effort, input, answer, proof)
+    };
+    if shown.stats {
+        let figures = board.look(rt);
+        print_statistics(faults, &figures, effort.hands);
+    }
+    result
+}
+
+/// Decides the formula in the file, with its proof written to the other; the status. The proof isn't written over the formula.
+pub(crate) fn solve<R: Files + Threads + Wait + Clock + Sync, W: Write, E: Write + Send>(
+    rt: &R,
+    alloc: Global,
+    budget: u32,
+    hands: usize,
+    path: &str,
+    file: &str,
+    shown: Shown,
+    answer: &mut W,
+    faults: &mut E,
+    screen: Screen,
+) -> u8
+    requires budget { (1 ≤ budget) × (budget ≤ 100000) }
+    requires hands { (1 ≤ hands) × (hands ≤ 16) }
+{
+    if shown.verbose {
+        note_solve(faults, budget, hands, file, path);
+    }
+    let Ok(input) = fs::open(rt, file) else {
+        return print_no_file(faults, file, shown.verbose);
+    };
+    if leads_to(rt, &input, path) {
+        return print_same_file(faults, file, path, shown.verbose);
+    }
+    let Ok(mut proof) = fs::create(rt, path) else {
+        return print_no_file(faults, path, shown.verbose);
+    };
+    let result = if shown.stats || shown.progress {
+        let effort = Effort { budget, hands };
+        run_shown(
+            rt, alloc, effort, input, answer, &mut proof, shown, faults, screen,
+        )
+    } else {
+        run(
+            rt, alloc, input, answer, &mut proof, budget, hands, &OpenGate,
+        )
+    };
+    match result {
+        Ok(Verdict::Satisfiable) => SATISFIABLE,
+        Ok(Verdict::Unsatisfiable) => UNSATISFIABLE,
+        Err(fault) => {
+            print_fault_of(faults, fault, file, path, shown.verbose);
+            FAILED
+        }
+    }
+}

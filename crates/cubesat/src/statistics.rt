@@ -1,0 +1,76 @@
+//! What `--stats` prints: lines that begin with `c`, of as much of the run as it came to.
+
+use crate::figures::{Figures, StageEnd};
+use std::io::Write;
+
+/// Prints the end of a stage, with its time from an earlier end on, and answers when it ended.
+fn print_stage<E: Write>(out: &mut E, name: &str, from: u64, end: Option<StageEnd>) -> u64 {
+    let Some(end) = end else {
+        return from;
+    };
+    let time = end.at.saturating_sub(from);
+    let (seconds, milliseconds) = (time / 1000, time % 1000);
+    let _ = match end.peak {
+        Some(peak) => writeln!(
+            out,
+            "c {name}: {seconds}.{milliseconds:03} s, peak memory {peak} KiB"
+        ),
+        None => writeln!(out, "c {name}: {seconds}.{milliseconds:03} s"),
+    };
+    end.at
+}
+
+/// Prints the times of the stages that ended.
+fn print_stages<E: Write>(out: &mut E, figures: &Figures) {
+    let read = print_stage(out, "reading", 0, figures.read);
+    let solved = print_stage(out, "solving", read, figures.solved);
+    let joined = print_stage(out, "joining", solved, figures.joined);
+    print_stage(out, "writing", joined, figures.written);
+}
+
+/// Prints what is known of the cubes. Of a tree without a model that is all; of another one a gate isn't told which cubes were split and skipped.
+fn print_cubes<E: Write>(out: &mut E, figures: &Figures) {
+    let _ = match figures.tree {
+        Some(tree) => {
+            let (splits, solved) = (tree.splits, tree.splits.saturating_add(tree.leaves));
+            writeln!(
+                out,
+                "c cubes: {solved} solved, {splits} split, 0 skipped\nc learnt: {} lines in refuted cubes",
+                tree.learnt
+            )
+        }
+        None => {
+            let (splits, solved) = (figures.cubes.splits(), figures.cubes.solved());
+            writeln!(
+                out,
+                "c cubes: {solved} solved, at least {splits} split, skipped unknown"
+            )
+        }
+    };
+}
+
+/// Prints how many cubes each hand solved.
+fn print_hands<E: Write>(out: &mut E, figures: &Figures, hands: usize) {
+    let _ = write!(out, "c solved by each hand:");
+    for count in figures.cubes.by_hand(hands) {
+        let _ = write!(out, " {count}");
+    }
+    let _ = writeln!(out);
+}
+
+/// Prints what was counted in a run of so many hands. A failed write changes nothing.
+pub(crate) fn print_statistics<E: Write>(out: &mut E, figures: &Figures, hands: usize) {
+    let Some(formula) = figures.formula else {
+        return;
+    };
+    let (vars, clauses, literals) = (formula.vars, formula.clauses, formula.literals);
+    let _ = writeln!(
+        out,
+        "c formula: {vars} variables, {clauses} clauses, {literals} literals\nc hands: {hands}"
+    );
+    print_cubes(out, figures);
+    print_hands(out, figures, hands);
+    let proof = figures.proof;
+    let _ = writeln!(out, "c proof: {proof}");
+    print_stages(out, figures);
+}

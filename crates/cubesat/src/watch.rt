@@ -1,0 +1,83 @@
+//! What watches a run: at a gate, between its stages, and as its proof goes by. It counts on a board; nothing that the run writes depends on it.
+
+use crate::board::Board;
+use crate::counted::Counter;
+use crate::figures::{FormulaSize, StageEnd, TextSize, TreeSize};
+use crate::observer::Observer;
+use crate::peak::peak_memory;
+use cnf::Formula;
+use cubes::{Gate, Tree};
+use kernel::Cube;
+use std::rt::Files;
+use std::sync::Wait;
+use std::time::Clock;
+
+/// Counts a run on a board.
+#[derive(Drop)]
+pub(crate) struct Watch<'a, R> {
+    pub(crate) rt: &'a R,
+    pub(crate) board: &'a Board,
+}
+
+impl<R: Files + Clock> Watch<'_, R> {
+    fn stage_end(&self) -> StageEnd {
+        StageEnd {
+            at: self.board.now(self.rt),
+            peak: peak_memory(self.rt),
+        }
+    }
+}
+
+impl<R: Wait + Clock> Counter for Watch<'_, R> {
+    fn went_by(&self, piece: &[u8]) {
+        let size = TextSize::of(piece);
+        self.board.figures().lock(self.rt).add_proof(size);
+    }
+
+    fn answer_begins(&self) {
+        self.board.end_progress(self.rt);
+    }
+}
+
+impl<R: Wait> Gate for Watch<'_, R> {
+    fn before(&self, hand: usize, cube: &Cube) {
+        let depth = cube.lits().len();
+        let last = match cube.lits().last() {
+            Some(lit) => Some(lit.positive()),
+            None => None,
+        };
+        self.board
+            .figures()
+            .lock(self.rt)
+            .begin_cube(hand, depth, last);
+    }
+
+    fn after(&self, hand: usize, cube: &Cube) {
+        let depth = cube.lits().len();
+        self.board.figures().lock(self.rt).end_cube(hand, depth);
+    }
+}
+
+impl<R: Files + Wait + Clock> Observer for Watch<'_, R> {
+    fn read(&self, formula: &Formula) {
+        let size = FormulaSize::of(formula);
+        let end = self.stage_end();
+        self.board.figures().lock(self.rt).end_reading(size, end);
+    }
+
+    fn solved(&self, tree: &Tree) {
+        let size = TreeSize::of(tree);
+        let end = self.stage_end();
+        self.board.figures().lock(self.rt).end_solving(size, end);
+    }
+
+    fn joined(&self) {
+        let end = self.stage_end();
+        self.board.figures().lock(self.rt).end_joining(end);
+    }
+
+    fn written(&self) {
+        let end = self.stage_end();
+        self.board.figures().lock(self.rt).end_writing(end);
+    }
+}
