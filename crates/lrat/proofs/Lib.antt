@@ -29,4 +29,5 @@ pub mod FormulaClauses
 pub mod PackLemmas
 pub mod SweepLemmas
 pub mod PieceLemmas
+pub mod RunLemmas
 pub mod RunningLemmas

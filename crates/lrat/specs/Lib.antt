@@ -18,4 +18,5 @@ pub mod Streams
 pub mod Flat
 pub mod Begun
 pub mod Pieces
+pub mod Runs
 pub mod Running

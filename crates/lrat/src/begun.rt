@@ -69,9 +69,8 @@ pub(crate) fn with_byte(begun: Begun, byte: u8) -> Begun
     }
 }
 
-/// Takes the digits from `start` on behind a number of this size, and says where the first byte stands that is none. Most of a proof's bytes
-/// are digits, and here each is one step.
-fn take_digits(size: u64, bytes: &[u8], start: usize) -> (u64, usize)
+/// Takes the digits from `start` on behind a number of this size, and says where the first byte stands that is none.
+pub(crate) fn take_digits(size: u64, bytes: &[u8], start: usize) -> (u64, usize)
     requires size { (1 ≤ size) × (size ≤ ABOVE_MAX) }
     requires inside { start ≤ length bytes.now }
     ensures size { (1 ≤ result.0) × (result.0 ≤ ABOVE_MAX) }

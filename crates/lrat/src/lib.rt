@@ -19,6 +19,7 @@ mod occurrences;
 mod plain_tests;
 mod read;
 mod refusal;
+mod run;
 mod size;
 mod step;
 mod stream;

@@ -1,11 +1,13 @@
 //! A line while it is read, word by word.
-ghost use Rattle.std.specs.Prelude.{◌≡◌, [], ◌∷◌, ◌++◌, IfOk, OnOk};
+ghost use Rattle.std.specs.Prelude.{◌≡◌, ◌≤◌, [], ◌∷◌, ◌++◌, length, IfOk, OnOk};
 ghost use Rattle.theory.specs.ProofReading.{IsGroup, IsAddition, IsDeletion};
 ghost use Rattle.lrat.specs.LineWords.{IsCounting};
 ghost use Rattle.lrat.specs.LineMachine.{at_id, on, fault_in, at_end, IsWithin};
 ghost use Rattle.lrat.specs.LineStates.{addition_of, group_of, deletion_of, state_at, state_of, Takes, kind_of, reading_of};
+ghost use Rattle.lrat.specs.Runs.{TakesRun};
 
 use crate::fault::LineFault;
+use crate::run::{take_literals, take_numbers};
 use crate::step::{Addition, Deletion, Group, Step};
 use crate::word::{MAX_LITERAL, MAX_NUMBER, Word};
 use cnf::Lit;
@@ -195,6 +197,24 @@ impl Line {
             Part::GroupHints => self.take_group_hint(word),
             Part::Ids => self.take_deleted(word),
             Part::AdditionEnd | Part::DeletionEnd => Ok(false),
+        }
+    }
+
+    /// Takes the literals, hints or numbers to delete that stand whole among the bytes from `start` on, where such come next, and says where the
+    /// first byte stands that wasn't taken.
+    pub(crate) fn take_run(&mut self, bytes: &[u8], start: usize) -> Result<usize, AllocError>
+        requires within { IsWithin (state_of self.old) }
+        requires inside { start ≤ length bytes.now }
+        ensures within { OnOk result (IsWithin (state_of self.new)) }
+        ensures taken { IfOk result (TakesRun bytes.now (state_of self.old) start (state_of self.new)) }
+        ensures forward { IfOk result (λ end. (start ≤ end) × (end ≤ length bytes.now)) }
+    {
+        match self.part {
+            Part::Literals => Ok(take_literals(&mut self.clause, bytes, start)?),
+            Part::Hints => Ok(take_numbers(&mut self.hints, bytes, start)?),
+            Part::GroupHints => Ok(take_numbers(&mut self.group_hints, bytes, start)?),
+            Part::Ids => Ok(take_numbers(&mut self.hints, bytes, start)?),
+            Part::Id | Part::AdditionEnd | Part::DeletionEnd => Ok(start),
         }
     }
 

@@ -94,6 +94,22 @@ impl Text {
         }
     }
 
+    /// Takes the numbers that stand whole from `start` on, where a line is begun and no word of it, and says where the first byte stands that
+    /// wasn't taken. Most of a proof's bytes are of such numbers, and here each digit is one step of a loop that writes nothing.
+    fn take_run(&mut self, bytes: &[u8], start: usize) -> Result<usize, AllocError>
+        requires text { IsText self.old }
+        requires inside { start ≤ length bytes.now }
+        ensures text { OnOk result (IsText self.new) }
+        ensures number { OnOk result (self.new.number ≡ self.old.number) }
+        ensures taken { IfOk result (TakesBytes bytes.now self.old start self.new) }
+        ensures forward { IfOk result (λ end. (start ≤ end) × (end ≤ length bytes.now)) }
+    {
+        match (self.stage, self.begun) {
+            (Stage::InLine, Begun::Nothing) => Ok(self.line.take_run(bytes, start)?),
+            _ => Ok(start),
+        }
+    }
+
     /// Takes the words of the line that is begun, from `start` on, with the blanks behind them, and says where the first byte stands that wasn't
     /// taken. It takes none where no line is begun.
     pub(crate) fn take_words(&mut self, bytes: &[u8], start: usize) -> Result<usize, AllocError>
@@ -107,7 +123,8 @@ impl Text {
         let mut at = self.take_word(bytes, start);
         while at < bytes.len() && is_blank(bytes[at]) && self.is_in_line() {
             self.take_blank(bytes[at])?;
-            at = self.take_word(bytes, at + 1);
+            let rest = self.take_run(bytes, at + 1)?;
+            at = self.take_word(bytes, rest);
         }
         Ok(at)
     }

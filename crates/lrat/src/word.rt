@@ -52,8 +52,10 @@ pub(crate) fn ends_word(byte: u8) -> bool
     byte == LINE_FEED || is_blank(byte)
 }
 
-/// A number's size with one digit more.
-pub(crate) fn with_digit(size: u64, digit: u8) -> u64
+/// A number's size with one digit more, where the size is one at which one digit more can lead above the greatest number. It stands apart, so that any other digit costs one comparison.
+#[cold]
+#[inline(never)]
+fn with_late_digit(size: u64, digit: u8) -> u64
     requires size { size ≤ ABOVE_MAX }
     requires digit { digit < 10 }
     ensures { result ≡ capped (size * 10 + digit) }
@@ -62,6 +64,19 @@ pub(crate) fn with_digit(size: u64, digit: u8) -> u64
         (size * 10 + digit as u64).min(ABOVE_MAX)
     } else {
         ABOVE_MAX
+    }
+}
+
+/// A number's size with one digit more.
+pub(crate) fn with_digit(size: u64, digit: u8) -> u64
+    requires size { size ≤ ABOVE_MAX }
+    requires digit { digit < 10 }
+    ensures { result ≡ capped (size * 10 + digit) }
+{
+    if size < MAX_NUMBER / 10 {
+        size * 10 + digit as u64
+    } else {
+        with_late_digit(size, digit)
     }
 }
 
