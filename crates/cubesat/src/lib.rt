@@ -37,7 +37,7 @@ pub use checked_line::Checked;
 pub use fault::RunFault;
 pub use fault_lines::Screen;
 pub use laws::runs_write_the_same;
-pub use program::command;
+pub use program::{command, command_on};
 pub use runs::run_one;
 pub use threaded::run;
 pub use verdict::Verdict;

@@ -52,7 +52,7 @@ fn explain<W: Write, E: Write>(
 /// the answer to `answer`, faults and what is shown of the run to `faults`, and answers the exit status: 10 satisfiable, 20 unsatisfiable, 0 for
 /// help, for an explanation and for a proof that is accepted, 1 for one that is refused, on a fault or a wrong command line. A failed write to
 /// `faults` changes nothing else. `screen` says where `faults` leads.
-pub fn command<R: Files + Threads + Wait + Clock + Sync, W: Write, E: Write + Send>(
+pub fn command_on<R: Files + Threads + Wait + Clock + Sync, W: Write, E: Write + Send>(
     rt: &R,
     alloc: Global,
     words: &[&str],
@@ -93,4 +93,15 @@ pub fn command<R: Files + Threads + Wait + Clock + Sync, W: Write, E: Write + Se
             SHOWN
         }
     }
+}
+
+/// What `command_on` does where `faults` leads to no terminal.
+pub fn command<R: Files + Threads + Wait + Clock + Sync, W: Write, E: Write + Send>(
+    rt: &R,
+    alloc: Global,
+    words: &[&str],
+    answer: &mut W,
+    faults: &mut E,
+) -> u8 {
+    command_on(rt, alloc, words, answer, faults, Screen::Stream)
 }

@@ -1,7 +1,7 @@
 //! The program `cubesat`.
 #![tactic(auto)]
 
-use cubesat::{Screen, command};
+use cubesat::{Screen, command_on};
 use std::alloc::{AllocError, Global};
 use std::io::IsTerminal;
 use std::process::ExitCode;
@@ -46,6 +46,6 @@ fn main(rt: HostRuntime) -> ExitCode {
     } else {
         Screen::Stream
     };
-    let status = command(&rt, alloc, &words, &mut rt.stdout(), &mut faults, screen);
+    let status = command_on(&rt, alloc, &words, &mut rt.stdout(), &mut faults, screen);
     ExitCode::from(status)
 }

@@ -2,7 +2,7 @@
 use super::faulty::Limited;
 use super::program::{path_of, run};
 use super::{FOUR, FOUR_PROOF};
-use crate::{Screen, command};
+use crate::command;
 use std::fs;
 use std::rt::{Env, Files};
 use std::sync::Wait;
@@ -115,14 +115,7 @@ fn is_silent<R: Files + AllocGlobal + Threads + Wait + Clock + Sync>(
 ) -> bool {
     let mut answer = Vec::new(rt.alloc());
     let mut faults = Limited::new(rt.alloc(), 0);
-    let status = command(
-        rt,
-        rt.alloc(),
-        words,
-        &mut answer,
-        &mut faults,
-        Screen::Stream,
-    );
+    let status = command(rt, rt.alloc(), words, &mut answer, &mut faults);
     status == 1 && answer.is_empty() && faults.refusals > 0
 }
 

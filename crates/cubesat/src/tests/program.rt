@@ -1,6 +1,6 @@
 //! The program: what is printed, the statuses, and what stands in the files.
 use super::{FOUR, FOUR_PROOF, WIDE, WIDE_PROOF};
-use crate::{Screen, command};
+use crate::command;
 use std::process::Abort;
 use std::rt::{Env, Files};
 use std::sync::Wait;
@@ -30,14 +30,7 @@ pub(super) fn run<R: Files + AllocGlobal + Threads + Wait + Clock + Sync>(
 ) -> Printed {
     let mut answer = Vec::new(rt.alloc());
     let mut faults = Vec::new(rt.alloc());
-    let status = command(
-        rt,
-        rt.alloc(),
-        words,
-        &mut answer,
-        &mut faults,
-        Screen::Stream,
-    );
+    let status = command(rt, rt.alloc(), words, &mut answer, &mut faults);
     Printed {
         status,
         answer,

@@ -5,7 +5,7 @@ use super::program::{path_of, run};
 use crate::cube_counts::CubeCounts;
 use crate::figures::{Figures, Stage, TextSize};
 use crate::progress::{Manner, print_line};
-use crate::{Screen, command};
+use crate::{Screen, command_on};
 use std::fs;
 use std::rt::{Env, Files};
 use std::sync::Wait;
@@ -113,7 +113,7 @@ fn answer_beside<R: Env + Files + AllocGlobal + Threads + Wait + Clock + Sync>(
         formula.as_str(),
     ];
     let mut answer = Vec::new(rt.alloc());
-    let status = command(rt, rt.alloc(), &words, &mut answer, faults, screen);
+    let status = command_on(rt, rt.alloc(), &words, &mut answer, faults, screen);
     if status != 20 {
         return Err(Fail::from("another status"));
     }
