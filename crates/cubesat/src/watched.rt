@@ -39,8 +39,7 @@ pub(crate) fn run_counted<
     input: I,
     answer: &mut W,
     proof: &mut P,
-) -> Result<Verdict, RunFault>
-{
+) -> Result<Verdict, RunFault> {
     let watch = Watch { rt, board };
     let mut counted = CountedWriter {
         inner: proof,
@@ -73,8 +72,7 @@ pub(crate) fn check_counted<R: Wait + Clock, F: Read + Drop, P: Read + Drop, W: 
     formula: F,
     proof: P,
     answer: &mut W,
-) -> Result<Checked, RunFault>
-{
+) -> Result<Checked, RunFault> {
     let watch = Watch { rt, board };
     let counted = CountedReader {
         inner: proof,

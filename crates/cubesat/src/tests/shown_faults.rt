@@ -6,10 +6,21 @@ use std::fs;
 use std::rt::{Env, Files};
 use std::test::Fail;
 
-/// The line of a number.
+/// The line of a number, and none of 0.
 fn line_of<R: AllocGlobal>(rt: &R, number: u32) -> Result<String, Fail> {
+    if number == 0 {
+        return Ok(String::new(rt.alloc()));
+    }
     let text = explanation(number).unwrap_or("");
     Ok(format!(in rt.alloc(); "c {number}: {text}\n")?)
+}
+
+/// The line of a file that a fault concerns, and none where none is.
+fn file_line<R: AllocGlobal>(rt: &R, concerns: &str, file: &str) -> Result<String, Fail> {
+    if concerns.is_empty() {
+        return Ok(String::new(rt.alloc()));
+    }
+    Ok(format!(in rt.alloc(); "c {concerns} {file}\n")?)
 }
 
 /// The files of these tests.
@@ -68,25 +79,12 @@ fn a_check_says_what_it_does(rt: HostRuntime) -> Result<(), Fail> {
     for (formula, proof, answer, fault, number, behind, concerns) in rows {
         let printed = run(&rt, &["cubesat", "check", "--verbose", formula, proof]);
         assert_eq!(rt; printed.answer.as_slice(), answer.as_bytes());
-        let numbers = if number == 0 {
-            String::new(rt.alloc())
+        let numbers = line_of(&rt, number)?;
+        let numbers_behind = line_of(&rt, behind)?;
+        let last = if number == 51 || formula == missing {
+            file_line(&rt, concerns, formula)?
         } else {
-            line_of(&rt, number)?
-        };
-        let numbers_behind = if behind == 0 {
-            String::new(rt.alloc())
-        } else {
-            line_of(&rt, behind)?
-        };
-        let file = if number == 51 || formula == missing {
-            formula
-        } else {
-            proof
-        };
-        let last = if concerns.is_empty() {
-            String::new(rt.alloc())
-        } else {
-            format!(in rt.alloc(); "c {concerns} {file}\n")?
+            file_line(&rt, concerns, proof)?
         };
         let wanted = format!(in rt.alloc();
             "c reading the formula from {formula}\nc checking the proof in {proof}\n{fault}{numbers}{numbers_behind}{last}"
@@ -118,16 +116,8 @@ fn a_run_says_what_it_does(rt: HostRuntime) -> Result<(), Fail> {
     for (formula, proof, fault, number, behind) in rows {
         let words = ["cubesat", "solve", "--verbose", "--proof", proof, formula];
         let printed = run(&rt, &words);
-        let numbers = if number == 0 {
-            String::new(rt.alloc())
-        } else {
-            line_of(&rt, number)?
-        };
-        let numbers_behind = if behind == 0 {
-            String::new(rt.alloc())
-        } else {
-            line_of(&rt, behind)?
-        };
+        let numbers = line_of(&rt, number)?;
+        let numbers_behind = line_of(&rt, behind)?;
         let files = match number {
             51 => format!(in rt.alloc(); "c the formula is {formula}\n")?,
             56 => format!(in rt.alloc(); "c the file is {proof}\n")?,
