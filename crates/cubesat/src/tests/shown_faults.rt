@@ -61,8 +61,8 @@ fn a_check_says_what_it_does(rt: HostRuntime) -> Result<(), Fail> {
     );
     // the formula, the proof, the answer, the fault's line, its numbers, and the file that it concerns
     let rows = [
-        (good, proof, "accepted\n", "", 0, 0, ""),
-        (good, cut, "refused 27 step 2\n", "", 27, 0, ""),
+        (good, proof, "accepted\n", "", 0, 0, "", ""),
+        (good, cut, "refused 27 step 2\n", "", 27, 0, "", ""),
         (
             bad,
             proof,
@@ -71,21 +71,36 @@ fn a_check_says_what_it_does(rt: HostRuntime) -> Result<(), Fail> {
             51,
             5,
             "the formula is",
+            bad,
         ),
-        (good, ".", "", "fault 55\n", 55, 0, "the proof is"),
-        (good, missing, "", "fault 56\n", 56, 0, "the file is"),
-        (missing, proof, "", "fault 56\n", 56, 0, "the file is"),
+        (good, ".", "", "fault 55\n", 55, 0, "the proof is", "."),
+        (
+            good,
+            missing,
+            "",
+            "fault 56\n",
+            56,
+            0,
+            "the file is",
+            missing,
+        ),
+        (
+            missing,
+            proof,
+            "",
+            "fault 56\n",
+            56,
+            0,
+            "the file is",
+            missing,
+        ),
     ];
-    for (formula, proof, answer, fault, number, behind, concerns) in rows {
+    for (formula, proof, answer, fault, number, behind, concerns, file) in rows {
         let printed = run(&rt, &["cubesat", "check", "--verbose", formula, proof]);
         assert_eq!(rt; printed.answer.as_slice(), answer.as_bytes());
         let numbers = line_of(&rt, number)?;
         let numbers_behind = line_of(&rt, behind)?;
-        let last = if number == 51 || formula == missing {
-            file_line(&rt, concerns, formula)?
-        } else {
-            file_line(&rt, concerns, proof)?
-        };
+        let last = file_line(&rt, concerns, file)?;
         let wanted = format!(in rt.alloc();
             "c reading the formula from {formula}\nc checking the proof in {proof}\n{fault}{numbers}{numbers_behind}{last}"
         )?;
