@@ -1,5 +1,5 @@
 -- Candidates, by the slots of their clauses.
-use Rattle.std.proofs.Common.{◌≡◌, ℕ, zero, suc, ◌<◌, ◌≤◌, Bool, true, false, not, ◌||◌, List, [], ◌∷◌, length, take, get_or, Result, Ok, Err, IfOk, Some, nat_eq, refl, ap, sym, subst, ◌∙◌, slice_get, arith}
+use Rattle.std.proofs.Common.{◌≡◌, ℕ, ◌<◌, Bool, true, false, not, ◌||◌, List, [], length, get_or, Result, Ok, Err, IfOk, Some, nat_eq, refl, ap, sym, subst, ◌∙◌, slice_get}
 use Rattle.std.specs.List.{list_any}
 use Rattle.std.proofs.lemmas.Option.{slice_get-get_or}
 use Rattle.theory.specs.Literals.{Literal, Clause, has}
@@ -26,22 +26,15 @@ left-open ss i P q L n d less slot a b e =
     not_all _ ss i s at facts.0
     (open_candidate P q s.clause s.id L (subst (λ x. has x q ≡ true) (sym facts.2) a) (subst (λ x. is_closed P q x ≡ false) (sym facts.2) e) (subst (λ m. list_any (nat_eq m) L ≡ false) (sym facts.1) b))
 
--- each candidate is dealt with, where each one's place is among those gone through
-pub all-dealt_with : (ss : List Slot) (places : List ℕ) (n : ℕ) (P : List Literal) (q : Literal) (L : List ℕ) → length places ≤ n
-    → ((i : ℕ) (s : Slot) → slice_get ss i ≡ Some s → s.is_there ≡ true → has s.clause q ≡ true → list_any (nat_eq i) places ≡ true)
-    → ((i : ℕ) (s : Slot) → list_any (nat_eq i) (take n places) ≡ true → slice_get ss i ≡ Some s → s.is_there ≡ true → IsDealtWith P q L s)
-    → true ≡ are_dealt_with (there_before [] ss) P q L
-all-dealt_with ss places n P q L past entered done = sym (all-slots _ ss [] each refl)
+-- each candidate is dealt with, where each clause that has the pivot is
+pub all-dealt_with : (ss : List Slot) (P : List Literal) (q : Literal) (L : List ℕ)
+    → ((i : ℕ) (s : Slot) → slice_get ss i ≡ Some s → s.is_there ≡ true → has s.clause q ≡ true → (IsDealtWith P q L s → ⊥) → ⊥) → true ≡ are_dealt_with (there_before [] ss) P q L
+all-dealt_with ss P q L done = sym (all-slots _ ss [] each refl)
   where
-    take-past : (n : ℕ) (xs : List ℕ) → length xs ≤ n → xs ≡ take n xs
-    take-past zero [] p = refl
-    take-past zero (x ∷ xs) p = absurd (omega arith)
-    take-past (suc n) [] p = refl
-    take-past (suc n) (x ∷ xs) p = ap (λ ys. x ∷ ys) (take-past n xs (omega arith))
-
     each : (i : ℕ) (s : Slot) → slice_get ss i ≡ Some s → s.is_there ≡ true → not (has s.clause q) || (is_closed P q s.clause || list_any (nat_eq s.id) L) ≡ true
-    each i s g t = go (has s.clause q) refl
+    each i s g t = go (not (has s.clause q) || (is_closed P q s.clause || list_any (nat_eq s.id) L)) refl (has s.clause q) refl
       where
-        go : (b : Bool) → has s.clause q ≡ b → not (has s.clause q) || (is_closed P q s.clause || list_any (nat_eq s.id) L) ≡ true
-        go true e = done i s (ap (list_any (nat_eq i)) (sym (take-past n places past)) ∙ entered i s g t e) g t
-        go false e = ap (λ b. not b || (is_closed P q s.clause || list_any (nat_eq s.id) L)) e
+        go : (b : Bool) → (not (has s.clause q) || (is_closed P q s.clause || list_any (nat_eq s.id) L)) ≡ b → (h : Bool) → has s.clause q ≡ h → not (has s.clause q) || (is_closed P q s.clause || list_any (nat_eq s.id) L) ≡ true
+        go true e h k = e
+        go false e true k = absurd (done i s g t k (λ d. let x : true ≡ false = sym d ∙ e in cc))
+        go false e false k = ap (λ b. not b || (is_closed P q s.clause || list_any (nat_eq s.id) L)) k

@@ -27,7 +27,7 @@ pub mod StreamLemmas
 pub mod FlatLemmas
 pub mod FormulaClauses
 pub mod PackLemmas
-pub mod SweepLemmas
+pub mod ChainLemmas
 pub mod PieceLemmas
 pub mod RunLemmas
 pub mod RunningLemmas

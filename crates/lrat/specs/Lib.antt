@@ -12,6 +12,7 @@ pub mod Taken
 pub mod Assumed
 pub mod Named
 pub mod Tested
+pub mod Chained
 pub mod Occurrences
 pub mod Indexed
 pub mod Streams

@@ -176,15 +176,15 @@ impl Checker {
     }
 
     /// Gives the memory of clauses that were taken away free, where they outnumber the others. Then the places change, so that the occurrences are
-    /// gathered anew when they are asked for next: that costs a list for each literal, and so is what has to be gained.
+    /// gathered anew when they are asked for next: that costs a chain for each literal, and so is what has to be gained.
     fn tidy(&mut self, alloc: Global) -> Result<(), AllocError>
         requires { IsReady self.old.held.vars self.old }
         ensures same { OnOk result (checker_of self.new ≡ checker_of self.old) }
         ensures ready { OnOk result (IsReady self.old.held.vars self.new) }
         ensures vars { self.new.held.vars ≡ self.old.held.vars }
     {
-        let lists = 2 * self.held.vars() as usize + 2;
-        if self.clauses.is_sparse(lists) {
+        let chains = 2 * self.held.vars() as usize + 2;
+        if self.clauses.is_sparse(chains) {
             self.clauses.pack(alloc)?;
             self.occurrences = Occurrences::new(alloc);
         }

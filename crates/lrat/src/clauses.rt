@@ -1,6 +1,5 @@
 //! The clauses that are there, by their numbers: their literals lie one behind the other in one list.
-ghost use Rattle.std.specs.Prelude.{◌≡◌, ◌≢◌, ℕ, ◌+◌, ◌<◌, ◌≤◌, true, false, None, Some, is_some, [], ◌∷◌, ◌++◌, length, IfOk, IfSome, OnOk, OnErr, MatchOption, slice_get, nat_eq};
-ghost use Rattle.std.specs.List.{list_any};
+ghost use Rattle.std.specs.Prelude.{◌≡◌, ◌≢◌, ℕ, ◌+◌, ◌<◌, ◌≤◌, true, false, None, Some, is_some, [], ◌∷◌, ◌++◌, length, IfOk, IfSome, OnOk, OnErr, MatchOption, slice_get};
 ghost use Rattle.std.specs.Option.{option_map};
 ghost use Rattle.theory.specs.Truth.{IsOver};
 ghost use Rattle.theory.specs.Checking.{clause_of, numbered_from, without_number};
@@ -188,6 +187,11 @@ impl Clauses {
         self.heads.len()
     }
 
+    /// How many literals are held, those of clauses that were taken away included.
+    pub(crate) fn literal_count(&self) -> usize {
+        self.lits.len()
+    }
+
     /// The number of variables.
     pub(crate) fn vars(&self) -> u32
         ensures { result ≡ self.now.vars }
@@ -302,20 +306,4 @@ impl Clauses {
             false
         }
     }
-}
-
-/// Drops the places of clauses that were taken away from a list of places.
-pub(crate) fn sweep(places: &mut Vec<usize>, clauses: &Clauses)
-    ensures { (i : ℕ) (s : slots.Slot) → slice_get clauses.now.slots i ≡ Some s → s.is_there ≡ true →
-        list_any (nat_eq i) places.old.items ≡ true → list_any (nat_eq i) places.new.items ≡ true }
-{
-    let mut kept = 0;
-    for at in 0..places.len() {
-        let place = places[at];
-        if clauses.is_there(place) {
-            places[kept] = place;
-            kept += 1;
-        }
-    }
-    places.truncate(kept);
 }

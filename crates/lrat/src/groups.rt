@@ -1,7 +1,6 @@
 //! Resolution asymmetric tautologies: the candidates of an addition, which are the clauses that have its negated pivot,
 //! and the groups of hints for them.
-ghost use Rattle.std.specs.Prelude.{◌≡◌, ℕ, List, [], ◌∷◌, true, false, None, Some, IfOk, OnOk, MatchOption, if◌then◌else◌, nat_eq, slice_get};
-ghost use Rattle.std.specs.List.{list_any};
+ghost use Rattle.std.specs.Prelude.{◌≡◌, ℕ, List, [], ◌∷◌, true, false, None, Some, IfOk, OnOk, MatchOption, if◌then◌else◌, length, nat_eq, slice_get};
 ghost use Rattle.std.specs.HashSet.{contains};
 ghost use Rattle.theory.specs.Literals.{has};
 ghost use Rattle.theory.specs.Truth.{IsOver};
@@ -77,27 +76,29 @@ fn is_dealt_with(
     is_closed(held, clause, pivot)
 }
 
-/// Whether each candidate is closed or among those named, where its place is among the places. It takes time by the
-/// literals of the clauses at these.
+/// Whether each candidate is closed or among those named. It takes time by the literals of the clauses on the pivot's chain.
 fn are_dealt_with(
     held: &mut Held,
     clauses: &Clauses,
-    places: &[usize],
+    occurrences: &Occurrences,
     pivot: Lit,
     named: &HashSet<u64>,
 ) -> Result<bool, AllocError>
     requires vars { clauses.now.vars ≡ held.old.vars }
-    requires places { (i : ℕ) (s : Slot) → slice_get clauses.now.slots i ≡ Some s → s.is_there ≡ true → has s.clause pivot ≡ true →
-        list_any (nat_eq i) places.now ≡ true }
+    requires indexed { IsIndexed clauses.now.slots occurrences.now }
+    requires all { occurrences.now.entered ≡ length clauses.now.slots }
     ensures dealt_with { (L : List ℕ) → IsNamed (contains nat_eq named.now) L →
         IfOk result (λ b. b ≡ are_dealt_with (there clauses.now) held.old.literals pivot L) }
     ensures kept { OnOk result (held.new.literals ≡ held.old.literals) }
     ensures vars { held.new.vars ≡ held.old.vars }
 {
-    for place in places {
-        if !is_dealt_with(held, clauses, *place, pivot, named)? {
+    let mut link = occurrences.first(pivot);
+    while link > 0 {
+        let (place, next) = occurrences.at(link);
+        if !is_dealt_with(held, clauses, place, pivot, named)? {
             return Ok(false);
         }
+        link = next;
     }
     Ok(true)
 }
@@ -188,10 +189,9 @@ pub(crate) fn rat_fault(
     if fault.is_some() {
         return Ok(fault);
     }
-    occurrences.enter_all(alloc, clauses)?;
+    occurrences.enter_all(clauses)?;
     occurrences.sweep(pivot, clauses);
-    let places = occurrences.of(pivot);
-    if are_dealt_with(held, clauses, places, pivot, &named)? {
+    if are_dealt_with(held, clauses, occurrences, pivot, &named)? {
         Ok(None)
     } else {
         Ok(Some(Fault::MissingCandidate))

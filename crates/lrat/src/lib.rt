@@ -3,6 +3,7 @@
 
 mod assume;
 mod begun;
+mod chains;
 mod check_fault;
 mod checker;
 #[cfg(test)]

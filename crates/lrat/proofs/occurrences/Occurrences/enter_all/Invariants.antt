@@ -6,7 +6,7 @@ use Rattle.lrat.proofs.occurrences.Occurrences.enter_all.Given as goal
 abbrev pub invariant-loop-self : goal.invariant-loop-self
 invariant-loop-self l = record {
   indexed : IsIndexed l.clauses.slots l.self;
-  room : 2 * l.clauses.vars + 2 ≤ vec_len l.self.lists;
+  room : 2 * l.clauses.vars + 2 ≤ vec_len l.self.chains.heads;
 }
 
 abbrev pub decreases-loop-self : goal.decreases-loop-self
