@@ -18,6 +18,3 @@ pub use budget::budget_of;
 pub use halves::split;
 pub use outcome::{Line, Outcome, Refutation};
 pub use solver::{Solver, solve_cube};
-
-#[cfg(test)]
-mod tests;

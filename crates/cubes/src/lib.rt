@@ -10,8 +10,6 @@ mod pause;
 mod place;
 mod results;
 mod solved;
-#[cfg(test)]
-mod tests;
 mod threads;
 mod tree;
 mod walk;

@@ -25,8 +25,6 @@ mod proof_output;
 mod runs;
 mod solving;
 mod statistics;
-#[cfg(test)]
-mod tests;
 mod threaded;
 mod verdict;
 mod watch;

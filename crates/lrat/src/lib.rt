@@ -5,8 +5,6 @@ mod assume;
 mod begun;
 mod check_fault;
 mod checker;
-#[cfg(test)]
-mod checker_tests;
 mod clauses;
 mod fault;
 mod groups;
@@ -15,16 +13,12 @@ mod hints;
 mod laws;
 mod line;
 mod occurrences;
-#[cfg(test)]
-mod plain_tests;
 mod read;
 mod refusal;
 mod run;
 mod size;
 mod step;
 mod stream;
-#[cfg(test)]
-mod tests;
 mod text;
 mod word;
 mod write;
