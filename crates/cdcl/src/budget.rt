@@ -7,7 +7,7 @@ ghost use Rattle.theory.specs.Search.{budget_of};
 const MAX_BUDGET: u64 = 1_000_000;
 
 /// The conflict that exhausts a cube of so many literals, where the root has this budget.
-pub(crate) fn budget_of(budget: u32, literals: usize) -> u32
+pub fn budget_of(budget: u32, literals: usize) -> u32
     requires { (1 ≤ budget) × (budget ≤ 100000) }
     ensures same { (Q : List Literal) → length Q ≡ literals → result ≡ budget_of budget Q }
     ensures some { 1 ≤ result }

@@ -14,9 +14,7 @@ mod search;
 mod solver;
 
 pub use analysis::{Learnt, analyze};
+pub use budget::budget_of;
 pub use halves::split;
 pub use outcome::{Line, Outcome, Refutation};
 pub use solver::{Solver, solve_cube};
-
-#[cfg(test)]
-mod tests;

@@ -10,8 +10,6 @@ mod pause;
 mod place;
 mod results;
 mod solved;
-#[cfg(test)]
-mod tests;
 mod threads;
 mod tree;
 mod walk;
@@ -22,5 +20,5 @@ pub use hands::{Worked, work};
 pub use place::place_of;
 pub use results::{assemble, gather, solve_one};
 pub use solved::{Solved, What};
-pub use threads::solve_with;
+pub use threads::{results_by_hands, solve_with};
 pub use tree::{Node, Tree};

@@ -60,7 +60,7 @@ fn is_short(works: &[Worked]) -> bool
 }
 
 /// The results of these hands of the pool, once all are home. They are enough for the whole tree.
-pub(crate) fn results_by_hands<R: Threads + Wait + Clock + Sync, G: Gate + Sync>(
+pub fn results_by_hands<R: Threads + Wait + Clock + Sync, G: Gate + Sync>(
     rt: &R,
     alloc: Global,
     formula: &Formula,

@@ -14,7 +14,7 @@ const HANDS: usize = 16;
 
 /// What each hand did, and how many cubes of each depth there were.
 #[derive(Clone, Copy)]
-pub(crate) struct CubeCounts {
+pub struct CubeCounts {
     /// The cubes that were begun, by their depth.
     begun: [u64; DEPTHS],
     /// Those of them that are solved.
@@ -43,7 +43,8 @@ fn sum(counts: &[u64]) -> u64 {
 }
 
 impl CubeCounts {
-    pub(crate) fn none() -> CubeCounts {
+    /// No cube was begun.
+    pub fn none() -> CubeCounts {
         CubeCounts {
             begun: [0; DEPTHS],
             solved: [0; DEPTHS],
@@ -55,7 +56,7 @@ impl CubeCounts {
     }
 
     /// A hand begins a cube of so many literals, the last one with this sign.
-    pub(crate) fn begin(&mut self, hand: usize, depth: usize, last: Option<bool>) {
+    pub fn begin(&mut self, hand: usize, depth: usize, last: Option<bool>) {
         more(&mut self.begun, depth);
         if let Some(at) = self.depths.get_mut(hand) {
             *at = Some(depth);
@@ -68,7 +69,7 @@ impl CubeCounts {
     }
 
     /// A hand has solved a cube of so many literals.
-    pub(crate) fn end(&mut self, hand: usize, depth: usize) {
+    pub fn end(&mut self, hand: usize, depth: usize) {
         more(&mut self.solved, depth);
         more(&mut self.by_hand, hand);
     }
@@ -101,7 +102,7 @@ impl CubeCounts {
     }
 
     /// How many cubes may lie in the deques at most: each one that is solved has put two, or none.
-    pub(crate) fn waiting(&self) -> u64 {
+    pub fn waiting(&self) -> u64 {
         let depth = self.depth();
         let mut put = 0u64;
         let mut got = 0u64;
@@ -116,7 +117,7 @@ impl CubeCounts {
 
     /// The part of the tree that is closed at least, in hundredths of a per cent: a cube of d literals is one part in 2^d of it. Where all cubes
     /// above a depth are done with, what isn't closed above it lies in the cubes of the depth before.
-    pub(crate) fn closed(&self) -> u64 {
+    pub fn closed(&self) -> u64 {
         let depth = self.depth();
         let Some(above) = depth.checked_sub(1) else {
             return 0;

@@ -132,7 +132,7 @@ const EXPLANATIONS: [(u32, &str); 33] = [
 ];
 
 /// The explanation of a number, where there is one.
-pub(crate) fn explanation(number: u32) -> Option<&'static str> {
+pub fn explanation(number: u32) -> Option<&'static str> {
     for (at, text) in EXPLANATIONS {
         if at == number {
             return Some(text);

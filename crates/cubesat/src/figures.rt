@@ -67,7 +67,7 @@ impl TreeSize {
 
 /// How much of a text went by.
 #[derive(Clone, Copy)]
-pub(crate) struct TextSize {
+pub struct TextSize {
     pub(crate) lines: usize,
     pub(crate) bytes: usize,
 }
@@ -77,7 +77,8 @@ impl TextSize {
         TextSize { lines: 0, bytes: 0 }
     }
 
-    pub(crate) fn of(text: &[u8]) -> TextSize {
+    /// How many bytes a text has, and how many of them end a line.
+    pub fn of(text: &[u8]) -> TextSize {
         let mut lines = 0usize;
         for byte in text {
             if *byte == b'\n' {
@@ -114,7 +115,7 @@ pub(crate) struct StageEnd {
 
 /// What a run is at.
 #[derive(Clone, Copy, Debug, PartialEq, Eq)]
-pub(crate) enum Stage {
+pub enum Stage {
     Reading,
     Solving,
     Joining,
@@ -125,14 +126,14 @@ pub(crate) enum Stage {
 
 /// All that is counted in a run; none of what it didn't come to.
 #[derive(Clone, Copy)]
-pub(crate) struct Figures {
+pub struct Figures {
     pub(crate) stage: Stage,
     /// Whether no more progress is to be shown.
     pub(crate) is_ended: bool,
     /// Whether a line of progress stands on the terminal.
     pub(crate) is_drawn: bool,
     pub(crate) formula: Option<FormulaSize>,
-    pub(crate) cubes: CubeCounts,
+    pub cubes: CubeCounts,
     pub(crate) tree: Option<TreeSize>,
     pub(crate) proof: TextSize,
     pub(crate) read: Option<StageEnd>,
@@ -142,7 +143,8 @@ pub(crate) struct Figures {
 }
 
 impl Figures {
-    pub(crate) fn none(stage: Stage) -> Figures {
+    /// Nothing is counted yet.
+    pub fn none(stage: Stage) -> Figures {
         Figures {
             stage,
             is_ended: false,
@@ -167,7 +169,7 @@ impl Figures {
     }
 
     /// A piece of the proof goes by.
-    pub(crate) fn add_proof(&mut self, piece: TextSize) {
+    pub fn add_proof(&mut self, piece: TextSize) {
         self.proof.add(piece);
     }
 

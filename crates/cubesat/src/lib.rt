@@ -25,8 +25,6 @@ mod proof_output;
 mod runs;
 mod solving;
 mod statistics;
-#[cfg(test)]
-mod tests;
 mod threaded;
 mod verdict;
 mod watch;
@@ -34,10 +32,14 @@ mod watched;
 
 pub use check::check_run;
 pub use checked_line::Checked;
+pub use cube_counts::CubeCounts;
+pub use explanations::explanation;
 pub use fault::RunFault;
 pub use fault_lines::Screen;
+pub use figures::{Figures, Stage, TextSize};
 pub use laws::runs_write_the_same;
 pub use program::{command, command_on};
+pub use progress::{Manner, print_line};
 pub use runs::run_one;
 pub use threaded::run;
 pub use verdict::Verdict;

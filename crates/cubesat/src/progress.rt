@@ -15,7 +15,7 @@ const LOOK: u64 = 20;
 
 /// How progress is shown.
 #[derive(Clone, Copy, Debug, PartialEq, Eq)]
-pub(crate) enum Manner {
+pub enum Manner {
     /// Line under line.
     Listed,
     /// As one line of a terminal, which is written over.
@@ -40,7 +40,7 @@ impl Manner {
 }
 
 /// Prints the line of these figures. A failed write changes nothing.
-pub(crate) fn print_line<E: Write>(out: &mut E, manner: Manner, seconds: u64, figures: &Figures) {
+pub fn print_line<E: Write>(out: &mut E, manner: Manner, seconds: u64, figures: &Figures) {
     let (start, end) = (manner.start(), manner.end());
     let _ = match figures.stage {
         Stage::Reading => write!(out, "{start}c {seconds} s: reading{end}"),

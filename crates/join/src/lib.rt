@@ -7,8 +7,6 @@ mod lines;
 mod proof_text;
 mod room;
 mod steps;
-#[cfg(test)]
-mod tests;
 mod walk;
 
 pub use answer::answer_bytes;

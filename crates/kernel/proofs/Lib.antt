@@ -19,7 +19,6 @@ pub mod Pieces
 pub mod Places
 pub mod Popping
 pub mod Restarting
-pub mod Runs
 pub mod Serving
 pub mod Steps
 pub mod Tables

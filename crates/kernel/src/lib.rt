@@ -20,6 +20,3 @@ pub use closed::Closed;
 pub use cube::Cube;
 pub use entry::Entry;
 pub use kernel::Kernel;
-
-#[cfg(test)]
-mod tests;

@@ -6,8 +6,6 @@ mod begun;
 mod chains;
 mod check_fault;
 mod checker;
-#[cfg(test)]
-mod checker_tests;
 mod clauses;
 mod fault;
 mod groups;
@@ -16,16 +14,12 @@ mod hints;
 mod laws;
 mod line;
 mod occurrences;
-#[cfg(test)]
-mod plain_tests;
 mod read;
 mod refusal;
 mod run;
 mod size;
 mod step;
 mod stream;
-#[cfg(test)]
-mod tests;
 mod text;
 mod word;
 mod write;

@@ -8,6 +8,4 @@ pub mod Sharing
 pub mod Gathering
 pub mod Closings
 pub mod Sorting
-pub mod Homecoming
 pub mod NewHands
-pub mod FewHands

@@ -9,4 +9,3 @@ pub mod Pools
 pub mod Opening
 pub mod Closing
 pub mod Refusals
-pub mod Tests

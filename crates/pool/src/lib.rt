@@ -18,6 +18,3 @@ pub use hand::Hand;
 pub use pool::{Closing, Pool, open};
 pub use refusal::PoolRefusal;
 pub use taken::Taken;
-
-#[cfg(test)]
-mod tests;

@@ -1,5 +1,0 @@
-use Rattle.theory.proofs.LawfulTrails.{Closes-conflict}
-use Rattle.cdcl.proofs.tests.learnt.Goals as goal
-
-pub analyze-requires : goal.analyze-requires
-analyze-requires c = Closes-conflict _ _ _ _ (rw (c.in-Conflict.is, ← c.close.ensures.kept.1) at c.in_ok-number.ensures.ok)

@@ -1,0 +1,92 @@
+//! What tests of analysis and of searches share: kernels, conflicts, and comparisons with numbers.
+ghost use Rattle.std.specs.Prelude.{◌≡◌, ◌≤◌, false, IfSome};
+ghost use Rattle.theory.specs.Literals.{IsVariable, has_var};
+ghost use Rattle.theory.specs.Trails.{literals};
+
+use cdcl::{Learnt, Outcome, Refutation, analyze, solve_cube};
+use cnf::{Lit, read_formula};
+use kernel::{Closed, Kernel};
+use samples::{cube_of, reads};
+use std::alloc::{AllocError, Global};
+use std::test::Fail;
+
+// the first conflict leaves out a level
+pub const LEVEL_LEFT_OUT: &[u8] = b"p cnf 4 2\n1 3 4 0\n1 3 -4 0\n";
+
+/// The literal that makes the least free variable false.
+fn next_literal(kernel: &Kernel) -> Option<Lit>
+    ensures { IfSome result (λ l. IsVariable kernel.now.vars l.var × (has_var (literals kernel.now.trail) l.var ≡ false)) }
+{
+    match kernel.least_free() {
+        Some(var) if var < 65536 => Some(Lit::of(var, false)),
+        _ => None,
+    }
+}
+
+/// Decides the least free variable, false, after propagation. Whether that could be done.
+fn decide(kernel: &mut Kernel) -> Result<bool, AllocError> {
+    match kernel.close()? {
+        Closed::Conflict(_) => Ok(false),
+        Closed::Quiet => {
+            let Some(lit) = next_literal(kernel) else {
+                return Ok(false);
+            };
+            kernel.decide(lit);
+            Ok(true)
+        }
+    }
+}
+
+/// What the conflict of this number teaches, if propagation ends in it.
+fn learnt(alloc: Global, kernel: &mut Kernel, conflict: u64) -> Result<Option<Learnt>, AllocError> {
+    match kernel.close()? {
+        Closed::Conflict(number) if number == conflict => Ok(Some(analyze(alloc, kernel, number)?)),
+        _ => Ok(None),
+    }
+}
+
+/// What the conflict teaches that follows the decisions of this number of variables in a cube.
+pub fn taught(
+    alloc: Global,
+    text: &[u8],
+    cube: &[i32],
+    decisions: u32,
+    conflict: u64,
+) -> Result<Option<Learnt>, Fail> {
+    let formula = read_formula(alloc, text)?;
+    let cube = cube_of(alloc, formula.vars(), cube)?;
+    let mut kernel = Kernel::open(alloc, &formula, &cube)?;
+    for _ in 0..decisions {
+        if !decide(&mut kernel)? {
+            return Ok(None);
+        }
+    }
+    Ok(learnt(alloc, &mut kernel, conflict)?)
+}
+
+/// The outcome of a cube.
+pub fn outcome(alloc: Global, text: &[u8], cube: &[i32], budget: u32) -> Result<Outcome, Fail>
+    requires { (1 ≤ budget) × (budget ≤ 100000) }
+{
+    let formula = read_formula(alloc, text)?;
+    let cube = cube_of(alloc, formula.vars(), cube)?;
+    Ok(solve_cube(alloc, &formula, &cube, budget)?)
+}
+
+/// Whether the conflict taught this clause, from these hints, and leads back to this level.
+pub fn says(learnt: Option<Learnt>, clause: &[i32], hints: &[u64], level: u32) -> bool {
+    match learnt {
+        Some(learnt) => reads(&learnt.clause, clause)
+            && &learnt.hints[..] == hints
+            && learnt.level == level,
+        None => false,
+    }
+}
+
+/// Whether the line of this index has this clause and these hints.
+pub fn has_line(refutation: &Refutation, index: usize, clause: &[i32], hints: &[u64]) -> bool {
+    match refutation.lines.get(index) {
+        Some(line) => reads(line.clause(), clause) && line.hints() == hints,
+        None => false,
+    }
+}

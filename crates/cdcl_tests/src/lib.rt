@@ -1,0 +1,13 @@
+//! Worked rows of analysis, of searches of cubes, and of their halves.
+#![tactic(auto)]
+
+#[cfg(test)]
+mod budgets;
+#[cfg(test)]
+mod conflicts;
+#[cfg(test)]
+mod kernels;
+#[cfg(test)]
+mod pure;
+#[cfg(test)]
+mod searches;

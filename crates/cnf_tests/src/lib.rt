@@ -1,0 +1,11 @@
+//! Worked rows of the reader, and fake readers.
+#![tactic(auto)]
+
+#[cfg(test)]
+mod inputs;
+#[cfg(test)]
+mod literals;
+#[cfg(test)]
+mod pure;
+#[cfg(test)]
+mod texts;

@@ -1,0 +1,20 @@
+//! Worked rows, mostly with a budget of one conflict for the root: places of cubes, trees that are gathered from results, and what hands
+//! do and bring home.
+#![tactic(auto)]
+
+#[cfg(test)]
+mod alone;
+#[cfg(test)]
+mod deep;
+#[cfg(test)]
+mod gates;
+#[cfg(test)]
+mod hands;
+#[cfg(test)]
+mod harvests;
+#[cfg(test)]
+mod places;
+#[cfg(test)]
+mod results;
+#[cfg(test)]
+mod trees;

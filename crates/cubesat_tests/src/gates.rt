@@ -1,0 +1,142 @@
+//! Runs of two hands at a gate that holds one of them until the other has come to another cube. That shows that both are at work at once.
+use crate::texts::{FOUR, FOUR_PROOF};
+use cubes::Gate;
+use cubesat::{Verdict, run};
+use kernel::Cube;
+use std::sync::atomic::{AtomicU64, Ordering};
+use std::test::Fail;
+use std::thread;
+
+/// How often a hand that is held looks. Then the gate lets it go, and the test fails.
+const TURNS: u32 = 1 << 24;
+
+/// The number of no hand.
+const NOBODY: u64 = u64::MAX;
+
+/// Which hand was last at a place.
+#[derive(Drop)]
+struct Mark(AtomicU64);
+
+impl Mark {
+    fn new() -> Mark {
+        Mark(AtomicU64::new(NOBODY))
+    }
+
+    fn set(&self, hand: usize) {
+        self.0.store(hand as u64, Ordering::SeqCst);
+    }
+
+    fn hand(&self) -> u64 {
+        self.0.load(Ordering::SeqCst)
+    }
+
+    /// Whether another hand came, before so many looks.
+    fn sees_another(&self, hand: usize) -> bool {
+        for _ in 0..TURNS {
+            let there = self.hand();
+            if there != NOBODY && there != hand as u64 {
+                return true;
+            }
+            thread::yield_now();
+        }
+        false
+    }
+}
+
+/// Whether the cube is a half of the root, and if so, whether the true one.
+fn half_of_root(cube: &Cube) -> Option<bool> {
+    match cube.lits().first() {
+        Some(lit) if cube.lits().len() == 1 => Some(lit.positive()),
+        _ => None,
+    }
+}
+
+/// Holds the half of the root that is entered first until another hand has entered the other.
+#[derive(Drop)]
+struct BothHalves {
+    left: Mark,
+    right: Mark,
+    let_go: Mark,
+}
+
+impl Gate for BothHalves {
+    fn before(&self, hand: usize, cube: &Cube) {
+        let (own, other) = match half_of_root(cube) {
+            Some(false) => (&self.left, &self.right),
+            Some(true) => (&self.right, &self.left),
+            None => return,
+        };
+        own.set(hand);
+        if !other.sees_another(hand) {
+            self.let_go.set(hand);
+        }
+    }
+
+    fn after(&self, _hand: usize, _cube: &Cube) {}
+}
+
+/// Holds the left half of the root until another hand has solved the right one.
+#[derive(Drop)]
+struct RightFirst {
+    solved: Mark,
+    let_go: Mark,
+}
+
+impl Gate for RightFirst {
+    fn before(&self, hand: usize, cube: &Cube) {
+        if half_of_root(cube) == Some(false) && !self.solved.sees_another(hand) {
+            self.let_go.set(hand);
+        }
+    }
+
+    fn after(&self, hand: usize, cube: &Cube) {
+        if half_of_root(cube) == Some(true) {
+            self.solved.set(hand);
+        }
+    }
+}
+
+#[test]
+fn two_hands_are_at_work_at_once(rt: HostRuntime) -> Result<(), Fail> {
+    for _ in 0..20 {
+        let gate = BothHalves {
+            left: Mark::new(),
+            right: Mark::new(),
+            let_go: Mark::new(),
+        };
+        let mut proof = Vec::new(rt.alloc());
+        let mut answer = Vec::new(rt.alloc());
+        let text = FOUR.as_bytes();
+        let verdict = run(&rt, rt.alloc(), text, &mut answer, &mut proof, 1, 2, &gate)?;
+        assert_eq!(rt; gate.let_go.hand(), NOBODY);
+        assert!(rt; gate.left.hand() != gate.right.hand());
+        assert_eq!(rt; verdict, Verdict::Unsatisfiable);
+        assert_eq!(rt; proof.as_slice(), FOUR_PROOF.as_bytes());
+        assert_eq!(rt; answer.as_slice(), b"s UNSATISFIABLE\n".as_slice());
+    }
+    Ok(())
+}
+
+/// The model in the right half is found first, and isn't the answer.
+#[test]
+fn a_model_on_the_right_comes_first(rt: HostRuntime) -> Result<(), Fail> {
+    for _ in 0..20 {
+        let gate = RightFirst {
+            solved: Mark::new(),
+            let_go: Mark::new(),
+        };
+        let mut proof = Vec::new(rt.alloc());
+        let mut answer = Vec::new(rt.alloc());
+        let text = b"p cnf 3 2\n1 2 3 0\n1 2 -3 0\n".as_slice();
+        let verdict = run(&rt, rt.alloc(), text, &mut answer, &mut proof, 1, 2, &gate)?;
+        assert_eq!(rt; gate.let_go.hand(), NOBODY);
+        assert!(rt; gate.solved.hand() != NOBODY);
+        assert_eq!(rt; verdict, Verdict::Satisfiable);
+        assert!(rt; proof.is_empty());
+        assert_eq!(rt;
+            answer.as_slice(),
+            b"s SATISFIABLE\nv -1 2 -3 0\n".as_slice()
+        );
+    }
+    Ok(())
+}

@@ -1,0 +1,36 @@
+//! Worked rows: the bytes of the proof and the answer for the bytes of a formula, and the line for those of a proof; what failing readers and
+//! writers leave; two hands at a gate; proofs of many steps, and those with one byte changed; examples from end to end; the program and its options.
+#![tactic(auto)]
+
+#[cfg(test)]
+mod check;
+#[cfg(test)]
+mod check_faults;
+#[cfg(test)]
+mod examples;
+#[cfg(test)]
+mod faults;
+#[cfg(test)]
+mod faulty;
+#[cfg(test)]
+mod gates;
+#[cfg(test)]
+mod long_proofs;
+#[cfg(test)]
+mod one_byte;
+#[cfg(test)]
+mod options;
+#[cfg(test)]
+mod other_solvers;
+#[cfg(test)]
+mod program;
+#[cfg(test)]
+mod rows;
+#[cfg(test)]
+mod same_file;
+#[cfg(test)]
+mod shown;
+#[cfg(test)]
+mod shown_faults;
+#[cfg(test)]
+mod texts;

@@ -1,4 +1,0 @@
-use Rattle.join.proofs.tests.has_room.Goals as goal
-
-pub of-requires : goal.of-requires
-of-requires c = (c.args.budget, c.in_ok-tree.ensures.result)

@@ -1,0 +1,4 @@
+use Rattle.join_tests.proofs.joined.has_room.Goals as goal
+
+pub of-requires : goal.of-requires
+of-requires c = (c.args.budget, c.in_ok-tree.ensures.result)

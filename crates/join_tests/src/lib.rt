@@ -1,0 +1,7 @@
+//! Worked rows: the bytes of the one proof that a refuted tree gives, and those of answers.
+#![tactic(auto)]
+
+#[cfg(test)]
+mod answers;
+#[cfg(test)]
+mod joined;

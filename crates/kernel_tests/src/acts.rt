@@ -1,0 +1,270 @@
+//! Runs of the kernel that tests make: each step asks for what the kernel's contracts want, and tells whether it could be done.
+ghost use Rattle.std.specs.Prelude.{◌≡◌, true, false, IfSome, Some};
+ghost use Rattle.theory.specs.Literals.{IsVariable, has_var, negated, same};
+ghost use Rattle.theory.specs.Trails.{literals, entry_of};
+
+use cnf::{Lit, read_formula};
+use kernel::{Closed, Entry, Kernel};
+use samples::{cube_of, reads};
+use std::alloc::{AllocError, Global};
+use std::test::Fail;
+
+pub fn opened(alloc: Global, text: &[u8], numbers: &[i32]) -> Result<Kernel, Fail> {
+    let formula = read_formula(alloc, text)?;
+    let cube = cube_of(alloc, formula.vars(), numbers)?;
+    Ok(Kernel::open(alloc, &formula, &cube)?)
+}
+
+fn opened_with(alloc: Global, text: &[u8], units: &[i32], numbers: &[i32]) -> Result<Kernel, Fail> {
+    let formula = read_formula(alloc, text)?;
+    let units = cube_of(alloc, formula.vars(), units)?;
+    let cube = cube_of(alloc, formula.vars(), numbers)?;
+    Ok(Kernel::open_with(alloc, &formula, units.lits(), &cube)?)
+}
+
+/// Whether the trail has these entries: number, reason or 0, level.
+fn stands(kernel: &Kernel, wanted: &[(i32, u64, u32)]) -> bool {
+    let trail = kernel.trail();
+    if trail.len() != wanted.len() {
+        return false;
+    }
+    for (entry, want) in trail.iter().zip(wanted) {
+        let entry = *entry;
+        let same = entry.lit.number() == want.0 && entry.reason.unwrap_or(0) == want.1;
+        if !same || entry.level != want.2 {
+            return false;
+        }
+    }
+    true
+}
+
+/// Whether two trails are the same.
+pub fn are_same(left: &[Entry], right: &[Entry]) -> bool {
+    if left.len() != right.len() {
+        return false;
+    }
+    for (one, other) in left.iter().zip(right) {
+        let one = *one;
+        let other = *other;
+        if !one.lit.same(&other.lit) || one.reason != other.reason || one.level != other.level {
+            return false;
+        }
+    }
+    true
+}
+
+/// The literals of these numbers.
+pub fn lits_of(alloc: Global, numbers: &[i32]) -> Result<Vec<Lit>, AllocError> {
+    let mut lits = Vec::new(alloc);
+    for number in numbers {
+        if let Some(lit) = Lit::new(*number) {
+            lits.push(lit)?;
+        }
+    }
+    Ok(lits)
+}
+
+/// What comes before the next propagation.
+#[derive(Clone, Copy)]
+pub enum Act<'a> {
+    Nothing,
+    /// A decision of a free variable.
+    Decide(i32),
+    BackTo(u32),
+    /// Going back to level 0, and a clause of one literal.
+    LearnUnit(i32),
+    /// Going back, and a clause of a literal that is false at the level and a free one.
+    LearnPair(u32, i32, i32),
+    /// Another cube.
+    Restart(&'a [i32]),
+}
+
+/// Whether the literal is of a free variable.
+fn is_free(kernel: &Kernel, lit: Lit) -> bool
+    ensures { result ≡ true → IsVariable kernel.now.vars lit.var × (has_var (literals kernel.now.trail) lit.var ≡ false) }
+{
+    if lit.var() > kernel.vars() {
+        return false;
+    }
+    match kernel.value(lit.var()) {
+        Some(_) => false,
+        None => true,
+    }
+}
+
+pub fn decide(kernel: &mut Kernel, number: i32) -> Result<bool, AllocError> {
+    let Some(lit) = Lit::new(number) else {
+        return Ok(false);
+    };
+    match kernel.close()? {
+        Closed::Conflict(_) => Ok(false),
+        Closed::Quiet => {
+            if !is_free(kernel, lit) {
+                return Ok(false);
+            }
+            kernel.decide(lit);
+            Ok(true)
+        }
+    }
+}
+
+pub fn back_to(kernel: &mut Kernel, level: u32) -> bool {
+    let lower = level < kernel.level();
+    if lower {
+        kernel.back_to(level);
+    }
+    lower
+}
+
+pub fn learn_unit(kernel: &mut Kernel, number: i32) -> Result<bool, AllocError> {
+    let Some(lit) = Lit::new(number) else {
+        return Ok(false);
+    };
+    if kernel.level() > 0 || !is_free(kernel, lit) {
+        return Ok(false);
+    }
+    let learnt = kernel.learn(&[lit])?;
+    Ok(reads(kernel.clause(learnt), &[number]))
+}
+
+pub fn learn_pair(kernel: &mut Kernel, number: i32, free: i32) -> Result<bool, AllocError> {
+    let Some(lit) = Lit::new(number) else {
+        return Ok(false);
+    };
+    let Some(free) = Lit::new(free) else {
+        return Ok(false);
+    };
+    if lit.var() > kernel.vars() || !is_free(kernel, free) {
+        return Ok(false);
+    }
+    let Some(entry) = kernel.entry(lit.var()) else {
+        return Ok(false);
+    };
+    if !entry.lit.same(&lit.negated()) || entry.level != kernel.level() {
+        return Ok(false);
+    }
+    let learnt = kernel.learn(&[lit, free])?;
+    Ok(reads(kernel.clause(learnt), &[number, free.number()]))
+}
+
+/// As `learn_pair`, with the free literal first.
+pub fn learn_turned_pair(kernel: &mut Kernel, number: i32, free: i32) -> Result<bool, AllocError> {
+    let (Some(lit), Some(free)) = (Lit::new(number), Lit::new(free)) else {
+        return Ok(false);
+    };
+    let Some(entry) = falsifier(kernel, lit) else {
+        return Ok(false);
+    };
+    if entry.level != kernel.level() || !is_free(kernel, free) {
+        return Ok(false);
+    }
+    let learnt = kernel.learn(&[free, lit])?;
+    Ok(reads(kernel.clause(learnt), &[free.number(), number]))
+}
+
+/// The entry that makes a literal false, if one does.
+fn falsifier(kernel: &Kernel, lit: Lit) -> Option<Entry>
+    ensures { IfSome result (λ e. IsVariable kernel.now.vars lit.var × (entry_of kernel.now.trail lit.var ≡ Some e) × (same e.lit (negated lit) ≡ true)) }
+{
+    if lit.var() > kernel.vars() {
+        return None;
+    }
+    let entry = kernel.entry(lit.var())?;
+    if entry.lit.same(&lit.negated()) {
+        Some(entry)
+    } else {
+        None
+    }
+}
+
+/// A clause of a false literal, one that is false at the current level, and a free one.
+pub fn learn_three(kernel: &mut Kernel, numbers: [i32; 3]) -> Result<bool, AllocError> {
+    let (Some(other), Some(lit), Some(free)) = (
+        Lit::new(numbers[0]),
+        Lit::new(numbers[1]),
+        Lit::new(numbers[2]),
+    ) else {
+        return Ok(false);
+    };
+    let Some(_) = falsifier(kernel, other) else {
+        return Ok(false);
+    };
+    let Some(entry) = falsifier(kernel, lit) else {
+        return Ok(false);
+    };
+    if other.var() == lit.var() || entry.level != kernel.level() || !is_free(kernel, free) {
+        return Ok(false);
+    }
+    let learnt = kernel.learn(&[other, lit, free])?;
+    Ok(reads(kernel.clause(learnt), &numbers))
+}
+
+fn restart(alloc: Global, kernel: &mut Kernel, numbers: &[i32]) -> Result<(), AllocError> {
+    let cube = cube_of(alloc, kernel.vars(), numbers)?;
+    kernel.restart(&cube)
+}
+
+pub fn acts(alloc: Global, kernel: &mut Kernel, act: Act) -> Result<bool, AllocError> {
+    match act {
+        Act::Nothing => Ok(true),
+        Act::Decide(number) => decide(kernel, number),
+        Act::BackTo(level) => Ok(back_to(kernel, level)),
+        Act::LearnUnit(number) => {
+            if kernel.level() > 0 && !back_to(kernel, 0) {
+                return Ok(false);
+            }
+            learn_unit(kernel, number)
+        }
+        Act::LearnPair(level, number, free) => {
+            if !back_to(kernel, level) {
+                return Ok(false);
+            }
+            learn_pair(kernel, number, free)
+        }
+        Act::Restart(numbers) => {
+            restart(alloc, kernel, numbers)?;
+            Ok(true)
+        }
+    }
+}
+
+/// An act, what propagation then answers, and the entries that it leaves: number, reason or 0, level.
+#[derive(Clone, Copy)]
+pub struct Row<'a> {
+    act: Act<'a>,
+    answer: Closed,
+    wanted: &'a [(i32, u64, u32)],
+}
+
+impl<'a> Row<'a> {
+    pub fn new(act: Act<'a>, answer: Closed, wanted: &'a [(i32, u64, u32)]) -> Row<'a> {
+        Row {
+            act,
+            answer,
+            wanted,
+        }
+    }
+}
+
+/// Whether a kernel goes through these rows.
+fn goes_on(alloc: Global, kernel: &mut Kernel, rows: &[Row]) -> Result<bool, AllocError> {
+    for row in rows {
+        let is_done = acts(alloc, kernel, row.act)?;
+        if !is_done || kernel.close()? != row.answer || !stands(kernel, row.wanted) {
+            return Ok(false);
+        }
+    }
+    Ok(true)
+}
+
+/// Whether a kernel that is opened with a cube goes through these rows.
+pub fn goes(alloc: Global, text: &[u8], numbers: &[i32], rows: &[Row]) -> Result<bool, Fail> {
+    let mut kernel = opened(alloc, text, numbers)?;
+    Ok(goes_on(alloc, &mut kernel, rows)?)
+}
+
+/// Whether a kernel that is opened with units, at the root, goes through these rows.
+pub fn goes_with(alloc: Global, text: &[u8], units: &[i32], rows: &[Row]) -> Result<bool, Fail> {
+    let mut kernel = opened_with(alloc, text, units, &[])?;
+    Ok(goes_on(alloc, &mut kernel, rows)?)
+}

@@ -1,5 +1,0 @@
-use Rattle.theory.specs.Ledger.{IsFit}
-use Rattle.pool.proofs.tests.cube_of.Given as goal
-
-abbrev pub invariant-loop-number : goal.invariant-loop-number
-invariant-loop-number l = IsFit l.vars l.cube

@@ -1,5 +1,0 @@
-use Rattle.pool.specs.Hands.{SameHand}
-use Rattle.pool.proofs.tests.threads.offer_all.Given as goal
-
-abbrev pub invariant-places : goal.invariant-places
-invariant-places l = SameHand l.initial.hand l.hand

@@ -1,0 +1,2 @@
+pub mod Homecoming
+pub mod FewHands

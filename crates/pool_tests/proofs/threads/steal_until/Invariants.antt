@@ -1,0 +1,5 @@
+use Rattle.pool.specs.Hands.{SameHand}
+use Rattle.pool_tests.proofs.threads.steal_until.Given as goal
+
+abbrev pub invariant-turns : goal.invariant-turns
+invariant-turns l = SameHand l.initial.hand l.hand

@@ -1,0 +1,276 @@
+//! Four hands, three of them in threads of their own, each with calls in random order. What they bring home is what was put and counted.
+ghost use Rattle.std.specs.Prelude.{◌≡◌, ◌≤◌, [], ◌∷◌, length, IfOk};
+ghost use Rattle.theory.specs.Ledger.{IsFit};
+ghost use Rattle.pool.specs.Hands.{SameHand};
+ghost use Rattle.pool.specs.Pools.{AreNew, AreAllOf};
+
+use crate::cubes::cube_of;
+use crate::diary::{Diary, Home, SameAs};
+use cnf::Lit;
+use kernel::Cube;
+use pool::{Closing, Hand, Pool, Taken, open};
+use samples::has_var;
+use std::alloc::{AllocError, Global};
+use std::snapshot::Snapshot;
+use std::test::*;
+use std::thread;
+use std::thread::{PromisedHandle, Threads};
+
+// how many calls a hand makes
+const TURNS: usize = 25_000;
+
+/// The cube over 18 variables whose signs are the bits of a number.
+fn cube_of_bits(alloc: Global, number: u32) -> Result<Cube, AllocError>
+    ensures { IfOk result (λ q. IsFit 18 q) }
+{
+    let mut cube = Cube::root(alloc);
+    'bits: for var in 1..19 {
+        let lit = Lit::of(var, number >> (var - 1) & 1 == 1);
+        if !has_var(cube.lits(), lit.var()) && cube.lits().len() < 32 {
+            cube.push(lit)?;
+        }
+    }
+    Ok(cube)
+}
+
+/// The number whose bits are the signs of a cube.
+fn bits_of(cube: &Cube) -> u32 {
+    let mut number = 0;
+    for lit in cube.lits().iter().rev() {
+        number = number << 1 | lit.positive() as u32;
+    }
+    number
+}
+
+/// Marsaglia's xorshift generator.
+fn next_random(state: u64) -> u64 {
+    let state = state ^ (state << 13);
+    let state = state ^ (state >> 7);
+    state ^ (state << 17)
+}
+
+fn put(alloc: Global, hand: &mut Hand, diary: &mut Diary)
+    requires { hand.old.vars ≡ 18 }
+    ensures { SameHand hand.old hand.new }
+{
+    let number = diary.last.wrapping_add(1);
+    let Ok(cube) = cube_of_bits(alloc, number) else {
+        return;
+    };
+    if hand.put(cube).is_ok() {
+        diary.last = number;
+        let _ = diary.put.push(number);
+    }
+}
+
+fn take(hand: &mut Hand, diary: &mut Diary)
+    ensures { SameHand hand.old hand.new }
+{
+    if let Some(cube) = hand.take() {
+        let _ = diary.got.push(bits_of(&cube));
+    }
+}
+
+fn steal(hand: &mut Hand, diary: &mut Diary, from: usize)
+    ensures { SameHand hand.old hand.new }
+{
+    if from != hand.number() && from < hand.hands() {
+        if let Taken::Got(cube) = hand.steal(from) {
+            let _ = diary.got.push(bits_of(&cube));
+        }
+    }
+}
+
+fn count(hand: &mut Hand, diary: &mut Diary, random: u64)
+    ensures { SameHand hand.old hand.new }
+{
+    if random % 3 == 0 {
+        hand.more();
+        diary.more = diary.more.wrapping_add(1);
+    } else if random % 3 == 1 {
+        hand.less();
+        diary.less = diary.less.wrapping_add(1);
+    } else {
+        let place = random % 4_294_967_296;
+        hand.offer(place);
+        diary.least = Some(diary.least.unwrap_or(place).min(place));
+    }
+}
+
+fn one_call(alloc: Global, hand: &mut Hand, diary: &mut Diary, random: u64)
+    requires { hand.old.vars ≡ 18 }
+    ensures { SameHand hand.old hand.new }
+{
+    match random % 8 {
+        0 | 1 | 2 => put(alloc, hand, diary),
+        3 | 4 => take(hand, diary),
+        5 | 6 => steal(hand, diary, (random / 8 % 4) as usize),
+        _ => count(hand, diary, random / 8),
+    }
+}
+
+/// Calls in random order, as many as there are turns.
+fn random_calls(alloc: Global, mut hand: Hand, mut diary: Diary) -> Home
+    requires { hand.vars ≡ 18 }
+    ensures { SameHand hand result.hand }
+{
+    let mut random = diary.last as u64 + 1;
+    'turns: for _ in 0..TURNS {
+        random = next_random(random);
+        one_call(alloc, &mut hand, &mut diary, random);
+    }
+    Home { hand, diary }
+}
+
+fn start(
+    rt: &impl Threads,
+    alloc: Global,
+    hand: Hand,
+    diary: Diary,
+) -> Result<PromisedHandle<Home, SameAs>, AllocError>
+    requires { hand.vars ≡ 18 }
+    ensures { IfOk result (λ h. h.promise.0.value ≡ hand) }
+{
+    let promise = SameAs(Snapshot::of(&hand));
+    Ok(thread::spawn_with(rt, promise, move || random_calls(alloc, hand, diary))?)
+}
+
+/// Four hands make their calls at once, the first three in threads of their own.
+fn at_once(
+    rt: &impl Threads,
+    alloc: Global,
+    first: Hand,
+    second: Hand,
+    third: Hand,
+    last: Hand,
+) -> Result<(Home, Home, Home, Home), AllocError>
+    requires { (first.vars ≡ 18) × (second.vars ≡ 18) × (third.vars ≡ 18) × (last.vars ≡ 18) }
+    ensures { IfOk result (λ r. SameHand first r.0.hand × SameHand second r.1.hand × SameHand third r.2.hand × SameHand last r.3.hand) }
+{
+    let first = start(rt, alloc, first, Diary::new(alloc, 0, TURNS)?)?;
+    let second = start(rt, alloc, second, Diary::new(alloc, 1, TURNS)?)?;
+    let third = start(rt, alloc, third, Diary::new(alloc, 2, TURNS)?)?;
+    let last = random_calls(alloc, last, Diary::new(alloc, 3, TURNS)?);
+    Ok((first.join(rt), second.join(rt), third.join(rt), last))
+}
+
+fn hands_of(
+    alloc: Global,
+    first: Hand,
+    second: Hand,
+    third: Hand,
+    last: Hand,
+) -> Result<Vec<Hand>, AllocError>
+    ensures { IfOk result (λ r. r.items ≡ first ∷ second ∷ third ∷ last ∷ []) }
+{
+    let mut hands = Vec::new(alloc);
+    hands.push(first)?;
+    hands.push(second)?;
+    hands.push(third)?;
+    hands.push(last)?;
+    Ok(hands)
+}
+
+fn diaries_of(
+    alloc: Global,
+    first: Diary,
+    second: Diary,
+    third: Diary,
+    last: Diary,
+) -> Result<Vec<Diary>, AllocError> {
+    let mut diaries = Vec::new(alloc);
+    diaries.push(first)?;
+    diaries.push(second)?;
+    diaries.push(third)?;
+    diaries.push(last)?;
+    Ok(diaries)
+}
+
+/// The four hands of a pool make their calls, and come home.
+fn crowd(
+    rt: &impl Threads,
+    alloc: Global,
+    pool: &Pool,
+    mut hands: Vec<Hand>,
+) -> Result<(Vec<Hand>, Vec<Diary>), AllocError>
+    requires count { length hands.items ≡ 4 }
+    requires hands { AreNew pool.now 18 hands.items }
+    ensures { IfOk result (λ r. AreAllOf pool.now r.0.items) }
+{
+    let _ = pool;
+    let last = hands.remove(3);
+    let third = hands.remove(2);
+    let second = hands.remove(1);
+    let first = hands.remove(0);
+    let (first, second, third, last) = at_once(rt, alloc, first, second, third, last)?;
+    let Home {
+        hand: one,
+        diary: first,
+    } = first;
+    let Home {
+        hand: two,
+        diary: second,
+    } = second;
+    let Home {
+        hand: three,
+        diary: third,
+    } = third;
+    let Home {
+        hand: four,
+        diary: last,
+    } = last;
+    let home = hands_of(alloc, one, two, three, four)?;
+    Ok((home, diaries_of(alloc, first, second, third, last)?))
+}
+
+/// Whether the cubes of each deque come in the order in which they were put, in one hand's list.
+fn keeps_order(got: &[u32]) -> bool {
+    (0..4u32).all(|hand| {
+        let mut last = 0;
+        got.iter()
+            .filter(|number| **number >> 16 == hand)
+            .all(|number| {
+                let rises = *number > last || *number == 0;
+                last = *number;
+                rises
+            })
+    })
+}
+
+/// Whether the cubes got and left are the root, whose number is 0, and the cubes put, each once.
+fn each_once(alloc: Global, diaries: &[Diary], closing: &Closing) -> Result<bool, AllocError> {
+    let mut put = Vec::new(alloc);
+    let mut got = Vec::new(alloc);
+    put.push(0)?;
+    for diary in diaries {
+        put.extend_from_slice(&diary.put)?;
+        got.extend_from_slice(&diary.got)?;
+    }
+    for cube in closing.left.iter() {
+        got.push(bits_of(cube))?;
+    }
+    put.sort_unstable();
+    got.sort_unstable();
+    Ok(put.as_slice() == got.as_slice())
+}
+
+#[test]
+fn random_run(rt: HostRuntime) -> Result<(), Fail> {
+    let alloc = rt.alloc();
+    let (pool, hands) = open(alloc, 4, 18, cube_of(alloc, 18, &[])?)?;
+    let (hands, diaries) = crowd(&rt, alloc, &pool, hands)?;
+    let closing = pool.close(hands)?;
+    assert!(rt; each_once(alloc, &diaries, &closing)?);
+    let mut undone: u64 = 1;
+    let mut least = None;
+    for diary in diaries.iter() {
+        assert!(rt; keeps_order(&diary.got));
+        undone = undone.wrapping_add(diary.more).wrapping_sub(diary.less);
+        if let Some(place) = diary.least {
+            least = Some(least.unwrap_or(place).min(place));
+        }
+    }
+    assert_eq!(rt; closing.undone, undone);
+    assert_eq!(rt; closing.least, least);
+    Ok(())
+}

@@ -1,0 +1,156 @@
+//! Two hands, the second in a thread of its own.
+ghost use Rattle.std.specs.Prelude.{◌≡◌, ◌≢◌, ◌<◌, IfOk};
+ghost use Rattle.theory.specs.Ledger.{calling, less};
+ghost use Rattle.pool.specs.Hands.{SameHand, adds};
+
+use crate::cubes::{cube_of, is_cube};
+use crate::diary::{LessOf, SameAs, Visit};
+use crate::pairs::{close_two, open_two};
+use pool::{Hand, Taken};
+use std::alloc::AllocError;
+use std::snapshot::Snapshot;
+use std::sync::Wait;
+use std::test::*;
+use std::thread;
+use std::thread::{PromisedHandle, Threads};
+
+/// Steals until it has got a cube, or for so many turns.
+fn steal_until(mut hand: Hand, from: usize, turns: u64) -> Visit
+    requires other { from ≢ hand.number }
+    requires hand { from < hand.hands }
+    ensures { SameHand hand result.hand }
+{
+    let mut got = None;
+    'turns: for _ in 0..turns {
+        match hand.steal(from) {
+            Taken::Got(cube) => {
+                got = Some(cube);
+                break;
+            }
+            Taken::Empty | Taken::Again => thread::yield_now(),
+        }
+    }
+    Visit { hand, got }
+}
+
+/// Calls `less` once.
+fn count_less(mut hand: Hand) -> Visit
+    ensures { result.hand ≡ adds hand (calling less) }
+{
+    hand.less();
+    Visit { hand, got: None }
+}
+
+fn thief(
+    rt: &impl Threads,
+    hand: Hand,
+    turns: u64,
+) -> Result<PromisedHandle<Visit, SameAs>, AllocError>
+    requires other { hand.number ≡ 1 }
+    requires hand { hand.hands ≡ 2 }
+    ensures { IfOk result (λ h. h.promise.0.value ≡ hand) }
+{
+    let promise = SameAs(Snapshot::of(&hand));
+    Ok(thread::spawn_with(rt, promise, move || steal_until(hand, 0, turns))?)
+}
+
+fn counter(rt: &impl Threads, hand: Hand) -> Result<PromisedHandle<Visit, LessOf>, AllocError>
+    ensures { IfOk result (λ h. h.promise.0.value ≡ hand) }
+{
+    let promise = LessOf(Snapshot::of(&hand));
+    Ok(thread::spawn_with(rt, promise, move || count_less(hand))?)
+}
+
+/// Offers the places that are lent, as far as they are places.
+fn offer_all(mut hand: Hand, places: &[u64]) -> Visit
+    ensures { SameHand hand result.hand }
+{
+    'places: for place in places {
+        if *place < 4_294_967_296 {
+            hand.offer(*place);
+        }
+    }
+    Visit { hand, got: None }
+}
+
+/// Both hands offer the places that are lent, the second in a thread of a scope.
+fn both_offer<R: Threads + Wait + Sync>(
+    rt: &R,
+    one: Hand,
+    two: Hand,
+    places: &[u64],
+) -> Result<(Visit, Visit), AllocError>
+    ensures { IfOk result (λ r. SameHand one r.0.hand × SameHand two r.1.hand) }
+{
+    thread::scope(
+        thread::scope_env(),
+        rt,
+        |scope| -> Result<(Visit, Visit), AllocError>
+            ensures { IfOk result (λ r. SameHand one r.0.hand × SameHand two r.1.hand) }
+        {
+            let promise = SameAs(Snapshot::of(&two));
+            let child = scope.spawn_with(promise, move || offer_all(two, places))?;
+            let first = offer_all(one, places);
+            Ok((first, child.join(rt)))
+        },
+    )
+}
+
+#[test]
+fn a_cube_is_stolen(rt: HostRuntime) -> Result<(), Fail> {
+    let alloc = rt.alloc();
+    let (pool, mut one, two) = open_two(alloc, 1, cube_of(alloc, 1, &[])?)?;
+    assert!(rt; one.take().is_some());
+    if one.put(cube_of(alloc, 1, &[-1])?).is_err() || one.put(cube_of(alloc, 1, &[1])?).is_err() {
+        return Err("out of memory".into());
+    }
+    let child = thief(&rt, two, 1 << 24)?;
+    let visit = child.join(&rt);
+    let Visit { hand: mut two, got } = visit;
+    let is_first = got.is_some_and(|cube| is_cube(&cube, &[-1]));
+    assert!(rt; is_first);
+    let is_second = one.take().is_some_and(|cube| is_cube(&cube, &[1]));
+    assert!(rt; is_second);
+    assert!(rt; one.take().is_none());
+    assert!(rt; two.take().is_none());
+    two.offer(5);
+    one.offer(9);
+    assert_eq!(rt; one.look(), Some(5));
+    let closing = close_two(alloc, pool, one, two)?;
+    assert!(rt; closing.left.is_empty());
+    assert_eq!(rt; closing.least, Some(5));
+    assert_eq!(rt; closing.undone, 1);
+    Ok(())
+}
+
+#[test]
+fn two_count(rt: HostRuntime) -> Result<(), Fail> {
+    let alloc = rt.alloc();
+    let (pool, mut one, two) = open_two(alloc, 1, cube_of(alloc, 1, &[])?)?;
+    let child = counter(&rt, two)?;
+    one.more();
+    one.more();
+    let visit = child.join(&rt);
+    let Visit {
+        hand: mut two,
+        got: _,
+    } = visit;
+    assert_eq!(rt; one.still_open(), 2);
+    assert_eq!(rt; two.still_open(), 2);
+    let closing = close_two(alloc, pool, one, two)?;
+    assert_eq!(rt; closing.undone, 2);
+    Ok(())
+}
+
+#[test]
+fn two_offer_in_a_scope(rt: HostRuntime) -> Result<(), Fail> {
+    let alloc = rt.alloc();
+    let (pool, one, two) = open_two(alloc, 1, cube_of(alloc, 1, &[])?)?;
+    let (first, second) = both_offer(&rt, one, two, &[9, 5, 4_294_967_296, 7])?;
+    let Visit { hand: one, got: _ } = first;
+    let Visit { hand: two, got: _ } = second;
+    let closing = close_two(alloc, pool, one, two)?;
+    assert_eq!(rt; closing.least, Some(5));
+    assert_eq!(rt; closing.left.len(), 1);
+    Ok(())
+}
