@@ -3,7 +3,7 @@
 ghost use Rattle.std.specs.Prelude.{◌≡◌, IfOk, OnOk};
 ghost use Rattle.theory.specs.Literals.{has_var};
 ghost use Rattle.theory.specs.Truth.{IsOver};
-ghost use Rattle.cubes.specs.Solved.{AreTrue};
+ghost use Rattle.cubes.specs.Solved.{AreTrueResults};
 
 use crate::{Node, OpenGate, Solved, Tree, What, gather, place_of, solve_with};
 use cdcl::{Outcome, Refutation, solve_cube};
@@ -91,8 +91,8 @@ fn put_result(
     given: Given,
     results: &mut Vec<Solved>,
 ) -> Result<bool, AllocError>
-    requires { AreTrue formula.now 1 results.old.items }
-    ensures { OnOk result (AreTrue formula.now 1 results.new.items) }
+    requires { AreTrueResults formula.now 1 results.old.items }
+    ensures { OnOk result (AreTrueResults formula.now 1 results.new.items) }
 {
     let cube = cube_of(alloc, formula.vars(), numbers)?;
     if let Given::Skipped(place) = given {
