@@ -1,7 +1,7 @@
 -- How the search of a cube begins, and what is so whatever it comes to.
 use Rattle.std.proofs.Common.{◌≡◌, ℕ, ◌≤◌, false, List, [], length, take, All, None, ap, sym, ◌∙◌, refl, subst, arith}
 use Rattle.std.proofs.Math.Seq.{take-length}
-use Rattle.theory.specs.Literals.{Literal, Clause, IsDistinctFrom}
+use Rattle.theory.specs.Literals.{Literal, Clause, IsCube}
 use Rattle.theory.specs.Truth.{Formula, IsOver}
 use Rattle.theory.specs.Trails.{literals, cube_trail}
 use Rattle.theory.specs.Reading.{max_vars}
@@ -16,6 +16,7 @@ use Rattle.theory.proofs.TrailLists.{literals-cube}
 use Rattle.kernel.specs.State.{State}
 use Rattle.cdcl.specs.Searching.{IsReady, Begins, GoesOn, search_of}
 use Rattle.cdcl.specs.declared.search.Search.{Search}
+use Rattle.theory.proofs.CubeLiterals.{IsCube-from}
 use Rattle.cdcl.proofs.Progress.{IsDistinctFrom-lawful}
 
 take-whole : (n : ℕ) (K : List Clause) → n ≡ length K → take n K ≡ K
@@ -92,4 +93,4 @@ Begins-says F B Q s o begins over runs =
     let trail : s.kernel.trail ≡ cube_trail Q = ap (λ (t : definition.Search). t.trail) begins.begun in
     let all : All (IsOver F.vars) (first_clauses F) = rw (clauses, begins.ready.vars) at begins.searching.clauses_over in
     let lawful : IsLawful (first_clauses F) (cube_trail Q) = rw (clauses, trail) at begins.searching.lawful in
-    Runs-says F B Q o (IsFormula-searched F all) (subst (IsDistinctFrom []) (literals-cube Q) (IsDistinctFrom-lawful (first_clauses F) [] (cube_trail Q) lawful)) over (Begins-runs F B Q s o begins runs)
+    Runs-says F B Q o (IsFormula-searched F all) (subst IsCube (literals-cube Q) (IsCube-from (literals (cube_trail Q)) (IsDistinctFrom-lawful (first_clauses F) [] (cube_trail Q) lawful))) over (Begins-runs F B Q s o begins runs)

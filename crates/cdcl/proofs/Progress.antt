@@ -2,10 +2,10 @@
 use Rattle.std.proofs.Common.{◌≡◌, ℕ, ◌+◌, ◌-◌, ◌*◌, ◌<◌, ◌≤◌, Bool, true, false, List, [], ◌∷◌, ◌++◌, length, length-append, Some, None, refl, sym, subst, nat_eq, eq-eqb, if◌then◌else◌, unwrap_or, arith, All}
 use Rattle.std.proofs.lemmas.List.{map-append, length-map}
 use Rattle.std.proofs.lemmas.List.Elements.{All-push}
-use Rattle.theory.specs.Literals.{Clause, IsDistinctFrom, negative}
+use Rattle.theory.specs.Literals.{Clause, negative}
 use Rattle.theory.specs.Truth.{IsOver}
 use Rattle.theory.specs.Trails.{Trail, Entry, literals, current_level, up_to}
-use Rattle.theory.specs.Propagation.{Closed, quiet, conflict, Closes, clashes, grows, rests, unit_entry, least_false}
+use Rattle.theory.specs.Propagation.{Closed, quiet, conflict, Propagates, clashes, grows, rests, unit_entry, least_false}
 use Rattle.theory.specs.Lawful.{IsLawful, IsLawfulAfter}
 use Rattle.theory.specs.Learning.{learn, back_level}
 use Rattle.theory.specs.Search.{Search, Next, ends, goes_on, refuted, exhausted, after, decided_next}
@@ -13,7 +13,7 @@ use Rattle.theory.proofs.SearchSteps.{Answers, after-quiet, after-conflict, conf
 use Rattle.theory.proofs.OverVariables.{AreOver, AreOver-push, AreOver-from_IsOver}
 use Rattle.theory.proofs.RefutedCubes.{AreOver-up_to}
 use Rattle.theory.proofs.LiteralSets.{true_false}
-use Rattle.theory.proofs.TrailEntries.{are_distinct-cube}
+use Rattle.theory.proofs.CubeLiterals.{IsDistinctFrom, IsCube-from}
 use Rattle.theory.proofs.DistinctLiterals.{length-distinct}
 use Rattle.cdcl.proofs.SearchingLemmas.{IsOver-learn}
 
@@ -30,16 +30,16 @@ IsDistinctFrom-lawful K before (e ∷ T) h =
 -- a lawful trail is no longer than its variables are many
 pub length-lawful : (V : ℕ) (K : List Clause) (T : Trail) → IsLawful K T → AreOver V (literals T) → length T ≤ V
 length-lawful V K T lawful over =
-    let short = length-distinct V (literals T) (are_distinct-cube (literals T) (IsDistinctFrom-lawful K [] T lawful)) over in
+    let short = length-distinct V (literals T) (IsCube-from (literals T) (IsDistinctFrom-lawful K [] T lawful)) over in
     let same = length-map T (λ (d : Entry). d.lit) in
     omega arith
 
 -- propagation takes nothing off
-pub length-Closes : (K : List Clause) (T U : Trail) (a : Closed) → Closes K T a U → length T ≤ length U
-length-Closes K T U a (clashes h) = omega arith
-length-Closes K T U a (rests h i) = omega arith
-length-Closes K T U a (grows {u = u} h i more) =
-    let rest = length-Closes K (T ++ unit_entry T u ∷ []) U a more in
+pub length-Propagates : (K : List Clause) (T U : Trail) (a : Closed) → Propagates K T a U → length T ≤ length U
+length-Propagates K T U a (clashes h) = omega arith
+length-Propagates K T U a (rests h i) = omega arith
+length-Propagates K T U a (grows {u = u} h i more) =
+    let rest = length-Propagates K (T ++ unit_entry T u ∷ []) U a more in
     let one = length-append T (unit_entry T u ∷ []) in
     omega arith
 

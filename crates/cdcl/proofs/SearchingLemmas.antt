@@ -3,32 +3,32 @@ use Rattle.std.proofs.Common.{◌≡◌, ℕ, ◌≤◌, false, Result, Ok, Err,
 use Rattle.theory.specs.Literals.{Clause, negations}
 use Rattle.theory.specs.Truth.{IsOver}
 use Rattle.theory.specs.Trails.{Trail, literals, current_level, up_to}
-use Rattle.theory.specs.Propagation.{Closed, Closes, least_false}
+use Rattle.theory.specs.Propagation.{Closed, Propagates, least_false}
 use Rattle.theory.specs.Lawful.{IsLawful, cube_of}
 use Rattle.theory.specs.Learnable.{IsLearnable}
 use Rattle.theory.specs.Learning.{learn, back_level}
 use Rattle.theory.specs.Search.{after}
-use Rattle.theory.proofs.LawfulTrails.{IsLawful-Closes, least_false-at}
+use Rattle.theory.proofs.LawfulTrails.{IsLawful-Propagates, least_false-at}
 use Rattle.theory.proofs.LearnableLines.{IsLearnable-learn}
 use Rattle.theory.proofs.LearntLines.{IsVariable-learn}
-use Rattle.theory.proofs.OpenTrails.{IsOpenBelow-Closes}
+use Rattle.theory.proofs.OpenTrails.{IsOpenBelow-Propagates}
 use Rattle.theory.proofs.OverVariables.{AreOver-from_IsOver, IsOver-from_AreOver, IsOver-left}
-use Rattle.theory.proofs.RefutedCubes.{AreOver-Closes}
+use Rattle.theory.proofs.RefutedCubes.{AreOver-Propagates}
 use Rattle.kernel.specs.State.{State}
-use Rattle.cdcl.specs.Searching.{IsSearching, IsStep, GoesOn, search_of, next_of}
+use Rattle.cdcl.specs.Searching.{IsSearching, IsSearchStep, GoesOn, search_of, next_of}
 use Rattle.cdcl.specs.declared.outcome.Outcome.{Outcome}
 use Rattle.cdcl.specs.declared.search.Search.{Search}
 
 -- propagation keeps it
-pub IsSearching-Closes : (k l : State) (a : Closed) → IsSearching k → l.vars ≡ k.vars → l.clauses ≡ k.clauses → l.first ≡ k.first → l.short ≡ false → Closes k.clauses k.trail a l.trail → IsSearching l
-IsSearching-Closes k l a h vars clauses first memory closes = record {
+pub IsSearching-Propagates : (k l : State) (a : Closed) → IsSearching k → l.vars ≡ k.vars → l.clauses ≡ k.clauses → l.first ≡ k.first → l.short ≡ false → Propagates k.clauses k.trail a l.trail → IsSearching l
+IsSearching-Propagates k l a h vars clauses first memory closes = record {
   has_memory = memory;
   few = rw vars h.few;
   within = rw (first, clauses) h.within;
-  lawful = rw clauses (IsLawful-Closes k.clauses k.trail l.trail a closes h.lawful);
-  open_below = rw clauses (IsOpenBelow-Closes k.clauses k.trail l.trail a closes h.open_below);
+  lawful = rw clauses (IsLawful-Propagates k.clauses k.trail l.trail a closes h.lawful);
+  open_below = rw clauses (IsOpenBelow-Propagates k.clauses k.trail l.trail a closes h.open_below);
   clauses_over = rw (vars, clauses) h.clauses_over;
-  trail_over = rw vars (IsOver-from_AreOver k.vars (literals l.trail) (AreOver-Closes k.vars k.clauses k.trail l.trail a h.clauses_over closes (AreOver-from_IsOver k.vars (literals k.trail) h.trail_over)));
+  trail_over = rw vars (IsOver-from_AreOver k.vars (literals l.trail) (AreOver-Propagates k.vars k.clauses k.trail l.trail a h.clauses_over closes (AreOver-from_IsOver k.vars (literals k.trail) h.trail_over)));
 }
 
 -- the learnt clause is over the variables
@@ -45,15 +45,15 @@ may_learn k l c level n h above clash clause back went =
     (IsOver-learn k.vars k.clauses k.trail n h.lawful h.trail_over clash, IsLearnable-learn k.clauses k.trail n h.lawful h.open_below above clash)
 
 -- a step from what propagation left
-pub IsStep-from : {E : Type 0} (budget : ℕ) (old new middle : Search) (a : Closed) (r : Result (Option Outcome) E) → Closes old.kernel.clauses old.kernel.trail a middle.kernel.trail
+pub IsSearchStep-from : {E : Type 0} (budget : ℕ) (old new middle : Search) (a : Closed) (r : Result (Option Outcome) E) → Propagates old.kernel.clauses old.kernel.trail a middle.kernel.trail
     → (middle.kernel.vars ≡ old.kernel.vars) × (middle.kernel.clauses ≡ old.kernel.clauses) × (middle.kernel.first ≡ old.kernel.first)
     → search_of middle ≡ record (search_of old) { trail = middle.kernel.trail }
-    → IfOk r (λ o. after middle.kernel.vars budget (search_of middle) a ≡ next_of o new) → OnOk r (GoesOn middle.kernel new.kernel) → IfOk r (λ o. IsStep budget old o new)
-IsStep-from budget old new middle a (Ok o) closes same_kernel same next kept = record {
+    → IfOk r (λ o. after middle.kernel.vars budget (search_of middle) a ≡ next_of o new) → OnOk r (GoesOn middle.kernel new.kernel) → IfOk r (λ o. IsSearchStep budget old o new)
+IsSearchStep-from budget old new middle a (Ok o) closes same_kernel same next kept = record {
   answer = a;
   trail = middle.kernel.trail;
   closes = closes;
   next = rw (same_kernel.0, same) at next;
   goes_on = rw (same_kernel.0, same_kernel.1, same_kernel.2) at kept;
 }
-IsStep-from budget old new middle a (Err e) closes same_kernel same next kept = tt
+IsSearchStep-from budget old new middle a (Err e) closes same_kernel same next kept = tt

@@ -6,25 +6,25 @@ use Rattle.theory.specs.Search.{RunsFrom, stops, steps, first_clauses}
 use Rattle.theory.specs.Search as definition
 use Rattle.theory.specs.Lawful.{IsLawful}
 use Rattle.theory.specs.Learnable.{IsOpenBelow}
-use Rattle.theory.proofs.SearchSteps.{Closes-Answers}
+use Rattle.theory.proofs.SearchSteps.{Propagates-Answers}
 use Rattle.theory.proofs.OverVariables.{AreOver, AreOver-from_IsOver, IsOver-from_AreOver}
-use Rattle.theory.proofs.RefutedCubes.{AreOver-Closes}
-use Rattle.theory.proofs.LawfulTrails.{IsLawful-Closes}
+use Rattle.theory.proofs.RefutedCubes.{AreOver-Propagates}
+use Rattle.theory.proofs.LawfulTrails.{IsLawful-Propagates}
 use Rattle.theory.proofs.OpenTrails.{kept-step}
 use Rattle.kernel.specs.State.{State}
 use Rattle.cdcl.specs.Outcome.{outcome_of}
-use Rattle.cdcl.specs.Searching.{IsSearching, IsStep, GoesOn, search_of}
+use Rattle.cdcl.specs.Searching.{IsSearching, IsSearchStep, GoesOn, search_of}
 use Rattle.cdcl.specs.declared.outcome.Outcome.{Outcome}
 use Rattle.cdcl.specs.declared.search.Search.{Search}
-use Rattle.cdcl.proofs.Progress.{Progresses, after-Progresses, length-Closes, remaining}
+use Rattle.cdcl.proofs.Progress.{Progresses, after-Progresses, length-Propagates, remaining}
 
 -- a step that ends
-pub IsStep-ends : (V budget : ℕ) (s t : Search) (o : Outcome) → s.kernel.vars ≡ V → IsStep budget s (Some o) t → RunsFrom V budget (search_of s) (outcome_of o)
-IsStep-ends V budget s t o vars step = stops step.closes (rw vars at step.next)
+pub IsSearchStep-ends : (V budget : ℕ) (s t : Search) (o : Outcome) → s.kernel.vars ≡ V → IsSearchStep budget s (Some o) t → RunsFrom V budget (search_of s) (outcome_of o)
+IsSearchStep-ends V budget s t o vars step = stops step.closes (rw vars at step.next)
 
 -- a step to the state t
-pub IsStep-leads : (V budget : ℕ) (s t : Search) (o : definition.Outcome) → s.kernel.vars ≡ V → IsStep budget s None t → RunsFrom V budget (search_of t) o → RunsFrom V budget (search_of s) o
-IsStep-leads V budget s t o vars step more = steps step.closes (rw vars at step.next) more
+pub IsSearchStep-leads : (V budget : ℕ) (s t : Search) (o : definition.Outcome) → s.kernel.vars ≡ V → IsSearchStep budget s None t → RunsFrom V budget (search_of t) o → RunsFrom V budget (search_of s) o
+IsSearchStep-leads V budget s t o vars step more = steps step.closes (rw vars at step.next) more
 
 -- the first clauses are still there
 within-GoesOn : (k l : State) → k.first ≤ length k.clauses → GoesOn k l → l.first ≤ length l.clauses
@@ -39,9 +39,9 @@ pub GoesOn-trans : (k l m : State) → GoesOn k l → GoesOn l m → GoesOn k m
 GoesOn-trans k l m one two = (two.0 ∙ one.0, two.1 ∙ one.1, (rw one.1 at two.2) ∙ one.2, two.3)
 
 -- what such a step keeps
-pub IsStep-keeps : (budget : ℕ) (s t : Search) → IsSearching s.kernel → s.conflicts < budget → IsStep budget s None t
+pub IsSearchStep-keeps : (budget : ℕ) (s t : Search) → IsSearching s.kernel → s.conflicts < budget → IsSearchStep budget s None t
     → IsSearching t.kernel × (t.conflicts < budget) × (remaining s.kernel.vars budget t.conflicts t.kernel.trail < remaining s.kernel.vars budget s.conflicts s.kernel.trail)
-IsStep-keeps budget s t h counted step = (
+IsSearchStep-keeps budget s t h counted step = (
   record {
     has_memory = step.goes_on.3;
     few = rw step.goes_on.0 h.few;
@@ -59,11 +59,11 @@ IsStep-keeps budget s t h counted step = (
     middle = record (search_of s) { trail = step.trail }
 
     over : AreOver s.kernel.vars (literals step.trail)
-    over = AreOver-Closes s.kernel.vars s.kernel.clauses s.kernel.trail step.trail step.answer h.clauses_over step.closes (AreOver-from_IsOver s.kernel.vars (literals s.kernel.trail) h.trail_over)
+    over = AreOver-Propagates s.kernel.vars s.kernel.clauses s.kernel.trail step.trail step.answer h.clauses_over step.closes (AreOver-from_IsOver s.kernel.vars (literals s.kernel.trail) h.trail_over)
 
     made : Progresses s.kernel.vars budget middle (search_of t)
-    made = after-Progresses s.kernel.vars budget middle (search_of t) step.answer (IsLawful-Closes s.kernel.clauses s.kernel.trail step.trail step.answer step.closes h.lawful) h.clauses_over
-        (IsOver-from_AreOver s.kernel.vars (literals step.trail) over) counted (Closes-Answers s.kernel.clauses s.kernel.trail step.trail middle step.answer step.closes refl refl) step.next
+    made = after-Progresses s.kernel.vars budget middle (search_of t) step.answer (IsLawful-Propagates s.kernel.clauses s.kernel.trail step.trail step.answer step.closes h.lawful) h.clauses_over
+        (IsOver-from_AreOver s.kernel.vars (literals step.trail) over) counted (Propagates-Answers s.kernel.clauses s.kernel.trail step.trail middle step.answer step.closes refl refl) step.next
 
     kept : IsLawful t.kernel.clauses t.kernel.trail × IsOpenBelow t.kernel.clauses t.kernel.trail
     kept = kept-step s.kernel.vars budget (search_of s) (search_of t) step.trail step.answer h.lawful h.open_below step.closes step.next
@@ -71,5 +71,5 @@ IsStep-keeps budget s t h counted step = (
     less : remaining s.kernel.vars budget t.conflicts t.kernel.trail < remaining s.kernel.vars budget s.conflicts s.kernel.trail
     less =
         let falls : remaining s.kernel.vars budget t.conflicts t.kernel.trail < remaining s.kernel.vars budget s.conflicts step.trail = made.less in
-        let longer = length-Closes s.kernel.clauses s.kernel.trail step.trail step.answer step.closes in
+        let longer = length-Propagates s.kernel.clauses s.kernel.trail step.trail step.answer step.closes in
         omega arith

@@ -4,7 +4,7 @@ use Rattle.theory.specs.Literals.{Literal}
 use Rattle.theory.specs.Truth.{Formula, IsOver}
 use Rattle.theory.specs.Reading.{max_vars}
 use Rattle.theory.specs.Trails.{Trail, literals}
-use Rattle.theory.specs.Propagation.{Closed, Closes}
+use Rattle.theory.specs.Propagation.{Closed, Propagates}
 use Rattle.theory.specs.Lawful.{IsLawful}
 use Rattle.theory.specs.Learnable.{IsOpenBelow}
 use Rattle.theory.specs.Search as definition
@@ -56,9 +56,9 @@ next_of (Some o) s = definition.ends (outcome_of o)
 next_of None s = definition.goes_on (search_of s)
 
 -- propagation, and what follows its answer
-pub record IsStep (budget : ℕ) (old : Search) (r : Option Outcome) (new : Search) : Type 0 where
+pub record IsSearchStep (budget : ℕ) (old : Search) (r : Option Outcome) (new : Search) : Type 0 where
   pub answer : Closed
   pub trail : Trail
-  pub closes : Closes old.kernel.clauses old.kernel.trail answer trail
+  pub closes : Propagates old.kernel.clauses old.kernel.trail answer trail
   pub next : definition.after old.kernel.vars budget (record (search_of old) { trail = trail }) answer ≡ next_of r new
   pub goes_on : GoesOn old.kernel new.kernel

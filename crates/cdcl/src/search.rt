@@ -2,13 +2,13 @@
 ghost use Rattle.std.specs.Prelude.{◌≡◌, ◌≤◌, ◌<◌, ◌^◌, ◌+◌, ◌++◌, ◌∷◌, [], false, Some, IfOk, OnOk};
 ghost use Rattle.theory.specs.Truth.{Formula, IsOver};
 ghost use Rattle.theory.specs.Trails.{literals, current_level, least_free};
-ghost use Rattle.theory.specs.Propagation.{Closes, quiet, conflict, least_false};
+ghost use Rattle.theory.specs.Propagation.{Propagates, quiet, conflict, least_false};
 ghost use Rattle.theory.specs.Lawful.{IsLawful};
 ghost use Rattle.theory.specs.Learning.{learn};
 ghost use Rattle.theory.specs.Search.{RunsFrom, values, after, learnt_next, refuted};
 ghost use Rattle.theory.specs.Search as definition;
 ghost use Rattle.cdcl.specs.Outcome.{outcome_of};
-ghost use Rattle.cdcl.specs.Searching.{IsReady, IsSearching, IsStep, Begins, GoesOn, search_of, next_of};
+ghost use Rattle.cdcl.specs.Searching.{IsReady, IsSearching, IsSearchStep, Begins, GoesOn, search_of, next_of};
 
 use crate::analysis::analyze_in;
 use crate::marks::Room;
@@ -90,7 +90,7 @@ impl Search {
     fn step(&mut self, budget: u32) -> Result<Option<Outcome>, AllocError>
         requires searching { IsSearching self.old.kernel }
         requires counted { self.old.conflicts < budget }
-        ensures { IfOk result (λ r. IsStep budget self.old r self.new) }
+        ensures { IfOk result (λ r. IsSearchStep budget self.old r self.new) }
     {
         match self.kernel.close()? {
             Closed::Quiet => self.on_quiet(),
@@ -101,7 +101,7 @@ impl Search {
     /// Where propagation came to rest: decides the least free variable to be false, or gives the model where none is free.
     fn on_quiet(&mut self) -> Result<Option<Outcome>, AllocError>
         requires searching { IsSearching self.old.kernel }
-        requires quiet { Closes self.old.kernel.clauses self.old.kernel.trail quiet self.old.kernel.trail }
+        requires quiet { Propagates self.old.kernel.clauses self.old.kernel.trail quiet self.old.kernel.trail }
         ensures next { IfOk result (λ r. definition.on_quiet self.old.kernel.vars (search_of self.old)
             (least_free self.old.kernel.vars self.old.kernel.trail) ≡ next_of r self.new) }
         ensures kept { OnOk result (GoesOn self.old.kernel self.new.kernel) }

@@ -6,7 +6,7 @@ use Rattle.theory.specs.Reading.{word}
 use Rattle.theory.proofs.NumberTexts.{number-size}
 use Rattle.theory.proofs.ReadingMachine.{at_body, on_body}
 use Rattle.cnf.specs.Words.{IsNumberOf}
-use Rattle.cnf.specs.Machine.{Takes}
+use Rattle.cnf.specs.Machine.{TakesToken}
 
 -- the only number of size 0
 size-zero : (text : List ℕ) → is_number_text text ≡ true → size_of text ≡ 0 → is_zero_text text ≡ true
@@ -18,7 +18,7 @@ size-zero text n s = go (is_zero_text text) refl
 
 -- a 0 ends a clause
 pub takes-zero : (V C : ℕ) (cs : List Clause) (part : Clause) (text : List ℕ) (place : Place) → is_number_text text ≡ true → length cs < C → size_of text ≡ 0
-    → Takes (at_body V C cs part) (record { token = word text; place = place }) (at_body V C (cs ++ part ∷ []) [])
+    → TakesToken (at_body V C cs part) (record { token = word text; place = place }) (at_body V C (cs ++ part ∷ []) [])
 takes-zero V C cs part text place number room s = record {
   step_is = (let l : nat_lt (length cs) C ≡ true = lt-ltb (length cs) C room in let z = size-zero text number s in
       let e : on_body V C cs part text ≡ Some (at_body V C (cs ++ part ∷ []) []) = rw (l, z) refl in e);

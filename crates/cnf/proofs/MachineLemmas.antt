@@ -5,7 +5,7 @@ use Rattle.theory.specs.Literals.{Literal, Clause}
 use Rattle.theory.specs.Tokens.{Place, is_text, is_zero_text, is_natural_text, is_number_text, size_of}
 use Rattle.theory.specs.Reading.{Token, word, header_end, Placed, tokens_of, end_of, max_vars, max_clauses, max_literals, is_zero, ended, number_in, body_fault, fault_at, fault_at_end, ends_inside, ReadFault, clause_not_ended, too_few_clauses, Reading, formula, refusal}
 use Rattle.theory.proofs.NumberTexts.{literal_of_text}
-use Rattle.theory.proofs.ReadingMachine.{State, at_p, at_cnf, at_vars, at_clauses, at_header_end, at_body, step, on_body, on_literal, at_end, read_on, read}
+use Rattle.theory.proofs.ReadingMachine.{ReaderState, at_p, at_cnf, at_vars, at_clauses, at_header_end, at_body, step, on_body, on_literal, at_end, read_on, read}
 use Rattle.cnf.specs.Machine.{clause_fault, fault_in, ends_in, run, reading_of}
 use Rattle.theory.proofs.ReadingLemmas.{when}
 
@@ -54,7 +54,7 @@ record BehindP (before : List Token) : Type 0 where
   are : before ≡ p ∷ []
 
 -- what a state knows of the tokens before it
-abbrev Knows : State → List Token → Type 0
+abbrev Knows : ReaderState → List Token → Type 0
 Knows at_p before = before ≡ []
 Knows at_cnf before = BehindP before
 Knows at_vars before = BehindCnf before
@@ -75,7 +75,7 @@ is_begun-push [] l = refl
 is_begun-push (k ∷ part) l = refl
 
 -- a word in the body
-on_clause : (V C : ℕ) (cs : List Clause) (part : Clause) (before : List Token) (text : List ℕ) (next : State) → BehindHeader V C cs part before
+on_clause : (V C : ℕ) (cs : List Clause) (part : Clause) (before : List Token) (text : List ℕ) (next : ReaderState) → BehindHeader V C cs part before
     → on_body V C cs part text ≡ Some next → Knows next (before ++ word text ∷ [])
 on_clause V C cs part before text next k h = go (nat_lt (length cs) C) (is_zero_text text) refl refl
   where
@@ -87,7 +87,7 @@ on_clause V C cs part before text next k h = go (nat_lt (length cs) C) (is_zero_
     go true true e f =
         let value : on_body V C cs part text ≡ Some (at_body V C (cs ++ part ∷ []) []) = rw (e, f) refl in
         let same : at_body V C (cs ++ part ∷ []) [] ≡ next = cc in
-        subst (λ (s : State). Knows s (before ++ word text ∷ [])) same (record {
+        subst (λ (s : ReaderState). Knows s (before ++ word text ∷ [])) same (record {
           p = k.p;
           cnf = k.cnf;
           vars = k.vars;
@@ -103,7 +103,7 @@ on_clause V C cs part before text next k h = go (nat_lt (length cs) C) (is_zero_
     go true false e f =
         let value : on_body V C cs part text ≡ on_literal V C cs part text = rw (e, f) refl in
         let w = when (is_number_text text && (nat_le (size_of text) V && nat_lt (sum_by length cs + length part) max_literals)) (at_body V C cs (part ++ literal_of_text text ∷ [])) next (sym value ∙ h) in
-        subst (λ (s : State). Knows s (before ++ word text ∷ [])) w.1 (record {
+        subst (λ (s : ReaderState). Knows s (before ++ word text ∷ [])) w.1 (record {
           p = k.p;
           cnf = k.cnf;
           vars = k.vars;
@@ -117,19 +117,19 @@ on_clause V C cs part before text next k h = go (nat_lt (length cs) C) (is_zero_
           begun = ends_inside-push k.body (word text) ∙ ap not f ∙ sym (is_begun-push part (literal_of_text text));
         })
 
-knows-step : (s next : State) (before : List Token) (t : Token) → Knows s before → step s t ≡ Some next → Knows next (before ++ t ∷ [])
+knows-step : (s next : ReaderState) (before : List Token) (t : Token) → Knows s before → step s t ≡ Some next → Knows next (before ++ t ∷ [])
 knows-step at_p next before (word text) k h =
     let w = when (is_text text (codes "p")) at_cnf next h in
-    subst (λ (s : State). Knows s (before ++ word text ∷ [])) w.1 (record { p = word text; are = ap (λ (b : List Token). b ++ word text ∷ []) k })
+    subst (λ (s : ReaderState). Knows s (before ++ word text ∷ [])) w.1 (record { p = word text; are = ap (λ (b : List Token). b ++ word text ∷ []) k })
 knows-step at_cnf next before (word text) k h =
     let w = when (is_text text (codes "cnf")) at_vars next h in
-    subst (λ (s : State). Knows s (before ++ word text ∷ [])) w.1 (record { p = k.p; cnf = word text; are = ap (λ (b : List Token). b ++ word text ∷ []) k.are })
+    subst (λ (s : ReaderState). Knows s (before ++ word text ∷ [])) w.1 (record { p = k.p; cnf = word text; are = ap (λ (b : List Token). b ++ word text ∷ []) k.are })
 knows-step at_vars next before (word text) k h =
     let w = when (is_natural_text text && nat_le (size_of text) max_vars) (at_clauses (size_of text)) next h in
-    subst (λ (s : State). Knows s (before ++ word text ∷ [])) w.1 (record { p = k.p; cnf = k.cnf; vars = word text; are = ap (λ (b : List Token). b ++ word text ∷ []) k.are; vars_is = refl })
+    subst (λ (s : ReaderState). Knows s (before ++ word text ∷ [])) w.1 (record { p = k.p; cnf = k.cnf; vars = word text; are = ap (λ (b : List Token). b ++ word text ∷ []) k.are; vars_is = refl })
 knows-step (at_clauses V) next before (word text) k h =
     let w = when (is_natural_text text && nat_le (size_of text) max_clauses) (at_header_end V (size_of text)) next h in
-    subst (λ (s : State). Knows s (before ++ word text ∷ [])) w.1
+    subst (λ (s : ReaderState). Knows s (before ++ word text ∷ [])) w.1
     (record { p = k.p; cnf = k.cnf; vars = k.vars; clauses = word text; are = ap (λ (b : List Token). b ++ word text ∷ []) k.are; vars_is = k.vars_is; clauses_is = refl })
 knows-step (at_header_end V C) next before (word text) k h = absurd (cc)
 knows-step (at_body V C cs part) next before (word text) k h = on_clause V C cs part before text next k h
@@ -139,7 +139,7 @@ knows-step at_vars next before header_end k h = absurd (cc)
 knows-step (at_clauses V) next before header_end k h = absurd (cc)
 knows-step (at_header_end V C) next before header_end k h =
     let same : at_body V C [] [] ≡ next = cc in
-    subst (λ (s : State). Knows s (before ++ header_end ∷ [])) same (record {
+    subst (λ (s : ReaderState). Knows s (before ++ header_end ∷ [])) same (record {
       p = k.p;
       cnf = k.cnf;
       vars = k.vars;
@@ -158,7 +158,7 @@ body_fault-is : (V C : ℕ) (body : List Token) (t : Token) → body_fault V C b
 body_fault-is V C body header_end = refl
 body_fault-is V C body (word text) = refl
 
-same-fault : (s : State) (before : List Token) (t : Token) → Knows s before → fault_at before t ≡ fault_in s t
+same-fault : (s : ReaderState) (before : List Token) (t : Token) → Knows s before → fault_at before t ≡ fault_in s t
 same-fault at_p before t k = ap (λ (b : List Token). fault_at b t) k
 same-fault at_cnf before t k = ap (λ (b : List Token). fault_at b t) k.are
 same-fault at_vars before t k = ap (λ (b : List Token). fault_at b t) k.are
@@ -174,7 +174,7 @@ same-fault (at_body V C cs part) before t k =
 abbrev end_fault : Bool → ReadFault
 end_fault b = if b then clause_not_ended else too_few_clauses
 
-same-end : (s : State) (before : List Token) (end : Place) → Knows s before → at_end s before end ≡ ends_in s end
+same-end : (s : ReaderState) (before : List Token) (end : Place) → Knows s before → at_end s before end ≡ ends_in s end
 same-end at_p before end k = ap (λ (b : List Token). refusal (fault_at_end b) end) k
 same-end at_cnf before end k = ap (λ (b : List Token). refusal (fault_at_end b) end) k.are
 same-end at_vars before end k = ap (λ (b : List Token). refusal (fault_at_end b) end) k.are
@@ -185,11 +185,11 @@ same-end (at_body V C cs []) before end k =
     (ap (λ (b : List Token). refusal (fault_at_end b) end) k.are ∙ ap (λ (b : Bool). refusal (end_fault b) end) k.begun)
 same-end (at_body V C cs (l ∷ part)) before end k = ap (λ (b : List Token). refusal (fault_at_end b) end) k.are ∙ ap (λ (b : Bool). refusal (end_fault b) end) k.begun
 
-run-read : (s : State) (before : List Token) (ts : List Placed) (end : Place) → Knows s before → read_on s before ts end ≡ run s ts end
+run-read : (s : ReaderState) (before : List Token) (ts : List Placed) (end : Place) → Knows s before → read_on s before ts end ≡ run s ts end
 run-read s before [] end k = same-end s before end k
 run-read s before (t ∷ ts) end k = go (step s t.token) refl (λ next. run-read next (before ++ t.token ∷ []) ts end)
   where
-    go : (o : Option State) → step s t.token ≡ o → ((next : State) → Knows next (before ++ t.token ∷ []) → read_on next (before ++ t.token ∷ []) ts end ≡ run next ts end)
+    go : (o : Option ReaderState) → step s t.token ≡ o → ((next : ReaderState) → Knows next (before ++ t.token ∷ []) → read_on next (before ++ t.token ∷ []) ts end ≡ run next ts end)
         → ◌≡◌ {A = Reading} (elim o [ Some next ↦ read_on next (before ++ t.token ∷ []) ts end | None ↦ refusal (fault_at before t.token) t.place ])
         (elim o [ Some next ↦ run next ts end | None ↦ refusal (fault_in s t.token) t.place ])
     go (Some next) e more = more next (knows-step s next before t.token k e)
@@ -199,11 +199,11 @@ pub reading_of-read : (bytes : List ℕ) → read bytes ≡ reading_of bytes
 reading_of-read bytes = run-read at_p [] (tokens_of bytes) (end_of bytes) refl
 
 -- one step
-abbrev after_step : State → Placed → List Placed → Place → Option State → Reading
+abbrev after_step : ReaderState → Placed → List Placed → Place → Option ReaderState → Reading
 after_step s t ts end o = elim o [ Some next ↦ run next ts end | None ↦ refusal (fault_in s t.token) t.place ]
 
-pub run-step : (s next : State) (t : Placed) (ts : List Placed) (end : Place) → step s t.token ≡ Some next → run s (t ∷ ts) end ≡ run next ts end
+pub run-step : (s next : ReaderState) (t : Placed) (ts : List Placed) (end : Place) → step s t.token ≡ Some next → run s (t ∷ ts) end ≡ run next ts end
 run-step s next t ts end e = ap (after_step s t ts end) e
 
-pub run-fault : (s : State) (t : Placed) (ts : List Placed) (end : Place) → step s t.token ≡ None → run s (t ∷ ts) end ≡ refusal (fault_in s t.token) t.place
+pub run-fault : (s : ReaderState) (t : Placed) (ts : List Placed) (end : Place) → step s t.token ≡ None → run s (t ∷ ts) end ≡ refusal (fault_in s t.token) t.place
 run-fault s t ts end e = ap (after_step s t ts end) e

@@ -4,10 +4,10 @@ use Rattle.theory.specs.Literals.{Clause}
 use Rattle.theory.specs.Tokens.{Place}
 use Rattle.theory.specs.Reading.{max_bytes, end_of, clause_not_ended, too_few_clauses, Placed, Reading, formula, refusal, Reads}
 use Rattle.theory.proofs.ReadingLemmas.{read-Reads}
-use Rattle.theory.proofs.ReadingMachine.{State, at_body}
+use Rattle.theory.proofs.ReadingMachine.{ReaderState, at_body}
 use Rattle.cnf.specs.declared.fault.ReadFault.{ReadFault}
 use Rattle.cnf.specs.Faults.{IsRefusal}
-use Rattle.cnf.specs.Machine.{Takes, Refuses, run, ends_in, reads_from, reading_of}
+use Rattle.cnf.specs.Machine.{TakesToken, Refuses, run, ends_in, reads_from, reading_of}
 use Rattle.cnf.specs.Tokens.{behind_header, is_word_byte, place_at, tokens_left}
 use Rattle.cnf.specs.Words.{IsWordAt, word_at}
 use Rattle.cnf.proofs.LeftTokens.{tokens_left-word, tokens_left-end}
@@ -45,11 +45,11 @@ module _ (V C : ℕ) (cs : List Clause) (part : Clause) (bytes : List ℕ) (shor
   Reads-whole h n = reading-Reads bytes (formula (record { vars = V; clauses = cs })) short (all ∙ whole V C cs part (end_of bytes) h n)
 
 -- a word behind the header
-module _ (s : State) (bytes : List ℕ) (i j : ℕ) (so_far : reading_of bytes ≡ reads_from s behind_header bytes i) (w : IsWordAt bytes i j) (within : j ≤ length bytes) (end : j < length bytes → is_word_byte (get_or bytes j 0) ≡ false) where
+module _ (s : ReaderState) (bytes : List ℕ) (i j : ℕ) (so_far : reading_of bytes ≡ reads_from s behind_header bytes i) (w : IsWordAt bytes i j) (within : j ≤ length bytes) (end : j < length bytes → is_word_byte (get_or bytes j 0) ≡ false) where
   here : reading_of bytes ≡ run s (word_at bytes i j ∷ tokens_left behind_header bytes j) (end_of bytes)
   here = so_far ∙ ap (λ (ts : List Placed). run s ts (end_of bytes)) (tokens_left-word behind_header bytes i j w within end)
 
-  pub taken : (next : State) (k : ℕ) → Takes s (word_at bytes i j) next → tokens_left behind_header bytes k ≡ tokens_left behind_header bytes j → reading_of bytes ≡ reads_from next behind_header bytes k
+  pub taken : (next : ReaderState) (k : ℕ) → TakesToken s (word_at bytes i j) next → tokens_left behind_header bytes k ≡ tokens_left behind_header bytes j → reading_of bytes ≡ reads_from next behind_header bytes k
   taken next k t e =
       here ∙ run-step s next (word_at bytes i j) (tokens_left behind_header bytes j) (end_of bytes) t.step_is ∙ ap (λ (ts : List Placed). run next ts (end_of bytes)) (sym e)
 
@@ -58,5 +58,5 @@ module _ (s : State) (bytes : List ℕ) (i j : ℕ) (so_far : reading_of bytes �
       IsRefusal-weaker (Refuses s (word_at bytes i j)) (Reads bytes) e
       (λ r f. reading-Reads bytes r short (here ∙ run-fault s (word_at bytes i j) (tokens_left behind_header bytes j) (end_of bytes) f.none ∙ sym f.is)) h
 
-pub at_text_end : (s : State) (bytes : List ℕ) (i : ℕ) → length bytes ≤ i → reading_of bytes ≡ reads_from s behind_header bytes i → reading_of bytes ≡ run s [] (end_of bytes)
+pub at_text_end : (s : ReaderState) (bytes : List ℕ) (i : ℕ) → length bytes ≤ i → reading_of bytes ≡ reads_from s behind_header bytes i → reading_of bytes ≡ run s [] (end_of bytes)
 at_text_end s bytes i past e = e ∙ ap (λ (ts : List Placed). run s ts (end_of bytes)) (tokens_left-end behind_header bytes i past (λ x. cc))

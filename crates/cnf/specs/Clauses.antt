@@ -1,7 +1,7 @@
 -- What the clauses read so far are to the machine.
 use Rattle.std.specs.Prelude.{map}
-use Rattle.theory.proofs.ReadingMachine.{State, at_body}
+use Rattle.theory.proofs.ReadingMachine.{ReaderState, at_body}
 use Rattle.cnf.specs.declared.clauses.Clauses.{Clauses}
 
-abbrev pub state_of : Clauses → State
+abbrev pub state_of : Clauses → ReaderState
 state_of c = at_body c.vars c.wanted (map (λ v. v.items) c.whole.items) c.begun.items

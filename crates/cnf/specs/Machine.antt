@@ -3,7 +3,7 @@ use Rattle.std.specs.Prelude.{◌≡◌, ℕ, List, [], ◌∷◌, length, Optio
 use Rattle.theory.specs.Tokens.{Place, is_text, is_number_text, size_of}
 use Rattle.theory.specs.Reading.{Token, word, header_end, Placed, ReadFault, no_header, bad_header, second_header, bad_number, variable_out_of_range, too_many_clauses, too_few_clauses, clause_not_ended, over_limit, header_number_fault, Reading, formula, refusal, tokens_of, end_of, max_vars, max_clauses}
 use Rattle.cnf.specs.Tokens.{Part, tokens_left}
-use Rattle.theory.proofs.ReadingMachine.{State, at_p, at_cnf, at_vars, at_clauses, at_header_end, at_body, step}
+use Rattle.theory.proofs.ReadingMachine.{ReaderState, at_p, at_cnf, at_vars, at_clauses, at_header_end, at_body, step}
 
 -- the fault of a token behind the header V C and n clauses
 abbrev pub clause_fault : ℕ → ℕ → ℕ → Token → ReadFault
@@ -16,7 +16,7 @@ clause_fault V C n (word text) =
     else over_limit
 
 -- the fault of a token that can't stand in a state
-abbrev pub fault_in : State → Token → ReadFault
+abbrev pub fault_in : ReaderState → Token → ReadFault
 fault_in at_p t = no_header
 fault_in at_cnf t = bad_header
 fault_in at_vars t = header_number_fault t
@@ -25,27 +25,27 @@ fault_in (at_header_end V C) t = bad_header
 fault_in (at_body V C cs part) t = clause_fault V C (length cs) t
 
 -- what a text is read as that ends in a state
-abbrev pub ends_in : State → Place → Reading
+abbrev pub ends_in : ReaderState → Place → Reading
 ends_in (at_body V C cs []) end = if nat_eq (length cs) C then formula (record { vars = V; clauses = cs }) else refusal too_few_clauses end
 ends_in (at_body V C cs (l ∷ part)) end = refusal clause_not_ended end
 ends_in s end = refusal no_header end
 
 -- what a text is read as whose tokens from a state on are these
-abbrev pub run : State → List Placed → Place → Reading
+abbrev pub run : ReaderState → List Placed → Place → Reading
 run s [] end = ends_in s end
 run s (t ∷ ts) end = elim (step s t.token) [ Some next ↦ run next ts end | None ↦ refusal (fault_in s t.token) t.place ]
 
 -- a state goes on with a token
-pub record Takes (s : State) (t : Placed) (next : State) : Type 0 where
+pub record TakesToken (s : ReaderState) (t : Placed) (next : ReaderState) : Type 0 where
   pub step_is : step s t.token ≡ Some next
 
 -- a state can't go on with a token, so a text is read as its refusal
-pub record Refuses (s : State) (t : Placed) (r : Reading) : Type 0 where
+pub record Refuses (s : ReaderState) (t : Placed) (r : Reading) : Type 0 where
   pub none : step s t.token ≡ None
   pub is : r ≡ refusal (fault_in s t.token) t.place
 
 -- what a text is read as, where the machine is in a state and stands at the byte i
-abbrev pub reads_from : State → Part → List ℕ → ℕ → Reading
+abbrev pub reads_from : ReaderState → Part → List ℕ → ℕ → Reading
 reads_from s part bytes i = run s (tokens_left part bytes i) (end_of bytes)
 
 -- what a text is read as
@@ -57,10 +57,10 @@ abbrev pub number_limit : Option ℕ → ℕ
 number_limit None = max_vars
 number_limit (Some V) = max_clauses
 
-abbrev pub at_number : Option ℕ → State
+abbrev pub at_number : Option ℕ → ReaderState
 at_number None = at_vars
 at_number (Some V) = at_clauses V
 
-abbrev pub behind_number : Option ℕ → ℕ → State
+abbrev pub behind_number : Option ℕ → ℕ → ReaderState
 behind_number None n = at_clauses n
 behind_number (Some V) n = at_header_end V n

@@ -5,7 +5,7 @@ ghost use Rattle.theory.proofs.ReadingMachine.{at_body};
 ghost use Rattle.cnf.specs.Faults.{IsRefusal, IsReadAs};
 ghost use Rattle.cnf.specs.Tokens.{behind_header};
 ghost use Rattle.cnf.specs.Words.{word_at, IsWordAt, IsNumberOf};
-ghost use Rattle.cnf.specs.Machine.{Takes, Refuses, run, reads_from, reading_of};
+ghost use Rattle.cnf.specs.Machine.{TakesToken, Refuses, run, reads_from, reading_of};
 
 use crate::fault::ReadFault;
 use crate::formula::Formula;
@@ -89,7 +89,7 @@ impl Clauses {
         Ok(())
     }
 
-    /// Takes the word that begins at `start`, and which is this number or none.
+    /// TakesToken the word that begins at `start`, and which is this number or none.
     #[inline]
     fn take(
         &mut self,
@@ -102,7 +102,7 @@ impl Clauses {
         requires within { number.now.end ≤ length bytes.now }
         requires number { IsNumberOf (slice_range bytes.now start number.now.end) number.now.natural number.now.negative number.now.size }
         ensures { MatchResult result
-            (λ _. Takes (state_of self.old) (word_at bytes.now start number.now.end) (state_of self.new))
+            (λ _. TakesToken (state_of self.old) (word_at bytes.now start number.now.end) (state_of self.new))
             (IsRefusal (Refuses (state_of self.old) (word_at bytes.now start number.now.end))) }
     {
         if !number.natural && !number.negative {

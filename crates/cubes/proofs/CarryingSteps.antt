@@ -17,7 +17,6 @@ use Rattle.theory.proofs.Joining.{joined-empty}
 use Rattle.theory.proofs.RoundEnds.{only_calls}
 use Rattle.theory.proofs.SplitSoundness.{exhausted-free}
 use Rattle.theory.proofs.DistinctLiterals.{length-distinct}
-use Rattle.theory.proofs.TrailEntries.{are_distinct-cube}
 use Rattle.theory.proofs.OverVariables.{AreOver-from_IsOver}
 use Rattle.cubes.specs.declared.solved.Solved.{Solved}
 use Rattle.cubes.specs.declared.hands.Ending.TheVariants as ending
@@ -43,7 +42,7 @@ module _ (F : Formula) (B : ℕ) (H : List Literal) where
 
     pub path-short : IsOver F.vars H → IsCube Q → length (drop (length H) Q) < F.vars + 1
     path-short over cube =
-        let most = length-distinct F.vars Q (are_distinct-cube Q cube) (AreOver-from_IsOver F.vars Q (carried-over over)) in
+        let most = length-distinct F.vars Q cube (AreOver-from_IsOver F.vars Q (carried-over over)) in
         let cut = length-drop (length H) Q in
         omega arith
 

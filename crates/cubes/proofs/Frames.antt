@@ -1,10 +1,9 @@
 -- How a cube was reached from the root: the splits on the way, and of those whose right half it lies in, the left subtree.
 use Rattle.std.proofs.Common.{◌≡◌, ℕ, ◌<◌, ◌≤◌, length, length-append, arith, true, false, List, [], ◌∷◌, ◌++◌, Option, Some, None, refl, sym, subst, append_assoc}
-use Rattle.theory.specs.Literals.{Literal, IsVariable, has_var, positive, negative}
+use Rattle.theory.specs.Literals.{Literal, IsVariable, has_var, positive, negative, are_distinct}
 use Rattle.theory.specs.Truth.{Formula, Assignment, IsOver}
 use Rattle.theory.specs.Search.{Runs, exhausted, model}
 use Rattle.theory.specs.Trees.{Tree, split, IsTree, first_model, IsFirstLeaf, here, on_left, on_right, Node, split_on, nodes_of, false_half, true_half}
-use Rattle.theory.specs.Lawful.{are_distinct}
 use Rattle.theory.proofs.OverVariables.{AreOver, AreOver-snoc, IsOver-from_AreOver, AreOver-from_IsOver}
 use Rattle.theory.proofs.DistinctLiterals.{length-distinct}
 use Rattle.theory.proofs.TrailEntries.{are_distinct-push}

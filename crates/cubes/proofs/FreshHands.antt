@@ -13,7 +13,7 @@ use Rattle.pool.specs.Hands.{HandView, SameHand}
 use Rattle.pool.specs.Pools.{PoolView, AreNew, AreAllOf, IsHandOf, new_ledger, new_hand, roots_of}
 use Rattle.cubes.specs.declared.hands.Worked.{Worked}
 use Rattle.cubes.specs.Solved.{solved_of}
-use Rattle.cubes.specs.Shares.{AreInOrder, HasDone}
+use Rattle.cubes.specs.Shares.{AreNumbered, HasDone}
 
 none-got : (n : ℕ) → all_got (new_ledger n) ≡ []
 none-got zero = refl
@@ -71,7 +71,7 @@ module _ (F : Formula) (B : ℕ) (pool : PoolView) (hands : List HandView) (work
       let at = at_place place w.hand w here.0 in
       subst (λ v. SameHand (new_hand pool F.vars new.deques place) v.hand) (here.1 w) (subst (λ g. SameHand g (slice_index_or works place w).hand) at.0 at.1.0)
 
-  pub home-in_order : AreInOrder works
+  pub home-in_order : AreNumbered works
   home-in_order place w h = (at_work place w h).0
 
   pub home-all : AreAllOf pool (map (λ (w : Worked). w.hand) works)

@@ -14,7 +14,7 @@ use Rattle.pool.specs.Hands.{HandView}
 use Rattle.pool.specs.Pools.{AreLedgersOf}
 use Rattle.cubes.specs.declared.hands.Worked.{Worked}
 use Rattle.cubes.specs.Solved.{solved_of}
-use Rattle.cubes.specs.Shares.{share_of, AreInOrder}
+use Rattle.cubes.specs.Shares.{share_of, AreNumbered}
 
 shares-ledgers : (works : List Worked) → ledgers_of (map share_of works) ≡ map (λ (h : HandView). h.ledger) (map (λ (w : Worked). w.hand) works)
 shares-ledgers [] = refl
@@ -29,7 +29,7 @@ slice_get-mapped f [] k x h = absurd (cc)
 slice_get-mapped f (y ∷ xs) zero x h = let e : y ≡ x = cc in ap (λ a. Some (f a)) e
 slice_get-mapped f (y ∷ xs) (suc k) x h = slice_get-mapped f xs k x h
 
-ledgers-in_order : (works : List Worked) → AreInOrder works → AreLedgersOf (map (λ (w : Worked). w.hand) works) (map (λ (h : HandView). h.ledger) (map (λ (w : Worked). w.hand) works))
+ledgers-in_order : (works : List Worked) → AreNumbered works → AreLedgersOf (map (λ (w : Worked). w.hand) works) (map (λ (h : HandView). h.ledger) (map (λ (w : Worked). w.hand) works))
 ledgers-in_order works ordered = record {
   as_many = length-map (map (λ (w : Worked). w.hand) works) (λ (h : HandView). h.ledger);
   each = λ place h e. at place h e (slice_get-map (λ (w : Worked). w.hand) works place h e);
@@ -50,7 +50,7 @@ none-short F B (w ∷ works) all long =
     (All-head (λ (v : Worked). IsWork F B v.short_of_memory v.hand.ledger (map solved_of v.solved.items)) w works all))
     (none-short F B works (All-tail (λ (v : Worked). IsWork F B v.short_of_memory v.hand.ledger (map solved_of v.solved.items)) w works all) (All-tail (λ (v : Worked). v.short_of_memory ≡ false) w works long))
 
-pub closed-from : (F : Formula) (B : ℕ) (works : List Worked) (hands : List HandView) (root : List Literal) (left : List (List Literal)) (least : Option ℕ) (undone : ℕ) → 1 ≤ length works → AreInOrder works
+pub closed-from : (F : Formula) (B : ℕ) (works : List Worked) (hands : List HandView) (root : List Literal) (left : List (List Literal)) (least : Option ℕ) (undone : ℕ) → 1 ≤ length works → AreNumbered works
     → All (λ w. IsWork F B w.short_of_memory w.hand.ledger (map solved_of w.solved.items)) works → All (λ w. w.short_of_memory ≡ false) works → hands ≡ map (λ (w : Worked). w.hand) works → root ≡ []
     → ((ledgers : List Ledger) → AreLedgersOf hands ledgers → IsAllOnce root ledgers left) → ((ledgers : List Ledger) → AreLedgersOf hands ledgers → IsInOrder ledgers least undone) → length left < 2 ^ 64
     → IsClosed F B (map share_of works) left least undone

@@ -13,11 +13,11 @@ use Rattle.cubes.specs.declared.tree.Tree.{Tree}
 use Rattle.cubes.specs.declared.tree.Tree.TheVariants as tree
 use Rattle.cubes.specs.declared.walk.Walk.{Walk}
 use Rattle.cubes.specs.Result.{IsResultOf, Says}
-use Rattle.cubes.specs.Walk.{nodes_of, CanGoOn, GoesRight, GoesOn}
+use Rattle.cubes.specs.Walk.{nodes_of, CanSplit, GoesRight, GoesOnWith}
 use Rattle.cubes.proofs.Frames.{IsReached, IsReached-left, IsReached-leaf, IsReached-next}
 use Rattle.cubes.proofs.Remaining.{left_from, left_from-half, left_from-next}
 
-pub can_go_on : (F : Formula) (B : ℕ) (w : Walk) (o : Outcome) → F.vars < 2 ^ 31 → Runs F B w.cube (outcome_of o) → CanGoOn w o
+pub can_go_on : (F : Formula) (B : ℕ) (w : Walk) (o : Outcome) → F.vars < 2 ^ 31 → Runs F B w.cube (outcome_of o) → CanSplit w o
 can_go_on F B w (outcome.Model values) few runs = tt
 can_go_on F B w (outcome.Refuted found_lines) few runs = tt
 can_go_on F B w (outcome.Exhausted x) few runs = let free = exhausted-free F B w.cube x runs in let high = free.0.1 in (free.0.0, omega arith, free.1)
@@ -27,7 +27,7 @@ abbrev pub ComesTo : Formula → ℕ → Option Tree → Walk → Type 0
 ComesTo F B None v = IsReached F B v.cube (nodes_of v)
 ComesTo F B (Some t) v = IsResultOf F B t
 
-pub comes_to : (F : Formula) (B : ℕ) (w v : Walk) (o : Outcome) (found : Option Tree) → IsReached F B w.cube (nodes_of w) → Runs F B w.cube (outcome_of o) → GoesOn w o found v → ComesTo F B found v
+pub comes_to : (F : Formula) (B : ℕ) (w v : Walk) (o : Outcome) (found : Option Tree) → IsReached F B w.cube (nodes_of w) → Runs F B w.cube (outcome_of o) → GoesOnWith w o found v → ComesTo F B found v
 comes_to F B w v (outcome.Model values) found r runs goes = subst (λ t. ComesTo F B t v) (sym goes) (IsReached-leaf F B w.cube (nodes_of w) values.items r runs)
 comes_to F B w v (outcome.Exhausted x) found r runs goes =
     rw (goes.0, goes.1, goes.2) (IsReached-left F B w.cube (nodes_of w) x r runs (exhausted-free F B w.cube x runs))
@@ -44,7 +44,7 @@ comes_to F B w v (outcome.Refuted found_lines) found r runs goes = right found g
     right (Some (tree.Model values)) h = absurd h
 
 -- fewer cubes are left, where no cube has more than n literals
-pub fewer : (n : ℕ) (w v : Walk) (o : Outcome) → length w.cube < n → GoesOn w o None v → left_from n v.cube < left_from n w.cube
+pub fewer : (n : ℕ) (w v : Walk) (o : Outcome) → length w.cube < n → GoesOnWith w o None v → left_from n v.cube < left_from n w.cube
 fewer n w v (outcome.Model values) short goes = absurd (let e : ◌≡◌ {A = Option Tree} None (Some (tree.Model values)) = goes in cc)
 fewer n w v (outcome.Exhausted x) short goes = rw goes.1 (left_from-half n w.cube x short)
 fewer n w v (outcome.Refuted found_lines) short goes = left_from-next n w.cube v.cube (omega arith) goes.0

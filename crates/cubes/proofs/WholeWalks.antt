@@ -22,7 +22,7 @@ use Rattle.cubes.specs.declared.tree.Tree.{Tree}
 use Rattle.cubes.specs.declared.tree.Tree.TheVariants as tree
 use Rattle.cubes.specs.declared.walk.Walk.{Walk}
 use Rattle.cubes.specs.Known.{AreKnown, known_of}
-use Rattle.cubes.specs.Walk.{nodes_of, GoesOn}
+use Rattle.cubes.specs.Walk.{nodes_of, GoesOnWith}
 use Rattle.cubes.proofs.KnownLemmas.{AreOutcomes-known}
 use Rattle.cubes.proofs.Frames.{Frame, half, cube_at, IsLeft, AreReached, IsReached}
 
@@ -121,12 +121,12 @@ reached-in F B rs Q nodes whole r =
     (o.0, outcome_in-result rs Q o.0 o.1)
 
 -- the walk goes on to a cube that comes later
-pub goes_later : (w v : Walk) (o : Outcome) → GoesOn w o None v → (R : List Literal) → comes_first R w.cube ≡ true → comes_first R v.cube ≡ true
+pub goes_later : (w v : Walk) (o : Outcome) → GoesOnWith w o None v → (R : List Literal) → comes_first R w.cube ≡ true → comes_first R v.cube ≡ true
 goes_later w v (outcome.Model values) goes R h = absurd (let e : ◌≡◌ {A = Option Tree} None (Some (tree.Model values)) = goes in cc)
 goes_later w v (outcome.Exhausted x) goes R h = rw goes.1 (comes_first-half R w.cube (negative x) h)
 goes_later w v (outcome.Refuted lines) goes R h = comes_first-next R w.cube v.cube goes.0 h
 
-pub goes_behind : (w v : Walk) (o : Outcome) → GoesOn w o None v → comes_first w.cube v.cube ≡ true
+pub goes_behind : (w v : Walk) (o : Outcome) → GoesOnWith w o None v → comes_first w.cube v.cube ≡ true
 goes_behind w v (outcome.Model values) goes = absurd (let e : ◌≡◌ {A = Option Tree} None (Some (tree.Model values)) = goes in cc)
 goes_behind w v (outcome.Exhausted x) goes = rw goes.1 (comes_first-own_half w.cube (negative x))
 goes_behind w v (outcome.Refuted lines) goes = comes_first-own_next w.cube v.cube goes.0
@@ -135,7 +135,7 @@ goes_behind w v (outcome.Refuted lines) goes = comes_first-own_next w.cube v.cub
 abbrev pub AreStillThere : Known → Known → List Literal → Type 0
 AreStillThere first now Q = (R : List Literal) → AreOfVariables R → comes_first R Q ≡ false → known_of now R ≡ known_of first R
 
-pub AreStillThere-on : (first now later : Known) (w v : Walk) (o : Outcome) → GoesOn w o None v
+pub AreStillThere-on : (first now later : Known) (w v : Walk) (o : Outcome) → GoesOnWith w o None v
     → ((R : List Literal) → AreOfVariables R → R ≢ w.cube → known_of later R ≡ known_of now R) → AreStillThere first now w.cube → AreStillThere first later v.cube
 AreStillThere-on first now later w v o goes others still R named h =
     others R named (λ e. let own : comes_first R v.cube ≡ true = subst (λ T. comes_first T v.cube ≡ true) (sym e) (goes_behind w v o goes) in absurd (cc)) ∙ still R named (go (comes_first R w.cube) refl)

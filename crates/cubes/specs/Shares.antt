@@ -11,8 +11,8 @@ abbrev pub share_of : Worked → Share
 share_of w = record { ledger = w.hand.ledger; results = map solved_of w.solved.items }
 
 -- the hands stand in the order of their numbers
-abbrev pub AreInOrder : List Worked → Type 0
-AreInOrder works = (place : ℕ) (w : Worked) → slice_get works place ≡ Some w → w.hand.number ≡ place
+abbrev pub AreNumbered : List Worked → Type 0
+AreNumbered works = (place : ℕ) (w : Worked) → slice_get works place ≡ Some w → w.hand.number ≡ place
 
 -- the hand has done its work, from the ledger that it had
 abbrev pub HasDone : Formula → ℕ → HandView → Worked → Type 0

@@ -15,5 +15,5 @@ abbrev pub solved_of : Solved → results.Solved
 solved_of s = record { cube = s.cube; what = what_of s.what }
 
 -- each result is true: an outcome is its cube's, and of a cube that was skipped nothing is said
-abbrev pub AreTrue : truth.Formula → ℕ → List Solved → Type 0
-AreTrue F B rs = All (λ s. results.IsTrueOf F B s.cube (what_of s.what)) rs
+abbrev pub AreTrueResults : truth.Formula → ℕ → List Solved → Type 0
+AreTrueResults F B rs = All (λ s. results.IsTrueOf F B s.cube (what_of s.what)) rs

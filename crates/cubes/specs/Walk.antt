@@ -15,9 +15,9 @@ abbrev pub nodes_of : Walk → List trees.Node
 nodes_of w = map node_of w.nodes.items
 
 -- a cube is split on a variable that isn't in it
-abbrev pub CanGoOn : Walk → Outcome → Type 0
-CanGoOn w (outcome.Exhausted x) = (1 ≤ x) × (x < 2 ^ 31) × (has_var w.cube x ≡ false)
-CanGoOn w o = Unit {0}
+abbrev pub CanSplit : Walk → Outcome → Type 0
+CanSplit w (outcome.Exhausted x) = (1 ≤ x) × (x < 2 ^ 31) × (has_var w.cube x ≡ false)
+CanSplit w o = Unit {0}
 
 -- behind a refuted cube: the next cube, or none, and then the tree is done
 abbrev pub GoesRight : Walk → List trees.Node → Option Tree → Walk → Type 0
@@ -26,7 +26,7 @@ GoesRight w nodes (Some (tree.Refuted all)) v = (next_cube w.cube ≡ None) × (
 GoesRight w nodes (Some (tree.Model values)) v = ⊥
 
 -- from a cube of this outcome on
-abbrev pub GoesOn : Walk → Outcome → Option Tree → Walk → Type 0
-GoesOn w (outcome.Model values) found v = found ≡ Some (tree.Model values)
-GoesOn w (outcome.Exhausted x) found v = (found ≡ None) × (v.cube ≡ false_half w.cube x) × (nodes_of v ≡ nodes_of w ++ trees.split_on x ∷ [])
-GoesOn w (outcome.Refuted refutation) found v = GoesRight w (nodes_of w ++ trees.refuted_leaf refutation.lines.items ∷ []) found v
+abbrev pub GoesOnWith : Walk → Outcome → Option Tree → Walk → Type 0
+GoesOnWith w (outcome.Model values) found v = found ≡ Some (tree.Model values)
+GoesOnWith w (outcome.Exhausted x) found v = (found ≡ None) × (v.cube ≡ false_half w.cube x) × (nodes_of v ≡ nodes_of w ++ trees.split_on x ∷ [])
+GoesOnWith w (outcome.Refuted refutation) found v = GoesRight w (nodes_of w ++ trees.refuted_leaf refutation.lines.items ∷ []) found v

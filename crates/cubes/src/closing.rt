@@ -8,7 +8,7 @@ ghost use Rattle.theory.specs.Work.{IsWork};
 ghost use Rattle.theory.specs.Results.{IsWhole};
 ghost use Rattle.pool.specs.Pools.{AreAllOf};
 ghost use Rattle.cubes.specs.Solved.{solved_of};
-ghost use Rattle.cubes.specs.Shares.{share_of, AreInOrder};
+ghost use Rattle.cubes.specs.Shares.{share_of, AreNumbered};
 
 use crate::hands::Worked;
 use crate::solved::Solved;
@@ -47,7 +47,7 @@ pub fn harvest(
 ) -> Result<Vec<Solved>, AllocError>
     requires pool { AreAllOf pool (map (λ w. w.hand) works.items) }
     requires some { 1 ≤ length works.items }
-    requires in_order { AreInOrder works.items }
+    requires in_order { AreNumbered works.items }
     requires root { pool.root ≡ [] }
     requires works { All (λ w. IsWork formula.now budget w.short_of_memory w.hand.ledger (map solved_of w.solved.items)) works.items }
     requires long { All (λ w. w.short_of_memory ≡ false) works.items }

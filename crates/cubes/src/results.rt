@@ -4,7 +4,7 @@ ghost use Rattle.theory.specs.Truth.{Formula, IsOver};
 ghost use Rattle.theory.specs.Search.{Runs};
 ghost use Rattle.theory.specs.Results.{OutcomeSays, IsWhole};
 ghost use Rattle.cdcl.specs.Outcome.{outcome_of};
-ghost use Rattle.cubes.specs.Solved.{AreTrue, solved_of};
+ghost use Rattle.cubes.specs.Solved.{AreTrueResults, solved_of};
 ghost use Rattle.cubes.specs.Source.{IsSource};
 ghost use Rattle.cubes.specs.Result.{IsResultOf, Says};
 
@@ -81,7 +81,7 @@ pub fn gather(
     results: Vec<Solved>,
 ) -> Result<Tree, AllocError>
     requires budget { (1 ≤ budget) × (budget ≤ 100000) }
-    requires results { AreTrue formula.now budget results.items }
+    requires results { AreTrueResults formula.now budget results.items }
     ensures result { IfOk result (λ t. IsResultOf formula.now budget t) }
     ensures says { IfOk result (λ t. Says formula.now t) }
 {

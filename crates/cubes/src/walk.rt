@@ -1,6 +1,6 @@
 //! Going through the cubes of a tree of splits, from left to right, wherever their outcomes come from.
 ghost use Rattle.std.specs.Prelude.{◌≡◌, [], IfOk};
-ghost use Rattle.cubes.specs.Walk.{CanGoOn, GoesOn, nodes_of};
+ghost use Rattle.cubes.specs.Walk.{CanSplit, GoesOnWith, nodes_of};
 
 use crate::next::go_right;
 use crate::tree::{Node, Tree};
@@ -31,8 +31,8 @@ impl Walk {
 
     /// Goes on from the cube, whose outcome this is, to the next one that is needed; or gives the result, where none is.
     pub(crate) fn go_on(&mut self, outcome: Outcome) -> Result<Option<Tree>, AllocError>
-        requires { CanGoOn self.old outcome }
-        ensures { IfOk result (λ found. GoesOn self.old outcome found self.new) }
+        requires { CanSplit self.old outcome }
+        ensures { IfOk result (λ found. GoesOnWith self.old outcome found self.new) }
     {
         match outcome {
             Outcome::Model(values) => Ok(Some(Tree::Model(values))),

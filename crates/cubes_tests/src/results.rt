@@ -1,6 +1,6 @@
 //! Results of cubes, and trees, as rows name them, with a budget of one conflict for the root.
 ghost use Rattle.std.specs.Prelude.{OnOk};
-ghost use Rattle.cubes.specs.Solved.{AreTrue};
+ghost use Rattle.cubes.specs.Solved.{AreTrueResults};
 
 use cdcl::{Outcome, Refutation, solve_cube};
 use cnf::Formula;
@@ -45,8 +45,8 @@ fn put_result(
     given: Given,
     results: &mut Vec<Solved>,
 ) -> Result<bool, AllocError>
-    requires { AreTrue formula.now 1 results.old.items }
-    ensures { OnOk result (AreTrue formula.now 1 results.new.items) }
+    requires { AreTrueResults formula.now 1 results.old.items }
+    ensures { OnOk result (AreTrueResults formula.now 1 results.new.items) }
 {
     let cube = cube_of(alloc, formula.vars(), numbers)?;
     if let Given::Skipped(place) = given {

@@ -2,7 +2,7 @@
 ghost use Rattle.std.specs.Prelude.{◌≡◌, ℕ, [], ◌++◌, take, IfOk, OnOk, MatchResult};
 ghost use Rattle.std.specs.Io.KnownBytes.{Appends};
 ghost use Rattle.theory.specs.Texts.{proof_text, step_text};
-ghost use Rattle.join.specs.Walking.{line_of, lines_left, IsLawful, OnMore};
+ghost use Rattle.join.specs.Walking.{line_of, lines_left, IsBetweenLines, OnMore};
 ghost use Rattle.cubesat.specs.Written.{Puts};
 
 use crate::fault::RunFault;
@@ -35,9 +35,9 @@ fn put_text(line: &ProofLine, buffer: &mut Vec<u8>) -> Result<(), AllocError>
 
 /// Puts the next line into the buffer; it answers whether there was one more.
 fn put_line(lines: &mut Lines, buffer: &mut Vec<u8>) -> Result<bool, AllocError>
-    requires { IsLawful lines.old }
+    requires { IsBetweenLines lines.old }
     ensures puts { IfOk result (λ more. Puts (lines_left lines.old) (lines_left lines.new) buffer.old.items buffer.new.items more) }
-    ensures lawful { IfOk result (λ more. OnMore (IsLawful lines.new) more) }
+    ensures lawful { IfOk result (λ more. OnMore (IsBetweenLines lines.new) more) }
 {
     if !lines.next_line()? {
         return Ok(false);
@@ -54,7 +54,7 @@ pub(crate) fn write_proof<W: Write>(
     buffer: &mut Vec<u8>,
 ) -> Result<(), RunFault>
     requires buffer { buffer.old.items ≡ [] }
-    requires lines { IsLawful lines.old }
+    requires lines { IsBetweenLines lines.old }
     ensures { MatchResult result (λ _. Appends (W.contents writer.old) (W.contents writer.new) (proof_text (lines_left lines.old)))
         (λ e. (e ≡ RunFault.ProofWriteFailed) × (count : ℕ) × Appends (W.contents writer.old) (W.contents writer.new) (take count (proof_text (lines_left lines.old)))) }
 {

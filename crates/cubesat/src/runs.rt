@@ -1,7 +1,7 @@
 //! A run without threads.
 ghost use Rattle.std.specs.Prelude.{◌≡◌, ◌≤◌, [], IfOk};
 ghost use Rattle.theory.specs.Texts.{proof_text};
-ghost use Rattle.join.specs.Walking.{lines_left, IsLawful};
+ghost use Rattle.join.specs.Walking.{lines_left, IsBetweenLines};
 ghost use Rattle.cubes.specs.Result.{IsResultOf, Says};
 ghost use Rattle.cubesat.specs.Answer.{IsRightAnswer};
 ghost use Rattle.cubesat.specs.Run.{AreTexts, RunSays};
@@ -61,7 +61,7 @@ pub(crate) fn output_of(
     requires result { IsResultOf formula.now budget tree }
     requires says { Says formula.now tree }
     ensures texts { IfOk result (λ o. AreTexts formula.now budget o.verdict (proof_text (lines_left o.lines)) o.answer.items) }
-    ensures lines { IfOk result (λ o. IsLawful o.lines) }
+    ensures lines { IfOk result (λ o. IsBetweenLines o.lines) }
     ensures buffer { IfOk result (λ o. o.buffer.items ≡ []) }
 {
     let _budget = budget; // it is there for the contract alone

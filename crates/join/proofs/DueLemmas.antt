@@ -16,7 +16,7 @@ use Rattle.join.specs.declared.line.ProofLine.{ProofLine}
 use Rattle.join.specs.declared.lines.Lines.{Lines}
 use Rattle.join.specs.Joining.{cube_of, literal_in}
 use Rattle.join.specs.Numbered.{numbers_due}
-use Rattle.join.specs.Walking.{IsLawful, Makes, line_of, lines_left, step_by, tree_left}
+use Rattle.join.specs.Walking.{IsBetweenLines, Makes, line_of, lines_left, step_by, tree_left}
 use Rattle.join.proofs.NumberLemmas.{IsStep-deletion}
 
 -- behind a half's last line there is a deletion, where there are numbers
@@ -34,14 +34,14 @@ numbers-deleted Addition n last c ns ids h = absurd (cc)
 numbers-deleted Deletion n last c ns ids h = ap ids_in h
 
 -- nothing is due any more
-kept-law : (old : Lines) (line : ProofLine) → IsLawful old → IsLawful (record old { due = Nothing; line = line })
+kept-law : (old : Lines) (line : ProofLine) → IsBetweenLines old → IsBetweenLines (record old { due = Nothing; line = line })
 kept-law old line keeps = record { walk = keeps.walk; fits = keeps.fits; due = tt; unit = keeps.unit; units = keeps.units }
 
 -- what is left of the lines, by what is due
 left-by : (l : Lines) (units : List Literal) → into_iter_items l.units ≡ units → lines_left l ≡ unit_steps l.unit units ++ (deletion (cube_of (reverse l.walk.halves.items)) (l.walk.next - 1) (numbers_due l.due l.walk.first (l.walk.next - 1)) ++ tree_left l.walk)
 left-by l units e = ap (λ us. unit_steps l.unit us ++ (deletion (cube_of (reverse l.walk.halves.items)) (l.walk.next - 1) (numbers_due l.due l.walk.first (l.walk.next - 1)) ++ tree_left l.walk)) e
 
-made-by : (old : Lines) (line : ProofLine) (ids : List ℕ) → IsLawful old → into_iter_items old.units ≡ [] → 0 < length old.walk.halves.items → ids ≡ numbers_due old.due old.walk.first (old.walk.next - 1)
+made-by : (old : Lines) (line : ProofLine) (ids : List ℕ) → IsBetweenLines old → into_iter_items old.units ≡ [] → 0 < length old.walk.halves.items → ids ≡ numbers_due old.due old.walk.first (old.walk.next - 1)
     → line_of line ≡ delete (record { id = old.walk.next - 1; ids = ids }) → All (λ n. (1 ≤ n) × (n < old.walk.next - 1)) ids → Makes old (record old { due = Nothing; line = line }) (not (nat_eq (length ids) 0))
 made-by old line [] keeps none some due is below = record {
   rest = ap (λ ids. unit_steps old.unit (into_iter_items old.units) ++ (deletion (cube_of (reverse old.walk.halves.items)) (old.walk.next - 1) ids ++ tree_left old.walk)) (sym due);
@@ -63,7 +63,7 @@ made-by old line (n ∷ ns) keeps none some due is below =
       lawful = kept-law old line keeps;
     })
 
-pub made-deletion : (old : Lines) (line : ProofLine) (count : ℕ) (empty : Bool) → IsLawful old → into_iter_items old.units ≡ [] → 0 < length old.walk.halves.items
+pub made-deletion : (old : Lines) (line : ProofLine) (count : ℕ) (empty : Bool) → IsBetweenLines old → into_iter_items old.units ≡ [] → 0 < length old.walk.halves.items
     → line_of line ≡ delete (record { id = old.walk.next - 1; ids = numbers_due old.due old.walk.first (old.walk.next - 1) }) → All (λ n. (1 ≤ n) × (n < old.walk.next - 1)) line.numbers.items
     → count ≡ length line.numbers.items → empty ≡ nat_eq count 0 → Makes old (record old { due = Nothing; line = line }) (not empty)
 made-deletion old line count empty keeps none some is below counted test =

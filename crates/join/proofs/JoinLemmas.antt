@@ -19,11 +19,11 @@ use Rattle.cubes.specs.declared.tree.Tree.{Tree}
 use Rattle.cubes.specs.declared.tree.Tree.TheVariants.{Model, Refuted}
 use Rattle.cubes.specs.Result.{node_of, IsResultOf}
 use Rattle.join.specs.declared.line.Due.TheVariants.{Nothing}
-use Rattle.join.specs.Joining.{State, lines_below, lines_from}
+use Rattle.join.specs.Joining.{Joined, lines_below, lines_from}
 use Rattle.join.specs.declared.lines.Lines.{Lines}
 use Rattle.join.specs.declared.walk.Walk.{Walk}
 use Rattle.join.specs.Numbered.{AreLines, AreNodes, AreNodesOf, AreUnitsOf, AreStepsOf, AreAccepted, AreWithin, IsHalf}
-use Rattle.join.specs.Walking.{IsAt, IsBegun, IsLawful, lines_left}
+use Rattle.join.specs.Walking.{IsAt, IsBegun, IsBetweenLines, lines_left}
 use Rattle.join.proofs.TreeLemmas.{tree-nodes}
 use Rattle.join.proofs.TreeSteps.{on_nodes-tree}
 use Rattle.join.proofs.WalkLemmas.{lines_from-root}
@@ -55,7 +55,7 @@ whole-proof F N t units nodes pure count none are =
     (lines_from-root N (N + 1) (N + 1) (map node_of nodes)
     ∙ (ap (λ ns. lines_below N (N + 1) [] ns) (sym are)
     ∙ (ap (λ n. lines_below n (n + 1) [] (trees.nodes_of t)) count
-    ∙ ap (λ (s : State). s.steps) (on_nodes-tree first t (record { halves = []; next = first + 1; steps = [] }) none))))
+    ∙ ap (λ (s : Joined). s.steps) (on_nodes-tree first t (record { halves = []; next = first + 1; steps = [] }) none))))
 
 pub begun-steps : (l : Lines) (F : Formula) (N : ℕ) (tree : Tree) (units : List Literal) (nodes : List Node) → l.unit ≡ length F.clauses + 1 → into_iter_items l.units ≡ units → l.due ≡ Nothing → IsBegun N nodes l.walk
     → N ≡ length F.clauses + length units → AreUnitsOf F tree units → AreNodesOf tree nodes → AreStepsOf F tree (lines_left l)
@@ -93,9 +93,9 @@ walk-begun w N nodes begun few are =
       nodes = rw (begun.nodes, begun.clauses) are;
     }
 
-pub IsLawful-begun : (l : Lines) (F : Formula) (B N : ℕ) (tree : Tree) (units : List Literal) (nodes : List Node) → IsWithinLimits F → l.unit ≡ length F.clauses + 1 → into_iter_items l.units ≡ units → l.due ≡ Nothing
-    → IsBegun N nodes l.walk → N ≡ length F.clauses + length units → AreUnitsOf F tree units → IsResultOf F B tree → AreNodesOf tree nodes → IsLawful l
-IsLawful-begun l F B N tree units nodes within unit here due begun count are result same =
+pub IsBetweenLines-begun : (l : Lines) (F : Formula) (B N : ℕ) (tree : Tree) (units : List Literal) (nodes : List Node) → IsWithinLimits F → l.unit ≡ length F.clauses + 1 → into_iter_items l.units ≡ units → l.due ≡ Nothing
+    → IsBegun N nodes l.walk → N ≡ length F.clauses + length units → AreUnitsOf F tree units → IsResultOf F B tree → AreNodesOf tree nodes → IsBetweenLines l
+IsBetweenLines-begun l F B N tree units nodes within unit here due begun count are result same =
     let few = few-units F tree units within are in
     let clauses = within.clauses in
     let next = begun.next in

@@ -4,7 +4,7 @@ use Rattle.std.proofs.lemmas.List.Elements.{All-nil, All-cons, All-push, All-app
 use Rattle.std.proofs.lemmas.List.{map-append}
 use Rattle.lrat.specs.declared.step.Step as steps
 use Rattle.lrat.specs.Steps.{step_of}
-use Rattle.theory.specs.Literals.{Literal, IsVariable, positive, negative, negated, negations}
+use Rattle.theory.specs.Literals.{Literal, IsVariable, positive, negative, negated, negations, are_distinct}
 use Rattle.theory.specs.Truth.{Formula, IsOver}
 use Rattle.theory.specs.Reading.{IsWithinLimits, max_vars}
 use Rattle.theory.specs.Learning.{Line}
@@ -18,11 +18,10 @@ use Rattle.theory.proofs.PreludeSteps.{IsStep-prelude}
 use Rattle.theory.proofs.PureVariables.{length-first_clauses, length-pure_literals}
 use Rattle.theory.proofs.DeletedNumbers.{numbers_from-All}
 use Rattle.theory.specs.ProofReading.{IsStep, IsNumber, max_number, max_proof_bytes}
-use Rattle.theory.specs.Lawful.{are_distinct}
 use Rattle.theory.proofs.AcceptedProofs.{or_else-none}
 use Rattle.theory.proofs.OutcomeLemmas.{Runs-says}
 use Rattle.theory.proofs.OverVariables.{AreOver, IsOver-from_AreOver, AreOver-snoc}
-use Rattle.theory.proofs.TrailEntries.{are_distinct-push, IsCube-distinct}
+use Rattle.theory.proofs.TrailEntries.{are_distinct-push}
 use Rattle.join.specs.Joining.{split_line, learnt_line}
 use Rattle.join.specs.Numbered.{AreUpTo, AreLines}
 use Rattle.join.proofs.NumberLemmas.{AreUpTo-renumbered, IsAddition-line}
@@ -100,13 +99,13 @@ tree-steps : (F : Formula) (B n : ℕ) (Q : List Literal) (t : Tree) → IsWithi
     → n + additions t ≤ max_number + 1 → All IsStep (tree_steps (length (first_clauses F)) n Q t) × (1 ≤ additions t)
 tree-steps F B n Q (satisfied M) within distinct over h none low fits = absurd (cc)
 tree-steps F B n Q (refutation lines) within distinct over h none low fits =
-    let are = refutation-lines F Q lines within (Runs-says F B Q (refuted lines) within.formula (IsCube-distinct Q distinct) (IsOver-from_AreOver F.vars Q over) h).1 in (
+    let are = refutation-lines F Q lines within (Runs-says F B Q (refuted lines) within.formula distinct (IsOver-from_AreOver F.vars Q over) h).1 in (
       refuted-steps (length (first_clauses F)) n Q lines low are.0 fits (IsOver-opposites F.vars Q within.vars (IsOver-from_AreOver F.vars Q over)) are.1,
       are.0,
     )
 tree-steps F B n Q (split x l r) within distinct over h none low fits =
     let both = or_else-none (first_model l) (first_model r) none in
-    let says = Runs-says F B Q (exhausted x) within.formula (IsCube-distinct Q distinct) (IsOver-from_AreOver F.vars Q over) h.0 in
+    let says = Runs-says F B Q (exhausted x) within.formula distinct (IsOver-from_AreOver F.vars Q over) h.0 in
     let left = tree-steps F B n (false_half Q x) l within (are_distinct-push Q (negative x) distinct says.1) (AreOver-snoc F.vars Q (negative x) over says.0) h.1 both.0 low (omega arith) in
     let right = tree-steps F B (n + additions l) (true_half Q x) r within (are_distinct-push Q (positive x) distinct says.1) (AreOver-snoc F.vars Q (positive x) over says.0) h.2 both.1 (omega arith) (omega arith) in
     let some = left.1 in

@@ -1,7 +1,7 @@
 -- The numbers and variables in a tree that is a formula's.
 use Rattle.std.proofs.Common.{◌≡◌, ℕ, ◌+◌, ◌<◌, ◌≤◌, true, List, [], ◌∷◌, ◌++◌, length, length-append, Option, Some, None, refl, ap, subst, ◌∙◌, arith}
 use Rattle.std.proofs.lemmas.List.Elements.{All-nil, All-cons, All-weaker}
-use Rattle.theory.specs.Literals.{Literal, Clause, IsVariable, positive, negative, negations}
+use Rattle.theory.specs.Literals.{Literal, Clause, IsVariable, positive, negative, negations, are_distinct}
 use Rattle.theory.specs.Truth.{Formula}
 use Rattle.theory.specs.Reading.{IsWithinLimits, max_vars}
 use Rattle.theory.specs.Learning.{Line}
@@ -11,8 +11,7 @@ use Rattle.theory.specs.Checking.{clause_of, Hint, missing, false_clause, not_un
 use Rattle.theory.specs.Replaying.{carrying_from, AreReplayed, AreRefutation}
 use Rattle.theory.proofs.OverVariables.{AreOver, IsOver-from_AreOver, AreOver-snoc, IsOver-left}
 use Rattle.theory.proofs.OutcomeLemmas.{Runs-says}
-use Rattle.theory.proofs.TrailEntries.{are_distinct-push, IsCube-distinct}
-use Rattle.theory.specs.Lawful.{are_distinct}
+use Rattle.theory.proofs.TrailEntries.{are_distinct-push}
 use Rattle.join.specs.Numbered.{AreUpTo, AreLines, AreNodes}
 use Rattle.theory.proofs.AcceptedSteps.{clause_of-carrying_within}
 
@@ -71,9 +70,9 @@ nodes-append N (n ∷ ns) ms h k = (h.0, nodes-append N ns ms h.1 k)
 pub tree-nodes : (F : Formula) (B : ℕ) (Q : List Literal) (t : Tree) → IsWithinLimits F → are_distinct Q ≡ true → AreOver F.vars Q → IsTree F B Q t → AreNodes (length (first_clauses F)) (nodes_of t)
 tree-nodes F B Q (satisfied M) within distinct over h = tt
 tree-nodes F B Q (refutation lines) within distinct over h =
-    (refutation-lines F Q lines within (Runs-says F B Q (refuted lines) within.formula (IsCube-distinct Q distinct) (IsOver-from_AreOver F.vars Q over) h).1, tt)
+    (refutation-lines F Q lines within (Runs-says F B Q (refuted lines) within.formula distinct (IsOver-from_AreOver F.vars Q over) h).1, tt)
 tree-nodes F B Q (split x l r) within distinct over h =
-    let says = Runs-says F B Q (exhausted x) within.formula (IsCube-distinct Q distinct) (IsOver-from_AreOver F.vars Q over) h.0 in
+    let says = Runs-says F B Q (exhausted x) within.formula distinct (IsOver-from_AreOver F.vars Q over) h.0 in
     let low = says.0.0 in
     let high = says.0.1 in
     let few = within.vars in (

@@ -8,11 +8,11 @@ use Rattle.theory.specs.Trees.{Node, split_on, refuted_leaf}
 use Rattle.theory.specs.Proofs.{leaf_steps, refuted_steps, split_steps, deletion, numbers_from}
 use Rattle.theory.proofs.DeletedNumbers.{deletion-none}
 use Rattle.join.specs.declared.line.Half.{Half}
-use Rattle.join.specs.Joining.{State, cube_of, climb, on_node, on_nodes, learnt_line, split_line, leaf_left, lines_below, lines_from, lines_entered}
+use Rattle.join.specs.Joining.{Joined, cube_of, climb, on_node, on_nodes, learnt_line, split_line, leaf_left, lines_below, lines_from, lines_entered}
 use Rattle.join.specs.Numbered.{numbers_due, due_behind}
 
 -- the same, with more lines before them
-abbrev behind : List Step → State → State
+abbrev behind : List Step → Joined → Joined
 behind S s = record { halves = s.halves; next = s.next; steps = S ++ s.steps }
 
 climb-behind : (hs : List Half) (n : ℕ) (S T : List Step) → climb hs n (S ++ T) ≡ behind S (climb hs n T)
@@ -26,7 +26,7 @@ climb-behind (h ∷ hs) n S T = go h.left (λ U. climb-behind hs (n + 1) S U)
     go (Some left) more =
         ap (climb hs (n + 1)) (append_assoc S T (split_steps n (cube_of hs) left (n - 1))) ∙ more (T ++ split_steps n (cube_of hs) left (n - 1))
 
-on_nodes-behind : (N : ℕ) (S : List Step) (s : State) (nodes : List Node) → on_nodes N (behind S s) nodes ≡ behind S (on_nodes N s nodes)
+on_nodes-behind : (N : ℕ) (S : List Step) (s : Joined) (nodes : List Node) → on_nodes N (behind S s) nodes ≡ behind S (on_nodes N s nodes)
 on_nodes-behind N S s [] = refl
 on_nodes-behind N S s (split_on x ∷ nodes) = on_nodes-behind N S (on_node N s (split_on x)) nodes
 on_nodes-behind N S s (refuted_leaf lines ∷ nodes) =
@@ -37,7 +37,7 @@ on_nodes-behind N S s (refuted_leaf lines ∷ nodes) =
 
 -- lines, and what follows them
 climbed : (N : ℕ) (hs : List Half) (n : ℕ) (S T : List Step) (nodes : List Node) → (on_nodes N (climb hs n (S ++ T)) nodes).steps ≡ S ++ (on_nodes N (climb hs n T) nodes).steps
-climbed N hs n S T nodes = ap (λ (s : State). s.steps) (ap (λ s. on_nodes N s nodes) (climb-behind hs n S T) ∙ on_nodes-behind N S (climb hs n T) nodes)
+climbed N hs n S T nodes = ap (λ (s : Joined). s.steps) (ap (λ s. on_nodes N s nodes) (climb-behind hs n S T) ∙ on_nodes-behind N S (climb hs n T) nodes)
 
 climbed-nil : (N : ℕ) (hs : List Half) (n m : ℕ) (S : List Step) (nodes : List Node) → n ≡ m → (on_nodes N (climb hs n S) nodes).steps ≡ S ++ (on_nodes N (climb hs m []) nodes).steps
 climbed-nil N hs n m S nodes e =

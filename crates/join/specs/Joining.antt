@@ -17,13 +17,13 @@ cube_of [] = []
 cube_of (h ∷ hs) = cube_of hs ++ literal_in h.var h.left ∷ []
 
 -- the splits on the way, the last one first; the number of the next line; and the lines so far
-pub record State : Type 0 where
+pub record Joined : Type 0 where
   pub halves : List Half
   pub next : ℕ
   pub steps : List Step
 
 -- what follows a subtree's last line: on to the half beside it, or, behind that, the line of their split, and so on
-abbrev pub climb : List Half → ℕ → List Step → State
+abbrev pub climb : List Half → ℕ → List Step → Joined
 climb [] n steps = record { halves = []; next = n; steps = steps }
 climb (h ∷ hs) n steps = elim h.left [
   | None ↦ record { halves = record { var = h.var; left = Some (n - 1) } ∷ hs; next = n; steps = steps }
@@ -31,11 +31,11 @@ climb (h ∷ hs) n steps = elim h.left [
 ]
 
 -- what follows a node, where N is the number of the clauses that a search begins with
-abbrev pub on_node : ℕ → State → trees.Node → State
+abbrev pub on_node : ℕ → Joined → trees.Node → Joined
 on_node N s (trees.split_on x) = record s { halves = record { var = x; left = None } ∷ s.halves }
 on_node N s (trees.refuted_leaf lines) = climb s.halves (s.next + length lines) (s.steps ++ refuted_steps N s.next (cube_of s.halves) lines)
 
-abbrev pub on_nodes : ℕ → State → List trees.Node → State
+abbrev pub on_nodes : ℕ → Joined → List trees.Node → Joined
 on_nodes N s [] = s
 on_nodes N s (n ∷ ns) = on_nodes N (on_node N s n) ns
 

@@ -65,7 +65,7 @@ pub record IsAt (w : Walk) (n : ℕ) : Type 0 where
   pub nodes : AreNodes w.clauses (map node_of (into_iter_items w.nodes))
 
 -- what is kept between two lines
-pub record IsLawful (l : Lines) : Type 0 where
+pub record IsBetweenLines (l : Lines) : Type 0 where
   pub walk : IsAt l.walk l.walk.next
   pub fits : l.walk.next ≤ max_number + 1
   pub due : IsDue l.due (l.walk.next - 1)
@@ -109,9 +109,9 @@ IsWithin w (Split left) = IsAt w (w.next + 1) × (1 ≤ left) × (left < w.next)
 IsWithin w End = Unit {0}
 
 -- whether there was one more line
-abbrev pub GoesOn : List Step → List Step → Step → Bool → Type 0
-GoesOn old new line true = old ≡ line ∷ new
-GoesOn old new line false = old ≡ []
+abbrev pub HasNextLine : List Step → List Step → Step → Bool → Type 0
+HasNextLine old new line true = old ≡ line ∷ new
+HasNextLine old new line false = old ≡ []
 
 abbrev pub OnMore : Type 0 → Bool → Type 0
 OnMore P true = P
@@ -121,12 +121,12 @@ OnMore P false = Unit {0}
 pub record IsMade (old new : Lines) : Type 0 where
   pub rest : lines_left old ≡ line_of new.line ∷ lines_left new
   pub within : IsStep (line_of new.line)
-  pub lawful : IsLawful new
+  pub lawful : IsBetweenLines new
 
 -- or there was none of its kind, and all are still to come
 pub record IsKept (old new : Lines) : Type 0 where
   pub rest : lines_left old ≡ lines_left new
-  pub lawful : IsLawful new
+  pub lawful : IsBetweenLines new
 
 abbrev pub Makes : Lines → Lines → Bool → Type 0
 Makes old new true = IsMade old new

@@ -6,7 +6,7 @@ ghost use Rattle.std.specs.Vec.Iter.{into_iter_items};
 ghost use Rattle.theory.specs.ProofReading.{IsStep, max_number};
 ghost use Rattle.cubes.specs.Result.{IsResultOf};
 ghost use Rattle.join.specs.Numbered.{AreNodesOf, AreUnitsOf, AreStepsOf, AreAccepted, AreWithin};
-ghost use Rattle.join.specs.Walking.{line_of, lines_left, GoesOn, IsLawful, Makes, OnMore};
+ghost use Rattle.join.specs.Walking.{line_of, lines_left, HasNextLine, IsBetweenLines, Makes, OnMore};
 
 use crate::line::{Due, ProofLine};
 use crate::room::Need;
@@ -68,7 +68,7 @@ impl Lines {
         ensures steps { IfOk result (λ l. AreStepsOf formula.now tree (lines_left l)) }
         ensures within { IfOk result (λ l. AreWithin (lines_left l)) }
         ensures accepted { IfOk result (λ l. AreAccepted formula.now tree (lines_left l)) }
-        ensures lawful { IfOk result IsLawful }
+        ensures lawful { IfOk result IsBetweenLines }
     {
         let clauses = formula.clauses().len() as u64;
         let units = units_of(alloc, formula, &tree)?;
@@ -102,7 +102,7 @@ impl Lines {
 
     /// Makes the next pure literal's line, if there is one.
     fn next_unit(&mut self) -> Result<bool, AllocError>
-        requires { IsLawful self.old }
+        requires { IsBetweenLines self.old }
         ensures made { IfOk result (λ more. Makes self.old self.new more) }
         ensures none { IfOk result (λ more. OnFalse more (into_iter_items self.new.units ≡ [])) }
     {
@@ -117,7 +117,7 @@ impl Lines {
     /// Makes the deletion that is due, if there is one. Behind the root's last line nothing is deleted: that is the empty clause, with which
     /// a proof ends.
     fn next_deletion(&mut self) -> Result<bool, AllocError>
-        requires lawful { IsLawful self.old }
+        requires lawful { IsBetweenLines self.old }
         requires units { into_iter_items self.old.units ≡ [] }
         ensures made { IfOk result (λ more. Makes self.old self.new more) }
         ensures none { IfOk result (λ more. OnFalse more ((into_iter_items self.new.units ≡ []) × (self.new.due ≡ Due.Nothing))) }
@@ -133,12 +133,12 @@ impl Lines {
 
     /// Makes the tree's next clause, if there is one.
     fn next_addition(&mut self) -> Result<bool, AllocError>
-        requires lawful { IsLawful self.old }
+        requires lawful { IsBetweenLines self.old }
         requires units { into_iter_items self.old.units ≡ [] }
         requires due { self.old.due ≡ Due.Nothing }
-        ensures rest { IfOk result (λ more. GoesOn (lines_left self.old) (lines_left self.new) (line_of self.new.line) more) }
+        ensures rest { IfOk result (λ more. HasNextLine (lines_left self.old) (lines_left self.new) (line_of self.new.line) more) }
         ensures within { IfOk result (λ more. OnMore (IsStep (line_of self.new.line)) more) }
-        ensures lawful { IfOk result (λ more. OnMore (IsLawful self.new) more) }
+        ensures lawful { IfOk result (λ more. OnMore (IsBetweenLines self.new) more) }
     {
         if self.walk.next > MAX_NUMBER {
             return Err(AllocError);
@@ -168,10 +168,10 @@ impl Lines {
     /// Makes the next line, which `line` shows then; it answers whether there was one more. It fails only where a request for memory is refused, or
     /// where a number would be above its limit; then no line can be asked for any more.
     pub fn next_line(&mut self) -> Result<bool, AllocError>
-        requires { IsLawful self.old }
-        ensures rest { IfOk result (λ more. GoesOn (lines_left self.old) (lines_left self.new) (line_of self.new.line) more) }
+        requires { IsBetweenLines self.old }
+        ensures rest { IfOk result (λ more. HasNextLine (lines_left self.old) (lines_left self.new) (line_of self.new.line) more) }
         ensures within { IfOk result (λ more. OnMore (IsStep (line_of self.new.line)) more) }
-        ensures lawful { IfOk result (λ more. OnMore (IsLawful self.new) more) }
+        ensures lawful { IfOk result (λ more. OnMore (IsBetweenLines self.new) more) }
     {
         if self.next_unit()? {
             return Ok(true);

@@ -6,7 +6,7 @@ use Rattle.std.proofs.lemmas.List.Elements.{Contains-append_left, Contains-push,
 use Rattle.std.specs.List.{Contains}
 use Rattle.theory.specs.Literals.{Literal, Clause, same, has}
 use Rattle.theory.specs.Trails.{Trail, literals, current_level, up_to}
-use Rattle.kernel.specs.Watching.{At, IsPair, Held, apart, first_true, second_true, other_true, Reached, Good, held, waits, reached, Tending, list_at, IsFull, IsListed, Tends, AllGood, WasUnit, code, listed_at, listed_both, IsExact, IsServed}
+use Rattle.kernel.specs.Watching.{At, IsPair, IsWatched, apart, first_true, second_true, other_true, Reached, Good, held, waits, reached, Tending, list_at, IsFull, IsListed, Tends, AllGood, WasUnit, code, listed_at, listed_both, IsExact, IsServed}
 use Rattle.kernel.specs.declared.watch.Watched.{Watched}
 use Rattle.theory.proofs.LiteralLemmas.{same-eq, same-refl}
 use Rattle.kernel.proofs.LiteralFacts.{true_false}
@@ -26,19 +26,19 @@ pub record Adds (floor : ℕ) (K : List Clause) (T : Trail) (c : Clause) (w : Wa
   pub waiting : (m : ℕ) → Contains t.units m → Contains u.units m
   pub units : (m : ℕ) → Contains u.units m → ((m ≡ length K) × WasUnit (literals T) c) ⊎ Contains t.units m
   pub exact : IsExact (t.pairs ++ w ∷ []) u.lists
-  pub earlier : (m : ℕ) → m < current_level T → Held (K ++ c ∷ []) (length K) (literals (take floor (up_to T m))) (literals (up_to T m)) w
+  pub earlier : (m : ℕ) → m < current_level T → IsWatched (K ++ c ∷ []) (length K) (literals (take floor (up_to T m))) (literals (up_to T m)) w
 
 pub At-longer : (K : List Clause) (c d : Clause) (n : ℕ) → At K n d → At (K ++ c ∷ []) n d
 At-longer K c d n a = ((let z : n < length (K ++ c ∷ []) = omega (arith, length_push K c, a.0) in z), get_or_append_left K (c ∷ []) d n a.0 ∙ a.1)
 
-pub Held-longer : (K : List Clause) (c : Clause) (n : ℕ) (S P : List Literal) (w : Watched) → Held K n S P w → Held (K ++ c ∷ []) n S P w
-Held-longer K c n S P w (apart d a b) = apart d a b
-Held-longer K c n S P w (first_true t) = first_true t
-Held-longer K c n S P w (second_true t) = second_true t
-Held-longer K c n S P w (other_true d y a m t) = other_true d y (At-longer K c d n a) m t
+pub IsWatched-longer : (K : List Clause) (c : Clause) (n : ℕ) (S P : List Literal) (w : Watched) → IsWatched K n S P w → IsWatched (K ++ c ∷ []) n S P w
+IsWatched-longer K c n S P w (apart d a b) = apart d a b
+IsWatched-longer K c n S P w (first_true t) = first_true t
+IsWatched-longer K c n S P w (second_true t) = second_true t
+IsWatched-longer K c n S P w (other_true d y a m t) = other_true d y (At-longer K c d n a) m t
 
 pub Good-longer : (K : List Clause) (c : Clause) (S P : List Literal) (H : List ℕ) (f : Option ℕ) (w : Watched) (n : ℕ) → Good K S P H f w n → Good (K ++ c ∷ []) S P H f w n
-Good-longer K c S P H f w n (held h) = held (Held-longer K c n S P w h)
+Good-longer K c S P H f w n (held h) = held (IsWatched-longer K c n S P w h)
 Good-longer K c S P H f w n (waits m z) = waits m z
 Good-longer K c S P H f w n (reached r) = reached r
 
@@ -106,10 +106,10 @@ Tends-add floor K T c w t u p s = record {
     empty_at m (inl a) = s.found.empties m a
     empty_at m (inr (e, f)) = absurd (p.nonempty (sym f))
 
-    before : (k : ℕ) → k < current_level T → (m : ℕ) (d : Clause) (v : Watched) → At (K ++ c ∷ []) m d → At t.pairs m v ⊎ ((m ≡ length t.pairs) × (v ≡ w)) → (d ≡ [] → ⊥) × Held (K ++ c ∷ []) m (literals (take floor (up_to T k))) (literals (up_to T k)) v
+    before : (k : ℕ) → k < current_level T → (m : ℕ) (d : Clause) (v : Watched) → At (K ++ c ∷ []) m d → At t.pairs m v ⊎ ((m ≡ length t.pairs) × (v ≡ w)) → (d ≡ [] → ⊥) × IsWatched (K ++ c ∷ []) m (literals (take floor (up_to T k))) (literals (up_to T k)) v
     before k x m d v a (inl b) =
         let r = s.earlier k x m d v (old-at K c d m (old m v b) a) b in
-        (r.0, Held-longer K c m (literals (take floor (up_to T k))) (literals (up_to T k)) v r.1)
+        (r.0, IsWatched-longer K c m (literals (take floor (up_to T k))) (literals (up_to T k)) v r.1)
     before k x m d v a (inr (e, f)) = ((λ z. p.nonempty (sym (new-at K c d m (new m e) a) ∙ z)), rw (f, new m e) (p.earlier k x))
 
 pub AllGood-add : (floor : ℕ) (K : List Clause) (T : Trail) (S : List Literal) (c : Clause) (w : Watched) (t u : Tending) → Adds floor K T c w t u → length t.pairs ≡ length K → Good (K ++ c ∷ []) S (literals T) u.units u.least w (length K)
@@ -250,7 +250,7 @@ listed_both-more K t w ha hb listed exact = go (same w.first w.second) refl
 
 -- a clause that isn't empty came to the end, and waits if it is unit
 pub added : (floor : ℕ) (K : List Clause) (T : Trail) (served : ℕ) (c : Clause) (w : Watched) (t u : Tending)
-    → IsPair c w → code w.first < length t.lists → code w.second < length t.lists → ((m : ℕ) → m < current_level T → Held (K ++ c ∷ []) (length K) (literals (take floor (up_to T m))) (literals (up_to T m)) w)
+    → IsPair c w → code w.first < length t.lists → code w.second < length t.lists → ((m : ℕ) → m < current_level T → IsWatched (K ++ c ∷ []) (length K) (literals (take floor (up_to T m))) (literals (up_to T m)) w)
     → u.pairs ≡ t.pairs ++ w ∷ [] → u.lists ≡ listed_both t.lists w (length K) → u.least ≡ t.least → ((m : ℕ) → Contains t.units m → Contains u.units m)
     → ((m : ℕ) → Contains u.units m → ((m ≡ length K) × WasUnit (literals T) c) ⊎ Contains t.units m) → Good (K ++ c ∷ []) (literals (take served T)) (literals T) u.units u.least w (length K)
     → IsServed floor K T served t → IsServed floor (K ++ c ∷ []) T served u

@@ -7,7 +7,7 @@ use Rattle.theory.specs.Literals.{Literal, Clause, same, has}
 use Rattle.kernel.specs.declared.watch.Watched.{Watched}
 use Rattle.kernel.specs.declared.watch.Watch.{Watch}
 use Rattle.kernel.specs.Watching.{At, IsPair, IsBeside, IsListed, code, list_at, listed_at, listed_both}
-use Rattle.kernel.specs.Visiting.{Kept, places, entries_at, tending, IsEntry, AreEntries, AreEntriesOf}
+use Rattle.kernel.specs.Visiting.{WatchLists, places, entries_at, tending, IsEntry, AreEntries, AreEntriesOf}
 use Rattle.kernel.specs.Attaching.{with_entry, attached}
 use Rattle.kernel.proofs.Places.{At-get, At-push, code-one}
 use Rattle.kernel.proofs.Turns.{At-places}
@@ -49,7 +49,7 @@ with_entry-entries K W lists a e h new all l p x at = go (cases_eq (code l) (cod
         rw lit (split (At-push (entries_at lists a) e p x here))
     go (inr ne) = all l p x (subst (λ (ys : List Watch). At ys p x) (get_or-set_other lists (code a) (code l) (entries_at lists a ++ e ∷ []) [] ne) at)
 
-module _ (K : List Clause) (k : Kept) (c : Clause) (w : Watched) (listed : IsListed K (tending k)) (pair : IsPair c w) (ha : code w.first < length k.lists) (hb : code w.second < length k.lists) (entries : AreEntries K k) where
+module _ (K : List Clause) (k : WatchLists) (c : Clause) (w : Watched) (listed : IsListed K (tending k)) (pair : IsPair c w) (ha : code w.first < length k.lists) (hb : code w.second < length k.lists) (entries : AreEntries K k) where
   new-clause : (d : Clause) → At (K ++ c ∷ []) (length K) d → d ≡ c
   new-clause d a = go (At-push K c (length K) d a)
     where

@@ -6,9 +6,9 @@ use Rattle.std.specs.List.{Contains}
 use Rattle.theory.specs.Literals.{Literal, Clause, same, has, has_var, negated}
 use Rattle.theory.specs.Trails.{Entry, Trail, literals, current_level, level_at, up_to}
 use Rattle.theory.proofs.LiteralLemmas.{or-cases, or-left, or-right, true_or_false}
-use Rattle.kernel.specs.Watching.{At, Held, Reached, Good, held, waits, reached, Tending, Includes, IsHeldIn, Tends, AllGood, IsServed, other_true, apart, first_true, second_true, WasUnit}
+use Rattle.kernel.specs.Watching.{At, IsWatched, Reached, Good, held, waits, reached, Tending, Includes, AreWatchedIn, Tends, AllGood, IsServed, other_true, apart, first_true, second_true, WasUnit}
 use Rattle.kernel.specs.declared.watch.Watched.{Watched}
-use Rattle.kernel.specs.Held.{IsRisingFrom}
+use Rattle.kernel.specs.TrailOver.{IsRisingFrom}
 use Rattle.kernel.proofs.Ordered.{rising-at}
 use Rattle.kernel.proofs.LiteralFacts.{true_false, has-push}
 use Rattle.kernel.proofs.Places.{At-get}
@@ -51,7 +51,7 @@ least_unit-each P (k ∷ K) n c h a = go (unit_literal P k) refl h n a (λ x i z
     go None e x (suc n) a more = more (rest (least_unit P K) x) n ((let z : n < length K = omega (arith, a.0) in z), a.1)
 
 -- where no clause is false or unit, each is held
-rest-held : (floor : ℕ) (K : List Clause) (T : Trail) (served : ℕ) (t : Tending) → least_false (literals T) K ≡ None → least_unit (literals T) K ≡ None → IsServed floor K T served t → IsHeldIn (literals (take served T)) (literals T) K t.pairs
+rest-held : (floor : ℕ) (K : List Clause) (T : Trail) (served : ℕ) (t : Tending) → least_false (literals T) K ≡ None → least_unit (literals T) K ≡ None → IsServed floor K T served t → AreWatchedIn (literals (take served T)) (literals T) K t.pairs
 rest-held floor K T served t none_false none_unit s n c w a b = (nonempty, go (s.good n w b))
   where
     not_false : (m : ℕ) (d : Clause) → At K m d → is_false (literals T) d ≡ true → ⊥
@@ -60,7 +60,7 @@ rest-held floor K T served t none_false none_unit s n c w a b = (nonempty, go (s
     nonempty : c ≡ [] → ⊥
     nonempty e = not_false n c a (rw e refl)
 
-    true_one : WasUnit (literals T) c → Held K n (literals (take served T)) (literals T) w
+    true_one : WasUnit (literals T) c → IsWatched K n (literals (take served T)) (literals T) w
     true_one (y, m, others) = by (true_or_false (has_var (literals T) y.var))
       where
         all_false : has (literals T) (negated y) ≡ true → is_false (literals T) c ≡ true
@@ -70,10 +70,10 @@ rest-held floor K T served t none_false none_unit s n c w a b = (nonempty, go (s
             one l (inl e) = subst (λ (x : Literal). has (literals T) (negated x) ≡ true) e h
             one l (inr e) = e
 
-        by : (has_var (literals T) y.var ≡ true) ⊎ (has_var (literals T) y.var ≡ false) → Held K n (literals (take served T)) (literals T) w
+        by : (has_var (literals T) y.var ≡ true) ⊎ (has_var (literals T) y.var ≡ false) → IsWatched K n (literals (take served T)) (literals T) w
         by (inl h) = sign (has_var-has (literals T) y h)
           where
-            sign : (has (literals T) y ≡ true) ⊎ (has (literals T) (negated y) ≡ true) → Held K n (literals (take served T)) (literals T) w
+            sign : (has (literals T) y ≡ true) ⊎ (has (literals T) (negated y) ≡ true) → IsWatched K n (literals (take served T)) (literals T) w
             sign (inl e) = other_true c y a m e
             sign (inr e) = absurd (not_false n c a (all_false e))
         by (inr h) =
@@ -81,21 +81,21 @@ rest-held floor K T served t none_false none_unit s n c w a b = (nonempty, go (s
             let f : unit_literal (literals T) c ≡ None = least_unit-each (literals T) K n c none_unit a in
             absurd (cc)
 
-    go : Good K (literals (take served T)) (literals T) t.units t.least w n → Held K n (literals (take served T)) (literals T) w
+    go : Good K (literals (take served T)) (literals T) t.units t.least w n → IsWatched K n (literals (take served T)) (literals T) w
     go (held h) = h
     go (waits m z) = true_one ((s.tends.found.units n m).1 c a)
     go (reached r) = by t.least refl r
       where
-        by : (o : Option ℕ) → t.least ≡ o → Reached o n → Held K n (literals (take served T)) (literals T) w
+        by : (o : Option ℕ) → t.least ≡ o → Reached o n → IsWatched K n (literals (take served T)) (literals T) w
         by None e x = absurd x
         by (Some i) e x = let f = s.tends.found.least i e in absurd (not_false i (get_or K i []) (At-get K i [] f.0) (f.1 (get_or K i []) (At-get K i [] f.0)))
 
 -- less was served
-Held-less : (K : List Clause) (n : ℕ) (R S P : List Literal) (w : Watched) → Includes S R → Held K n S P w → Held K n R P w
-Held-less K n R S P w sub (apart d a b) = apart d (not-in S R (negated w.first) sub a) (not-in S R (negated w.second) sub b)
-Held-less K n R S P w sub (first_true t) = first_true t
-Held-less K n R S P w sub (second_true t) = second_true t
-Held-less K n R S P w sub (other_true c y a m t) = other_true c y a m t
+IsWatched-less : (K : List Clause) (n : ℕ) (R S P : List Literal) (w : Watched) → Includes S R → IsWatched K n S P w → IsWatched K n R P w
+IsWatched-less K n R S P w sub (apart d a b) = apart d (not-in S R (negated w.first) sub a) (not-in S R (negated w.second) sub b)
+IsWatched-less K n R S P w sub (first_true t) = first_true t
+IsWatched-less K n R S P w sub (second_true t) = second_true t
+IsWatched-less K n R S P w sub (other_true c y a m t) = other_true c y a m t
 
 pub Includes-take-le : (T : Trail) (a b : ℕ) → a ≤ b → Includes (literals (take b T)) (literals (take a T))
 Includes-take-le [] zero zero le l h = h
@@ -166,7 +166,7 @@ decided floor low K T e served t rising none_false none_unit within less sub lev
       least = λ n h. let f = s.tends.found.least n h in (f.0, λ c a. all-more (λ l. has (literals T) (negated l)) (λ l. has (literals (T ++ e ∷ [])) (negated l)) c (λ l m. more (negated l) m) (f.1 c a));
       empties = s.tends.found.empties;
     };
-    earlier = λ m h n c w a b. subst (λ (U : Trail). (c ≡ [] → ⊥) × Held K n (literals (take low U)) (literals U) w) (sym (up_to-push T e m (high m h))) (below m n c w a b (cases_lt m (current_level T)));
+    earlier = λ m h n c w a b. subst (λ (U : Trail). (c ≡ [] → ⊥) × IsWatched K n (literals (take low U)) (literals U) w) (sym (up_to-push T e m (high m h))) (below m n c w a b (cases_lt m (current_level T)));
   };
   good = subst (λ (U : Trail). AllGood K (literals U) (literals (T ++ e ∷ [])) t) (sym (take-append-le served T (e ∷ []) within))
       (λ n w a. Good-grow K (literals (take served T)) (literals T) (literals (T ++ e ∷ [])) t.units t.least w n more (s.good n w a));
@@ -182,13 +182,13 @@ decided floor low K T e served t rising none_false none_unit within less sub lev
     one y l (inl f) = or-left (same y l) (has (literals (T ++ e ∷ [])) (negated l)) f
     one y l (inr f) = or-right (same y l) (has (literals (T ++ e ∷ [])) (negated l)) (more (negated l) f)
 
-    below : (m n : ℕ) (c : Clause) (w : Watched) → At K n c → At t.pairs n w → (m < current_level T) ⊎ (current_level T ≤ m) → (c ≡ [] → ⊥) × Held K n (literals (take low (up_to T m))) (literals (up_to T m)) w
+    below : (m n : ℕ) (c : Clause) (w : Watched) → At K n c → At t.pairs n w → (m < current_level T) ⊎ (current_level T ≤ m) → (c ≡ [] → ⊥) × IsWatched K n (literals (take low (up_to T m))) (literals (up_to T m)) w
     below m n c w a b (inl x) =
         let r = s.tends.earlier m x n c w a b in
-        (r.0, Held-less K n (literals (take low (up_to T m))) (literals (take floor (up_to T m))) (literals (up_to T m)) w (Includes-take-le (up_to T m) low floor less) r.1)
+        (r.0, IsWatched-less K n (literals (take low (up_to T m))) (literals (take floor (up_to T m))) (literals (up_to T m)) w (Includes-take-le (up_to T m) low floor less) r.1)
     below m n c w a b (inr x) =
         let r = rest-held floor K T served t none_false none_unit s n c w a b in
-        subst (λ (U : Trail). (c ≡ [] → ⊥) × Held K n (literals (take low U)) (literals U) w) (sym (up_to-current T m rising x)) (r.0, Held-less K n (literals (take low T)) (literals (take served T)) (literals T) w sub r.1)
+        subst (λ (U : Trail). (c ≡ [] → ⊥) × IsWatched K n (literals (take low U)) (literals U) w) (sym (up_to-current T m rising x)) (r.0, IsWatched-less K n (literals (take low T)) (literals (take served T)) (literals T) w sub r.1)
 
 -- the level of an earlier state
 up_to-le : (T : Trail) (m i : ℕ) (e : Entry) → At (up_to T m) i e → e.level ≤ m
@@ -233,9 +233,9 @@ went_back floor K T m t u h pairs lists units least s = record {
     };
     earlier = λ k x n c w a b.
         let low : k < m = omega (arith, x, up_to-level T m) in
-        subst (λ (U : Trail). (c ≡ [] → ⊥) × Held K n (literals (take floor U)) (literals U) w) (sym (up_to-up_to T m k (omega (arith, low)))) (s.earlier k (omega (arith, low, h)) n c w a (rw (← pairs) b));
+        subst (λ (U : Trail). (c ≡ [] → ⊥) × IsWatched K n (literals (take floor U)) (literals U) w) (sym (up_to-up_to T m k (omega (arith, low)))) (s.earlier k (omega (arith, low, h)) n c w a (rw (← pairs) b));
   };
-  good = λ n w a. held (subst (λ (U : Trail). Held K n (literals U) (literals (up_to T m)) w) (sym (take_min floor (up_to T m))) (s.earlier m h n (get_or K n []) w (At-get K n [] (bound n w a)) (rw (← pairs) a)).1);
+  good = λ n w a. held (subst (λ (U : Trail). IsWatched K n (literals U) (literals (up_to T m)) w) (sym (take_min floor (up_to T m))) (s.earlier m h n (get_or K n []) w (At-get K n [] (bound n w a)) (rw (← pairs) a)).1);
 }
   where
     d : Watched

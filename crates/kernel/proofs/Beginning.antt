@@ -14,7 +14,7 @@ use Rattle.theory.proofs.LiteralLemmas.{or-cases, or-left, same-eq, same-refl}
 use Rattle.kernel.specs.declared.watch.Watched.{Watched}
 use Rattle.kernel.specs.declared.watch.Watch.{Watch}
 use Rattle.kernel.specs.Watching.{At, IsPair, apart, Reached, Good, held, waits, reached, Tending, IsServed, WasUnit, code, list_at, listed_both, lesser}
-use Rattle.kernel.specs.Visiting.{Kept, places, tending, AreEntries, entries_at, IsEntry}
+use Rattle.kernel.specs.Visiting.{WatchLists, places, tending, AreEntries, entries_at, IsEntry}
 use Rattle.kernel.specs.Attaching.{attached, IsWatching}
 use Rattle.kernel.proofs.LiteralFacts.{true_false, all-member}
 use Rattle.kernel.proofs.Places.{At-one, At-get, At-push}
@@ -49,7 +49,7 @@ begins f g K T t level s = record {
     one y l (inr e) = absurd (no-literal (negated l) e)
 
 -- the same with all that is true of the watches
-pub begun : (f V first : ℕ) (K : List Clause) (T : Trail) (k : Kept) (single : List ℕ) (empty : Option ℕ) → current_level T ≡ 0 → IsWatching V first K [] 0 0 k single empty → IsWatching V first K T 0 f k single empty
+pub begun : (f V first : ℕ) (K : List Clause) (T : Trail) (k : WatchLists) (single : List ℕ) (empty : Option ℕ) → current_level T ≡ 0 → IsWatching V first K [] 0 0 k single empty → IsWatching V first K T 0 f k single empty
 begun f V first K T k single empty level s = record {
   lists = s.lists;
   served = begins 0 f K T (tending k) level s.served;
@@ -68,7 +68,7 @@ over-items f V xs K is all k d h =
 single-unit : (c : Clause) (w : Watched) → IsPair c w → same w.first w.second ≡ true → WasUnit [] c
 single-unit c w pair h = (w.first, pair.first_in, all-more (same w.first) (λ l. same w.first l || has [] (negated l)) c (λ l m. or-left (same w.first l) (has [] (negated l)) m) (pair.single h))
 
-module _ (V : ℕ) (K : List Clause) (k u : Kept) (single : List ℕ) (e : Option ℕ) (c : Clause) (w : Watched) (s : IsWatching V (length K) K [] 0 0 k single e) where
+module _ (V : ℕ) (K : List Clause) (k u : WatchLists) (single : List ℕ) (e : Option ℕ) (c : Clause) (w : Watched) (s : IsWatching V (length K) K [] 0 0 k single e) where
   longer : (n : ℕ) → n < length K → n < length (K ++ c ∷ [])
   longer n h = omega (arith, length_push K c, h)
 

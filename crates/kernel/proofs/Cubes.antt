@@ -4,14 +4,15 @@ use Rattle.std.specs.Option.{option_to_list}
 use Rattle.std.proofs.lemmas.List.{take_more, map-append}
 use Rattle.std.proofs.lemmas.List.Elements.{All-push, All-take}
 use Rattle.std.proofs.Math.Seq.{take-append_seam}
-use Rattle.theory.specs.Literals.{Literal, has_var, IsDistinctFrom, IsCube}
+use Rattle.theory.specs.Literals.{Literal, has_var, IsCube}
 use Rattle.theory.specs.Trails.{Entry, literals, cube_trail}
 use Rattle.theory.proofs.TrailLists.{literals-cube}
-use Rattle.theory.proofs.TrailEntries.{are_distinct-cube, are_distinct-push, IsCube-distinct}
+use Rattle.theory.proofs.TrailEntries.{are_distinct-push}
+use Rattle.theory.proofs.CubeLiterals.{IsDistinctFrom, IsCube-from, IsDistinctFrom-cube}
 use Rattle.kernel.specs.Cubes.{AreOfVariables}
 
 pub IsCube-push : (Q : List Literal) (l : Literal) → IsCube Q → has_var Q l.var ≡ false → IsCube (Q ++ l ∷ [])
-IsCube-push Q l h free = IsCube-distinct (Q ++ l ∷ []) (are_distinct-push Q l (are_distinct-cube Q h) free)
+IsCube-push Q l h free = are_distinct-push Q l h free
 
 front-IsDistinctFrom : (P Q R : List Literal) → IsDistinctFrom P (Q ++ R) → IsDistinctFrom P Q
 front-IsDistinctFrom P [] R h = tt
@@ -23,7 +24,7 @@ last-is_new P (k ∷ Q) l h = subst (λ R. has_var R l.var ≡ false) (append_as
 
 -- a cube without its last literal is a cube
 pub IsCube-popped : (Q R : List Literal) (o : Option Literal) → IsCube Q → Q ≡ R ++ option_to_list o → IsCube R
-IsCube-popped Q R o h e = front-IsDistinctFrom [] R (option_to_list o) (subst IsCube e h)
+IsCube-popped Q R o h e = IsCube-from R (front-IsDistinctFrom [] R (option_to_list o) (IsDistinctFrom-cube (R ++ option_to_list o) (subst IsCube e h)))
 
 pub AreOfVariables-push : (Q : List Literal) (l : Literal) → AreOfVariables Q → 1 ≤ l.var → AreOfVariables (Q ++ l ∷ [])
 AreOfVariables-push Q l all one = All-push (λ (k : Literal). 1 ≤ k.var) Q l all one
@@ -35,7 +36,7 @@ AreOfVariables-popped Q R o all e =
 -- and the last literal is of another variable
 pub popped-is_new : (Q R : List Literal) (o : Option Literal) → IsCube Q → Q ≡ R ++ option_to_list o → (o ≡ None → Q ≡ [])
     → MatchOption o ((Q ≡ []) × (R ≡ [])) (λ l. (Q ≡ R ++ l ∷ []) × (has_var R l.var ≡ false))
-popped-is_new Q R (Some l) h e empty = (e, last-is_new [] R l (subst IsCube e h))
+popped-is_new Q R (Some l) h e empty = (e, last-is_new [] R l (IsDistinctFrom-cube (R ++ l ∷ []) (subst IsCube e h)))
 popped-is_new Q R None h e empty = (empty refl, sym (append-nil R) ∙ (sym e ∙ empty refl))
 
 -- the entry of a cube's literal
@@ -52,4 +53,4 @@ distinct-at P (l ∷ Q) (suc i) d h less =
     subst (λ c. has_var c (get_or Q i d).var ≡ false) (append_assoc P (l ∷ []) (take i Q)) (distinct-at (P ++ l ∷ []) Q i d h.1 (omega arith))
 
 pub cube_trail-free : (Q : List Literal) (i : ℕ) (d : Literal) → IsCube Q → i < length Q → has_var (literals (cube_trail (take i Q))) (get_or Q i d).var ≡ false
-cube_trail-free Q i d h less = rw (literals-cube (take i Q)) (distinct-at [] Q i d h less)
+cube_trail-free Q i d h less = rw (literals-cube (take i Q)) (distinct-at [] Q i d (IsDistinctFrom-cube Q h) less)

@@ -3,7 +3,7 @@ use Rattle.std.proofs.Common.{◌≡◌, ℕ, ◌+◌, ◌<◌, ◌≤◌, Bool,
 use Rattle.theory.specs.Literals.{Literal, Clause, has_var, IsVariable}
 use Rattle.theory.specs.Truth.{IsOver}
 use Rattle.theory.specs.Status.{is_unit_in, unit_literal}
-use Rattle.theory.specs.Propagation.{Closed, Closes, grows, least_false, least_unit, clause_at}
+use Rattle.theory.specs.Propagation.{Closed, Propagates, grows, least_false, least_unit, clause_at}
 use Rattle.theory.specs.Trails.{Trail, literals, current_level}
 use Rattle.theory.specs.Lawful.{IsLawful}
 use Rattle.theory.proofs.LawfulTrails.{IsLawful-unit, least_unit-at, unit_literal-facts}
@@ -99,8 +99,8 @@ pub record Grew (K : List Clause) (T new : Trail) : Type 0 where
   pub level_is : level ≡ current_level T
   pub pushed : new ≡ T ++ record { lit = lit; reason = Some number; level = level } ∷ []
 
-pub Grew-Closes : (K : List Clause) (T new U : Trail) (a : Closed) → Grew K T new → Closes K new a U → Closes K T a U
-Grew-Closes K T new U a g h =
+pub Grew-Propagates : (K : List Clause) (T new U : Trail) (a : Closed) → Grew K T new → Propagates K new a U → Propagates K T a U
+Grew-Propagates K T new U a g h =
     grows g.none_false g.unit (rw (← g.level_is, ← g.pushed) h)
 
 pub Grew-falls : (K : List Clause) (T new : Trail) → Grew K T new → open_among (literals new) K < open_among (literals T) K

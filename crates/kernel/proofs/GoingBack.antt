@@ -4,7 +4,7 @@ use Rattle.std.proofs.lemmas.List.{take-append-drop, length-drop}
 use Rattle.std.proofs.Math.Seq.{take-append_seam}
 use Rattle.theory.specs.Literals.{has_var, IsVariable}
 use Rattle.theory.specs.Trails.{Trail, literals}
-use Rattle.kernel.specs.Held.{IsOrdered}
+use Rattle.kernel.specs.TrailOver.{IsOrdered}
 use Rattle.kernel.specs.declared.truth.Truth.{Truth}
 use Rattle.kernel.specs.Tables.{AreTables, IsNextFree}
 use Rattle.kernel.proofs.Pieces.{take-whole}

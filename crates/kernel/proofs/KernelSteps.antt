@@ -4,18 +4,17 @@ use Rattle.std.proofs.lemmas.List.{length_push, length-map, take_all}
 use Rattle.std.proofs.lemmas.List.Sorted.{Contains-permutation, IsPermutation-sym}
 use Rattle.std.specs.List.{Contains}
 use Rattle.std.specs.List.Sorted.{IsPermutation}
-use Rattle.theory.specs.Literals.{Literal, Clause, same, has, has_var, negated}
+use Rattle.theory.specs.Literals.{Literal, Clause, same, has, has_var, negated, are_distinct}
 use Rattle.theory.specs.Truth.{IsOver}
 use Rattle.theory.specs.Trails.{Entry, Trail, literals, current_level, up_to, level_of, level_at, entry_of}
-use Rattle.theory.specs.Propagation.{Closes, quiet, grows, rests, least_false, least_unit}
+use Rattle.theory.specs.Propagation.{Propagates, quiet, grows, rests, least_false, least_unit}
 use Rattle.theory.specs.Learnable.{IsLearnable}
-use Rattle.theory.specs.Lawful.{are_distinct}
 use Rattle.theory.proofs.LiteralLemmas.{and-left, and-right, or-cases, true_or_false, not_true, same-eq}
 use Rattle.theory.proofs.LiteralSets.{false_unless}
 use Rattle.kernel.specs.declared.watch.Watched.{Watched}
-use Rattle.kernel.specs.Held.{IsOrdered}
-use Rattle.kernel.specs.Watching.{At, IsPair, Held, apart, waits, Includes, WasUnit, code, listed_both}
-use Rattle.kernel.specs.Visiting.{Kept, places, tending}
+use Rattle.kernel.specs.TrailOver.{IsOrdered}
+use Rattle.kernel.specs.Watching.{At, IsPair, IsWatched, apart, waits, Includes, WasUnit, code, listed_both}
+use Rattle.kernel.specs.Visiting.{WatchLists, places, tending}
 use Rattle.kernel.specs.Attaching.{attached, IsWatching}
 use Rattle.kernel.proofs.LiteralFacts.{true_false, all-member, has-var, free-not_negated}
 use Rattle.kernel.proofs.Places.{At-push}
@@ -28,7 +27,7 @@ use Rattle.kernel.proofs.Attached.{attached-places, attached-entries}
 use Rattle.kernel.proofs.Visits.{code-within, over-var}
 
 -- where propagation leaves the trail as it is, no clause is false or unit
-pub at-rest : (K : List Clause) (T U : Trail) → Closes K T quiet U → (least_false (literals U) K ≡ None) × (least_unit (literals U) K ≡ None)
+pub at-rest : (K : List Clause) (T U : Trail) → Propagates K T quiet U → (least_false (literals U) K ≡ None) × (least_unit (literals U) K ≡ None)
 at-rest K T U (rests a b) = (a, b)
 at-rest K T U (grows {u = u} a b h) = at-rest K _ U h
 
@@ -60,7 +59,7 @@ up_to-level_of (e ∷ T) m l d h = go (nat_le e.level m) refl h (up_to-level_of 
     go false x y more = behind y (more y)
 
 -- a decision
-pub decide-watching : (V first : ℕ) (K : List Clause) (T : Trail) (at floor low : ℕ) (k : Kept) (single : List ℕ) (empty : Option ℕ) (e : Entry) → IsOrdered V T → Closes K T quiet T → e.level ≡ current_level T + 1 → ((at ≡ length T) × (low ≡ floor)) ⊎ ((low ≤ at) × (low ≤ floor))
+pub decide-watching : (V first : ℕ) (K : List Clause) (T : Trail) (at floor low : ℕ) (k : WatchLists) (single : List ℕ) (empty : Option ℕ) (e : Entry) → IsOrdered V T → Propagates K T quiet T → e.level ≡ current_level T + 1 → ((at ≡ length T) × (low ≡ floor)) ⊎ ((low ≤ at) × (low ≤ floor))
     → IsWatching V first K T at floor k single empty → IsWatching V first K (T ++ e ∷ []) at low k single empty
 decide-watching V first K T at floor low k single empty e ordered closes level which s = record {
   lists = s.lists;
@@ -83,7 +82,7 @@ decide-watching V first K T at floor low k single empty e ordered closes level w
     sub (inr (f, _)) l h = Includes-take-le T low at f l h
 
 -- going back
-pub back-watching : (V first : ℕ) (K : List Clause) (T : Trail) (at floor m : ℕ) (k u : Kept) (single : List ℕ) (empty : Option ℕ) → m < current_level T → u.pairs ≡ k.pairs → u.lists ≡ k.lists → u.units ≡ [] → u.least ≡ None
+pub back-watching : (V first : ℕ) (K : List Clause) (T : Trail) (at floor m : ℕ) (k u : WatchLists) (single : List ℕ) (empty : Option ℕ) → m < current_level T → u.pairs ≡ k.pairs → u.lists ≡ k.lists → u.units ≡ [] → u.least ≡ None
     → IsWatching V first K T at floor k single empty → IsWatching V first K (up_to T m) (min floor (length (up_to T m))) floor u single empty
 back-watching V first K T at floor m k u single empty below pairs lists units least s = record {
   lists = rw lists s.lists;
@@ -94,7 +93,7 @@ back-watching V first K T at floor m k u single empty below pairs lists units le
 }
 
 -- a learnt clause
-pub learnt-watching : (V first : ℕ) (K : List Clause) (T : Trail) (at floor : ℕ) (k u : Kept) (single : List ℕ) (empty : Option ℕ) (c : Clause) (w : Watched) → first ≤ length K → IsOrdered V T → IsOver V c → (learnable : IsLearnable T c)
+pub learnt-watching : (V first : ℕ) (K : List Clause) (T : Trail) (at floor : ℕ) (k u : WatchLists) (single : List ℕ) (empty : Option ℕ) (c : Clause) (w : Watched) → first ≤ length K → IsOrdered V T → IsOver V c → (learnable : IsLearnable T c)
     → w.first ≡ learnable.free → IsPair c w → ((l : Literal) → has c l ≡ true → same learnable.free l ≡ false → level_of T l ≤ level_of T w.second)
     → u.pairs ≡ k.pairs ++ w ∷ [] → u.lists ≡ attached k.lists w (length K) (nat_le (length c) 2) → length u.lists ≡ length k.lists → IsPermutation (length K ∷ k.units) u.units → u.least ≡ k.least
     → IsWatching V first K T at floor k single empty → IsWatching V first (K ++ c ∷ []) T at floor u single empty
@@ -154,7 +153,7 @@ learnt-watching V first K T at floor k u single empty c w within ordered over le
         split (zero, l, f) = inl (sym f, unit)
         split (suc p, l, f) = inr (p, (let z : p < length k.units = omega (arith, l) in z), f)
 
-    earlier : (m : ℕ) → m < current_level T → Held (K ++ c ∷ []) (length K) (literals (take floor (up_to T m))) (literals (up_to T m)) w
+    earlier : (m : ℕ) → m < current_level T → IsWatched (K ++ c ∷ []) (length K) (literals (take floor (up_to T m))) (literals (up_to T m)) w
     earlier m h = go learnable.latest
       where
         cut : Includes (literals T) (literals (take floor (up_to T m)))
@@ -167,7 +166,7 @@ learnt-watching V first K T at floor k u single empty c w within ordered over le
             by (inl x) = absurd (true_false (same learnable.free l) (rw (← first_is) (all-member (same w.first) c l (pair.single x) m)) ne)
             by (inr x) = x
 
-        go : (current_level T ≡ 0) ⊎ ((l : Literal) × (has c l ≡ true) × (same learnable.free l ≡ false) × (level_of T l ≡ current_level T)) → Held (K ++ c ∷ []) (length K) (literals (take floor (up_to T m))) (literals (up_to T m)) w
+        go : (current_level T ≡ 0) ⊎ ((l : Literal) × (has c l ≡ true) × (same learnable.free l ≡ false) × (level_of T l ≡ current_level T)) → IsWatched (K ++ c ∷ []) (length K) (literals (take floor (up_to T m))) (literals (up_to T m)) w
         go (inl z) = absurd (omega (arith, h, z))
         go (inr (l, m_in, ne, level)) = apart (two l m_in ne) (free (take floor (up_to T m)) cut) (false_unless (has (literals (take floor (up_to T m))) (negated w.second)) never)
           where

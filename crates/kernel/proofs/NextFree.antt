@@ -8,7 +8,7 @@ use Rattle.theory.specs.Trails.{Entry, Trail, literals, entry_of, least_free}
 use Rattle.theory.proofs.LiteralLemmas.{or-cases, or-left, or-right}
 use Rattle.theory.proofs.LiteralSets.{false_unless, has_var-append_left, literal_of_var}
 use Rattle.theory.proofs.OverVariables.{AreOver-from_IsOver}
-use Rattle.kernel.specs.Held.{IsOrdered}
+use Rattle.kernel.specs.TrailOver.{IsOrdered}
 use Rattle.kernel.specs.declared.truth.Truth.{Truth}
 use Rattle.kernel.specs.Tables.{value_in, AreTables, IsNextFree}
 use Rattle.kernel.proofs.LeastFree.{least_free-found, least_free-none}

@@ -1,16 +1,15 @@
 -- Entries of distinct variables by rising level: one more at the end, and those up to a level.
 use Rattle.std.proofs.Common.{◌≡◌, ℕ, zero, suc, ◌+◌, ◌-◌, ◌<◌, ◌≤◌, true, false, not, List, [], ◌∷◌, ◌++◌, length, length-append, take, drop, get_or, refl, ap, sym, subst, ◌∙◌, nat_le, le-leb, slice_get, arith}
 use Rattle.std.proofs.lemmas.List.{take_more, length-map, map-append, take-append-drop}
-use Rattle.theory.specs.Literals.{Literal, has_var, IsVariable}
+use Rattle.theory.specs.Literals.{Literal, has_var, IsVariable, are_distinct}
 use Rattle.theory.specs.Truth.{IsOver}
 use Rattle.theory.specs.Trails.{Entry, Trail, literals, level_at, current_level, up_to}
-use Rattle.theory.specs.Lawful.{are_distinct}
 use Rattle.theory.proofs.LiteralLemmas.{and-left, and-right, not_true}
 use Rattle.theory.proofs.LiteralSets.{and-true, has_var-append_left}
 use Rattle.theory.proofs.TrailEntries.{literals-at, are_distinct-push}
 use Rattle.theory.proofs.OverVariables.{AreOver-from_IsOver, IsOver-from_AreOver, AreOver-push, IsOver-left}
 use Rattle.theory.proofs.TrailLevels.{up_to-push}
-use Rattle.kernel.specs.Held.{IsRisingFrom, IsOrdered}
+use Rattle.kernel.specs.TrailOver.{IsRisingFrom, IsOrdered}
 use Rattle.theory.proofs.DistinctLiterals.{length-distinct}
 
 -- the last level, or the given one

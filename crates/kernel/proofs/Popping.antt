@@ -11,7 +11,7 @@ use Rattle.theory.specs.Status.{is_false, others_false, unit_literal}
 use Rattle.theory.specs.Trails.{Entry, Trail, literals, current_level}
 use Rattle.theory.specs.Propagation.{least_false, least_unit}
 use Rattle.theory.proofs.LiteralLemmas.{and-left, and-right, or-cases, or-left, or-right, true_or_false, same-refl}
-use Rattle.kernel.specs.Watching.{IsConsistent, IsPair, Held, apart, first_true, second_true, other_true, Reached, Good, held, waits, reached, At, Tending, Includes, Tends, WasUnit, AllGood, IsServed, chosen}
+use Rattle.kernel.specs.Watching.{IsConsistent, IsPair, IsWatched, apart, first_true, second_true, other_true, Reached, Good, held, waits, reached, At, Tending, Includes, Tends, WasUnit, AllGood, IsServed, chosen}
 use Rattle.kernel.specs.declared.watch.Watched.{Watched}
 use Rattle.kernel.proofs.LiteralFacts.{true_false, has-push, free-not_negated}
 use Rattle.kernel.proofs.Places.{At-one, At-get}
@@ -139,7 +139,7 @@ Tends-grow floor K T e t level s = record {
   earlier = λ m h n c w a b.
       let low : m < current_level T = subst (λ x. m < x) (current_level-push T e ∙ level) h in
       let high : m < e.level = subst (λ x. m < x) (current_level-push T e) h in
-      subst (λ (U : Trail). (c ≡ [] → ⊥) × Held K n (literals (take floor U)) (literals U) w) (sym (up_to-push T e m high)) (s.earlier m low n c w a b);
+      subst (λ (U : Trail). (c ≡ [] → ⊥) × IsWatched K n (literals (take floor U)) (literals U) w) (sym (up_to-push T e m high)) (s.earlier m low n c w a b);
 }
   where
     grown : (l : Literal) → has (literals T) l ≡ true → has (literals (T ++ e ∷ [])) l ≡ true
@@ -236,7 +236,7 @@ module _ (floor : ℕ) (K : List Clause) (T : Trail) (t u : Tending) (n : ℕ) (
   less S Q f v m ne (waits h z) = waits (still-wait m ne h) z
   less S Q f v m ne (reached r) = reached r
 
-  pop-good : (Q : List Literal) → Includes Q (literals T) → Held K n (literals T) Q w → AllGood K (literals T) Q u
+  pop-good : (Q : List Literal) → Includes Q (literals T) → IsWatched K n (literals T) Q w → AllGood K (literals T) Q u
   pop-good Q more h m v a = go (cases_eq m n)
     where
       there : At t.pairs m v
@@ -249,14 +249,14 @@ module _ (floor : ℕ) (K : List Clause) (T : Trail) (t u : Tending) (n : ℕ) (
       go (inr e) = rw p.least (less (literals T) Q t.least v m e (Good-grow K (literals T) (literals T) Q t.units t.least v m more (good_at m v there)))
 
   -- the chosen literal is true
-  held-by : (Q : List Literal) → has Q (chosen (literals T) w) ≡ true → Held K n (literals T) Q w
+  held-by : (Q : List Literal) → has Q (chosen (literals T) w) ≡ true → IsWatched K n (literals T) Q w
   held-by Q h = other_true (get_or K n []) (chosen (literals T) w) c-at choice.member h
 
   -- the clause is held, though both watched literals are false
-  held-otherwise : has (literals T) (negated w.first) ≡ true → has (literals T) (negated w.second) ≡ true → Held K n (literals T) (literals T) w
+  held-otherwise : has (literals T) (negated w.first) ≡ true → has (literals T) (negated w.second) ≡ true → IsWatched K n (literals T) (literals T) w
   held-otherwise f g = go good-n
     where
-      go : Good K (literals T) (literals T) t.units None w n → Held K n (literals T) (literals T) w
+      go : Good K (literals T) (literals T) t.units None w n → IsWatched K n (literals T) (literals T) w
       go (held h) = h
       go (waits m (inl a)) = absurd (true_false (has (literals T) (negated w.first)) f a)
       go (waits m (inr b)) = absurd (true_false (has (literals T) (negated w.second)) g b)
@@ -269,7 +269,7 @@ module _ (floor : ℕ) (K : List Clause) (T : Trail) (t u : Tending) (n : ℕ) (
         (pop-good (literals T) (λ l m. m) (go (has_var-has (literals T) (chosen (literals T) w) h)));
   }
     where
-      go : (has (literals T) (chosen (literals T) w) ≡ true) ⊎ (has (literals T) (negated (chosen (literals T) w)) ≡ true) → Held K n (literals T) (literals T) w
+      go : (has (literals T) (chosen (literals T) w) ≡ true) ⊎ (has (literals T) (negated (chosen (literals T) w)) ≡ true) → IsWatched K n (literals T) (literals T) w
       go (inl e) = held-by (literals T) e
       go (inr e) = let b = choice.both_false e in held-otherwise b.0 b.1
 

@@ -13,7 +13,7 @@ use Rattle.theory.proofs.LiteralLemmas.{true_or_false}
 use Rattle.kernel.specs.declared.watch.Watched.{Watched}
 use Rattle.kernel.specs.declared.watch.Watch.{Watch}
 use Rattle.kernel.specs.Watching.{At, IsPair, apart, Good, held, waits, reached, IsFull, code, list_at}
-use Rattle.kernel.specs.Visiting.{Kept, places, entries_at, tending}
+use Rattle.kernel.specs.Visiting.{WatchLists, places, entries_at, tending}
 use Rattle.kernel.specs.Attaching.{IsWatching}
 use Rattle.kernel.specs.Cutting.{IsKeptBelow, AreKeptBelow, AreCodesOf}
 use Rattle.kernel.proofs.Places.{At-one, At-get}
@@ -46,7 +46,7 @@ entry-of ws n d (p, inside, read) =
     let within : p < length ws = subst (λ m. p < m) (length-map ws (λ (y : Watch). y.clause)) inside in
     (p, get_or ws p d, At-get ws p d within, sym (get_or-map (λ (y : Watch). y.clause) ws p d) ∙ (get_or_default (places ws) p d.clause n inside ∙ read))
 
-module _ (V first at floor : ℕ) (K : List Clause) (T : Trail) (k u : Kept) (single codes : List ℕ) (empty : Option ℕ) (s : IsWatching V first K T at floor k single empty) (within : first ≤ length K) (coded : AreCodesOf first k.pairs codes)
+module _ (V first at floor : ℕ) (K : List Clause) (T : Trail) (k u : WatchLists) (single codes : List ℕ) (empty : Option ℕ) (s : IsWatching V first K T at floor k single empty) (within : first ≤ length K) (coded : AreCodesOf first k.pairs codes)
     (dropped : AreKeptBelow first codes k.lists u.lists) (pairs : u.pairs ≡ take first k.pairs) (long : length u.lists ≡ length k.lists) (units : IsPermutation single u.units) (least : u.least ≡ empty) where
   d : Watch
   d = record { clause = 0; blocker = record { var = 0; positive = true }; is_short = true }
@@ -198,7 +198,7 @@ module _ (V first at floor : ℕ) (K : List Clause) (T : Trail) (k u : Kept) (si
               one (inr h) = held (apart h refl refl)
 
 -- the lists of the literals that learnt clauses watch are there
-pub learnt-codes : (V W first at floor : ℕ) (K : List Clause) (T : Trail) (k : Kept) (single : List ℕ) (empty : Option ℕ) → All (IsOver W) K → length k.lists ≡ 2 * W + 2 → IsWatching V first K T at floor k single empty
+pub learnt-codes : (V W first at floor : ℕ) (K : List Clause) (T : Trail) (k : WatchLists) (single : List ℕ) (empty : Option ℕ) → All (IsOver W) K → length k.lists ≡ 2 * W + 2 → IsWatching V first K T at floor k single empty
     → (n : ℕ) (w : Watched) → first ≤ n → At k.pairs n w → (code w.first < length k.lists) × (code w.second < length k.lists)
 learnt-codes V W first at floor K T k single empty over long s n w low a = by (get_or K n []) refl
   where

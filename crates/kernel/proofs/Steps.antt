@@ -8,7 +8,7 @@ use Rattle.theory.specs.Literals.{Literal, Clause, same, has, negated}
 use Rattle.theory.specs.Status.{is_false}
 use Rattle.theory.specs.Trails.{Trail, literals, current_level, up_to}
 use Rattle.theory.proofs.LiteralLemmas.{true_or_false, same-eq, same-refl}
-use Rattle.kernel.specs.Watching.{IsConsistent, IsPair, Held, apart, first_true, second_true, other_true, Reached, Good, held, waits, reached, At, Tending, list_at, code, IsExact, Includes, Tends, IsBeside, lesser, WasUnit, moved, IsFull}
+use Rattle.kernel.specs.Watching.{IsConsistent, IsPair, IsWatched, apart, first_true, second_true, other_true, Reached, Good, held, waits, reached, At, Tending, list_at, code, IsExact, Includes, Tends, IsBeside, lesser, WasUnit, moved, IsFull}
 use Rattle.kernel.specs.declared.watch.Watched.{Watched}
 use Rattle.kernel.proofs.LiteralFacts.{true_false, all-member, same-sym, same-sym-false}
 use Rattle.kernel.proofs.Places.{At-one, At-get, At-set, code-one, Contains-of_swap_remove, Contains-swap_remove, At-push, swap_remove-gone, swap_remove-once}
@@ -51,14 +51,14 @@ Good-move K R S P H f w g k z n ok beside sub gone free apart_z more good = go b
     go b (reached r) = reached r
 
 -- the same of what is held
-pub Held-move : (K : List Clause) (n : ℕ) (R Q P : List Literal) (w : Watched) (g k z : Literal) → IsConsistent P → IsBeside w g k → Includes P Q → has P (negated g) ≡ true → has P (negated z) ≡ false → same k z ≡ false
-    → Includes P R → Held K n R Q w → Held K n R Q (record { first = k; second = z })
-Held-move K n R Q P w g k z ok beside sub gone free apart_z served h = go beside h
+pub IsWatched-move : (K : List Clause) (n : ℕ) (R Q P : List Literal) (w : Watched) (g k z : Literal) → IsConsistent P → IsBeside w g k → Includes P Q → has P (negated g) ≡ true → has P (negated z) ≡ false → same k z ≡ false
+    → Includes P R → IsWatched K n R Q w → IsWatched K n R Q (record { first = k; second = z })
+IsWatched-move K n R Q P w g k z ok beside sub gone free apart_z served h = go beside h
   where
     z_free : has R (negated z) ≡ false
     z_free = not-in P R (negated z) served free
 
-    go : IsBeside w g k → Held K n R Q w → Held K n R Q (record { first = k; second = z })
+    go : IsBeside w g k → IsWatched K n R Q w → IsWatched K n R Q (record { first = k; second = z })
     go (inl (e, i)) (apart d a b) = apart apart_z (subst (λ (x : Literal). has R (negated x) ≡ false) i b) z_free
     go (inr (e, i)) (apart d a b) = apart apart_z (subst (λ (x : Literal). has R (negated x) ≡ false) i a) z_free
     go (inl (e, i)) (first_true t) = absurd (ok g (sub g (subst (λ (x : Literal). has Q x ≡ true) e t)) gone)
@@ -365,8 +365,8 @@ Tends-move floor K T t u g k z w c₀ n j d pairs lists units least ok cuts at_c
         outer (inl (e, f)) = s.listed.within (code g) (list_at t.lists g) m at_g (Contains-of_swap_remove (list_at t.lists g) j d m at_n.0 (subst (λ (xs : List ℕ). Contains xs m) f b))
         outer (inr (e, x)) = inner (At-set t.lists (code z) (list_at t.lists z ++ n ∷ []) i ns x)
 
-    before : (m : ℕ) → m < current_level T → (i : ℕ) (c : Clause) (v : Watched) → At K i c → ((i ≡ n) × (v ≡ both k z)) ⊎ ((i ≢ n) × At t.pairs i v) → (c ≡ [] → ⊥) × Held K i (literals (take floor (up_to T m))) (literals (up_to T m)) v
+    before : (m : ℕ) → m < current_level T → (i : ℕ) (c : Clause) (v : Watched) → At K i c → ((i ≡ n) × (v ≡ both k z)) ⊎ ((i ≢ n) × At t.pairs i v) → (c ≡ [] → ⊥) × IsWatched K i (literals (take floor (up_to T m))) (literals (up_to T m)) v
     before m h i c v a (inl (e, f)) =
         let r = s.earlier m h n c w (rw (← e) a) at_w in
-        (r.0, rw (e, f) (Held-move K n (literals (take floor (up_to T m))) (literals (up_to T m)) (literals T) w g k z ok beside (cuts m h) gone free k_z (λ l x. cuts m h l (Includes-take (up_to T m) floor l x)) r.1))
+        (r.0, rw (e, f) (IsWatched-move K n (literals (take floor (up_to T m))) (literals (up_to T m)) (literals T) w g k z ok beside (cuts m h) gone free k_z (λ l x. cuts m h l (Includes-take (up_to T m) floor l x)) r.1))
     before m h i c v a (inr (o, b)) = s.earlier m h i c v a b

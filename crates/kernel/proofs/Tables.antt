@@ -3,9 +3,8 @@ use Rattle.std.proofs.Common.{◌≡◌, ◌≢◌, ℕ, zero, suc, ◌+◌, ◌
 use Rattle.std.proofs.lemmas.List.{get_or_default, get_or-set_same, get_or-set_other, length-set, map-append, take_more}
 use Rattle.std.proofs.lemmas.Grind.{get_or_default_zero}
 use Rattle.std.proofs.lemmas.Option.{slice_get-get_or}
-use Rattle.theory.specs.Literals.{Literal, same_sign, has_var, negated, IsVariable}
+use Rattle.theory.specs.Literals.{Literal, same_sign, has_var, negated, IsVariable, are_distinct}
 use Rattle.theory.specs.Trails.{Entry, Trail, literals, entry_of}
-use Rattle.theory.specs.Lawful.{are_distinct}
 use Rattle.theory.proofs.LiteralLemmas.{and-left, and-right, not_true, or-right, true_or_false}
 use Rattle.theory.proofs.LiteralSets.{true_false, false_unless, or-false_left, or-false_right, or-none, has_var-append_right}
 use Rattle.kernel.specs.declared.truth.Truth.{Truth}

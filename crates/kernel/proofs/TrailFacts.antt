@@ -1,10 +1,9 @@
 -- The literals of a trail, of its front and of its states at earlier levels.
 use Rattle.std.proofs.Common.{◌≡◌, ℕ, suc, zero, ◌-◌, ◌<◌, Bool, true, false, not, ◌||◌, List, [], ◌∷◌, ◌++◌, length, take, Some, refl, ap, sym, subst, ◌∙◌, ◌⊎◌, inl, inr, arith, cond, nat_le, leb-true, slice_get}
 use Rattle.std.proofs.lemmas.List.{length_push}
-use Rattle.theory.specs.Literals.{Literal, same, has, has_var, negated}
+use Rattle.theory.specs.Literals.{Literal, same, has, has_var, negated, are_distinct}
 use Rattle.theory.specs.Trails.{Entry, Trail, literals, current_level, up_to}
 use Rattle.theory.proofs.LiteralLemmas.{and-left, and-right, or-cases, or-left, or-right, not_true, same-eq}
-use Rattle.theory.specs.Lawful.{are_distinct}
 use Rattle.kernel.specs.Watching.{Includes, IsConsistent}
 use Rattle.kernel.proofs.LiteralFacts.{true_false, has-var}
 

@@ -14,7 +14,7 @@ use Rattle.theory.proofs.LiteralLemmas.{same-eq, same-refl, or-left, or-right, t
 use Rattle.kernel.specs.declared.watch.Watched.{Watched}
 use Rattle.kernel.specs.declared.watch.Watch.{Watch}
 use Rattle.kernel.specs.Watching.{At, IsConsistent, IsBeside, IsFull, code, lesser, list_at, moved, Walks, IsNext, Tending, held, other_true, reached, Reached}
-use Rattle.kernel.specs.Visiting.{Kept, places, entries_at, tending, with_list, IsEntry, AreEntriesOf, AreEntries, Replaces, IsLast, CanVisit, IsStay, IsVisit, satisfied, behind, unit, clashes, moves}
+use Rattle.kernel.specs.Visiting.{WatchLists, places, entries_at, tending, with_list, IsEntry, AreEntriesOf, AreEntries, Replaces, IsLast, CanVisit, IsStay, IsVisit, satisfied, behind, unit, clashes, moves}
 use Rattle.kernel.proofs.LiteralFacts.{true_false}
 use Rattle.kernel.proofs.Places.{At-one, At-get, At-set, At-push, code-one}
 use Rattle.kernel.proofs.Steps.{both}
@@ -106,18 +106,18 @@ pub At-places : (ws : List Watch) (j : ℕ) (e : Watch) → At ws j e → At (pl
 At-places ws j e a = (subst (λ n. j < n) (sym (length-map ws (λ (x : Watch). x.clause))) a.0, get_or-map (λ (x : Watch). x.clause) ws j e ∙ ap (λ (x : Watch). x.clause) a.1)
 
 -- the list that was taken out, among the others
-pub list-is : (k : Kept) (g : Literal) (ws : List Watch) → code g < length k.lists → list_at (tending (with_list k g ws)).lists g ≡ places ws
+pub list-is : (k : WatchLists) (g : Literal) (ws : List Watch) → code g < length k.lists → list_at (tending (with_list k g ws)).lists g ≡ places ws
 list-is k g ws h =
     ap (λ (ls : List (List ℕ)). get_or ls (code g) []) (map-set places k.lists (code g) ws)
     ∙ get_or-set_same (map places k.lists) (code g) (places ws) [] (subst (λ n. code g < n) (sym (length-map k.lists places)) h)
 
-entries-is : (k : Kept) (g : Literal) (ws : List Watch) → code g < length k.lists → entries_at (set k.lists (code g) ws) g ≡ ws
+entries-is : (k : WatchLists) (g : Literal) (ws : List Watch) → code g < length k.lists → entries_at (set k.lists (code g) ws) g ≡ ws
 entries-is k g ws h = get_or-set_same k.lists (code g) ws [] h
 
-lists-long : (k : Kept) (g : Literal) (ws : List Watch) → length (tending (with_list k g ws)).lists ≡ length k.lists
+lists-long : (k : WatchLists) (g : Literal) (ws : List Watch) → length (tending (with_list k g ws)).lists ≡ length k.lists
 lists-long k g ws = length-map (set k.lists (code g) ws) places ∙ length-set k.lists (code g) ws
 
-module _ (floor : ℕ) (K : List Clause) (T : Trail) (n : ℕ) (g : Literal) (k : Kept) (ws : List Watch) (j : ℕ) (e : Watch) (h : code g < length k.lists) (next : IsNext T n g) (s : Walks floor K T n g (tending (with_list k g ws)) j) (entries : AreEntries K (with_list k g ws)) (at : At ws j e) where
+module _ (floor : ℕ) (K : List Clause) (T : Trail) (n : ℕ) (g : Literal) (k : WatchLists) (ws : List Watch) (j : ℕ) (e : Watch) (h : code g < length k.lists) (next : IsNext T n g) (s : Walks floor K T n g (tending (with_list k g ws)) j) (entries : AreEntries K (with_list k g ws)) (at : At ws j e) where
   listed : At (list_at (tending (with_list k g ws)).lists g) j e.clause
   listed = subst (λ (ns : List ℕ). At ns j e.clause) (sym (list-is k g ws h)) (At-places ws j e at)
 
@@ -152,7 +152,7 @@ module _ (floor : ℕ) (K : List Clause) (T : Trail) (n : ℕ) (g : Literal) (k 
   kept-places : (b : Literal) → places (set ws j (record e { blocker = b })) ≡ places ws
   kept-places b = map-set_same (λ (x : Watch). x.clause) ws j (record e { blocker = b }) e (ap (λ (x : Watch). x.clause) (sym at.1))
 
-  same-tending : (u : Kept) (b : Literal) → tending (with_list u g (set ws j (record e { blocker = b }))) ≡ tending (with_list u g ws)
+  same-tending : (u : WatchLists) (b : Literal) → tending (with_list u g (set ws j (record e { blocker = b }))) ≡ tending (with_list u g ws)
   same-tending u b =
       let one : map places (set u.lists (code g) (set ws j (record e { blocker = b }))) ≡ map places (set u.lists (code g) ws) =
       map-set places u.lists (code g) (set ws j (record e { blocker = b })) ∙ ap (λ ns. set (map places u.lists) (code g) ns) (kept-places b) ∙ sym (map-set places u.lists (code g) ws) in
@@ -172,30 +172,30 @@ module _ (floor : ℕ) (K : List Clause) (T : Trail) (n : ℕ) (g : Literal) (k 
       by l m (inl x) = subst (λ (y : Literal). has P (negated y) ≡ true) (same-eq b l x) gone
       by l m (inr x) = last l m x
 
-  stays-walk : (u : Kept) (b : Literal) → IsVisit K (literals T) g e k u (Some b) → Walks floor K T n g (tending (with_list u g ws)) (j + 1)
+  stays-walk : (u : WatchLists) (b : Literal) → IsVisit K (literals T) g e k u (Some b) → Walks floor K T n g (tending (with_list u g ws)) (j + 1)
   stays-walk u b (satisfied stay t is) =
-      subst (λ (x : Kept). Walks floor K T n g (tending (with_list x g ws)) (j + 1)) (sym is)
+      subst (λ (x : WatchLists). Walks floor K T n g (tending (with_list x g ws)) (j + 1)) (sym is)
       (Walks-good floor K T n g (tending (with_list k g ws)) j e.clause (get_or K e.clause []) w-at.0 visits (held (other_true (get_or K e.clause []) b c-at (stay.blocker_in (get_or K e.clause []) c-at) t)) s)
   stays-walk u b (behind stay least le is) =
-      subst (λ (x : Kept). Walks floor K T n g (tending (with_list x g ws)) (j + 1)) (sym is)
+      subst (λ (x : WatchLists). Walks floor K T n g (tending (with_list x g ws)) (j + 1)) (sym is)
       (Walks-good floor K T n g (tending (with_list k g ws)) j e.clause (get_or K e.clause []) w-at.0 visits (reached (subst (λ o. Reached o e.clause) (sym least) le)) s)
   stays-walk u b (unit stay last free perm pairs lists least) =
       Walks-unit floor K T n g b (tending (with_list k g ws)) (tending (with_list u g ws)) j e.clause (get_or K e.clause []) w-at.0 pairs (ap (λ (ls : List (List Watch)). map places (set ls (code g) ws)) lists) least perm next visits
       (last (get_or K e.clause []) w-at.0 c-at w-at.1).0 free (stay.blocker_in (get_or K e.clause []) c-at) (all-false-but (literals T) (get_or K e.clause []) b (last (get_or K e.clause []) w-at.0 c-at w-at.1).1) s
   stays-walk u b (clashes stay last gone is) =
-      subst (λ (x : Kept). Walks floor K T n g (tending (with_list x g ws)) (j + 1)) (sym is)
+      subst (λ (x : WatchLists). Walks floor K T n g (tending (with_list x g ws)) (j + 1)) (sym is)
       (Walks-false floor K T n g b (tending (with_list k g ws)) (tending (with_list (record k { least = Some (lesser k.least e.clause) }) g ws)) j e.clause (get_or K e.clause []) w-at.0 refl refl refl refl visits
       (all-false (literals T) (get_or K e.clause []) b (last (get_or K e.clause []) c-at) gone) s)
 
-  pub turn-stays : (u : Kept) (b : Literal) → IsVisit K (literals T) g e k u (Some b) → Walks floor K T n g (tending (with_list u g (set ws j (record e { blocker = b })))) (j + 1)
+  pub turn-stays : (u : WatchLists) (b : Literal) → IsVisit K (literals T) g e k u (Some b) → Walks floor K T n g (tending (with_list u g (set ws j (record e { blocker = b })))) (j + 1)
   turn-stays u b v = subst (λ (t : Tending). Walks floor K T n g t (j + 1)) (sym (same-tending u b)) (stays-walk u b v)
 
   -- what the entries say stays
-  same-kept : (u : Kept) (b : Literal) → IsVisit K (literals T) g e k u (Some b) → IsStay K e b × (u.pairs ≡ k.pairs) × (u.lists ≡ k.lists)
-  same-kept u b (satisfied stay t is) = (stay, ap (λ (x : Kept). x.pairs) is, ap (λ (x : Kept). x.lists) is)
-  same-kept u b (behind stay least le is) = (stay, ap (λ (x : Kept). x.pairs) is, ap (λ (x : Kept). x.lists) is)
+  same-kept : (u : WatchLists) (b : Literal) → IsVisit K (literals T) g e k u (Some b) → IsStay K e b × (u.pairs ≡ k.pairs) × (u.lists ≡ k.lists)
+  same-kept u b (satisfied stay t is) = (stay, ap (λ (x : WatchLists). x.pairs) is, ap (λ (x : WatchLists). x.lists) is)
+  same-kept u b (behind stay least le is) = (stay, ap (λ (x : WatchLists). x.pairs) is, ap (λ (x : WatchLists). x.lists) is)
   same-kept u b (unit stay last free perm pairs lists least) = (stay, pairs, lists)
-  same-kept u b (clashes stay last gone is) = (stay, ap (λ (x : Kept). x.pairs) is, ap (λ (x : Kept). x.lists) is)
+  same-kept u b (clashes stay last gone is) = (stay, ap (λ (x : WatchLists). x.pairs) is, ap (λ (x : WatchLists). x.lists) is)
 
   new-entry : (b : Literal) → IsStay K e b → IsEntry K k.pairs g (record e { blocker = b })
   new-entry b stay = record {
@@ -213,7 +213,7 @@ module _ (floor : ℕ) (K : List Clause) (T : Trail) (n : ℕ) (g : Literal) (k 
   g-entries : AreEntriesOf K k.pairs g ws
   g-entries p x a = entries g p x (subst (λ (ys : List Watch). At ys p x) (sym (entries-is k g ws h)) a)
 
-  pub turn-stays-entries : (u : Kept) (b : Literal) → IsVisit K (literals T) g e k u (Some b) → AreEntries K (with_list u g (set ws j (record e { blocker = b })))
+  pub turn-stays-entries : (u : WatchLists) (b : Literal) → IsVisit K (literals T) g e k u (Some b) → AreEntries K (with_list u g (set ws j (record e { blocker = b })))
   turn-stays-entries u b v l p x a = go (cases_eq (code l) (code g))
     where
       r : IsStay K e b × (u.pairs ≡ k.pairs) × (u.lists ≡ k.lists)
@@ -244,7 +244,7 @@ module _ (floor : ℕ) (K : List Clause) (T : Trail) (n : ℕ) (g : Literal) (k 
           absurd (omega (arith, short, long))
       go i c w a (inr (_, b)) = r.short i c w a b
 
-  module _ (u : Kept) (new : List Watch) (ok : IsConsistent (literals T)) (room : (c : Clause) (l : Literal) → At K e.clause c → has c l ≡ true → code l < length k.lists)
+  module _ (u : WatchLists) (new : List Watch) (ok : IsConsistent (literals T)) (room : (c : Clause) (l : Literal) → At K e.clause c → has c l ≡ true → code l < length k.lists)
       (was : (p : ℕ) (x : Watch) → At new p x → (q : ℕ) × At ws q x) (gone : places new ≡ swap_remove (places ws) j e.clause) where
     -- what a move is made of
     record Move (y z : Literal) : Type 0 where
@@ -380,7 +380,7 @@ pub room-of : {V : Type 0} (f : V → List Watch) (vs : List V) (n : ℕ) (K : L
 room-of f vs n K m long over inside c l a h =
     code-within l n (length (map f vs)) (over-var n c l (subst (λ (d : Clause). IsOver n d) (At-one K m (get_or K m []) c (At-get K m [] inside) a) (over m [] inside)) h) (length-map vs f ∙ long)
 
-pub all-visited : (k : Kept) (g : Literal) (list : List Watch) (end place : ℕ) → code g < length k.lists → end ≤ length list → end ≤ place → length (list_at (tending (with_list k g (take end list))).lists g) ≤ place
+pub all-visited : (k : WatchLists) (g : Literal) (list : List Watch) (end place : ℕ) → code g < length k.lists → end ≤ length list → end ≤ place → length (list_at (tending (with_list k g (take end list))).lists g) ≤ place
 all-visited k g list end place h inside done =
     let size : length (list_at (tending (with_list k g (take end list))).lists g) ≡ end =
     ap length (list-is k g (take end list) h) ∙ length-map (take end list) (λ (e : Watch). e.clause) ∙ length-take-le end list inside in

@@ -9,7 +9,7 @@ use Rattle.std.proofs.lemmas.List.{get_or_append_left, get_or_push, get_or-drop,
 use Rattle.std.proofs.lemmas.List.Elements.{All-from_recursion, All-append, All-weaker}
 use Rattle.std.proofs.lemmas.List.Sorted.{IsPermutation-trans, IsPermutation-sym, IsPermutation-middle, IsPermutation-append_right}
 use Rattle.std.proofs.lemmas.Map.Keys.{ge_from_not_lt}
-use Rattle.kernel.specs.Waiting.{IsRisingFrom}
+use Rattle.kernel.specs.Waiting.{NeverFallsFrom}
 
 -- what the greatest of reversed numbers is
 none-below : (x : ℕ) (xs : List (Reverse ℕ)) → AllByRecursion (λ y. is_lt (nat_cmp y.0 x) ≡ false) xs → AllByRecursion (λ m. x ≤ m) (map (λ r. r.0) xs)
@@ -25,7 +25,7 @@ top-there [] x h e = absurd (omega (arith, h))
 top-there (y ∷ ys) x h e = (0, (let z : 0 < length (map (λ r. r.0) (y ∷ ys)) = omega arith in z), ap (λ (r : Reverse ℕ). r.0) (sym e))
 
 -- a number at the end that is no less than those from a place on
-pub rising-push : (head : ℕ) (ns : List ℕ) (n : ℕ) → head ≤ length ns → IsRisingFrom head ns → All (λ m. m ≤ n) (drop head ns) → IsRisingFrom head (ns ++ n ∷ [])
+pub rising-push : (head : ℕ) (ns : List ℕ) (n : ℕ) → head ≤ length ns → NeverFallsFrom head ns → All (λ m. m ≤ n) (drop head ns) → NeverFallsFrom head (ns ++ n ∷ [])
 rising-push head ns n within rising all i j low le high = go (cases_lt j (length ns)) (cases_lt i (length ns))
   where
     long : length (ns ++ n ∷ []) ≡ length ns + 1

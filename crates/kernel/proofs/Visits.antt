@@ -15,7 +15,7 @@ use Rattle.std.proofs.Math.Bool.{beq}
 use Rattle.std.specs.Option.{option_eq}
 use Rattle.std.specs.List.Sorted.{IsPermutation}
 use Rattle.theory.proofs.ClauseWalks.{beq-same, beq-other}
-use Rattle.kernel.specs.Visiting.{IsTruth, IsLast, Replaces, CanVisit, IsStay, IsVisit, unit, clashes, moves, Kept, entries_at}
+use Rattle.kernel.specs.Visiting.{IsTruth, IsLast, Replaces, CanVisit, IsStay, IsVisit, unit, clashes, moves, WatchLists, entries_at}
 use Rattle.kernel.proofs.LiteralFacts.{all-member, has-var}
 use Rattle.theory.proofs.LiteralSets.{false_unless}
 use Rattle.kernel.proofs.LiteralFacts.{true_false, free-not_negated}
@@ -141,7 +141,7 @@ code-within l V n h e = go l.positive
     go true = omega (arith, h, e)
     go false = omega (arith, h, e)
 
-module _ (K : List Clause) (P : List Literal) (g : Literal) (e : Watch) (s : Kept) (v : CanVisit K P g e s) where
+module _ (K : List Clause) (P : List Literal) (g : Literal) (e : Watch) (s : WatchLists) (v : CanVisit K P g e s) where
   pub pair-inside : e.clause < length s.pairs
   pair-inside = omega (arith, v.within, v.length_pairs)
 
@@ -202,12 +202,12 @@ module _ (K : List Clause) (P : List Literal) (g : Literal) (e : Watch) (s : Kep
   looked-last w k c l a last d u b at = (beside-one w u k l.at at l.beside, subst (λ (x : Clause). IsLast P x k) (clause-is c d a b) last)
 
   -- another literal z is watched
-  pub looked-moves : (u : Kept) (w : Watched) (k z : Literal) (c : Clause) → e.is_short ≡ false → Looked w k → At K e.clause c → Replaces P c k z
+  pub looked-moves : (u : WatchLists) (w : Watched) (k z : Literal) (c : Clause) → e.is_short ≡ false → Looked w k → At K e.clause c → Replaces P c k z
       → u ≡ record s { pairs = set s.pairs e.clause record { first = k; second = z }; lists = set s.lists (code z) (entries_at s.lists z ++ record { clause = e.clause; blocker = k; is_short = false } ∷ []) }
       → IsVisit K P g e s u None
   looked-moves u w k z c long l a r is =
       moves {k = k} {z = z} long (λ d v b at. (beside-one w v k l.at at l.beside, l.member d b, subst (λ (x : Clause). Replaces P x k z) (clause-is c d a b) r))
-      (ap (λ (x : Kept). x.pairs) is) (ap (λ (x : Kept). x.lists) is) (ap (λ (x : Kept). x.units) is) (ap (λ (x : Kept). x.least) is)
+      (ap (λ (x : WatchLists). x.pairs) is) (ap (λ (x : WatchLists). x.lists) is) (ap (λ (x : WatchLists). x.units) is) (ap (λ (x : WatchLists). x.least) is)
 
   pub clause-read : (c : Clause) → slice_get K e.clause ≡ Some c → At K e.clause c
   clause-read c h = read-At K e.clause c v.within h
@@ -238,7 +238,7 @@ module _ (K : List Clause) (P : List Literal) (g : Literal) (e : Watch) (s : Kep
           go (inr (x, y)) (inr f) = is_g (f ∙ x)
 
   -- all literals but one are false, and that one isn't true
-  pub noted : (u : Kept) (b : Literal) (o : Option Bool) → IsStay K e b → ((c : Clause) (w : Watched) → At K e.clause c → At s.pairs e.clause w → IsBeside w g b × IsLast P c b) → IsTruth P b o → o ≢ Some true
+  pub noted : (u : WatchLists) (b : Literal) (o : Option Bool) → IsStay K e b → ((c : Clause) (w : Watched) → At K e.clause c → At s.pairs e.clause w → IsBeside w g b × IsLast P c b) → IsTruth P b o → o ≢ Some true
       → (o ≡ None → IsPermutation (e.clause ∷ s.units) u.units × (u.least ≡ s.least)) → ((x : Bool) → o ≡ Some x → (u.units ≡ s.units) × (u.least ≡ Some (lesser s.least e.clause)))
       → u.pairs ≡ s.pairs → u.lists ≡ s.lists → IsVisit K P g e s u (Some b)
   noted u b o stay last says ne free_one false_one pairs lists = go o refl says

@@ -6,7 +6,7 @@ use Rattle.theory.specs.Trails.{Trail, level_of}
 use Rattle.kernel.specs.declared.watch.Watched.{Watched}
 use Rattle.kernel.specs.declared.watch.Watch.{Watch}
 use Rattle.kernel.specs.Watching.{At, Reached, WasUnit, IsServed, code}
-use Rattle.kernel.specs.Visiting.{Kept, entries_at, tending, AreEntries}
+use Rattle.kernel.specs.Visiting.{WatchLists, entries_at, tending, AreEntries}
 
 -- an entry more in the list of a literal
 abbrev pub with_entry : List (List Watch) → Literal → Watch → List (List Watch)
@@ -27,7 +27,7 @@ pub record IsBase (first : ℕ) (K : List Clause) (single : List ℕ) (least_emp
   pub learnt : (n : ℕ) → first ≤ n → At K n [] → ⊥
 
 -- what is true of the watches of a kernel that has not met want of memory
-pub record IsWatching (V first : ℕ) (K : List Clause) (T : Trail) (at floor : ℕ) (k : Kept) (single : List ℕ) (least_empty : Option ℕ) : Type 0 where
+pub record IsWatching (V first : ℕ) (K : List Clause) (T : Trail) (at floor : ℕ) (k : WatchLists) (single : List ℕ) (least_empty : Option ℕ) : Type 0 where
   pub lists : length k.lists ≡ 2 * V + 2
   pub served : IsServed floor K T at (tending k)
   pub entries : AreEntries K k

@@ -3,7 +3,7 @@ pub mod Answer
 pub mod Attaching
 pub mod Cubes
 pub mod Cutting
-pub mod Held
+pub mod TrailOver
 pub mod Pieces
 pub mod State
 pub mod Tables

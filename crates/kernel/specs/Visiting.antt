@@ -14,7 +14,7 @@ IsTruth P l (Some true) = has P l ≡ true
 IsTruth P l (Some false) = has P (negated l) ≡ true
 
 -- what is kept beside the clauses, with the entries of the lists whole
-pub record Kept : Type 0 where
+pub record WatchLists : Type 0 where
   pub pairs : List Watched
   pub lists : List (List Watch)
   pub units : List ℕ
@@ -28,15 +28,15 @@ places ws = map (λ e. e.clause) ws
 abbrev pub entries_at : List (List Watch) → Literal → List Watch
 entries_at lists l = slice_index_or lists (code l) []
 
-abbrev pub kept_of : Propagator → Kept
+abbrev pub kept_of : Propagator → WatchLists
 kept_of p = record { pairs = p.pairs.items; lists = map (λ v. v.items) p.lists.items; units = p.units; least = p.conflict }
 
 -- the same without what the entries say beside the clauses' places
-abbrev pub tending : Kept → Tending
+abbrev pub tending : WatchLists → Tending
 tending k = record { pairs = k.pairs; lists = map places k.lists; units = k.units; least = k.least }
 
 -- with the entries ws for the list of g, which is taken out while it is gone through
-abbrev pub with_list : Kept → Literal → List Watch → Kept
+abbrev pub with_list : WatchLists → Literal → List Watch → WatchLists
 with_list k g ws = record k { lists = slice_set k.lists (code g) ws }
 
 -- what an entry in the list of l says of its clause
@@ -48,7 +48,7 @@ pub record IsEntry (K : List Clause) (pairs : List Watched) (l : Literal) (e : W
 abbrev pub AreEntriesOf : List Clause → List Watched → Literal → List Watch → Type 0
 AreEntriesOf K pairs l ws = (p : ℕ) (e : Watch) → At ws p e → IsEntry K pairs l e
 
-abbrev pub AreEntries : List Clause → Kept → Type 0
+abbrev pub AreEntries : List Clause → WatchLists → Type 0
 AreEntries K k = (l : Literal) → AreEntriesOf K k.pairs l (entries_at k.lists l)
 
 -- z can be watched beside k
@@ -62,7 +62,7 @@ abbrev pub IsLast : List Literal → Clause → Literal → Type 0
 IsLast P c k = (l : Literal) → has c l ≡ true → same k l ≡ false → has P (negated l) ≡ true
 
 -- what a visit begins from: the entry is one of g, which is false
-pub record CanVisit (K : List Clause) (P : List Literal) (g : Literal) (e : Watch) (k : Kept) : Type 0 where
+pub record CanVisit (K : List Clause) (P : List Literal) (g : Literal) (e : Watch) (k : WatchLists) : Type 0 where
   pub within : e.clause < length K
   pub gone : has P (negated g) ≡ true
   pub entry : IsEntry K k.pairs g e
@@ -75,7 +75,7 @@ pub record IsStay (K : List Clause) (e : Watch) (b : Literal) : Type 0 where
   pub short : e.is_short ≡ true → b ≡ e.blocker
 
 -- what changed in a visit of an entry of g; the answer is the entry's new blocker, or none where the entry left the list
-pub data IsVisit (K : List Clause) (P : List Literal) (g : Literal) (e : Watch) (s u : Kept) : Option Literal → Type 0 where
+pub data IsVisit (K : List Clause) (P : List Literal) (g : Literal) (e : Watch) (s u : WatchLists) : Option Literal → Type 0 where
   -- the blocker is true
   satisfied : {b : Literal} → IsStay K e b → has P b ≡ true → u ≡ s → IsVisit K P g e s u (Some b)
   -- an earlier clause is false

@@ -2,5 +2,5 @@
 use Rattle.std.specs.Prelude.{ℕ, ◌<◌, ◌≤◌, List, length, slice_index}
 
 -- from a place on no number is less than one before it
-abbrev pub IsRisingFrom : ℕ → List ℕ → Type 0
-IsRisingFrom head ns = (i j : ℕ) → head ≤ i → i ≤ j → j < length ns → slice_index ns i ≤ slice_index ns j
+abbrev pub NeverFallsFrom : ℕ → List ℕ → Type 0
+NeverFallsFrom head ns = (i j : ℕ) → head ≤ i → i ≤ j → j < length ns → slice_index ns i ≤ slice_index ns j

@@ -39,11 +39,11 @@ abbrev pub IsBeside : Watched → Literal → Literal → Type 0
 IsBeside w g k = ((w.first ≡ g) × (w.second ≡ k)) ⊎ ((w.second ≡ g) × (w.first ≡ k))
 
 -- the watched literals differ and neither is known to be false, or a literal of the clause at n is true
-pub data Held (K : List Clause) (n : ℕ) (S P : List Literal) (w : Watched) : Type 0 where
-  apart : same w.first w.second ≡ false → has S (negated w.first) ≡ false → has S (negated w.second) ≡ false → Held K n S P w
-  first_true : has P w.first ≡ true → Held K n S P w
-  second_true : has P w.second ≡ true → Held K n S P w
-  other_true : (c : Clause) (y : Literal) → At K n c → has c y ≡ true → has P y ≡ true → Held K n S P w
+pub data IsWatched (K : List Clause) (n : ℕ) (S P : List Literal) (w : Watched) : Type 0 where
+  apart : same w.first w.second ≡ false → has S (negated w.first) ≡ false → has S (negated w.second) ≡ false → IsWatched K n S P w
+  first_true : has P w.first ≡ true → IsWatched K n S P w
+  second_true : has P w.second ≡ true → IsWatched K n S P w
+  other_true : (c : Clause) (y : Literal) → At K n c → has c y ≡ true → has P y ≡ true → IsWatched K n S P w
 
 -- the least place of a false clause so far is at most n
 abbrev pub Reached : Option ℕ → ℕ → Type 0
@@ -52,7 +52,7 @@ Reached (Some m) n = m ≤ n
 
 -- a clause is held, or waits among the units, or stands at or behind a false one
 pub data Good (K : List Clause) (S P : List Literal) (H : List ℕ) (f : Option ℕ) (w : Watched) (n : ℕ) : Type 0 where
-  held : Held K n S P w → Good K S P H f w n
+  held : IsWatched K n S P w → Good K S P H f w n
   waits : Contains H n → (has S (negated w.first) ≡ false) ⊎ (has S (negated w.second) ≡ false) → Good K S P H f w n
   reached : Reached f n → Good K S P H f w n
 
@@ -96,8 +96,8 @@ pub record IsFound (K : List Clause) (P : List Literal) (t : Tending) : Type 0 w
 
 -- in a state of the trail from which a decision was made, each clause is held; Q is what such a state holds true, R the part of it that
 -- was served
-abbrev pub IsHeldIn : List Literal → List Literal → List Clause → List Watched → Type 0
-IsHeldIn R Q K W = (n : ℕ) (c : Clause) (w : Watched) → At K n c → At W n w → (c ≡ [] → ⊥) × Held K n R Q w
+abbrev pub AreWatchedIn : List Literal → List Literal → List Clause → List Watched → Type 0
+AreWatchedIn R Q K W = (n : ℕ) (c : Clause) (w : Watched) → At K n c → At W n w → (c ≡ [] → ⊥) × IsWatched K n R Q w
 
 -- each clause is good
 abbrev pub AllGood : List Clause → List Literal → List Literal → Tending → Type 0
@@ -113,7 +113,7 @@ pub record Tends (floor : ℕ) (K : List Clause) (T : Trail) (t : Tending) : Typ
   pub listed : IsListed K t
   pub exact : IsExact t.pairs t.lists
   pub found : IsFound K (literals T) t
-  pub earlier : (m : ℕ) → m < current_level T → IsHeldIn (literals (take floor (up_to T m))) (literals (up_to T m)) K t.pairs
+  pub earlier : (m : ℕ) → m < current_level T → AreWatchedIn (literals (take floor (up_to T m))) (literals (up_to T m)) K t.pairs
 
 -- the smaller of the two
 abbrev pub lesser : Option ℕ → ℕ → ℕ

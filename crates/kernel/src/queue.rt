@@ -15,13 +15,13 @@ pub struct Queue {
 
 impl Model for Queue {
     ghost use Rattle.std.specs.Prelude.{List, ℕ, ◌≤◌, length, drop};
-    ghost use Rattle.kernel.specs.Waiting.{IsRisingFrom};
+    ghost use Rattle.kernel.specs.Waiting.{NeverFallsFrom};
 
     ghost Value = { List ℕ };
 
     ghost view = { λ q. drop q.head q.items.items };
 
-    ghost invariant = { λ q. (q.head ≤ length q.items.items) × IsRisingFrom q.head q.items.items };
+    ghost invariant = { λ q. (q.head ≤ length q.items.items) × NeverFallsFrom q.head q.items.items };
 }
 
 impl Queue {

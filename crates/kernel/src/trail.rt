@@ -2,7 +2,7 @@
 ghost use Rattle.std.specs.Prelude.{◌≡◌, ◌≤◌, ◌<◌, ◌^◌, ◌+◌, ◌*◌, ℕ, [], ◌∷◌, ◌++◌, true, false, length, take, IfOk, IfSome, IfNone, None, Some, slice_get, slice_index, slice_index_or, if◌then◌else◌, ◌⊎◌, is_some};
 ghost use Rattle.theory.specs.Literals.{Literal, IsVariable, has_var};
 ghost use Rattle.theory.specs.Trails.{literals, current_level, entry_of, level_of, least_free, up_to};
-ghost use Rattle.kernel.specs.Held.{IsOrdered, IsRisingFrom};
+ghost use Rattle.kernel.specs.TrailOver.{IsOrdered, IsRisingFrom};
 ghost use Rattle.kernel.specs.Tables.{value_in, value_of, spot};
 ghost use Rattle.kernel.specs.declared.truth.Truth.TheVariants.{Unassigned};
 ghost use Rattle.kernel.specs.Visiting.{IsTruth};
@@ -29,10 +29,10 @@ pub struct Trail {
 
 impl Model for Trail {
     ghost use Rattle.std.specs.Prelude.{◌<◌, ◌≤◌, ◌^◌, vec_capacity};
-    ghost use Rattle.kernel.specs.Held.{Held, IsOrdered};
+    ghost use Rattle.kernel.specs.TrailOver.{TrailOver, IsOrdered};
     ghost use Rattle.kernel.specs.Tables.{AreTables, IsNextFree};
 
-    ghost Value = { Held };
+    ghost Value = { TrailOver };
 
     ghost view = { λ a. record { vars = a.vars; entries = a.entries.items } };
 

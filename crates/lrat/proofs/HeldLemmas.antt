@@ -1,8 +1,7 @@
 -- Literals held true, and their table.
 use Rattle.std.proofs.Common.{◌≡◌, ℕ, zero, suc, ◌<◌, Bool, true, false, not, List, [], ◌∷◌, ◌++◌, length, get_or, Option, Some, None, cond, nat_eq, eqb-true, eq-eqb, refl, ap, sym, subst, ◌∙◌, slice_set, reverse, arith, get_or-set_other, get_or-set_same, append_assoc, append-nil, MatchOption, ne_eqb}
 use Rattle.std.proofs.lemmas.List.{reverse-append, length-set}
-use Rattle.theory.specs.Literals.{Literal, has_var}
-use Rattle.theory.specs.Lawful.{are_distinct}
+use Rattle.theory.specs.Literals.{Literal, has_var, are_distinct}
 use Rattle.theory.proofs.LiteralLemmas.{and-left, and-right, not_true}
 use Rattle.theory.proofs.LiteralSets.{true_false, or-false_left, or-false_right}
 use Rattle.lrat.specs.Held.{value_in, IsTable, Extends}

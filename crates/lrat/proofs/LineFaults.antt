@@ -9,7 +9,7 @@ use Rattle.theory.specs.ProofReading.{TextFault, bad_number, bad_shape, max_lite
 use Rattle.theory.proofs.NumberTexts.{zero_text-is, literal_text-not_zero, literal_text-is_number, decimal-is_positive}
 use Rattle.theory.proofs.LiteralLemmas.{or-left, or-right}
 use Rattle.lrat.specs.LineWords.{word_of, capped}
-use Rattle.lrat.specs.LineMachine.{State, at_id, at_clause, at_hints, at_group, at_ids, ended, with_group, without_groups, IsWithin, size_fault, number_fault_in, fault_in}
+use Rattle.lrat.specs.LineMachine.{LineState, at_id, at_clause, at_hints, at_group, at_ids, ended, with_group, without_groups, IsWithin, size_fault, number_fault_in, fault_in}
 use Rattle.lrat.proofs.WordTexts.{word_cases, not_zero}
 use Rattle.lrat.proofs.LineMachineLemmas.{front, so_far}
 use Rattle.std.proofs.lemmas.List.Elements.{All-head, All-tail, All-push}
@@ -28,7 +28,7 @@ size_fault-capped limit n h = ap (λ b. cond b bad_number bad_shape) (go (nat_lt
     go false e = e ∙ same (nat_lt limit (capped n)) refl e
 
 -- a fault by what the word is
-fault-word : (s : State) (t : List ℕ) (f : TextFault) → f ≡ number_fault_in s (capped (size_of t)) → number_fault_in s 0 ≡ bad_shape
+fault-word : (s : LineState) (t : List ℕ) (f : TextFault) → f ≡ number_fault_in s (capped (size_of t)) → number_fault_in s 0 ≡ bad_shape
     → cond (is_number_text t) f bad_number ≡ fault_in s (word_of t)
 fault-word s t f e shape =
     word_cases (λ w. cond (is_number_text t) f bad_number ≡ fault_in s w) t
@@ -138,7 +138,7 @@ body_fault id (l ∷ c) more t n h z =
     addition_fault id (literal_text l) (clause_words c ++ more) t n (literal-not_mark l (All-head IsLiteral l c h)) z
 
 -- the fault at each state
-number_fault-sized : (s : State) (limit : ℕ) (t : List ℕ) → limit ≤ max_number → number_fault_in s (capped (size_of t)) ≡ size_fault limit (capped (size_of t)) → number_fault_in s 0 ≡ bad_shape
+number_fault-sized : (s : LineState) (limit : ℕ) (t : List ℕ) → limit ≤ max_number → number_fault_in s (capped (size_of t)) ≡ size_fault limit (capped (size_of t)) → number_fault_in s 0 ≡ bad_shape
     → cond (is_number_text t) (size_fault limit (size_of t)) bad_number ≡ fault_in s (word_of t)
 number_fault-sized s limit t small e shape = fault-word s t (size_fault limit (size_of t)) (size_fault-capped limit (size_of t) small ∙ sym e) shape
 
@@ -149,7 +149,7 @@ clause-fault id (l ∷ c) t h =
     addition_fault (decimal id) (literal_text l) (map literal_text c) t 0 (literal-not_mark l (All-head IsLiteral l c h)) (zeros-none IsLiteral literal_text (l ∷ c) literal-not_zero h)
     ∙ number_fault-sized (at_clause id (l ∷ c)) max_literal t (omega arith) refl refl
 
-front-fault : (a : Addition) (s : State) (t : List ℕ) → IsAddition a → number_fault_in s (capped (size_of t)) ≡ size_fault max_number (capped (size_of t)) → number_fault_in s 0 ≡ bad_shape
+front-fault : (a : Addition) (s : LineState) (t : List ℕ) → IsAddition a → number_fault_in s (capped (size_of t)) ≡ size_fault max_number (capped (size_of t)) → number_fault_in s 0 ≡ bad_shape
     → word_fault (front a) t ≡ fault_in s (word_of t)
 unfolding front body by_zeros
 front-fault a s t h e shape =
@@ -185,7 +185,7 @@ ended_step-fault (delete d) t h =
     ∙ ended-fault (delete d) t
 
 -- The fault of a word behind the words that lead to a state.
-pub word_fault-so_far : (s : State) (t : List ℕ) → IsWithin s → word_fault (so_far s) t ≡ fault_in s (word_of t)
+pub word_fault-so_far : (s : LineState) (t : List ℕ) → IsWithin s → word_fault (so_far s) t ≡ fault_in s (word_of t)
 unfolding so_far by_zeros deleted_by_zeros zeros
 word_fault-so_far at_id t h = number_fault-sized at_id max_number t (omega arith) refl refl
 word_fault-so_far (at_clause id c) t h = clause-fault id c t h.1

@@ -9,7 +9,7 @@ use Rattle.theory.specs.ProofReading.{max_literal, max_number, IsNumber, IsLiter
 use Rattle.lrat.specs.declared.word.Word.{Word}
 use Rattle.lrat.specs.declared.word.Word.TheVariants.{Zero, Positive, Negative, Mark, Other}
 use Rattle.lrat.specs.LineWords.{word_of, number_in, candidate_in, literal_in, IsCounting}
-use Rattle.lrat.specs.LineMachine.{State, at_id, at_clause, at_hints, at_group, at_ids, ended, with_group, without_groups, on, on_id, on_literal, on_candidate, on_hint, on_group_hint, on_deleted, IsWithin}
+use Rattle.lrat.specs.LineMachine.{LineState, at_id, at_clause, at_hints, at_group, at_ids, ended, with_group, without_groups, on, on_id, on_literal, on_candidate, on_hint, on_group_hint, on_deleted, IsWithin}
 use Rattle.lrat.proofs.WordTexts.{word_of-IsCounting, text-Zero, text-Positive, text-Negative, text-Mark}
 
 -- the words of the first parts of an addition
@@ -17,7 +17,7 @@ unfoldable pub front : Addition → List (List ℕ)
 front a = decimal a.id ∷ (clause_words a.clause ++ map decimal a.hints ++ groups_words a.groups)
 
 -- the words that lead to a state
-unfoldable pub so_far : State → List (List ℕ)
+unfoldable pub so_far : LineState → List (List ℕ)
 so_far at_id = []
 so_far (at_clause id c) = decimal id ∷ map literal_text c
 so_far (at_hints id c hs) = front (without_groups id c hs)
@@ -81,7 +81,7 @@ ids-end : (d : Deletion) (t : List ℕ) → t ≡ zero_text → (decimal d.id �
 ids-end d t e = ap (λ x. (decimal d.id ∷ codes "d" ∷ map decimal d.ids) ++ x ∷ []) e
 
 -- the state behind a word: each number is within its limit, and the words so far are one more
-pub record Follows (s : State) (t : List ℕ) (next : State) : Type 0 where
+pub record Follows (s : LineState) (t : List ℕ) (next : LineState) : Type 0 where
   pub within : IsWithin next
   pub words : so_far s ++ t ∷ [] ≡ so_far next
 
@@ -155,7 +155,7 @@ literal-text t Mark l e h = absurd (cc)
 literal-text t Other l e h = absurd (cc)
 
 -- each state's words
-id-Follows : (t : List ℕ) (next : State) → on_id (word_of t) ≡ Some next → Follows at_id t next
+id-Follows : (t : List ℕ) (next : LineState) → on_id (word_of t) ≡ Some next → Follows at_id t next
 unfolding so_far
 id-Follows t next h = go (number_in (word_of t)) refl h
   where
@@ -166,7 +166,7 @@ id-Follows t next h = go (number_in (word_of t)) refl h
         let m = number-text t (word_of t) n refl e in
         subst (Follows at_id t) same (record { within = (m.within, All-nil IsLiteral); words = ap (λ x. x ∷ []) m.text })
 
-literal-Follows : (id : ℕ) (c : Clause) (t : List ℕ) (next : State) → IsWithin (at_clause id c) → on_literal id c (word_of t) ≡ Some next → Follows (at_clause id c) t next
+literal-Follows : (id : ℕ) (c : Clause) (t : List ℕ) (next : LineState) → IsWithin (at_clause id c) → on_literal id c (word_of t) ≡ Some next → Follows (at_clause id c) t next
 unfolding so_far
 literal-Follows id c t next w h = go (literal_in (word_of t)) refl h
   where
@@ -177,7 +177,7 @@ literal-Follows id c t next w h = go (literal_in (word_of t)) refl h
         let m = literal-text t (word_of t) l refl e in
         subst (Follows (at_clause id c) t) same (record { within = (w.0, All-push IsLiteral c l w.1 m.within); words = literals-more id c l t m.text })
 
-candidate-Follows : (a : Addition) (s : State) (t : List ℕ) (next : State) → so_far s ≡ front a → IsAddition a → on_candidate a (word_of t) ≡ Some next → Follows s t next
+candidate-Follows : (a : Addition) (s : LineState) (t : List ℕ) (next : LineState) → so_far s ≡ front a → IsAddition a → on_candidate a (word_of t) ≡ Some next → Follows s t next
 unfolding so_far
 candidate-Follows a s t next words w h = go (candidate_in (word_of t)) refl h
   where
@@ -191,7 +191,7 @@ candidate-Follows a s t next words w h = go (candidate_in (word_of t)) refl h
           words = ap (λ r. r ++ t ∷ []) words ∙ front-candidate a n t m.text;
         })
 
-hint-Follows : (id : ℕ) (c : Clause) (hs : List ℕ) (t : List ℕ) (next : State) → IsWithin (at_hints id c hs) → on_hint id c hs (word_of t) ≡ Some next → Follows (at_hints id c hs) t next
+hint-Follows : (id : ℕ) (c : Clause) (hs : List ℕ) (t : List ℕ) (next : LineState) → IsWithin (at_hints id c hs) → on_hint id c hs (word_of t) ≡ Some next → Follows (at_hints id c hs) t next
 unfolding so_far
 hint-Follows id c hs t next w h = go (number_in (word_of t)) refl h
   where
@@ -209,7 +209,7 @@ hint-Follows id c hs t next w h = go (number_in (word_of t)) refl h
 with_group-within : (a : Addition) (g : Group) → IsAddition a → IsGroup g → IsAddition (with_group a g)
 with_group-within a g w v = record { id = w.id; clause = w.clause; hints = w.hints; groups = All-push IsGroup a.groups g w.groups v }
 
-group_hint-Follows : (a : Addition) (g : Group) (t : List ℕ) (next : State) → IsWithin (at_group a g) → on_group_hint a g (word_of t) ≡ Some next → Follows (at_group a g) t next
+group_hint-Follows : (a : Addition) (g : Group) (t : List ℕ) (next : LineState) → IsWithin (at_group a g) → on_group_hint a g (word_of t) ≡ Some next → Follows (at_group a g) t next
 unfolding so_far
 group_hint-Follows a g t next w h = go (number_in (word_of t)) refl h
   where
@@ -225,7 +225,7 @@ group_hint-Follows a g t next w h = go (number_in (word_of t)) refl h
           words = front-group_hint a g n t m.text;
         })
 
-deleted-Follows : (d : Deletion) (t : List ℕ) (next : State) → IsWithin (at_ids d) → on_deleted d (word_of t) ≡ Some next → Follows (at_ids d) t next
+deleted-Follows : (d : Deletion) (t : List ℕ) (next : LineState) → IsWithin (at_ids d) → on_deleted d (word_of t) ≡ Some next → Follows (at_ids d) t next
 unfolding so_far
 deleted-Follows d t next w h = go (number_in (word_of t)) refl h
   where
@@ -240,7 +240,7 @@ deleted-Follows d t next w h = go (number_in (word_of t)) refl h
 no_hints : (id : ℕ) (c : Clause) → IsWithin (at_clause id c) → IsWithin (at_hints id c [])
 no_hints id c w = record { id = w.0; clause = w.1; hints = All-nil IsNumber; groups = All-nil IsGroup }
 
-zero-Follows : (s next : State) (t : List ℕ) → IsWithin s → word_of t ≡ Zero → on s Zero ≡ Some next → Follows s t next
+zero-Follows : (s next : LineState) (t : List ℕ) → IsWithin s → word_of t ≡ Zero → on s Zero ≡ Some next → Follows s t next
 unfolding so_far
 zero-Follows at_id next t w e h = absurd (cc)
 zero-Follows (at_clause id []) next t w e h =
@@ -260,12 +260,12 @@ zero-Follows (at_ids d) next t w e h =
     subst (Follows (at_ids d) t) same (record { within = w; words = ids-end d t (text-Zero t e) })
 zero-Follows (ended s) next t w e h = absurd (cc)
 
-mark-Follows : (id : ℕ) (next : State) (t : List ℕ) → IsWithin (at_clause id []) → word_of t ≡ Mark → at_ids (record { id = id; ids = [] }) ≡ next → Follows (at_clause id []) t next
+mark-Follows : (id : ℕ) (next : LineState) (t : List ℕ) → IsWithin (at_clause id []) → word_of t ≡ Mark → at_ids (record { id = id; ids = [] }) ≡ next → Follows (at_clause id []) t next
 unfolding so_far
 mark-Follows id next t w e same =
     subst (Follows (at_clause id []) t) same (record { within = record { id = w.0; ids = All-nil IsNumber }; words = ap (λ x. decimal id ∷ x ∷ []) (text-Mark t e) })
 
-word-Follows : (s next : State) (t : List ℕ) (w : Word) → IsWithin s → word_of t ≡ w → on s w ≡ Some next → Follows s t next
+word-Follows : (s next : LineState) (t : List ℕ) (w : Word) → IsWithin s → word_of t ≡ w → on s w ≡ Some next → Follows s t next
 word-Follows s next t Zero i e h = zero-Follows s next t i e h
 word-Follows at_id next t w i e h = id-Follows t next (ap on_id e ∙ h)
 word-Follows (at_clause id []) next t Mark i e h = mark-Follows id next t i e (cc)
@@ -279,5 +279,5 @@ word-Follows (at_ids d) next t w i e h = deleted-Follows d t next i (ap (on_dele
 word-Follows (ended s) next t w i e h = absurd (cc)
 
 -- Where the machine takes a word, the words so far are one more, and each number is within its limit.
-pub on-Follows : (s next : State) (t : List ℕ) → IsWithin s → on s (word_of t) ≡ Some next → Follows s t next
+pub on-Follows : (s next : LineState) (t : List ℕ) → IsWithin s → on s (word_of t) ≡ Some next → Follows s t next
 on-Follows s next t i h = word-Follows s next t (word_of t) i refl h

@@ -5,9 +5,9 @@ use Rattle.theory.specs.Texts.{lf}
 use Rattle.theory.specs.Tokens.{lines_of, is_blank}
 use Rattle.theory.specs.ProofReading.{ProofReading, line_fault, line_not_ended}
 use Rattle.lrat.specs.LineWords.{ends_word, first_word, after_word, word_of}
-use Rattle.lrat.specs.LineMachine.{State, at_id, on, fault_in, at_end, behind, read_lines, within, has_line_feed}
+use Rattle.lrat.specs.LineMachine.{LineState, at_id, on, fault_in, at_end, behind, read_lines, within, has_line_feed}
 use Rattle.lrat.specs.declared.line.Line.{Line}
-use Rattle.lrat.specs.LineStates.{state_of, Takes}
+use Rattle.lrat.specs.LineStates.{state_of, IsTaken}
 use Rattle.lrat.proofs.LineReadings.{within-blank, within-lf, read_lines-begin, within-taken, within-refused}
 
 -- a line begins
@@ -16,18 +16,18 @@ at-begin n bytes i inside =
     let e = drop_more bytes i 0 inside in
     ap (λ x. within at_id n (lines_of x)) e ∙ sym (read_lines-begin n (get_or bytes i 0) (drop (i + 1) bytes)) ∙ ap (λ x. read_lines n (lines_of x)) (sym e)
 
-pub at-blank : (s : State) (n : ℕ) (bytes : List ℕ) (i : ℕ) (r : ProofReading) → i < length bytes → is_blank (get_or bytes i 0) ≡ true
+pub at-blank : (s : LineState) (n : ℕ) (bytes : List ℕ) (i : ℕ) (r : ProofReading) → i < length bytes → is_blank (get_or bytes i 0) ≡ true
     → within s n (lines_of (drop i bytes)) ≡ r → within s n (lines_of (drop (i + 1) bytes)) ≡ r
 at-blank s n bytes i r inside blank h =
     sym (within-blank s n (get_or bytes i 0) (drop (i + 1) bytes) blank) ∙ ap (λ x. within s n (lines_of x)) (sym (drop_more bytes i 0 inside)) ∙ h
 
-pub at-lf : (s : State) (n : ℕ) (bytes : List ℕ) (i : ℕ) (r : ProofReading) → i < length bytes → get_or bytes i 0 ≡ lf
+pub at-lf : (s : LineState) (n : ℕ) (bytes : List ℕ) (i : ℕ) (r : ProofReading) → i < length bytes → get_or bytes i 0 ≡ lf
     → within s n (lines_of (drop i bytes)) ≡ r → behind (at_end s) n (read_lines (n + 1) (lines_of (drop (i + 1) bytes))) ≡ r
 at-lf s n bytes i r inside feed h =
     sym (within-lf s n (drop (i + 1) bytes)) ∙ ap (λ b. within s n (lines_of (b ∷ drop (i + 1) bytes))) (sym feed)
     ∙ ap (λ x. within s n (lines_of x)) (sym (drop_more bytes i 0 inside)) ∙ h
 
-pub at-taken : (s next : State) (n : ℕ) (bytes : List ℕ) (i e : ℕ) (r : ProofReading) → i < length bytes → ends_word (get_or bytes i 0) ≡ false
+pub at-taken : (s next : LineState) (n : ℕ) (bytes : List ℕ) (i e : ℕ) (r : ProofReading) → i < length bytes → ends_word (get_or bytes i 0) ≡ false
     → on s (word_of (first_word (drop i bytes))) ≡ Some next → drop e bytes ≡ after_word (drop i bytes)
     → within s n (lines_of (drop i bytes)) ≡ r → within next n (lines_of (drop e bytes)) ≡ r
 at-taken s next n bytes i e r inside begins taken rest h =
@@ -36,7 +36,7 @@ at-taken s next n bytes i e r inside begins taken rest h =
     ∙ sym (within-taken s next n (get_or bytes i 0) (drop (i + 1) bytes) begins (ap (λ x. on s (word_of (first_word x))) (sym more) ∙ taken))
     ∙ ap (λ x. within s n (lines_of x)) (sym more) ∙ h
 
-pub at-refused : (s : State) (n : ℕ) (bytes : List ℕ) (i e : ℕ) (r : ProofReading) → i < length bytes → ends_word (get_or bytes i 0) ≡ false
+pub at-refused : (s : LineState) (n : ℕ) (bytes : List ℕ) (i e : ℕ) (r : ProofReading) → i < length bytes → ends_word (get_or bytes i 0) ≡ false
     → on s (word_of (first_word (drop i bytes))) ≡ None → drop e bytes ≡ after_word (drop i bytes)
     → within s n (lines_of (drop i bytes)) ≡ r
     → line_fault (cond (has_line_feed (drop e bytes)) (fault_in s (word_of (first_word (drop i bytes)))) line_not_ended) n ≡ r
@@ -55,10 +55,10 @@ goes_on b feed blank = go (nat_eq b lf) refl
     go false e = ap (λ r. r || is_blank b) e ∙ blank
 
 -- what a taken or a refused word says
-pub Takes-true : (o : Option State) (b : Bool) (old new : Line) → b ≡ true → Takes o b old new → o ≡ Some (state_of new)
-Takes-true o true old new e h = h
-Takes-true o false old new e h = absurd (cc)
+pub IsTaken-true : (o : Option LineState) (b : Bool) (old new : Line) → b ≡ true → IsTaken o b old new → o ≡ Some (state_of new)
+IsTaken-true o true old new e h = h
+IsTaken-true o false old new e h = absurd (cc)
 
-pub Takes-false : (o : Option State) (b : Bool) (old new : Line) → b ≡ false → Takes o b old new → (o ≡ None) × (new ≡ old)
-Takes-false o true old new e h = absurd (cc)
-Takes-false o false old new e h = h
+pub IsTaken-false : (o : Option LineState) (b : Bool) (old new : Line) → b ≡ false → IsTaken o b old new → (o ≡ None) × (new ≡ old)
+IsTaken-false o true old new e h = absurd (cc)
+IsTaken-false o false old new e h = h

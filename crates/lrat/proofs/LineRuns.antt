@@ -7,21 +7,21 @@ use Rattle.theory.specs.ProofReading.{max_literal, max_number, IsNumber, IsLiter
 use Rattle.lrat.specs.declared.word.Word.{Word}
 use Rattle.lrat.specs.declared.word.Word.TheVariants.{Positive, Negative}
 use Rattle.lrat.specs.LineWords.{word_of, number_in}
-use Rattle.lrat.specs.LineMachine.{State, at_id, at_clause, at_hints, at_group, at_ids, ended, with_group, without_groups, on, on_candidate, IsWithin}
+use Rattle.lrat.specs.LineMachine.{LineState, at_id, at_clause, at_hints, at_group, at_ids, ended, with_group, without_groups, on, on_candidate, IsWithin}
 use Rattle.lrat.proofs.WordTexts.{word_of-decimal, word_of-minus}
 use Rattle.lrat.proofs.LineMachineLemmas.{front, so_far}
 use Rattle.std.proofs.lemmas.List.Elements.{All-head, All-tail, All-nil, All-push}
 
 -- the state behind words, if they can stand there
-abbrev pub then_on : Option State → List ℕ → Option State
+abbrev pub then_on : Option LineState → List ℕ → Option LineState
 then_on None t = None
 then_on (Some s) t = on s (word_of t)
 
-abbrev pub runs : Option State → List (List ℕ) → Option State
+abbrev pub runs : Option LineState → List (List ℕ) → Option LineState
 runs o [] = o
 runs o (t ∷ ts) = runs (then_on o t) ts
 
-pub runs-append : (o : Option State) (ts us : List (List ℕ)) → runs o (ts ++ us) ≡ runs (runs o ts) us
+pub runs-append : (o : Option LineState) (ts us : List (List ℕ)) → runs o (ts ++ us) ≡ runs (runs o ts) us
 runs-append o [] us = refl
 runs-append o (t ∷ ts) us = runs-append (then_on o t) ts us
 
@@ -36,7 +36,7 @@ number-in n h = let small : nat_le n max_number ≡ true = le-leb n max_number h
 on-id : (n : ℕ) → IsNumber n → on at_id (word_of (decimal n)) ≡ Some (at_clause n [])
 on-id n h = ap (λ o. elim o [ Some m ↦ Some (at_clause m []) | None ↦ None ]) (number-in n h)
 
-taken_literal : ℕ → Clause → Option Literal → Option State
+taken_literal : ℕ → Clause → Option Literal → Option LineState
 taken_literal id c o = elim o [ Some l ↦ Some (at_clause id (c ++ l ∷ [])) | None ↦ None ]
 
 on-literal : (id : ℕ) (c : Clause) (l : Literal) → IsLiteral l → on (at_clause id c) (word_of (literal_text l)) ≡ Some (at_clause id (c ++ l ∷ []))
@@ -175,7 +175,7 @@ addition-goes_on a words more h e = record { more = more; step = add a; readable
 clause_only : (id : ℕ) (c : Clause) → (decimal id ∷ map literal_text c) ++ zero_text ∷ zero_text ∷ [] ≡ step_words (add (without_groups id c []))
 clause_only id c = simp append_assoc
 
-pub so_far-goes_on : (s : State) → IsWithin s → LineCanGoOn (so_far s)
+pub so_far-goes_on : (s : LineState) → IsWithin s → LineCanGoOn (so_far s)
 unfolding so_far front
 so_far-goes_on at_id h =
     addition-goes_on (without_groups 1 [] []) [] (step_words (add (without_groups 1 [] [])))

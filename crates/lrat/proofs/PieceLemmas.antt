@@ -16,27 +16,27 @@ use Rattle.std.specs.Char.{is_ascii_digit}
 use Rattle.theory.proofs.NumberTexts.{digit-range}
 use Rattle.lrat.proofs.DigitLemmas.{digit-goes_on}
 use Rattle.lrat.specs.LineWords.{word_of, ends_word, capped}
-use Rattle.lrat.specs.LineMachine.{State, on, fault_in, at_end, IsWithin}
+use Rattle.lrat.specs.LineMachine.{LineState, on, fault_in, at_end, IsWithin}
 use Rattle.lrat.specs.LineStates.{state_of, reading_of, kind_of}
-use Rattle.lrat.specs.Streams.{nothing, with_bytes, Ended, goes_to, at_fault, taken, ended, Progress, on_feed, closed_line, Kept, held_back, on_blank, with_byte, in_line, kept_after, Part, on_byte, with_kept, feed, positive_so_far, negative_so_far, one_digit_more}
+use Rattle.lrat.specs.Streams.{nothing, with_bytes, Ended, goes_to, at_fault, taken, ended, Progress, on_feed, closed_line, LineProgress, held_back, on_blank, with_byte, in_line, kept_after, Part, on_byte, with_kept, feed, positive_so_far, negative_so_far, one_digit_more}
 use Rattle.lrat.specs.Begun.{begun_of, IsCounted, Ends}
 use Rattle.lrat.specs.Pieces.{part_at, IsBegunWord, TakesWord, TakesBytes, stream_at, part_of, in_word, closing}
 use Rattle.lrat.proofs.BegunWords.{ended-word}
 use Rattle.lrat.proofs.LineMachineLemmas.{on-Follows}
 use Rattle.lrat.proofs.StreamLemmas.{with_bytes-push}
 
-one_state : (s t : State) → goes_to s ≡ goes_to t → s ≡ t
+one_state : (s t : LineState) → goes_to s ≡ goes_to t → s ≡ t
 one_state s t e = cc
 
-taken-on : (s t : State) (w : Word) → taken s w ≡ goes_to t → on s w ≡ Some t
+taken-on : (s t : LineState) (w : Word) → taken s w ≡ goes_to t → on s w ≡ Some t
 taken-on s t w h = go (on s w) h
   where
-    go : (o : Option State) → (elim o [ Some u ↦ goes_to u | None ↦ at_fault (fault_in s w) ]) ≡ goes_to t → o ≡ Some t
+    go : (o : Option LineState) → (elim o [ Some u ↦ goes_to u | None ↦ at_fault (fault_in s w) ]) ≡ goes_to t → o ≡ Some t
     go (Some u) e = ap Some (one_state u t e)
     go None e = absurd (cc)
 
 -- the line's numbers stay within their limits
-pub ended-within : (s t : State) (w : List ℕ) → IsWithin s → ended s (with_bytes nothing w) ≡ goes_to t → IsWithin t
+pub ended-within : (s t : LineState) (w : List ℕ) → IsWithin s → ended s (with_bytes nothing w) ≡ goes_to t → IsWithin t
 ended-within s t [] i e = subst IsWithin (one_state s t e) i
 ended-within s t (c ∷ w) i e = (on-Follows s t (c ∷ w) i (taken-on s t (word_of (c ∷ w)) (sym (ended-word s c w) ∙ e))).within
 
@@ -51,13 +51,13 @@ pub ends-blank : (n : ℕ) (p : Progress) (e : Ended) (f : LineFault) (old new :
     → on_blank n p e ≡ record { line = n; part = held_back (kind_of f); progress = p }
 ends-blank n p e f old new h = ap (on_blank n p) (ends-fault e f old new h)
 
-pub word-within : (s t : State) (g : declared.Begun) → IsWithin s → IsBegunWord g → ended s (begun_of g) ≡ goes_to t → IsWithin t
+pub word-within : (s t : LineState) (g : declared.Begun) → IsWithin s → IsBegunWord g → ended s (begun_of g) ≡ goes_to t → IsWithin t
 word-within s t g i b e = ended-within s t b.1.0 i (ap (ended s) (sym b.1.1) ∙ e)
 
 pub word-more : (g h : declared.Begun) (b : ℕ) → IsBegunWord g → IsCounted h → begun_of h ≡ with_byte (begun_of g) b → IsBegunWord h
 word-more g h b w c e = (c, (w.1.0 ++ b ∷ [], e ∙ ap (λ x. with_byte x b) w.1.1 ∙ sym (with_bytes-push nothing w.1.0 b)))
 
-pub end-step : (V n : ℕ) (p : Progress) (e : Ended) (s : State) (o : Option Step) → e ≡ goes_to s → at_end s ≡ reading_of o → on_feed V n p e ≡ closed_line V n p (reading_of o)
+pub end-step : (V n : ℕ) (p : Progress) (e : Ended) (s : LineState) (o : Option Step) → e ≡ goes_to s → at_end s ≡ reading_of o → on_feed V n p e ≡ closed_line V n p (reading_of o)
 end-step V n p e s o h k = ap (on_feed V n p) h ∙ ap (closed_line V n p) k
 
 -- a blank behind a word
@@ -71,7 +71,7 @@ blank-kept V n p stage l g b e other blank = ap (λ s. kept_after V n p (part_at
 pub blank-gone : (n : ℕ) (p : Progress) (e : Ended) (old new : Line) → Ends e None old new → on_blank n p e ≡ record { line = n; part = in_line (state_of new) nothing; progress = p }
 blank-gone n p e old new h = ap (on_blank n p) h
 
-abbrev pub kept_with : ℕ → Progress → Part → Kept
+abbrev pub kept_with : ℕ → Progress → Part → LineProgress
 kept_with n p part = record { line = n; part = part; progress = p }
 
 -- a byte of the word that is begun

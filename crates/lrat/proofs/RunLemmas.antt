@@ -14,7 +14,7 @@ use Rattle.lrat.specs.declared.line.Part.TheVariants.{Hints, GroupHints, Ids}
 use Rattle.lrat.specs.declared.word.Word.{Word}
 use Rattle.lrat.specs.declared.word.Word.TheVariants as words
 use Rattle.lrat.specs.Begun.{begun_of}
-use Rattle.lrat.specs.LineMachine.{State, at_clause, at_hints, at_group, at_ids, on, on_candidate, fault_in, with_group, without_groups}
+use Rattle.lrat.specs.LineMachine.{LineState, at_clause, at_hints, at_group, at_ids, on, on_candidate, fault_in, with_group, without_groups}
 use Rattle.lrat.specs.LineStates.{state_of, state_at, addition_of, group_of, deletion_of}
 use Rattle.lrat.specs.LineWords.{ends_word}
 use Rattle.lrat.specs.Pieces.{TakesWord, in_word}
@@ -23,7 +23,7 @@ use Rattle.lrat.specs.Streams.{nothing, positive_so_far, negative_so_far, minus_
 use Rattle.lrat.proofs.PieceLemmas.{TakesWord-more, TakesWord-none, TakesWord-then, blank-other, digit-word}
 
 -- a word that stands whole, with the blank behind it
-run-word : (bytes : List ℕ) (s t : State) (g : declared.Begun) (start end : ℕ) → end < length bytes → is_blank (get_or bytes end 0) ≡ true
+run-word : (bytes : List ℕ) (s t : LineState) (g : declared.Begun) (start end : ℕ) → end < length bytes → is_blank (get_or bytes end 0) ≡ true
     → TakesWord bytes begun.Nothing start g end → ended s (begun_of g) ≡ goes_to t → TakesRun bytes s start t (end + 1)
 run-word bytes s t g start end inside blank word goes V k n p =
     word V k n p s
@@ -63,11 +63,11 @@ stands-whole bytes start n end inside digit other plain signed number blank forw
     }
 
 -- a word that can stand there
-word_goes : (s t : State) (w : Word) → on s w ≡ Some t → taken s w ≡ goes_to t
+word_goes : (s t : LineState) (w : Word) → on s w ≡ Some t → taken s w ≡ goes_to t
 word_goes s t w h = ap (λ o. elim o [ Some u ↦ goes_to u | None ↦ at_fault (fault_in s w) ]) h
 
 -- a literal with its minus
-abbrev taken_literal : ℕ → Clause → Option Literal → Option State
+abbrev taken_literal : ℕ → Clause → Option Literal → Option LineState
 taken_literal id c o = elim o [ Some l ↦ Some (at_clause id (c ++ l ∷ [])) | None ↦ None ]
 
 on_negative : (id : ℕ) (c : Clause) (n : ℕ) → nat_le n max_literal ≡ true → on (at_clause id c) (words.Negative n) ≡ Some (at_clause id (c ++ negative n ∷ []))
@@ -104,7 +104,7 @@ ids_take : (id : ℕ) → TakesNumbers (λ ids. at_ids (record { id = id; ids = 
 ids_take id ids n h = ap (λ b. elim (cond b (Some n) None) [ Some m ↦ Some (at_ids (record { id = id; ids = ids ++ m ∷ [] })) | None ↦ None ]) (le-leb n max_number h.1)
 
 pub hints-run : (bytes : List ℕ) (old new : Line) (start end : ℕ) → old.part ≡ Hints → new ≡ record old { hints = new.hints }
-    → ((f : List ℕ → State) → TakesNumbers f → TakesRun bytes (f old.hints.items) start (f new.hints.items) end) → TakesRun bytes (state_of old) start (state_of new) end
+    → ((f : List ℕ → LineState) → TakesNumbers f → TakesRun bytes (f old.hints.items) start (f new.hints.items) end) → TakesRun bytes (state_of old) start (state_of new) end
 hints-run bytes old new start end is same t =
     subst (λ p. TakesRun bytes (state_at p old) start (state_of new) end) (sym is)
     (subst (λ l. TakesRun bytes (at_hints old.id old.clause.items old.hints.items) start (state_of l) end) (sym same)
@@ -112,7 +112,7 @@ hints-run bytes old new start end is same t =
     (t (λ hs. at_hints old.id old.clause.items hs) (hints_take old.id old.clause.items))))
 
 pub group-run : (bytes : List ℕ) (old new : Line) (start end : ℕ) → old.part ≡ GroupHints → new ≡ record old { group_hints = new.group_hints }
-    → ((f : List ℕ → State) → TakesNumbers f → TakesRun bytes (f old.group_hints.items) start (f new.group_hints.items) end) → TakesRun bytes (state_of old) start (state_of new) end
+    → ((f : List ℕ → LineState) → TakesNumbers f → TakesRun bytes (f old.group_hints.items) start (f new.group_hints.items) end) → TakesRun bytes (state_of old) start (state_of new) end
 group-run bytes old new start end is same t =
     subst (λ p. TakesRun bytes (state_at p old) start (state_of new) end) (sym is)
     (subst (λ l. TakesRun bytes (at_group (addition_of old) (group_of old)) start (state_of l) end) (sym same)
@@ -120,7 +120,7 @@ group-run bytes old new start end is same t =
     (t (λ hs. at_group (addition_of old) (record { candidate = old.candidate; hints = hs })) (group_takes (addition_of old) old.candidate))))
 
 pub ids-run : (bytes : List ℕ) (old new : Line) (start end : ℕ) → old.part ≡ Ids → new ≡ record old { hints = new.hints }
-    → ((f : List ℕ → State) → TakesNumbers f → TakesRun bytes (f old.hints.items) start (f new.hints.items) end) → TakesRun bytes (state_of old) start (state_of new) end
+    → ((f : List ℕ → LineState) → TakesNumbers f → TakesRun bytes (f old.hints.items) start (f new.hints.items) end) → TakesRun bytes (state_of old) start (state_of new) end
 ids-run bytes old new start end is same t =
     subst (λ p. TakesRun bytes (state_at p old) start (state_of new) end) (sym is)
     (subst (λ l. TakesRun bytes (at_ids (deletion_of old)) start (state_of l) end) (sym same)

@@ -7,8 +7,8 @@ use Rattle.theory.specs.Steps as theory
 use Rattle.theory.specs.ProofReading.{TextFault, line_not_ended, ProofReading, steps, line_fault, too_long, ProofReads, max_proof_bytes}
 use Rattle.theory.specs.Checking.{Fault, Checker, Tested, refused, leaves, faulty, test, check_from}
 use Rattle.lrat.specs.LineWords.{ends_word, first_word, after_word, word_of}
-use Rattle.lrat.specs.LineMachine.{State, at_id, on, fault_in, at_end, behind, LineReading, line_read, line_at_fault, read_lines, within, with_step, has_line_feed}
-use Rattle.lrat.specs.Streams.{Begun, nothing, with_byte, with_bytes, Part, fresh, in_line, held_back, closed, Progress, goes_on, stopped, Stream, begin, checked_step, Ended, goes_to, at_fault, ended, Kept, closed_line, on_feed, on_blank, on_byte, kept_after, feed_byte, feed, Answer, checked, line_refused, text_too_long, verdict, at_text_end, finish, answer_to}
+use Rattle.lrat.specs.LineMachine.{LineState, at_id, on, fault_in, at_end, behind, LineReading, line_read, line_at_fault, read_lines, within, with_step, has_line_feed}
+use Rattle.lrat.specs.Streams.{Begun, nothing, with_byte, with_bytes, Part, fresh, in_line, held_back, closed, Progress, goes_on, stopped, Stream, begin, checked_step, Ended, goes_to, at_fault, ended, LineProgress, closed_line, on_feed, on_blank, on_byte, kept_after, feed_byte, feed, Answer, checked, line_refused, text_too_long, verdict, at_text_end, finish, answer_to}
 use Rattle.lrat.proofs.LineTexts.{Solid, lines_of-solid}
 use Rattle.lrat.proofs.LineReadings.{within-blank, within-lf, read_lines-begin, within-taken, within-refused}
 use Rattle.lrat.proofs.ProofTexts.{reading_of_text, reading-ProofReads, ProofReads-only}
@@ -56,7 +56,7 @@ IsBegun (in_line s g) w = Solid w × (g ≡ with_bytes nothing w)
 IsBegun part w = Unit {0}
 
 -- what is kept leads to the answer, with the rest of the text
-pub record Leads (V : ℕ) (k : Kept) (rest : List ℕ) (a : Answer) : Type 0 where
+pub record Leads (V : ℕ) (k : LineProgress) (rest : List ℕ) (a : Answer) : Type 0 where
   pub word : List ℕ
   pub begun : IsBegun k.part word
   pub same : after V k.line k.progress (left k.line k.part word rest) ≡ a
@@ -74,7 +74,7 @@ after_word-is : (w : List ℕ) (b : ℕ) (bytes : List ℕ) → Solid w → ends
 after_word-is [] b bytes s e = rw e refl
 after_word-is (c ∷ w) b bytes s e = let h = s.0 in rw h (after_word-is w b bytes s.1 e)
 
-ended-left : (s : State) (n : ℕ) (w : List ℕ) (b : ℕ) (bytes : List ℕ) → Solid w → ends_word b ≡ true
+ended-left : (s : LineState) (n : ℕ) (w : List ℕ) (b : ℕ) (bytes : List ℕ) → Solid w → ends_word b ≡ true
     → within s n (lines_of (w ++ b ∷ bytes)) ≡ ended_left n (ended s (with_bytes nothing w)) (b ∷ bytes)
 ended-left s n [] b bytes solid e = refl
 ended-left s n (c ∷ w) b bytes solid e = go (on s (word_of (c ∷ w))) refl
@@ -85,7 +85,7 @@ ended-left s n (c ∷ w) b bytes solid e = go (on s (word_of (c ∷ w))) refl
     rest : after_word ((c ∷ w) ++ b ∷ bytes) ≡ b ∷ bytes
     rest = after_word-is (c ∷ w) b bytes solid e
 
-    go : (o : Option State) → on s (word_of (c ∷ w)) ≡ o
+    go : (o : Option LineState) → on s (word_of (c ∷ w)) ≡ o
         → within s n (lines_of ((c ∷ w) ++ b ∷ bytes)) ≡ ended_left n (ended s (with_bytes nothing (c ∷ w))) (b ∷ bytes)
     go (Some t) h =
         within-taken s t n c (w ++ b ∷ bytes) solid.0 (ap (λ x. on s (word_of x)) first ∙ h)
@@ -127,7 +127,7 @@ Solid-push (c ∷ w) b s e = (s.0, Solid-push w b s.1 e)
 apart : (b : ℕ) (x y : Bool) → nat_eq b lf ≡ x → is_blank b ≡ y → ends_word b ≡ x || y
 apart b x y e f = ap (λ r. r || is_blank b) e ∙ ap (λ r. x || r) f
 
-on_byte-Leads : (V n : ℕ) (p : Progress) (s : State) (w : List ℕ) (b : ℕ) (bytes : List ℕ) → Solid w
+on_byte-Leads : (V n : ℕ) (p : Progress) (s : LineState) (w : List ℕ) (b : ℕ) (bytes : List ℕ) → Solid w
     → Leads V (on_byte V n p s (with_bytes nothing w) b) bytes (after V n p (within s n (lines_of (w ++ b ∷ bytes))))
 on_byte-Leads V n p s w b bytes solid = go (nat_eq b lf) (is_blank b) refl refl
   where

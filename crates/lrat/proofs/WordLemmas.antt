@@ -5,11 +5,11 @@ use Rattle.std.specs.List.{join_with_byte}
 use Rattle.theory.specs.Steps.{Group, Addition, Deletion, add, delete}
 use Rattle.theory.specs.Texts.{space, lf, literal_text, zero_text, group_words, groups_words, step_text, step_words}
 use Rattle.theory.specs.Literals.{Clause}
-use Rattle.lrat.specs.Words.{spaced, begun_line, Extends}
+use Rattle.lrat.specs.Words.{spaced, begun_line, IsBegunBy}
 
 -- more bytes, and once more
-pub Extends-trans : (old mid new : List ℕ) → Extends old mid → Extends mid new → Extends old new
-Extends-trans old mid new e f = record { more = e.more ++ f.more; are = f.are ∙ ap (λ x. x ++ f.more) e.are ∙ append_assoc old e.more f.more }
+pub IsBegunBy-trans : (old mid new : List ℕ) → IsBegunBy old mid → IsBegunBy mid new → IsBegunBy old new
+IsBegunBy-trans old mid new e f = record { more = e.more ++ f.more; are = f.are ∙ ap (λ x. x ++ f.more) e.are ∙ append_assoc old e.more f.more }
 
 pub spaced-append : (xs ys : List (List ℕ)) → spaced (xs ++ ys) ≡ spaced xs ++ spaced ys
 spaced-append [] ys = refl

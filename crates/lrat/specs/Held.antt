@@ -1,8 +1,7 @@
 -- Literals that are held true, and their table by variable.
 use Rattle.std.specs.Prelude.{◌≡◌, ℕ, ◌+◌, Bool, true, nat_eq, List, [], ◌∷◌, ◌++◌, length, Option, Some, None, slice_index_or, if◌then◌else◌}
-use Rattle.theory.specs.Literals.{Literal}
+use Rattle.theory.specs.Literals.{Literal, are_distinct}
 use Rattle.theory.specs.Truth.{IsOver}
-use Rattle.theory.specs.Lawful.{are_distinct}
 
 -- the number of variables, and the literals, the latest first
 pub record Held : Type 0 where

@@ -10,7 +10,7 @@ use Rattle.lrat.specs.declared.fault.LineFault.{LineFault}
 use Rattle.lrat.specs.declared.fault.LineFault.TheVariants as faults
 use Rattle.lrat.specs.declared.fault.TextFault.{TextFault}
 use Rattle.lrat.specs.declared.fault.TextFault.TheVariants.{BadNumber, LineNotEnded, BadShape, NoMemory, TooLong}
-use Rattle.lrat.specs.LineMachine.{State, at_id, at_clause, at_hints, at_group, at_ids, ended, LineReading, line_read, line_at_fault}
+use Rattle.lrat.specs.LineMachine.{LineState, at_id, at_clause, at_hints, at_group, at_ids, ended, LineReading, line_read, line_at_fault}
 use Rattle.lrat.specs.Steps.{step_of}
 use Rattle.lrat.specs.declared.step.Step.{Step}
 
@@ -24,7 +24,7 @@ abbrev pub deletion_of : Line → Deletion
 deletion_of l = record { id = l.id; ids = l.hints.items }
 
 -- the state of a line at whose part this comes next
-abbrev pub state_at : Part → Line → State
+abbrev pub state_at : Part → Line → LineState
 state_at Id l = at_id
 state_at Literals l = at_clause l.id l.clause.items
 state_at Hints l = at_hints l.id l.clause.items l.hints.items
@@ -33,13 +33,13 @@ state_at Ids l = at_ids (deletion_of l)
 state_at AdditionEnd l = ended (add (addition_of l))
 state_at DeletionEnd l = ended (delete (deletion_of l))
 
-abbrev pub state_of : Line → State
+abbrev pub state_of : Line → LineState
 state_of l = state_at l.part l
 
 -- whether a word was taken, and the line after it
-abbrev pub Takes : Option State → Bool → Line → Line → Type 0
-Takes answer true old new = answer ≡ Some (state_of new)
-Takes answer false old new = (answer ≡ None) × (new ≡ old)
+abbrev pub IsTaken : Option LineState → Bool → Line → Line → Type 0
+IsTaken answer true old new = answer ≡ Some (state_of new)
+IsTaken answer false old new = (answer ≡ None) × (new ≡ old)
 
 -- the fault, as the definitions have it
 abbrev pub kind_of : LineFault → theory.TextFault

@@ -11,10 +11,10 @@ use Rattle.lrat.specs.declared.fault.LineFault.{LineFault}
 use Rattle.lrat.specs.declared.fault.TextFault.{TextFault}
 use Rattle.lrat.specs.Faults.{text_fault_at}
 use Rattle.lrat.specs.Begun.{begun_of, IsCounted}
-use Rattle.lrat.specs.LineMachine.{State, IsWithin}
+use Rattle.lrat.specs.LineMachine.{LineState, IsWithin}
 use Rattle.lrat.specs.LineStates.{state_of, kind_of}
 use Rattle.lrat.specs.Steps.{step_of}
-use Rattle.lrat.specs.Streams.{Begun, nothing, with_bytes, Part, fresh, in_line, held_back, closed, Progress, checked_step, Kept, Stream, feed, at_text_end, checked, line_refused, verdict}
+use Rattle.lrat.specs.Streams.{Begun, nothing, with_bytes, Part, fresh, in_line, held_back, closed, Progress, checked_step, LineProgress, Stream, feed, at_text_end, checked, line_refused, verdict}
 
 abbrev pub part_at : Stage → Line → declared.Begun → Part
 part_at Fresh l g = fresh
@@ -41,18 +41,18 @@ after V n p None = p
 after V n p (Some s) = checked_step V n p (step_of s)
 
 -- what a line's end leaves
-abbrev pub closing : ℕ → ℕ → Progress → Result Step LineFault → Kept
+abbrev pub closing : ℕ → ℕ → Progress → Result Step LineFault → LineProgress
 closing V n p (Ok s) = record { line = n + 1; part = fresh; progress = checked_step V n p (step_of s) }
 closing V n p (Err f) = record { line = n; part = closed (kind_of f); progress = p }
 
 -- the machine inside a line, of whose next word so much came
-abbrev pub in_word : ℕ → ℕ → Progress → State → Begun → Stream
+abbrev pub in_word : ℕ → ℕ → Progress → LineState → Begun → Stream
 in_word seen n p s g = record { seen = seen; line = n; part = in_line s g; progress = p }
 
 -- bytes from one place up to another lead from one word begun to another
 abbrev pub TakesWord : List ℕ → declared.Begun → ℕ → declared.Begun → ℕ → Type 0
 TakesWord bytes g start h end =
-    (V k n : ℕ) (p : Progress) (s : State) → feed V (in_word (k + start) n p s (begun_of g)) (drop start bytes) ≡ feed V (in_word (k + end) n p s (begun_of h)) (drop end bytes)
+    (V k n : ℕ) (p : Progress) (s : LineState) → feed V (in_word (k + start) n p s (begun_of g)) (drop start bytes) ≡ feed V (in_word (k + end) n p s (begun_of h)) (drop end bytes)
 
 abbrev pub stream_at : ℕ → Progress → Text → Stream
 stream_at seen p t = record { seen = seen; line = t.number; part = part_of t; progress = p }

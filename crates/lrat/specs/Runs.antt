@@ -5,17 +5,17 @@ use Rattle.theory.specs.ProofReading.{IsNumber, IsLiteral}
 use Rattle.theory.specs.Tokens.{is_blank}
 use Rattle.lrat.specs.declared.begun.Begun.TheVariants as begun
 use Rattle.lrat.specs.declared.word.Word.TheVariants as words
-use Rattle.lrat.specs.LineMachine.{State, at_clause, on}
+use Rattle.lrat.specs.LineMachine.{LineState, at_clause, on}
 use Rattle.lrat.specs.Pieces.{TakesWord, in_word}
 use Rattle.lrat.specs.Streams.{nothing, Progress, feed}
 
 -- bytes from one place up to another lead from one state to another, with no word begun
-abbrev pub TakesRun : List ℕ → State → ℕ → State → ℕ → Type 0
+abbrev pub TakesRun : List ℕ → LineState → ℕ → LineState → ℕ → Type 0
 TakesRun bytes s start t end =
     (V k n : ℕ) (p : Progress) → feed V (in_word (k + start) n p s nothing) (drop start bytes) ≡ feed V (in_word (k + end) n p t nothing) (drop end bytes)
 
 -- the states of a growing list of numbers, at each of which one more can stand
-abbrev pub TakesNumbers : (List ℕ → State) → Type 0
+abbrev pub TakesNumbers : (List ℕ → LineState) → Type 0
 TakesNumbers f = (ns : List ℕ) (n : ℕ) → IsNumber n → on (f ns) (words.Positive n) ≡ Some (f (ns ++ n ∷ []))
 
 -- the number's digits stand from one place up to another, where a blank is; they may stand behind a minus

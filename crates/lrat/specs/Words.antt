@@ -13,6 +13,6 @@ abbrev pub begun_line : ℕ → Clause → List ℕ → List ℕ
 begun_line id clause hints = decimal id ++ space ∷ (spaced (map literal_text clause) ++ (codes "0 " ++ spaced (map decimal hints)))
 
 -- the new bytes are the old ones and some more
-pub record Extends (old new : List ℕ) : Type 0 where
+pub record IsBegunBy (old new : List ℕ) : Type 0 where
   pub more : List ℕ
   pub are : new ≡ old ++ more

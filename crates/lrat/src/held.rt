@@ -1,8 +1,7 @@
 //! Literals that are held true, with a table by variable, so that each look-up is one step, and a list of them by which
 //! the latest are taken back.
 ghost use Rattle.std.specs.Prelude.{◌≡◌, List, ◌≤◌, ◌<◌, ◌^◌, [], ◌∷◌, true, false, length, IfOk, OnOk, OnErr, MatchOption};
-ghost use Rattle.theory.specs.Literals.{Literal, IsVariable, has_var};
-ghost use Rattle.theory.specs.Lawful.{are_distinct};
+ghost use Rattle.theory.specs.Literals.{Literal, IsVariable, has_var, are_distinct};
 ghost use Rattle.lrat.specs.Held.{value_in, Extends};
 
 use cnf::Lit;

@@ -3,7 +3,7 @@ ghost use Rattle.std.specs.Prelude.{◌≡◌, ◌≤◌, [], ◌∷◌, ◌++�
 ghost use Rattle.theory.specs.ProofReading.{IsGroup, IsAddition, IsDeletion};
 ghost use Rattle.lrat.specs.LineWords.{IsCounting};
 ghost use Rattle.lrat.specs.LineMachine.{at_id, on, fault_in, at_end, IsWithin};
-ghost use Rattle.lrat.specs.LineStates.{addition_of, group_of, deletion_of, state_at, state_of, Takes, kind_of, reading_of};
+ghost use Rattle.lrat.specs.LineStates.{addition_of, group_of, deletion_of, state_at, state_of, IsTaken, kind_of, reading_of};
 ghost use Rattle.lrat.specs.Runs.{TakesRun};
 
 use crate::fault::LineFault;
@@ -68,10 +68,10 @@ impl Line {
         self.part = Part::Id;
     }
 
-    /// Takes the line's number.
+    /// IsTaken the line's number.
     fn take_id(&mut self, word: Word) -> bool
         requires { self.old.part ≡ Part.Id }
-        ensures { Takes (on (state_at Part.Id self.old) word) result self.old self.new }
+        ensures { IsTaken (on (state_at Part.Id self.old) word) result self.old self.new }
     {
         let Some(id) = word.number() else {
             return false;
@@ -82,11 +82,11 @@ impl Line {
         true
     }
 
-    /// Takes a literal, the `0` behind the clause, or the `d` of a deletion.
+    /// IsTaken a literal, the `0` behind the clause, or the `d` of a deletion.
     fn take_literal(&mut self, word: Word) -> Result<bool, AllocError>
         requires part { self.old.part ≡ Part.Literals }
         requires counting { IsCounting word }
-        ensures { IfOk result (λ taken. Takes (on (state_at Part.Literals self.old) word) taken self.old self.new) }
+        ensures { IfOk result (λ taken. IsTaken (on (state_at Part.Literals self.old) word) taken self.old self.new) }
     {
         if let Some(lit) = word.literal() {
             self.clause.push(lit)?;
@@ -123,10 +123,10 @@ impl Line {
         Ok(())
     }
 
-    /// Takes a hint before the groups, the first candidate, or the last `0`.
+    /// IsTaken a hint before the groups, the first candidate, or the last `0`.
     fn take_hint(&mut self, word: Word) -> Result<bool, AllocError>
         requires { self.old.part ≡ Part.Hints }
-        ensures { IfOk result (λ taken. Takes (on (state_at Part.Hints self.old) word) taken self.old self.new) }
+        ensures { IfOk result (λ taken. IsTaken (on (state_at Part.Hints self.old) word) taken self.old self.new) }
     {
         if let Some(hint) = word.number() {
             self.hints.push(hint)?;
@@ -145,11 +145,11 @@ impl Line {
         Ok(false)
     }
 
-    /// Takes a hint of a group, the next candidate, or the last `0`.
+    /// IsTaken a hint of a group, the next candidate, or the last `0`.
     fn take_group_hint(&mut self, word: Word) -> Result<bool, AllocError>
         requires part { self.old.part ≡ Part.GroupHints }
         requires within { IsWithin (state_at Part.GroupHints self.old) }
-        ensures { IfOk result (λ taken. Takes (on (state_at Part.GroupHints self.old) word) taken self.old self.new) }
+        ensures { IfOk result (λ taken. IsTaken (on (state_at Part.GroupHints self.old) word) taken self.old self.new) }
     {
         if let Some(hint) = word.number() {
             self.group_hints.push(hint)?;
@@ -168,10 +168,10 @@ impl Line {
         Ok(false)
     }
 
-    /// Takes a number to delete, or the last `0`.
+    /// IsTaken a number to delete, or the last `0`.
     fn take_deleted(&mut self, word: Word) -> Result<bool, AllocError>
         requires { self.old.part ≡ Part.Ids }
-        ensures { IfOk result (λ taken. Takes (on (state_at Part.Ids self.old) word) taken self.old self.new) }
+        ensures { IfOk result (λ taken. IsTaken (on (state_at Part.Ids self.old) word) taken self.old self.new) }
     {
         if let Some(id) = word.number() {
             self.hints.push(id)?;
@@ -184,11 +184,11 @@ impl Line {
         Ok(false)
     }
 
-    /// Takes the next word, and says whether it can stand there. If it can't, the line stays as it was.
+    /// IsTaken the next word, and says whether it can stand there. If it can't, the line stays as it was.
     pub fn take(&mut self, word: Word) -> Result<bool, AllocError>
         requires within { IsWithin (state_of self.old) }
         requires counting { IsCounting word }
-        ensures { IfOk result (λ taken. Takes (on (state_of self.old) word) taken self.old self.new) }
+        ensures { IfOk result (λ taken. IsTaken (on (state_of self.old) word) taken self.old self.new) }
     {
         match self.part {
             Part::Id => Ok(self.take_id(word)),
@@ -200,7 +200,7 @@ impl Line {
         }
     }
 
-    /// Takes the literals, hints or numbers to delete that stand whole among the bytes from `start` on, where such come next, and says where the
+    /// IsTaken the literals, hints or numbers to delete that stand whole among the bytes from `start` on, where such come next, and says where the
     /// first byte stands that wasn't taken.
     pub(crate) fn take_run(&mut self, bytes: &[u8], start: usize) -> Result<usize, AllocError>
         requires within { IsWithin (state_of self.old) }

@@ -3,7 +3,7 @@
 ghost use Rattle.std.specs.Prelude.{◌≡◌, ◌≤◌, ◌<◌, ℕ, List, All, IfOk, IfSome, OnOk, length, slice_index};
 ghost use Rattle.theory.specs.ProofReading.{IsNumber, IsLiteral};
 ghost use Rattle.theory.specs.Texts.{minus};
-ghost use Rattle.lrat.specs.LineMachine.{State, at_clause};
+ghost use Rattle.lrat.specs.LineMachine.{LineState, at_clause};
 ghost use Rattle.lrat.specs.Runs.{StandsWhole, IsLiteralAt, TakesNumbers, TakesRun};
 
 use crate::begun::take_digits;
@@ -73,7 +73,7 @@ pub(crate) fn take_numbers(
     start: usize,
 ) -> Result<usize, AllocError>
     requires inside { start ≤ length bytes.now }
-    ensures taken { IfOk result (λ end. (f : List ℕ → State) → TakesNumbers f → TakesRun bytes.now (f numbers.old.items) start (f numbers.new.items) end) }
+    ensures taken { IfOk result (λ end. (f : List ℕ → LineState) → TakesNumbers f → TakesRun bytes.now (f numbers.old.items) start (f numbers.new.items) end) }
     ensures numbers { OnOk result (All IsNumber numbers.old.items → All IsNumber numbers.new.items) }
     ensures forward { IfOk result (λ end. (start ≤ end) × (end ≤ length bytes.now)) }
 {

@@ -3,7 +3,7 @@ ghost use Rattle.std.specs.Prelude.{◌≡◌, [], ◌∷◌, ◌++◌, map, cod
 ghost use Rattle.theory.specs.Texts.{space, literal_text, group_words, groups_words, step_text};
 ghost use Rattle.theory.specs.Steps.{add, delete};
 ghost use Rattle.lrat.specs.Steps.{step_of};
-ghost use Rattle.lrat.specs.Words.{spaced, begun_line, Extends};
+ghost use Rattle.lrat.specs.Words.{spaced, begun_line, IsBegunBy};
 
 use crate::step::{Addition, Deletion, Group, Step};
 use cnf::Lit;
@@ -13,7 +13,7 @@ use std::alloc::AllocError;
 /// Appends a number and a space.
 fn append_number(n: u64, out: &mut Vec<u8>) -> Result<(), AllocError>
     ensures ok { OnOk result (out.new.items ≡ out.old.items ++ decimal n ++ space ∷ []) }
-    ensures extends { Extends out.old.items out.new.items }
+    ensures extends { IsBegunBy out.old.items out.new.items }
 {
     let mut buffer = Buffer::new();
     out.extend_from_slice(buffer.format(n).as_bytes())?;
@@ -24,7 +24,7 @@ fn append_number(n: u64, out: &mut Vec<u8>) -> Result<(), AllocError>
 /// Appends a literal and a space.
 fn append_literal(lit: Lit, out: &mut Vec<u8>) -> Result<(), AllocError>
     ensures ok { OnOk result (out.new.items ≡ out.old.items ++ literal_text lit ++ space ∷ []) }
-    ensures extends { Extends out.old.items out.new.items }
+    ensures extends { IsBegunBy out.old.items out.new.items }
 {
     if !lit.positive() {
         out.push(b'-')?;
@@ -35,7 +35,7 @@ fn append_literal(lit: Lit, out: &mut Vec<u8>) -> Result<(), AllocError>
 /// Appends literals, each with a space behind it.
 fn append_literals(lits: &[Lit], out: &mut Vec<u8>) -> Result<(), AllocError>
     ensures ok { OnOk result (out.new.items ≡ out.old.items ++ spaced (map literal_text lits.now)) }
-    ensures extends { Extends out.old.items out.new.items }
+    ensures extends { IsBegunBy out.old.items out.new.items }
 {
     for lit in lits {
         append_literal(*lit, out)?;
@@ -46,7 +46,7 @@ fn append_literals(lits: &[Lit], out: &mut Vec<u8>) -> Result<(), AllocError>
 /// Appends numbers, each with a space behind it.
 fn append_numbers(numbers: &[u64], out: &mut Vec<u8>) -> Result<(), AllocError>
     ensures ok { OnOk result (out.new.items ≡ out.old.items ++ spaced (map decimal numbers.now)) }
-    ensures extends { Extends out.old.items out.new.items }
+    ensures extends { IsBegunBy out.old.items out.new.items }
 {
     for number in numbers {
         append_number(*number, out)?;
@@ -57,7 +57,7 @@ fn append_numbers(numbers: &[u64], out: &mut Vec<u8>) -> Result<(), AllocError>
 /// Appends a group: the candidate behind a minus, then the hints, each with a space behind it.
 fn append_group(group: &Group, out: &mut Vec<u8>) -> Result<(), AllocError>
     ensures ok { OnOk result (out.new.items ≡ out.old.items ++ spaced (group_words group.now)) }
-    ensures extends { Extends out.old.items out.new.items }
+    ensures extends { IsBegunBy out.old.items out.new.items }
 {
     out.push(b'-')?;
     append_number(group.candidate(), out)?;
@@ -67,7 +67,7 @@ fn append_group(group: &Group, out: &mut Vec<u8>) -> Result<(), AllocError>
 /// Appends groups, one after the other.
 fn append_groups(groups: &[Group], out: &mut Vec<u8>) -> Result<(), AllocError>
     ensures ok { OnOk result (out.new.items ≡ out.old.items ++ spaced (groups_words groups.now)) }
-    ensures extends { Extends out.old.items out.new.items }
+    ensures extends { IsBegunBy out.old.items out.new.items }
 {
     for group in groups {
         append_group(group, out)?;
@@ -78,7 +78,7 @@ fn append_groups(groups: &[Group], out: &mut Vec<u8>) -> Result<(), AllocError>
 /// Appends the end of a line.
 fn append_end(out: &mut Vec<u8>) -> Result<(), AllocError>
     ensures ok { OnOk result (out.new.items ≡ out.old.items ++ codes "0\n") }
-    ensures extends { Extends out.old.items out.new.items }
+    ensures extends { IsBegunBy out.old.items out.new.items }
 {
     out.extend_from_slice(b"0\n")
 }
@@ -91,7 +91,7 @@ fn append_clause(
     out: &mut Vec<u8>,
 ) -> Result<(), AllocError>
     ensures ok { OnOk result (out.new.items ≡ out.old.items ++ begun_line id clause.now hints.now) }
-    ensures extends { Extends out.old.items out.new.items }
+    ensures extends { IsBegunBy out.old.items out.new.items }
 {
     append_number(id, out)?;
     append_literals(clause, out)?;
@@ -118,7 +118,7 @@ pub fn write_clause(
 /// Appends the line of an addition.
 fn append_addition(addition: &Addition, out: &mut Vec<u8>) -> Result<(), AllocError>
     ensures ok { OnOk result (out.new.items ≡ out.old.items ++ step_text (step_of (Step.Add addition.now))) }
-    ensures extends { Extends out.old.items out.new.items }
+    ensures extends { IsBegunBy out.old.items out.new.items }
 {
     append_clause(addition.id(), addition.clause(), addition.hints(), out)?;
     append_groups(addition.groups(), out)?;
@@ -128,7 +128,7 @@ fn append_addition(addition: &Addition, out: &mut Vec<u8>) -> Result<(), AllocEr
 /// Appends the line that deletes the clauses of these numbers.
 fn append_ids(id: u64, ids: &[u64], out: &mut Vec<u8>) -> Result<(), AllocError>
     ensures ok { OnOk result (out.new.items ≡ out.old.items ++ step_text (delete (record { id = id; ids = ids.now }))) }
-    ensures extends { Extends out.old.items out.new.items }
+    ensures extends { IsBegunBy out.old.items out.new.items }
 {
     append_number(id, out)?;
     out.extend_from_slice(b"d ")?;
@@ -148,7 +148,7 @@ pub fn write_deletion(id: u64, ids: &[u64], out: &mut Vec<u8>) -> Result<(), All
 /// Appends the line of a deletion.
 fn append_deletion(deletion: &Deletion, out: &mut Vec<u8>) -> Result<(), AllocError>
     ensures ok { OnOk result (out.new.items ≡ out.old.items ++ step_text (step_of (Step.Delete deletion.now))) }
-    ensures extends { Extends out.old.items out.new.items }
+    ensures extends { IsBegunBy out.old.items out.new.items }
 {
     append_ids(deletion.id(), deletion.ids(), out)
 }

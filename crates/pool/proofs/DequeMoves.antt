@@ -8,7 +8,7 @@ use Rattle.pool.specs.declared.task.Task.{Task}
 use Rattle.pool.specs.DequeNotes.{DequeNotes}
 use Rattle.pool.specs.Tally.{Tally}
 use Rattle.pool.specs.DequeNotes.{Cube, owner_notes, thief_notes, spent, with_more, merged}
-use Rattle.pool.specs.Deque.{cubes, Fit, AllFit, noted, got_of, Knows, Kept, Whole, Emptied, EmptyThen, Fronts, Marked}
+use Rattle.pool.specs.Deque.{cubes, Fit, AllFit, noted, got_of, Knows, HoldsTasks, Whole, Emptied, EmptyThen, Fronts, Marked}
 use Rattle.pool.proofs.Tallies.{entries-none, Tally-begins, Tally-same, Tally-adds, Tally-forks, Tally-merges, Tally-learns, Tally-guest}
 
 off : {P : Type 0} → false ≡ true → P
@@ -25,7 +25,7 @@ knows_set b c views port w others mine j u e =
     (λ (x : (j ≢ port) × (get_elem? views j ≡ some u)). others j u x.0 x.1)
     (at_set views port j w u e)
 
-pub begins : Kept [] (owner_notes 0 0 [] ∷ [])
+pub begins : HoldsTasks [] (owner_notes 0 0 [] ∷ [])
 begins = (owner_notes 0 0 [], [], refl, tt, Tally-begins got_of (owner_notes 0 0 []) refl, one)
   where
     one : (port : ℕ) (v : DequeNotes) → get_elem? (owner_notes 0 0 [] ∷ []) port ≡ some v → Knows (owner_notes 0 0 []) port v
@@ -45,7 +45,7 @@ AllFit-left n [] ys h = tt
 AllFit-left n (x ∷ xs) ys h = (h.0, AllFit-left n xs ys h.1)
 
 -- before there is a hand
-fresh : (items : List Task) (views : List DequeNotes) (n : ℕ) (put : List Cube) (h : Kept items views) → get_elem? views 0 ≡ some (owner_notes n 0 put) → (h.1 ≡ []) × (cubes items ≡ put) × (h.0.vars ≡ n) × (h.0.made ≡ 0)
+fresh : (items : List Task) (views : List DequeNotes) (n : ℕ) (put : List Cube) (h : HoldsTasks items views) → get_elem? views 0 ≡ some (owner_notes n 0 put) → (h.1 ≡ []) × (cubes items ≡ put) × (h.0.vars ≡ n) × (h.0.made ≡ 0)
 fresh items views n put h at =
     let mine = (h.5 0 (owner_notes n 0 put) at).0 refl in
     let none : h.1 ≡ [] = entries-none h.1 (λ k. h.4.1 k (let e : 0 ≡ h.0.made = mine.1.1 in omega arith)) in
@@ -57,7 +57,7 @@ fresh items views n put h at =
     )
 
 -- a change of the one view there is
-refresh : (items : List Task) (views : List DequeNotes) (n : ℕ) (put : List Cube) (h : Kept items views) → get_elem? views 0 ≡ some (owner_notes n 0 put) → (m : ℕ) (now : List Task) → AllFit m now → Kept now (set views 0 (owner_notes m 0 (cubes now)))
+refresh : (items : List Task) (views : List DequeNotes) (n : ℕ) (put : List Cube) (h : HoldsTasks items views) → get_elem? views 0 ≡ some (owner_notes n 0 put) → (m : ℕ) (now : List Task) → AllFit m now → HoldsTasks now (set views 0 (owner_notes m 0 (cubes now)))
 refresh items views n put h at m now fit =
     let f = fresh items views n put h at in
     let w = owner_notes m 0 (cubes now) in (
@@ -79,25 +79,25 @@ cubes-append : (a b : List Task) → cubes (a ++ b) ≡ cubes a ++ cubes b
 cubes-append [] bs = refl
 cubes-append (t ∷ ts) bs = ap (λ (l : List Cube). t.cube ∷ l) (cubes-append ts bs)
 
-pub marks : (x : Task) → Fit x.vars x → Pushes Kept 0 (owner_notes 0 0 []) (x ∷ []) (Marked (owner_notes 0 0 []) (x ∷ []))
+pub marks : (x : Task) → Fit x.vars x → Pushes HoldsTasks 0 (owner_notes 0 0 []) (x ∷ []) (Marked (owner_notes 0 0 []) (x ∷ []))
 marks x fit items views h at =
     let f = fresh items views 0 [] h at in
-    (owner_notes x.vars 0 (x.cube ∷ []), subst (λ (l : List Task). Kept (l ++ x ∷ []) (set views 0 (owner_notes x.vars 0 (x.cube ∷ [])))) (sym (no_cubes items f.1)) (refresh items views 0 [] h at x.vars (x ∷ []) (fit, tt)), refl)
+    (owner_notes x.vars 0 (x.cube ∷ []), subst (λ (l : List Task). HoldsTasks (l ++ x ∷ []) (set views 0 (owner_notes x.vars 0 (x.cube ∷ [])))) (sym (no_cubes items f.1)) (refresh items views 0 [] h at x.vars (x ∷ []) (fit, tt)), refl)
 
-pub unmarks : (n : ℕ) (x : Cube) → Takes Kept 0 (owner_notes n 0 (x ∷ [])) 1 (λ xs w. w ≡ owner_notes n 0 [])
+pub unmarks : (n : ℕ) (x : Cube) → Takes HoldsTasks 0 (owner_notes n 0 (x ∷ [])) 1 (λ xs w. w ≡ owner_notes n 0 [])
 unmarks n x xs items views some_task one_task h at =
     let f = fresh (xs ++ items) views n (x ∷ []) h at in
-    (owner_notes n 0 [], subst (λ (l : List Task). Kept l (set views 0 (owner_notes n 0 []))) (sym (rest xs items some_task f.1)) (refresh (xs ++ items) views n (x ∷ []) h at n [] tt), refl)
+    (owner_notes n 0 [], subst (λ (l : List Task). HoldsTasks l (set views 0 (owner_notes n 0 []))) (sym (rest xs items some_task f.1)) (refresh (xs ++ items) views n (x ∷ []) h at n [] tt), refl)
   where
     rest : (ys zs : List Task) → 0 < length ys → cubes (ys ++ zs) ≡ x ∷ [] → zs ≡ []
     rest [] zs lt e = absurd (omega arith)
     rest (y ∷ []) zs lt e = no_cubes zs (cc)
     rest (y ∷ z ∷ ys) zs lt e = absurd (cc)
 
-pub finds_mark : (n : ℕ) (x : Cube) → Finds Kept 0 (owner_notes n 0 (x ∷ [])) ⊥
+pub finds_mark : (n : ℕ) (x : Cube) → Finds HoldsTasks 0 (owner_notes n 0 (x ∷ [])) ⊥
 finds_mark n x views h at = let f = fresh [] views n (x ∷ []) h at in none_at x [] f.1
 
-pub nexts : (port : ℕ) (v : DequeNotes) → v.is_owner ≡ true → v.left ≡ [] → Forks Kept port v (record v { made = v.made + 1 }) (thief_notes v.vars v.made)
+pub nexts : (port : ℕ) (v : DequeNotes) → v.is_owner ≡ true → v.left ≡ [] → Forks HoldsTasks port v (record v { made = v.made + 1 }) (thief_notes v.vars v.made)
 nexts port v is_owner left items views h at =
     let mine = (h.5 port v at).0 is_owner in
     let l : DequeNotes = record v { made = v.made + 1 } in
@@ -117,7 +117,7 @@ nexts port v is_owner left items views h at =
           (at_snoc (set views port l) r u j e),
     )
 
-pub merges : (port : ℕ) (v : DequeNotes) (other : ℕ) (u : DequeNotes) → v.is_owner ≡ true → Merges Kept port v other u (merged v u) spent
+pub merges : (port : ℕ) (v : DequeNotes) (other : ℕ) (u : DequeNotes) → v.is_owner ≡ true → Merges HoldsTasks port v other u (merged v u) spent
 merges port v other u is_owner items views h at apart there =
     let mine = (h.5 port v at).0 is_owner in
     let b : DequeNotes = merged v u in
@@ -135,7 +135,7 @@ merges port v other u is_owner items views h at apart there =
 snoc_right : (a b c d : List Cube) → a ++ (b ++ c) ≡ d → (x : List Cube) → a ++ (b ++ (c ++ x)) ≡ d ++ x
 snoc_right a b c d e x = ap (λ (l : List Cube). a ++ l) (sym (append_assoc b c x)) ∙ sym (append_assoc a (b ++ c) x) ∙ ap (λ (l : List Cube). l ++ x) e
 
-pub puts : (port : ℕ) (v : DequeNotes) (x : Task) → v.is_owner ≡ true → Fit v.vars x → Pushes Kept port v (x ∷ []) (λ w. w ≡ record v { put = v.put ++ x.cube ∷ [] })
+pub puts : (port : ℕ) (v : DequeNotes) (x : Task) → v.is_owner ≡ true → Fit v.vars x → Pushes HoldsTasks port v (x ∷ []) (λ w. w ≡ record v { put = v.put ++ x.cube ∷ [] })
 puts port v x is_owner fit items views h at =
     let mine = (h.5 port v at).0 is_owner in
     let w : DequeNotes = record v { put = v.put ++ x.cube ∷ [] } in
@@ -155,7 +155,7 @@ puts port v x is_owner fit items views h at =
       refl,
     )
 
-pub puts_root : (port : ℕ) (v : DequeNotes) (x : Task) → v.is_owner ≡ true → v.put ≡ [] → Fit v.vars x → Pushes Kept port v (x ∷ []) (λ w. w ≡ record v { roots = v.roots ++ x.cube ∷ [] })
+pub puts_root : (port : ℕ) (v : DequeNotes) (x : Task) → v.is_owner ≡ true → v.put ≡ [] → Fit v.vars x → Pushes HoldsTasks port v (x ∷ []) (λ w. w ≡ record v { roots = v.roots ++ x.cube ∷ [] })
 puts_root port v x is_owner none fit items views h at =
     let mine = (h.5 port v at).0 is_owner in
     let w : DequeNotes = record v { roots = v.roots ++ x.cube ∷ [] } in
@@ -193,12 +193,12 @@ one_of [] a b = absurd (omega arith)
 one_of (x ∷ []) a b = (x, refl)
 one_of (x ∷ y ∷ xs) a b = absurd (omega arith)
 
-pub gets : (port : ℕ) (v : DequeNotes) (k : ℕ) (ys : List Cube) (ns : List (ℕ × List Cube)) → v.got ≡ (k, ys) ∷ ns → v.left ≡ [] → Takes Kept port v 1 (λ xs w. (w ≡ noted v xs) × AllFit v.vars xs)
+pub gets : (port : ℕ) (v : DequeNotes) (k : ℕ) (ys : List Cube) (ns : List (ℕ × List Cube)) → v.got ≡ (k, ys) ∷ ns → v.left ≡ [] → Takes HoldsTasks port v 1 (λ xs w. (w ≡ noted v xs) × AllFit v.vars xs)
 gets port v k ys ns is left xs items views some_task one_task h at =
     let one = one_of xs some_task one_task in
-    subst (λ (l : List Task). (w : DequeNotes) × Kept items (set views port w) × ((w ≡ noted v l) × AllFit v.vars l)) (sym one.1) (got one.0 (subst (λ (l : List Task). Kept (l ++ items) views) one.1 h))
+    subst (λ (l : List Task). (w : DequeNotes) × HoldsTasks items (set views port w) × ((w ≡ noted v l) × AllFit v.vars l)) (sym one.1) (got one.0 (subst (λ (l : List Task). HoldsTasks (l ++ items) views) one.1 h))
   where
-    got : (x : Task) → Kept (x ∷ items) views → (w : DequeNotes) × Kept items (set views port w) × ((w ≡ noted v (x ∷ [])) × AllFit v.vars (x ∷ []))
+    got : (x : Task) → HoldsTasks (x ∷ items) views → (w : DequeNotes) × HoldsTasks items (set views port w) × ((w ≡ noted v (x ∷ [])) × AllFit v.vars (x ∷ []))
     got x h =
         let w : DequeNotes = noted v (x ∷ []) in
         let now : w.got ≡ (k, ys ++ x.cube ∷ []) ∷ ns = ap (with_more (x.cube ∷ [])) is in
@@ -218,7 +218,7 @@ gets port v k ys ns is left xs items views some_task one_task h at =
           (refl, (subst (λ (n : ℕ). Fit n x) (sym vars) h.3.0, tt)),
         )
 
-pub drains : (port : ℕ) (v : DequeNotes) → v.is_owner ≡ true → Whole v → Takes Kept port v 1 (λ xs w. (w ≡ record v { left = v.left ++ cubes xs }) × AllFit v.vars xs)
+pub drains : (port : ℕ) (v : DequeNotes) → v.is_owner ≡ true → Whole v → Takes HoldsTasks port v 1 (λ xs w. (w ≡ record v { left = v.left ++ cubes xs }) × AllFit v.vars xs)
 drains port v is_owner whole xs items views some_task one_task h at =
     let mine = (h.5 port v at).0 is_owner in
     let w : DequeNotes = record v { left = v.left ++ cubes xs } in
@@ -246,7 +246,7 @@ drains port v is_owner whole xs items views some_task one_task h at =
         let ours = h.4.2 port v at here.0 (n.0, here.1) here.2 in
         ap (λ (z : ℕ × ℕ). z.0) (sym theirs.0 ∙ ours.0)
 
-pub finds : (port : ℕ) (v : DequeNotes) → v.is_owner ≡ true → Finds Kept port v (Emptied v)
+pub finds : (port : ℕ) (v : DequeNotes) → v.is_owner ≡ true → Finds HoldsTasks port v (Emptied v)
 finds port v is_owner views h at =
     let g = ((h.5 port v at).0 is_owner).1 in (
       h.1,
@@ -256,7 +256,7 @@ finds port v is_owner views h at =
     )
 
 -- the same as a thief sees it
-pub misses : (port : ℕ) (v : DequeNotes) (n : ℕ × List Cube) (ns : List (ℕ × List Cube)) → v.got ≡ n ∷ ns → v.left ≡ [] → FindsFew Kept 0 port v (EmptyThen v)
+pub misses : (port : ℕ) (v : DequeNotes) (n : ℕ × List Cube) (ns : List (ℕ × List Cube)) → v.got ≡ n ∷ ns → v.left ≡ [] → FindsFew HoldsTasks 0 port v (EmptyThen v)
 misses port v n ns is left items views few h at =
     let nothing = left_none h.0 v port n ns (h.5 port v at) is left in (
       h.0.roots ++ h.0.put,
@@ -270,19 +270,19 @@ misses port v n ns is left items views few h at =
     none_left (x ∷ xs) le = absurd (omega arith)
 
 -- the first moves, at a worker that is known
-pub marks_as : (port : ℕ) (v : DequeNotes) (x : Task) → port ≡ 0 → v ≡ owner_notes 0 0 [] → Fit x.vars x → Pushes Kept port v (x ∷ []) (Marked v (x ∷ []))
-marks_as port v x at is fit = subst (λ (y : ℕ × DequeNotes). Pushes Kept y.0 y.1 (x ∷ []) (Marked y.1 (x ∷ []))) (λ i. (sym at i, sym is i)) (marks x fit)
+pub marks_as : (port : ℕ) (v : DequeNotes) (x : Task) → port ≡ 0 → v ≡ owner_notes 0 0 [] → Fit x.vars x → Pushes HoldsTasks port v (x ∷ []) (Marked v (x ∷ []))
+marks_as port v x at is fit = subst (λ (y : ℕ × DequeNotes). Pushes HoldsTasks y.0 y.1 (x ∷ []) (Marked y.1 (x ∷ []))) (λ i. (sym at i, sym is i)) (marks x fit)
 
-pub unmarks_as : (port : ℕ) (v : DequeNotes) (n : ℕ) (x : Cube) → port ≡ 0 → v ≡ owner_notes n 0 (x ∷ []) → Takes Kept port v 1 (λ xs w. w ≡ owner_notes v.vars 0 [])
-unmarks_as port v n x at is = subst (λ (y : ℕ × DequeNotes). Takes Kept y.0 y.1 1 (λ xs w. w ≡ owner_notes y.1.vars 0 [])) (λ i. (sym at i, sym is i)) (unmarks n x)
+pub unmarks_as : (port : ℕ) (v : DequeNotes) (n : ℕ) (x : Cube) → port ≡ 0 → v ≡ owner_notes n 0 (x ∷ []) → Takes HoldsTasks port v 1 (λ xs w. w ≡ owner_notes v.vars 0 [])
+unmarks_as port v n x at is = subst (λ (y : ℕ × DequeNotes). Takes HoldsTasks y.0 y.1 1 (λ xs w. w ≡ owner_notes y.1.vars 0 [])) (λ i. (sym at i, sym is i)) (unmarks n x)
 
-pub finds_mark_as : (port : ℕ) (v : DequeNotes) (n : ℕ) (x : Cube) → port ≡ 0 → v ≡ owner_notes n 0 (x ∷ []) → Finds Kept port v ⊥
-finds_mark_as port v n x at is = subst (λ (y : ℕ × DequeNotes). Finds Kept y.0 y.1 ⊥) (λ i. (sym at i, sym is i)) (finds_mark n x)
+pub finds_mark_as : (port : ℕ) (v : DequeNotes) (n : ℕ) (x : Cube) → port ≡ 0 → v ≡ owner_notes n 0 (x ∷ []) → Finds HoldsTasks port v ⊥
+finds_mark_as port v n x at is = subst (λ (y : ℕ × DequeNotes). Finds HoldsTasks y.0 y.1 ⊥) (λ i. (sym at i, sym is i)) (finds_mark n x)
 
-pub misses_as : (few port : ℕ) (v : DequeNotes) (n : ℕ × List Cube) (ns : List (ℕ × List Cube)) → few ≡ 0 → v.got ≡ n ∷ ns → v.left ≡ [] → FindsFew Kept (min few 1) port v (EmptyThen v)
-misses_as few port v n ns is got left = subst (λ (k : ℕ). FindsFew Kept (min k 1) port v (EmptyThen v)) (sym is) (misses port v n ns got left)
+pub misses_as : (few port : ℕ) (v : DequeNotes) (n : ℕ × List Cube) (ns : List (ℕ × List Cube)) → few ≡ 0 → v.got ≡ n ∷ ns → v.left ≡ [] → FindsFew HoldsTasks (min few 1) port v (EmptyThen v)
+misses_as few port v n ns is got left = subst (λ (k : ℕ). FindsFew HoldsTasks (min k 1) port v (EmptyThen v)) (sym is) (misses port v n ns got left)
 
-fronts : (port : ℕ) (v : DequeNotes) (xs items : List Task) (views : List DequeNotes) → v.is_owner ≡ true → Kept (xs ++ items) views → get_elem? views port ≡ some v → Fronts v (cubes xs)
+fronts : (port : ℕ) (v : DequeNotes) (xs items : List Task) (views : List DequeNotes) → v.is_owner ≡ true → HoldsTasks (xs ++ items) views → get_elem? views port ≡ some v → Fronts v (cubes xs)
 fronts port v xs items views is_owner h at =
     let g = ((h.5 port v at).0 is_owner).1 in (
       h.1,
@@ -294,15 +294,15 @@ fronts port v xs items views is_owner h at =
     )
 
 -- the owner takes, and learns that it was the front
-pub takes : (port : ℕ) (v : DequeNotes) (k : ℕ) (ys : List Cube) (ns : List (ℕ × List Cube)) → v.is_owner ≡ true → v.got ≡ (k, ys) ∷ ns → v.left ≡ [] → Takes Kept port v 1 (λ xs w. (w ≡ noted v xs) × AllFit v.vars xs × Fronts v (cubes xs))
+pub takes : (port : ℕ) (v : DequeNotes) (k : ℕ) (ys : List Cube) (ns : List (ℕ × List Cube)) → v.is_owner ≡ true → v.got ≡ (k, ys) ∷ ns → v.left ≡ [] → Takes HoldsTasks port v 1 (λ xs w. (w ≡ noted v xs) × AllFit v.vars xs × Fronts v (cubes xs))
 takes port v k ys ns is_owner is left xs items views some_task one_task h at =
     let g = gets port v k ys ns is left xs items views some_task one_task h at in (g.0, g.1, (g.2.0, g.2.1, fronts port v xs items views is_owner h at))
 
 -- a guest may come
-pub admits : Admits Kept spent
+pub admits : Admits HoldsTasks spent
 admits items views h = (h.0, h.1, h.2, h.3, Tally-guest got_of h.0.made h.1 views spent refl h.4, λ j u e. ⊎_elim (h.5 j u) (λ (is : spent ≡ u). subst (Knows h.0 j) is ((λ p. off p), λ n ns q. absurd (none_at n ns q))) (at_snoc views spent u j e))
 
 -- the last takes, which end since each is one of the cubes that were put
-pub drains_front : (port : ℕ) (v : DequeNotes) → v.is_owner ≡ true → Whole v → Takes Kept port v 1 (λ xs w. (w ≡ record v { left = v.left ++ cubes xs }) × AllFit v.vars xs × Fronts v (cubes xs))
+pub drains_front : (port : ℕ) (v : DequeNotes) → v.is_owner ≡ true → Whole v → Takes HoldsTasks port v 1 (λ xs w. (w ≡ record v { left = v.left ++ cubes xs }) × AllFit v.vars xs × Fronts v (cubes xs))
 drains_front port v is_owner whole xs items views some_task one_task h at =
     let g = drains port v is_owner whole xs items views some_task one_task h at in (g.0, g.1, (g.2.0, g.2.1, fronts port v xs items views is_owner h at))

@@ -3,7 +3,7 @@ use Rattle.std.proofs.Common.{◌≡◌, ℕ, Bool, true, false, cond, List, [],
 use Rattle.std.specs.Prelude.{◌==◌}
 use Rattle.std.proofs.lemmas.List.Elements.{All-cons, All-nil}
 use Rattle.theory.specs.Ledger.{Call, offer, look, more, less, still_open, halt, halted}
-use Rattle.theory.specs.Order.{Words, first_words, lower, after_call, IsRight, Replays, words_after, entries_of}
+use Rattle.theory.specs.Order.{Words, first_words, lower, after_call, AnswersRightly, Replays, words_after, entries_of}
 use Rattle.pool.specs.Words.{AtMost, IsBoundBy, StaysHalted, Owes}
 
 -- an order grows at its end
@@ -11,7 +11,7 @@ pub words_after-snoc : (s : Words) (es : List (ℕ × Call)) (k : ℕ) (c : Call
 words_after-snoc s [] k c = refl
 words_after-snoc s (e ∷ es) k c = words_after-snoc (after_call s e.1) es k c
 
-pub Replays-snoc : (s : Words) (es : List (ℕ × Call)) (k : ℕ) (c : Call) → Replays s es → IsRight (words_after s es) c → Replays s (es ++ (k, c) ∷ [])
+pub Replays-snoc : (s : Words) (es : List (ℕ × Call)) (k : ℕ) (c : Call) → Replays s es → AnswersRightly (words_after s es) c → Replays s (es ++ (k, c) ∷ [])
 Replays-snoc s [] k c r a = (a, tt)
 Replays-snoc s (e ∷ es) k c r a = (r.0, Replays-snoc (after_call s e.1) es k c r.1 a)
 
@@ -37,7 +37,7 @@ most_end : (s : Words) (es : List (ℕ × Call)) (p : ℕ) → AtMost s.least p 
 most_end s [] p h = h
 most_end s (e ∷ es) p h = most_end (after_call s e.1) es p (most_after s e.1 p h)
 
-bound_by : (t s : Words) (c : Call) → IsRight s c → ((p : ℕ) → AtMost (after_call s c).least p → AtMost t.least p) → IsBoundBy t.least c
+bound_by : (t s : Words) (c : Call) → AnswersRightly s c → ((p : ℕ) → AtMost (after_call s c).least p → AtMost t.least p) → IsBoundBy t.least c
 bound_by t s (offer p) a m = m p (lower_here s.least p)
 bound_by t s (look None) a m = tt
 bound_by t s (look (Some p)) a m = m p (subst (λ (o : Option ℕ). AtMost o p) (sym a) (omega arith))
@@ -69,7 +69,7 @@ halt_end : (s : Words) (es : List (ℕ × Call)) → s.has_halted ≡ true → (
 halt_end s [] h = h
 halt_end s (e ∷ es) h = halt_end (after_call s e.1) es (halt_after s e.1 h)
 
-stays_halted : (t s : Words) (c : Call) → IsRight s c → ((after_call s c).has_halted ≡ true → t.has_halted ≡ true) → StaysHalted t.has_halted c
+stays_halted : (t s : Words) (c : Call) → AnswersRightly s c → ((after_call s c).has_halted ≡ true → t.has_halted ≡ true) → StaysHalted t.has_halted c
 stays_halted t s (offer p) a m = tt
 stays_halted t s (look seen) a m = tt
 stays_halted t s more a m = tt
@@ -87,7 +87,7 @@ stays_end s (e ∷ es) k r = either (k == e.0) (stays_end (after_call s e.1) es 
     either true h = All-cons (StaysHalted (words_after (after_call s e.1) es).has_halted) e.1 (entries_of k es) (stays_halted (words_after (after_call s e.1) es) s e.1 r.0 (halt_end (after_call s e.1) es)) h
     either false h = h
 
-pub Owes-end : (es : List (ℕ × Call)) (k : ℕ) (c : Call) → Replays first_words es → IsRight (words_after first_words es) c → Owes (entries_of k es) c
+pub Owes-end : (es : List (ℕ × Call)) (k : ℕ) (c : Call) → Replays first_words es → AnswersRightly (words_after first_words es) c → Owes (entries_of k es) c
 Owes-end es k (offer p) r a = tt
 Owes-end es k (look b) r a = subst (λ (o : Option ℕ). All (IsBoundBy o) (entries_of k es)) a (below_end first_words es k r)
 Owes-end es k more r a = tt

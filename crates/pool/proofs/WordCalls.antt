@@ -11,9 +11,9 @@ use Rattle.theory.specs.Ledger.{Call}
 use Rattle.theory.specs.Ledger.{offer, look, more, less, still_open, halt, halted}
 use Rattle.pool.specs.SeatNotes.{SeatNotes}
 use Rattle.theory.specs.Order.{Words}
-use Rattle.theory.specs.Order.{first_words, lower, after_call, IsRight, words_after}
+use Rattle.theory.specs.Order.{first_words, lower, after_call, AnswersRightly, words_after}
 use Rattle.pool.specs.SeatNotes.{first_notes, hand_notes, spent_notes}
-use Rattle.pool.specs.Words.{Owes, code, decode, bit, coded, Sane, with_call, called, both_calls, calls_of, Endings, Speaks, Ordered, own_calls, Says, AllHere, Seals, Reads}
+use Rattle.pool.specs.Words.{Owes, code, decode, bit, coded, Sane, with_call, called, both_calls, calls_of, Endings, Speaks, Ordered, own_calls, MakesCall, AllHere, Seals, ReadsUndone}
 use Rattle.pool.proofs.Tallies.{Tally-begins, Tally-same, Tally-adds, Tally-forks, Tally-merges, Tally-learns}
 use Rattle.pool.proofs.RightAnswers.{words_after-snoc, Replays-snoc, Owes-end}
 
@@ -23,7 +23,7 @@ off e = absurd (true≢false (sym e))
 -- the call that a step on the word i is, by what it finds
 abbrev pub Does : ℕ → (ℕ → ℕ) → (ℕ → Call) → Type 0
 Does i f call = (s : Words) → Sane s.least → slice_index (coded s) i < 18446744073709551616
-    → IsRight s (call (slice_index (coded s) i)) × (set (coded s) i (f (slice_index (coded s) i)) ≡ coded (after_call s (call (slice_index (coded s) i)))) × Sane (after_call s (call (slice_index (coded s) i))).least
+    → AnswersRightly s (call (slice_index (coded s) i)) × (set (coded s) i (f (slice_index (coded s) i)) ≡ coded (after_call s (call (slice_index (coded s) i)))) × Sane (after_call s (call (slice_index (coded s) i))).least
 
 speaks_set : (made : ℕ) (last : Option Words) (views : List SeatNotes) (port : ℕ) (w : SeatNotes) (now : Option Words) → ((j : ℕ) (u : SeatNotes) → j ≢ port → get_elem? views j ≡ some u → Speaks made now j u) → Speaks made now port w → (j : ℕ) (u : SeatNotes) → get_elem? (set views port w) j ≡ some u → Speaks made now j u
 speaks_set made last views port w now others mine j u e =
@@ -33,13 +33,13 @@ speaks_set made last views port w now others mine j u e =
     (at_set views port j w u e)
 
 pub speaks : {S : Type 0} (slots id : ℕ) (m : Me S SeatNotes) (k : ℕ) (cs : List Call) (ns : List (ℕ × List Call)) (i : ℕ) (f : ℕ → ℕ) (call : ℕ → Call) → m.0.is_first ≡ false → m.0.calls ≡ (k, cs) ∷ ns → Does i f call
-    → Allows Ordered slots id m i f (λ found n. Says (call found) m n)
+    → Allows Ordered slots id m i f (λ found n. MakesCall (call found) m n)
 speaks {S} slots id m k cs ns i f call plain is does s h len at fits =
-    subst (λ (ws : List ℕ). (w : SeatNotes) × (a : Act S) × Valid s.homes m.1 a × Ordered record { words = set ws i (f (slice_index ws i)); homes = homes_after s.homes m.1 a; views = set s.views id w } × Says (call (slice_index ws i)) m (w, carried_after m.1 a))
+    subst (λ (ws : List ℕ). (w : SeatNotes) × (a : Act S) × Valid s.homes m.1 a × Ordered record { words = set ws i (f (slice_index ws i)); homes = homes_after s.homes m.1 a; views = set s.views id w } × MakesCall (call (slice_index ws i)) m (w, carried_after m.1 a))
     (sym h.4) (said (subst (λ (ws : List ℕ). slice_index ws i < 18446744073709551616) h.4 fits))
   where
     said : slice_index (coded (words_after first_words h.2)) i < 18446744073709551616 → (w : SeatNotes) × (a : Act S) × Valid s.homes m.1 a
-        × Ordered record { words = set (coded (words_after first_words h.2)) i (f (slice_index (coded (words_after first_words h.2)) i)); homes = homes_after s.homes m.1 a; views = set s.views id w } × Says (call (slice_index (coded (words_after first_words h.2)) i)) m (w, carried_after m.1 a)
+        × Ordered record { words = set (coded (words_after first_words h.2)) i (f (slice_index (coded (words_after first_words h.2)) i)); homes = homes_after s.homes m.1 a; views = set s.views id w } × MakesCall (call (slice_index (coded (words_after first_words h.2)) i)) m (w, carried_after m.1 a)
     said small =
         let c : Call = call (slice_index (coded (words_after first_words h.2)) i) in
         let d = does (words_after first_words h.2) h.5 small in
@@ -191,7 +191,7 @@ seals {S} slots id m is_first all s h len at fits =
         let ours = h.6.2 id m.0 at here.0 (n.0, here.1) here.2 in
         ap (λ (z : ℕ × ℕ). z.0) (sym theirs.0 ∙ ours.0)
 
-pub reads : {S : Type 0} (slots id : ℕ) (m : Me S SeatNotes) → m.0.is_first ≡ true → Allows {S = S} Ordered slots id m 1 (λ n. n) (λ found n. Reads m found n)
+pub reads : {S : Type 0} (slots id : ℕ) (m : Me S SeatNotes) → m.0.is_first ≡ true → Allows {S = S} Ordered slots id m 1 (λ n. n) (λ found n. ReadsUndone m found n)
 reads {S} slots id m is_first s h len at fits =
     let mine = (h.8 id m.0 at).0 is_first in (
       m.0,
@@ -222,23 +222,23 @@ reads {S} slots id m is_first s h len at fits =
 
 -- the seven calls, at a hand's seat
 module _ {S : Type 0} (slots id : ℕ) (m : Me S SeatNotes) (n : ℕ × List Call) (ns : List (ℕ × List Call)) (plain : m.0.is_first ≡ false) (is : m.0.calls ≡ n ∷ ns) where
-  pub says_offer : (p : ℕ) → p < 2 ^ 32 → Allows Ordered slots id m 0 (λ x. min x p) (λ found w. Says (offer p) m w)
+  pub says_offer : (p : ℕ) → p < 2 ^ 32 → Allows Ordered slots id m 0 (λ x. min x p) (λ found w. MakesCall (offer p) m w)
   says_offer p small = speaks slots id m n.0 n.1 ns 0 (λ x. min x p) (λ _. offer p) plain is (offers p small)
 
-  pub says_look : Allows Ordered slots id m 0 (λ x. x) (λ found w. Says (look (decode found)) m w)
+  pub says_look : Allows Ordered slots id m 0 (λ x. x) (λ found w. MakesCall (look (decode found)) m w)
   says_look = speaks slots id m n.0 n.1 ns 0 (λ x. x) (λ x. look (decode x)) plain is looks
 
-  pub says_more : Allows Ordered slots id m 1 (λ x. (x + 1) % 2 ^ 64) (λ found w. Says more m w)
+  pub says_more : Allows Ordered slots id m 1 (λ x. (x + 1) % 2 ^ 64) (λ found w. MakesCall more m w)
   says_more = speaks slots id m n.0 n.1 ns 1 (λ x. (x + 1) % 2 ^ 64) (λ _. more) plain is mores
 
-  pub says_less : Allows Ordered slots id m 1 (λ x. (x + (2 ^ 64 - 1)) % 2 ^ 64) (λ found w. Says less m w)
+  pub says_less : Allows Ordered slots id m 1 (λ x. (x + (2 ^ 64 - 1)) % 2 ^ 64) (λ found w. MakesCall less m w)
   says_less = speaks slots id m n.0 n.1 ns 1 (λ x. (x + (2 ^ 64 - 1)) % 2 ^ 64) (λ _. less) plain is lesses
 
-  pub says_open : Allows Ordered slots id m 1 (λ x. x) (λ found w. Says (still_open found) m w)
+  pub says_open : Allows Ordered slots id m 1 (λ x. x) (λ found w. MakesCall (still_open found) m w)
   says_open = speaks slots id m n.0 n.1 ns 1 (λ x. x) (λ x. still_open x) plain is opens
 
-  pub says_halt : Allows Ordered slots id m 2 (λ x. max x 1) (λ found w. Says halt m w)
+  pub says_halt : Allows Ordered slots id m 2 (λ x. max x 1) (λ found w. MakesCall halt m w)
   says_halt = speaks slots id m n.0 n.1 ns 2 (λ x. max x 1) (λ _. halt) plain is halts
 
-  pub says_halted : Allows Ordered slots id m 2 (λ x. x) (λ found w. Says (halted (found == 1)) m w)
+  pub says_halted : Allows Ordered slots id m 2 (λ x. x) (λ found w. MakesCall (halted (found == 1)) m w)
   says_halted = speaks slots id m n.0 n.1 ns 2 (λ x. x) (λ x. halted (x == 1)) plain is sees_halt

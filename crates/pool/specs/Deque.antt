@@ -42,8 +42,8 @@ Knows b port v = (v.is_owner ≡ true → (port ≡ 0) × Agree b v) × ((n : �
 
 -- The rule. What the owner knows, some order of what the hands got that keeps each hand's own, and the tasks agree; each task is fit; and
 -- the notes of all views are of that order.
-abbrev pub Kept : List Task → List DequeNotes → Type 0
-Kept items views = (b : DequeNotes) × (order : List (ℕ × Cube)) × Content b order items × AllFit b.vars items × Tally got_of b.made order views
+abbrev pub HoldsTasks : List Task → List DequeNotes → Type 0
+HoldsTasks items views = (b : DequeNotes) × (order : List (ℕ × Cube)) × Content b order items × AllFit b.vars items × Tally got_of b.made order views
     × ((port : ℕ) (v : DequeNotes) → get_elem? views port ≡ some v → Knows b port v)
 
 -- the notes of all hands are here

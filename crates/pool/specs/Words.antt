@@ -106,8 +106,8 @@ own_calls [] = []
 own_calls (n ∷ ns) = n.1
 
 -- a step that is the call c, and what its answer owes
-abbrev pub Says : {S : Type 0} → Call → Me S SeatNotes → Me S SeatNotes → Type 0
-Says c m n = (n ≡ (called m.0 c, m.1)) × Owes (own_calls m.0.calls) c
+abbrev pub MakesCall : {S : Type 0} → Call → Me S SeatNotes → Me S SeatNotes → Type 0
+MakesCall c m n = (n ≡ (called m.0 c, m.1)) × Owes (own_calls m.0.calls) c
 
 -- the calls of all hands are here
 abbrev pub AllHere : SeatNotes → Type 0
@@ -122,8 +122,8 @@ abbrev pub Seals : {S : Type 0} → Me S SeatNotes → ℕ → Me S SeatNotes �
 Seals m found n = (t : Words) × (n ≡ (record m.0 { last = Some t }, m.1)) × (decode found ≡ t.least) × Closes m.0.made m.0.calls t
 
 -- and then the number of cubes not done
-abbrev pub Reads : {S : Type 0} → Me S SeatNotes → ℕ → Me S SeatNotes → Type 0
-Reads m found n = (n ≡ m) × ((t : Words) → m.0.last ≡ Some t → found ≡ t.undone)
+abbrev pub ReadsUndone : {S : Type 0} → Me S SeatNotes → ℕ → Me S SeatNotes → Type 0
+ReadsUndone m found n = (n ≡ m) × ((t : Words) → m.0.last ≡ Some t → found ≡ t.undone)
 
 -- what contracts see of a seat at the words: which table it is, and the notes
 pub record SeatView : Type 0 where

@@ -11,9 +11,9 @@ pub struct OnceEach;
 impl Protocol<Task, DequeNotes> for OnceEach {
     ghost use Rattle.std.specs.Prelude.{[]};
     ghost use Rattle.pool.specs.DequeNotes.{owner_notes, spent};
-    ghost use Rattle.pool.specs.Deque.{Kept};
+    ghost use Rattle.pool.specs.Deque.{HoldsTasks};
 
-    ghost holds = { Kept };
+    ghost holds = { HoldsTasks };
 
     ghost first = { owner_notes 0 0 [] };
 

@@ -51,60 +51,60 @@ impl Join<SeatNotes> for Seats {
 pub struct Offers;
 
 impl Play<(), SeatNotes> for Offers {
-    ghost use Rattle.pool.specs.Words.{Says};
+    ghost use Rattle.pool.specs.Words.{MakesCall};
     ghost use Rattle.theory.specs.Ledger.{offer};
 
-    ghost then = { λ s m found n. Says (offer s.first) m n };
+    ghost then = { λ s m found n. MakesCall (offer s.first) m n };
 }
 
 /// A load of the least place.
 pub struct Looks;
 
 impl Play<(), SeatNotes> for Looks {
-    ghost use Rattle.pool.specs.Words.{Says, decode};
+    ghost use Rattle.pool.specs.Words.{MakesCall, decode};
     ghost use Rattle.theory.specs.Ledger.{look};
 
-    ghost then = { λ s m found n. Says (look (decode found)) m n };
+    ghost then = { λ s m found n. MakesCall (look (decode found)) m n };
 }
 
 /// `fetch_add` of the number of cubes to be done.
 pub struct Mores;
 
 impl Play<(), SeatNotes> for Mores {
-    ghost use Rattle.pool.specs.Words.{Says};
+    ghost use Rattle.pool.specs.Words.{MakesCall};
     ghost use Rattle.theory.specs.Ledger.{more};
 
-    ghost then = { λ s m found n. Says more m n };
+    ghost then = { λ s m found n. MakesCall more m n };
 }
 
 /// `fetch_sub` of it.
 pub struct Lesses;
 
 impl Play<(), SeatNotes> for Lesses {
-    ghost use Rattle.pool.specs.Words.{Says};
+    ghost use Rattle.pool.specs.Words.{MakesCall};
     ghost use Rattle.theory.specs.Ledger.{less};
 
-    ghost then = { λ s m found n. Says less m n };
+    ghost then = { λ s m found n. MakesCall less m n };
 }
 
 /// A load of it.
 pub struct Opens;
 
 impl Play<(), SeatNotes> for Opens {
-    ghost use Rattle.pool.specs.Words.{Says};
+    ghost use Rattle.pool.specs.Words.{MakesCall};
     ghost use Rattle.theory.specs.Ledger.{still_open};
 
-    ghost then = { λ s m found n. Says (still_open found) m n };
+    ghost then = { λ s m found n. MakesCall (still_open found) m n };
 }
 
 /// `fetch_max` of the word that says whether a hand halted.
 pub struct Halts;
 
 impl Play<(), SeatNotes> for Halts {
-    ghost use Rattle.pool.specs.Words.{Says};
+    ghost use Rattle.pool.specs.Words.{MakesCall};
     ghost use Rattle.theory.specs.Ledger.{halt};
 
-    ghost then = { λ s m found n. Says halt m n };
+    ghost then = { λ s m found n. MakesCall halt m n };
 }
 
 /// A load of it.
@@ -112,10 +112,10 @@ pub struct SeesHalt;
 
 impl Play<(), SeatNotes> for SeesHalt {
     ghost use Rattle.std.specs.Prelude.{◌==◌};
-    ghost use Rattle.pool.specs.Words.{Says};
+    ghost use Rattle.pool.specs.Words.{MakesCall};
     ghost use Rattle.theory.specs.Ledger.{halted};
 
-    ghost then = { λ s m found n. Says (halted (found == 1)) m n };
+    ghost then = { λ s m found n. MakesCall (halted (found == 1)) m n };
 }
 
 /// The load of the least place at the close. It notes with what the order of all calls ends, so that the next load speaks of the
@@ -132,9 +132,9 @@ impl Play<(), SeatNotes> for Sealed {
 pub struct Rest;
 
 impl Play<(), SeatNotes> for Rest {
-    ghost use Rattle.pool.specs.Words.{Reads};
+    ghost use Rattle.pool.specs.Words.{ReadsUndone};
 
-    ghost then = { λ s m found n. Reads m found n };
+    ghost then = { λ s m found n. ReadsUndone m found n };
 }
 
 /// The words: the least place offered, all bits one where there is none; the number of cubes to be done; 1 once a hand halted.

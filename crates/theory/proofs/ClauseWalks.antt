@@ -4,9 +4,8 @@ use Rattle.std.specs.List.{list_all}
 use Rattle.std.proofs.Math.Bool.{beq}
 use Rattle.std.proofs.lemmas.List.{take_all, take_more, take-append-drop}
 use Rattle.std.proofs.lemmas.List.Folds.{list_all-append}
-use Rattle.theory.specs.Literals.{Literal, Clause, negated, same, has, has_var}
+use Rattle.theory.specs.Literals.{Literal, Clause, negated, same, has, has_var, are_distinct}
 use Rattle.theory.specs.Status.{is_false, others_false, is_unit_in, unit_literal}
-use Rattle.theory.specs.Lawful.{are_distinct}
 use Rattle.theory.proofs.LiteralLemmas.{and-left, and-right, or-cases, or-left, or-right, not_true, same-eq, same-refl}
 use Rattle.theory.proofs.LiteralSets.{true_false, false_unless, and-true, not-false, has-head, has-equal, has-tail, has-cases, has-append_left, has-append_right, has_var-has, other-same, negated-other, list_all-has}
 

@@ -1,7 +1,6 @@
 -- Literals of distinct variables among 1 to V are at most V.
 use Rattle.std.proofs.Common.{◌≡◌, ℕ, zero, suc, ◌+◌, ◌≤◌, Bool, true, false, not, List, [], ◌∷◌, length, refl, ap, sym, subst, nat_eq, eqb-true, eq-eqb, cond, filter, arith}
-use Rattle.theory.specs.Literals.{Literal, has_var, IsVariable}
-use Rattle.theory.specs.Lawful.{are_distinct}
+use Rattle.theory.specs.Literals.{Literal, has_var, IsVariable, are_distinct}
 use Rattle.theory.proofs.LiteralLemmas.{and-left, and-right, not_true}
 use Rattle.theory.proofs.LiteralSets.{and-true, has-head, has_var-has, has_var-none, has-from_filter, or-false_left, or-false_right, true_false}
 use Rattle.theory.proofs.OverVariables.{AreOver}

@@ -5,12 +5,12 @@ use Rattle.theory.specs.Proofs.{proof}
 use Rattle.theory.specs.Texts.{proof_text, answer_text}
 use Rattle.theory.specs.Reading.{Token, IsReadable, Reads, formula, tokens_in, tokens_of}
 use Rattle.theory.specs.Written.{IsSatisfiableText, IsUnsatisfiableText, IsWritten}
-use Rattle.theory.proofs.ReadingMachine.{State, at_p, at_body}
+use Rattle.theory.proofs.ReadingMachine.{ReaderState, at_p, at_body}
 use Rattle.theory.proofs.FirstModelLemmas.{IsFirst-unique}
 use Rattle.theory.proofs.SearchLemmas.{IsTree-unique}
 use Rattle.theory.proofs.PrintedTokens.{states, formula-states}
 
-formula_in : Option State → Formula
+formula_in : Option ReaderState → Formula
 formula_in (Some (at_body V C cs part)) = record { vars = V; clauses = cs }
 formula_in o = record { vars = 0; clauses = [] }
 

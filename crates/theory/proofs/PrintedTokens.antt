@@ -7,19 +7,19 @@ use Rattle.theory.specs.Texts.{literal_text, clause_words, zero_text}
 use Rattle.theory.specs.Tokens.{is_zero_text, is_natural_text, is_number_text, size_of}
 use Rattle.theory.specs.Reading.{Token, word, header_end, max_vars, max_clauses, max_literals, formula_tokens, clauses_tokens, IsWithinLimits}
 use Rattle.theory.proofs.NumberTexts.{literal_of_text, decimal-is_natural, size_of-decimal, literal_text-is_number, literal_text-not_zero, literal_text-of}
-use Rattle.theory.proofs.ReadingMachine.{State, at_p, at_vars, at_clauses, at_header_end, at_body, step, on_body, on_vars, on_clauses}
+use Rattle.theory.proofs.ReadingMachine.{ReaderState, at_p, at_vars, at_clauses, at_header_end, at_body, step, on_body, on_vars, on_clauses}
 use Rattle.std.proofs.lemmas.List.Elements.{All-head, All-tail}
 
 -- the state after tokens, if they can stand there
-unfoldable pub then_step : Option State → Token → Option State
+unfoldable pub then_step : Option ReaderState → Token → Option ReaderState
 then_step None t = None
 then_step (Some s) t = step s t
 
-abbrev pub states : Option State → List Token → Option State
+abbrev pub states : Option ReaderState → List Token → Option ReaderState
 states o [] = o
 states o (t ∷ ts) = states (then_step o t) ts
 
-pub states-append : (o : Option State) (ts us : List Token) → states o (ts ++ us) ≡ states (states o ts) us
+pub states-append : (o : Option ReaderState) (ts us : List Token) → states o (ts ++ us) ≡ states (states o ts) us
 states-append o [] us = refl
 states-append o (t ∷ ts) us = states-append (then_step o t) ts us
 

@@ -1,7 +1,7 @@
 use Rattle.std.proofs.Common.{refl, subst, take, ◌∙◌}
 use Rattle.std.specs.Io.KnownBytes.{Appends}
 use Rattle.theory.specs.Texts.{proof_text}
-use Rattle.join.specs.Walking.{lines_left, IsLawful}
+use Rattle.join.specs.Walking.{lines_left, IsBetweenLines}
 use Rattle.cubesat.specs.declared.fault.RunFault.TheVariants.{ProofWriteFailed}
 use Rattle.cubesat.proofs.WrittenLemmas.{Appends-none}
 use Rattle.cubesat.proofs.ProofLemmas.{line-more, buffer-written, stopped, said, puts-none, puts-line, on-more}
@@ -42,7 +42,7 @@ lines-preserved-then-len-ge-ENOUGH g c =
     let line = puts-line (lines_left c.lines.lines) (lines_left c.put_line.new.lines) c.lines.buffer.items buffer c.in-Ok.more c.if-not-more.false c.in-Ok.ensures.puts in
     let more = line-more a b (lines_left c.lines.lines) (lines_left c.put_line.new.lines) c.lines.buffer.items buffer text line c.lines.invariant.way in
     record {
-      lawful = on-more (IsLawful c.put_line.new.lines) c.in-Ok.more c.if-not-more.false c.in-Ok.ensures.lawful;
+      lawful = on-more (IsBetweenLines c.put_line.new.lines) c.in-Ok.more c.if-not-more.false c.in-Ok.ensures.lawful;
       way = buffer-written a b d buffer c.clear.new.self.items (lines_left c.put_line.new.lines) text more
           (subst (Appends b d) c.deref-then-len-ge-ENOUGH.ensures.value c.in-Ok-write_bytes.ensures) c.clear.ensures.items;
     }

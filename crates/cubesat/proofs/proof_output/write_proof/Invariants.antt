@@ -1,13 +1,13 @@
 use Rattle.std.proofs.Common.{length}
 use Rattle.theory.specs.Texts.{proof_text}
-use Rattle.join.specs.Walking.{lines_left, IsLawful}
+use Rattle.join.specs.Walking.{lines_left, IsBetweenLines}
 use Rattle.cubesat.proofs.ProofLemmas.{IsOnItsWay}
 use Rattle.cubesat.proofs.proof_output.write_proof.Given as goal
 
 -- the lines so far are written, or stand in the buffer
 abbrev pub invariant-lines : goal.invariant-lines
 invariant-lines g l = record {
-  lawful : IsLawful l.lines;
+  lawful : IsBetweenLines l.lines;
   way : IsOnItsWay (g.W.Write.contents l.fn.writer) (g.W.Write.contents l.writer) l.buffer.items (lines_left l.lines) (proof_text (lines_left l.fn.lines));
 }
 

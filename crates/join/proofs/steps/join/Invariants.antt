@@ -1,13 +1,13 @@
 use Rattle.std.proofs.Common.{◌≡◌, ◌++◌, map, length, All}
 use Rattle.theory.specs.ProofReading.{IsStep}
 use Rattle.lrat.specs.Steps.{step_of}
-use Rattle.join.specs.Walking.{IsLawful, lines_left}
+use Rattle.join.specs.Walking.{IsBetweenLines, lines_left}
 use Rattle.join.proofs.steps.join.Given as goal
 
 -- the lines that are left give the rest
 abbrev pub invariant-loop-steps : goal.invariant-loop-steps
 invariant-loop-steps l = record {
-  lawful : IsLawful l.lines;
+  lawful : IsBetweenLines l.lines;
   within : All IsStep (map step_of l.steps.items);
   whole : map step_of l.steps.items ++ lines_left l.lines ≡ lines_left l.initial.lines;
 }

@@ -7,7 +7,7 @@ use Rattle.lrat.specs.LineMachine.{IsWithin, on, fault_in, within, read_lines, h
 use Rattle.lrat.specs.LineStates.{state_of, IsFault, reading_of}
 use Rattle.lrat.proofs.WordTexts.{word_of-IsCounting}
 use Rattle.lrat.proofs.LineMachineLemmas.{on-Follows}
-use Rattle.lrat.proofs.LinePlaces.{at-begin, at-blank, at-lf, at-taken, at-refused, goes_on, Takes-true, Takes-false}
+use Rattle.lrat.proofs.LinePlaces.{at-begin, at-blank, at-lf, at-taken, at-refused, goes_on, IsTaken-true, IsTaken-false}
 use Rattle.lrat.proofs.read.read_line.Goals as goal
 
 pub loop-at-init : goal.loop-at-init
@@ -55,7 +55,7 @@ returns-then-not-branch-clause-read c =
     let old = c.loop-at.line in
     let w = c.read_word-word.ensures in
     let begins : ends_word (get_or bytes i 0) ≡ false = goes_on (get_or bytes i 0) c.if-byte-eq-LINE_FEED.false (sym c.is_blank.ensures ∙ c.if-is_blank.false) in
-    let t = Takes-false (on (state_of old) c.read_word-word.result.0) c.in_ok-take.field-0 old c.take.new.self c.if-not-branch.true c.in_ok-take.ensures in
+    let t = IsTaken-false (on (state_of old) c.read_word-word.result.0) c.in_ok-take.field-0 old c.take.new.self c.if-not-branch.true c.in_ok-take.ensures in
     let none : on (state_of old) (word_of (first_word (drop i bytes))) ≡ None = ap (on (state_of old)) (sym w.word) ∙ t.0 in
     let r = at-refused (state_of old) c.args.number bytes i c.read_word-word.result.1 _ c.loop-at-test.true begins none w.rest g.left in
     subst (IsFault c.refusal.result)
@@ -73,7 +73,7 @@ loop-at-preserved c =
     let old = c.loop-at.line in
     let w = c.read_word-word.ensures in
     let begins : ends_word (get_or bytes i 0) ≡ false = goes_on (get_or bytes i 0) c.if-byte-eq-LINE_FEED.false (sym c.is_blank.ensures ∙ c.if-is_blank.false) in
-    let t = Takes-true (on (state_of old) c.read_word-word.result.0) c.in_ok-take.field-0 old c.take.new.self c.if-not-branch.false c.in_ok-take.ensures in
+    let t = IsTaken-true (on (state_of old) c.read_word-word.result.0) c.in_ok-take.field-0 old c.take.new.self c.if-not-branch.false c.in_ok-take.ensures in
     let taken : on (state_of old) (word_of (first_word (drop i bytes))) ≡ Some (state_of c.take.new.self) = ap (on (state_of old)) (sym w.word) ∙ t in
     record {
       from = (let f = w.forward in let a = g.from in omega arith);

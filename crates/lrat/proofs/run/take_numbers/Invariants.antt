@@ -1,12 +1,12 @@
 use Rattle.std.proofs.Common.{ℕ, List, ◌≤◌, ◌-◌, length, All}
 use Rattle.theory.specs.ProofReading.{IsNumber}
-use Rattle.lrat.specs.LineMachine.{State}
+use Rattle.lrat.specs.LineMachine.{LineState}
 use Rattle.lrat.specs.Runs.{TakesNumbers, TakesRun}
 use Rattle.lrat.proofs.run.take_numbers.Given as goal
 
 abbrev pub invariant-loop-at : goal.invariant-loop-at
 invariant-loop-at l = record {
-  taken : (f : List ℕ → State) → TakesNumbers f → TakesRun l.bytes (f l.fn.numbers.items) l.start (f l.numbers.items) l.at;
+  taken : (f : List ℕ → LineState) → TakesNumbers f → TakesRun l.bytes (f l.fn.numbers.items) l.start (f l.numbers.items) l.at;
   numbers : All IsNumber l.fn.numbers.items → All IsNumber l.numbers.items;
   forward : l.start ≤ l.at;
   within : l.at ≤ length l.bytes;

@@ -1,10 +1,10 @@
 use Rattle.std.proofs.Common.{◌≡◌, ◌++◌, map, drop, decimal}
-use Rattle.lrat.specs.Words.{spaced, Extends}
+use Rattle.lrat.specs.Words.{spaced, IsBegunBy}
 use Rattle.lrat.proofs.write.append_numbers.Given as goal
 
 -- the numbers that are left complete the text
 abbrev pub invariant-loop-number : goal.invariant-loop-number
 invariant-loop-number l = record {
   left : l.out.items ++ spaced (map decimal (drop l.number-index l.numbers)) ≡ l.fn.out.items ++ spaced (map decimal l.numbers);
-  extends : Extends l.fn.out.items l.out.items;
+  extends : IsBegunBy l.fn.out.items l.out.items;
 }

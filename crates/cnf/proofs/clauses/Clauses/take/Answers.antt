@@ -2,11 +2,11 @@ use Rattle.std.proofs.Common.{◌≡◌, ◌<◌, ◌⊎◌, inl, inr, true, map
 use Rattle.std.specs.List.{slice_range}
 use Rattle.std.proofs.lemmas.List.{length-map}
 use Rattle.std.proofs.lemmas.Result.{MatchResult-weaker}
-use Rattle.theory.proofs.ReadingMachine.{State}
+use Rattle.theory.proofs.ReadingMachine.{ReaderState}
 use Rattle.cnf.specs.Clauses.{state_of}
 use Rattle.cnf.specs.Tokens.{place_at}
 use Rattle.cnf.specs.Words.{word_at}
-use Rattle.cnf.specs.Machine.{Takes}
+use Rattle.cnf.specs.Machine.{TakesToken}
 use Rattle.cnf.proofs.BodyLemmas.{says-number, says-size, takes-zero}
 use Rattle.cnf.proofs.clauses.Clauses.take.Goals as goal
 use Rattle.cnf.proofs.clauses.Clauses.take.Goals.{else-not-number-via-then-not-number+else-not-number-2, else-not-number-via-else-not-number}
@@ -25,5 +25,5 @@ returns-then-number-eq0 c =
     let cs = map (λ v. v.items) s.whole.items in
     let room : length cs < s.wanted = omega (arith, length-map s.whole.items (λ v. v.items), s.whole.ok.0) in
     MatchResult-weaker c.end_clause.result c.end_clause.ensures
-    (λ x p. subst (λ (next : State). Takes (state_of s) (word_at c.args.bytes.now c.args.start n.end) next) (sym p) (takes-zero s.vars s.wanted cs s.begun.items text (place_at c.args.bytes.now c.args.start) number room (omega arith)))
+    (λ x p. subst (λ (next : ReaderState). TakesToken (state_of s) (word_at c.args.bytes.now c.args.start n.end) next) (sym p) (takes-zero s.vars s.wanted cs s.begun.items text (place_at c.args.bytes.now c.args.start) number room (omega arith)))
     (λ e p. rw p tt)

@@ -3,7 +3,7 @@ use Rattle.std.proofs.lemmas.List.{length-map}
 use Rattle.theory.specs.Literals.{Clause}
 use Rattle.join.specs.declared.line.Due.TheVariants.{Nothing}
 use Rattle.join.specs.declared.lines.Lines.{Lines}
-use Rattle.join.proofs.JoinLemmas.{begun-steps, accepted-steps, within-steps, IsLawful-begun}
+use Rattle.join.proofs.JoinLemmas.{begun-steps, accepted-steps, within-steps, IsBetweenLines-begun}
 use Rattle.join.proofs.lines.Lines.of.Goals as goal
 
 pub returns-clause-steps : goal.returns-clause-steps
@@ -33,5 +33,5 @@ returns-clause-lawful c =
     let long = units.ok in
     let len = c.len.ensures in
     let l : Lines = record { units = c.into_iter.result; unit = C + 1; walk = c.in_ok-over.field-0; due = Nothing; line = c.in_ok-with_room.field-0 } in
-    IsLawful-begun l c.args.formula.now c.requires.0 (C + c.len.result) c.args.tree units.items c.nodes_of-nodes.result.items c.clauses.ensures.within (ap (λ n. n + 1) count) c.into_iter.ensures.rest refl
+    IsBetweenLines-begun l c.args.formula.now c.requires.0 (C + c.len.result) c.args.tree units.items c.nodes_of-nodes.result.items c.clauses.ensures.within (ap (λ n. n + 1) count) c.into_iter.ensures.rest refl
     c.in_ok-over.ensures (omega arith) c.in_ok-units.ensures c.requires.1 c.nodes_of-nodes.ensures

@@ -9,13 +9,13 @@ use Rattle.kernel.specs.Attaching.{IsWatching}
 use Rattle.kernel.proofs.Beginning.{begun, over-items}
 use Rattle.theory.specs.Trails.{cube_trail}
 use Rattle.theory.proofs.TrailEntries.{IsLawful-cube}
-use Rattle.kernel.specs.Held.{Held}
+use Rattle.kernel.specs.TrailOver.{TrailOver}
 use Rattle.theory.proofs.TrailLists.{literals-cube}
 use Rattle.kernel.proofs.kernel.Kernel.open_with.Goals as goal
 
 -- the parts of the kernel, as the calls have told them
 vars_of : (c : goal.After-len) → c.put_cube.new.trail.vars ≡ c.args.formula.now.vars
-vars_of c = c.put_cube.ensures.vars ∙ (ap (λ (t : Held). t.vars) c.in_ok-trail.ensures ∙ c.vars-vars.ensures.vars)
+vars_of c = c.put_cube.ensures.vars ∙ (ap (λ (t : TrailOver). t.vars) c.in_ok-trail.ensures ∙ c.vars-vars.ensures.vars)
 
 entries_of : (c : goal.After-len) → c.put_cube.new.trail.entries ≡ cube_trail c.args.cube.now
 entries_of c = c.put_cube.ensures.entries ∙ ap cube_trail c.lits.ensures.lits
@@ -35,7 +35,7 @@ watching c =
     let over : All (λ v. IsOver V v.items) c.clauses-clauses.result.now = rw c.vars-vars.ensures.vars (over-items (λ v. v.items) c.args.formula.now.vars c.clauses-clauses.result.now c.args.formula.now.clauses c.clauses-clauses.ensures.clauses c.vars-vars.ensures.within.formula) in
     let s = c.in_ok-attach_all.ensures.watching V over (rw (e.none.0, c.in_ok-singles.ensures.items) (e.watching V c.in_ok-room.ensures)) in
     let t = c.in_ok-attach_units.ensures.watching V (rw c.vars-vars.ensures.vars c.requires.units.1) s in
-    let vars : c.put_cube.new.trail.vars ≡ V = c.put_cube.ensures.vars ∙ ap (λ (t : Held). t.vars) c.in_ok-trail.ensures in
+    let vars : c.put_cube.new.trail.vars ≡ V = c.put_cube.ensures.vars ∙ ap (λ (t : TrailOver). t.vars) c.in_ok-trail.ensures in
     rw (vars, c.len.ensures, c.put_cube.ensures.entries)
     (begun 18446744073709551615 V (length c.attach_units.new.self.clauses) c.attach_units.new.self.clauses (cube_trail c.lits.result.now) (kept_of c.attach_units.new.self) c.attach_units.new.singles.items c.attach_units.new.self.conflict (current_level-cube_trail c.lits.result.now) t)
 

@@ -5,7 +5,7 @@ use Rattle.theory.specs.Propagation.{clashes, rests}
 use Rattle.kernel.specs.Watching.{IsServed}
 use Rattle.kernel.specs.Visiting.{kept_of, tending}
 use Rattle.kernel.proofs.TrailFacts.{distinct-consistent}
-use Rattle.kernel.proofs.Falling.{Grew, Grew-Closes, Grew-lawful, Grew-falls, least_unit-free, least_unit-over}
+use Rattle.kernel.proofs.Falling.{Grew, Grew-Propagates, Grew-lawful, Grew-falls, least_unit-free, least_unit-over}
 use Rattle.kernel.proofs.Popping.{is-conflict, none-false}
 use Rattle.kernel.proofs.propagator.Propagator.propagate.Goals as goal
 
@@ -87,7 +87,7 @@ steps-preserved c =
     let longer : length c.push.new.self.entries ≡ length c.steps.trail.entries + 1 = ap length c.push.ensures.entries ∙ length_push c.steps.trail.entries e in
     record {
       vars = c.push.ensures.vars ∙ i.vars;
-      leads = λ a U h. i.leads a U (Grew-Closes _ _ _ U a (grew c) h);
+      leads = λ a U h. i.leads a U (Grew-Propagates _ _ _ U a (grew c) h);
       lawful = λ h. Grew-lawful _ _ _ (grew c) (i.lawful h);
       inside = omega (arith, len, longer);
       entries = rw (kept.1, kept.2, ← i.clauses) c.in_ok-serve_from.ensures.entries;

@@ -2,9 +2,9 @@
 use Rattle.std.specs.Prelude.{◌≡◌, ℕ, ◌≤◌, true, [], ◌∷◌}
 use Rattle.theory.specs.Truth.{IsOver}
 use Rattle.theory.specs.Trails.{Trail, literals}
-use Rattle.theory.specs.Lawful.{are_distinct}
+use Rattle.theory.specs.Literals.{are_distinct}
 
-pub record Held : Type 0 where
+pub record TrailOver : Type 0 where
   pub vars : ℕ
   pub entries : Trail
 
