@@ -1,6 +1,6 @@
 //! The header of a text: `p cnf`, the number of variables and the number of clauses.
 ghost use Rattle.std.specs.Prelude.{◌≡◌, ℕ, ◌≤◌, ◌<◌, length, MatchResult, Option, []};
-ghost use Rattle.theory.specs.Reading.{max_vars};
+ghost use Rattle.theory.specs.Reading.{max_vars, max_clauses};
 ghost use Rattle.theory.proofs.ReadingMachine.{at_cnf, at_vars, at_body};
 ghost use Rattle.cnf.specs.Faults.{IsRefusal};
 ghost use Rattle.cnf.specs.Tokens.{in_header, behind_header};
@@ -58,7 +58,7 @@ fn read_cnf(bytes: &[u8], from: usize) -> Result<usize, ReadFault>
 /// The next word of the header's line, which must be a natural number of at most `most`.
 fn read_limited(bytes: &[u8], from: usize, most: u32) -> Result<Number, ReadFault>
     requires within { from ≤ length bytes.now }
-    requires small { most ≤ 1000000 }
+    requires small { most ≤ max_clauses }
     ensures { (vars : Option ℕ) → most ≡ number_limit vars → MatchResult result
         (λ n. (n.end ≤ length bytes.now) × (n.size ≤ most)
         × (reads_from (at_number vars) in_header bytes.now from ≡ reads_from (behind_number vars n.size) in_header bytes.now n.end))
@@ -81,7 +81,7 @@ fn read_limited(bytes: &[u8], from: usize, most: u32) -> Result<Number, ReadFaul
 /// The header of a text.
 pub fn read_header(bytes: &[u8]) -> Result<Header, ReadFault>
     ensures { MatchResult result
-        (λ h. (h.end ≤ length bytes.now) × (h.vars ≤ max_vars) × (h.clauses ≤ 1000000)
+        (λ h. (h.end ≤ length bytes.now) × (h.vars ≤ max_vars) × (h.clauses ≤ max_clauses)
         × (reading_of bytes.now ≡ reads_from (at_body h.vars h.clauses [] []) behind_header bytes.now h.end))
         (IsRefusal (λ r. reading_of bytes.now ≡ r)) }
 {

@@ -4,7 +4,7 @@ use Rattle.std.proofs.lemmas.List.{get_or_append_left, get_or_push}
 use Rattle.lrat.specs.declared.chains.Entry.{Entry}
 use Rattle.lrat.specs.Chained.{entry_at, Meets, IsOn, head_at}
 
--- the entry that was read
+-- what was read
 pub read : (es : List Entry) (j : ℕ) (e : Entry) → j < length es → e ≡ get_or es j e → e ≡ entry_at es j
 read [] j e less r = absurd (omega arith)
 read (x ∷ es) zero e less r = r

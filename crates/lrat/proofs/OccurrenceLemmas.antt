@@ -12,11 +12,8 @@ use Rattle.lrat.specs.Slots.{Slot, put, there_before}
 use Rattle.lrat.specs.Occurrences.{code, AreEntered, StayThere}
 
 -- slots that come or go
-pub AreEntered-stay : (old new : List Slot) (c : Chains) (n : ℕ) → n ≤ length old → StayThere old new → AreEntered old c n → AreEntered new c n
+AreEntered-stay : (old new : List Slot) (c : Chains) (n : ℕ) → n ≤ length old → StayThere old new → AreEntered old c n → AreEntered new c n
 AreEntered-stay old new c n within stay h i s l less g t a = h i s l less (stay.there i s (omega arith) g t) t a
-
-pub AreEntered-grow : (ss : List Slot) (c d : Chains) (n : ℕ) → ((k i : ℕ) → IsIn c k i → IsIn d k i) → AreEntered ss c n → AreEntered ss d n
-AreEntered-grow ss c d n h k i s l less g t a = h (code l) i (k i s l less g t a)
 
 -- one slot more is entered
 pub AreEntered-more : (ss : List Slot) (c d : Chains) (n : ℕ) → ((k i : ℕ) → IsIn c k i → IsIn d k i)

@@ -1,7 +1,7 @@
 -- The first word of what is left of a text, and what it is.
 use Rattle.std.specs.Prelude.{ℕ, ◌+◌, ◌≤◌, Bool, ◌&&◌, ◌||◌, nat_eq, nat_le, Option, Some, None, min, List, [], ◌∷◌, codes, if◌then◌else◌}
 use Rattle.theory.specs.Literals.{Literal, positive, negative}
-use Rattle.theory.specs.Texts.{lf}
+use Rattle.theory.specs.Texts.{lf, digit_zero}
 use Rattle.theory.specs.ProofReading.{max_literal, max_number}
 use Rattle.theory.specs.Tokens.{is_blank, is_text, is_zero_text, is_positive_text, is_negative_text, size_of}
 use Rattle.lrat.specs.declared.word.Word.{Word}
@@ -34,11 +34,15 @@ word_of text =
     else if is_text text (codes "d") then Mark
     else Other
 
+-- the byte of the word d, which marks a deletion
+abbrev pub deletion_mark : ℕ
+deletion_mark = 100
+
 -- what a word of this length is that begins with this byte, no minus, and is digits all or not
 abbrev pub plain_word : ℕ → ℕ → Bool → ℕ → Word
 plain_word first len all size =
-    if all then (if nat_eq first 48 then (if nat_eq len 1 then Zero else Other) else Positive size)
-    else if nat_eq first 100 && nat_eq len 1 then Mark
+    if all then (if nat_eq first digit_zero then (if nat_eq len 1 then Zero else Other) else Positive size)
+    else if nat_eq first deletion_mark && nat_eq len 1 then Mark
     else Other
 
 -- a number that isn't zero counts something

@@ -1,6 +1,6 @@
 //! Where the clauses are that have a literal: for each literal a chain of places, to which clauses are entered one after
 //! the other.
-ghost use Rattle.std.specs.Prelude.{◌≡◌, ◌≢◌, ◌<◌, ◌≤◌, ◌^◌, ◌+◌, ◌*◌, ℕ, true, length, OnOk, vec_len, []};
+ghost use Rattle.std.specs.Prelude.{◌≡◌, ◌≢◌, ◌<◌, ◌≤◌, ◌+◌, ◌*◌, ℕ, true, length, OnOk, vec_len, []};
 ghost use Rattle.theory.specs.Literals.{Literal, has};
 ghost use Rattle.theory.specs.Truth.{IsOver};
 ghost use Rattle.lrat.specs.Chained.{IsOn, IsIn, AreChains};
@@ -41,7 +41,7 @@ pub(crate) fn enter(
 }
 
 /// The places of the clauses that have a literal, for each literal. Clauses are entered when the places are asked for: steps
-/// that don't ask cost nothing. It takes 8 bytes for each literal of a clause that is entered.
+/// that don't ask cost nothing. It takes 8 bytes for each literal of a clause that is entered, and 4 for each literal of a variable.
 #[derive(Drop)]
 pub(crate) struct Occurrences {
     chains: Chains,
@@ -60,7 +60,7 @@ impl Occurrences {
         }
     }
 
-    /// Enters the clauses that came since the last time, and are there.
+    /// Enters the clauses that came since the last time, and are there. More than 4,294,967,295 literals, or clauses, are refused like memory.
     pub(crate) fn enter_all(&mut self, clauses: &Clauses) -> Result<(), AllocError>
         requires { IsIndexed clauses.now.slots self.old }
         ensures indexed { IsIndexed clauses.now.slots self.new }
