@@ -1,10 +1,12 @@
 -- What a run of the checker says where the formula isn't read.
-use Rattle.std.proofs.Common.{◌≡◌, ℕ, List, ◌+◌, take, Option, Result, Ok, Err, inl, inr, ◌⊎◌, IfSome}
+use Rattle.std.proofs.Common.{◌≡◌, ℕ, List, ◌+◌, take, Option, Result, Ok, Err, inl, inr, ◌⊎◌, IfSome, ap, sym, subst, ◌∙◌}
 use Rattle.theory.specs.Truth as truth
 use Rattle.cnf.specs.declared.fault.ReadFault.{ReadFault}
 use Rattle.cnf.specs.declared.fault.ReadFault.TheVariants as reading
 use Rattle.cnf.specs.Faults.{IsReadOf}
+use Rattle.cubesat.specs.declared.fault.RunFault.{RunFault}
 use Rattle.cubesat.specs.Faults.{fault_of_read}
+use Rattle.cubesat.specs.Streamed.{IsStop}
 use Rattle.theory.specs.ProofReading.{max_proof_bytes}
 use Rattle.cubesat.specs.declared.checked_line.Checked.{Checked}
 use Rattle.cubesat.specs.Check.{IsUnchecked, IsLine, IsCheckOf, IsProofUnread, CheckSays}
@@ -39,3 +41,9 @@ IsCheckOf-made known proofs F proof checked line (inr r) is says = record { byte
 pub IsProofUnread-made : (known a : Option (List ℕ)) (F : truth.Formula) → ◌≡◌ {A = Result truth.Formula ReadFault} (Ok F) (Err reading.ReadFailed) ⊎ IsReadOf known (Ok F) → IsProofUnread known a a
 IsProofUnread-made known a F (inl e) = absurd (cc)
 IsProofUnread-made known a F (inr r) = record { bytes = r.bytes; are = r.are; value = F; reads = r.is_read; kept = Keeps-same a }
+
+-- so what is said of a run that stopped while it fed the proof
+pub CheckSays-stopped : (known proof a : Option (List ℕ)) (F : truth.Formula) (e : RunFault) (r : Result Checked RunFault)
+    → ◌≡◌ {A = Result truth.Formula ReadFault} (Ok F) (Err reading.ReadFailed) ⊎ IsReadOf known (Ok F) → IsStop e → r ≡ Err e → CheckSays known proof a a r
+CheckSays-stopped known proof a F e r read (inl p) same = subst (CheckSays known proof a a) (sym (same ∙ ap (λ f. Err f) p)) (IsProofUnread-made known a F read)
+CheckSays-stopped known proof a F e r read (inr m) same = subst (CheckSays known proof a a) (sym (same ∙ ap (λ f. Err f) m)) (Keeps-same a)

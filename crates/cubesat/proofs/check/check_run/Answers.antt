@@ -1,6 +1,6 @@
 use Rattle.std.proofs.Common.{rules}
 use Rattle.lrat.specs.Running.{stream_of, vars_of}
-use Rattle.cubesat.proofs.CheckRuns.{CheckSays-unread, IsCheckOf-made}
+use Rattle.cubesat.proofs.CheckRuns.{CheckSays-unread, CheckSays-stopped, IsCheckOf-made}
 use Rattle.cubesat.proofs.StreamedLemmas.{said-of_text, some_reading}
 use Rattle.cubesat.proofs.check.check_run.Goals as goal
 
@@ -30,3 +30,7 @@ returns-in_err-write_text g c =
     let check = IsCheckOf-made (g.R.Read.remaining c.args.formula) (g.P.Read.remaining c.args.proof) F fed.bytes c.in-Ok-checked_line.line.checked c.in-Ok-checked_line.line.text.items c.in-Ok.ensures fed.are
     (c.in-Ok-checked_line.ensures F fed.bytes r.0 r.1 (said-of_text F (vars_of stream) (stream_of stream) (stream_of c.feed_all.new.stream) fed.bytes r.0 c.verdict.result r.1 c.in-Ok-new.ensures.vars c.in-Ok-new.ensures.begin fed.fed c.verdict.ensures)) in
     search rules
+
+pub returns-in_err-feed_all : goal.returns-in_err-feed_all
+returns-in_err-feed_all g c =
+    CheckSays-stopped (g.R.Read.remaining c.args.formula) (g.P.Read.remaining c.args.proof) (g.W.Write.contents c.args.answer.now) c.in-Ok.formula _ c.from_residual.result c.in-Ok.ensures c.in_err-feed_all.ensures (search rules)
