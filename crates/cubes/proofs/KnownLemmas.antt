@@ -16,7 +16,7 @@ use Rattle.theory.specs.Results.{done, skipped, Solved, IsTrueOf}
 use Rattle.theory.proofs.Membership.{Contains-none}
 use Rattle.cnf.specs.Lits.{literal_of, number_of, signed}
 use Rattle.cnf.specs.contracts.lit.LitPartialEq.TheImpl.{ghosts}
-use Rattle.kernel.specs.Cubes.{AreOfVariables}
+use Rattle.trail.specs.Cubes.{AreOfVariables}
 use Rattle.cdcl.specs.Outcome.{outcome_of}
 use Rattle.cdcl.specs.declared.outcome.Outcome.{Outcome}
 use Rattle.cubes.specs.declared.known.Known.{Known}

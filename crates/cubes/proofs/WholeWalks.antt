@@ -13,7 +13,7 @@ use Rattle.theory.proofs.Membership.{Contains-none, Contains-cases}
 use Rattle.theory.proofs.LiteralLemmas.{same-refl, same-eq}
 use Rattle.theory.proofs.Assemblies.{IsComeTo, IsComeTo-root, IsComeTo-left, IsComeTo-right, IsComeTo-outcome, outcome_in-result}
 use Rattle.cubes.specs.Next.{next_cube, behind}
-use Rattle.kernel.specs.Cubes.{AreOfVariables}
+use Rattle.trail.specs.Cubes.{AreOfVariables}
 use Rattle.cdcl.specs.Outcome.{outcome_of}
 use Rattle.cdcl.specs.declared.outcome.Outcome.{Outcome}
 use Rattle.cdcl.specs.declared.outcome.Outcome.TheVariants as outcome

@@ -9,7 +9,7 @@ use Rattle.theory.specs.Truth.{Formula}
 use Rattle.theory.specs.Results.{done}
 use Rattle.theory.specs.Results as results
 use Rattle.cnf.specs.contracts.lit.LitPartialEq.TheImpl.{ghosts}
-use Rattle.kernel.specs.Cubes.{AreOfVariables}
+use Rattle.trail.specs.Cubes.{AreOfVariables}
 use Rattle.cdcl.specs.Outcome.{outcome_of}
 use Rattle.cdcl.specs.declared.outcome.Outcome.{Outcome}
 use Rattle.cubes.specs.declared.known.Known.{Known}

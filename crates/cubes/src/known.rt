@@ -1,7 +1,7 @@
 //! Outcomes of cubes that are known, and looking them up.
 ghost use Rattle.std.specs.Prelude.{◌≡◌, ◌≢◌, List, map, Some, None, IfOk, OnOk};
 ghost use Rattle.theory.specs.Literals.{Literal};
-ghost use Rattle.kernel.specs.Cubes.{AreOfVariables};
+ghost use Rattle.trail.specs.Cubes.{AreOfVariables};
 ghost use Rattle.cubes.specs.Known.{AreKnown, known_of};
 ghost use Rattle.cubes.specs.Solved.{solved_of};
 

@@ -8,8 +8,8 @@ use Rattle.theory.specs.Trails.{Entry, Trail, literals, current_level, level_at,
 use Rattle.theory.proofs.LiteralLemmas.{or-cases, or-left, or-right, true_or_false}
 use Rattle.kernel.specs.Watching.{At, IsWatched, Reached, Good, held, waits, reached, Tending, Includes, AreWatchedIn, Tends, AllGood, IsServed, other_true, apart, first_true, second_true, WasUnit}
 use Rattle.kernel.specs.declared.watch.Watched.{Watched}
-use Rattle.kernel.specs.TrailOver.{IsRisingFrom}
-use Rattle.kernel.proofs.Ordered.{rising-at}
+use Rattle.trail.specs.TrailOver.{IsRisingFrom}
+use Rattle.trail.proofs.Ordered.{rising-at}
 use Rattle.kernel.proofs.LiteralFacts.{true_false, has-push}
 use Rattle.kernel.proofs.Places.{At-get}
 use Rattle.kernel.proofs.TrailFacts.{literals-push, up_to-push, current_level-push}

@@ -12,7 +12,7 @@ use Rattle.theory.specs.Learnable.{IsLearnable}
 use Rattle.theory.proofs.LiteralLemmas.{and-left, and-right, or-cases, true_or_false, not_true, same-eq}
 use Rattle.theory.proofs.LiteralSets.{false_unless}
 use Rattle.kernel.specs.declared.watch.Watched.{Watched}
-use Rattle.kernel.specs.TrailOver.{IsOrdered}
+use Rattle.trail.specs.TrailOver.{IsOrdered}
 use Rattle.kernel.specs.Watching.{At, IsPair, IsWatched, apart, waits, Includes, WasUnit, code, listed_both}
 use Rattle.kernel.specs.Visiting.{WatchLists, places, tending}
 use Rattle.kernel.specs.Attaching.{attached, IsWatching}

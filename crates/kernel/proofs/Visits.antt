@@ -15,7 +15,8 @@ use Rattle.std.proofs.Math.Bool.{beq}
 use Rattle.std.specs.Option.{option_eq}
 use Rattle.std.specs.List.Sorted.{IsPermutation}
 use Rattle.theory.proofs.ClauseWalks.{beq-same, beq-other}
-use Rattle.kernel.specs.Visiting.{IsTruth, IsLast, Replaces, CanVisit, IsStay, IsVisit, unit, clashes, moves, WatchLists, entries_at}
+use Rattle.trail.specs.Tables.{IsTruth}
+use Rattle.kernel.specs.Visiting.{IsLast, Replaces, CanVisit, IsStay, IsVisit, unit, clashes, moves, WatchLists, entries_at}
 use Rattle.kernel.proofs.LiteralFacts.{all-member, has-var}
 use Rattle.theory.proofs.LiteralSets.{false_unless}
 use Rattle.kernel.proofs.LiteralFacts.{true_false, free-not_negated}

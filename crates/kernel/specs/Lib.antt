@@ -1,12 +1,9 @@
 -- What a kernel and its parts are seen as. Trails and propagation are said in the crate `theory`.
 pub mod Answer
 pub mod Attaching
-pub mod Cubes
 pub mod Cutting
-pub mod TrailOver
 pub mod Pieces
 pub mod State
-pub mod Tables
 pub mod Visiting
 pub mod Waiting
 pub mod Watching

@@ -1,17 +1,11 @@
 -- The visit of a clause in the list of a literal that became false.
-use Rattle.std.specs.Prelude.{◌≡◌, ℕ, ◌<◌, ◌≤◌, Bool, true, false, List, [], ◌∷◌, ◌++◌, length, map, Option, Some, None, ◌⊎◌, slice_index_or, slice_set}
+use Rattle.std.specs.Prelude.{◌≡◌, ℕ, ◌<◌, ◌≤◌, true, false, List, [], ◌∷◌, ◌++◌, length, map, Option, Some, None, ◌⊎◌, slice_index_or, slice_set}
 use Rattle.std.specs.List.Sorted.{IsPermutation}
-use Rattle.theory.specs.Literals.{Literal, Clause, same, has, has_var, negated}
+use Rattle.theory.specs.Literals.{Literal, Clause, same, has, negated}
 use Rattle.kernel.specs.declared.watch.Watched.{Watched}
 use Rattle.kernel.specs.declared.watch.Watch.{Watch}
 use Rattle.kernel.specs.declared.propagator.Propagator.{Propagator}
 use Rattle.kernel.specs.Watching.{At, IsPair, IsBeside, Tending, code, lesser}
-
--- what the value of a literal says, where the literals P are true
-abbrev pub IsTruth : List Literal → Literal → Option Bool → Type 0
-IsTruth P l None = has_var P l.var ≡ false
-IsTruth P l (Some true) = has P l ≡ true
-IsTruth P l (Some false) = has P (negated l) ≡ true
 
 -- what is kept beside the clauses, with the entries of the lists whole
 pub record WatchLists : Type 0 where

@@ -14,12 +14,11 @@ ghost use Rattle.kernel.specs.Attaching.{with_entry, attached, IsLater, IsWatchi
 use crate::clauses::Clauses;
 use crate::propagator::Propagator;
 use crate::replacement::Starts;
-use crate::trail::Trail;
-use crate::truth::code;
 use crate::units::Units;
-use crate::watch::{Watch, Watched};
+use crate::watch::{Watch, Watched, code};
 use cnf::Lit;
 use std::alloc::{AllocError, Global};
+use trail::Trail;
 
 /// Two literals of a clause to be watched where no variable has a value: the first, and the first other one if there is one.
 pub fn first_two(clause: &[Lit]) -> Option<Watched>

@@ -13,8 +13,7 @@ ghost use Rattle.kernel.specs.Attaching.{IsWatching};
 ghost use Rattle.kernel.specs.Cutting.{IsKeptBelow, AreKeptBelow, AreCodesOf};
 
 use crate::propagator::Propagator;
-use crate::truth::code;
-use crate::watch::Watch;
+use crate::watch::{Watch, code};
 use std::alloc::AllocError;
 
 /// Takes the entries of clauses from `first` on out of a list; the answer is how many stay. Their order isn't kept.

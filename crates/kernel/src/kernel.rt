@@ -15,13 +15,11 @@ ghost use Rattle.kernel.specs.Answer.{closed_of};
 
 use crate::attach::Room;
 use crate::closed::Closed;
-use crate::cube::Cube;
-use crate::entry::Entry;
 use crate::propagator::Propagator;
-use crate::trail::Trail;
 use cnf::{Formula, Lit};
 use std::alloc::{AllocError, Global};
 use std::marker::Model;
+use trail::{Cube, Entry, Trail};
 
 /// The clauses and the trail of the search in one cube, or in one cube after the other. Once a call has met want of memory, `close`,
 /// `learn` and `restart` answer it from then on, `decide` and `back_to` change nothing, and the other calls answer of the trail as it

@@ -13,22 +13,20 @@ ghost use Rattle.theory.specs.Lawful.{IsLawful};
 ghost use Rattle.theory.specs.Propagation as closing;
 ghost use Rattle.theory.specs.Trails as closing_trails;
 ghost use Rattle.kernel.specs.Answer.{closed_of};
-ghost use Rattle.kernel.specs.TrailOver.{IsOrdered};
-ghost use Rattle.kernel.specs.Tables.{value_of};
+ghost use Rattle.trail.specs.TrailOver.{IsOrdered};
+ghost use Rattle.trail.specs.Tables.{IsTruth, value_of};
 ghost use Rattle.kernel.specs.Watching.{code, lesser, At, IsNext, IsServed, Tends, AllGood, chosen};
-ghost use Rattle.kernel.specs.Visiting.{IsTruth, WatchLists, kept_of, entries_at, CanVisit, IsVisit, IsLast, Replaces, tending, with_list, AreEntries};
+ghost use Rattle.kernel.specs.Visiting.{WatchLists, kept_of, entries_at, CanVisit, IsVisit, IsLast, Replaces, tending, with_list, AreEntries};
 
 use crate::clauses::Clauses;
 use crate::closed::Closed;
-use crate::entry::Entry;
 use crate::replacement::{Starts, replacement};
-use crate::trail::Trail;
-use crate::truth::{Truth, code};
 use crate::units::Units;
-use crate::watch::{Watch, Watched, beside};
+use crate::watch::{Watch, Watched, beside, code};
 use cnf::Lit;
 use std::alloc::{AllocError, Global};
 use std::mem;
+use trail::{Entry, Trail, Truth};
 
 /// Clauses with their watches, and what was found of them. Clauses are named by their places, from 0 on.
 #[derive(Drop)]

@@ -9,9 +9,9 @@ ghost use Rattle.theory.specs.Truth.{IsOver};
 ghost use Rattle.theory.specs.Trails.{literals};
 ghost use Rattle.kernel.specs.Visiting.{IsLast, Replaces};
 
-use crate::trail::Trail;
 use cnf::Lit;
 use std::alloc::{AllocError, Global};
+use trail::Trail;
 
 /// A clause of at most so many literals is gone through to its end: where the search ends can't be foretold, and the branch that ends it costs
 /// more than the few literals behind.

@@ -1,6 +1,7 @@
 //! Which literals a clause watches, and the entries of the lists of those that watch a literal.
-ghost use Rattle.std.specs.Prelude.{◌≡◌, true, false, if◌then◌else◌};
+ghost use Rattle.std.specs.Prelude.{◌≡◌, ◌+◌, ◌*◌, true, false, if◌then◌else◌};
 ghost use Rattle.theory.specs.Literals.{same};
+ghost use Rattle.kernel.specs.Watching.{code};
 
 use cnf::Lit;
 
@@ -22,6 +23,14 @@ pub struct Watch {
     pub blocker: Lit,
     /// Whether the clause has at most two literals.
     pub is_short: bool,
+}
+
+/// Where what is kept of a literal stands in a list by literal.
+pub fn code(lit: Lit) -> usize
+    ensures { result ≡ code lit }
+{
+    let double = 2 * lit.var() as usize;
+    if lit.positive() { double + 1 } else { double }
 }
 
 /// The watched literal beside one. Which of the two it is can't be foretold, so it is chosen by its place and not by a branch.

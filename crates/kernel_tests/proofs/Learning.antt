@@ -7,9 +7,9 @@ use Rattle.theory.specs.Trails.{Entry, Trail, literals, level_at, current_level,
 use Rattle.theory.specs.Learnable.{IsLearnable}
 use Rattle.theory.proofs.LiteralLemmas.{same-eq, same-refl}
 use Rattle.theory.proofs.LiteralSets.{true_false, false_unless, has-head, has-tail, has_var-has}
-use Rattle.kernel.specs.Tables.{value_in}
-use Rattle.kernel.proofs.NextFree.{is_some-value_in}
-use Rattle.kernel.proofs.Values.{value-literal}
+use Rattle.trail.specs.Tables.{value_in}
+use Rattle.trail.proofs.NextFree.{is_some-value_in}
+use Rattle.trail.proofs.Values.{value-literal}
 
 -- a variable without a value is free
 pub value-free : (T : Trail) (v : ℕ) → is_some (value_in T v) ≡ false → has_var (literals T) v ≡ false

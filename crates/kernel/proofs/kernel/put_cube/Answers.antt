@@ -1,7 +1,7 @@
 use Rattle.std.proofs.Common.{◌≡◌, ap, ◌∙◌, take, arith}
 use Rattle.theory.specs.Trails.{current_level}
 use Rattle.theory.proofs.OpenTrails.{current_level-cube_trail}
-use Rattle.kernel.proofs.Cubes.{cube_trail-free}
+use Rattle.trail.proofs.Cubes.{cube_trail-free}
 use Rattle.kernel.proofs.kernel.put_cube.Goals as goal
 
 pub push-requires-clause-is_free : goal.push-requires-clause-is_free

@@ -1,6 +1,6 @@
 use Rattle.std.proofs.Common.{◌∙◌, sym}
 use Rattle.theory.specs.Trails.{literals}
-use Rattle.kernel.specs.Tables.{value_of}
+use Rattle.trail.specs.Tables.{value_of}
 use Rattle.kernel.proofs.TrailFacts.{distinct-consistent}
 use Rattle.kernel.proofs.Visits.{not-false}
 use Rattle.kernel.proofs.Replacements.{neither}

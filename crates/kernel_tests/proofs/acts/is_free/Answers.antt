@@ -1,6 +1,6 @@
 use Rattle.std.proofs.Common.{◌∙◌, ap, sym, arith}
-use Rattle.kernel.specs.Tables.{value_in}
-use Rattle.kernel.proofs.Values.{value-none}
+use Rattle.trail.specs.Tables.{value_in}
+use Rattle.trail.proofs.Values.{value-none}
 use Rattle.kernel_tests.proofs.acts.is_free.Goals as goal
 
 pub returns-in-None : goal.returns-in-None

@@ -1,5 +1,5 @@
 use Rattle.std.proofs.Common.{◌∙◌, sym, subst}
-use Rattle.kernel.specs.Cubes.{AreOfVariables}
+use Rattle.trail.specs.Cubes.{AreOfVariables}
 use Rattle.cubes.proofs.KnownLemmas.{known-others}
 use Rattle.cubes.proofs.known.Known.put.Goals as goal
 

@@ -3,7 +3,7 @@ use Rattle.theory.specs.Trails.{current_level}
 use Rattle.kernel.proofs.Levels.{current_level-length, IsLawful-decision}
 use Rattle.kernel.specs.Visiting.{kept_of}
 use Rattle.kernel.proofs.KernelSteps.{decide-watching}
-use Rattle.kernel.proofs.Ordered.{length-free}
+use Rattle.trail.proofs.Ordered.{length-free}
 use Rattle.kernel.proofs.kernel.Kernel.decide.Goals as goal
 
 pub overflow_add-level : goal.overflow_add-level

@@ -1,5 +1,5 @@
 use Rattle.std.proofs.Common.{◌<◌, sym, arith}
-use Rattle.kernel.proofs.NextFree.{entry_of-beyond}
+use Rattle.trail.proofs.NextFree.{entry_of-beyond}
 use Rattle.kernel.proofs.kernel.Kernel.entry.Goals as goal
 
 pub returns-else-var-vars : goal.returns-else-var-vars

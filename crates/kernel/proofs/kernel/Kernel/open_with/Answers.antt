@@ -9,7 +9,7 @@ use Rattle.kernel.specs.Attaching.{IsWatching}
 use Rattle.kernel.proofs.Beginning.{begun, over-items}
 use Rattle.theory.specs.Trails.{cube_trail}
 use Rattle.theory.proofs.TrailEntries.{IsLawful-cube}
-use Rattle.kernel.specs.TrailOver.{TrailOver}
+use Rattle.trail.specs.TrailOver.{TrailOver}
 use Rattle.theory.proofs.TrailLists.{literals-cube}
 use Rattle.kernel.proofs.kernel.Kernel.open_with.Goals as goal
 

@@ -1,5 +1,5 @@
 use Rattle.std.proofs.Common.{◌<◌, arith}
-use Rattle.kernel.proofs.NextFree.{entry_of-beyond}
+use Rattle.trail.proofs.NextFree.{entry_of-beyond}
 use Rattle.kernel.proofs.kernel.Kernel.place.Goals as goal
 
 pub returns-else-var-vars-clause-free : goal.returns-else-var-vars-clause-free

@@ -1,6 +1,6 @@
 use Rattle.std.proofs.Common.{◌<◌, ap, sym, option_map, arith}
 use Rattle.theory.specs.Trails.{Entry}
-use Rattle.kernel.proofs.NextFree.{entry_of-beyond}
+use Rattle.trail.proofs.NextFree.{entry_of-beyond}
 use Rattle.kernel.proofs.kernel.Kernel.value.Goals as goal
 
 pub returns-else-var-vars : goal.returns-else-var-vars

@@ -1,6 +1,6 @@
 use Rattle.std.proofs.Common.{◌∙◌, length, take, sym, ap}
 use Rattle.std.proofs.lemmas.List.{map-set}
-use Rattle.kernel.proofs.GoingBack.{refilled}
+use Rattle.trail.proofs.GoingBack.{refilled}
 use Rattle.kernel.proofs.Cutting.{old-list}
 use Rattle.kernel.proofs.propagator.Propagator.drop_list.Goals as goal
 

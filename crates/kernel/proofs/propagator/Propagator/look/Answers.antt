@@ -1,5 +1,5 @@
 use Rattle.std.proofs.Common.{refl}
-use Rattle.kernel.specs.Tables.{value_of}
+use Rattle.trail.specs.Tables.{value_of}
 use Rattle.kernel.specs.Visiting.{kept_of, satisfied}
 use Rattle.kernel.proofs.Visits.{over-of, over-var, looked, looked-stays, looked-last, looked-moves, clause-read, clause-over, noted, code-within}
 use Rattle.kernel.proofs.propagator.Propagator.look.Goals as goal

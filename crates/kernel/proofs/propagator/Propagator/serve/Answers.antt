@@ -1,7 +1,7 @@
 use Rattle.std.proofs.Common.{◌∙◌, length, take, sym, ap, arith}
 use Rattle.std.proofs.lemmas.List.{length-set}
 use Rattle.theory.specs.Trails.{Entry}
-use Rattle.kernel.proofs.GoingBack.{refilled}
+use Rattle.trail.proofs.GoingBack.{refilled}
 use Rattle.kernel.proofs.NextServed.{serves}
 use Rattle.kernel.proofs.Turns.{taken-out, put-back, gone-inside}
 use Rattle.kernel.proofs.propagator.Propagator.serve.Goals as goal

@@ -1,5 +1,5 @@
 use Rattle.std.proofs.Common.{refl}
-use Rattle.kernel.specs.Tables.{value_of}
+use Rattle.trail.specs.Tables.{value_of}
 use Rattle.kernel.specs.Visiting.{kept_of, satisfied, behind}
 use Rattle.kernel.proofs.Visits.{over-of, stay-same, short-last, noted}
 use Rattle.kernel.proofs.propagator.Propagator.visit.Goals as goal

@@ -1,0 +1,7 @@
+pub mod Cubes
+pub mod GoingBack
+pub mod LeastFree
+pub mod NextFree
+pub mod Ordered
+pub mod Tables
+pub mod Values

@@ -1,0 +1,278 @@
+//! The trail, with tables by literal and by variable, so that each look-up is one step.
+ghost use Rattle.std.specs.Prelude.{◌≡◌, ◌≤◌, ◌<◌, ◌^◌, ◌+◌, ◌*◌, ℕ, [], ◌∷◌, ◌++◌, true, false, length, take, IfOk, IfSome, IfNone, None, Some, slice_get, slice_index, slice_index_or, if◌then◌else◌, ◌⊎◌, is_some};
+ghost use Rattle.theory.specs.Literals.{Literal, IsVariable, has_var};
+ghost use Rattle.theory.specs.Trails.{literals, current_level, entry_of, level_of, least_free, up_to};
+ghost use Rattle.trail.specs.TrailOver.{IsOrdered, IsRisingFrom};
+ghost use Rattle.trail.specs.Tables.{IsTruth, value_in, value_of, spot};
+ghost use Rattle.trail.specs.declared.truth.Truth.TheVariants.{Unassigned};
+
+use crate::entry::Entry;
+use crate::truth::{Truth, put_truths, spot};
+use cnf::Lit;
+use std::alloc::{AllocError, Global};
+use std::marker::Model;
+
+/// Entries of distinct variables, each one of 1 to `vars`, by rising level, with room for all of them.
+#[derive(Drop)]
+pub struct Trail {
+    vars: u32,
+    entries: Vec<Entry>,
+    // by literal, in order of their numbers: what the entries say of it. Propagation asks for literals many times an entry, so one load
+    // and one comparison have to answer; a value by variable, compared with the literal's sign, takes several times the instructions
+    truths: Vec<Truth>,
+    // by variable: how many entries there are up to its own, and 0 while it is free
+    places: Vec<u32>,
+    // the least free variable, or the number behind the last one
+    next_free: u32,
+}
+
+impl Model for Trail {
+    ghost use Rattle.std.specs.Prelude.{◌<◌, ◌≤◌, ◌^◌, vec_capacity};
+    ghost use Rattle.trail.specs.TrailOver.{TrailOver, IsOrdered};
+    ghost use Rattle.trail.specs.Tables.{AreTables, IsNextFree};
+
+    ghost Value = { TrailOver };
+
+    ghost view = { λ a. record { vars = a.vars; entries = a.entries.items } };
+
+    ghost invariant = { λ a. IsOrdered a.vars a.entries.items × (a.vars ≤ vec_capacity a.entries)
+        × (a.vars < 2 ^ 31) × AreTables a.vars a.entries.items a.truths.items a.places.items
+        × IsNextFree a.vars a.entries.items a.next_free };
+}
+
+/// How many entries there are up to a level.
+fn count_up_to(entries: &[Entry], level: u32) -> usize
+    requires { IsRisingFrom 0 entries.now }
+    ensures within { result ≤ length entries.now }
+    ensures entries { take result entries.now ≡ up_to entries.now level }
+{
+    let mut count = entries.len();
+    while count > 0 {
+        let last = entries[count - 1];
+        if last.level <= level {
+            return count;
+        }
+        count -= 1;
+    }
+    0
+}
+
+/// Makes the variables of entries free in the tables.
+fn free_all(truths: &mut [Truth], places: &mut [u32], vars: u32, dropped: &[Entry])
+    requires within { (v : ℕ) → has_var (literals dropped.now) v ≡ true → IsVariable vars v × (v < length places.old) }
+    requires long { length truths.old ≡ 2 * vars + 1 }
+    ensures truths { (l : Literal) → l.var ≤ vars → slice_index_or truths.new (spot vars l) Unassigned ≡
+        (if has_var (literals dropped.now) l.var then Unassigned else slice_index_or truths.old (spot vars l) Unassigned) }
+    ensures places { (v : ℕ) → slice_index places.new v ≡
+        (if has_var (literals dropped.now) v then 0 else slice_index places.old v) }
+{
+    let free = Truth::Unassigned;
+    for entry in dropped {
+        let entry = *entry;
+        put_truths(truths, vars, entry.lit, free, free);
+        places[entry.lit.var() as usize] = 0;
+    }
+}
+
+/// The least of a bound and the variables of entries.
+fn least_var(dropped: &[Entry], bound: u32) -> u32
+    ensures most { result ≤ bound }
+    ensures least { (v : ℕ) → has_var (literals dropped.now) v ≡ true → result ≤ v }
+    ensures there { (result ≡ bound) ⊎ (has_var (literals dropped.now) result ≡ true) }
+{
+    let mut least = bound;
+    for entry in dropped {
+        let entry = *entry;
+        least = least.min(entry.lit.var());
+    }
+    least
+}
+
+/// The first number, from one on, whose variable has no entry.
+fn first_without_entry(places: &[u32], from: u32) -> u32
+    requires within { from ≤ length places.now }
+    requires small { length places.now < 2 ^ 32 }
+    ensures low { from ≤ result }
+    ensures high { result ≤ length places.now }
+    ensures before { (v : ℕ) → from ≤ v → v < result → 1 ≤ slice_index places.now v }
+    ensures found { slice_index places.now result ≡ 0 }
+{
+    let mut var = from;
+    while (var as usize) < places.len() && places[var as usize] != 0 {
+        var += 1;
+    }
+    var
+}
+
+impl Trail {
+    /// No entries, and room for one of each variable.
+    pub fn with_room(alloc: Global, vars: u32) -> Result<Trail, AllocError>
+        requires { vars < 2 ^ 31 }
+        ensures { IfOk result (λ t. t ≡ record { vars = vars; entries = [] }) }
+    {
+        let count = vars as usize;
+        Ok(Trail {
+            vars,
+            entries: Vec::with_capacity(alloc, count)?,
+            truths: vec![in alloc; Truth::Unassigned; 2 * count + 1]?,
+            places: vec![in alloc; 0; count + 1]?,
+            next_free: 1,
+        })
+    }
+
+    /// The number of variables.
+    pub fn vars(&self) -> u32
+        ensures vars { result ≡ self.now.vars }
+        ensures ordered { IsOrdered self.now.vars self.now.entries }
+    {
+        self.vars
+    }
+
+    /// The entries, in the order in which they came.
+    pub fn entries(&self) -> &[Entry]
+        ensures entries { result.now ≡ self.now.entries }
+        ensures ordered { IsOrdered self.now.vars self.now.entries }
+    {
+        &self.entries
+    }
+
+    /// The level of the last entry, or 0.
+    pub fn level(&self) -> u32
+        ensures level { result ≡ current_level self.now.entries }
+        ensures ordered { IsOrdered self.now.vars self.now.entries }
+        ensures small { self.now.vars < 2 ^ 31 }
+    {
+        match self.entries.last() {
+            Some(entry) => {
+                let entry = *entry;
+                entry.level
+            }
+            None => 0,
+        }
+    }
+
+    /// The truth value of a variable, and none while it is free.
+    pub fn value(&self, var: u32) -> Option<bool>
+        requires { var ≤ self.now.vars }
+        ensures value { result ≡ value_in self.now.entries var }
+        ensures ordered { IsOrdered self.now.vars self.now.entries }
+    {
+        self.truths[self.vars as usize + var as usize].value()
+    }
+
+    /// Whether a literal is true, and none while its variable is free.
+    pub fn truth(&self, lit: Lit) -> Option<bool>
+        requires { lit.var ≤ self.now.vars }
+        ensures truth { IsTruth (literals self.now.entries) lit result }
+        ensures ordered { IsOrdered self.now.vars self.now.entries }
+    {
+        self.status(lit).value()
+    }
+
+    /// What is said of a literal. Propagation asks for it in place of the truth value: whether it is `Satisfied` is one comparison, and
+    /// one branch that the processor can't foretell, where a truth value takes two.
+    pub fn status(&self, lit: Lit) -> Truth
+        requires { lit.var ≤ self.now.vars }
+        ensures truth { IsTruth (literals self.now.entries) lit (value_of result) }
+        ensures ordered { IsOrdered self.now.vars self.now.entries }
+    {
+        self.truths[spot(self.vars, lit)]
+    }
+
+    /// The level of a literal's variable, or 0 while it is free.
+    pub fn level_of(&self, lit: Lit) -> u32
+        requires { lit.var ≤ self.now.vars }
+        ensures { result ≡ level_of self.now.entries lit }
+    {
+        match self.entry(lit.var()) {
+            None => 0,
+            Some(entry) => entry.level,
+        }
+    }
+
+    /// The place of a variable's entry, counted from 0, and none while it is free.
+    pub fn place(&self, var: u32) -> Option<usize>
+        requires { var ≤ self.now.vars }
+        ensures found { IfSome result (λ p. slice_get self.now.entries p ≡ entry_of self.now.entries var) }
+        ensures inside { IfSome result (λ p. p < length self.now.entries) }
+        ensures free { IfNone result (entry_of self.now.entries var ≡ None) }
+    {
+        let count = self.places[var as usize] as usize;
+        if count == 0 { None } else { Some(count - 1) }
+    }
+
+    /// The entry of a variable, and none while it is free.
+    pub fn entry(&self, var: u32) -> Option<Entry>
+        requires { var ≤ self.now.vars }
+        ensures { result ≡ entry_of self.now.entries var }
+    {
+        match self.place(var) {
+            None => None,
+            Some(place) => Some(self.entries[place]),
+        }
+    }
+
+    /// The least variable without an entry.
+    pub fn least_free(&self) -> Option<u32>
+        ensures { result ≡ least_free self.now.vars self.now.entries }
+    {
+        if self.next_free <= self.vars {
+            Some(self.next_free)
+        } else {
+            None
+        }
+    }
+
+    /// Puts an entry at the end. It takes no memory, and time by the variables that the least free one moves on by.
+    pub fn push(&mut self, entry: Entry)
+        requires is_variable { IsVariable self.old.vars entry.lit.var }
+        requires is_free { has_var (literals self.old.entries) entry.lit.var ≡ false }
+        requires is_latest { current_level self.old.entries ≤ entry.level }
+        ensures entries { self.new.entries ≡ self.old.entries ++ entry ∷ [] }
+        ensures vars { self.new.vars ≡ self.old.vars }
+    {
+        match self.entries.push(entry) {
+            Ok(()) => {}
+            Err(_) => unreachable!(),
+        }
+        let var = entry.lit.var();
+        put_truths(
+            &mut self.truths,
+            self.vars,
+            entry.lit,
+            Truth::Satisfied,
+            Truth::Falsified,
+        );
+        self.places[var as usize] = self.entries.len() as u32;
+        self.next_free = first_without_entry(&self.places, self.next_free);
+    }
+
+    /// Takes the entries above a level off. It takes time by them.
+    pub fn back_to(&mut self, level: u32)
+        ensures entries { self.new.entries ≡ up_to self.old.entries level }
+        ensures vars { self.new.vars ≡ self.old.vars }
+    {
+        let count = count_up_to(&self.entries, level);
+        self.truncate(count);
+    }
+
+    /// Takes all entries off. It takes time by them.
+    pub fn clear(&mut self)
+        ensures entries { self.new.entries ≡ [] }
+        ensures vars { self.new.vars ≡ self.old.vars }
+    {
+        self.truncate(0);
+    }
+
+    /// Takes the entries from a place on off.
+    fn truncate(&mut self, count: usize)
+        requires { count ≤ length self.old.entries }
+        ensures entries { self.new.entries ≡ take count self.old.entries }
+        ensures vars { self.new.vars ≡ self.old.vars }
+    {
+        let dropped = &self.entries[count..];
+        free_all(&mut self.truths, &mut self.places, self.vars, dropped);
+        self.next_free = least_var(dropped, self.next_free);
+        self.entries.truncate(count);
+    }
+}
