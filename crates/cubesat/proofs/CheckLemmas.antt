@@ -8,11 +8,11 @@ use Rattle.theory.specs.ProofReading as reading
 use Rattle.theory.specs.Checking.{checks, accepted, refused, no_empty_clause}
 use Rattle.theory.specs.Checking as theory
 use Rattle.theory.specs.Numbers.{check_fault_number}
-use Rattle.lrat.specs.declared.fault.TextFault.{TextFault}
-use Rattle.lrat.specs.declared.fault.TextFault.TheVariants as text_fault
+use Rattle.lrat_text.specs.declared.fault.TextFault.{TextFault}
+use Rattle.lrat_text.specs.declared.fault.TextFault.TheVariants as text_fault
 use Rattle.lrat.specs.declared.check_fault.CheckFault.{CheckFault}
 use Rattle.lrat.specs.declared.check_fault.CheckFault.TheVariants as step_fault
-use Rattle.lrat.specs.Faults.{HasFault, fault_number}
+use Rattle.lrat_text.specs.Faults.{HasFault, fault_number}
 use Rattle.lrat.specs.CheckFaults as faults
 use Rattle.lrat.specs.CheckFaults.{IsRefused}
 use Rattle.cubesat.specs.declared.checked_line.Checked.TheVariants.{Accepted, Refused}

@@ -7,15 +7,15 @@ use Rattle.theory.specs.Truth as truth
 use Rattle.theory.specs.ProofReading.{ProofReading, ProofReads, max_proof_bytes, too_long}
 use Rattle.theory.specs.ProofReading as reading
 use Rattle.theory.specs.Checking.{accepted}
-use Rattle.lrat.specs.declared.fault.TextFault.{TextFault}
-use Rattle.lrat.specs.declared.fault.TextFault.TheVariants as texts
+use Rattle.lrat_text.specs.declared.fault.TextFault.{TextFault}
+use Rattle.lrat_text.specs.declared.fault.TextFault.TheVariants as texts
 use Rattle.lrat.specs.declared.refusal.Refusal.TheVariants.{Text}
-use Rattle.lrat.specs.Faults.{HasFault}
+use Rattle.lrat_text.specs.Faults.{HasFault}
 use Rattle.lrat.specs.Running.{IsSaid}
 use Rattle.lrat.specs.declared.refusal.Refusal.{Refusal}
-use Rattle.lrat.specs.Streams.{Stream, begin, feed, finish, checked, answer_to}
+use Rattle.lrat_text.specs.Streams.{Stream, begin, feed, finish, checked, answer_to}
 use Rattle.lrat.proofs.StreamLemmas.{feed-append, feed-seen, finish-feed}
-use Rattle.lrat.proofs.ProofTexts.{reading_of_text, reading-ProofReads}
+use Rattle.lrat_text.proofs.ProofTexts.{reading_of_text, reading-ProofReads}
 use Rattle.cubesat.specs.Streamed.{FeedsOn, FeedsChunk, FeedsAll}
 
 -- one piece behind another

@@ -8,7 +8,7 @@ use Rattle.cubes.specs.declared.tree.Tree.{Tree}
 use Rattle.cubes.specs.declared.tree.Tree.TheVariants.{Model, Refuted}
 use Rattle.cubes.specs.Result.{IsResultOf, Says}
 use Rattle.join.specs.Numbered.{AreStepsOf, AreAccepted, AreWithin}
-use Rattle.lrat.proofs.WrittenTexts.{proof_text-ProofReads}
+use Rattle.lrat_text.proofs.WrittenTexts.{proof_text-ProofReads}
 use Rattle.cubesat.specs.declared.verdict.Verdict.{Verdict}
 use Rattle.cubesat.specs.Run.{AreTexts}
 use Rattle.cubesat.specs.Written.{IsAnswer}

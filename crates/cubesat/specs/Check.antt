@@ -11,8 +11,8 @@ use Rattle.theory.specs.Numbers.{check_text}
 use Rattle.cnf.specs.declared.fault.ReadFault.{ReadFault}
 use Rattle.cnf.specs.declared.fault.ReadFault.TheVariants as reading
 use Rattle.cnf.specs.Faults.{IsReadOf}
-use Rattle.lrat.specs.declared.fault.TextFault.{TextFault}
-use Rattle.lrat.specs.declared.fault.TextFault.TheVariants as texts
+use Rattle.lrat_text.specs.declared.fault.TextFault.{TextFault}
+use Rattle.lrat_text.specs.declared.fault.TextFault.TheVariants as texts
 use Rattle.lrat.specs.declared.check_fault.CheckFault.{CheckFault}
 use Rattle.lrat.specs.CheckFaults.{check_fault_step}
 use Rattle.cubesat.specs.declared.fault.RunFault.{RunFault}

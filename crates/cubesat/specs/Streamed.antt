@@ -2,7 +2,7 @@
 use Rattle.std.specs.Prelude.{◌≡◌, ◌⊎◌, ℕ, ◌+◌, ◌≤◌, List, length, take, Option, IfSome}
 use Rattle.std.specs.Io.KnownBytes.{Consumes, IsAtEnd}
 use Rattle.theory.specs.ProofReading.{max_proof_bytes}
-use Rattle.lrat.specs.Streams.{Stream, feed}
+use Rattle.lrat_text.specs.Streams.{Stream, feed}
 use Rattle.cubesat.specs.declared.fault.RunFault.{RunFault}
 use Rattle.cubesat.specs.declared.fault.RunFault.TheVariants.{NoMemory, ProofReadFailed}
 

@@ -4,7 +4,7 @@ ghost use Rattle.theory.specs.Truth.{Formula};
 ghost use Rattle.theory.specs.ProofReading.{ProofReading, ProofReads};
 ghost use Rattle.theory.specs.Checking.{accepted};
 ghost use Rattle.lrat.specs.Running.{IsSaid};
-ghost use Rattle.lrat.specs.Streams.{answer_to, checked};
+ghost use Rattle.lrat_text.specs.Streams.{answer_to, checked};
 ghost use Rattle.cubesat.specs.Check.{IsLine, place_in_text, place_in_steps, refused_text};
 
 use itoa::Buffer;

@@ -2,8 +2,8 @@
 use Rattle.std.proofs.Common.{◌≡◌, ℕ, suc, ◌+◌, ◌-◌, ◌<◌, ◌≤◌, true, List, [], ◌∷◌, ◌++◌, length, length-append, map, None, refl, ap, sym, subst, ◌∙◌, append_assoc, arith, All}
 use Rattle.std.proofs.lemmas.List.Elements.{All-nil, All-cons, All-push, All-append, All-weaker, All-map}
 use Rattle.std.proofs.lemmas.List.{map-append}
-use Rattle.lrat.specs.declared.step.Step as steps
-use Rattle.lrat.specs.Steps.{step_of}
+use Rattle.lrat_text.specs.declared.step.Step as steps
+use Rattle.lrat_text.specs.Steps.{step_of}
 use Rattle.theory.specs.Literals.{Literal, IsVariable, positive, negative, negated, negations, are_distinct}
 use Rattle.theory.specs.Truth.{Formula, IsOver}
 use Rattle.theory.specs.Reading.{IsWithinLimits, max_vars}

@@ -6,7 +6,7 @@ ghost use Rattle.theory.specs.Reading.{max_vars, max_clauses};
 ghost use Rattle.theory.specs.Steps.{delete};
 ghost use Rattle.theory.specs.Proofs.{renumbered, numbers_from};
 ghost use Rattle.theory.specs.ProofReading.{IsStep, max_number};
-ghost use Rattle.lrat.specs.Steps.{step_of};
+ghost use Rattle.lrat_text.specs.Steps.{step_of};
 ghost use Rattle.join.specs.Joining.{cube_of, unit_line, learnt_line, split_line};
 ghost use Rattle.join.specs.Numbered.{AreUpTo, IsDue, numbers_due};
 ghost use Rattle.join.specs.Walking.{line_of};

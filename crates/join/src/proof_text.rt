@@ -1,7 +1,7 @@
 //! The text of a proof.
 ghost use Rattle.std.specs.Prelude.{◌≡◌, map, IfOk};
 ghost use Rattle.theory.specs.Texts.{proof_text};
-ghost use Rattle.lrat.specs.Steps.{step_of};
+ghost use Rattle.lrat_text.specs.Steps.{step_of};
 
 use lrat::{Step, line_size, write_step};
 use std::alloc::{AllocError, Global};

@@ -1,7 +1,7 @@
 //! The proof of a refuted tree as a list of steps.
 ghost use Rattle.std.specs.Prelude.{ℕ, map, All, IfOk};
 ghost use Rattle.theory.specs.ProofReading.{IsStep};
-ghost use Rattle.lrat.specs.Steps.{step_of};
+ghost use Rattle.lrat_text.specs.Steps.{step_of};
 ghost use Rattle.cubes.specs.Result.{IsResultOf};
 ghost use Rattle.join.specs.Numbered.{AreStepsOf, AreAccepted};
 

@@ -3,13 +3,13 @@ use Rattle.std.proofs.Common.{◌≡◌, ℕ, ◌+◌, ◌<◌, ◌≤◌, List,
 use Rattle.std.proofs.lemmas.List.{drop_more}
 use Rattle.theory.specs.ProofReading.{max_proof_bytes}
 use Rattle.theory.specs.Checking.{refused}
-use Rattle.lrat.specs.declared.text.Text.{Text}
+use Rattle.lrat_text.specs.declared.text.Text.{Text}
 use Rattle.lrat.specs.declared.check_fault.Fault.{Fault}
 use Rattle.lrat.specs.declared.check_fault.Fault.TheVariants.{IdNotRising, BothSigns, NoSuchClause, HintNotUnit, HintAfterConflict, NoConflict, MissingCandidate, BadCandidate, NoSuchDeletion, LiteralOutOfRange}
 use Rattle.lrat.specs.CheckFaults.{fault_of, fault_at}
-use Rattle.lrat.specs.Pieces.{TakesBytes, stream_at}
+use Rattle.lrat_text.specs.Pieces.{TakesBytes, stream_at}
 use Rattle.lrat.specs.Running.{IsCheckSaid}
-use Rattle.lrat.specs.Streams.{Progress, Stream, checked, verdict, at_text_end, text_too_long, feed, feed_byte, finish}
+use Rattle.lrat_text.specs.Streams.{Progress, Stream, checked, verdict, at_text_end, text_too_long, feed, feed_byte, finish}
 use Rattle.lrat.proofs.StreamLemmas.{lt-false}
 
 -- bytes of a word, and the byte behind them

@@ -6,13 +6,13 @@ use Rattle.theory.specs.Truth.{Formula}
 use Rattle.theory.specs.Steps as theory
 use Rattle.theory.specs.ProofReading.{TextFault, line_not_ended, ProofReading, steps, line_fault, too_long, ProofReads, max_proof_bytes}
 use Rattle.theory.specs.Checking.{Fault, Checker, Tested, refused, leaves, faulty, test, check_from}
-use Rattle.lrat.specs.LineWords.{ends_word, first_word, after_word, word_of}
-use Rattle.lrat.specs.LineMachine.{LineState, at_id, on, fault_in, at_end, behind, LineReading, line_read, line_at_fault, read_lines, within, with_step, has_line_feed}
-use Rattle.lrat.specs.Streams.{Begun, nothing, with_byte, with_bytes, Part, fresh, in_line, held_back, closed, Progress, goes_on, stopped, Stream, begin, checked_step, Ended, goes_to, at_fault, ended, LineProgress, closed_line, on_feed, on_blank, on_byte, kept_after, feed_byte, feed, Answer, checked, line_refused, text_too_long, verdict, at_text_end, finish, answer_to}
-use Rattle.lrat.proofs.LineTexts.{Solid, lines_of-solid}
-use Rattle.lrat.proofs.LineReadings.{within-blank, within-lf, read_lines-begin, within-taken, within-refused}
-use Rattle.lrat.proofs.ProofTexts.{reading_of_text, reading-ProofReads, ProofReads-only}
-use Rattle.lrat.proofs.BegunWords.{ended-word}
+use Rattle.lrat_text.specs.LineWords.{ends_word, first_word, after_word, word_of}
+use Rattle.lrat_text.specs.LineMachine.{LineState, at_id, on, fault_in, at_end, behind, LineReading, line_read, line_at_fault, read_lines, within, with_step, has_line_feed}
+use Rattle.lrat_text.specs.Streams.{nothing, with_bytes, Part, fresh, in_line, held_back, closed, Progress, goes_on, stopped, Stream, begin, checked_step, Ended, goes_to, at_fault, ended, LineProgress, closed_line, on_feed, on_blank, on_byte, kept_after, feed_byte, feed, Answer, checked, line_refused, text_too_long, verdict, at_text_end, finish, answer_to}
+use Rattle.lrat_text.proofs.LineTexts.{Solid, lines_of-solid}
+use Rattle.lrat_text.proofs.LineReadings.{within-blank, within-lf, read_lines-begin, within-taken, within-refused}
+use Rattle.lrat_text.proofs.ProofTexts.{reading_of_text, reading-ProofReads, ProofReads-only}
+use Rattle.lrat_text.proofs.BegunWords.{ended-word, with_bytes-push}
 
 -- the steps from number n on
 abbrev pub checked_steps : ℕ → ℕ → Progress → List theory.Step → Progress
@@ -116,10 +116,6 @@ on_blank-Leads V n p (at_fault f) b bytes feed blank =
     record { word = []; begun = tt; same = ap (λ r. line_refused (cond r f line_not_ended) n) (sym (feeds-later b bytes feed)) }
 
 -- one byte more of the word
-pub with_bytes-push : (g : Begun) (w : List ℕ) (b : ℕ) → with_bytes g (w ++ b ∷ []) ≡ with_byte (with_bytes g w) b
-with_bytes-push g [] b = refl
-with_bytes-push g (c ∷ w) b = with_bytes-push (with_byte g c) w b
-
 Solid-push : (w : List ℕ) (b : ℕ) → Solid w → ends_word b ≡ false → Solid (w ++ b ∷ [])
 Solid-push [] b s e = (e, tt)
 Solid-push (c ∷ w) b s e = (s.0, Solid-push w b s.1 e)

@@ -1,10 +1,3 @@
--- What steps are seen as is said in the crate `theory`.
-pub mod Steps
-pub mod Words
-pub mod Faults
-pub mod LineWords
-pub mod LineMachine
-pub mod LineStates
 pub mod CheckFaults
 pub mod Held
 pub mod Slots
@@ -15,9 +8,5 @@ pub mod Tested
 pub mod Chained
 pub mod Occurrences
 pub mod Indexed
-pub mod Streams
 pub mod Flat
-pub mod Begun
-pub mod Pieces
-pub mod Runs
 pub mod Running

@@ -6,14 +6,14 @@ use Rattle.theory.specs.Checking as theory
 use Rattle.lrat.specs.declared.check_fault.CheckFault.{CheckFault}
 use Rattle.lrat.specs.declared.check_fault.CheckFault.TheVariants as steps
 use Rattle.lrat.specs.declared.checker.Checker.{Checker}
-use Rattle.lrat.specs.declared.fault.TextFault.TheVariants as texts
+use Rattle.lrat_text.specs.declared.fault.TextFault.TheVariants as texts
 use Rattle.lrat.specs.declared.refusal.Refusal.{Refusal}
 use Rattle.lrat.specs.declared.refusal.Refusal.TheVariants.{Text, Steps}
 use Rattle.lrat.specs.declared.stream.ProofStream.{ProofStream}
 use Rattle.lrat.specs.declared.stream.Stop.{Stop}
 use Rattle.lrat.specs.CheckFaults.{fault_of}
-use Rattle.lrat.specs.Pieces.{IsText, stream_at}
-use Rattle.lrat.specs.Streams.{Progress, goes_on, stopped, Stream, Answer, checked, line_refused, text_too_long}
+use Rattle.lrat_text.specs.Pieces.{IsText, stream_at}
+use Rattle.lrat_text.specs.Streams.{Progress, goes_on, stopped, Stream, Answer, checked, line_refused, text_too_long}
 use Rattle.lrat.specs.Tested.{checker_of, IsReady}
 
 abbrev pub progress_of : Option Stop → Checker → Progress

@@ -12,7 +12,7 @@ ghost use Rattle.lrat.specs.Flat.{AreUpTo};
 ghost use Rattle.lrat.specs.Indexed.{IsIndexed};
 ghost use Rattle.lrat.specs.Occurrences.{StayThere};
 ghost use Rattle.lrat.specs.Slots.{there};
-ghost use Rattle.lrat.specs.Steps.{step_of};
+ghost use Rattle.lrat_text.specs.Steps.{step_of};
 ghost use Rattle.lrat.specs.Tested.{IsReady, Tests, IsDeleted, checker_of, start};
 
 use crate::assume::assume;
@@ -22,8 +22,8 @@ use crate::groups::rat_fault;
 use crate::held::Held;
 use crate::hints::{Taken, take_hints};
 use crate::occurrences::Occurrences;
-use crate::step::{Addition, Deletion, Step};
 use cnf::{Formula, Lit};
+use lrat_text::{Addition, Deletion, Step};
 use std::alloc::{AllocError, Global};
 
 /// The clauses there, the last number given away, and whether an empty clause was added. Nothing is held true between

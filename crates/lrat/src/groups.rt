@@ -17,8 +17,8 @@ use crate::clauses::Clauses;
 use crate::held::Held;
 use crate::hints::{Taken, take_hints};
 use crate::occurrences::Occurrences;
-use crate::step::Group;
 use cnf::Lit;
+use lrat_text::Group;
 use std::alloc::{AllocError, Global};
 use std::collections::HashSet;
 

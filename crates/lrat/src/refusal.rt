@@ -1,6 +1,6 @@
 //! Why a proof's text, or its steps, are refused.
 use crate::check_fault::CheckFault;
-use crate::fault::TextFault;
+use lrat_text::TextFault;
 use thiserror::Error;
 
 /// Why a proof is refused. A fault of the text goes before one of the steps, wherever it stands.

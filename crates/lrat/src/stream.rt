@@ -1,19 +1,16 @@
 //! A check of a proof whose text comes in pieces. Each step is checked as its line ends, and then let go.
 ghost use Rattle.std.specs.Prelude.{◌≡◌, ◌+◌, ◌<◌, ◌≤◌, ◌^◌, ℕ, None, length, IfOk, OnOk, MatchResult};
 ghost use Rattle.theory.specs.Checking.{accepted};
-ghost use Rattle.lrat.specs.Pieces.{IsText, stream_at};
+ghost use Rattle.lrat_text.specs.Pieces.{IsText, stream_at};
 ghost use Rattle.lrat.specs.Running.{IsReadyUnless, IsRunning, IsSaid, progress_of, stream_of, vars_of};
-ghost use Rattle.lrat.specs.Steps.{step_of};
-ghost use Rattle.lrat.specs.Streams.{begin, checked, checked_step, feed, feed_byte, finish};
+ghost use Rattle.lrat_text.specs.Steps.{step_of};
+ghost use Rattle.lrat_text.specs.Streams.{begin, checked, checked_step, feed, feed_byte, finish};
 
 use crate::check_fault::{CheckFault, Fault};
 use crate::checker::Checker;
-use crate::fault::TextFault;
-use crate::read::MAX_BYTES;
 use crate::refusal::Refusal;
-use crate::step::Step;
-use crate::text::Text;
 use cnf::Formula;
+use lrat_text::{MAX_BYTES, Step, Text, TextFault};
 use std::alloc::{AllocError, Global};
 
 /// The first step at fault.

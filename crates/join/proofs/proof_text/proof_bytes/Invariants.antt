@@ -1,6 +1,6 @@
 use Rattle.std.proofs.Common.{◌≡◌, ◌++◌, map, drop}
 use Rattle.theory.specs.Texts.{proof_text}
-use Rattle.lrat.specs.Steps.{step_of}
+use Rattle.lrat_text.specs.Steps.{step_of}
 use Rattle.join.proofs.proof_text.proof_bytes.Given as goal
 
 -- what is left gives the rest

@@ -1,6 +1,6 @@
 use Rattle.std.proofs.Common.{◌≡◌, ◌++◌, map, length, All}
 use Rattle.theory.specs.ProofReading.{IsStep}
-use Rattle.lrat.specs.Steps.{step_of}
+use Rattle.lrat_text.specs.Steps.{step_of}
 use Rattle.join.specs.Walking.{IsBetweenLines, lines_left}
 use Rattle.join.proofs.steps.join.Given as goal
 

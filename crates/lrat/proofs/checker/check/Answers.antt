@@ -1,7 +1,7 @@
 use Rattle.std.proofs.Common.{◌≡◌, ◌+◌, ◌∙◌, length, map, sym, arith}
 use Rattle.std.proofs.lemmas.List.{length-map}
 use Rattle.theory.proofs.Soundness.{accepted-unsatisfiable}
-use Rattle.lrat.specs.Steps.{step_of}
+use Rattle.lrat_text.specs.Steps.{step_of}
 use Rattle.lrat.specs.Tested.{checker_of}
 use Rattle.lrat.proofs.CheckLemmas.{check-leaves, check-faulty, check-ends, refused-at, map-next}
 use Rattle.lrat.proofs.checker.check.Goals as goal

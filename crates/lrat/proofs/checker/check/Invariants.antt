@@ -1,6 +1,6 @@
 use Rattle.std.proofs.Common.{◌≡◌, ◌+◌, map, drop}
 use Rattle.theory.specs.Checking.{check_from, checks}
-use Rattle.lrat.specs.Steps.{step_of}
+use Rattle.lrat_text.specs.Steps.{step_of}
 use Rattle.lrat.specs.Tested.{checker_of, IsReady}
 use Rattle.lrat.proofs.checker.check.Given as goal
 

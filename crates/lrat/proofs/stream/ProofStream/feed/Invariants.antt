@@ -1,7 +1,7 @@
 use Rattle.std.proofs.Common.{◌≡◌, ◌≤◌, ◌+◌, ◌-◌, length, drop}
-use Rattle.lrat.specs.Pieces.{IsText, stream_at}
+use Rattle.lrat_text.specs.Pieces.{IsText, stream_at}
 use Rattle.lrat.specs.Running.{IsReadyUnless, progress_of, stream_of, vars_of}
-use Rattle.lrat.specs.Streams.{feed}
+use Rattle.lrat_text.specs.Streams.{feed}
 use Rattle.lrat.proofs.stream.ProofStream.feed.Given as goal
 
 -- the bytes that are left lead to the same

@@ -1,9 +1,9 @@
 use Rattle.std.proofs.Common.{ap, subst, ◌∙◌}
 use Rattle.theory.specs.Checking.{refused}
 use Rattle.lrat.specs.CheckFaults.{fault_of}
-use Rattle.lrat.specs.Pieces.{EndsAt, part_of}
+use Rattle.lrat_text.specs.Pieces.{EndsAt, part_of}
 use Rattle.lrat.specs.Running.{progress_of, stream_of}
-use Rattle.lrat.specs.Streams.{checked, verdict}
+use Rattle.lrat_text.specs.Streams.{checked, verdict}
 use Rattle.lrat.proofs.RunningLemmas.{finish-ended, said-at}
 use Rattle.lrat.proofs.stream.ProofStream.verdict.Goals as goal
 

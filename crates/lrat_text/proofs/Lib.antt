@@ -1,0 +1,16 @@
+pub mod DigitLemmas
+pub mod WordTexts
+pub mod WordLemmas
+pub mod LineTexts
+pub mod LineReadings
+pub mod LineMachineLemmas
+pub mod LineRuns
+pub mod LineFaults
+pub mod LineLaws
+pub mod ProofTexts
+pub mod LinePlaces
+pub mod ReadSteps
+pub mod WrittenTexts
+pub mod BegunWords
+pub mod PieceLemmas
+pub mod RunLemmas
