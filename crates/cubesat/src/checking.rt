@@ -1,16 +1,13 @@
 //! `check`: its files, and what is printed of the run.
 
 use crate::arguments::Shown;
-use crate::board::Board;
 use crate::check::check_run;
 use crate::checked_line::Checked;
 use crate::fault::RunFault;
 use crate::fault_lines::{FAILED, Screen, print_fault_of, print_no_file};
-use crate::figures::Stage;
-use crate::kept::{Beginning, KeptWriter};
 use crate::notes::{note_check, note_number};
-use crate::progress::show_progress;
 use crate::watched::check_counted;
+use statistics::{Beginning, Board, KeptWriter, Stage, show_progress};
 use std::alloc::Global;
 use std::fs::Files;
 use std::io::{Read, Write};

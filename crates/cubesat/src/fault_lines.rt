@@ -2,7 +2,7 @@
 
 use crate::fault::RunFault;
 use crate::notes::{note_file, note_files, note_number};
-use crate::progress::Manner;
+use statistics::Manner;
 use std::io::Write;
 
 /// The status of a fault, of a proof that is refused and of a wrong command line.

@@ -2,17 +2,14 @@
 ghost use Rattle.std.specs.Prelude.{◌≤◌};
 
 use crate::arguments::Shown;
-use crate::board::Board;
 use crate::fault::RunFault;
 use crate::fault_lines::{FAILED, Screen, print_fault_of, print_no_file};
-use crate::figures::Stage;
 use crate::notes::{note_files, note_number, note_solve};
-use crate::progress::show_progress;
-use crate::statistics::print_statistics;
 use crate::threaded::run;
 use crate::verdict::Verdict;
 use crate::watched::{Effort, run_counted};
 use cubes::OpenGate;
+use statistics::{Board, Stage, print_statistics, show_progress};
 use std::alloc::Global;
 use std::fs::{Files, OpenFile};
 use std::io::{Read, Write};

@@ -4,13 +4,13 @@ ghost use Rattle.cubesat.specs.Answer.{IsRightAnswer};
 ghost use Rattle.cubesat.specs.Run.{RunSays};
 
 use crate::fault::RunFault;
-use crate::observer::{Observer, Unobserved};
 use crate::output::write_text;
 use crate::proof_output::write_proof;
 use crate::runs::output_of;
 use crate::verdict::Verdict;
 use cnf::read_from;
 use cubes::{Gate, solve_with};
+use statistics::{Observer, Unobserved};
 use std::alloc::Global;
 use std::io::{Read, Write};
 use std::sync::Wait;

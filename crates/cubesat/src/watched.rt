@@ -1,14 +1,12 @@
 //! Runs that are watched: they write what `run` and `check_run` write.
 ghost use Rattle.std.specs.Prelude.{◌≤◌};
 
-use crate::board::Board;
 use crate::check::check_run;
 use crate::checked_line::Checked;
-use crate::counted::{AnswerWriter, CountedReader, CountedWriter};
 use crate::fault::RunFault;
 use crate::threaded::run_observed;
 use crate::verdict::Verdict;
-use crate::watch::Watch;
+use statistics::{AnswerWriter, Board, CountedReader, CountedWriter, Watch};
 use std::alloc::Global;
 use std::fs::Files;
 use std::io::{Read, Write};

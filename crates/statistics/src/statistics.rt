@@ -59,7 +59,7 @@ fn print_hands<E: Write>(out: &mut E, figures: &Figures, hands: usize) {
 }
 
 /// Prints what was counted in a run of so many hands. A failed write changes nothing.
-pub(crate) fn print_statistics<E: Write>(out: &mut E, figures: &Figures, hands: usize) {
+pub fn print_statistics<E: Write>(out: &mut E, figures: &Figures, hands: usize) {
     let Some(formula) = figures.formula else {
         return;
     };

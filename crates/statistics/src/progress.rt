@@ -64,7 +64,7 @@ pub fn print_line<E: Write>(out: &mut E, manner: Manner, seconds: u64, figures: 
 }
 
 /// Shows how far a run is until it ends. On a terminal nothing is left of it.
-pub(crate) fn show_progress<R: Wait + Clock, E: Write>(
+pub fn show_progress<R: Wait + Clock, E: Write>(
     rt: &R,
     board: &Board,
     out: &mut E,

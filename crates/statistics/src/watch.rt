@@ -14,9 +14,9 @@ use std::time::Clock;
 
 /// Counts a run on a board.
 #[derive(Drop)]
-pub(crate) struct Watch<'a, R> {
-    pub(crate) rt: &'a R,
-    pub(crate) board: &'a Board,
+pub struct Watch<'a, R> {
+    pub rt: &'a R,
+    pub board: &'a Board,
 }
 
 impl<R: Files + Clock> Watch<'_, R> {

@@ -4,7 +4,7 @@ use std::io;
 use std::io::{Read, Write};
 
 /// Told of what a reader gave or a writer took.
-pub(crate) trait Counter {
+pub trait Counter {
     /// A piece of the proof was read or written.
     fn went_by(&self, piece: &[u8]);
 
@@ -14,9 +14,9 @@ pub(crate) trait Counter {
 
 /// Reads a proof from another reader.
 #[derive(Drop)]
-pub(crate) struct CountedReader<'a, I, C> {
-    pub(crate) inner: I,
-    pub(crate) counter: &'a C,
+pub struct CountedReader<'a, I, C> {
+    pub inner: I,
+    pub counter: &'a C,
 }
 
 impl<I: Read, C: Counter> Read for CountedReader<'_, I, C> {
@@ -31,9 +31,9 @@ impl<I: Read, C: Counter> Read for CountedReader<'_, I, C> {
 
 /// Writes a proof to another writer.
 #[derive(Drop)]
-pub(crate) struct CountedWriter<'a, I, C> {
-    pub(crate) inner: I,
-    pub(crate) counter: &'a C,
+pub struct CountedWriter<'a, I, C> {
+    pub inner: I,
+    pub counter: &'a C,
 }
 
 impl<I: Write, C: Counter> Write for CountedWriter<'_, I, C> {
@@ -52,9 +52,9 @@ impl<I: Write, C: Counter> Write for CountedWriter<'_, I, C> {
 
 /// Writes an answer to another writer.
 #[derive(Drop)]
-pub(crate) struct AnswerWriter<'a, I, C> {
-    pub(crate) inner: I,
-    pub(crate) counter: &'a C,
+pub struct AnswerWriter<'a, I, C> {
+    pub inner: I,
+    pub counter: &'a C,
 }
 
 impl<I: Write, C: Counter> Write for AnswerWriter<'_, I, C> {

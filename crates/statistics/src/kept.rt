@@ -8,13 +8,14 @@ const KEPT: usize = 16;
 
 /// The beginning of a text.
 #[derive(Clone, Copy)]
-pub(crate) struct Beginning {
+pub struct Beginning {
     bytes: [u8; KEPT],
     len: usize,
 }
 
 impl Beginning {
-    pub(crate) fn none() -> Beginning {
+    /// Nothing is kept yet.
+    pub fn none() -> Beginning {
         Beginning {
             bytes: [0; KEPT],
             len: 0,
@@ -31,7 +32,7 @@ impl Beginning {
     }
 
     /// The number behind `refused`.
-    pub(crate) fn refusal(&self) -> Option<u32> {
+    pub fn refusal(&self) -> Option<u32> {
         let len = self.len.min(KEPT);
         let text = str::from_utf8(&self.bytes[..len]).ok()?;
         let rest = text.strip_prefix("refused ")?;
@@ -41,9 +42,9 @@ impl Beginning {
 
 /// Writes to another writer, and keeps the beginning of what that took.
 #[derive(Drop)]
-pub(crate) struct KeptWriter<I> {
-    pub(crate) inner: I,
-    pub(crate) beginning: Beginning,
+pub struct KeptWriter<I> {
+    pub inner: I,
+    pub beginning: Beginning,
 }
 
 impl<I: Write> Write for KeptWriter<I> {

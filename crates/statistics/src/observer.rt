@@ -4,7 +4,7 @@ use cnf::Formula;
 use cubes::Tree;
 
 /// Told of each stage of a run as it ends. What an observer does changes nothing that the run writes.
-pub(crate) trait Observer {
+pub trait Observer {
     /// The formula is read.
     fn read(&self, formula: &Formula);
 
@@ -20,7 +20,7 @@ pub(crate) trait Observer {
 
 /// The observer that does nothing.
 #[derive(Clone, Copy)]
-pub(crate) struct Unobserved;
+pub struct Unobserved;
 
 impl Observer for Unobserved {
     fn read(&self, _formula: &Formula) {}

@@ -10,14 +10,14 @@ const LOOK: u64 = 1;
 
 /// The figures, and when the run began.
 #[derive(Drop)]
-pub(crate) struct Board {
+pub struct Board {
     figures: Mutex<Figures>,
     since: Option<Instant>,
 }
 
 impl Board {
     /// A run begins.
-    pub(crate) fn new<R: Clock>(rt: &R, stage: Stage) -> Board {
+    pub fn new<R: Clock>(rt: &R, stage: Stage) -> Board {
         Board {
             figures: Mutex::new(Figures::none(stage)),
             since: Instant::now(rt).ok(),
@@ -43,12 +43,12 @@ impl Board {
     }
 
     /// What is counted so far.
-    pub(crate) fn look<R: Wait>(&self, rt: &R) -> Figures {
+    pub fn look<R: Wait>(&self, rt: &R) -> Figures {
         *self.figures.lock(rt)
     }
 
     /// Ends the showing of progress, and waits until no line of it stands on the terminal. One stands there only where its thread runs.
-    pub(crate) fn end_progress<R: Wait + Clock>(&self, rt: &R) {
+    pub fn end_progress<R: Wait + Clock>(&self, rt: &R) {
         self.figures.lock(rt).end_progress();
         for _ in rt.forever() {
             let figures = self.look(rt);

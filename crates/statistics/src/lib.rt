@@ -1,0 +1,23 @@
+//! What is counted in a run, and how it is shown: the figures of `--stats` and `--progress`.
+#![tactic(auto)]
+
+mod board;
+mod counted;
+mod cube_counts;
+mod figures;
+mod kept;
+mod observer;
+mod peak;
+mod progress;
+mod statistics;
+mod watch;
+
+pub use board::Board;
+pub use counted::{AnswerWriter, CountedReader, CountedWriter, Counter};
+pub use cube_counts::CubeCounts;
+pub use figures::{Figures, Stage, TextSize};
+pub use kept::{Beginning, KeptWriter};
+pub use observer::{Observer, Unobserved};
+pub use progress::{Manner, print_line, show_progress};
+pub use statistics::print_statistics;
+pub use watch::Watch;
