@@ -45,6 +45,21 @@ fn learnt(alloc: Global, kernel: &mut Kernel, conflict: u64) -> Result<Option<Le
     }
 }
 
+/// What the conflict of this number teaches, if it follows this number of decisions.
+fn learnt_after(
+    alloc: Global,
+    kernel: &mut Kernel,
+    decisions: u32,
+    conflict: u64,
+) -> Result<Option<Learnt>, AllocError> {
+    for _ in 0..decisions {
+        if !decide(kernel)? {
+            return Ok(None);
+        }
+    }
+    learnt(alloc, kernel, conflict)
+}
+
 /// What the conflict teaches that follows the decisions of this number of variables in a cube.
 pub fn taught(
     alloc: Global,
@@ -56,12 +71,7 @@ pub fn taught(
     let formula = read_formula(alloc, text)?;
     let cube = cube_of(alloc, formula.vars(), cube)?;
     let mut kernel = Kernel::open(alloc, &formula, &cube)?;
-    for _ in 0..decisions {
-        if !decide(&mut kernel)? {
-            return Ok(None);
-        }
-    }
-    Ok(learnt(alloc, &mut kernel, conflict)?)
+    Ok(learnt_after(alloc, &mut kernel, decisions, conflict)?)
 }
 
 /// The outcome of a cube.

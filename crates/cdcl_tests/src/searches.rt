@@ -139,55 +139,167 @@ fn one_conflict_at_the_root(rt: HostRuntime) -> Result<(), Fail> {
     Ok(())
 }
 
-/// Whether the halves of the root, all eight clauses over three variables, come to what they come to by themselves, with two conflicts.
-fn halves_are_refuted(
+/// What a cube is to come to.
+#[derive(Clone, Copy)]
+enum Wanted<'a> {
+    /// Nothing but the variable to split on, which is the first.
+    Exhausted,
+    Model(&'a [bool]),
+    /// One line, without a clause, from these hints.
+    From(&'a [u64]),
+    /// Two lines: a clause from its hints, and the empty clause from the others.
+    By(&'a [i32], &'a [u64], &'a [u64]),
+    /// Four lines, the last of them the empty clause from these hints.
+    ByFour(&'a [u64]),
+}
+
+/// A cube, with the root's budget, and what it is to come to.
+#[derive(Clone, Copy)]
+struct Turn<'a> {
+    cube: &'a [i32],
+    budget: u32,
+    wanted: Wanted<'a>,
+}
+
+fn is_refuted_by_four(outcome: Outcome, last: &[u64]) -> bool {
+    match outcome {
+        Outcome::Refuted(refutation) => refutation.lines.len() == 4
+            && has_line(&refutation, 3, &[], last),
+        _ => false,
+    }
+}
+
+fn is_wanted(outcome: Outcome, wanted: Wanted) -> bool {
+    match wanted {
+        Wanted::Exhausted => matches!(outcome, Outcome::Exhausted(1)),
+        Wanted::Model(values) => is_model(outcome, values),
+        Wanted::From(hints) => is_refuted_from(outcome, hints),
+        Wanted::By(clause, hints, last) => is_refuted_by(outcome, clause, hints, last),
+        Wanted::ByFour(last) => is_refuted_by_four(outcome, last),
+    }
+}
+
+/// Whether a cube comes to what is wanted, by a solver of the formula, which stays one.
+fn comes(
     alloc: Global,
     formula: &Formula,
     solver: &mut Solver,
+    turn: &Turn,
 ) -> Result<bool, AllocError>
     requires { solver.old.formula ≡ formula.now }
     ensures { solver.new.formula ≡ formula.now }
 {
-    let left = solver.solve(&cube_of(alloc, formula.vars(), &[-1])?, 2)?;
-    let right = solver.solve(&cube_of(alloc, formula.vars(), &[1])?, 2)?;
-    Ok(
-        is_refuted_by(left, &[2], &[1, 2], &[9, 3, 4])
-            && is_refuted_by(right, &[2], &[5, 6], &[9, 7, 8]),
-    )
+    if turn.budget < 1 || turn.budget > 100_000 {
+        return Ok(false);
+    }
+    let cube = cube_of(alloc, formula.vars(), turn.cube)?;
+    let outcome = solver.solve(&cube, turn.budget)?;
+    Ok(is_wanted(outcome, turn.wanted))
 }
+
+/// Whether a solver's cubes, one after the other, come to what is wanted.
+fn all_come(
+    alloc: Global,
+    formula: &Formula,
+    solver: &mut Solver,
+    turns: &[Turn],
+) -> Result<bool, AllocError>
+    requires { solver.old.formula ≡ formula.now }
+{
+    'turns: for turn in turns {
+        if !comes(alloc, formula, solver, turn)? {
+            return Ok(false);
+        }
+    }
+    Ok(true)
+}
+
+/// Whether the cubes of one solver of a text come to what is wanted.
+fn come_in_turn(alloc: Global, text: &[u8], turns: &[Turn]) -> Result<bool, Fail> {
+    let formula = read_formula(alloc, text)?;
+    let mut solver = Solver::open(alloc, &formula)?;
+    Ok(all_come(alloc, &formula, &mut solver, turns)?)
+}
+
+// the halves of the root, all eight clauses over three variables, come to what they come to by themselves, with two conflicts
+const LEFT_HALF: Turn = Turn {
+    cube: &[-1],
+    budget: 2,
+    wanted: Wanted::By(&[2], &[1, 2], &[9, 3, 4]),
+};
+
+const RIGHT_HALF: Turn = Turn {
+    cube: &[1],
+    budget: 2,
+    wanted: Wanted::By(&[2], &[5, 6], &[9, 7, 8]),
+};
+
+const EXHAUSTED_ROOT: Turn = Turn {
+    cube: &[],
+    budget: 2,
+    wanted: Wanted::Exhausted,
+};
+
+const REFUTED_ROOT: Turn = Turn {
+    cube: &[],
+    budget: 4,
+    wanted: Wanted::ByFour(&[10, 11, 7, 8]),
+};
+
+const REFUTED_ROOT_WITH_MORE: Turn = Turn {
+    cube: &[],
+    budget: 1000,
+    wanted: Wanted::ByFour(&[10, 11, 7, 8]),
+};
+
+const TURNS: [Turn; 9] = [
+    LEFT_HALF,
+    RIGHT_HALF,
+    EXHAUSTED_ROOT,
+    LEFT_HALF,
+    RIGHT_HALF,
+    REFUTED_ROOT,
+    REFUTED_ROOT_WITH_MORE,
+    LEFT_HALF,
+    RIGHT_HALF,
+];
 
 #[test]
 fn one_solver_for_all_cubes(rt: HostRuntime) -> Result<(), Fail> {
-    let formula = read_formula(rt.alloc(), EIGHT)?;
-    let root = cube_of(rt.alloc(), formula.vars(), &[])?;
-    let mut solver = Solver::open(rt.alloc(), &formula)?;
-    assert!(rt; halves_are_refuted(rt.alloc(), &formula, &mut solver)?);
-    assert!(rt; matches!(solver.solve(&root, 2)?, Outcome::Exhausted(1)));
-    assert!(rt; halves_are_refuted(rt.alloc(), &formula, &mut solver)?);
-    for budget in [4, 1000] {
-        let Outcome::Refuted(refutation) = solver.solve(&root, budget)? else {
-            assert!(rt; false);
-            return Ok(());
-        };
-        assert_eq!(rt; refutation.lines.len(), 4);
-        assert!(rt; has_line(&refutation, 3, &[], &[10, 11, 7, 8]));
-    }
-    assert!(rt; halves_are_refuted(rt.alloc(), &formula, &mut solver)?);
+    assert!(rt; come_in_turn(rt.alloc(), EIGHT, &TURNS)?);
     Ok(())
 }
 
+const REFUTED_QUARTER: Turn = Turn {
+    cube: &[-1, -2],
+    budget: 1,
+    wanted: Wanted::From(&[1, 2]),
+};
+
+const SATISFIED_HALF: Turn = Turn {
+    cube: &[-1],
+    budget: 1,
+    wanted: Wanted::Model(&[false, true, false]),
+};
+
+const ROOT_OF_TWO_MODELS: Turn = Turn {
+    cube: &[],
+    budget: 1,
+    wanted: Wanted::Exhausted,
+};
+
+const TURNS_OF_TWO_MODELS: [Turn; 6] = [
+    REFUTED_QUARTER,
+    SATISFIED_HALF,
+    ROOT_OF_TWO_MODELS,
+    REFUTED_QUARTER,
+    SATISFIED_HALF,
+    ROOT_OF_TWO_MODELS,
+];
+
 #[test]
 fn models_in_turn(rt: HostRuntime) -> Result<(), Fail> {
-    let formula = read_formula(rt.alloc(), TWO_MODELS)?;
-    let mut solver = Solver::open(rt.alloc(), &formula)?;
-    for _ in 0..2 {
-        let refuted = solver.solve(&cube_of(rt.alloc(), formula.vars(), &[-1, -2])?, 1)?;
-        assert!(rt; is_refuted_from(refuted, &[1, 2]));
-        let model = solver.solve(&cube_of(rt.alloc(), formula.vars(), &[-1])?, 1)?;
-        assert!(rt; is_model(model, &[false, true, false]));
-        let exhausted = solver.solve(&cube_of(rt.alloc(), formula.vars(), &[])?, 1)?;
-        assert!(rt; matches!(exhausted, Outcome::Exhausted(1)));
-    }
+    assert!(rt; come_in_turn(rt.alloc(), TWO_MODELS, &TURNS_OF_TWO_MODELS)?);
     Ok(())
 }
 
