@@ -1,87 +1,101 @@
 //! Each call once, and pools that are closed at once.
 use crate::cubes::{cube_of, is_cube};
 use crate::pairs::{close_one, close_two, open_one, open_two};
-use kernel::Cube;
-use pool::{PoolRefusal, Taken, open};
+use crate::rows::{Call, all_answer, both_answer};
+use pool::{Closing, PoolRefusal, open};
+use std::alloc::Global;
 use std::test::*;
+
+/// The closing of a pool of one hand, after these calls, if they answer as they are to.
+fn one_closed(alloc: Global, root: &[i32], calls: &[Call]) -> Result<Option<Closing>, Fail> {
+    let (pool, mut hand) = open_one(alloc, 3, cube_of(alloc, 3, root)?)?;
+    let as_opened = (hand.number(), hand.hands(), hand.vars()) == (0, 1, 3);
+    if !all_answer(alloc, &mut hand, calls)? || !as_opened {
+        return Ok(None);
+    }
+    Ok(Some(close_one(alloc, pool, hand)?))
+}
+
+/// The closing of a pool of two hands, after these calls, if they answer as they are to.
+fn two_closed(
+    alloc: Global,
+    vars: u32,
+    root: &[i32],
+    rows: &[(usize, Call)],
+) -> Result<Option<Closing>, Fail> {
+    let (pool, mut one, mut two) = open_two(alloc, vars, cube_of(alloc, vars, root)?)?;
+    let as_opened = (one.number(), two.number()) == (0, 1);
+    if !both_answer(alloc, &mut one, &mut two, rows)? || !as_opened {
+        return Ok(None);
+    }
+    Ok(Some(close_two(alloc, pool, one, two)?))
+}
+
+/// Whether these cubes are left, in this order.
+fn leaves(closing: &Closing, cubes: &[&[i32]]) -> bool {
+    if closing.left.len() != cubes.len() {
+        return false;
+    }
+    for (cube, numbers) in closing.left.iter().zip(cubes) {
+        if !is_cube(cube, numbers) {
+            return false;
+        }
+    }
+    true
+}
+
+const ONE_HAND: [Call; 3] = [Call::Take(&[]), Call::TakeNone, Call::Put(&[-1, 2])];
 
 #[test]
 fn one_hand(rt: HostRuntime) -> Result<(), Fail> {
-    let alloc = rt.alloc();
-    let (pool, mut hand) = open_one(alloc, 3, cube_of(alloc, 3, &[])?)?;
-    assert_eq!(rt; hand.number(), 0);
-    assert_eq!(rt; hand.hands(), 1);
-    assert_eq!(rt; hand.vars(), 3);
-    let Some(root) = hand.take() else {
-        return Err("the root is there".into());
-    };
-    assert!(rt; is_cube(&root, &[]));
-    assert!(rt; hand.take().is_none());
-    if let Err(cube) = hand.put(cube_of(alloc, 3, &[-1, 2])?) {
-        assert!(rt; is_cube(&cube, &[-1, 2]));
-        return Err("out of memory".into());
-    }
-    let closing = close_one(alloc, pool, hand)?;
-    assert_eq!(rt; closing.left.len(), 1);
-    assert!(rt; is_cube(&closing.left[0], &[-1, 2]));
-    assert_eq!(rt; closing.least, None);
-    assert_eq!(rt; closing.undone, 1);
+    let closing = one_closed(rt.alloc(), &[], &ONE_HAND)?.ok_or("another answer")?;
+    assert!(rt; leaves(&closing, &[&[-1, 2]]));
+    assert_eq!(rt; (closing.least, closing.undone), (None, 1));
     Ok(())
 }
+
+const WORDS: [(usize, Call); 15] = [
+    (0, Call::Look(None)),
+    (1, Call::Offer(4_294_967_295)),
+    (0, Call::Look(Some(4_294_967_295))),
+    (0, Call::Offer(0)),
+    (1, Call::Offer(7)),
+    (1, Call::Look(Some(0))),
+    (1, Call::StillOpen(1)),
+    (0, Call::More),
+    (1, Call::StillOpen(2)),
+    (1, Call::Less),
+    (1, Call::Less),
+    (0, Call::StillOpen(0)),
+    (0, Call::Halted(false)),
+    (1, Call::Halt),
+    (0, Call::Halted(true)),
+];
 
 #[test]
 fn words(rt: HostRuntime) -> Result<(), Fail> {
-    let alloc = rt.alloc();
-    let (pool, mut one, mut two) = open_two(alloc, 0, cube_of(alloc, 0, &[])?)?;
-    assert_eq!(rt; one.look(), None);
-    two.offer(4_294_967_295);
-    assert_eq!(rt; one.look(), Some(4_294_967_295));
-    one.offer(0);
-    two.offer(7);
-    assert_eq!(rt; two.look(), Some(0));
-    assert_eq!(rt; two.still_open(), 1);
-    one.more();
-    assert_eq!(rt; two.still_open(), 2);
-    two.less();
-    two.less();
-    assert_eq!(rt; one.still_open(), 0);
-    assert!(rt; !one.halted());
-    two.halt();
-    assert!(rt; one.halted());
-    let closing = close_two(alloc, pool, one, two)?;
-    assert_eq!(rt; closing.left.len(), 1);
-    assert_eq!(rt; closing.least, Some(0));
-    assert_eq!(rt; closing.undone, 0);
+    let closing = two_closed(rt.alloc(), 0, &[], &WORDS)?.ok_or("another answer")?;
+    assert_eq!(rt;
+        (closing.left.len(), closing.least, closing.undone),
+        (1, Some(0), 0)
+    );
     Ok(())
 }
 
+// with no other thread each steal from a deque that isn't empty succeeds
+const STEALS: [(usize, Call); 6] = [
+    (1, Call::Steal(0, &[1])),
+    (1, Call::StealNone(0)),
+    (1, Call::Put(&[1, -2])),
+    (1, Call::Put(&[1, 2])),
+    (0, Call::Put(&[-1])),
+    (0, Call::Steal(1, &[1, -2])),
+];
+
 #[test]
 fn steals(rt: HostRuntime) -> Result<(), Fail> {
-    let alloc = rt.alloc();
-    let (pool, mut one, mut two) = open_two(alloc, 2, cube_of(alloc, 2, &[1])?)?;
-    assert_eq!(rt; two.number(), 1);
-    let Taken::Got(cube) = two.steal(0) else {
-        return Err("with no other thread a steal succeeds".into());
-    };
-    assert!(rt; is_cube(&cube, &[1]));
-    let is_empty = matches!(two.steal(0), Taken::Empty);
-    assert!(rt; is_empty);
-    if two.put(cube_of(alloc, 2, &[1, -2])?).is_err()
-        || two.put(cube_of(alloc, 2, &[1, 2])?).is_err()
-    {
-        return Err("out of memory".into());
-    }
-    if one.put(cube_of(alloc, 2, &[-1])?).is_err() {
-        return Err("out of memory".into());
-    }
-    let Taken::Got(cube) = one.steal(1) else {
-        return Err("with no other thread a steal succeeds".into());
-    };
-    assert!(rt; is_cube(&cube, &[1, -2]));
-    let closing = close_two(alloc, pool, one, two)?;
-    assert_eq!(rt; closing.left.len(), 2);
-    assert!(rt; is_cube(&closing.left[0], &[-1]));
-    assert!(rt; is_cube(&closing.left[1], &[1, 2]));
+    let closing = two_closed(rt.alloc(), 2, &[1], &STEALS)?.ok_or("another answer")?;
+    assert!(rt; leaves(&closing, &[&[-1], &[1, 2]]));
     Ok(())
 }
 

@@ -122,17 +122,50 @@ fn random_calls(alloc: Global, mut hand: Hand, mut diary: Diary) -> Home
     Home { hand, diary }
 }
 
+/// A hand makes its calls in a thread of its own. It has this number.
 fn start(
     rt: &impl Threads,
     alloc: Global,
     hand: Hand,
-    diary: Diary,
+    number: u32,
 ) -> Result<PromisedHandle<Home, SameAs>, AllocError>
     requires { hand.vars ≡ 18 }
     ensures { IfOk result (λ h. h.promise.0.value ≡ hand) }
 {
+    let diary = Diary::new(alloc, number, TURNS)?;
     let promise = SameAs(Snapshot::of(&hand));
     Ok(thread::spawn_with(rt, promise, move || random_calls(alloc, hand, diary))?)
+}
+
+/// The last two of four hands make their calls at once, the first of them in a thread of its own.
+fn last_two_at_once(
+    rt: &impl Threads,
+    alloc: Global,
+    third: Hand,
+    last: Hand,
+) -> Result<(Home, Home), AllocError>
+    requires { (third.vars ≡ 18) × (last.vars ≡ 18) }
+    ensures { IfOk result (λ r. SameHand third r.0.hand × SameHand last r.1.hand) }
+{
+    let third = start(rt, alloc, third, 2)?;
+    let last = random_calls(alloc, last, Diary::new(alloc, 3, TURNS)?);
+    Ok((third.join(rt), last))
+}
+
+/// The last three of four hands make their calls at once, the first two of them in threads of their own.
+fn last_three_at_once(
+    rt: &impl Threads,
+    alloc: Global,
+    second: Hand,
+    third: Hand,
+    last: Hand,
+) -> Result<(Home, Home, Home), AllocError>
+    requires { (second.vars ≡ 18) × (third.vars ≡ 18) × (last.vars ≡ 18) }
+    ensures { IfOk result (λ r. SameHand second r.0.hand × SameHand third r.1.hand × SameHand last r.2.hand) }
+{
+    let second = start(rt, alloc, second, 1)?;
+    let (third, last) = last_two_at_once(rt, alloc, third, last)?;
+    Ok((second.join(rt), third, last))
 }
 
 /// Four hands make their calls at once, the first three in threads of their own.
@@ -147,11 +180,9 @@ fn at_once(
     requires { (first.vars ≡ 18) × (second.vars ≡ 18) × (third.vars ≡ 18) × (last.vars ≡ 18) }
     ensures { IfOk result (λ r. SameHand first r.0.hand × SameHand second r.1.hand × SameHand third r.2.hand × SameHand last r.3.hand) }
 {
-    let first = start(rt, alloc, first, Diary::new(alloc, 0, TURNS)?)?;
-    let second = start(rt, alloc, second, Diary::new(alloc, 1, TURNS)?)?;
-    let third = start(rt, alloc, third, Diary::new(alloc, 2, TURNS)?)?;
-    let last = random_calls(alloc, last, Diary::new(alloc, 3, TURNS)?);
-    Ok((first.join(rt), second.join(rt), third.join(rt), last))
+    let first = start(rt, alloc, first, 0)?;
+    let (second, third, last) = last_three_at_once(rt, alloc, second, third, last)?;
+    Ok((first.join(rt), second, third, last))
 }
 
 fn hands_of(

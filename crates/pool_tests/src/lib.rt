@@ -12,4 +12,6 @@ mod diary;
 #[cfg(test)]
 mod pairs;
 #[cfg(test)]
+mod rows;
+#[cfg(test)]
 mod threads;

@@ -6,8 +6,9 @@ ghost use Rattle.pool.specs.Hands.{SameHand, adds};
 use crate::cubes::{cube_of, is_cube};
 use crate::diary::{LessOf, SameAs, Visit};
 use crate::pairs::{close_two, open_two};
+use crate::rows::{Call, all_answer, both_answer};
 use pool::{Hand, Taken};
-use std::alloc::AllocError;
+use std::alloc::{AllocError, Global};
 use std::snapshot::Snapshot;
 use std::sync::Wait;
 use std::test::*;
@@ -96,30 +97,59 @@ fn both_offer<R: Threads + Wait + Sync>(
     )
 }
 
+const BEFORE: [Call; 3] = [Call::Take(&[]), Call::Put(&[-1]), Call::Put(&[1])];
+
+const BEHIND: [(usize, Call); 6] = [
+    (0, Call::Take(&[1])),
+    (0, Call::TakeNone),
+    (1, Call::TakeNone),
+    (1, Call::Offer(5)),
+    (0, Call::Offer(9)),
+    (0, Call::Look(Some(5))),
+];
+
+/// Whether the other hand steals the cube of these numbers in a thread; and that hand again.
+fn thief_back(rt: &impl Threads, two: Hand, numbers: &[i32]) -> Result<(Hand, bool), AllocError>
+    requires other { two.number ≡ 1 }
+    requires hand { two.hands ≡ 2 }
+    ensures { IfOk result (λ r. SameHand two r.0) }
+{
+    let child = thief(rt, two, 1 << 24)?;
+    let visit = child.join(rt);
+    let Visit { hand, got } = visit;
+    let is_wanted = got.is_some_and(|cube| is_cube(&cube, numbers));
+    Ok((hand, is_wanted))
+}
+
+/// The first hand puts two cubes, and the second one steals the first of them; and whether all calls answer as they are to.
+fn theft(
+    rt: &impl Threads,
+    alloc: Global,
+    one: &mut Hand,
+    two: Hand,
+) -> Result<(Hand, bool), AllocError>
+    requires other { two.number ≡ 1 }
+    requires hand { two.hands ≡ 2 }
+    ensures one { SameHand one.old one.new }
+    ensures two { IfOk result (λ r. SameHand two r.0) }
+{
+    let is_ready = all_answer(alloc, one, &BEFORE)?;
+    let (mut two, is_first) = thief_back(rt, two, &[-1])?;
+    let is_right = both_answer(alloc, one, &mut two, &BEHIND)?;
+    Ok((two, is_ready && is_first && is_right))
+}
+
 #[test]
 fn a_cube_is_stolen(rt: HostRuntime) -> Result<(), Fail> {
     let alloc = rt.alloc();
     let (pool, mut one, two) = open_two(alloc, 1, cube_of(alloc, 1, &[])?)?;
-    assert!(rt; one.take().is_some());
-    if one.put(cube_of(alloc, 1, &[-1])?).is_err() || one.put(cube_of(alloc, 1, &[1])?).is_err() {
-        return Err("out of memory".into());
-    }
-    let child = thief(&rt, two, 1 << 24)?;
-    let visit = child.join(&rt);
-    let Visit { hand: mut two, got } = visit;
-    let is_first = got.is_some_and(|cube| is_cube(&cube, &[-1]));
-    assert!(rt; is_first);
-    let is_second = one.take().is_some_and(|cube| is_cube(&cube, &[1]));
-    assert!(rt; is_second);
-    assert!(rt; one.take().is_none());
-    assert!(rt; two.take().is_none());
-    two.offer(5);
-    one.offer(9);
-    assert_eq!(rt; one.look(), Some(5));
+    let (two, is_as_wanted) = theft(&rt, alloc, &mut one, two)?;
+    assert!(rt; is_as_wanted);
     let closing = close_two(alloc, pool, one, two)?;
-    assert!(rt; closing.left.is_empty());
-    assert_eq!(rt; closing.least, Some(5));
-    assert_eq!(rt; closing.undone, 1);
+    assert_eq!(rt;
+        (closing.left.len(), closing.least, closing.undone),
+        (0, Some(5), 1)
+    );
     Ok(())
 }
 
