@@ -4,8 +4,7 @@
 They are equal where no input makes an output bit differ: the formula that asks for such an input has no model, and its proof is checked. With
 `--broken` one gate of the second circuit is wrong, and the input that shows it is printed.
 """
-import sys
-from solver import Formula, solve
+from solver import Formula, arguments, solve
 
 BITS = 4
 
@@ -46,15 +45,15 @@ def lookahead(circuit, a, b, is_broken):
 
 
 def main():
-    is_broken = sys.argv[1:] == ["--broken"]
-    circuit = Circuit()
+    parser = arguments(__doc__)
+    parser.add_argument("--broken", action="store_true", help="make one gate of the second circuit wrong")
+    is_broken, circuit = parser.parse_args().broken, Circuit()
     a = [circuit.var("a", bit) for bit in range(BITS)]
     b = [circuit.var("b", bit) for bit in range(BITS)]
     pairs = zip(ripple(circuit, a, b), lookahead(circuit, a, b, is_broken))
     circuit.add(*(circuit.gate("xor", one, other) for one, other in pairs))
-    true = solve(circuit, is_checked=True)
+    true = solve(circuit, refuted="the circuits are equal")
     if true is None:
-        print("the circuits are equal")
         return
     left, right = (sum(2**bit for bit in range(BITS) if (name, bit) in true) for name in "ab")
     print(f"the circuits differ at {left} + {right}")

@@ -1,11 +1,8 @@
 #!/usr/bin/env python3
-"""Colours a map of neighbouring cells with three colours, so that no two neighbours have the same one, and writes it as an SVG.
-
-usage: colouring.py > map.svg
-"""
+"""Colours a map of neighbouring cells with three colours, so that no two neighbours have the same one, and writes it to standard output as an SVG."""
 import math
 import random
-from solver import Formula, solve
+from solver import Formula, arguments, solve
 
 SIZE, CELLS, COLOURS = 600, 60, ["#d95f02", "#1b9e77", "#7570b3"]
 
@@ -39,6 +36,7 @@ def formula_of(edges):
 
 
 def main():
+    arguments(__doc__).parse_args()
     points, edges = graph()
     true = solve(formula_of(edges))
     if true is None:

@@ -3,7 +3,7 @@
 
 The least number of steps is looked for from one on. That fewer don't do has its proof, which is checked.
 """
-from solver import Formula, solve
+from solver import Formula, arguments, solve
 
 GRID = [
     "A.#....",
@@ -55,8 +55,9 @@ def shown(true, time):
 
 
 def main():
+    arguments(__doc__).parse_args()
     steps = 1
-    while (true := solve(formula_of(steps), is_checked=True)) is None:
+    while (true := solve(formula_of(steps), refuted=f"no plan of {steps} {'step' if steps == 1 else 'steps'}")) is None:
         steps += 1
     print(f"{steps} steps")
     for begin in range(0, steps + 1, 6):

@@ -1,4 +1,5 @@
 """What the examples share: variables with names, clauses, and a call of `cubesat`."""
+import argparse
 import itertools
 import os
 import subprocess
@@ -35,8 +36,14 @@ class Formula:
         return "\n".join(lines) + "\n"
 
 
-def solve(formula, *, is_checked=False):
-    """The names that are true in the first model, or None where there is none; the proof is checked on request."""
+def arguments(text):
+    """The command line of a script that says by this text what it does; `--help` prints it."""
+    return argparse.ArgumentParser(description=text, formatter_class=argparse.RawDescriptionHelpFormatter)
+
+
+def solve(formula, *, refuted=None):
+    """The names that are true in the first model, or None where there is none. What that means, where it is given, is printed once the proof has been
+    checked."""
     with tempfile.TemporaryDirectory() as folder:
         file, proof = f"{folder}/formula.cnf", f"{folder}/proof.lrat"
         with open(file, "w") as it:
@@ -45,8 +52,9 @@ def solve(formula, *, is_checked=False):
         if ran.returncode not in (10, 20):
             sys.exit(ran.returncode)
         if ran.returncode == 20:
-            if is_checked:
-                subprocess.run([CUBESAT, "check", file, proof], check=True)
+            if refuted:
+                checked = subprocess.run([CUBESAT, "check", file, proof], check=True, stdout=subprocess.PIPE, text=True)
+                print(f"{refuted}: proof {checked.stdout.strip()}")
             return None
     lines = [line[2:].split() for line in ran.stdout.splitlines() if line.startswith("v ")]
     true = {int(word) for line in lines for word in line if int(word) > 0}

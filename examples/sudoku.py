@@ -1,10 +1,6 @@
 #!/usr/bin/env python3
-"""Solves a Sudoku and prints it.
-
-usage: sudoku.py [PUZZLE]      PUZZLE: 81 characters, row by row; a digit is given, anything else is free
-"""
-import sys
-from solver import Formula, solve
+"""Solves a Sudoku and prints it."""
+from solver import Formula, arguments, solve
 
 PUZZLE = "8..........36......7..9.2...5...7.......457.....1...3...1....68..85...1..9....4.."
 NINE = range(9)
@@ -38,9 +34,11 @@ def shown(true):
 
 
 def main():
-    puzzle = sys.argv[1] if len(sys.argv) > 1 else PUZZLE
+    parser = arguments(__doc__)
+    parser.add_argument("puzzle", nargs="?", default=PUZZLE, help="81 characters, row by row: a digit is given, anything else is free")
+    puzzle = parser.parse_args().puzzle
     if len(puzzle) != 81:
-        sys.exit(__doc__)
+        parser.error(f"the puzzle has {len(puzzle)} characters, and not 81")
     true = solve(formula_of(puzzle))
     print("no solution" if true is None else "\n".join(shown(true)))
 

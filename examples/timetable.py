@@ -1,6 +1,6 @@
 #!/usr/bin/env python3
 """Puts lessons into hours and rooms: no class, teacher or room is asked for twice at once, and some teachers are away at some hours."""
-from solver import Formula, solve
+from solver import Formula, arguments, solve
 
 HOURS = ["Mon 8", "Mon 9", "Mon 10", "Tue 8", "Tue 9", "Tue 10"]
 ROOMS = ["lab", "hall", "attic"]
@@ -36,6 +36,7 @@ def formula_of():
 
 
 def main():
+    arguments(__doc__).parse_args()
     true = solve(formula_of())
     if true is None:
         print("no timetable")
