@@ -180,7 +180,7 @@ reason-few k S marked n e h high few =
     go false b = refl
 
 -- room without a mark
-none-marked : (m v : ℕ) → get_or (replicate m false) v false ≡ false
+pub none-marked : (m v : ℕ) → get_or (replicate m false) v false ≡ false
 none-marked m v = elim (true_or_false (nat_lt v m)) [
   | inl e ↦ get_or-replicate m v false false (ltb-true v m e)
   | inr e ↦ get_or-eq_default (replicate m false) false (let most = ltb-false v m e in let long = length-replicate {A = Bool} m false in omega arith)

@@ -28,6 +28,21 @@ pub(crate) struct Marks {
     pub(crate) pending: Places,
 }
 
+impl Marks {
+    /// The empty set over the variables below a number, in new room.
+    fn with_room(alloc: Global, count: usize) -> Result<Marks, AllocError>
+        ensures long { IfOk result (λ m. length m.marked.items ≡ count) }
+        ensures clear { IfOk result IsClear }
+    {
+        Ok(Marks {
+            marked: vec![in alloc; false; count]?,
+            current: 0,
+            seen: Vec::new(alloc),
+            pending: Places::with_room(alloc, count)?,
+        })
+    }
+}
+
 /// Puts the negation of the literal at a place into the set, which doesn't have it.
 fn put_at(kernel: &Kernel, marks: &mut Marks, place: usize) -> Result<(), AllocError>
     requires marks { CanJoin kernel.now [] marks.old }
@@ -170,12 +185,7 @@ impl Room {
         let count = vars as usize + 1;
         match self.kept.take() {
             Some(marks) if marks.marked.len() >= count => Ok(marks),
-            _ => Ok(Marks {
-                marked: vec![in alloc; false; count]?,
-                current: 0,
-                seen: Vec::new(alloc),
-                pending: Places::with_room(alloc, count)?,
-            }),
+            _ => Marks::with_room(alloc, count),
         }
     }
 

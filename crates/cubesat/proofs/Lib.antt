@@ -4,6 +4,7 @@ pub mod RunLemmas
 pub mod OneRun
 pub mod RightAnswers
 pub mod CheckLemmas
+pub mod SaidLines
 pub mod CheckRuns
 pub mod StreamedLemmas
 pub mod ProofLemmas

@@ -45,6 +45,47 @@ fn check_shown<
     result
 }
 
+/// Runs the check of what is opened, with its progress shown where that is asked for. The beginning of the line that was written comes with the result.
+fn check_opened<
+    R: Threads + Wait + Clock + Sync,
+    F: Read + Drop,
+    P: Read + Drop,
+    W: Write,
+    E: Write + Send,
+>(
+    rt: &R,
+    alloc: Global,
+    formula: F,
+    proof: P,
+    progress: bool,
+    answer: &mut W,
+    faults: &mut E,
+    screen: Screen,
+) -> (Result<Checked, RunFault>, Beginning) {
+    let mut kept = KeptWriter {
+        inner: answer,
+        beginning: Beginning::none(),
+    };
+    let result = if progress {
+        check_shown(rt, alloc, formula, proof, &mut kept, faults, screen)
+    } else {
+        check_run(alloc, formula, proof, &mut kept)
+    };
+    let KeptWriter {
+        inner: _,
+        beginning,
+    } = kept;
+    (result, beginning)
+}
+
+/// The status of a refused proof; what the refusal means is printed where that is asked for.
+fn refused<E: Write>(faults: &mut E, beginning: Beginning, verbose: bool) -> u8 {
+    if let (true, Some(number)) = (verbose, beginning.refusal()) {
+        note_number(faults, number);
+    }
+    FAILED
+}
+
 /// Checks the proof in the file against the formula in the other; the status.
 pub(crate) fn check<R: Files + Threads + Wait + Clock + Sync, W: Write, E: Write + Send>(
     rt: &R,
@@ -65,27 +106,19 @@ pub(crate) fn check<R: Files + Threads + Wait + Clock + Sync, W: Write, E: Write
     let Ok(proof) = fs::open(rt, path) else {
         return print_no_file(faults, path, shown.verbose);
     };
-    let mut kept = KeptWriter {
-        inner: answer,
-        beginning: Beginning::none(),
-    };
-    let result = if shown.progress {
-        check_shown(rt, alloc, formula, proof, &mut kept, faults, screen)
-    } else {
-        check_run(alloc, formula, proof, &mut kept)
-    };
-    let KeptWriter {
-        inner: _,
-        beginning,
-    } = kept;
+    let (result, beginning) = check_opened(
+        rt,
+        alloc,
+        formula,
+        proof,
+        shown.progress,
+        answer,
+        faults,
+        screen,
+    );
     match result {
         Ok(Checked::Accepted) => ACCEPTED,
-        Ok(Checked::Refused) => {
-            if let (true, Some(number)) = (shown.verbose, beginning.refusal()) {
-                note_number(faults, number);
-            }
-            FAILED
-        }
+        Ok(Checked::Refused) => refused(faults, beginning, shown.verbose),
         Err(fault) => {
             print_fault_of(faults, fault, file, path, shown.verbose);
             FAILED

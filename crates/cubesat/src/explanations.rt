@@ -1,142 +1,133 @@
 //! What each number that the program prints means, and what to change, in plain sentences. `docs/FORMATS.md` has the same texts: `bin/compare_texts`
 //! compares the two.
 
-/// All explanations, by rising number.
-const EXPLANATIONS: [(u32, &str); 33] = [
-    (
-        1,
-        "No header: the first word outside comment lines isn't `p`, or the file holds no word at all. A DIMACS CNF file begins with a line `p cnf VARIABLES CLAUSES`; comment lines begin with `c` in their first column.",
-    ),
-    (
-        2,
-        "Bad header: a word of the line `p cnf VARIABLES CLAUSES` is wrong, missing, or one too many. Both numbers are written in digits, without sign or leading zero.",
-    ),
-    (
-        3,
-        "Second header: the word `p` stands behind the header line. Perhaps two formulas were written into one file.",
-    ),
-    (
-        4,
-        "Bad number: a word of a clause isn't a whole number in plain digits, with at most a `-` in front. Leading zeros, `+`, `-0` and words such as `%` are refused; some old benchmark files end in a `%` line, which has to be cut off.",
-    ),
-    (
-        5,
-        "Variable out of range: a literal's variable is greater than the number of variables in the header. Correct the header or the literal.",
-    ),
-    (
-        6,
-        "Too many clauses: a number stands behind the last of the clauses that the header counts. Correct the count in the header.",
-    ),
-    (
-        7,
-        "Too few clauses: the file ends before as many clauses as the header counts. Correct the count in the header, or find what cut the file short.",
-    ),
-    (
-        8,
-        "Clause not ended: the file ends inside a clause. Each clause, also the last one, ends with the word `0`.",
-    ),
-    (
-        9,
-        "Over a limit: the header counts more variables or clauses than can be read, or there are more literals or bytes than that. The limits are 262,143 variables, 1,000,000 clauses, 8,000,000 literals and 67,108,864 bytes.",
-    ),
-    (
-        10,
-        "Read failed: the system answered an error while the formula was read. A folder in place of a file does that too.",
-    ),
-    (11, "Out of memory while the formula was read."),
-    (
-        21,
-        "Number not rising: the number of an added clause is at most that of a clause of the formula or of an earlier addition. Each addition needs a greater number than all before it.",
-    ),
-    (
-        22,
-        "Both signs: an added clause holds a variable in both signs. Such a clause is always true, and no proof needs it.",
-    ),
-    (
-        23,
-        "No such clause: a hint, or the candidate of a group, names a clause that was never there, or was deleted before.",
-    ),
-    (
-        24,
-        "Hint not unit: while the hints are gone through, a hinted clause is neither false nor unit: it is satisfied, or two or more of its literals are open. Hints stand in the order in which the clauses become unit.",
-    ),
-    (
-        25,
-        "Hint after the conflict: a hint, or a group, stands behind the hint whose clause is false. Leave out what comes after it.",
-    ),
-    (
-        26,
-        "No conflict: the hints of the empty clause, or of a group, end before a clause is false. A hint is missing.",
-    ),
-    (
-        27,
-        "Missing candidate: the hints of an added clause end without a conflict, and some clause with the negation of its first literal is named by no group. Either a hint is missing, or that candidate needs a group of its own.",
-    ),
-    (
-        28,
-        "Bad candidate: a group names a clause without the negation of the added clause's first literal, or one that an earlier group named, or it gives hints for a candidate that needs none.",
-    ),
-    (
-        29,
-        "No such deletion: a deletion names a clause that isn't there.",
-    ),
-    (
-        30,
-        "No empty clause: each step is right, but none adds the empty clause, so nothing was refuted. The proof may have been cut off.",
-    ),
-    (
-        31,
-        "Literal out of range: an added clause has a variable that is greater than the formula's number of variables.",
-    ),
-    (
-        41,
-        "Bad number: a word of the proof isn't a whole number in plain digits, or is greater than its part of the line allows: 2,147,483,647 for a literal, 9,223,372,036,854,775,807 for all else. Comments and binary proofs aren't read.",
-    ),
-    (
-        42,
-        "Line not ended: the proof's last line has no line feed at its end. It was most likely cut off.",
-    ),
-    (
-        43,
-        "Bad shape: a line is no addition `NUMBER LITERALS 0 HINTS 0` and no deletion `NUMBER d NUMBERS 0`: a number has the wrong sign, a `0` is missing or stands where none may, or something follows the last `0`.",
-    ),
-    (45, "Too long: the proof has more than 4,294,967,296 bytes."),
-    (
-        51,
-        "The formula wasn't read; the refusal behind it says why, with line and column, both counted from 1. Nothing was written; the proof's file is empty. `cubesat explain 51 NUMBER` explains the refusal.",
-    ),
-    (
-        52,
-        "Out of memory. Nothing was written; the proof's file is empty. Free some memory, or use fewer hands: each has its own copy of the clauses.",
-    ),
-    (
-        53,
-        "The proof couldn't be written, most likely because the disk is full. Its file holds a beginning of the proof, which proves nothing; no answer was printed.",
-    ),
-    (
-        54,
-        "The answer couldn't be written, though the proof was: the program that reads it has ended, or the disk is full. What was printed is a beginning of the answer.",
-    ),
-    (
-        55,
-        "The proof that is to be checked couldn't be read: the system answered an error. Nothing was printed of it.",
-    ),
-    (
-        56,
-        "A file can't be opened or created. Check the names, and whether you may read the one and write the other.",
-    ),
-    (
-        57,
-        "The proof would be written over the formula: both names lead to one file. Nothing was touched; give the proof another name.",
-    ),
-];
+/// What a refusal of a formula means.
+fn of_formula(number: u32) -> Option<&'static str> {
+    match number {
+        1 => Some(
+            "No header: the first word outside comment lines isn't `p`, or the file holds no word at all. A DIMACS CNF file begins with a line `p cnf VARIABLES CLAUSES`; comment lines begin with `c` in their first column.",
+        ),
+        2 => Some(
+            "Bad header: a word of the line `p cnf VARIABLES CLAUSES` is wrong, missing, or one too many. Both numbers are written in digits, without sign or leading zero.",
+        ),
+        3 => Some(
+            "Second header: the word `p` stands behind the header line. Perhaps two formulas were written into one file.",
+        ),
+        4 => Some(
+            "Bad number: a word of a clause isn't a whole number in plain digits, with at most a `-` in front. Leading zeros, `+`, `-0` and words such as `%` are refused; some old benchmark files end in a `%` line, which has to be cut off.",
+        ),
+        5 => Some(
+            "Variable out of range: a literal's variable is greater than the number of variables in the header. Correct the header or the literal.",
+        ),
+        6 => Some(
+            "Too many clauses: a number stands behind the last of the clauses that the header counts. Correct the count in the header.",
+        ),
+        7 => Some(
+            "Too few clauses: the file ends before as many clauses as the header counts. Correct the count in the header, or find what cut the file short.",
+        ),
+        8 => Some(
+            "Clause not ended: the file ends inside a clause. Each clause, also the last one, ends with the word `0`.",
+        ),
+        9 => Some(
+            "Over a limit: the header counts more variables or clauses than can be read, or there are more literals or bytes than that. The limits are 262,143 variables, 1,000,000 clauses, 8,000,000 literals and 67,108,864 bytes.",
+        ),
+        10 => Some(
+            "Read failed: the system answered an error while the formula was read. A folder in place of a file does that too.",
+        ),
+        11 => Some("Out of memory while the formula was read."),
+        _ => None,
+    }
+}
+
+/// What a fault of a proof's steps means.
+fn of_steps(number: u32) -> Option<&'static str> {
+    match number {
+        21 => Some(
+            "Number not rising: the number of an added clause is at most that of a clause of the formula or of an earlier addition. Each addition needs a greater number than all before it.",
+        ),
+        22 => Some(
+            "Both signs: an added clause holds a variable in both signs. Such a clause is always true, and no proof needs it.",
+        ),
+        23 => Some(
+            "No such clause: a hint, or the candidate of a group, names a clause that was never there, or was deleted before.",
+        ),
+        24 => Some(
+            "Hint not unit: while the hints are gone through, a hinted clause is neither false nor unit: it is satisfied, or two or more of its literals are open. Hints stand in the order in which the clauses become unit.",
+        ),
+        25 => Some(
+            "Hint after the conflict: a hint, or a group, stands behind the hint whose clause is false. Leave out what comes after it.",
+        ),
+        26 => Some(
+            "No conflict: the hints of the empty clause, or of a group, end before a clause is false. A hint is missing.",
+        ),
+        27 => Some(
+            "Missing candidate: the hints of an added clause end without a conflict, and some clause with the negation of its first literal is named by no group. Either a hint is missing, or that candidate needs a group of its own.",
+        ),
+        28 => Some(
+            "Bad candidate: a group names a clause without the negation of the added clause's first literal, or one that an earlier group named, or it gives hints for a candidate that needs none.",
+        ),
+        29 => Some("No such deletion: a deletion names a clause that isn't there."),
+        30 => Some(
+            "No empty clause: each step is right, but none adds the empty clause, so nothing was refuted. The proof may have been cut off.",
+        ),
+        31 => Some(
+            "Literal out of range: an added clause has a variable that is greater than the formula's number of variables.",
+        ),
+        _ => None,
+    }
+}
+
+/// What a fault of a proof's text means.
+fn of_text(number: u32) -> Option<&'static str> {
+    match number {
+        41 => Some(
+            "Bad number: a word of the proof isn't a whole number in plain digits, or is greater than its part of the line allows: 2,147,483,647 for a literal, 9,223,372,036,854,775,807 for all else. Comments and binary proofs aren't read.",
+        ),
+        42 => Some(
+            "Line not ended: the proof's last line has no line feed at its end. It was most likely cut off.",
+        ),
+        43 => Some(
+            "Bad shape: a line is no addition `NUMBER LITERALS 0 HINTS 0` and no deletion `NUMBER d NUMBERS 0`: a number has the wrong sign, a `0` is missing or stands where none may, or something follows the last `0`.",
+        ),
+        45 => Some("Too long: the proof has more than 4,294,967,296 bytes."),
+        _ => None,
+    }
+}
+
+/// What a fault of a run means.
+fn of_run(number: u32) -> Option<&'static str> {
+    match number {
+        51 => Some(
+            "The formula wasn't read; the refusal behind it says why, with line and column, both counted from 1. Nothing was written; the proof's file is empty. `cubesat explain 51 NUMBER` explains the refusal.",
+        ),
+        52 => Some(
+            "Out of memory. Nothing was written; the proof's file is empty. Free some memory, or use fewer hands: each has its own copy of the clauses.",
+        ),
+        53 => Some(
+            "The proof couldn't be written, most likely because the disk is full. Its file holds a beginning of the proof, which proves nothing; no answer was printed.",
+        ),
+        54 => Some(
+            "The answer couldn't be written, though the proof was: the program that reads it has ended, or the disk is full. What was printed is a beginning of the answer.",
+        ),
+        55 => Some(
+            "The proof that is to be checked couldn't be read: the system answered an error. Nothing was printed of it.",
+        ),
+        56 => Some(
+            "A file can't be opened or created. Check the names, and whether you may read the one and write the other.",
+        ),
+        57 => Some(
+            "The proof would be written over the formula: both names lead to one file. Nothing was touched; give the proof another name.",
+        ),
+        _ => None,
+    }
+}
 
 /// The explanation of a number, where there is one.
 pub fn explanation(number: u32) -> Option<&'static str> {
-    for (at, text) in EXPLANATIONS {
-        if at == number {
-            return Some(text);
-        }
+    match number {
+        0..=20 => of_formula(number),
+        21..=40 => of_steps(number),
+        41..=50 => of_text(number),
+        _ => of_run(number),
     }
-    None
 }

@@ -266,6 +266,15 @@ fn count_entry(counts: &mut [u32], lit: Lit)
     }
 }
 
+/// Counts an entry for the list of each of these literals.
+fn count_entries(counts: &mut [u32], lits: &[Lit])
+    ensures { length counts.new ≡ length counts.old }
+{
+    for lit in lits {
+        count_entry(counts, *lit);
+    }
+}
+
 /// Counts the entries of clauses. It answers how many clauses are of one literal.
 fn count_clauses(counts: &mut [u32], clauses: &[Vec<Lit>]) -> usize
     ensures kept { length counts.new ≡ length counts.old }
@@ -306,9 +315,7 @@ impl Room {
     {
         let mut entries = vec![in alloc; 0; lists]?;
         let singles = count_clauses(&mut entries, clauses);
-        for lit in units {
-            count_entry(&mut entries, *lit);
-        }
+        count_entries(&mut entries, units);
         Ok(Room {
             entries,
             singles: singles + units.len(),

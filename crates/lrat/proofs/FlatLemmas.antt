@@ -1,7 +1,8 @@
 -- Clauses in one list of literals.
 use Rattle.std.proofs.Common.{◌≡◌, ℕ, zero, suc, ◌+◌, ◌-◌, ◌<◌, ◌≤◌, Bool, true, false, List, [], ◌∷◌, ◌++◌, length, length-append, take, drop, map, Some, slice_get, nat_eq, eqb-true, eq-eqb, nat_lt, ltb-true, ltb-false, ◌⊎◌, inl, inr, refl, sym, ap, subst, ◌∙◌, arith, Result, Ok, Err, OnErr, None, slice_set, get_or, not, OnOk}
 use Rattle.std.specs.List.{slice_range}
-use Rattle.std.proofs.lemmas.Option.{get_or_from_slice_get}
+use Rattle.std.proofs.lemmas.List.{length-map}
+use Rattle.std.proofs.lemmas.Option.{get_or_from_slice_get, slice_get-get_or}
 use Rattle.theory.specs.Literals.{Literal}
 use Rattle.theory.specs.Checking.{clause_of, without_number}
 use Rattle.theory.specs.Truth.{IsOver}
@@ -397,3 +398,9 @@ AreUpTo-removed n lits heads i h g all j s b =
     let a = all j (slot_in lits r.0) (get-map (slot_in lits) heads j r.0 r.1) in
     let e = r.2 in
     let f : k.0.id ≡ s.id = ap (λ (x : Slot). x.id) k.2 in omega arith
+
+-- what is read at the place of a slot
+pub read_at : (lits : List Literal) (heads : List Head) (i : ℕ) (x : Head) → i < length (slots_in lits heads) → x ≡ get_or heads i x → slice_get heads i ≡ Some x
+read_at lits heads i x less is =
+    let all : length (slots_in lits heads) ≡ length heads = length-map heads (slot_in lits) in
+    slice_get-get_or heads i x (omega arith) ∙ ap Some (sym is)

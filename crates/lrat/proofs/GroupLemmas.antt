@@ -1,8 +1,8 @@
 -- Groups of hints, and candidates, as they are taken one after the other.
-use Rattle.std.proofs.Common.{◌≡◌, ℕ, suc, ◌+◌, ◌<◌, Bool, true, false, not, ◌||◌, List, ◌∷◌, ◌++◌, length, drop, get_or, Option, Some, None, is_some, cond, nat_eq, eqb-true, eq-eqb, refl, ap, sym, ◌∙◌, add-one}
+use Rattle.std.proofs.Common.{◌≡◌, ℕ, suc, ◌+◌, ◌<◌, Bool, true, false, not, ◌||◌, List, [], ◌∷◌, ◌++◌, length, drop, get_or, Option, Some, None, is_some, cond, nat_eq, eqb-true, eq-eqb, refl, ap, sym, ◌∙◌, add-one, arith, ◌==◌}
 use Rattle.std.specs.List.{list_any}
 use Rattle.std.proofs.Math.Seq.{drop-cons}
-use Rattle.theory.specs.Literals.{Literal, Clause, has, negations, without}
+use Rattle.theory.specs.Literals.{Literal, Clause, has, negated, negations, without}
 use Rattle.theory.specs.Steps.{Group}
 use Rattle.theory.specs.Checking as theory
 use Rattle.theory.specs.Checking.{Numbered, clause_of, take_hints, is_closed, closed_fault, group_fault, groups_fault, bad_candidate}
@@ -10,7 +10,8 @@ use Rattle.theory.proofs.LiteralSets.{or-none, false_unless, true_false}
 use Rattle.lrat.specs.declared.check_fault.Fault.{Fault}
 use Rattle.lrat.specs.declared.hints.Taken.{Taken}
 use Rattle.lrat.specs.Assumed.{IsAssumed}
-use Rattle.lrat.specs.Named.{IsNamed}
+use Rattle.lrat.specs.Named.{IsNamed, LeavesNamed}
+use Rattle.lrat.specs.CheckFaults.{faults_of}
 use Rattle.lrat.specs.Taken.{taken_of}
 use Rattle.lrat.proofs.SameLiterals.{AreSame-assumed, take_hints-same, fault_of-same}
 
@@ -58,3 +59,24 @@ open_candidate P q d n L a b e = or-none (not (has d q)) (is_closed P q d || lis
 pub no_fault : (o : Option Fault) → is_some o ≡ false → o ≡ None
 no_fault None h = refl
 no_fault (Some f) h = absurd (cc)
+
+-- an addition without literals, and one with some
+pub rat-empty : (K : Numbered) (P : List Literal) (d : Clause) (gs : List Group) → length d == 0 ≡ true → Some theory.no_conflict ≡ theory.rat_fault K P d gs
+rat-empty K P [] gs h = refl
+rat-empty K P (p ∷ d) gs h = let long : length (p ∷ d) ≡ 0 = eqb-true (length (p ∷ d)) 0 h in absurd (omega arith)
+
+pub rat-pivot : (K : Numbered) (P : List Literal) (d : Clause) (gs : List Group) (p : Literal) → length d == 0 ≡ false → p ≡ get_or d 0 p
+    → groups_fault K P (negated p) [] gs ≡ theory.rat_fault K P d gs
+rat-pivot K P [] gs p h is = absurd (cc)
+rat-pivot K P (r ∷ d) gs p h is = ap (λ x. groups_fault K P (negated x) [] gs) is
+
+-- what the groups leave, and then what the candidates say
+pub groups-found : (K : Numbered) (P : List Literal) (q : Literal) (gs : List Group) (has : ℕ → Bool) (o : Option Fault) → LeavesNamed K P q gs has o → is_some o ≡ true
+    → faults_of o ≡ groups_fault K P q [] gs
+groups-found K P q gs has (Some f) h e = h
+groups-found K P q gs has None h e = absurd (cc)
+
+pub groups-passed : (K : Numbered) (P : List Literal) (q : Literal) (gs : List Group) (has : ℕ → Bool) (o : Option Fault) (b : Bool) → LeavesNamed K P q gs has o → o ≡ None
+    → ((L : List ℕ) → IsNamed has L → b ≡ theory.are_dealt_with K P q L) → cond b None (Some theory.missing_candidate) ≡ groups_fault K P q [] gs
+groups-passed K P q gs has (Some f) b h e dealt = absurd (cc)
+groups-passed K P q gs has None b h e dealt = ap (λ x. cond x None (Some theory.missing_candidate)) (dealt h.0 h.1) ∙ h.2

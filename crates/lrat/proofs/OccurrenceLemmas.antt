@@ -1,7 +1,11 @@
 -- Slots of clauses that are entered in chains.
-use Rattle.std.proofs.Common.{◌≡◌, ℕ, zero, suc, ◌+◌, ◌≤◌, Bool, true, false, List, [], ◌∷◌, length, Some, cond, nat_eq, eqb-true, eq-eqb, refl, sym, subst, ◌∙◌, slice_get, arith}
+use Rattle.std.proofs.Common.{◌≡◌, ℕ, zero, suc, ◌+◌, ◌*◌, ◌<◌, ◌≤◌, ◌⊎◌, inl, inr, Bool, true, false, List, [], ◌∷◌, ◌||◌, length, take, get_or, ap, Some, cond, nat_eq, eqb-true, eq-eqb, refl, sym, subst, ◌∙◌, slice_get, arith}
 use Rattle.std.specs.List.{list_all}
-use Rattle.theory.specs.Literals.{Literal, Clause, has}
+use Rattle.theory.specs.Literals.{Literal, Clause, has, same}
+use Rattle.theory.specs.Truth.{IsOver}
+use Rattle.theory.proofs.FirstModel.{has-append}
+use Rattle.theory.proofs.LiteralLemmas.{same-eq}
+use Rattle.std.proofs.lemmas.List.{take_more, take_all}
 use Rattle.theory.specs.Checking.{Numbered}
 use Rattle.theory.proofs.LiteralSets.{and-true}
 use Rattle.lrat.specs.declared.chains.Chains.{Chains}
@@ -52,3 +56,31 @@ IsIndexed-stay old new o stay h = record {
 
 pub StayThere-none : (ss : List Slot) → StayThere [] ss
 StayThere-none ss = record { there = λ i s less g t. absurd (omega arith); longer = omega arith }
+
+-- the code of a literal of a clause is within the room
+pub code-below : (d : Clause) (i : ℕ) (x : Literal) (vars n : ℕ) → IsOver vars d → i < length d → x ≡ get_or d i x → 2 * vars + 2 ≤ n → code x < n
+code-below d i x vars n over less is room = go x.positive
+  where
+    low : x.var ≤ vars
+    low = let most = (over i x less).1 in let same = ap (λ (l : Literal). l.var) is in omega arith
+
+    go : (b : Bool) → 2 * x.var + cond b 1 0 < n
+    go true = let most = low in omega arith
+    go false = let most = low in omega arith
+
+-- one literal more is entered
+pub enter-more : (old new : Chains) (place : ℕ) (d : Clause) (i : ℕ) (x : Literal) → i < length d → x ≡ get_or d i x → ((k : Literal) → has (take i d) k ≡ true → IsIn old (code k) place)
+    → ((n j : ℕ) → IsIn old n j → IsIn new n j) → IsIn new (code x) place → (k : Literal) → has (take (i + 1) d) k ≡ true → IsIn new (code k) place
+enter-more old new place d i x less is before keeps one k h =
+    elim (has-append (take i d) (get_or d i x ∷ []) k (subst (λ t. has t k ≡ true) (take_more d i x less) h)) [
+      | inl a ↦ keeps (code k) place (before k a)
+      | inr b ↦ subst (λ (l : Literal). IsIn new (code l) place) (is ∙ sym (same-eq k (get_or d i x) (alone (same k (get_or d i x)) b))) one
+    ]
+  where
+    alone : (b : Bool) → b || false ≡ true → b ≡ true
+    alone true e = refl
+    alone false e = e
+
+-- no literal is left
+pub enter-all : (c : Chains) (place : ℕ) (d : Clause) (i : ℕ) → length d ≤ i → ((k : Literal) → has (take i d) k ≡ true → IsIn c (code k) place) → (k : Literal) → has d k ≡ true → IsIn c (code k) place
+enter-all c place d i end entered k h = entered k (subst (λ t. has t k ≡ true) (sym (take_all i d end)) h)

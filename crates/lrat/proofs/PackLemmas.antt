@@ -1,6 +1,8 @@
 -- Packing keeps what is there, its order and its variables.
-use Rattle.std.proofs.Common.{◌≡◌, ℕ, zero, suc, ◌+◌, ◌-◌, ◌<◌, ◌≤◌, Bool, true, false, List, [], ◌∷◌, ◌++◌, length, drop, Some, slice_get, refl, sym, ap, subst, ◌∙◌, arith, cond, append_assoc}
+use Rattle.std.proofs.Common.{◌≡◌, ℕ, zero, suc, ◌+◌, ◌-◌, ◌<◌, ◌≤◌, Bool, true, false, List, [], ◌∷◌, ◌++◌, length, drop, Some, slice_get, refl, sym, ap, subst, ◌∙◌, arith, cond, append_assoc, append-nil, get_or}
 use Rattle.std.specs.List.{slice_range}
+use Rattle.std.proofs.lemmas.List.{drop_all, length-map}
+use Rattle.std.proofs.lemmas.Option.{slice_get-get_or}
 use Rattle.theory.specs.Literals.{Literal}
 use Rattle.theory.specs.Truth.{IsOver}
 use Rattle.theory.specs.Checking.{Numbered}
@@ -246,3 +248,19 @@ AreUpTo-packed m zero (s ∷ ss) h = go s.is_there (AreUpTo-packed m zero ss (λ
     go false r = r
 AreUpTo-packed m (suc n) (s ∷ ss) h =
     AreUpTo-cons m (emptied s) (packed n ss) (let e = emptied-id s in let l = h 0 s refl in omega arith) (AreUpTo-packed m n ss (λ i t g. h (suc i) t g))
+
+packed-none : (n : ℕ) → packed n [] ≡ []
+packed-none zero = refl
+packed-none (suc n) = refl
+
+-- no slots are left
+pub pack-done : (n place : ℕ) (lits : List Literal) (heads : List Head) (S whole : List Slot) → length heads ≤ place
+    → S ++ packed n (drop place (slots_in lits heads)) ≡ whole → S ≡ whole
+pack-done n place lits heads S whole end left =
+    let all : length (slots_in lits heads) ≡ length heads = length-map heads (slot_in lits) in
+    sym (append-nil S) ∙ ap (λ ss. S ++ ss) (sym (packed-none n) ∙ ap (packed n) (sym (drop_all place (slots_in lits heads) (omega arith)))) ∙ left
+
+-- the literals of a clause that is read are some of the list's
+pub read_within : (lits : List Literal) (heads : List Head) (place : ℕ) (none : Head) → AreWithin lits heads → place < length heads
+    → let h = get_or heads place none in (h.start ≤ h.end) × (h.end ≤ length lits)
+read_within lits heads place none w less = w place (get_or heads place none) (slice_get-get_or heads place none less)

@@ -1,6 +1,6 @@
 -- How a line grows, word by word.
-use Rattle.std.proofs.Common.{◌≡◌, ℕ, ◌+◌, ◌<◌, List, [], ◌∷◌, ◌++◌, map, length, drop, get_or, decimal, refl, sym, ap, ◌∙◌, append_assoc, append-nil}
-use Rattle.std.proofs.lemmas.List.{drop_more}
+use Rattle.std.proofs.Common.{◌≡◌, ℕ, ◌+◌, ◌<◌, ◌≤◌, List, [], ◌∷◌, ◌++◌, map, length, drop, get_or, decimal, refl, sym, ap, ◌∙◌, append_assoc, append-nil}
+use Rattle.std.proofs.lemmas.List.{drop_more, drop_all}
 use Rattle.std.specs.List.{join_with_byte}
 use Rattle.theory.specs.Steps.{Group, Addition, Deletion, add, delete}
 use Rattle.theory.specs.Texts.{space, lf, literal_text, zero_text, group_words, groups_words, step_text, step_words}
@@ -31,6 +31,25 @@ groups-more whole out new gs k g inside is left written =
     ∙ ap (λ (x : Group). out ++ spaced (groups_words (x ∷ drop (k + 1) gs))) is
     ∙ ap (λ (x : List Group). out ++ spaced (groups_words x)) (sym (drop_more gs k g inside))
     ∙ left
+
+-- one word more of those that `f` makes of what is written
+pub words-more : {X : Type 0} (f : X → List ℕ) (whole out new : List ℕ) (xs : List X) (k : ℕ) (x : X) → k < length xs → x ≡ get_or xs k x
+    → out ++ spaced (map f (drop k xs)) ≡ whole → new ≡ out ++ f x ++ space ∷ [] → new ++ spaced (map f (drop (k + 1) xs)) ≡ whole
+words-more {X} f whole out new xs k x inside is left written =
+    ap (λ y. y ++ spaced (map f (drop (k + 1) xs))) written
+    ∙ joined (spaced (map f (drop (k + 1) xs)))
+    ∙ ap (λ (y : X). out ++ spaced (map f (y ∷ drop (k + 1) xs))) is
+    ∙ ap (λ (ys : List X). out ++ spaced (map f ys)) (sym (drop_more xs k x inside))
+    ∙ left
+  where
+    joined : (rest : List ℕ) → (out ++ f x ++ space ∷ []) ++ rest ≡ out ++ (f x ++ space ∷ rest)
+    joined rest = simp append_assoc
+
+-- no words are left
+pub words-done : {X : Type 0} (words : List X → List (List ℕ)) (whole out : List ℕ) (xs : List X) (k : ℕ) → words [] ≡ [] → length xs ≤ k
+    → out ++ spaced (words (drop k xs)) ≡ whole → out ≡ whole
+words-done words whole out xs k none end left =
+    sym (append-nil out) ∙ ap (λ ws. out ++ spaced ws) (sym none ∙ ap words (sym (drop_all k xs end))) ∙ left
 
 -- the text of a deletion, as it is written
 pub deletion-text : (d : Deletion) (out id mark ids : List ℕ) → id ≡ out ++ decimal d.id ++ space ∷ [] → mark ≡ id ++ 100 ∷ space ∷ []

@@ -1,4 +1,4 @@
-use Rattle.std.proofs.Common.{◌≡◌, ℕ, ◌+◌, ◌<◌, ◌++◌, ◌∷◌, [], length, get_or, drop, take, Some, subst, ap, sym, ◌∙◌, arith, add-one, List}
+use Rattle.std.proofs.Common.{◌≡◌, ℕ, ◌+◌, ◌<◌, ◌++◌, ◌∷◌, [], length, get_or, drop, take, Some, subst, ap, sym, refl, ◌∙◌, arith, add-one, List}
 use Rattle.std.specs.Prelude.{slice_get}
 use Rattle.std.proofs.lemmas.List.{take_more, take_all}
 use Rattle.std.proofs.lemmas.Option.{get_or_from_slice_get}
@@ -7,8 +7,19 @@ use Rattle.pool.specs.Ends.{DequeEnd}
 use Rattle.pool.specs.Closing.{Gathered}
 use Rattle.pool.proofs.ListPlaces.{first_left, rest_left}
 use Rattle.pool.proofs.Sharing.{same_len}
-use Rattle.pool.proofs.Gathering.{gathered_more, ids_merged}
+use Rattle.pool.proofs.Gathering.{gathered_none, gathered_more, ids_merged}
 use Rattle.pool.proofs.closing.gather.Goals as goal
+
+pub gather-init : goal.gather-init
+gather-init c = (refl, gathered_none c.args.owners.now.items, refl)
+
+pub merge-requires : goal.merge-requires
+merge-requires c =
+    let i = c.gather.invariant in
+    let k = c.gather.counter in
+    let r = c.remove.result in
+    let at : slice_get c.args.rows.items k ≡ Some r = first_left c.args.rows.items k r (omega arith) (subst (λ (l : List (Vec DequeEnd)). r ≡ get_or l 0 r) i.0 c.remove.ensures.value) in
+    c.requires k r at ∙ sym i.2
 
 pub gather-preserved : goal.gather-preserved
 gather-preserved c =

@@ -1,6 +1,6 @@
-use Rattle.std.proofs.Common.{◌≡◌, ℕ, ◌+◌, ◌<◌, ◌++◌, ◌∷◌, [], length, get_or, drop, take, Some, subst, ap, sym, ◌∙◌, arith, rules, add-one, List}
+use Rattle.std.proofs.Common.{◌≡◌, ℕ, ◌+◌, ◌-◌, ◌<◌, ◌++◌, ◌∷◌, [], length, get_or, drop, take, Some, subst, ap, refl, sym, ◌∙◌, arith, rules, add-one, List, length-drop}
 use Rattle.std.specs.Prelude.{slice_get}
-use Rattle.std.proofs.lemmas.List.{take_more}
+use Rattle.std.proofs.lemmas.List.{take_more, take_all}
 use Rattle.std.proofs.lemmas.Option.{get_or_from_slice_get}
 use Rattle.std.specs.Global.{Vec}
 use Rattle.pool.specs.Ends.{DequeEnd}
@@ -41,3 +41,28 @@ take_apart-preserved c =
       ap (λ (b : SeatView). b.table) c.join.ensures ∙ i.2,
       ap (λ (b : SeatView). b.notes) c.join.ensures ∙ ap (λ (n : SeatNotes). both_calls n s.2.notes) i.3 ∙ ap (λ (l : _). record c.args.words.now.notes { calls = l }) (calls_more (take k start) v s.0 s.1.items s.2 e.parts e.same ∙ ap calls_of (sym more)),
     )
+
+pub take_apart-init : goal.take_apart-init
+take_apart-init c = (
+  refl,
+  (ap length c.new-owners.ensures.items, ap length c.new-rows.ensures.items, λ h v e. absurd (cc)),
+  refl,
+  c.requires.seats ∙ ap (λ (n : SeatNotes). record n { calls = [] }) (sym c.requires.seats),
+)
+
+pub remove-requires : goal.remove-requires
+remove-requires c =
+    let left : length c.take_apart.hands.items ≡ length c.args.hands.items - c.take_apart.counter = ap length c.take_apart.invariant.0 ∙ length-drop c.take_apart.counter c.args.hands.items in
+    omega arith
+
+pub join-requires-clause-first : goal.join-requires-clause-first
+join-requires-clause-first c = ap (λ (n : SeatNotes). n.is_first) c.take_apart.invariant.3 ∙ ap (λ (n : SeatNotes). n.is_first) c.requires.seats
+
+pub returns-clause-parts : goal.returns-clause-parts
+returns-clause-parts c =
+    subst (λ (l : List HandView). AreParts l c.take_apart.owners.items c.take_apart.rows.items) (take_all c.take_apart.counter c.args.hands.items (omega arith)) c.take_apart.invariant.1
+
+pub returns-clause-seats : goal.returns-clause-seats
+returns-clause-seats c =
+    let i = c.take_apart.invariant in
+    (i.2, i.3 ∙ ap (λ (l : List HandView). record c.args.words.now.notes { calls = calls_of l }) (take_all c.take_apart.counter c.args.hands.items (omega arith)))

@@ -22,3 +22,19 @@ returns-else-head-clause-clause c =
 pub returns-in-None-clause-clause : goal.returns-in-None-clause-clause
 returns-in-None-clause-clause c =
     rw (← c.self.view_is) (sym (clause-none c.self.inside.lits.items c.self.inside.heads.items c.args.id (rw c.deref.ensures.value at c.in-None.ensures)))
+
+pub slice_bounds-result-count : goal.slice_bounds-result-count
+slice_bounds-result-count c =
+    let f = found c.deref.result.now c.self.inside.heads.items c.in-Some.place c.args.id c.index-head.result.now c.deref.ensures.value c.in-Some.ensures c.index-head.ensures in
+    (c.self.invariant.within c.in-Some.place c.index-head.result.now f.0).0
+
+pub slice_bounds-result-start : goal.slice_bounds-result-start
+slice_bounds-result-start c =
+    let f = found c.deref.result.now c.self.inside.heads.items c.in-Some.place c.args.id c.index-head.result.now c.deref.ensures.value c.in-Some.ensures c.index-head.ensures in
+    (c.self.invariant.within c.in-Some.place c.index-head.result.now f.0).0
+
+pub slice_bounds-result-end : goal.slice_bounds-result-end
+slice_bounds-result-end c =
+    let f = found c.deref.result.now c.self.inside.heads.items c.in-Some.place c.args.id c.index-head.result.now c.deref.ensures.value c.in-Some.ensures c.index-head.ensures in
+    let w = c.self.invariant.within c.in-Some.place c.index-head.result.now f.0 in
+    rw c.deref-then-head.ensures.value w.1
