@@ -171,7 +171,7 @@ fn a_long_proof_is_accepted(rt: HostRuntime) -> Result<(), Fail> {
         proof.extend_from_slice(b"5 d 0\n")?;
     }
     proof.extend_from_slice(b"5 1 0 1 2 0\n6 0 5 3 4 0\n")?;
-    assert!(rt; checked(rt.alloc(), FOUR, &proof)? == ACCEPTED);
+    assert_eq!(rt; checked(rt.alloc(), FOUR, &proof)?, ACCEPTED);
     Ok(())
 }
 
