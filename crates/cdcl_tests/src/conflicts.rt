@@ -1,24 +1,12 @@
 //! Worked conflicts: the clause that each teaches, its hints, and the level to go back to.
-use crate::kernels::{LEVEL_LEFT_OUT, says, taught};
+use crate::kernels::{says, taught};
+use crate::outcomes::LEVEL_LEFT_OUT;
 use samples::{EIGHT, FOUR};
+use std::alloc::Global;
+use std::process::Abort;
 use std::test::Fail;
 
-#[test]
-fn two_variables(rt: HostRuntime) -> Result<(), Fail> {
-    let first = taught(rt.alloc(), FOUR, &[], 1, 2)?;
-    assert!(rt; says(first, &[1], &[1, 2], 0));
-    let learnt = b"p cnf 2 5\n1 2 0\n1 -2 0\n-1 2 0\n-1 -2 0\n1 0\n";
-    let second = taught(rt.alloc(), learnt, &[], 0, 4)?;
-    assert!(rt; says(second, &[], &[5, 3, 4], 0));
-    Ok(())
-}
-
-#[test]
-fn a_level_that_no_literal_is_of(rt: HostRuntime) -> Result<(), Fail> {
-    let learnt = taught(rt.alloc(), LEVEL_LEFT_OUT, &[], 3, 2)?;
-    assert!(rt; says(learnt, &[1, 3], &[1, 2], 1));
-    Ok(())
-}
+const FIVE: &[u8] = b"p cnf 2 5\n1 2 0\n1 -2 0\n-1 2 0\n-1 -2 0\n1 0\n";
 
 // the clauses learnt so far stand behind the eight
 const NINE: &[u8] =
@@ -30,30 +18,80 @@ const TEN: &[u8] =
 const ELEVEN: &[u8] =
     b"p cnf 3 11\n1 2 3 0\n1 2 -3 0\n1 -2 3 0\n1 -2 -3 0\n-1 2 3 0\n-1 2 -3 0\n-1 -2 3 0\n-1 -2 -3 0\n1 2 0\n1 0\n2 0\n";
 
-#[test]
-fn three_variables(rt: HostRuntime) -> Result<(), Fail> {
-    let first = taught(rt.alloc(), EIGHT, &[], 2, 2)?;
-    assert!(rt; says(first, &[1, 2], &[1, 2], 1));
-    let second = taught(rt.alloc(), NINE, &[], 1, 4)?;
-    assert!(rt; says(second, &[1], &[9, 3, 4], 0));
-    let third = taught(rt.alloc(), TEN, &[], 1, 6)?;
-    assert!(rt; says(third, &[2], &[10, 5, 6], 0));
-    let fourth = taught(rt.alloc(), ELEVEN, &[], 0, 8)?;
-    assert!(rt; says(fourth, &[], &[10, 11, 7, 8], 0));
+// what a half learns stands behind the eight
+const NINE_OF_A_HALF: &[u8] =
+    b"p cnf 3 9\n1 2 3 0\n1 2 -3 0\n1 -2 3 0\n1 -2 -3 0\n-1 2 3 0\n-1 2 -3 0\n-1 -2 3 0\n-1 -2 -3 0\n2 0\n";
+
+/// A name, a formula, a cube, how many decisions come before the conflict, and its number.
+type Place<'a> = (&'a str, &'a [u8], &'a [i32], u32, u64);
+
+/// The clause that a conflict teaches, its hints, and the level to go back to.
+type Lesson<'a> = (&'a [i32], &'a [u64], u32);
+
+static ROWS: [(Place, Lesson); 11] = [
+    (
+        ("two variables, first", FOUR, &[], 1, 2),
+        (&[1], &[1, 2], 0),
+    ),
+    (
+        ("two variables, second", FIVE, &[], 0, 4),
+        (&[], &[5, 3, 4], 0),
+    ),
+    (
+        ("a level left out", LEVEL_LEFT_OUT, &[], 3, 2),
+        (&[1, 3], &[1, 2], 1),
+    ),
+    (
+        ("three variables, first", EIGHT, &[], 2, 2),
+        (&[1, 2], &[1, 2], 1),
+    ),
+    (
+        ("three variables, second", NINE, &[], 1, 4),
+        (&[1], &[9, 3, 4], 0),
+    ),
+    (
+        ("three variables, third", TEN, &[], 1, 6),
+        (&[2], &[10, 5, 6], 0),
+    ),
+    (
+        ("three variables, fourth", ELEVEN, &[], 0, 8),
+        (&[], &[10, 11, 7, 8], 0),
+    ),
+    // literals of the cube are left out
+    (("half -1, first", EIGHT, &[-1], 1, 2), (&[2], &[1, 2], 0)),
+    (
+        ("half -1, second", NINE_OF_A_HALF, &[-1], 0, 4),
+        (&[], &[9, 3, 4], 0),
+    ),
+    (("half 1, first", EIGHT, &[1], 1, 6), (&[2], &[5, 6], 0)),
+    (
+        ("half 1, second", NINE_OF_A_HALF, &[1], 0, 8),
+        (&[], &[9, 7, 8], 0),
+    ),
+];
+
+fn teaches(alloc: Global, place: Place, lesson: Lesson) -> Result<bool, Fail> {
+    let (_, text, cube, decisions, conflict) = place;
+    let (clause, hints, level) = lesson;
+    Ok(says(
+        taught(alloc, text, cube, decisions, conflict)?,
+        clause,
+        hints,
+        level,
+    ))
+}
+
+fn all_teach(rt: &impl Abort, alloc: Global, rows: &[(Place, Lesson)]) -> Result<(), Fail> {
+    for (place, lesson) in rows {
+        assert_eq!(rt;
+            (place.0, teaches(alloc, *place, *lesson)?),
+            (place.0, true)
+        );
+    }
     Ok(())
 }
 
 #[test]
-fn literals_of_the_cube_are_left_out(rt: HostRuntime) -> Result<(), Fail> {
-    let first = taught(rt.alloc(), EIGHT, &[-1], 1, 2)?;
-    assert!(rt; says(first, &[2], &[1, 2], 0));
-    let third = taught(rt.alloc(), EIGHT, &[1], 1, 6)?;
-    assert!(rt; says(third, &[2], &[5, 6], 0));
-    let two =
-        b"p cnf 3 9\n1 2 3 0\n1 2 -3 0\n1 -2 3 0\n1 -2 -3 0\n-1 2 3 0\n-1 2 -3 0\n-1 -2 3 0\n-1 -2 -3 0\n2 0\n";
-    let second = taught(rt.alloc(), two, &[-1], 0, 4)?;
-    assert!(rt; says(second, &[], &[9, 3, 4], 0));
-    let fourth = taught(rt.alloc(), two, &[1], 0, 8)?;
-    assert!(rt; says(fourth, &[], &[9, 7, 8], 0));
-    Ok(())
+fn conflicts_teach(rt: HostRuntime) -> Result<(), Fail> {
+    all_teach(&rt, rt.alloc(), &ROWS)
 }

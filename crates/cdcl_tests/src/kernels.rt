@@ -1,17 +1,14 @@
-//! What tests of analysis and of searches share: kernels, conflicts, and comparisons with numbers.
-ghost use Rattle.std.specs.Prelude.{◌≡◌, ◌≤◌, false, IfSome};
+//! Kernels, the conflicts that they come to, and what these teach.
+ghost use Rattle.std.specs.Prelude.{◌≡◌, false, IfSome};
 ghost use Rattle.theory.specs.Literals.{IsVariable, has_var};
 ghost use Rattle.theory.specs.Trails.{literals};
 
-use cdcl::{Learnt, Outcome, Refutation, analyze, solve_cube};
+use cdcl::{Learnt, analyze};
 use cnf::{Lit, read_formula};
 use kernel::{Closed, Kernel};
 use samples::{cube_of, reads};
 use std::alloc::{AllocError, Global};
 use std::test::Fail;
-
-// the first conflict leaves out a level
-pub const LEVEL_LEFT_OUT: &[u8] = b"p cnf 4 2\n1 3 4 0\n1 3 -4 0\n";
 
 /// The literal that makes the least free variable false.
 fn next_literal(kernel: &Kernel) -> Option<Lit>
@@ -74,29 +71,12 @@ pub fn taught(
     Ok(learnt_after(alloc, &mut kernel, decisions, conflict)?)
 }
 
-/// The outcome of a cube.
-pub fn outcome(alloc: Global, text: &[u8], cube: &[i32], budget: u32) -> Result<Outcome, Fail>
-    requires { (1 ≤ budget) × (budget ≤ 100000) }
-{
-    let formula = read_formula(alloc, text)?;
-    let cube = cube_of(alloc, formula.vars(), cube)?;
-    Ok(solve_cube(alloc, &formula, &cube, budget)?)
-}
-
 /// Whether the conflict taught this clause, from these hints, and leads back to this level.
 pub fn says(learnt: Option<Learnt>, clause: &[i32], hints: &[u64], level: u32) -> bool {
     match learnt {
         Some(learnt) => reads(&learnt.clause, clause)
             && &learnt.hints[..] == hints
             && learnt.level == level,
-        None => false,
-    }
-}
-
-/// Whether the line of this index has this clause and these hints.
-pub fn has_line(refutation: &Refutation, index: usize, clause: &[i32], hints: &[u64]) -> bool {
-    match refutation.lines.get(index) {
-        Some(line) => reads(line.clause(), clause) && line.hints() == hints,
         None => false,
     }
 }

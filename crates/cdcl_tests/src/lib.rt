@@ -8,6 +8,8 @@ mod conflicts;
 #[cfg(test)]
 mod kernels;
 #[cfg(test)]
+mod outcomes;
+#[cfg(test)]
 mod pure;
 #[cfg(test)]
 mod searches;

@@ -1,5 +1,6 @@
 //! Readers that give little, fail, or never end.
 use cnf::{Place, ReadFault, read_bytes, read_from};
+use std::alloc::Global;
 use std::io;
 use std::io::{ErrorKind, Read};
 use std::test::Fail;
@@ -14,6 +15,18 @@ struct Failing {
     kind: ErrorKind,
     failed: bool,
     calls: u32,
+}
+
+impl Failing {
+    fn after(left: usize, kind: ErrorKind) -> Failing {
+        Failing {
+            at: 0,
+            left,
+            kind,
+            failed: false,
+            calls: 0,
+        }
+    }
 }
 
 impl Read for Failing {
@@ -50,89 +63,81 @@ impl Read for Endless {
     }
 }
 
+/// The numbers of variables and of clauses that are read, and how many calls that takes.
+fn shape_and_calls(alloc: Global, left: usize) -> Result<(u32, usize, u32), ReadFault> {
+    let mut reader = Failing::after(left, ErrorKind::Other);
+    let formula = read_from(alloc, &mut reader)?;
+    Ok((formula.vars(), formula.clauses().len(), reader.calls))
+}
+
 #[test]
 fn pieces(rt: HostRuntime) -> Result<(), Fail> {
-    let mut reader = Failing {
-        at: 0,
-        left: 100,
-        kind: ErrorKind::Other,
-        failed: false,
-        calls: 0,
-    };
-    let formula = read_from(rt.alloc(), &mut reader)?;
-    assert_eq!(rt; formula.vars(), 2);
-    assert_eq!(rt; formula.clauses().len(), 1);
-    assert_eq!(rt; reader.calls, 17);
+    assert_eq!(rt; shape_and_calls(rt.alloc(), 100)?, (2, 1, 17));
     let whole = read_from(rt.alloc(), TEXT)?;
-    assert_eq!(rt; whole.clauses().len(), 1);
+    assert!(rt; whole.clauses().len() == 1);
     Ok(())
+}
+
+/// The fault that a reader's error gives, and how many calls the reader had.
+fn fault_and_calls(alloc: Global, left: usize, kind: ErrorKind) -> (Option<ReadFault>, usize) {
+    let mut reader = Failing::after(left, kind);
+    let fault = read_from(alloc, &mut reader).err();
+    (fault, reader.calls as usize)
 }
 
 #[test]
 fn errors(rt: HostRuntime) {
     for kind in [ErrorKind::Other, ErrorKind::Interrupted] {
         for left in 0..17usize {
-            let mut reader = Failing {
-                at: 0,
-                left,
-                kind,
-                failed: false,
-                calls: 0,
-            };
-            match read_from(rt.alloc(), &mut reader) {
-                Ok(_) => panic!(&rt; "read past an error after {left} bytes"),
-                Err(fault) => assert_eq!(rt; fault, ReadFault::ReadFailed),
-            }
-            assert_eq!(rt; reader.calls as usize, left + 1);
+            let found = fault_and_calls(rt.alloc(), left, kind);
+            assert_eq!(rt; found, (Some(ReadFault::ReadFailed), left + 1));
         }
     }
+}
+
+/// How many bytes are wanted at most, those that are read, and how many calls the reader gets.
+static BYTES: [(usize, &[u8], u32); 6] = [
+    (0, b"", 0),
+    (1, b"p", 1),
+    (15, b"p cnf 2 1\n1 2 0", 15),
+    (16, b"p cnf 2 1\n1 2 0\n", 16),
+    (17, b"p cnf 2 1\n1 2 0\n", 17),
+    (70_000, b"p cnf 2 1\n1 2 0\n", 17),
+];
+
+fn bytes_and_calls(alloc: Global, most: usize) -> Result<(Vec<u8>, u32), ReadFault> {
+    let mut reader = Failing::after(100, ErrorKind::Other);
+    let bytes = read_bytes(alloc, &mut reader, most)?;
+    Ok((bytes, reader.calls))
 }
 
 /// As many bytes are read as there are, `most` of them at most; behind these the reader isn't asked.
 #[test]
 fn bytes(rt: HostRuntime) -> Result<(), Fail> {
-    let rows = [
-        (0, "", 0),
-        (1, "p", 1),
-        (15, "p cnf 2 1\n1 2 0", 15),
-        (16, "p cnf 2 1\n1 2 0\n", 16),
-        (17, "p cnf 2 1\n1 2 0\n", 17),
-        (70_000, "p cnf 2 1\n1 2 0\n", 17),
-    ];
-    for (most, wanted, calls) in rows {
-        let mut reader = Failing {
-            at: 0,
-            left: 100,
-            kind: ErrorKind::Other,
-            failed: false,
-            calls: 0,
-        };
-        let bytes = read_bytes(rt.alloc(), &mut reader, most)?;
-        assert_eq!(rt; bytes.as_slice(), wanted.as_bytes(), "{most} at most");
-        assert_eq!(rt; reader.calls, calls, "{most} at most");
+    for (most, wanted, calls) in &BYTES {
+        let (bytes, found) = bytes_and_calls(rt.alloc(), *most)?;
+        assert_eq!(rt; (*most, bytes.as_slice(), found), (*most, *wanted, *calls));
     }
     Ok(())
+}
+
+/// How many of ten bytes are read, or the fault.
+fn ten_read(alloc: Global, left: usize) -> Result<usize, ReadFault> {
+    let mut reader = Failing::after(left, ErrorKind::Interrupted);
+    let bytes = read_bytes(alloc, &mut reader, 10)?;
+    Ok(bytes.len())
 }
 
 /// An error behind the bytes that are wanted doesn't come.
 #[test]
 fn bytes_of_a_failing_reader(rt: HostRuntime) {
     for left in 0..17usize {
-        let mut reader = Failing {
-            at: 0,
-            left,
-            kind: ErrorKind::Interrupted,
-            failed: false,
-            calls: 0,
+        let wanted = if left >= 10 {
+            Ok(10)
+        } else {
+            Err(ReadFault::ReadFailed)
         };
-        match read_bytes(rt.alloc(), &mut reader, 10) {
-            Ok(bytes) => assert_eq!(rt; (bytes.len(), left >= 10), (10, true), "after {left}"),
-            Err(fault) => assert_eq!(rt;
-                (fault, left < 10),
-                (ReadFault::ReadFailed, true),
-                "after {left}"
-            ),
-        }
+        assert_eq!(rt; (left, ten_read(rt.alloc(), left)), (left, wanted));
     }
 }
 
@@ -142,13 +147,9 @@ fn too_long(rt: HostRuntime) {
         byte: b'x',
         given: 0,
     };
-    match read_from(rt.alloc(), &mut reader) {
-        Ok(_) => panic!(&rt; "read an endless text"),
-        Err(fault) => {
-            assert_eq!(rt; fault, ReadFault::OverLimit(Place { line: 1, column: 1 }));
-        }
-    }
-    assert_eq!(rt; reader.given, 67_108_865);
+    let fault = read_from(rt.alloc(), &mut reader).err();
+    let wanted = ReadFault::OverLimit(Place { line: 1, column: 1 });
+    assert_eq!(rt; (fault, reader.given), (Some(wanted), 67_108_865));
 }
 
 #[test]
@@ -160,14 +161,12 @@ fn longest(rt: HostRuntime) {
         },
         67_108_864,
     );
-    match read_from(rt.alloc(), &mut reader) {
-        Ok(_) => panic!(&rt; "read blanks"),
-        Err(fault) => assert_eq!(rt;
-            fault,
-            ReadFault::NoHeader(Place {
-                line: 1,
-                column: 67_108_865
-            })
-        ),
-    }
+    let fault = read_from(rt.alloc(), &mut reader).err();
+    assert_eq!(rt;
+        fault,
+        Some(ReadFault::NoHeader(Place {
+            line: 1,
+            column: 67_108_865
+        }))
+    );
 }

@@ -7,6 +7,7 @@ use cnf::{Lit, read_formula};
 use kernel::{Closed, Entry, Kernel};
 use samples::{cube_of, reads};
 use std::alloc::{AllocError, Global};
+use std::process::Abort;
 use std::test::Fail;
 
 pub fn opened(alloc: Global, text: &[u8], numbers: &[i32]) -> Result<Kernel, Fail> {
@@ -127,20 +128,30 @@ pub fn learn_unit(kernel: &mut Kernel, number: i32) -> Result<bool, AllocError> 
     Ok(reads(kernel.clause(learnt), &[number]))
 }
 
-pub fn learn_pair(kernel: &mut Kernel, number: i32, free: i32) -> Result<bool, AllocError> {
-    let Some(lit) = Lit::new(number) else {
-        return Ok(false);
-    };
-    let Some(free) = Lit::new(free) else {
-        return Ok(false);
-    };
-    if lit.var() > kernel.vars() || !is_free(kernel, free) {
-        return Ok(false);
+/// The entry that makes a literal false, if one does.
+fn falsifier(kernel: &Kernel, lit: Lit) -> Option<Entry>
+    ensures { IfSome result (λ e. IsVariable kernel.now.vars lit.var × (entry_of kernel.now.trail lit.var ≡ Some e) × (same e.lit (negated lit) ≡ true)) }
+{
+    if lit.var() > kernel.vars() {
+        return None;
     }
-    let Some(entry) = kernel.entry(lit.var()) else {
+    let entry = kernel.entry(lit.var())?;
+    if entry.lit.same(&lit.negated()) {
+        Some(entry)
+    } else {
+        None
+    }
+}
+
+/// A clause of a literal that is false at the current level, and a free one.
+pub fn learn_pair(kernel: &mut Kernel, number: i32, free: i32) -> Result<bool, AllocError> {
+    let (Some(lit), Some(free)) = (Lit::new(number), Lit::new(free)) else {
         return Ok(false);
     };
-    if !entry.lit.same(&lit.negated()) || entry.level != kernel.level() {
+    let Some(entry) = falsifier(kernel, lit) else {
+        return Ok(false);
+    };
+    if entry.level != kernel.level() || !is_free(kernel, free) {
         return Ok(false);
     }
     let learnt = kernel.learn(&[lit, free])?;
@@ -160,21 +171,6 @@ pub fn learn_turned_pair(kernel: &mut Kernel, number: i32, free: i32) -> Result<
     }
     let learnt = kernel.learn(&[free, lit])?;
     Ok(reads(kernel.clause(learnt), &[free.number(), number]))
-}
-
-/// The entry that makes a literal false, if one does.
-fn falsifier(kernel: &Kernel, lit: Lit) -> Option<Entry>
-    ensures { IfSome result (λ e. IsVariable kernel.now.vars lit.var × (entry_of kernel.now.trail lit.var ≡ Some e) × (same e.lit (negated lit) ≡ true)) }
-{
-    if lit.var() > kernel.vars() {
-        return None;
-    }
-    let entry = kernel.entry(lit.var())?;
-    if entry.lit.same(&lit.negated()) {
-        Some(entry)
-    } else {
-        None
-    }
 }
 
 /// A clause of a false literal, one that is false at the current level, and a free one.
@@ -230,41 +226,57 @@ pub fn acts(alloc: Global, kernel: &mut Kernel, act: Act) -> Result<bool, AllocE
 
 /// An act, what propagation then answers, and the entries that it leaves: number, reason or 0, level.
 #[derive(Clone, Copy)]
-pub struct Row<'a> {
-    act: Act<'a>,
-    answer: Closed,
-    wanted: &'a [(i32, u64, u32)],
+pub struct Row<'a>(pub Act<'a>, pub Closed, pub &'a [(i32, u64, u32)]);
+
+/// A formula, the cube or the units that a kernel is opened with, and rows that it is to go through.
+#[derive(Clone, Copy)]
+pub struct Case<'a> {
+    pub name: &'a str,
+    pub text: &'a [u8],
+    pub numbers: &'a [i32],
+    pub rows: &'a [Row<'a>],
 }
 
-impl<'a> Row<'a> {
-    pub fn new(act: Act<'a>, answer: Closed, wanted: &'a [(i32, u64, u32)]) -> Row<'a> {
-        Row {
-            act,
-            answer,
-            wanted,
+fn goes(alloc: Global, kernel: &mut Kernel, row: &Row) -> Result<bool, AllocError> {
+    let is_done = acts(alloc, kernel, row.0)?;
+    Ok(is_done && kernel.close()? == row.1 && stands(kernel, row.2))
+}
+
+/// The place of the first row that a kernel doesn't go through, if there is one.
+fn first_failed(alloc: Global, kernel: &mut Kernel, rows: &[Row]) -> Result<Option<usize>, Fail> {
+    for place in 0..rows.len() {
+        if !goes(alloc, kernel, &rows[place])? {
+            return Ok(Some(place));
         }
     }
+    Ok(None)
 }
 
-/// Whether a kernel goes through these rows.
-fn goes_on(alloc: Global, kernel: &mut Kernel, rows: &[Row]) -> Result<bool, AllocError> {
-    for row in rows {
-        let is_done = acts(alloc, kernel, row.act)?;
-        if !is_done || kernel.close()? != row.answer || !stands(kernel, row.wanted) {
-            return Ok(false);
-        }
+fn failed_row(alloc: Global, case: &Case) -> Result<Option<usize>, Fail> {
+    let mut kernel = opened(alloc, case.text, case.numbers)?;
+    first_failed(alloc, &mut kernel, case.rows)
+}
+
+fn failed_row_with_units(alloc: Global, case: &Case) -> Result<Option<usize>, Fail> {
+    let mut kernel = opened_with(alloc, case.text, case.numbers, &[])?;
+    first_failed(alloc, &mut kernel, case.rows)
+}
+
+/// Kernels that are opened with the cubes of cases go through their rows.
+pub fn all_go(rt: &impl Abort, alloc: Global, cases: &[Case]) -> Result<(), Fail> {
+    for case in cases {
+        assert_eq!(rt; (case.name, failed_row(alloc, case)?), (case.name, None));
     }
-    Ok(true)
+    Ok(())
 }
 
-/// Whether a kernel that is opened with a cube goes through these rows.
-pub fn goes(alloc: Global, text: &[u8], numbers: &[i32], rows: &[Row]) -> Result<bool, Fail> {
-    let mut kernel = opened(alloc, text, numbers)?;
-    Ok(goes_on(alloc, &mut kernel, rows)?)
-}
-
-/// Whether a kernel that is opened with units, at the root, goes through these rows.
-pub fn goes_with(alloc: Global, text: &[u8], units: &[i32], rows: &[Row]) -> Result<bool, Fail> {
-    let mut kernel = opened_with(alloc, text, units, &[])?;
-    Ok(goes_on(alloc, &mut kernel, rows)?)
+/// Kernels that are opened with the units of cases, at the root, go through their rows.
+pub fn all_go_with_units(rt: &impl Abort, alloc: Global, cases: &[Case]) -> Result<(), Fail> {
+    for case in cases {
+        assert_eq!(rt;
+            (case.name, failed_row_with_units(alloc, case)?),
+            (case.name, None)
+        );
+    }
+    Ok(())
 }

@@ -7,7 +7,7 @@ use crate::acts::{are_same, back_to, decide, learn_pair, learn_turned_pair, lear
 use crate::scan::Scan;
 use crate::visits::thousand;
 use cnf::{Formula, Lit, read_formula};
-use kernel::{Closed, Kernel};
+use kernel::{Closed, Cube, Kernel};
 use samples::cube_of;
 use std::alloc::{AllocError, Global};
 use std::test::Fail;
@@ -78,10 +78,9 @@ struct Twins {
 impl Twins {
     fn open(alloc: Global, formula: &Formula, units: &[i32]) -> Result<Twins, AllocError> {
         let units = cube_of(alloc, formula.vars(), units)?;
-        let root = cube_of(alloc, formula.vars(), &[])?;
         Ok(Twins {
-            kernel: Kernel::open_with(alloc, formula, units.lits(), &root)?,
-            scan: Scan::open(alloc, formula.clauses(), units.lits(), root.lits())?,
+            kernel: Kernel::open_with(alloc, formula, units.lits(), &Cube::root(alloc))?,
+            scan: Scan::open(alloc, formula.clauses(), units.lits(), &[])?,
             is_quiet: false,
             is_back: false,
             agree: true,
@@ -99,8 +98,7 @@ impl Twins {
         for number in LITERALS {
             learn_unit(&mut self.kernel, number)?;
         }
-        let root = cube_of(alloc, self.kernel.vars(), &[])?;
-        self.kernel.restart(&root)
+        self.kernel.restart(&Cube::root(alloc))
     }
 
     fn close(&mut self) -> Result<bool, AllocError> {
@@ -145,16 +143,16 @@ impl Twins {
         if !self.is_back {
             return Ok(false);
         }
-        if number.unsigned_abs() < free.unsigned_abs() {
-            let is_done = learn_pair(&mut self.kernel, number, free)?;
-            if is_done {
-                self.scan.learn(&lits_of(alloc, &[number, free])?)?;
-            }
-            return Ok(is_done);
-        }
-        let is_done = learn_turned_pair(&mut self.kernel, number, free)?;
+        let (is_done, clause) = if number.unsigned_abs() < free.unsigned_abs() {
+            (learn_pair(&mut self.kernel, number, free)?, [number, free])
+        } else {
+            (
+                learn_turned_pair(&mut self.kernel, number, free)?,
+                [free, number],
+            )
+        };
         if is_done {
-            self.scan.learn(&lits_of(alloc, &[free, number])?)?;
+            self.scan.learn(&lits_of(alloc, &clause)?)?;
         }
         Ok(is_done)
     }
@@ -199,23 +197,14 @@ struct Start<'a> {
     before: &'a [i32],
 }
 
-/// The kernel and the scan after a run.
-fn replayed(
-    alloc: Global,
-    start: &Start,
-    all: &[Operation],
-    run: &[usize],
-) -> Result<Twins, AllocError> {
-    let mut twins = Twins::open(alloc, start.formula, start.units)?;
-    if !start.before.is_empty() {
-        twins.use_for(alloc, start.before)?;
-    }
-    for place in run {
-        if let Some(operation) = all.get(*place) {
-            twins.try_one(alloc, *operation)?;
+impl Start<'_> {
+    fn open(&self, alloc: Global) -> Result<Twins, AllocError> {
+        let mut twins = Twins::open(alloc, self.formula, self.units)?;
+        if !self.before.is_empty() {
+            twins.use_for(alloc, self.before)?;
         }
+        Ok(twins)
     }
-    Ok(twins)
 }
 
 // how many operations a run has at most
@@ -223,6 +212,73 @@ const LONGEST: usize = 6;
 
 // more than the runs of any formula here
 const MOST: u32 = 1_000_000;
+
+/// The operations of a run so far, by their places, and the place from which on the next one is looked for.
+#[derive(Drop)]
+struct Run {
+    places: Vec<usize>,
+    from: usize,
+}
+
+impl Run {
+    /// Goes over to the next run, behind the operation that came next in this one, if there was one. Whether there is a next run.
+    fn go_on(&mut self, found: Option<usize>) -> Result<bool, AllocError> {
+        match found {
+            Some(place) if self.places.len() + 1 < LONGEST => {
+                self.places.push(place)?;
+                self.from = 0;
+            }
+            Some(place) => self.from = place.saturating_add(1),
+            None => match self.places.pop() {
+                None => return Ok(false),
+                Some(place) => self.from = place.saturating_add(1),
+            },
+        }
+        Ok(true)
+    }
+}
+
+/// Goes through a run, and does the operation that comes next: its place, if there is one, and whether the kernel and the scan agree.
+fn replay(
+    twins: &mut Twins,
+    alloc: Global,
+    all: &[Operation],
+    run: &Run,
+) -> Result<(Option<usize>, bool), AllocError> {
+    for place in &run.places {
+        if let Some(operation) = all.get(*place) {
+            twins.try_one(alloc, *operation)?;
+        }
+    }
+    let found = twins.first_lawful(alloc, all, run.from)?;
+    Ok((found, twins.agree))
+}
+
+fn replayed(
+    alloc: Global,
+    start: &Start,
+    all: &[Operation],
+    run: &Run,
+) -> Result<(Option<usize>, bool), AllocError> {
+    let mut twins = start.open(alloc)?;
+    replay(&mut twins, alloc, all, run)
+}
+
+/// Whether the kernel and the scan agree in all runs.
+fn agree_from(alloc: Global, start: &Start) -> Result<bool, AllocError> {
+    let all = operations(alloc)?;
+    let mut run = Run {
+        places: Vec::new(alloc),
+        from: 0,
+    };
+    for _ in 0..MOST {
+        let (found, agree) = replayed(alloc, start, &all, &run)?;
+        if !agree || !run.go_on(found)? {
+            return Ok(agree);
+        }
+    }
+    Ok(false)
+}
 
 /// Whether the kernel and the scan agree in all runs over a formula and units behind it.
 fn agree(alloc: Global, text: &[u8], units: &[i32], before: &[i32]) -> Result<bool, Fail> {
@@ -232,28 +288,10 @@ fn agree(alloc: Global, text: &[u8], units: &[i32], before: &[i32]) -> Result<bo
         units,
         before,
     };
-    let all = operations(alloc)?;
-    let mut run: Vec<usize> = Vec::new(alloc);
-    let mut from = 0usize;
-    for _ in 0..MOST {
-        let mut twins = replayed(alloc, &start, &all, &run)?;
-        match twins.first_lawful(alloc, &all, from)? {
-            Some(_) if !twins.agree => return Ok(false),
-            Some(place) if run.len() + 1 < LONGEST => {
-                run.push(place)?;
-                from = 0;
-            }
-            Some(place) => from = place.saturating_add(1),
-            None => match run.pop() {
-                None => return Ok(true),
-                Some(place) => from = place.saturating_add(1),
-            },
-        }
-    }
-    Ok(false)
+    Ok(agree_from(alloc, &start)?)
 }
 
-const FORMULAS: [&[u8]; 17] = [
+static FORMULAS: [&[u8]; 17] = [
     b"p cnf 0 0\n",
     b"p cnf 0 1\n0\n",
     b"p cnf 1 0\n",
@@ -273,11 +311,19 @@ const FORMULAS: [&[u8]; 17] = [
     b"p cnf 4 2\n1 3 4 0\n1 3 -4 0\n",
 ];
 
+/// The place of the first formula in which the kernel and the scan don't agree, if there is one.
+fn first_disagreement(alloc: Global, units: &[i32], before: &[i32]) -> Result<Option<usize>, Fail> {
+    for place in 0..FORMULAS.len() {
+        if !agree(alloc, FORMULAS[place], units, before)? {
+            return Ok(Some(place));
+        }
+    }
+    Ok(None)
+}
+
 #[test]
 fn all_runs_of_six_operations(rt: HostRuntime) -> Result<(), Fail> {
-    for text in FORMULAS {
-        assert!(rt; agree(rt.alloc(), text, &[], &[])?);
-    }
+    assert_eq!(rt; first_disagreement(rt.alloc(), &[], &[])?, None);
     Ok(())
 }
 
@@ -290,24 +336,18 @@ fn all_runs_over_a_thousand_clauses(rt: HostRuntime) -> Result<(), Fail> {
 
 #[test]
 fn all_runs_behind_other_cubes(rt: HostRuntime) -> Result<(), Fail> {
-    for text in FORMULAS {
-        assert!(rt; agree(rt.alloc(), text, &[], &[-1, 2])?);
-    }
+    assert_eq!(rt; first_disagreement(rt.alloc(), &[], &[-1, 2])?, None);
     Ok(())
 }
 
 #[test]
 fn all_runs_with_a_unit(rt: HostRuntime) -> Result<(), Fail> {
-    for text in FORMULAS {
-        assert!(rt; agree(rt.alloc(), text, &[-2], &[])?);
-    }
+    assert_eq!(rt; first_disagreement(rt.alloc(), &[-2], &[])?, None);
     Ok(())
 }
 
 #[test]
 fn all_runs_with_units_behind_other_cubes(rt: HostRuntime) -> Result<(), Fail> {
-    for text in FORMULAS {
-        assert!(rt; agree(rt.alloc(), text, &[3, -1], &[-1, 2])?);
-    }
+    assert_eq!(rt; first_disagreement(rt.alloc(), &[3, -1], &[-1, 2])?, None);
     Ok(())
 }

@@ -41,85 +41,108 @@ fn has_place(kernel: &Kernel, var: u32) -> bool {
     }
 }
 
-fn sees(alloc: Global, text: &[u8], wanted: &[Seen]) -> Result<bool, Fail> {
-    let mut kernel = opened(alloc, text, &[])?;
-    for seen in wanted {
-        if !acts(alloc, &mut kernel, seen.act)? || kernel.close()? != Closed::Quiet {
-            return Ok(false);
-        }
-        let found = (kernel.level(), kernel.least_free());
-        if found != (seen.level, seen.least_free) || !has_values(&kernel, seen.values) {
-            return Ok(false);
+fn sees(alloc: Global, kernel: &mut Kernel, seen: &Seen) -> Result<bool, AllocError> {
+    if !acts(alloc, kernel, seen.act)? || kernel.close()? != Closed::Quiet {
+        return Ok(false);
+    }
+    let found = (kernel.level(), kernel.least_free());
+    Ok(found == (seen.level, seen.least_free) && has_values(kernel, seen.values))
+}
+
+fn first_failed(alloc: Global, kernel: &mut Kernel, rows: &[Seen]) -> Result<Option<usize>, Fail> {
+    for place in 0..rows.len() {
+        if !sees(alloc, kernel, &rows[place])? {
+            return Ok(Some(place));
         }
     }
-    Ok(true)
+    Ok(None)
+}
+
+/// The place of the first row that a kernel which is opened at the root doesn't see, if there is one.
+fn failed_row(alloc: Global, text: &[u8], rows: &[Seen]) -> Result<Option<usize>, Fail> {
+    let mut kernel = opened(alloc, text, &[])?;
+    first_failed(alloc, &mut kernel, rows)
+}
+
+static NO_VARIABLES: [Seen; 1] = [Seen {
+    act: Act::Nothing,
+    level: 0,
+    least_free: None,
+    values: &[None, None],
+}];
+
+/// The number of variables, and the value of one that no formula has.
+fn vars_and_last_value(alloc: Global, text: &[u8]) -> Result<(u32, Option<bool>), Fail> {
+    let kernel = opened(alloc, text, &[])?;
+    Ok((kernel.vars(), kernel.value(u32::MAX)))
 }
 
 #[test]
 fn no_variables(rt: HostRuntime) -> Result<(), Fail> {
-    let wanted = [Seen {
-        act: Act::Nothing,
-        level: 0,
-        least_free: None,
-        values: &[None, None],
-    }];
-    assert!(rt; sees(rt.alloc(), b"p cnf 0 0\n", &wanted)?);
-    let kernel = opened(rt.alloc(), b"p cnf 0 0\n", &[])?;
-    assert_eq!(rt; (kernel.vars(), kernel.value(u32::MAX)), (0, None));
+    assert!(rt; failed_row(rt.alloc(), b"p cnf 0 0\n", &NO_VARIABLES)?.is_none());
+    assert!(rt; vars_and_last_value(rt.alloc(), b"p cnf 0 0\n")? == (0, None));
     Ok(())
 }
+
+const YES: Option<bool> = Some(true);
+
+const NO: Option<bool> = Some(false);
+
+const DECIDED_ONE: [Option<bool>; 6] = [None, YES, YES, None, None, None];
+
+const DECIDED_BOTH: [Option<bool>; 6] = [None, YES, YES, NO, NO, None];
+
+static THERE_AND_BACK: [Seen; 5] = [
+    Seen {
+        act: Act::Decide(1),
+        level: 1,
+        least_free: Some(3),
+        values: &DECIDED_ONE,
+    },
+    Seen {
+        act: Act::Decide(-3),
+        level: 2,
+        least_free: None,
+        values: &DECIDED_BOTH,
+    },
+    Seen {
+        act: Act::BackTo(1),
+        level: 1,
+        least_free: Some(3),
+        values: &DECIDED_ONE,
+    },
+    Seen {
+        act: Act::Decide(-3),
+        level: 2,
+        least_free: None,
+        values: &DECIDED_BOTH,
+    },
+    Seen {
+        act: Act::BackTo(0),
+        level: 0,
+        least_free: Some(1),
+        values: &[None, None, None, None, None, None],
+    },
+];
 
 #[test]
 fn looks_up_and_goes_back(rt: HostRuntime) -> Result<(), Fail> {
-    let yes = Some(true);
-    let no = Some(false);
-    let none = [None, None, None, None, None, None];
-    let one = [None, yes, yes, None, None, None];
-    let all = [None, yes, yes, no, no, None];
-    let wanted = [
-        Seen {
-            act: Act::Decide(1),
-            level: 1,
-            least_free: Some(3),
-            values: &one,
-        },
-        Seen {
-            act: Act::Decide(-3),
-            level: 2,
-            least_free: None,
-            values: &all,
-        },
-        Seen {
-            act: Act::BackTo(1),
-            level: 1,
-            least_free: Some(3),
-            values: &one,
-        },
-        Seen {
-            act: Act::Decide(-3),
-            level: 2,
-            least_free: None,
-            values: &all,
-        },
-        Seen {
-            act: Act::BackTo(0),
-            level: 0,
-            least_free: Some(1),
-            values: &none,
-        },
-    ];
-    assert!(rt; sees(rt.alloc(), b"p cnf 4 2\n2 -1 0\n-4 3 0\n", &wanted)?);
+    let text = b"p cnf 4 2\n2 -1 0\n-4 3 0\n";
+    assert_eq!(rt; failed_row(rt.alloc(), text, &THERE_AND_BACK)?, None);
     Ok(())
 }
 
-/// Decides the least free variable, false, while there is one.
-fn decide_all(kernel: &mut Kernel) -> Result<bool, AllocError> {
+/// Decides the least free variable, false, while there is one. The level that this comes to, if it is as it is to be.
+fn decide_all(kernel: &mut Kernel) -> Result<Option<u32>, Fail> {
     for var in 1..=kernel.vars() {
         if kernel.least_free() != Some(var) || !decide_least(kernel)? {
-            return Ok(false);
+            return Ok(None);
         }
     }
-    Ok(kernel.least_free().is_none())
+    if kernel.least_free().is_some() {
+        return Ok(None);
+    }
+    Ok(Some(kernel.level()))
 }
 
 fn decide_least(kernel: &mut Kernel) -> Result<bool, AllocError> {
@@ -129,11 +152,14 @@ fn decide_least(kernel: &mut Kernel) -> Result<bool, AllocError> {
     }
 }
 
+fn levels(alloc: Global, text: &[u8]) -> Result<Option<u32>, Fail> {
+    let mut kernel = opened(alloc, text, &[])?;
+    decide_all(&mut kernel)
+}
+
 #[test]
 fn decides_each_of_many_variables(rt: HostRuntime) -> Result<(), Fail> {
-    let mut kernel = opened(rt.alloc(), b"p cnf 262143 0\n", &[])?;
-    assert!(rt; decide_all(&mut kernel)?);
-    assert_eq!(rt; kernel.level(), 262143);
+    assert_eq!(rt; levels(rt.alloc(), b"p cnf 262143 0\n")?, Some(262143));
     Ok(())
 }
 
@@ -141,9 +167,8 @@ fn decides_each_of_many_variables(rt: HostRuntime) -> Result<(), Fail> {
 fn cubes(rt: HostRuntime) -> Result<(), Fail> {
     let mut cube = cube_of(rt.alloc(), 9, &[3, -1, 3, 10])?;
     assert!(rt; reads(cube.lits(), &[3, -1]));
-    let last = cube.pop();
-    assert!(rt; matches!(last, Some(lit) if lit.number() == -1));
+    assert!(rt; matches!(cube.pop(), Some(lit) if lit.number() == -1));
     assert!(rt; reads(cube.lits(), &[3]));
-    assert!(rt; reads(Cube::root(rt.alloc()).lits(), &[]));
+    assert!(rt; Cube::root(rt.alloc()).lits().is_empty());
     Ok(())
 }

@@ -1,170 +1,205 @@
 //! Worked rows: what propagation answers, and the whole trail after it.
-use crate::acts::{Act, Row, goes};
+use crate::acts::{Act, Case, Row, all_go};
 use kernel::Closed;
 use samples::{EIGHT, FOUR};
 use std::test::Fail;
 
-#[test]
-fn two_variables(rt: HostRuntime) -> Result<(), Fail> {
-    let rows = [
-        Row::new(Act::Nothing, Closed::Quiet, &[]),
-        Row::new(
-            Act::Decide(-1),
-            Closed::Conflict(2),
-            &[(-1, 0, 1), (2, 1, 1)],
-        ),
-        Row::new(
-            Act::LearnUnit(1),
-            Closed::Conflict(4),
-            &[(1, 5, 0), (2, 3, 0)],
-        ),
-    ];
-    assert!(rt; goes(rt.alloc(), FOUR, &[], &rows)?);
-    Ok(())
-}
+static DECISIONS: [Case; 5] = [
+    Case {
+        name: "two variables",
+        text: FOUR,
+        numbers: &[],
+        rows: &[
+            Row(Act::Nothing, Closed::Quiet, &[]),
+            Row(
+                Act::Decide(-1),
+                Closed::Conflict(2),
+                &[(-1, 0, 1), (2, 1, 1)],
+            ),
+            Row(
+                Act::LearnUnit(1),
+                Closed::Conflict(4),
+                &[(1, 5, 0), (2, 3, 0)],
+            ),
+        ],
+    },
+    Case {
+        name: "a level that no clause names",
+        text: b"p cnf 4 2\n1 3 4 0\n1 3 -4 0\n",
+        numbers: &[],
+        rows: &[
+            Row(Act::Decide(-1), Closed::Quiet, &[(-1, 0, 1)]),
+            Row(Act::Decide(-2), Closed::Quiet, &[(-1, 0, 1), (-2, 0, 2)]),
+            Row(
+                Act::Decide(-3),
+                Closed::Conflict(2),
+                &[(-1, 0, 1), (-2, 0, 2), (-3, 0, 3), (4, 1, 3)],
+            ),
+            Row(
+                Act::LearnPair(1, 1, 3),
+                Closed::Quiet,
+                &[(-1, 0, 1), (3, 3, 1)],
+            ),
+        ],
+    },
+    Case {
+        name: "four conflicts",
+        text: EIGHT,
+        numbers: &[],
+        rows: &[
+            Row(Act::Decide(-1), Closed::Quiet, &[(-1, 0, 1)]),
+            Row(
+                Act::Decide(-2),
+                Closed::Conflict(2),
+                &[(-1, 0, 1), (-2, 0, 2), (3, 1, 2)],
+            ),
+            Row(
+                Act::LearnPair(1, 1, 2),
+                Closed::Conflict(4),
+                &[(-1, 0, 1), (2, 9, 1), (3, 3, 1)],
+            ),
+            Row(Act::LearnUnit(1), Closed::Quiet, &[(1, 10, 0)]),
+            Row(
+                Act::Decide(-2),
+                Closed::Conflict(6),
+                &[(1, 10, 0), (-2, 0, 1), (3, 5, 1)],
+            ),
+            Row(
+                Act::LearnUnit(2),
+                Closed::Conflict(8),
+                &[(1, 10, 0), (2, 11, 0), (3, 7, 0)],
+            ),
+        ],
+    },
+    Case {
+        name: "the negative half",
+        text: EIGHT,
+        numbers: &[-1],
+        rows: &[
+            Row(
+                Act::Decide(-2),
+                Closed::Conflict(2),
+                &[(-1, 0, 0), (-2, 0, 1), (3, 1, 1)],
+            ),
+            Row(
+                Act::LearnUnit(2),
+                Closed::Conflict(4),
+                &[(-1, 0, 0), (2, 9, 0), (3, 3, 0)],
+            ),
+        ],
+    },
+    Case {
+        name: "the positive half",
+        text: EIGHT,
+        numbers: &[1],
+        rows: &[
+            Row(
+                Act::Decide(-2),
+                Closed::Conflict(6),
+                &[(1, 0, 0), (-2, 0, 1), (3, 5, 1)],
+            ),
+            Row(
+                Act::LearnUnit(2),
+                Closed::Conflict(8),
+                &[(1, 0, 0), (2, 9, 0), (3, 7, 0)],
+            ),
+        ],
+    },
+];
 
-#[test]
-fn a_level_that_no_clause_names(rt: HostRuntime) -> Result<(), Fail> {
-    let rows = [
-        Row::new(Act::Decide(-1), Closed::Quiet, &[(-1, 0, 1)]),
-        Row::new(Act::Decide(-2), Closed::Quiet, &[(-1, 0, 1), (-2, 0, 2)]),
-        Row::new(
-            Act::Decide(-3),
+static AT_THE_ROOT: [Case; 10] = [
+    Case {
+        name: "cube -1 -2",
+        text: EIGHT,
+        numbers: &[-1, -2],
+        rows: &[Row(
+            Act::Nothing,
             Closed::Conflict(2),
-            &[(-1, 0, 1), (-2, 0, 2), (-3, 0, 3), (4, 1, 3)],
-        ),
-        Row::new(
-            Act::LearnPair(1, 1, 3),
-            Closed::Quiet,
-            &[(-1, 0, 1), (3, 3, 1)],
-        ),
-    ];
-    assert!(rt; goes(rt.alloc(), b"p cnf 4 2\n1 3 4 0\n1 3 -4 0\n", &[], &rows)?);
-    Ok(())
-}
-
-#[test]
-fn four_conflicts(rt: HostRuntime) -> Result<(), Fail> {
-    let rows = [
-        Row::new(Act::Decide(-1), Closed::Quiet, &[(-1, 0, 1)]),
-        Row::new(
-            Act::Decide(-2),
-            Closed::Conflict(2),
-            &[(-1, 0, 1), (-2, 0, 2), (3, 1, 2)],
-        ),
-        Row::new(
-            Act::LearnPair(1, 1, 2),
+            &[(-1, 0, 0), (-2, 0, 0), (3, 1, 0)],
+        )],
+    },
+    Case {
+        name: "cube -1 2",
+        text: EIGHT,
+        numbers: &[-1, 2],
+        rows: &[Row(
+            Act::Nothing,
             Closed::Conflict(4),
-            &[(-1, 0, 1), (2, 9, 1), (3, 3, 1)],
-        ),
-        Row::new(Act::LearnUnit(1), Closed::Quiet, &[(1, 10, 0)]),
-        Row::new(
-            Act::Decide(-2),
+            &[(-1, 0, 0), (2, 0, 0), (3, 3, 0)],
+        )],
+    },
+    Case {
+        name: "cube 1 -2",
+        text: EIGHT,
+        numbers: &[1, -2],
+        rows: &[Row(
+            Act::Nothing,
             Closed::Conflict(6),
-            &[(1, 10, 0), (-2, 0, 1), (3, 5, 1)],
-        ),
-        Row::new(
-            Act::LearnUnit(2),
+            &[(1, 0, 0), (-2, 0, 0), (3, 5, 0)],
+        )],
+    },
+    Case {
+        name: "cube 1 2",
+        text: EIGHT,
+        numbers: &[1, 2],
+        rows: &[Row(
+            Act::Nothing,
             Closed::Conflict(8),
-            &[(1, 10, 0), (2, 11, 0), (3, 7, 0)],
-        ),
-    ];
-    assert!(rt; goes(rt.alloc(), EIGHT, &[], &rows)?);
-    Ok(())
-}
-
-#[test]
-fn the_two_halves(rt: HostRuntime) -> Result<(), Fail> {
-    let negative = [
-        Row::new(
-            Act::Decide(-2),
+            &[(1, 0, 0), (2, 0, 0), (3, 7, 0)],
+        )],
+    },
+    Case {
+        name: "the least unit clause comes first",
+        text: b"p cnf 3 2\n2 3 0\n1 -3 0\n",
+        numbers: &[-1, -2],
+        rows: &[Row(
+            Act::Nothing,
             Closed::Conflict(2),
-            &[(-1, 0, 0), (-2, 0, 1), (3, 1, 1)],
-        ),
-        Row::new(
-            Act::LearnUnit(2),
-            Closed::Conflict(4),
-            &[(-1, 0, 0), (2, 9, 0), (3, 3, 0)],
-        ),
-    ];
-    let positive = [
-        Row::new(
-            Act::Decide(-2),
-            Closed::Conflict(6),
-            &[(1, 0, 0), (-2, 0, 1), (3, 5, 1)],
-        ),
-        Row::new(
-            Act::LearnUnit(2),
-            Closed::Conflict(8),
-            &[(1, 0, 0), (2, 9, 0), (3, 7, 0)],
-        ),
-    ];
-    assert!(rt; goes(rt.alloc(), EIGHT, &[-1], &negative)?);
-    assert!(rt; goes(rt.alloc(), EIGHT, &[1], &positive)?);
-    Ok(())
+            &[(-1, 0, 0), (-2, 0, 0), (3, 1, 0)],
+        )],
+    },
+    Case {
+        name: "a false clause comes before a unit one",
+        text: b"p cnf 3 2\n2 3 0\n1 2 0\n",
+        numbers: &[-1, -2],
+        rows: &[Row(Act::Nothing, Closed::Conflict(2), &[(-1, 0, 0), (-2, 0, 0)])],
+    },
+    Case {
+        name: "an empty clause behind a unit one",
+        text: b"p cnf 1 2\n1 0\n0\n",
+        numbers: &[],
+        rows: &[Row(Act::Nothing, Closed::Conflict(2), &[])],
+    },
+    Case {
+        name: "an empty clause alone",
+        text: b"p cnf 0 1\n0\n",
+        numbers: &[],
+        rows: &[Row(Act::Nothing, Closed::Conflict(1), &[])],
+    },
+    Case {
+        name: "repeated literals",
+        text: b"p cnf 2 2\n1 1 0\n-1 2 -1 2 2 0\n",
+        numbers: &[],
+        rows: &[Row(Act::Nothing, Closed::Quiet, &[(1, 1, 0), (2, 2, 0)])],
+    },
+    Case {
+        name: "literals of both signs",
+        text: b"p cnf 2 3\n1 -1 0\n2 -1 1 0\n-2 2 1 0\n",
+        numbers: &[],
+        rows: &[
+            Row(Act::Nothing, Closed::Quiet, &[]),
+            Row(Act::Decide(-1), Closed::Quiet, &[(-1, 0, 1)]),
+            Row(Act::Decide(2), Closed::Quiet, &[(-1, 0, 1), (2, 0, 2)]),
+        ],
+    },
+];
+
+#[test]
+fn propagation_behind_decisions(rt: HostRuntime) -> Result<(), Fail> {
+    all_go(&rt, rt.alloc(), &DECISIONS)
 }
 
 #[test]
-fn cubes_of_two_literals(rt: HostRuntime) -> Result<(), Fail> {
-    let cubes = [
-        ([-1, -2], 1, 2),
-        ([-1, 2], 3, 4),
-        ([1, -2], 5, 6),
-        ([1, 2], 7, 8),
-    ];
-    for (cube, reason, conflict) in cubes {
-        let wanted = [(cube[0], 0, 0), (cube[1], 0, 0), (3, reason, 0)];
-        let rows = [Row::new(Act::Nothing, Closed::Conflict(conflict), &wanted)];
-        assert!(rt; goes(rt.alloc(), EIGHT, &cube, &rows)?);
-    }
-    Ok(())
-}
-
-#[test]
-fn the_least_unit_clause_comes_first(rt: HostRuntime) -> Result<(), Fail> {
-    let rows = [Row::new(
-        Act::Nothing,
-        Closed::Conflict(2),
-        &[(-1, 0, 0), (-2, 0, 0), (3, 1, 0)],
-    )];
-    assert!(rt; goes(rt.alloc(), b"p cnf 3 2\n2 3 0\n1 -3 0\n", &[-1, -2], &rows)?);
-    Ok(())
-}
-
-#[test]
-fn a_false_clause_comes_before_a_unit_one(rt: HostRuntime) -> Result<(), Fail> {
-    let rows = [Row::new(Act::Nothing, Closed::Conflict(2), &[(-1, 0, 0), (-2, 0, 0)])];
-    assert!(rt; goes(rt.alloc(), b"p cnf 3 2\n2 3 0\n1 2 0\n", &[-1, -2], &rows)?);
-    Ok(())
-}
-
-#[test]
-fn clauses_of_odd_shapes(rt: HostRuntime) -> Result<(), Fail> {
-    let empty = [Row::new(Act::Nothing, Closed::Conflict(2), &[])];
-    assert!(rt; goes(rt.alloc(), b"p cnf 1 2\n1 0\n0\n", &[], &empty)?);
-    let alone = [Row::new(Act::Nothing, Closed::Conflict(1), &[])];
-    assert!(rt; goes(rt.alloc(), b"p cnf 0 1\n0\n", &[], &alone)?);
-    let repeated = [Row::new(Act::Nothing, Closed::Quiet, &[(1, 1, 0), (2, 2, 0)])];
-    assert!(rt;
-        goes(
-            rt.alloc(),
-            b"p cnf 2 2\n1 1 0\n-1 2 -1 2 2 0\n",
-            &[],
-            &repeated
-        )?
-    );
-    let both_signs = [
-        Row::new(Act::Nothing, Closed::Quiet, &[]),
-        Row::new(Act::Decide(-1), Closed::Quiet, &[(-1, 0, 1)]),
-        Row::new(Act::Decide(2), Closed::Quiet, &[(-1, 0, 1), (2, 0, 2)]),
-    ];
-    assert!(rt;
-        goes(
-            rt.alloc(),
-            b"p cnf 2 3\n1 -1 0\n2 -1 1 0\n-2 2 1 0\n",
-            &[],
-            &both_signs
-        )?
-    );
-    Ok(())
+fn propagation_at_the_root(rt: HostRuntime) -> Result<(), Fail> {
+    all_go(&rt, rt.alloc(), &AT_THE_ROOT)
 }

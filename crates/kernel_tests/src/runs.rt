@@ -1,9 +1,12 @@
 //! Runs over many small formulas: after each operation the kernel answers what a scan of all clauses does, with the same trail.
+ghost use Rattle.std.specs.Prelude.{IfOk};
+ghost use Rattle.theory.specs.Truth.{IsOver};
+
 use crate::acts::{are_same, back_to, decide, learn_pair, learn_three, learn_unit, lits_of};
 use crate::dice::{Dice, formula_text};
 use crate::scan::Scan;
 use cnf::{Formula, Lit, read_formula};
-use kernel::{Closed, Kernel};
+use kernel::{Closed, Cube, Kernel};
 use samples::cube_of;
 use std::alloc::{AllocError, Global};
 use std::test::Fail;
@@ -26,13 +29,29 @@ fn last_negated(kernel: &Kernel) -> i32 {
     }
 }
 
+/// A cube of at most two literals over the variables.
+fn small_cube(alloc: Global, dice: &mut Dice, vars: u32) -> Result<Cube, AllocError>
+    ensures { IfOk result (λ q. IsOver vars q) }
+{
+    let numbers = [dice.number_or_0(vars), dice.number_or_0(vars)];
+    let cube = cube_of(alloc, vars, &numbers)?;
+    Ok(cube)
+}
+
+/// A clause of one to three literals.
+fn learn(kernel: &mut Kernel, clause: &[i32]) -> Result<bool, AllocError> {
+    match clause {
+        [free] => learn_unit(kernel, *free),
+        [lit, free] => learn_pair(kernel, *lit, *free),
+        [other, lit, free] => learn_three(kernel, [*other, *lit, *free]),
+        _ => Ok(false),
+    }
+}
+
 impl Twins {
     fn open(alloc: Global, dice: &mut Dice, formula: &Formula) -> Result<Twins, AllocError> {
-        let vars = formula.vars();
-        let numbers = [dice.number_or_0(vars), dice.number_or_0(vars)];
-        let cube = cube_of(alloc, formula.vars(), &numbers)?;
-        let numbers = [dice.number_or_0(vars), dice.number_or_0(vars)];
-        let units = cube_of(alloc, formula.vars(), &numbers)?;
+        let cube = small_cube(alloc, dice, formula.vars())?;
+        let units = small_cube(alloc, dice, formula.vars())?;
         Ok(Twins {
             kernel: Kernel::open_with(alloc, formula, units.lits(), &cube)?,
             scan: Scan::open(alloc, formula.clauses(), units.lits(), cube.lits())?,
@@ -51,9 +70,7 @@ impl Twins {
     }
 
     fn restart(&mut self, alloc: Global, dice: &mut Dice) -> Result<(), AllocError> {
-        let vars = self.kernel.vars();
-        let numbers = [dice.number_or_0(vars), dice.number_or_0(vars)];
-        let cube = cube_of(alloc, self.kernel.vars(), &numbers)?;
+        let cube = small_cube(alloc, dice, self.kernel.vars())?;
         self.kernel.restart(&cube)?;
         self.scan.restart(cube.lits())
     }
@@ -83,22 +100,13 @@ impl Twins {
             last_negated(&self.kernel),
             dice.number(vars),
         ];
-        match dice.below(4) {
-            0 => {
-                if learn_unit(&mut self.kernel, numbers[2])? {
-                    self.scan.learn(&lits_of(alloc, &numbers[2..])?)?;
-                }
-            }
-            1 => {
-                if learn_pair(&mut self.kernel, numbers[1], numbers[2])? {
-                    self.scan.learn(&lits_of(alloc, &numbers[1..])?)?;
-                }
-            }
-            _ => {
-                if learn_three(&mut self.kernel, numbers)? {
-                    self.scan.learn(&lits_of(alloc, &numbers)?)?;
-                }
-            }
+        let clause = match dice.below(4) {
+            0 => &numbers[2..],
+            1 => &numbers[1..],
+            _ => &numbers[..],
+        };
+        if learn(&mut self.kernel, clause)? {
+            self.scan.learn(&lits_of(alloc, clause)?)?;
         }
         Ok(())
     }
@@ -122,21 +130,37 @@ impl Twins {
             _ => self.decide(dice),
         }
     }
+    /// Propagates in both, and goes on. Whether both answered the same.
+    fn go_on(&mut self, alloc: Global, dice: &mut Dice) -> Result<bool, AllocError> {
+        match self.close()? {
+            None => return Ok(false),
+            Some(Closed::Quiet) => self.after_quiet(alloc, dice)?,
+            Some(Closed::Conflict(_)) => self.after_conflict(alloc, dice)?,
+        }
+        Ok(true)
+    }
+
+    /// Whether both agree in twenty operations.
+    fn agree(&mut self, alloc: Global, dice: &mut Dice) -> Result<bool, Fail> {
+        for _ in 0..20 {
+            if !self.go_on(alloc, dice)? {
+                return Ok(false);
+            }
+        }
+        Ok(true)
+    }
 }
 
-/// Whether the kernel and the scan agree in a run of twenty operations over one formula.
-fn agrees(alloc: Global, dice: &mut Dice) -> Result<bool, Fail> {
+fn some_formula(alloc: Global, dice: &mut Dice) -> Result<Formula, Fail> {
     let text = formula_text(alloc, dice)?;
-    let formula = read_formula(alloc, &text)?;
+    Ok(read_formula(alloc, &text)?)
+}
+
+/// Whether the kernel and the scan agree in a run over one formula.
+fn agrees(alloc: Global, dice: &mut Dice) -> Result<bool, Fail> {
+    let formula = some_formula(alloc, dice)?;
     let mut twins = Twins::open(alloc, dice, &formula)?;
-    for _ in 0..20 {
-        match twins.close()? {
-            None => return Ok(false),
-            Some(Closed::Quiet) => twins.after_quiet(alloc, dice)?,
-            Some(Closed::Conflict(_)) => twins.after_conflict(alloc, dice)?,
-        }
-    }
-    Ok(true)
+    twins.agree(alloc, dice)
 }
 
 #[test]

@@ -1,8 +1,6 @@
 //! How many visits of clauses propagation makes.
-use crate::acts::decide;
-use cnf::read_formula;
+use crate::acts::{decide, opened};
 use kernel::{Closed, Kernel};
-use samples::cube_of;
 use std::alloc::{AllocError, Global};
 use std::test::Fail;
 
@@ -25,14 +23,30 @@ fn visits_after(kernel: &mut Kernel, number: i32) -> Result<Option<u64>, AllocEr
     Ok(Some(kernel.visits().saturating_sub(before)))
 }
 
+/// The visits before a decision, those after it and after another one, and the clause that gave variable 3 its value.
+type Visits = (u64, Option<u64>, Option<u64>, Option<u64>);
+
+fn visits(kernel: &mut Kernel) -> Result<Visits, Fail> {
+    let before = kernel.visits();
+    let unwatched = visits_after(kernel, -1)?;
+    let watched = visits_after(kernel, -2)?;
+    let reason = match kernel.entry(3) {
+        Some(entry) => entry.reason,
+        None => None,
+    };
+    Ok((before, unwatched, watched, reason))
+}
+
+fn visits_of_a_thousand(alloc: Global) -> Result<Visits, Fail> {
+    let mut kernel = opened(alloc, &thousand(alloc)?, &[])?;
+    visits(&mut kernel)
+}
+
 #[test]
 fn only_clauses_that_watch_it_are_visited(rt: HostRuntime) -> Result<(), Fail> {
-    let formula = read_formula(rt.alloc(), &thousand(rt.alloc())?)?;
-    let cube = cube_of(rt.alloc(), formula.vars(), &[])?;
-    let mut kernel = Kernel::open(rt.alloc(), &formula, &cube)?;
-    assert_eq!(rt; kernel.visits(), 0);
-    assert_eq!(rt; visits_after(&mut kernel, -1)?, Some(0));
-    assert_eq!(rt; visits_after(&mut kernel, -2)?, Some(1000));
-    assert!(rt; matches!(kernel.entry(3), Some(entry) if entry.reason == Some(1)));
+    assert_eq!(rt;
+        visits_of_a_thousand(rt.alloc())?,
+        (0, Some(0), Some(1000), Some(1))
+    );
     Ok(())
 }

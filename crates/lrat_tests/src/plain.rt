@@ -212,6 +212,22 @@ fn clauses_of(alloc: Global, formula: &Formula) -> Result<Vec<Numbered<'_>>, All
     Ok(there)
 }
 
+/// The number of the fault of an addition, if it has one. Its clause is put to those there.
+fn add<'a>(
+    alloc: Global,
+    vars: u32,
+    last: u64,
+    there: &mut Vec<Numbered<'a>>,
+    addition: &'a Addition,
+) -> Result<Option<u32>, AllocError> {
+    let fault = addition_fault(alloc, vars, last, there, addition)?;
+    there.push(Numbered {
+        id: addition.id(),
+        clause: addition.clause(),
+    })?;
+    Ok(fault)
+}
+
 /// The number and the step of the fault that the plain checker finds: 30 and 0 without an empty clause, else 0 and 0.
 fn plain(alloc: Global, formula: &Formula, steps: &[Step]) -> Result<(u32, u64), AllocError> {
     let mut there = clauses_of(alloc, formula)?;
@@ -220,11 +236,9 @@ fn plain(alloc: Global, formula: &Formula, steps: &[Step]) -> Result<(u32, u64),
     for index in 0..steps.len() {
         let fault = match &steps[index] {
             Step::Add(addition) => {
-                let clause = addition.clause();
-                let fault = addition_fault(alloc, formula.vars(), last, &there, addition)?;
+                let fault = add(alloc, formula.vars(), last, &mut there, addition)?;
                 last = addition.id();
-                there.push(Numbered { id: last, clause })?;
-                if clause.is_empty() {
+                if addition.clause().is_empty() {
                     answer = (0, 0);
                 }
                 fault
@@ -244,17 +258,27 @@ fn plain(alloc: Global, formula: &Formula, steps: &[Step]) -> Result<(u32, u64),
     Ok(answer)
 }
 
-/// Both checkers on a text, where it is a proof's.
-fn compare(rt: &impl Abort, alloc: Global, formula: &Formula, text: &[u8]) -> Result<(), Fail> {
+/// What both checkers answer on a text, where it is a proof's: the crate's, and the plain one.
+fn answers(
+    alloc: Global,
+    formula: &Formula,
+    text: &[u8],
+) -> Result<Option<((u32, u64), (u32, u64))>, AllocError> {
     let Ok(steps) = read_proof(alloc, text) else {
-        return Ok(());
+        return Ok(None);
     };
     let answer = match check(alloc, formula, &steps) {
         Ok(()) => (0, 0),
         Err(fault) => (fault.number(), fault.step().unwrap_or(0)),
     };
-    let wanted = plain(alloc, formula, &steps)?;
-    assert_eq!(rt; answer, wanted, "{}", str::from_utf8(text).unwrap_or(""));
+    Ok(Some((answer, plain(alloc, formula, &steps)?)))
+}
+
+fn compare(rt: &impl Abort, alloc: Global, formula: &Formula, text: &[u8]) -> Result<(), Fail> {
+    if let Some((answer, wanted)) = answers(alloc, formula, text)? {
+        let text = str::from_utf8(text).unwrap_or("");
+        assert_eq!(rt; (text, answer), (text, wanted));
+    }
     Ok(())
 }
 

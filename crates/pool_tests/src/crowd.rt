@@ -185,36 +185,19 @@ fn at_once(
     Ok((first.join(rt), second, third, last))
 }
 
-fn hands_of(
+/// Hands that are back, and their diaries.
+fn parted(
     alloc: Global,
-    first: Hand,
-    second: Hand,
-    third: Hand,
-    last: Hand,
-) -> Result<Vec<Hand>, AllocError>
-    ensures { IfOk result (λ r. r.items ≡ first ∷ second ∷ third ∷ last ∷ []) }
+    first: Home,
+    second: Home,
+    third: Home,
+    last: Home,
+) -> Result<(Vec<Hand>, Vec<Diary>), AllocError>
+    ensures { IfOk result (λ r. r.0.items ≡ first.hand ∷ second.hand ∷ third.hand ∷ last.hand ∷ []) }
 {
-    let mut hands = Vec::new(alloc);
-    hands.push(first)?;
-    hands.push(second)?;
-    hands.push(third)?;
-    hands.push(last)?;
-    Ok(hands)
-}
-
-fn diaries_of(
-    alloc: Global,
-    first: Diary,
-    second: Diary,
-    third: Diary,
-    last: Diary,
-) -> Result<Vec<Diary>, AllocError> {
-    let mut diaries = Vec::new(alloc);
-    diaries.push(first)?;
-    diaries.push(second)?;
-    diaries.push(third)?;
-    diaries.push(last)?;
-    Ok(diaries)
+    let hands = vec![in alloc; first.hand, second.hand, third.hand, last.hand]?;
+    let diaries = vec![in alloc; first.diary, second.diary, third.diary, last.diary]?;
+    Ok((hands, diaries))
 }
 
 /// The four hands of a pool make their calls, and come home.
@@ -234,24 +217,8 @@ fn crowd(
     let second = hands.remove(1);
     let first = hands.remove(0);
     let (first, second, third, last) = at_once(rt, alloc, first, second, third, last)?;
-    let Home {
-        hand: one,
-        diary: first,
-    } = first;
-    let Home {
-        hand: two,
-        diary: second,
-    } = second;
-    let Home {
-        hand: three,
-        diary: third,
-    } = third;
-    let Home {
-        hand: four,
-        diary: last,
-    } = last;
-    let home = hands_of(alloc, one, two, three, four)?;
-    Ok((home, diaries_of(alloc, first, second, third, last)?))
+    let (home, diaries) = parted(alloc, first, second, third, last)?;
+    Ok((home, diaries))
 }
 
 /// Whether the cubes of each deque come in the order in which they were put, in one hand's list.
@@ -285,23 +252,40 @@ fn each_once(alloc: Global, diaries: &[Diary], closing: &Closing) -> Result<bool
     Ok(put.as_slice() == got.as_slice())
 }
 
-#[test]
-fn random_run(rt: HostRuntime) -> Result<(), Fail> {
-    let alloc = rt.alloc();
-    let (pool, hands) = open(alloc, 4, 18, cube_of(alloc, 18, &[])?)?;
-    let (hands, diaries) = crowd(&rt, alloc, &pool, hands)?;
-    let closing = pool.close(hands)?;
-    assert!(rt; each_once(alloc, &diaries, &closing)?);
+fn keep_order(diaries: &[Diary]) -> bool {
+    for diary in diaries {
+        if !keeps_order(&diary.got) {
+            return false;
+        }
+    }
+    true
+}
+
+/// What diaries say is undone, and the least place that they say was offered.
+fn sums(diaries: &[Diary]) -> (u64, Option<u64>) {
     let mut undone: u64 = 1;
     let mut least = None;
-    for diary in diaries.iter() {
-        assert!(rt; keeps_order(&diary.got));
+    for diary in diaries {
         undone = undone.wrapping_add(diary.more).wrapping_sub(diary.less);
         if let Some(place) = diary.least {
             least = Some(least.unwrap_or(place).min(place));
         }
     }
-    assert_eq!(rt; closing.undone, undone);
-    assert_eq!(rt; closing.least, least);
+    (undone, least)
+}
+
+fn crowd_closed(rt: &impl Threads, alloc: Global) -> Result<(Vec<Diary>, Closing), Fail> {
+    let (pool, hands) = open(alloc, 4, 18, cube_of(alloc, 18, &[])?)?;
+    let (hands, diaries) = crowd(rt, alloc, &pool, hands)?;
+    let closing = pool.close(hands)?;
+    Ok((diaries, closing))
+}
+
+#[test]
+fn random_run(rt: HostRuntime) -> Result<(), Fail> {
+    let (diaries, closing) = crowd_closed(&rt, rt.alloc())?;
+    assert!(rt; each_once(rt.alloc(), &diaries, &closing)?);
+    assert!(rt; keep_order(&diaries));
+    assert_eq!(rt; (closing.undone, closing.least), sums(&diaries));
     Ok(())
 }

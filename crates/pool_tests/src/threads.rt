@@ -7,7 +7,7 @@ use crate::cubes::{cube_of, is_cube};
 use crate::diary::{LessOf, SameAs, Visit};
 use crate::pairs::{close_two, open_two};
 use crate::rows::{Call, all_answer, both_answer};
-use pool::{Hand, Taken};
+use pool::{Closing, Hand, Taken};
 use std::alloc::{AllocError, Global};
 use std::snapshot::Snapshot;
 use std::sync::Wait;
@@ -97,9 +97,9 @@ fn both_offer<R: Threads + Wait + Sync>(
     )
 }
 
-const BEFORE: [Call; 3] = [Call::Take(&[]), Call::Put(&[-1]), Call::Put(&[1])];
+static BEFORE: [Call; 3] = [Call::Take(&[]), Call::Put(&[-1]), Call::Put(&[1])];
 
-const BEHIND: [(usize, Call); 6] = [
+static BEHIND: [(usize, Call); 6] = [
     (0, Call::Take(&[1])),
     (0, Call::TakeNone),
     (1, Call::TakeNone),
@@ -139,13 +139,17 @@ fn theft(
     Ok((two, is_ready && is_first && is_right))
 }
 
+/// Whether all calls around a theft answer as they are to, and how the pool is closed.
+fn closed_after_theft(rt: &impl Threads, alloc: Global) -> Result<(bool, Closing), Fail> {
+    let (pool, mut one, two) = open_two(alloc, 1, cube_of(alloc, 1, &[])?)?;
+    let (two, is_as_wanted) = theft(rt, alloc, &mut one, two)?;
+    Ok((is_as_wanted, close_two(alloc, pool, one, two)?))
+}
+
 #[test]
 fn a_cube_is_stolen(rt: HostRuntime) -> Result<(), Fail> {
-    let alloc = rt.alloc();
-    let (pool, mut one, two) = open_two(alloc, 1, cube_of(alloc, 1, &[])?)?;
-    let (two, is_as_wanted) = theft(&rt, alloc, &mut one, two)?;
+    let (is_as_wanted, closing) = closed_after_theft(&rt, rt.alloc())?;
     assert!(rt; is_as_wanted);
-    let closing = close_two(alloc, pool, one, two)?;
     assert_eq!(rt;
         (closing.left.len(), closing.least, closing.undone),
         (0, Some(5), 1)
@@ -153,34 +157,57 @@ fn a_cube_is_stolen(rt: HostRuntime) -> Result<(), Fail> {
     Ok(())
 }
 
-#[test]
-fn two_count(rt: HostRuntime) -> Result<(), Fail> {
-    let alloc = rt.alloc();
-    let (pool, mut one, two) = open_two(alloc, 1, cube_of(alloc, 1, &[])?)?;
-    let child = counter(&rt, two)?;
+/// The first hand counts twice up while the second one counts once down; and what each then says is open.
+fn both_count(
+    rt: &impl Threads,
+    one: &mut Hand,
+    two: Hand,
+) -> Result<(Hand, (u64, u64)), AllocError>
+    ensures one { SameHand one.old one.new }
+    ensures two { IfOk result (λ r. SameHand two r.0) }
+{
+    let child = counter(rt, two)?;
     one.more();
     one.more();
-    let visit = child.join(&rt);
+    let visit = child.join(rt);
     let Visit {
         hand: mut two,
         got: _,
     } = visit;
-    assert_eq!(rt; one.still_open(), 2);
-    assert_eq!(rt; two.still_open(), 2);
+    let open = (one.still_open(), two.still_open());
+    Ok((two, open))
+}
+
+/// What each of two hands says is open, and the pool at its closing.
+fn counted(rt: &impl Threads, alloc: Global) -> Result<((u64, u64), u64), Fail> {
+    let (pool, mut one, two) = open_two(alloc, 1, cube_of(alloc, 1, &[])?)?;
+    let (two, open) = both_count(rt, &mut one, two)?;
     let closing = close_two(alloc, pool, one, two)?;
-    assert_eq!(rt; closing.undone, 2);
+    Ok((open, closing.undone))
+}
+
+#[test]
+fn two_count(rt: HostRuntime) -> Result<(), Fail> {
+    assert_eq!(rt; counted(&rt, rt.alloc())?, ((2, 2), 2));
     Ok(())
+}
+
+/// The closing of a pool whose two hands offered these places.
+fn closed_after_offers<R: Threads + Wait + Sync>(
+    rt: &R,
+    alloc: Global,
+    places: &[u64],
+) -> Result<Closing, Fail> {
+    let (pool, one, two) = open_two(alloc, 1, cube_of(alloc, 1, &[])?)?;
+    let (first, second) = both_offer(rt, one, two, places)?;
+    let Visit { hand: one, got: _ } = first;
+    let Visit { hand: two, got: _ } = second;
+    Ok(close_two(alloc, pool, one, two)?)
 }
 
 #[test]
 fn two_offer_in_a_scope(rt: HostRuntime) -> Result<(), Fail> {
-    let alloc = rt.alloc();
-    let (pool, one, two) = open_two(alloc, 1, cube_of(alloc, 1, &[])?)?;
-    let (first, second) = both_offer(&rt, one, two, &[9, 5, 4_294_967_296, 7])?;
-    let Visit { hand: one, got: _ } = first;
-    let Visit { hand: two, got: _ } = second;
-    let closing = close_two(alloc, pool, one, two)?;
-    assert_eq!(rt; closing.least, Some(5));
-    assert_eq!(rt; closing.left.len(), 1);
+    let closing = closed_after_offers(&rt, rt.alloc(), &[9, 5, 4_294_967_296, 7])?;
+    assert_eq!(rt; (closing.least, closing.left.len()), (Some(5), 1));
     Ok(())
 }

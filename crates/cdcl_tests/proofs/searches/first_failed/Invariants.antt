@@ -1,5 +1,5 @@
 use Rattle.std.proofs.Common.{◌≡◌}
-use Rattle.cdcl_tests.proofs.searches.all_come.Given as goal
+use Rattle.cdcl_tests.proofs.searches.first_failed.Given as goal
 
 -- the solver stays one of the formula
 abbrev pub invariant-turns : goal.invariant-turns

@@ -1,0 +1,73 @@
+//! What cubes are to come to.
+ghost use Rattle.std.specs.Prelude.{◌≤◌};
+
+use cdcl::{Outcome, Refutation, solve_cube};
+use cnf::read_formula;
+use samples::{cube_of, reads};
+use std::alloc::Global;
+use std::process::Abort;
+use std::test::Fail;
+
+// the first conflict leaves out a level
+pub const LEVEL_LEFT_OUT: &[u8] = b"p cnf 4 2\n1 3 4 0\n1 3 -4 0\n";
+
+/// A line's clause and its hints.
+pub type WantedLine<'a> = (&'a [i32], &'a [u64]);
+
+/// What a cube is to come to.
+#[derive(Clone, Copy)]
+pub enum Wanted<'a> {
+    /// Nothing but the variable to split on, which is the first.
+    Exhausted,
+    Model(&'a [bool]),
+    Refuted(&'a [WantedLine<'a>]),
+}
+
+/// The outcome of a cube.
+pub fn outcome(alloc: Global, text: &[u8], cube: &[i32], budget: u32) -> Result<Outcome, Fail>
+    requires { (1 ≤ budget) × (budget ≤ 100000) }
+{
+    let formula = read_formula(alloc, text)?;
+    let cube = cube_of(alloc, formula.vars(), cube)?;
+    Ok(solve_cube(alloc, &formula, &cube, budget)?)
+}
+
+fn has_lines(refutation: &Refutation, wanted: &[WantedLine]) -> bool {
+    if refutation.lines.len() != wanted.len() {
+        return false;
+    }
+    for (line, want) in refutation.lines.iter().zip(wanted) {
+        if !reads(line.clause(), want.0) || line.hints() != want.1 {
+            return false;
+        }
+    }
+    true
+}
+
+pub fn is_wanted(outcome: &Outcome, wanted: Wanted) -> bool {
+    match (outcome, wanted) {
+        (Outcome::Exhausted(var), Wanted::Exhausted) => *var == 1,
+        (Outcome::Model(values), Wanted::Model(wanted)) => &values[..] == wanted,
+        (Outcome::Refuted(refutation), Wanted::Refuted(lines)) => has_lines(refutation, lines),
+        _ => false,
+    }
+}
+
+/// A name, a formula, a cube, the root's budget, and what the cube is to come to.
+pub type Row<'a> = (&'a str, &'a [u8], &'a [i32], u32, Wanted<'a>);
+
+fn comes(alloc: Global, row: &Row) -> Result<bool, Fail> {
+    let (_, text, cube, budget, wanted) = *row;
+    if budget < 1 || budget > 100_000 {
+        return Ok(false);
+    }
+    Ok(is_wanted(&outcome(alloc, text, cube, budget)?, wanted))
+}
+
+/// Each row's cube, by itself, comes to what is wanted.
+pub fn all_come(rt: &impl Abort, alloc: Global, rows: &[Row]) -> Result<(), Fail> {
+    for row in rows {
+        assert_eq!(rt; (row.0, comes(alloc, row)?), (row.0, true));
+    }
+    Ok(())
+}

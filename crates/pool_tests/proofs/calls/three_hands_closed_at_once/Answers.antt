@@ -1,5 +1,0 @@
-use Rattle.pool_tests.proofs.Homecoming.{all_new}
-use Rattle.pool_tests.proofs.calls.three_hands_closed_at_once.Goals as goal
-
-pub close-requires : goal.close-requires
-close-requires g c = all_new _ _ _ c.in_ok-pool.ensures.hands
