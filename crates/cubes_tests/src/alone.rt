@@ -1,89 +1,105 @@
 //! Worked rows: whole trees, solved without hands.
-use crate::results::{NODES, Wanted, has_nodes, is_model};
+use crate::results::{NODES, NODES_OF_SIXTEEN, Wanted, WantedTree, is_tree};
 use cnf::read_formula;
-use cubes::{Tree, solve_one};
+use cubes::solve_one;
 use samples::{EIGHT, FOUR, FOUR_PURE, FOUR_UNUSED, SIXTEEN};
 use std::alloc::Global;
+use std::process::Abort;
 use std::test::Fail;
 
-/// The tree of a text with a budget, or none where no root may have that.
-fn tree_of(alloc: Global, text: &[u8], budget: u32) -> Result<Option<Tree>, Fail> {
-    let formula = read_formula(alloc, text)?;
-    if budget < 1 || budget > 100_000 {
-        return Ok(None);
+/// A text, a budget and its tree.
+type Row = (&'static [u8], u32, WantedTree);
+
+/// Whether a row's text has the row's tree.
+fn has_tree(alloc: Global, row: &Row) -> Result<bool, Fail> {
+    let formula = read_formula(alloc, row.0)?;
+    if row.1 < 1 || row.1 > 100_000 {
+        return Ok(false);
     }
-    Ok(Some(solve_one(alloc, &formula, budget)?))
+    let tree = solve_one(alloc, &formula, row.1)?;
+    Ok(is_tree(&tree, row.2))
 }
+
+fn check_rows(rt: &impl Abort, alloc: Global, rows: &[Row]) -> Result<(), Fail> {
+    for row in rows {
+        assert!(rt;
+            has_tree(alloc, row)?,
+            "at {:?} with budget {}",
+            row.0,
+            row.1
+        );
+    }
+    Ok(())
+}
+
+const OF_FOUR: [Wanted; 3] = [
+    Wanted::Split(1),
+    Wanted::Leaf(&[(&[], &[1, 2])]),
+    Wanted::Leaf(&[(&[], &[3, 4])]),
+];
+
+const OF_PURE: [Wanted; 3] = [
+    Wanted::Split(1),
+    Wanted::Leaf(&[(&[], &[2, 3])]),
+    Wanted::Leaf(&[(&[], &[4, 5])]),
+];
+
+static OF_ONE_CONFLICT: [Row; 5] = [
+    (EIGHT, 1, WantedTree::Refuted(&NODES)),
+    (FOUR, 1, WantedTree::Refuted(&OF_FOUR)),
+    (FOUR_UNUSED, 1, WantedTree::Refuted(&OF_FOUR)),
+    (FOUR_PURE, 1, WantedTree::Refuted(&OF_PURE)),
+    (SIXTEEN, 1, WantedTree::Refuted(&NODES_OF_SIXTEEN)),
+];
 
 #[test]
 fn trees_of_one_conflict_at_the_root(rt: HostRuntime) -> Result<(), Fail> {
-    let four: [Wanted; 3] = [
-        Wanted::Split(1),
-        Wanted::Leaf(&[(&[], &[1, 2])]),
-        Wanted::Leaf(&[(&[], &[3, 4])]),
-    ];
-    let negated: [Wanted; 3] = [
-        Wanted::Split(1),
-        Wanted::Leaf(&[(&[], &[2, 3])]),
-        Wanted::Leaf(&[(&[], &[4, 5])]),
-    ];
-    let sixteen: [Wanted; 7] = [
-        Wanted::Split(1),
-        Wanted::Split(2),
-        Wanted::Leaf(&[(&[3], &[1, 2]), (&[], &[17, 3, 4])]),
-        Wanted::Leaf(&[(&[3], &[5, 6]), (&[], &[17, 7, 8])]),
-        Wanted::Split(2),
-        Wanted::Leaf(&[(&[3], &[9, 10]), (&[], &[17, 11, 12])]),
-        Wanted::Leaf(&[(&[3], &[13, 14]), (&[], &[17, 15, 16])]),
-    ];
-    let rows: [(&[u8], &[Wanted]); 5] = [
-        (EIGHT, &NODES),
-        (FOUR, &four),
-        (FOUR_UNUSED, &four),
-        (FOUR_PURE, &negated),
-        (SIXTEEN, &sixteen),
-    ];
-    for (text, nodes) in rows {
-        let tree = tree_of(rt.alloc(), text, 1)?.ok_or("no budget")?;
-        assert!(rt; has_nodes(&tree, nodes), "at {text:?}");
-    }
-    Ok(())
+    check_rows(&rt, rt.alloc(), &OF_ONE_CONFLICT)
 }
+
+const LEARNT_OF_EIGHT: [Wanted; 1] = [Wanted::Leaf(&[
+    (&[1, 2], &[1, 2]),
+    (&[1], &[9, 3, 4]),
+    (&[2], &[10, 5, 6]),
+    (&[], &[10, 11, 7, 8]),
+])];
+
+const LEARNT_OF_FOUR: [Wanted; 1] = [Wanted::Leaf(&[(&[1], &[1, 2]), (&[], &[5, 3, 4])])];
+
+const LEARNT_OF_UNUSED: [Wanted; 1] = [Wanted::Leaf(&[(&[1], &[1, 2]), (&[], &[6, 3, 4])])];
+
+static OF_MORE_CONFLICTS: [Row; 5] = [
+    (EIGHT, 2, WantedTree::Refuted(&NODES)),
+    (EIGHT, 4, WantedTree::Refuted(&LEARNT_OF_EIGHT)),
+    (EIGHT, 100_000, WantedTree::Refuted(&LEARNT_OF_EIGHT)),
+    (FOUR, 2, WantedTree::Refuted(&LEARNT_OF_FOUR)),
+    (FOUR_UNUSED, 2, WantedTree::Refuted(&LEARNT_OF_UNUSED)),
+];
 
 #[test]
 fn trees_of_more_conflicts(rt: HostRuntime) -> Result<(), Fail> {
-    let eight: [Wanted; 1] = [Wanted::Leaf(&[
-        (&[1, 2], &[1, 2]),
-        (&[1], &[9, 3, 4]),
-        (&[2], &[10, 5, 6]),
-        (&[], &[10, 11, 7, 8]),
-    ])];
-    let four: [Wanted; 1] = [Wanted::Leaf(&[(&[1], &[1, 2]), (&[], &[5, 3, 4])])];
-    let unused: [Wanted; 1] = [Wanted::Leaf(&[(&[1], &[1, 2]), (&[], &[6, 3, 4])])];
-    let rows: [(&[u8], u32, &[Wanted]); 5] = [
-        (EIGHT, 2, &NODES),
-        (EIGHT, 4, &eight),
-        (EIGHT, 100_000, &eight),
-        (FOUR, 2, &four),
-        (FOUR_UNUSED, 2, &unused),
-    ];
-    for (text, budget, nodes) in rows {
-        let tree = tree_of(rt.alloc(), text, budget)?.ok_or("no budget")?;
-        assert!(rt; has_nodes(&tree, nodes), "at {text:?}");
-    }
-    Ok(())
+    check_rows(&rt, rt.alloc(), &OF_MORE_CONFLICTS)
 }
+
+static MODELS: [Row; 3] = [
+    (
+        b"p cnf 2 1\n1 2 0\n",
+        1000,
+        WantedTree::Model(&[false, true]),
+    ),
+    (
+        b"p cnf 2 1\n1 -2 0\n",
+        1,
+        WantedTree::Model(&[false, false]),
+    ),
+    (
+        b"p cnf 2 2\n1 2 0\n1 -2 0\n",
+        1,
+        WantedTree::Model(&[true, false]),
+    ),
+];
 
 #[test]
 fn models(rt: HostRuntime) -> Result<(), Fail> {
-    let rows: [(&[u8], u32, &[bool]); 3] = [
-        (b"p cnf 2 1\n1 2 0\n", 1000, &[false, true]),
-        (b"p cnf 2 1\n1 -2 0\n", 1, &[false, false]),
-        (b"p cnf 2 2\n1 2 0\n1 -2 0\n", 1, &[true, false]),
-    ];
-    for (text, budget, values) in rows {
-        let tree = tree_of(rt.alloc(), text, budget)?.ok_or("no budget")?;
-        assert!(rt; is_model(&tree, values), "at {text:?}");
-    }
-    Ok(())
+    check_rows(&rt, rt.alloc(), &MODELS)
 }

@@ -2,7 +2,6 @@
 use crate::hands::{is_result, worked};
 use crate::results::Given;
 use cdcl::Outcome;
-use cnf::read_formula;
 use cubes::{Solved, What, Worked};
 use std::alloc::{AllocError, Global};
 use std::test::Fail;
@@ -13,22 +12,26 @@ const DEEP: &[u8] = b"p cnf 40 2
 1 2 3 4 5 6 7 8 9 10 11 12 13 14 15 16 17 18 19 20 21 22 23 24 25 26 27 28 29 30 31 32 33 34 35 36 37 38 39 -40 0
 ";
 
+// where the first 33 variables are false, so is the last one
+const HARD_FRONT: &[u8] = b"p cnf 41 129
+1 2 3 4 5 6 7 8 9 10 11 12 13 14 15 16 17 18 19 20 21 22 23 24 25 26 27 28 29 30 31 32 33 -41 0
+";
+
+/// Adds a clause over the variables 34 to 40, of which those with a set bit are negated, and the last one.
+fn add_clause(alloc: Global, text: &mut Vec<u8>, signs: u32) -> Result<(), AllocError> {
+    for index in 0..7u32 {
+        let sign = if (signs >> index) & 1 == 1 { "-" } else { "" };
+        text.extend_from_slice(format!(in alloc; "{sign}{} ", 34 + index)?.as_bytes())?;
+    }
+    text.extend_from_slice(b"41 0\n")
+}
+
 /// A text: where the first 33 variables are false, so is the last one, and then all 128 clauses over the seven between them are to be
 /// satisfied. That takes 64 conflicts to refute, more than any of the cubes of up to 33 literals has.
 fn hard_text(alloc: Global) -> Result<Vec<u8>, AllocError> {
-    let mut text = Vec::from_slice(alloc, b"p cnf 41 129\n")?;
-    for var in 1..34 {
-        text.extend_from_slice(format!(in alloc; "{var} ")?.as_bytes())?;
-    }
-    text.extend_from_slice(b"-41 0\n")?;
+    let mut text = Vec::from_slice(alloc, HARD_FRONT)?;
     for signs in 0..128u32 {
-        for index in 0..7u32 {
-            if (signs >> index) & 1 == 1 {
-                text.push(b'-')?;
-            }
-            text.extend_from_slice(format!(in alloc; "{} ", 34 + index)?.as_bytes())?;
-        }
-        text.extend_from_slice(b"41 0\n")?;
+        add_clause(alloc, &mut text, signs)?;
     }
     Ok(text)
 }
@@ -60,28 +63,43 @@ fn deepest(worked: &Worked) -> usize {
     deepest
 }
 
+/// Whether the root, its halves and no more are results, of which the left one is the model.
+fn has_model_below(worked: &Worked) -> bool {
+    let [root, left, right] = worked.solved.as_slice() else {
+        return false;
+    };
+    !worked.short_of_memory
+        && is_result(root, &[], Given::Exhausted(1))
+        && is_model_at(left, 40, &[38])
+        && is_result(right, &[1], Given::Skipped(0))
+}
+
 #[test]
 fn a_model_below_the_root(rt: HostRuntime) -> Result<(), Fail> {
-    let formula = read_formula(rt.alloc(), DEEP)?;
-    let worked = worked(&rt, rt.alloc(), &formula)?.ok_or("no hand")?;
-    assert!(rt; !worked.short_of_memory && worked.solved.len() == 3);
-    assert!(rt; is_result(&worked.solved[0], &[], Given::Exhausted(1)));
-    assert!(rt; is_model_at(&worked.solved[1], 40, &[38]));
-    assert!(rt; is_result(&worked.solved[2], &[1], Given::Skipped(0)));
+    let worked = worked(&rt, rt.alloc(), DEEP)?;
+    assert!(rt; has_model_below(&worked));
     Ok(())
+}
+
+/// Whether one of the results is the hard text's model, and no more.
+fn has_hard_model(worked: &Worked) -> bool {
+    let mut found = false;
+    for solved in &worked.solved {
+        if is_model_at(solved, 41, &[32, 40]) {
+            if found {
+                return false;
+            }
+            found = true;
+        }
+    }
+    found
 }
 
 #[test]
 fn carries_deep_cubes_on(rt: HostRuntime) -> Result<(), Fail> {
-    let formula = read_formula(rt.alloc(), &hard_text(rt.alloc())?)?;
-    let worked = worked(&rt, rt.alloc(), &formula)?.ok_or("no hand")?;
-    assert!(rt; !worked.short_of_memory);
+    let worked = worked(&rt, rt.alloc(), &hard_text(rt.alloc())?)?;
+    let is_right = !worked.short_of_memory && has_hard_model(&worked);
+    assert!(rt; is_right);
     assert_eq!(rt; deepest(&worked), 34);
-    let models = worked
-        .solved
-        .iter()
-        .filter(|solved| is_model_at(solved, 41, &[32, 40]))
-        .count();
-    assert_eq!(rt; models, 1);
     Ok(())
 }

@@ -1,16 +1,22 @@
 //! A gate that counts: each cube of a tree is solved once, whatever the hands.
-use cnf::read_formula;
+ghost use Rattle.std.specs.Prelude.{◌≤◌};
+
+use cnf::{Formula, read_formula};
 use cubes::{Gate, solve_with};
 use kernel::Cube;
 use samples::{EIGHT, SIXTEEN, reads};
+use std::alloc::Global;
+use std::sync::Wait;
 use std::sync::atomic::{AtomicU64, Ordering};
 use std::test::Fail;
+use std::thread::Threads;
+use std::time::Clock;
 
 /// The cubes of a tree, from the root on.
 type Cubes = &'static [&'static [i32]];
 
 // each with the cubes of its tree
-const TREES: [(&[u8], Cubes); 2] = [
+static TREES: [(&[u8], Cubes); 2] = [
     (EIGHT, &[&[], &[-1], &[1]]),
     (
         SIXTEEN,
@@ -80,20 +86,49 @@ impl Gate for Counter {
     }
 }
 
+/// Whether so many hands pass a gate once with each of the cubes of the formula's tree, and with no other, before each and after it.
+fn is_solved_once<R: Threads + Wait + Clock + Sync>(
+    rt: &R,
+    alloc: Global,
+    formula: &Formula,
+    hands: usize,
+    cubes: Cubes,
+) -> Result<bool, Fail>
+    requires { (1 ≤ hands) × (hands ≤ 16) }
+{
+    let gate = Counter {
+        before: Passed::none(cubes),
+        after: Passed::none(cubes),
+    };
+    solve_with(rt, alloc, formula, 1, hands, &gate)?;
+    Ok(gate.before.is_once_each() && gate.after.is_once_each())
+}
+
+/// The same of a text, twenty times.
+fn is_solved_once_each_time<R: Threads + Wait + Clock + Sync>(
+    rt: &R,
+    alloc: Global,
+    text: &[u8],
+    hands: usize,
+    cubes: Cubes,
+) -> Result<bool, Fail>
+    requires { (1 ≤ hands) × (hands ≤ 16) }
+{
+    let formula = read_formula(alloc, text)?;
+    for _ in 0..20 {
+        if !is_solved_once(rt, alloc, &formula, hands, cubes)? {
+            return Ok(false);
+        }
+    }
+    Ok(true)
+}
+
 #[test]
 fn each_cube_is_solved_once(rt: HostRuntime) -> Result<(), Fail> {
-    for (text, cubes) in TREES {
-        let formula = read_formula(rt.alloc(), text)?;
+    for (text, cubes) in &TREES {
         for hands in [1, 2, 4] {
-            for _ in 0..20 {
-                let gate = Counter {
-                    before: Passed::none(cubes),
-                    after: Passed::none(cubes),
-                };
-                solve_with(&rt, rt.alloc(), &formula, 1, hands, &gate)?;
-                assert!(rt; gate.before.is_once_each(), "{hands} hands");
-                assert!(rt; gate.after.is_once_each(), "{hands} hands");
-            }
+            let is_once = is_solved_once_each_time(&rt, rt.alloc(), text, hands, *cubes)?;
+            assert!(rt; is_once, "{hands} hands at {text:?}");
         }
     }
     Ok(())

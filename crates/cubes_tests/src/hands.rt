@@ -10,7 +10,7 @@ use std::test::Fail;
 use std::time::Clock;
 
 /// What the one hand of a pool leaves behind.
-pub fn worked<R: Wait + Clock>(
+fn worked_alone<R: Wait + Clock>(
     rt: &R,
     alloc: Global,
     formula: &Formula,
@@ -22,6 +22,12 @@ pub fn worked<R: Wait + Clock>(
         ))),
         _ => Ok(None),
     }
+}
+
+/// What the one hand of a pool leaves behind of a text.
+pub fn worked<R: Wait + Clock>(rt: &R, alloc: Global, text: &[u8]) -> Result<Worked, Fail> {
+    let formula = read_formula(alloc, text)?;
+    Ok(worked_alone(rt, alloc, &formula)?.ok_or("no hand")?)
 }
 
 pub fn is_result(solved: &Solved, numbers: &[i32], given: Given) -> bool {
@@ -44,40 +50,47 @@ pub fn are_results(worked: &Worked, wanted: &[(&[i32], Given)]) -> bool {
     true
 }
 
-#[test]
-fn skips_right_of_a_model(rt: HostRuntime) -> Result<(), Fail> {
-    let formula = read_formula(rt.alloc(), TWO_MODELS)?;
-    let worked = worked(&rt, rt.alloc(), &formula)?.ok_or("no hand")?;
-    let wanted: [(&[i32], Given); 3] = [
-        (&[], Given::Exhausted(1)),
-        (&[-1], Given::Model(&[false, true, false])),
-        (&[1], Given::Skipped(0)),
-    ];
-    assert!(rt; are_results(&worked, &wanted));
-    Ok(())
-}
+/// A text, and the results of its one hand.
+type Row = (&'static [u8], &'static [(&'static [i32], Given)]);
+
+static ROWS: [Row; 3] = [
+    // the hand skips what is right of a model
+    (
+        TWO_MODELS,
+        &[
+            (&[], Given::Exhausted(1)),
+            (&[-1], Given::Model(&[false, true, false])),
+            (&[1], Given::Skipped(0)),
+        ],
+    ),
+    // it solves all where none is satisfied
+    (
+        EIGHT,
+        &[
+            (&[], Given::Exhausted(1)),
+            (&[-1], Given::Refuted),
+            (&[1], Given::Refuted),
+        ],
+    ),
+    (
+        SIXTEEN,
+        &[
+            (&[], Given::Exhausted(1)),
+            (&[-1], Given::Exhausted(2)),
+            (&[1], Given::Exhausted(2)),
+            (&[-1, -2], Given::Refuted),
+            (&[-1, 2], Given::Refuted),
+            (&[1, -2], Given::Refuted),
+            (&[1, 2], Given::Refuted),
+        ],
+    ),
+];
 
 #[test]
-fn solves_all_where_none_is_satisfied(rt: HostRuntime) -> Result<(), Fail> {
-    let formula = read_formula(rt.alloc(), EIGHT)?;
-    let done = worked(&rt, rt.alloc(), &formula)?.ok_or("no hand")?;
-    let wanted: [(&[i32], Given); 3] = [
-        (&[], Given::Exhausted(1)),
-        (&[-1], Given::Refuted),
-        (&[1], Given::Refuted),
-    ];
-    assert!(rt; are_results(&done, &wanted));
-    let formula = read_formula(rt.alloc(), SIXTEEN)?;
-    let done = worked(&rt, rt.alloc(), &formula)?.ok_or("no hand")?;
-    let wanted: [(&[i32], Given); 7] = [
-        (&[], Given::Exhausted(1)),
-        (&[-1], Given::Exhausted(2)),
-        (&[1], Given::Exhausted(2)),
-        (&[-1, -2], Given::Refuted),
-        (&[-1, 2], Given::Refuted),
-        (&[1, -2], Given::Refuted),
-        (&[1, 2], Given::Refuted),
-    ];
-    assert!(rt; are_results(&done, &wanted));
+fn one_hand_solves_or_skips(rt: HostRuntime) -> Result<(), Fail> {
+    for (text, wanted) in &ROWS {
+        let worked = worked(&rt, rt.alloc(), text)?;
+        assert!(rt; are_results(&worked, wanted), "at {text:?}");
+    }
     Ok(())
 }

@@ -5,7 +5,7 @@ ghost use Rattle.theory.specs.Results.{IsWhole};
 ghost use Rattle.cubes.specs.Solved.{solved_of};
 
 use crate::hands::is_result;
-use crate::results::{Given, NODES, has_nodes, is_model};
+use crate::results::{Given, NODES, NODES_OF_SIXTEEN, WantedTree, is_tree};
 use cnf::{Formula, read_formula};
 use cubes::{OpenGate, Solved, Tree, assemble, results_by_hands};
 use kernel::Cube;
@@ -40,68 +40,132 @@ fn tree_of(alloc: Global, formula: &Formula, results: Vec<Solved>) -> Result<Tre
     assemble(alloc, results)
 }
 
-/// How many of the results are this one.
-fn count(results: &[Solved], row: Row) -> usize {
-    results
-        .iter()
-        .filter(|solved| is_result(solved, row.0, row.1))
-        .count()
+/// Whether one of the results is this one, and no more.
+fn is_there_once(results: &[Solved], row: &Row) -> bool {
+    let mut found = false;
+    for solved in results {
+        if is_result(solved, row.0, row.1) {
+            if found {
+                return false;
+            }
+            found = true;
+        }
+    }
+    found
 }
 
 /// Whether each of the rows is among the results once, and nothing else is.
 fn are_these(results: &[Solved], rows: &[Row]) -> bool {
-    results.len() == rows.len() && rows.iter().all(|row| count(results, *row) == 1)
-}
-
-#[test]
-fn two_hands_bring_each_result_once(rt: HostRuntime) -> Result<(), Fail> {
-    let formula = read_formula(rt.alloc(), EIGHT)?;
-    let rows: [Row; 3] = [
-        (&[], Given::Exhausted(1)),
-        (&[-1], Given::Refuted),
-        (&[1], Given::Refuted),
-    ];
-    for _ in 0..20 {
-        let results = harvested(&rt, rt.alloc(), &formula, 2)?;
-        assert!(rt; are_these(&results, &rows));
-        let tree = tree_of(rt.alloc(), &formula, results)?;
-        assert!(rt; has_nodes(&tree, &NODES));
+    if results.len() != rows.len() {
+        return false;
     }
-    Ok(())
-}
-
-#[test]
-fn more_hands_bring_each_result_once(rt: HostRuntime) -> Result<(), Fail> {
-    let formula = read_formula(rt.alloc(), SIXTEEN)?;
-    let rows: [Row; 7] = [
-        (&[], Given::Exhausted(1)),
-        (&[-1], Given::Exhausted(2)),
-        (&[1], Given::Exhausted(2)),
-        (&[-1, -2], Given::Refuted),
-        (&[-1, 2], Given::Refuted),
-        (&[1, -2], Given::Refuted),
-        (&[1, 2], Given::Refuted),
-    ];
-    for hands in [2, 4] {
-        for _ in 0..20 {
-            let results = harvested(&rt, rt.alloc(), &formula, hands)?;
-            assert!(rt; are_these(&results, &rows));
+    for row in rows {
+        if !is_there_once(results, row) {
+            return false;
         }
     }
-    Ok(())
+    true
 }
 
+/// A text, how many hands solve it, what they bring home, and the tree of that.
+#[derive(Clone, Copy)]
+struct Harvest {
+    text: &'static [u8],
+    hands: usize,
+    rows: &'static [Row],
+    tree: WantedTree,
+}
+
+/// Whether hands bring each result once, and the tree of the results is the one that is wanted.
+fn brings<R: Threads + Wait + Clock + Sync>(
+    rt: &R,
+    alloc: Global,
+    formula: &Formula,
+    wanted: &Harvest,
+) -> Result<bool, Fail>
+    requires { (1 ≤ wanted.now.hands) × (wanted.now.hands ≤ 16) }
+{
+    let results = harvested(rt, alloc, formula, wanted.hands)?;
+    if !are_these(&results, wanted.rows) {
+        return Ok(false);
+    }
+    let tree = tree_of(alloc, formula, results)?;
+    Ok(is_tree(&tree, wanted.tree))
+}
+
+/// The same, twenty times.
+fn brings_each_time<R: Threads + Wait + Clock + Sync>(
+    rt: &R,
+    alloc: Global,
+    wanted: &Harvest,
+) -> Result<bool, Fail> {
+    if wanted.hands < 1 || wanted.hands > 16 {
+        return Ok(false);
+    }
+    let formula = read_formula(alloc, wanted.text)?;
+    for _ in 0..20 {
+        if !brings(rt, alloc, &formula, wanted)? {
+            return Ok(false);
+        }
+    }
+    Ok(true)
+}
+
+const OF_EIGHT: [Row; 3] = [
+    (&[], Given::Exhausted(1)),
+    (&[-1], Given::Refuted),
+    (&[1], Given::Refuted),
+];
+
+const OF_SIXTEEN: [Row; 7] = [
+    (&[], Given::Exhausted(1)),
+    (&[-1], Given::Exhausted(2)),
+    (&[1], Given::Exhausted(2)),
+    (&[-1, -2], Given::Refuted),
+    (&[-1, 2], Given::Refuted),
+    (&[1, -2], Given::Refuted),
+    (&[1, 2], Given::Refuted),
+];
+
+// one hand brings what it skipped
+const OF_TWO_MODELS: [Row; 3] = [
+    (&[], Given::Exhausted(1)),
+    (&[-1], Given::Model(&[false, true, false])),
+    (&[1], Given::Skipped(0)),
+];
+
+static HARVESTS: [Harvest; 4] = [
+    Harvest {
+        text: EIGHT,
+        hands: 2,
+        rows: &OF_EIGHT,
+        tree: WantedTree::Refuted(&NODES),
+    },
+    Harvest {
+        text: SIXTEEN,
+        hands: 2,
+        rows: &OF_SIXTEEN,
+        tree: WantedTree::Refuted(&NODES_OF_SIXTEEN),
+    },
+    Harvest {
+        text: SIXTEEN,
+        hands: 4,
+        rows: &OF_SIXTEEN,
+        tree: WantedTree::Refuted(&NODES_OF_SIXTEEN),
+    },
+    Harvest {
+        text: TWO_MODELS,
+        hands: 1,
+        rows: &OF_TWO_MODELS,
+        tree: WantedTree::Model(&[false, true, false]),
+    },
+];
+
 #[test]
-fn one_hand_brings_what_it_skipped(rt: HostRuntime) -> Result<(), Fail> {
-    let formula = read_formula(rt.alloc(), TWO_MODELS)?;
-    let rows: [Row; 3] = [
-        (&[], Given::Exhausted(1)),
-        (&[-1], Given::Model(&[false, true, false])),
-        (&[1], Given::Skipped(0)),
-    ];
-    let results = harvested(&rt, rt.alloc(), &formula, 1)?;
-    assert!(rt; are_these(&results, &rows));
-    let tree = tree_of(rt.alloc(), &formula, results)?;
-    assert!(rt; is_model(&tree, &[false, true, false]));
+fn hands_bring_each_result_once(rt: HostRuntime) -> Result<(), Fail> {
+    for harvest in &HARVESTS {
+        let is_right = brings_each_time(&rt, rt.alloc(), harvest)?;
+        assert!(rt; is_right, "{} hands at {:?}", harvest.hands, harvest.text);
+    }
     Ok(())
 }

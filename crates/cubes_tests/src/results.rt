@@ -27,6 +27,13 @@ pub enum Wanted {
     Leaf(&'static [WantedLine]),
 }
 
+/// What a tree has to be.
+#[derive(Clone, Copy)]
+pub enum WantedTree {
+    Refuted(&'static [Wanted]),
+    Model(&'static [bool]),
+}
+
 /// Whether an outcome is the one that a row names.
 pub fn is_given(outcome: &Outcome, given: Given) -> bool {
     match outcome {
@@ -96,11 +103,7 @@ fn is_node(node: &Node, wanted: Wanted) -> bool {
     }
 }
 
-/// Whether a tree has these nodes.
-pub fn has_nodes(tree: &Tree, wanted: &[Wanted]) -> bool {
-    let Tree::Refuted(nodes) = tree else {
-        return false;
-    };
+fn are_nodes(nodes: &[Node], wanted: &[Wanted]) -> bool {
     if nodes.len() != wanted.len() {
         return false;
     }
@@ -112,10 +115,13 @@ pub fn has_nodes(tree: &Tree, wanted: &[Wanted]) -> bool {
     true
 }
 
-pub fn is_model(tree: &Tree, wanted: &[bool]) -> bool {
+/// Whether a tree is the one that a row names.
+pub fn is_tree(tree: &Tree, wanted: WantedTree) -> bool {
     match tree {
-        Tree::Model(values) => values.as_slice() == wanted,
-        Tree::Refuted(_) => false,
+        Tree::Model(values) =>
+            matches!(wanted, WantedTree::Model(model) if values.as_slice() == model),
+        Tree::Refuted(nodes) =>
+            matches!(wanted, WantedTree::Refuted(wanted) if are_nodes(nodes, wanted)),
     }
 }
 
@@ -124,4 +130,15 @@ pub const NODES: [Wanted; 3] = [
     Wanted::Split(1),
     Wanted::Leaf(&[(&[2], &[1, 2]), (&[], &[9, 3, 4])]),
     Wanted::Leaf(&[(&[2], &[5, 6]), (&[], &[9, 7, 8])]),
+];
+
+// the tree of the sixteen clauses
+pub const NODES_OF_SIXTEEN: [Wanted; 7] = [
+    Wanted::Split(1),
+    Wanted::Split(2),
+    Wanted::Leaf(&[(&[3], &[1, 2]), (&[], &[17, 3, 4])]),
+    Wanted::Leaf(&[(&[3], &[5, 6]), (&[], &[17, 7, 8])]),
+    Wanted::Split(2),
+    Wanted::Leaf(&[(&[3], &[9, 10]), (&[], &[17, 11, 12])]),
+    Wanted::Leaf(&[(&[3], &[13, 14]), (&[], &[17, 15, 16])]),
 ];

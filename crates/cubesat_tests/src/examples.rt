@@ -1,7 +1,7 @@
 //! Examples from end to end: refuted at budgets from the least on, and each proof accepted.
 ghost use Rattle.std.specs.Prelude.{◌≤◌};
 
-use cubesat::{Checked, Verdict, check_run, run_one};
+use cubesat::{Checked, RunFault, Verdict, check_run, run_one};
 use std::alloc::{AllocError, Global};
 use std::fmt::Write;
 use std::process::Abort;
@@ -72,36 +72,51 @@ fn pigeonhole(alloc: Global) -> Result<String, AllocError> {
     Ok(text)
 }
 
-/// Solves an unsatisfiable formula, and checks the proof.
-fn is_refuted(rt: &impl Abort, alloc: Global, text: &str, budget: u32) -> Result<(), Fail> {
-    if budget < 1 || budget > 100_000 {
-        return Err(Fail::from("budget"));
-    }
+/// The proof of an unsatisfiable formula, or none where something else is answered.
+fn proof_of(alloc: Global, text: &str, budget: u32) -> Result<Option<Vec<u8>>, RunFault>
+    requires { (1 ≤ budget) × (budget ≤ 100000) }
+{
     let mut proof = Vec::new(alloc);
     let mut answer = Vec::new(alloc);
     let verdict = run_one(alloc, text.as_bytes(), &mut answer, &mut proof, budget)?;
-    assert_eq!(rt; verdict, Verdict::Unsatisfiable, "budget {budget}");
-    assert_eq!(rt; answer.as_slice(), b"s UNSATISFIABLE\n".as_slice());
+    if verdict != Verdict::Unsatisfiable || answer.as_slice() != b"s UNSATISFIABLE\n".as_slice() {
+        return Ok(None);
+    }
+    Ok(Some(proof))
+}
+
+/// Whether a proof is accepted, and the line says so.
+fn is_accepted(alloc: Global, text: &str, proof: &[u8]) -> Result<bool, RunFault> {
     let mut line = Vec::new(alloc);
-    let checked = check_run(alloc, text.as_bytes(), proof.as_slice(), &mut line)?;
-    assert_eq!(rt; checked, Checked::Accepted, "budget {budget}");
-    assert_eq!(rt; line.as_slice(), b"accepted\n".as_slice());
+    let checked = check_run(alloc, text.as_bytes(), proof, &mut line)?;
+    Ok(checked == Checked::Accepted && line.as_slice() == b"accepted\n".as_slice())
+}
+
+/// Whether an unsatisfiable formula is refuted, by a proof that is accepted.
+fn is_refuted(alloc: Global, text: &str, budget: u32) -> Result<bool, RunFault>
+    requires { (1 ≤ budget) × (budget ≤ 100000) }
+{
+    match proof_of(alloc, text, budget)? {
+        Some(proof) => is_accepted(alloc, text, &proof),
+        None => Ok(false),
+    }
+}
+
+/// Checks that a formula is refuted, at each of some budgets.
+fn check_budgets(rt: &impl Abort, alloc: Global, text: &str) -> Result<(), Fail> {
+    for budget in [1, 2, 10, 1000] {
+        assert!(rt; is_refuted(alloc, text, budget)?, "budget {budget}");
+    }
     Ok(())
 }
 
 #[test]
 fn pigeons(rt: HostRuntime) -> Result<(), Fail> {
     let text = pigeonhole(rt.alloc())?;
-    for budget in [1, 2, 10, 1000] {
-        is_refuted(&rt, rt.alloc(), text.as_str(), budget)?;
-    }
-    Ok(())
+    check_budgets(&rt, rt.alloc(), text.as_str())
 }
 
 #[test]
 fn circuits(rt: HostRuntime) -> Result<(), Fail> {
-    for budget in [1, 2, 10, 1000] {
-        is_refuted(&rt, rt.alloc(), MITER, budget)?;
-    }
-    Ok(())
+    check_budgets(&rt, rt.alloc(), MITER)
 }

@@ -1,34 +1,66 @@
 //! What stands after a fault of solving: readers and writers that fail at each place.
 ghost use Rattle.std.specs.Prelude.{◌≤◌};
 
-use crate::faulty::{Full, Limited, Trickle};
+use crate::faulty::{Full, Limited, Limits, ROOMY, Trickle, UNFLUSHED};
 use crate::texts::{FOUR, FOUR_PROOF};
 use cnf::{Place, ReadFault};
 use cubes::OpenGate;
 use cubesat::{RunFault, Verdict, run, run_one};
 use std::alloc::Global;
-use std::process::Abort;
 use std::sync::Wait;
 use std::thread::Threads;
 use std::time::Clock;
 
 const REFUTED: &[u8] = b"s UNSATISFIABLE\n";
 
+/// A formula with a model, whose answer begins with `s S`.
+const SATISFIABLE: &str = "p cnf 2 1\n1 2 0\n";
+
+/// What a run comes to, and what its writers have taken.
+#[derive(Clone, Copy)]
+struct Left<'a> {
+    result: Result<Verdict, RunFault>,
+    proof: &'a [u8],
+    answer: &'a [u8],
+}
+
+/// Nothing but a fault.
+fn nothing_but(fault: RunFault) -> Left<'static> {
+    Left {
+        result: Err(fault),
+        proof: b"",
+        answer: b"",
+    }
+}
+
+/// Whether a run without threads, at budget 1, leaves just this at writers of these limits.
+fn leaves(alloc: Global, input: Trickle<'_>, proof: Limits, answer: Limits, left: &Left) -> bool {
+    let mut proof = Limited::new(alloc, proof);
+    let mut answer = Limited::new(alloc, answer);
+    let result = run_one(alloc, input, &mut answer, &mut proof, 1);
+    result == left.result
+        && proof.taken.as_slice() == left.proof
+        && answer.taken.as_slice() == left.answer
+}
+
 #[test]
 fn a_proof_writer_that_fails(rt: HostRuntime) {
     for room in 0..FOUR_PROOF.len() {
+        let left = Left {
+            result: Err(RunFault::ProofWriteFailed),
+            proof: &FOUR_PROOF.as_bytes()[..room],
+            answer: b"",
+        };
         for full in [Full::Fails, Full::TakesNothing] {
-            let mut proof = Limited::new(rt.alloc(), room);
-            proof.full = full;
-            let mut answer = Limited::new(rt.alloc(), 1000);
-            let result = run_one(rt.alloc(), FOUR.as_bytes(), &mut answer, &mut proof, 1);
-            assert_eq!(rt; result, Err(RunFault::ProofWriteFailed), "room {room}");
-            assert_eq!(rt;
-                proof.taken.as_slice(),
-                &FOUR_PROOF.as_bytes()[..room],
+            let limits = Limits {
+                full,
+                ..Limits::of(room)
+            };
+            let input = Trickle::at_once(FOUR.as_bytes());
+            assert!(rt;
+                leaves(rt.alloc(), input, limits, ROOMY, &left),
                 "room {room}"
             );
-            assert!(rt; answer.taken.is_empty(), "room {room}");
         }
     }
 }
@@ -36,102 +68,83 @@ fn a_proof_writer_that_fails(rt: HostRuntime) {
 #[test]
 fn an_answer_writer_that_fails(rt: HostRuntime) {
     for room in 0..REFUTED.len() {
-        let mut proof = Limited::new(rt.alloc(), 1000);
-        let mut answer = Limited::new(rt.alloc(), room);
-        let result = run_one(rt.alloc(), FOUR.as_bytes(), &mut answer, &mut proof, 1);
-        assert_eq!(rt; result, Err(RunFault::AnswerWriteFailed), "room {room}");
-        assert_eq!(rt;
-            proof.taken.as_slice(),
-            FOUR_PROOF.as_bytes(),
+        let left = Left {
+            result: Err(RunFault::AnswerWriteFailed),
+            proof: FOUR_PROOF.as_bytes(),
+            answer: &REFUTED[..room],
+        };
+        let input = Trickle::at_once(FOUR.as_bytes());
+        assert!(rt;
+            leaves(rt.alloc(), input, ROOMY, Limits::of(room), &left),
             "room {room}"
         );
-        assert_eq!(rt; answer.taken.as_slice(), &REFUTED[..room], "room {room}");
     }
-    let mut proof = Limited::new(rt.alloc(), 1000);
-    let mut answer = Limited::new(rt.alloc(), 3);
-    let result = run_one(
-        rt.alloc(),
-        b"p cnf 2 1\n1 2 0\n".as_slice(),
-        &mut answer,
-        &mut proof,
-        1,
+    let left = Left {
+        result: Err(RunFault::AnswerWriteFailed),
+        proof: b"",
+        answer: b"s S",
+    };
+    let input = Trickle::at_once(SATISFIABLE.as_bytes());
+    assert!(rt;
+        leaves(rt.alloc(), input, ROOMY, Limits::of(3), &left),
+        "satisfiable"
     );
-    assert_eq!(rt; result, Err(RunFault::AnswerWriteFailed));
-    assert!(rt; proof.taken.is_empty());
-    assert_eq!(rt; answer.taken.as_slice(), b"s S".as_slice());
 }
 
 #[test]
 fn a_flush_that_fails(rt: HostRuntime) {
-    let mut proof = Limited::new(rt.alloc(), 1000);
-    proof.flushes = false;
-    let mut answer = Limited::new(rt.alloc(), 1000);
-    let result = run_one(rt.alloc(), FOUR.as_bytes(), &mut answer, &mut proof, 1);
-    assert_eq!(rt; result, Err(RunFault::ProofWriteFailed));
-    assert_eq!(rt; proof.taken.as_slice(), FOUR_PROOF.as_bytes());
-    assert!(rt; answer.taken.is_empty());
-
-    let mut proof = Limited::new(rt.alloc(), 1000);
-    let mut answer = Limited::new(rt.alloc(), 1000);
-    answer.flushes = false;
-    let result = run_one(rt.alloc(), FOUR.as_bytes(), &mut answer, &mut proof, 1);
-    assert_eq!(rt; result, Err(RunFault::AnswerWriteFailed));
-    assert_eq!(rt; proof.taken.as_slice(), FOUR_PROOF.as_bytes());
-    assert_eq!(rt; answer.taken.as_slice(), REFUTED);
-
-    let mut proof = Limited::new(rt.alloc(), 1000);
-    proof.flushes = false;
-    let mut answer = Limited::new(rt.alloc(), 1000);
-    let result = run_one(
-        rt.alloc(),
-        b"p cnf 2 1\n1 2 0\n".as_slice(),
-        &mut answer,
-        &mut proof,
-        1,
-    );
-    assert_eq!(rt; result, Err(RunFault::ProofWriteFailed));
-    assert!(rt; proof.taken.is_empty() && answer.taken.is_empty());
+    let in_proof = Left {
+        result: Err(RunFault::ProofWriteFailed),
+        proof: FOUR_PROOF.as_bytes(),
+        answer: b"",
+    };
+    let in_answer = Left {
+        result: Err(RunFault::AnswerWriteFailed),
+        proof: FOUR_PROOF.as_bytes(),
+        answer: REFUTED,
+    };
+    let in_empty_proof = nothing_but(RunFault::ProofWriteFailed);
+    let rows = [
+        ("of the proof", FOUR, UNFLUSHED, ROOMY, in_proof),
+        ("of the answer", FOUR, ROOMY, UNFLUSHED, in_answer),
+        ("of no proof", SATISFIABLE, UNFLUSHED, ROOMY, in_empty_proof),
+    ];
+    for (name, text, proof, answer, left) in rows {
+        let input = Trickle::at_once(text.as_bytes());
+        assert!(rt; leaves(rt.alloc(), input, proof, answer, &left), "{name}");
+    }
 }
 
 #[test]
 fn a_byte_a_call(rt: HostRuntime) {
+    let left = Left {
+        result: Ok(Verdict::Unsatisfiable),
+        proof: FOUR_PROOF.as_bytes(),
+        answer: REFUTED,
+    };
+    let (proof, answer) = (Limits::of(FOUR_PROOF.len()), Limits::of(REFUTED.len()));
     let input = Trickle::whole(FOUR.as_bytes());
-    let mut proof = Limited::new(rt.alloc(), FOUR_PROOF.len());
-    let mut answer = Limited::new(rt.alloc(), REFUTED.len());
-    let result = run_one(rt.alloc(), input, &mut answer, &mut proof, 1);
-    assert_eq!(rt; result, Ok(Verdict::Unsatisfiable));
-    assert_eq!(rt; proof.taken.as_slice(), FOUR_PROOF.as_bytes());
-    assert_eq!(rt; answer.taken.as_slice(), REFUTED);
+    assert!(rt; leaves(rt.alloc(), input, proof, answer, &left));
 }
 
 #[test]
 fn a_reader_that_fails(rt: HostRuntime) {
+    let left = nothing_but(RunFault::Read(ReadFault::ReadFailed));
     for count in 0..=FOUR.len() {
-        let mut proof = Limited::new(rt.alloc(), 1000);
-        let mut answer = Limited::new(rt.alloc(), 1000);
         let input = Trickle::broken(&FOUR.as_bytes()[..count]);
-        let result = run_one(rt.alloc(), input, &mut answer, &mut proof, 1);
-        assert_eq!(rt;
-            result,
-            Err(RunFault::Read(ReadFault::ReadFailed)),
+        assert!(rt;
+            leaves(rt.alloc(), input, ROOMY, ROOMY, &left),
             "after {count}"
         );
-        assert!(rt; proof.taken.is_empty() && answer.taken.is_empty());
     }
 }
 
 #[test]
 fn a_formula_that_is_refused(rt: HostRuntime) {
-    let mut proof = Limited::new(rt.alloc(), 1000);
-    let mut answer = Limited::new(rt.alloc(), 1000);
-    let text = b"p cnf 2 1\n1 3 0\n".as_slice();
-    let result = run_one(rt.alloc(), text, &mut answer, &mut proof, 1);
     let place = Place { line: 2, column: 3 };
-    assert_eq!(rt;
-        result,
-        Err(RunFault::Read(ReadFault::VariableOutOfRange(place)))
-    );
-    assert!(rt; proof.taken.is_empty() && answer.taken.is_empty());
+    let left = nothing_but(RunFault::Read(ReadFault::VariableOutOfRange(place)));
+    let input = Trickle::at_once(b"p cnf 2 1\n1 3 0\n");
+    assert!(rt; leaves(rt.alloc(), input, ROOMY, ROOMY, &left));
 }
 
 #[test]
@@ -149,59 +162,37 @@ fn faults_have_numbers(rt: HostRuntime) {
 }
 
 /// What stands where the proof's writer fails under so many hands.
-fn stops_in_proof<R: Abort + Threads + Wait + Clock + Sync>(rt: &R, alloc: Global, hands: usize)
+fn stops_in_proof<R: Threads + Wait + Clock + Sync>(rt: &R, alloc: Global, hands: usize) -> bool
     requires { (1 ≤ hands) × (hands ≤ 16) }
 {
-    let mut proof = Limited::new(alloc, 5);
-    let mut answer = Limited::new(alloc, 1000);
+    let mut proof = Limited::new(alloc, Limits::of(5));
+    let mut answer = Limited::new(alloc, ROOMY);
     let text = FOUR.as_bytes();
-    let result = run(
-        rt,
-        alloc,
-        text,
-        &mut answer,
-        &mut proof,
-        1,
-        hands,
-        &OpenGate,
-    );
-    assert_eq!(rt; result, Err(RunFault::ProofWriteFailed), "{hands} hands");
-    assert_eq!(rt;
-        proof.taken.as_slice(),
-        b"5 1 0".as_slice(),
-        "{hands} hands"
-    );
-    assert!(rt; answer.taken.is_empty(), "{hands} hands");
+    let gate = OpenGate;
+    let result = run(rt, alloc, text, &mut answer, &mut proof, 1, hands, &gate);
+    result == Err(RunFault::ProofWriteFailed)
+        && proof.taken.as_slice() == b"5 1 0".as_slice()
+        && answer.taken.is_empty()
 }
 
 /// What stands where the answer's writer fails under so many hands.
-fn stops_in_answer<R: Abort + Threads + Wait + Clock + Sync>(rt: &R, alloc: Global, hands: usize)
+fn stops_in_answer<R: Threads + Wait + Clock + Sync>(rt: &R, alloc: Global, hands: usize) -> bool
     requires { (1 ≤ hands) × (hands ≤ 16) }
 {
-    let mut proof = Limited::new(alloc, 1000);
-    let mut answer = Limited::new(alloc, 3);
-    let text = b"p cnf 2 1\n1 2 0\n".as_slice();
-    let result = run(
-        rt,
-        alloc,
-        text,
-        &mut answer,
-        &mut proof,
-        1000,
-        hands,
-        &OpenGate,
-    );
-    assert_eq!(rt; result, Err(RunFault::AnswerWriteFailed), "{hands} hands");
-    assert!(rt; proof.taken.is_empty(), "{hands} hands");
-    assert_eq!(rt; answer.taken.as_slice(), b"s S".as_slice(), "{hands} hands");
+    let mut proof = Limited::new(alloc, ROOMY);
+    let mut answer = Limited::new(alloc, Limits::of(3));
+    let text = SATISFIABLE.as_bytes();
+    let gate = OpenGate;
+    let result = run(rt, alloc, text, &mut answer, &mut proof, 1000, hands, &gate);
+    result == Err(RunFault::AnswerWriteFailed)
+        && proof.taken.is_empty()
+        && answer.taken.as_slice() == b"s S".as_slice()
 }
 
 #[test]
 fn writers_that_fail_under_several_hands(rt: HostRuntime) {
-    stops_in_proof(&rt, rt.alloc(), 1);
-    stops_in_proof(&rt, rt.alloc(), 2);
-    stops_in_proof(&rt, rt.alloc(), 8);
-    stops_in_answer(&rt, rt.alloc(), 1);
-    stops_in_answer(&rt, rt.alloc(), 2);
-    stops_in_answer(&rt, rt.alloc(), 8);
+    for hands in [1, 2, 8] {
+        assert!(rt; stops_in_proof(&rt, rt.alloc(), hands), "{hands} hands");
+        assert!(rt; stops_in_answer(&rt, rt.alloc(), hands), "{hands} hands");
+    }
 }

@@ -24,6 +24,11 @@ impl<'a> Trickle<'a> {
         Trickle::pieces(bytes, 1)
     }
 
+    /// Gives all bytes in one call and ends.
+    pub(crate) fn at_once(bytes: &'a [u8]) -> Trickle<'a> {
+        Trickle::pieces(bytes, bytes.len())
+    }
+
     /// Gives pieces of so many bytes, the last one of those that are left, and ends.
     pub(crate) fn pieces(bytes: &'a [u8], count: usize) -> Trickle<'a> {
         Trickle {
@@ -65,24 +70,53 @@ pub(crate) enum Full {
     TakesNothing,
 }
 
+/// What a writer has room for, and what it refuses.
+#[derive(Clone, Copy)]
+pub(crate) struct Limits {
+    pub(crate) room: usize,
+    pub(crate) full: Full,
+    pub(crate) flushes: bool,
+}
+
+impl Limits {
+    /// Fails behind so many bytes.
+    pub(crate) fn of(room: usize) -> Limits {
+        Limits {
+            room,
+            full: Full::Fails,
+            flushes: true,
+        }
+    }
+}
+
+/// Has room for all that is written in these tests.
+pub(crate) const ROOMY: Limits = Limits {
+    room: 1000,
+    full: Full::Fails,
+    flushes: true,
+};
+
+/// Has room for all that is written, and can't be flushed.
+pub(crate) const UNFLUSHED: Limits = Limits {
+    room: 1000,
+    full: Full::Fails,
+    flushes: false,
+};
+
 /// A writer that takes a byte a call, as many as it has room for.
 #[derive(Drop)]
 pub(crate) struct Limited {
     pub(crate) taken: Vec<u8>,
-    pub(crate) room: usize,
-    pub(crate) full: Full,
-    pub(crate) flushes: bool,
+    limits: Limits,
     /// How many calls it has refused.
     pub(crate) refusals: usize,
 }
 
 impl Limited {
-    pub(crate) fn new(alloc: Global, room: usize) -> Limited {
+    pub(crate) fn new(alloc: Global, limits: Limits) -> Limited {
         Limited {
             taken: Vec::new(alloc),
-            room,
-            full: Full::Fails,
-            flushes: true,
+            limits,
             refusals: 0,
         }
     }
@@ -90,9 +124,9 @@ impl Limited {
 
 impl Write for Limited {
     fn write(&mut self, buf: &[u8]) -> io::Result<usize> {
-        if self.taken.len() >= self.room {
+        if self.taken.len() >= self.limits.room {
             self.refusals = self.refusals.saturating_add(1);
-            return match self.full {
+            return match self.limits.full {
                 Full::Fails => Err(io::Error::from(ErrorKind::Other)),
                 Full::TakesNothing => Ok(0),
             };
@@ -107,7 +141,7 @@ impl Write for Limited {
     }
 
     fn flush(&mut self) -> io::Result<()> {
-        if self.flushes {
+        if self.limits.flushes {
             Ok(())
         } else {
             self.refusals = self.refusals.saturating_add(1);

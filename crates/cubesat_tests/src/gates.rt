@@ -1,11 +1,15 @@
 //! Runs of two hands at a gate that holds one of them until the other has come to another cube. That shows that both are at work at once.
 use crate::texts::{FOUR, FOUR_PROOF};
 use cubes::Gate;
-use cubesat::{Verdict, run};
+use cubesat::{RunFault, Verdict, run};
 use kernel::Cube;
+use std::alloc::Global;
+use std::sync::Wait;
 use std::sync::atomic::{AtomicU64, Ordering};
 use std::test::Fail;
 use std::thread;
+use std::thread::Threads;
+use std::time::Clock;
 
 /// How often a hand that is held looks. Then the gate lets it go, and the test fails.
 const TURNS: u32 = 1 << 24;
@@ -59,6 +63,16 @@ struct BothHalves {
     let_go: Mark,
 }
 
+impl BothHalves {
+    fn new() -> BothHalves {
+        BothHalves {
+            left: Mark::new(),
+            right: Mark::new(),
+            let_go: Mark::new(),
+        }
+    }
+}
+
 impl Gate for BothHalves {
     fn before(&self, hand: usize, cube: &Cube) {
         let (own, other) = match half_of_root(cube) {
@@ -82,6 +96,15 @@ struct RightFirst {
     let_go: Mark,
 }
 
+impl RightFirst {
+    fn new() -> RightFirst {
+        RightFirst {
+            solved: Mark::new(),
+            let_go: Mark::new(),
+        }
+    }
+}
+
 impl Gate for RightFirst {
     fn before(&self, hand: usize, cube: &Cube) {
         if half_of_root(cube) == Some(false) && !self.solved.sees_another(hand) {
@@ -96,23 +119,45 @@ impl Gate for RightFirst {
     }
 }
 
+/// What a run writes, and what it comes to.
+#[derive(Clone, Copy)]
+struct Written<'a> {
+    verdict: Verdict,
+    proof: &'a [u8],
+    answer: &'a [u8],
+}
+
+/// Whether two hands at a gate write this, with a budget of one conflict for the root.
+fn write<R: Threads + Wait + Clock + Sync, G: Gate + Sync>(
+    rt: &R,
+    alloc: Global,
+    text: &str,
+    gate: &G,
+    wanted: &Written,
+) -> Result<bool, RunFault> {
+    let mut proof = Vec::new(alloc);
+    let mut answer = Vec::new(alloc);
+    let text = text.as_bytes();
+    let verdict = run(rt, alloc, text, &mut answer, &mut proof, 1, 2, gate)?;
+    Ok(
+        verdict == wanted.verdict
+            && proof.as_slice() == wanted.proof
+            && answer.as_slice() == wanted.answer,
+    )
+}
+
 #[test]
 fn two_hands_are_at_work_at_once(rt: HostRuntime) -> Result<(), Fail> {
+    let wanted = Written {
+        verdict: Verdict::Unsatisfiable,
+        proof: FOUR_PROOF.as_bytes(),
+        answer: b"s UNSATISFIABLE\n",
+    };
     for _ in 0..20 {
-        let gate = BothHalves {
-            left: Mark::new(),
-            right: Mark::new(),
-            let_go: Mark::new(),
-        };
-        let mut proof = Vec::new(rt.alloc());
-        let mut answer = Vec::new(rt.alloc());
-        let text = FOUR.as_bytes();
-        let verdict = run(&rt, rt.alloc(), text, &mut answer, &mut proof, 1, 2, &gate)?;
+        let gate = BothHalves::new();
+        assert!(rt; write(&rt, rt.alloc(), FOUR, &gate, &wanted)?);
         assert_eq!(rt; gate.let_go.hand(), NOBODY);
         assert!(rt; gate.left.hand() != gate.right.hand());
-        assert_eq!(rt; verdict, Verdict::Unsatisfiable);
-        assert_eq!(rt; proof.as_slice(), FOUR_PROOF.as_bytes());
-        assert_eq!(rt; answer.as_slice(), b"s UNSATISFIABLE\n".as_slice());
     }
     Ok(())
 }
@@ -120,23 +165,17 @@ fn two_hands_are_at_work_at_once(rt: HostRuntime) -> Result<(), Fail> {
 /// The model in the right half is found first, and isn't the answer.
 #[test]
 fn a_model_on_the_right_comes_first(rt: HostRuntime) -> Result<(), Fail> {
+    let wanted = Written {
+        verdict: Verdict::Satisfiable,
+        proof: b"",
+        answer: b"s SATISFIABLE\nv -1 2 -3 0\n",
+    };
     for _ in 0..20 {
-        let gate = RightFirst {
-            solved: Mark::new(),
-            let_go: Mark::new(),
-        };
-        let mut proof = Vec::new(rt.alloc());
-        let mut answer = Vec::new(rt.alloc());
-        let text = b"p cnf 3 2\n1 2 3 0\n1 2 -3 0\n".as_slice();
-        let verdict = run(&rt, rt.alloc(), text, &mut answer, &mut proof, 1, 2, &gate)?;
+        let gate = RightFirst::new();
+        let text = "p cnf 3 2\n1 2 3 0\n1 2 -3 0\n";
+        assert!(rt; write(&rt, rt.alloc(), text, &gate, &wanted)?);
         assert_eq!(rt; gate.let_go.hand(), NOBODY);
         assert!(rt; gate.solved.hand() != NOBODY);
-        assert_eq!(rt; verdict, Verdict::Satisfiable);
-        assert!(rt; proof.is_empty());
-        assert_eq!(rt;
-            answer.as_slice(),
-            b"s SATISFIABLE\nv -1 2 -3 0\n".as_slice()
-        );
     }
     Ok(())
 }

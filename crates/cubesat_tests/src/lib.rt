@@ -29,6 +29,8 @@ mod rows;
 #[cfg(test)]
 mod same_file;
 #[cfg(test)]
+mod sessions;
+#[cfg(test)]
 mod shown;
 #[cfg(test)]
 mod shown_faults;

@@ -8,6 +8,7 @@ ghost use Rattle.std.specs.Prelude.{◌≤◌};
 use cubesat::check_run;
 use std::alloc::{AllocError, Global};
 use std::fmt::Write;
+use std::process::Abort;
 use std::test::Fail;
 
 /// How often the chain goes on to its next variable.
@@ -78,29 +79,42 @@ fn steps(alloc: Global) -> Result<String, AllocError> {
     Ok(text)
 }
 
+/// The last lines of proofs, and the lines that are written of these.
+static LAST: [(&str, &str); 4] = [
+    ("100003 0 100000 25002 0\n", "accepted\n"),
+    // no conflict
+    ("100003 0 100000 0\n", "refused 26 step 100000\n"),
+    // the first clause was taken away in the first round
+    ("100003 0 1 0\n", "refused 23 step 100000\n"),
+    // the line ends too early
+    ("100003 0 100000 25002\n", "refused 43 line 100000\n"),
+];
+
+/// The line that is written of the proof of these steps and this last line.
+fn line_with(alloc: Global, formula: &str, steps: &str, last: &str) -> Result<Vec<u8>, Fail> {
+    let proof = format!(in alloc; "{steps}{last}")?;
+    let mut answer = Vec::new(alloc);
+    check_run(alloc, formula.as_bytes(), proof.as_bytes(), &mut answer)?;
+    Ok(answer)
+}
+
+fn check_rows(
+    rt: &impl Abort,
+    alloc: Global,
+    formula: &str,
+    steps: &str,
+    rows: &[(&str, &str)],
+) -> Result<(), Fail> {
+    for row in rows {
+        let line = line_with(alloc, formula, steps, row.0)?;
+        assert_eq!(rt; line.as_slice(), row.1.as_bytes(), "with {}", row.0);
+    }
+    Ok(())
+}
+
 #[test]
 fn the_last_step_decides(rt: HostRuntime) -> Result<(), Fail> {
     let formula = chain(rt.alloc())?;
     let steps = steps(rt.alloc())?;
-    let rows = [
-        ("100003 0 100000 25002 0\n", "accepted\n"),
-        // no conflict
-        ("100003 0 100000 0\n", "refused 26 step 100000\n"),
-        // the first clause was taken away in the first round
-        ("100003 0 1 0\n", "refused 23 step 100000\n"),
-        // the line ends too early
-        ("100003 0 100000 25002\n", "refused 43 line 100000\n"),
-    ];
-    for (last, line) in rows {
-        let proof = format!(in rt.alloc(); "{steps}{last}")?;
-        let mut answer = Vec::new(rt.alloc());
-        check_run(
-            rt.alloc(),
-            formula.as_bytes(),
-            proof.as_bytes(),
-            &mut answer,
-        )?;
-        assert_eq!(rt; answer.as_slice(), line.as_bytes(), "with {last}");
-    }
-    Ok(())
+    check_rows(&rt, rt.alloc(), formula.as_str(), steps.as_str(), &LAST)
 }

@@ -191,10 +191,11 @@ const BY_DRAT_TRIM: &str = "22 d 0
 68 0 65 64 60 54 61 52 55 0
 ";
 
+static PROOFS: [(&str, &str); 2] = [(FIVE_PIGEONS, BY_CADICAL), (FOUR_PIGEONS, BY_DRAT_TRIM)];
+
 #[test]
 fn proofs_of_other_programs(rt: HostRuntime) -> Result<(), Fail> {
-    let rows = [(FIVE_PIGEONS, BY_CADICAL), (FOUR_PIGEONS, BY_DRAT_TRIM)];
-    for (formula, proof) in rows {
+    for (formula, proof) in &PROOFS {
         let mut answer = Vec::new(rt.alloc());
         let _ = check_run(
             rt.alloc(),

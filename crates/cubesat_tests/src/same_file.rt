@@ -1,5 +1,5 @@
 //! A proof that would be written over its formula, by whatever name.
-use crate::program::{path_of, run};
+use crate::sessions::{Wanted, path_of, prints};
 use crate::texts::FOUR;
 use std::fs;
 use std::rt::{Env, Files};
@@ -8,40 +8,76 @@ use std::test::Fail;
 use std::thread::Threads;
 use std::time::Clock;
 
-const REFUSED: &str = "fault 57: the proof would be written over the formula\n";
+const REFUSED: Wanted = Wanted {
+    status: 1,
+    answer: "",
+    faults: "fault 57: the proof would be written over the formula\n",
+};
 
 /// Whether `solve` refuses these two names of one file, and leaves its text.
-fn is_refused<R: Env + Files + AllocGlobal + Threads + Wait + Clock + Sync>(
+fn is_refused<R: Files + AllocGlobal + Threads + Wait + Clock + Sync>(
     rt: &R,
     formula: &str,
     proof: &str,
 ) -> Result<bool, Fail> {
-    let printed = run(rt, &["cubesat", "solve", "--proof", proof, formula]);
+    let words = ["cubesat", "solve", "--proof", proof, formula];
+    let is_printed = prints(rt, &words, &REFUSED);
     let text = fs::read(rt, formula)?;
-    Ok(
-        printed.status == 1
-            && printed.answer.is_empty()
-            && printed.faults.as_slice() == REFUSED.as_bytes()
-            && text.as_slice() == FOUR.as_bytes(),
-    )
+    Ok(is_printed && text.as_slice() == FOUR.as_bytes())
+}
+
+/// Whether `solve` refuses a name of the formula's file beside the formula, as the proof and as the formula.
+fn are_refused<R: Files + AllocGlobal + Threads + Wait + Clock + Sync>(
+    rt: &R,
+    formula: &str,
+    name: &str,
+) -> Result<bool, Fail> {
+    let as_proof = is_refused(rt, formula, name)?;
+    Ok(is_refused(rt, name, formula)? && as_proof)
+}
+
+/// The formula's file, a symbolic link to it, and another name of it.
+#[derive(Drop)]
+struct Names {
+    formula: String,
+    link: String,
+    other: String,
+}
+
+impl Names {
+    fn new<R: Env + AllocGlobal>(rt: &R) -> Result<Names, Fail> {
+        Ok(Names {
+            formula: path_of(rt, "kept.cnf")?,
+            link: path_of(rt, "kept_link")?,
+            other: path_of(rt, "kept_name")?,
+        })
+    }
+
+    /// Writes the formula, and gives it its names, which an earlier run may have left.
+    fn make<R: Files>(&self, rt: &R) -> Result<(), Fail> {
+        fs::write(rt, self.formula.as_str(), FOUR)?;
+        let _ = fs::remove_file(rt, self.link.as_str());
+        let _ = fs::remove_file(rt, self.other.as_str());
+        rt.symlink(self.formula.as_str(), self.link.as_str())?;
+        fs::hard_link(rt, self.formula.as_str(), self.other.as_str())?;
+        Ok(())
+    }
+
+    fn remove<R: Files>(&self, rt: &R) -> Result<(), Fail> {
+        fs::remove_file(rt, self.link.as_str())?;
+        fs::remove_file(rt, self.other.as_str())?;
+        fs::remove_file(rt, self.formula.as_str())?;
+        Ok(())
+    }
 }
 
 #[test]
 fn the_formula_is_not_written_over(rt: HostRuntime) -> Result<(), Fail> {
-    let formula = path_of(&rt, "kept.cnf")?;
-    let link = path_of(&rt, "kept_link")?;
-    let other = path_of(&rt, "kept_name")?;
-    fs::write(&rt, formula.as_str(), FOUR)?;
-    let _ = fs::remove_file(&rt, link.as_str());
-    let _ = fs::remove_file(&rt, other.as_str());
-    rt.symlink(formula.as_str(), link.as_str())?;
-    fs::hard_link(&rt, formula.as_str(), other.as_str())?;
-    for name in [formula.as_str(), link.as_str(), other.as_str()] {
-        assert!(rt; is_refused(&rt, formula.as_str(), name)?, "{name}");
-        assert!(rt; is_refused(&rt, name, formula.as_str())?, "{name}");
+    let names = Names::new(&rt)?;
+    names.make(&rt)?;
+    let formula = names.formula.as_str();
+    for name in [formula, names.link.as_str(), names.other.as_str()] {
+        assert!(rt; are_refused(&rt, formula, name)?, "{name}");
     }
-    fs::remove_file(&rt, link.as_str())?;
-    fs::remove_file(&rt, other.as_str())?;
-    fs::remove_file(&rt, formula.as_str())?;
-    Ok(())
+    names.remove(&rt)
 }

@@ -1,43 +1,52 @@
 //! What `--stats` and `--progress` print, and that all else stays as it is.
-use crate::faulty::Limited;
+use crate::faulty::{Limited, Limits};
 use crate::options::SPLIT;
-use crate::program::{Printed, path_of, run};
+use crate::sessions::{Paths, Printed, run};
 use crate::texts::EIGHT;
 use cubesat::{CubeCounts, Figures, Manner, Screen, Stage, TextSize, command_on, print_line};
+use std::alloc::Global;
 use std::fs;
-use std::rt::{Env, Files};
+use std::rt::Files;
 use std::sync::Wait;
 use std::test::Fail;
 use std::thread::Threads;
 use std::time::Clock;
 
-/// Formulas with budgets, hands and answers, and the lines of `--stats` up to the times.
-const RUNS: [(&str, &str, &str, &str, &str); 4] = [
+/// Formulas with the words of runs and answers, and the lines of `--stats` up to the times.
+static RUNS: [(&str, &[&str], &str, &str); 4] = [
     (
         EIGHT,
-        "1",
-        "1",
+        &[
+            "cubesat", "solve", "--stats", "--budget", "1", "--hands", "1", "--proof", "PROOF",
+            "FORMULA",
+        ],
         "s UNSATISFIABLE\n",
         "c formula: 3 variables, 8 clauses, 24 literals\nc hands: 1\nc cubes: 3 solved, 1 split, 0 skipped\nc learnt: 4 lines in refuted cubes\nc solved by each hand: 3\nc proof: 7 lines, 94 bytes\nc reading: ",
     ),
     (
         EIGHT,
-        "1000",
-        "1",
+        &[
+            "cubesat", "solve", "--stats", "--budget", "1000", "--hands", "1", "--proof", "PROOF",
+            "FORMULA",
+        ],
         "s UNSATISFIABLE\n",
         "c formula: 3 variables, 8 clauses, 24 literals\nc hands: 1\nc cubes: 1 solved, 0 split, 0 skipped\nc learnt: 4 lines in refuted cubes\nc solved by each hand: 1\nc proof: 4 lines, 62 bytes\nc reading: ",
     ),
     (
         "p cnf 2 1\n1 2 0\n",
-        "1000",
-        "1",
+        &[
+            "cubesat", "solve", "--stats", "--budget", "1000", "--hands", "1", "--proof", "PROOF",
+            "FORMULA",
+        ],
         "s SATISFIABLE\nv -1 2 0\n",
         "c formula: 2 variables, 1 clauses, 2 literals\nc hands: 1\nc cubes: 1 solved, at least 0 split, skipped unknown\nc solved by each hand: 1\nc proof: 0 lines, 0 bytes\nc reading: ",
     ),
     (
         EIGHT,
-        "1",
-        "16",
+        &[
+            "cubesat", "solve", "--stats", "--budget", "1", "--hands", "16", "--proof", "PROOF",
+            "FORMULA",
+        ],
         "s UNSATISFIABLE\n",
         "c formula: 3 variables, 8 clauses, 24 literals\nc hands: 16\nc cubes: 3 solved, 1 split, 0 skipped\nc learnt: 4 lines in refuted cubes\nc solved by each hand: ",
     ),
@@ -68,81 +77,83 @@ fn has_figures(faults: &[u8], wanted: &str) -> bool {
     }
 }
 
-/// A run on a formula with `--stats`.
-fn run_with_statistics<R: Env + Files + AllocGlobal + Threads + Wait + Clock + Sync>(
+/// What a run on a formula prints.
+fn printed<R: Files + AllocGlobal + Threads + Wait + Clock + Sync>(
     rt: &R,
+    paths: &Paths,
     text: &str,
-    budget: &str,
-    hands: &str,
+    words: &[&str],
 ) -> Result<Printed, Fail> {
-    let formula = path_of(rt, "stats.cnf")?;
-    let proof = path_of(rt, "stats.lrat")?;
-    fs::write(rt, formula.as_str(), text)?;
-    let words = [
-        "cubesat",
-        "solve",
-        "--stats",
-        "--budget",
-        budget,
-        "--hands",
-        hands,
-        "--proof",
-        proof.as_str(),
-        formula.as_str(),
-    ];
+    fs::write(rt, paths.formula.as_str(), text)?;
+    let words = paths.words(rt.alloc(), words)?;
     Ok(run(rt, &words))
 }
 
 #[test]
 fn statistics_are_printed(rt: HostRuntime) -> Result<(), Fail> {
-    for (text, budget, hands, answer, wanted) in RUNS {
-        let printed = run_with_statistics(&rt, text, budget, hands)?;
+    let paths = Paths::of(&rt, "stats.cnf")?;
+    for (text, words, answer, wanted) in &RUNS {
+        let printed = printed(&rt, &paths, text, words)?;
         assert_eq!(rt; printed.answer.as_slice(), answer.as_bytes());
-        assert!(rt; has_figures(&printed.faults, wanted));
+        assert!(rt; has_figures(&printed.faults, wanted), "{words:?}");
     }
     Ok(())
 }
 
-/// A run with all three options, whose lines go to this writer; the answer.
-fn answer_beside<R: Env + Files + AllocGlobal + Threads + Wait + Clock + Sync>(
+static WITH_ALL: [&str; 10] = [
+    "cubesat",
+    "solve",
+    "--stats",
+    "--progress",
+    "--verbose",
+    "--budget",
+    "1",
+    "--proof",
+    "PROOF",
+    "FORMULA",
+];
+
+/// Whether a run with all three options, whose lines go to this writer, answers and writes the proof as ever.
+fn is_as_ever<R: Files + AllocGlobal + Threads + Wait + Clock + Sync>(
     rt: &R,
+    paths: &Paths,
     faults: &mut Limited,
     screen: Screen,
-) -> Result<Vec<u8>, Fail> {
-    let formula = path_of(rt, "beside.cnf")?;
-    let proof = path_of(rt, "beside.lrat")?;
-    fs::write(rt, formula.as_str(), EIGHT)?;
-    let words = [
-        "cubesat",
-        "solve",
-        "--stats",
-        "--progress",
-        "--verbose",
-        "--budget",
-        "1",
-        "--proof",
-        proof.as_str(),
-        formula.as_str(),
-    ];
+) -> Result<bool, Fail> {
+    let words = paths.words(rt.alloc(), &WITH_ALL)?;
     let mut answer = Vec::new(rt.alloc());
     let status = command_on(rt, rt.alloc(), &words, &mut answer, faults, screen);
-    if status != 20 {
-        return Err(Fail::from("another status"));
-    }
-    if fs::read(rt, proof.as_str())?.as_slice() != SPLIT.as_bytes() {
-        return Err(Fail::from("another proof"));
-    }
-    Ok(answer)
+    let proof = fs::read(rt, paths.proof.as_str())?;
+    Ok(
+        status == 20
+            && answer.as_slice() == b"s UNSATISFIABLE\n".as_slice()
+            && proof.as_slice() == SPLIT.as_bytes(),
+    )
+}
+
+/// Whether a run is as ever whose lines go to a writer with so much room, which refuses some.
+fn is_as_ever_beside<R: Files + AllocGlobal + Threads + Wait + Clock + Sync>(
+    rt: &R,
+    paths: &Paths,
+    room: usize,
+    screen: Screen,
+) -> Result<bool, Fail> {
+    fs::write(rt, paths.formula.as_str(), EIGHT)?;
+    fs::write(rt, paths.proof.as_str(), "old")?;
+    let mut faults = Limited::new(rt.alloc(), Limits::of(room));
+    let is_right = is_as_ever(rt, paths, &mut faults, screen)?;
+    Ok(is_right && faults.refusals > 0)
 }
 
 #[test]
 fn a_writer_that_fails_changes_nothing_else(rt: HostRuntime) -> Result<(), Fail> {
+    let paths = Paths::of(&rt, "beside.cnf")?;
     for room in [0, 1, 20, 100, 300] {
         for screen in [Screen::Stream, Screen::Terminal] {
-            let mut faults = Limited::new(rt.alloc(), room);
-            let answer = answer_beside(&rt, &mut faults, screen)?;
-            assert_eq!(rt; answer.as_slice(), b"s UNSATISFIABLE\n".as_slice());
-            assert!(rt; faults.refusals > 0);
+            assert!(rt;
+                is_as_ever_beside(&rt, &paths, room, screen)?,
+                "room {room}"
+            );
         }
     }
     Ok(())
@@ -168,7 +179,7 @@ fn some_cubes() -> CubeCounts {
 }
 
 /// The line of each stage, in a list and on a terminal.
-const LINES: [(Stage, &str); 5] = [
+static LINES: [(Stage, &str); 5] = [
     (Stage::Reading, "c 12 s: reading"),
     (
         Stage::Solving,
@@ -185,26 +196,32 @@ const LINES: [(Stage, &str); 5] = [
     ),
 ];
 
+/// Whether this is the line of some figures, as a list has it or a terminal.
+fn has_line(alloc: Global, figures: &Figures, manner: Manner, text: &str) -> Result<bool, Fail> {
+    let mut line = Vec::new(alloc);
+    print_line(&mut line, manner, 12, figures);
+    let wanted = match manner {
+        Manner::Listed => format!(in alloc; "{text}\n")?,
+        Manner::Rewritten => format!(in alloc; "\r{text}\x1b[K")?,
+    };
+    Ok(line.as_slice() == wanted.as_bytes())
+}
+
 #[test]
 fn progress_has_a_line_for_each_stage(rt: HostRuntime) -> Result<(), Fail> {
-    for (stage, wanted) in LINES {
-        let mut figures = Figures::none(stage);
+    for (stage, wanted) in &LINES {
+        let mut figures = Figures::none(*stage);
         figures.cubes = some_cubes();
         figures.add_proof(TextSize::of(b"ab\ncd\ne"));
-        let mut listed = Vec::new(rt.alloc());
-        print_line(&mut listed, Manner::Listed, 12, &figures);
-        let line = format!(in rt.alloc(); "{wanted}\n")?;
-        assert_eq!(rt; listed.as_slice(), line.as_bytes());
-        let mut rewritten = Vec::new(rt.alloc());
-        print_line(&mut rewritten, Manner::Rewritten, 12, &figures);
-        let line = format!(in rt.alloc(); "\r{wanted}\x1b[K")?;
-        assert_eq!(rt; rewritten.as_slice(), line.as_bytes());
+        for manner in [Manner::Listed, Manner::Rewritten] {
+            assert!(rt; has_line(rt.alloc(), &figures, manner, wanted)?, "{wanted}");
+        }
     }
     Ok(())
 }
 
 /// How many cubes of the depths 0 to 4 are solved, how many lie in the deques at most, and the part of the tree that is closed at least.
-const TREES: [([usize; 5], u64, u64); 6] = [
+static TREES: [([usize; 5], u64, u64); 6] = [
     ([0, 0, 0, 0, 0], 0, 0),
     ([1, 0, 0, 0, 0], 2, 0),
     ([1, 2, 0, 0, 0], 4, 0),
@@ -215,17 +232,17 @@ const TREES: [([usize; 5], u64, u64); 6] = [
 
 #[test]
 fn what_is_closed_follows_from_the_depths(rt: HostRuntime) {
-    for (solved, waiting, closed) in TREES {
+    for (solved, waiting, closed) in &TREES {
         let mut cubes = CubeCounts::none();
         let mut depth = 0usize;
         for count in solved {
-            for _ in 0..count {
+            for _ in 0..*count {
                 cubes.begin(0, depth, Some(true));
                 cubes.end(0, depth);
             }
             depth = depth.saturating_add(1);
         }
-        assert_eq!(rt; cubes.waiting(), waiting);
-        assert_eq!(rt; cubes.closed(), closed);
+        assert_eq!(rt; cubes.waiting(), *waiting);
+        assert_eq!(rt; cubes.closed(), *closed);
     }
 }

@@ -1,148 +1,288 @@
 //! What `--verbose` prints, and that a fault's line and the answer stay as they are.
-use crate::program::{path_of, run};
+use crate::sessions::{Paths, Wanted, prints};
 use crate::texts::{WIDE, WIDE_PROOF};
 use cubesat::explanation;
+use std::alloc::{AllocError, Global};
+use std::fmt::Write;
 use std::fs;
-use std::rt::{Env, Files};
+use std::rt::Files;
+use std::sync::Wait;
 use std::test::Fail;
+use std::thread::Threads;
+use std::time::Clock;
 
-/// The line of a number, and none of 0.
-fn line_of<R: AllocGlobal>(rt: &R, number: u32) -> Result<String, Fail> {
-    if number == 0 {
-        return Ok(String::new(rt.alloc()));
-    }
-    let text = explanation(number).unwrap_or("");
-    Ok(format!(in rt.alloc(); "c {number}: {text}\n")?)
+/// A formula that is refused.
+const BAD: &str = "p cnf 2 1\n1 3 0\n";
+
+/// A proof with a candidate that the second line leaves out.
+const CUT: &str = "5 3 1 0 0\n6 -3 0 0\n";
+
+const READ: &str = "fault 51: refusal 5 at line 2, column 3\n";
+
+/// The texts of the formula's and the proof's file, a command line, what it answers, and what is shown: in pieces what comes before a fault, the
+/// fault's line, the numbers that are explained, and in pieces the files that it concerns.
+#[derive(Clone, Copy)]
+struct Row<'a> {
+    texts: (&'a str, &'a str),
+    words: &'a [&'a str],
+    status: u8,
+    answer: &'a str,
+    begins: &'a [&'a str],
+    fault: &'a str,
+    numbers: &'a [u32],
+    ends: &'a [&'a str],
 }
 
-/// The line of a file that a fault concerns, and none where none is.
-fn file_line<R: AllocGlobal>(rt: &R, concerns: &str, file: &str) -> Result<String, Fail> {
-    if concerns.is_empty() {
-        return Ok(String::new(rt.alloc()));
-    }
-    Ok(format!(in rt.alloc(); "c {concerns} {file}\n")?)
-}
-
-/// The files of these tests.
-#[derive(Drop)]
-struct Paths {
-    good: String,
-    bad: String,
-    proof: String,
-    cut: String,
-    missing: String,
-}
-
-impl Paths {
-    fn written<R: Env + Files + AllocGlobal>(rt: &R) -> Result<Paths, Fail> {
-        let paths = Paths {
-            good: path_of(rt, "shown_good.cnf")?,
-            bad: path_of(rt, "shown_bad.cnf")?,
-            proof: path_of(rt, "shown.lrat")?,
-            cut: path_of(rt, "shown_cut.lrat")?,
-            missing: path_of(rt, "no_such_folder/x")?,
-        };
-        fs::write(rt, paths.good.as_str(), WIDE)?;
-        fs::write(rt, paths.bad.as_str(), "p cnf 2 1\n1 3 0\n")?;
-        fs::write(rt, paths.proof.as_str(), WIDE_PROOF)?;
-        fs::write(rt, paths.cut.as_str(), "5 3 1 0 0\n6 -3 0 0\n")?;
-        Ok(paths)
-    }
-}
-
-#[test]
-fn a_check_says_what_it_does(rt: HostRuntime) -> Result<(), Fail> {
-    let paths = Paths::written(&rt)?;
-    let (good, bad) = (paths.good.as_str(), paths.bad.as_str());
-    let (proof, cut, missing) = (
-        paths.proof.as_str(),
-        paths.cut.as_str(),
-        paths.missing.as_str(),
-    );
-    // the formula, the proof, the answer, the fault's line, its numbers, and the file that it concerns
-    let rows = [
-        (good, proof, "accepted\n", "", 0, 0, "", ""),
-        (good, cut, "refused 27 step 2\n", "", 27, 0, "", ""),
-        (
-            bad,
-            proof,
-            "",
-            "fault 51: refusal 5 at line 2, column 3\n",
-            51,
-            5,
-            "the formula is",
-            bad,
-        ),
-        (good, ".", "", "fault 55\n", 55, 0, "the proof is", "."),
-        (
-            good,
-            missing,
-            "",
-            "fault 56\n",
-            56,
-            0,
-            "the file is",
-            missing,
-        ),
-        (
-            missing,
-            proof,
-            "",
-            "fault 56\n",
-            56,
-            0,
-            "the file is",
-            missing,
-        ),
-    ];
-    for (formula, proof, answer, fault, number, behind, concerns, file) in rows {
-        let printed = run(&rt, &["cubesat", "check", "--verbose", formula, proof]);
-        assert_eq!(rt; printed.answer.as_slice(), answer.as_bytes());
-        let numbers = line_of(&rt, number)?;
-        let numbers_behind = line_of(&rt, behind)?;
-        let last = file_line(&rt, concerns, file)?;
-        let wanted = format!(in rt.alloc();
-            "c reading the formula from {formula}\nc checking the proof in {proof}\n{fault}{numbers}{numbers_behind}{last}"
-        )?;
-        assert_eq!(rt; printed.faults.as_slice(), wanted.as_bytes());
+fn write_pieces(
+    text: &mut String,
+    alloc: Global,
+    paths: &Paths,
+    pieces: &[&str],
+) -> Result<(), AllocError> {
+    for piece in paths.words(alloc, pieces)? {
+        text.push_str(piece)?;
     }
     Ok(())
 }
 
+fn write_numbers(text: &mut String, numbers: &[u32]) -> Result<(), AllocError> {
+    for number in numbers {
+        let explained = explanation(*number).unwrap_or("");
+        write!(text, "c {number}: {explained}\n")?;
+    }
+    Ok(())
+}
+
+/// What a row's command line shows.
+fn shown(alloc: Global, paths: &Paths, row: &Row) -> Result<String, AllocError> {
+    let mut text = String::new(alloc);
+    write_pieces(&mut text, alloc, paths, row.begins)?;
+    text.push_str(row.fault)?;
+    write_numbers(&mut text, row.numbers)?;
+    write_pieces(&mut text, alloc, paths, row.ends)?;
+    Ok(text)
+}
+
+/// Whether a row's command line answers what it is to answer, and shows what it is to show.
+fn shows<R: Files + AllocGlobal + Threads + Wait + Clock + Sync>(
+    rt: &R,
+    paths: &Paths,
+    row: &Row,
+) -> Result<bool, Fail> {
+    fs::write(rt, paths.formula.as_str(), row.texts.0)?;
+    fs::write(rt, paths.proof.as_str(), row.texts.1)?;
+    let words = paths.words(rt.alloc(), row.words)?;
+    let faults = shown(rt.alloc(), paths, row)?;
+    let wanted = Wanted {
+        status: row.status,
+        answer: row.answer,
+        faults: faults.as_str(),
+    };
+    Ok(prints(rt, &words, &wanted))
+}
+
+const CHECK: [&str; 5] = ["cubesat", "check", "--verbose", "FORMULA", "PROOF"];
+
+const CHECKING: [&str; 5] = [
+    "c reading the formula from ",
+    "FORMULA",
+    "\nc checking the proof in ",
+    "PROOF",
+    "\n",
+];
+
+/// A check that accepts.
+const ACCEPTED: Row = Row {
+    texts: (WIDE, WIDE_PROOF),
+    words: &CHECK,
+    status: 0,
+    answer: "accepted\n",
+    begins: &CHECKING,
+    fault: "",
+    numbers: &[],
+    ends: &[],
+};
+
+static CHECKS: [Row; 6] = [
+    ACCEPTED,
+    Row {
+        texts: (WIDE, CUT),
+        status: 1,
+        answer: "refused 27 step 2\n",
+        numbers: &[27],
+        ..ACCEPTED
+    },
+    Row {
+        texts: (BAD, WIDE_PROOF),
+        status: 1,
+        answer: "",
+        fault: READ,
+        numbers: &[51, 5],
+        ends: &["c the formula is ", "FORMULA", "\n"],
+        ..ACCEPTED
+    },
+    Row {
+        words: &["cubesat", "check", "--verbose", "FORMULA", "."],
+        status: 1,
+        answer: "",
+        begins: &[
+            "c reading the formula from ",
+            "FORMULA",
+            "\nc checking the proof in .\n",
+        ],
+        fault: "fault 55\n",
+        numbers: &[55],
+        ends: &["c the proof is .\n"],
+        ..ACCEPTED
+    },
+    Row {
+        words: &["cubesat", "check", "--verbose", "FORMULA", "MISSING"],
+        status: 1,
+        answer: "",
+        begins: &[
+            "c reading the formula from ",
+            "FORMULA",
+            "\nc checking the proof in ",
+            "MISSING",
+            "\n",
+        ],
+        fault: "fault 56\n",
+        numbers: &[56],
+        ends: &["c the file is ", "MISSING", "\n"],
+        ..ACCEPTED
+    },
+    Row {
+        words: &["cubesat", "check", "--verbose", "MISSING", "PROOF"],
+        status: 1,
+        answer: "",
+        begins: &[
+            "c reading the formula from ",
+            "MISSING",
+            "\nc checking the proof in ",
+            "PROOF",
+            "\n",
+        ],
+        fault: "fault 56\n",
+        numbers: &[56],
+        ends: &["c the file is ", "MISSING", "\n"],
+        ..ACCEPTED
+    },
+];
+
+#[test]
+fn a_check_says_what_it_does(rt: HostRuntime) -> Result<(), Fail> {
+    let paths = Paths::of(&rt, "shown_check.cnf")?;
+    for row in &CHECKS {
+        assert!(rt;
+            shows(&rt, &paths, row)?,
+            "{:?} with {}",
+            row.words,
+            row.answer
+        );
+    }
+    Ok(())
+}
+
+/// A run that refutes the formula.
+const REFUTED: Row = Row {
+    texts: (WIDE, ""),
+    words: &[
+        "cubesat",
+        "solve",
+        "--verbose",
+        "--proof",
+        "PROOF",
+        "FORMULA",
+    ],
+    status: 20,
+    answer: "s UNSATISFIABLE\n",
+    begins: &[
+        "c reading the formula from ",
+        "FORMULA",
+        "\nc solving it, hands 1, budget 1000 conflicts\nc writing the proof to ",
+        "PROOF",
+        "\n",
+    ],
+    fault: "",
+    numbers: &[],
+    ends: &[],
+};
+
+static RUNS: [Row; 4] = [
+    REFUTED,
+    Row {
+        texts: (BAD, ""),
+        status: 1,
+        answer: "",
+        fault: READ,
+        numbers: &[51, 5],
+        ends: &["c the formula is ", "FORMULA", "\n"],
+        ..REFUTED
+    },
+    Row {
+        words: &[
+            "cubesat",
+            "solve",
+            "--verbose",
+            "--proof",
+            "MISSING",
+            "FORMULA",
+        ],
+        status: 1,
+        answer: "",
+        begins: &[
+            "c reading the formula from ",
+            "FORMULA",
+            "\nc solving it, hands 1, budget 1000 conflicts\nc writing the proof to ",
+            "MISSING",
+            "\n",
+        ],
+        fault: "fault 56\n",
+        numbers: &[56],
+        ends: &["c the file is ", "MISSING", "\n"],
+        ..REFUTED
+    },
+    Row {
+        words: &[
+            "cubesat",
+            "solve",
+            "--verbose",
+            "--proof",
+            "FORMULA",
+            "FORMULA",
+        ],
+        status: 1,
+        answer: "",
+        begins: &[
+            "c reading the formula from ",
+            "FORMULA",
+            "\nc solving it, hands 1, budget 1000 conflicts\nc writing the proof to ",
+            "FORMULA",
+            "\n",
+        ],
+        fault: "fault 57: the proof would be written over the formula\n",
+        numbers: &[57],
+        ends: &[
+            "c the formula is ",
+            "FORMULA",
+            "\nc the proof is ",
+            "FORMULA",
+            "\n",
+        ],
+        ..REFUTED
+    },
+];
+
 #[test]
 fn a_run_says_what_it_does(rt: HostRuntime) -> Result<(), Fail> {
-    let paths = Paths::written(&rt)?;
-    let (good, bad) = (paths.good.as_str(), paths.bad.as_str());
-    let (proof, missing) = (paths.proof.as_str(), paths.missing.as_str());
-    let same = "fault 57: the proof would be written over the formula\n";
-    // the formula, the proof, the fault's line, its numbers, and whether both files are concerned
-    let rows = [
-        (good, proof, "", 0, 0),
-        (
-            bad,
-            proof,
-            "fault 51: refusal 5 at line 2, column 3\n",
-            51,
-            5,
-        ),
-        (good, missing, "fault 56\n", 56, 0),
-        (good, good, same, 57, 0),
-    ];
-    for (formula, proof, fault, number, behind) in rows {
-        let words = ["cubesat", "solve", "--verbose", "--proof", proof, formula];
-        let printed = run(&rt, &words);
-        let numbers = line_of(&rt, number)?;
-        let numbers_behind = line_of(&rt, behind)?;
-        let files = match number {
-            51 => format!(in rt.alloc(); "c the formula is {formula}\n")?,
-            56 => format!(in rt.alloc(); "c the file is {proof}\n")?,
-            57 => format!(in rt.alloc(); "c the formula is {formula}\nc the proof is {proof}\n")?,
-            _ => String::new(rt.alloc()),
-        };
-        let wanted = format!(in rt.alloc();
-            "c reading the formula from {formula}\nc solving it, hands 1, budget 1000 conflicts\nc writing the proof to {proof}\n{fault}{numbers}{numbers_behind}{files}"
-        )?;
-        assert_eq!(rt; printed.faults.as_slice(), wanted.as_bytes());
+    let paths = Paths::of(&rt, "shown_run.cnf")?;
+    for row in &RUNS {
+        assert!(rt;
+            shows(&rt, &paths, row)?,
+            "{:?} with {}",
+            row.words,
+            row.answer
+        );
     }
     Ok(())
 }
