@@ -2,46 +2,57 @@
 ghost use Rattle.std.specs.Prelude.{◌≡◌};
 ghost use Rattle.lrat.specs.CheckFaults.{check_fault_number, check_fault_step, fault_at};
 
-use std::error::Error;
-use std::fmt;
+use thiserror::Error;
 
 /// Why the steps are no proof. A step is counted from 1 over all steps, deletions too.
-#[derive(Clone, Copy, Debug, PartialEq, Eq)]
+#[derive(Clone, Copy, Debug, PartialEq, Eq, Error)]
 pub enum CheckFault {
     /// The addition's number isn't above those given away before.
+    #[error("step {0}: the clause's number doesn't rise")]
     IdNotRising(u64),
 
     /// A variable of the added clause stands in both signs.
+    #[error("step {0}: a variable in both signs")]
     BothSigns(u64),
 
     /// A hint or a candidate names a clause that isn't there.
+    #[error("step {0}: no such clause")]
     NoSuchClause(u64),
 
     /// A hinted clause is neither false nor unit.
+    #[error("step {0}: a hint that isn't unit")]
     HintNotUnit(u64),
 
     /// A hint or a group follows the conflict.
+    #[error("step {0}: a hint after the conflict")]
     HintAfterConflict(u64),
 
     /// The hints of an empty clause, or of a candidate, end without a conflict.
+    #[error("step {0}: no conflict")]
     NoConflict(u64),
 
     /// A candidate that isn't closed has no group.
+    #[error("step {0}: a candidate without hints")]
     MissingCandidate(u64),
 
     /// A group names a clause without the negated pivot, one for the second time, or a closed one with hints.
+    #[error("step {0}: a bad candidate")]
     BadCandidate(u64),
 
     /// A clause that is to be taken away isn't there.
+    #[error("step {0}: nothing to take away")]
     NoSuchDeletion(u64),
 
     /// No step adds the empty clause.
+    #[error("no empty clause")]
     NoEmptyClause,
 
     /// A variable of the added clause isn't the formula's.
+    #[error("step {0}: a variable out of range")]
     LiteralOutOfRange(u64),
 
     /// A growth was refused.
+    #[error("out of memory")]
     NoMemory,
 }
 
@@ -76,23 +87,6 @@ impl CheckFault {
             Fault::BadCandidate => CheckFault::BadCandidate(step),
             Fault::NoSuchDeletion => CheckFault::NoSuchDeletion(step),
             Fault::LiteralOutOfRange => CheckFault::LiteralOutOfRange(step),
-        }
-    }
-
-    fn reason(&self) -> &'static str {
-        match self {
-            CheckFault::IdNotRising(_) => "the clause's number doesn't rise",
-            CheckFault::BothSigns(_) => "a variable in both signs",
-            CheckFault::NoSuchClause(_) => "no such clause",
-            CheckFault::HintNotUnit(_) => "a hint that isn't unit",
-            CheckFault::HintAfterConflict(_) => "a hint after the conflict",
-            CheckFault::NoConflict(_) => "no conflict",
-            CheckFault::MissingCandidate(_) => "a candidate without hints",
-            CheckFault::BadCandidate(_) => "a bad candidate",
-            CheckFault::NoSuchDeletion(_) => "nothing to take away",
-            CheckFault::NoEmptyClause => "no empty clause",
-            CheckFault::LiteralOutOfRange(_) => "a variable out of range",
-            CheckFault::NoMemory => "out of memory",
         }
     }
 
@@ -135,15 +129,3 @@ impl CheckFault {
         }
     }
 }
-
-// By hand, since a derived message shows the step once for each variant, which takes many times as long to prove.
-impl fmt::Display for CheckFault {
-    fn fmt<W: fmt::Write>(&self, f: &mut fmt::Formatter<W>) -> fmt::Result {
-        if let Some(step) = self.step() {
-            write!(f, "step {step}: ")?;
-        }
-        f.write_str(self.reason())
-    }
-}
-
-impl Error for CheckFault {}
