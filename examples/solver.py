@@ -1,12 +1,16 @@
-"""What the examples share: variables with names, clauses, and a call of `cubesat`."""
+"""What the examples share: variables with names, clauses, and a call of the module `cubesat`."""
 import argparse
+import functools
 import itertools
 import os
 import subprocess
 import sys
-import tempfile
 
-CUBESAT = os.path.join(os.path.dirname(os.path.dirname(os.path.realpath(__file__))), "bin", "cubesat")
+HERE = os.path.dirname(os.path.realpath(__file__))
+# The module's folder in the repository, and in a package, where these scripts stand in share/doc/cubesat/examples.
+MODULES = [os.path.join(HERE, it) for it in ("../python", "../../../../lib/python3/dist-packages")]
+sys.path[:0] = [it for it in MODULES if os.path.exists(os.path.join(it, "cubesat.py"))][:1]
+import cubesat
 
 
 class Formula:
@@ -30,32 +34,28 @@ class Formula:
         self.add(*literals)
         self.at_most_one(literals)
 
-    def text(self):
-        lines = [f"p cnf {len(self.numbers)} {len(self.clauses)}"]
-        lines += [" ".join(map(str, (*clause, 0))) for clause in self.clauses]
-        return "\n".join(lines) + "\n"
-
 
 def arguments(text):
     """The command line of a script that says by this text what it does; `--help` prints it."""
     return argparse.ArgumentParser(description=text, formatter_class=argparse.RawDescriptionHelpFormatter)
 
 
+@functools.cache
+def program():
+    """The program, which is built here where it wasn't: the module would keep what that prints to itself."""
+    found = cubesat.find_program()
+    subprocess.run([found, "--version"], check=True, stdout=subprocess.DEVNULL)
+    return found
+
+
 def solve(formula, *, refuted=None):
-    """The names that are true in the first model, or None where there is none. What that means, where it is given, is printed once the proof has been
-    checked."""
-    with tempfile.TemporaryDirectory() as folder:
-        file, proof = f"{folder}/formula.cnf", f"{folder}/proof.lrat"
-        with open(file, "w") as it:
-            it.write(formula.text())
-        ran = subprocess.run([CUBESAT, "solve", "--proof", proof, file], stdout=subprocess.PIPE, text=True)
-        if ran.returncode not in (10, 20):
-            sys.exit(ran.returncode)
-        if ran.returncode == 20:
-            if refuted:
-                checked = subprocess.run([CUBESAT, "check", file, proof], check=True, stdout=subprocess.PIPE, text=True)
-                print(f"{refuted}: proof {checked.stdout.strip()}")
-            return None
-    lines = [line[2:].split() for line in ran.stdout.splitlines() if line.startswith("v ")]
-    true = {int(word) for line in lines for word in line if int(word) > 0}
-    return {name for name, number in formula.numbers.items() if number in true}
+    """The names that are true in the first model, or None where there is none. What that means, where it is given, is printed: the proof was checked."""
+    try:
+        model = cubesat.solve(formula.clauses, variables=len(formula.numbers), program=program())
+    except cubesat.Error as error:
+        sys.exit(str(error))
+    if model is None:
+        if refuted:
+            print(f"{refuted}: proof accepted")
+        return None
+    return {name for name, number in formula.numbers.items() if model[number - 1] > 0}

@@ -1,0 +1,157 @@
+"""Decides propositional formulas by the program `cubesat`.
+
+    import cubesat
+    cubesat.solve([[1, 2], [-1, 3]])     # [-1, 2, -3]: the first model
+    cubesat.solve([[1, 2], [-1], [-2]])  # None: there is none, and the proof of that was checked
+
+Variables are numbered from 1, and a literal is a variable or its negative. Needs Python 3.7 or later, and nothing beside it.
+"""
+from __future__ import annotations
+
+import os
+import shutil
+import subprocess
+import tempfile
+from collections.abc import Iterable
+from pathlib import Path
+from typing import Union
+
+__all__ = ["BadClauses", "Error", "Fault", "NoProgram", "dimacs", "find_program", "solve"]
+
+StrPath = Union[str, "os.PathLike[str]"]
+
+# What the program reads at most. It has a limit of 67,108,864 bytes, too, which no text of ours reaches that keeps these.
+MOST_VARIABLES = 262_143
+MOST_CLAUSES = 1_000_000
+MOST_LITERALS = 8_000_000
+
+SATISFIABLE = 10
+UNSATISFIABLE = 20
+
+
+class Error(Exception):
+    """Each exception that is this module's own."""
+
+
+class BadClauses(Error, ValueError):
+    """What was given is no formula, or a larger one than the program reads."""
+
+
+class NoProgram(Error):
+    """The program isn't where it was looked for."""
+
+
+class Fault(Error):
+    """The program gave no answer, or it refused the proof. `line` is what it printed; `cubesat explain` says what its numbers mean."""
+
+    def __init__(self, line: str):
+        super().__init__(line)
+        self.line = line
+
+
+def solve(
+    clauses: Iterable[Iterable[int]],
+    *,
+    variables: int | None = None,
+    budget: int = 1000,
+    hands: int = 1,
+    check: bool = True,
+    proof: StrPath | None = None,
+    program: StrPath | None = None,
+) -> list[int] | None:
+    """The first model in the order of assignments, false before true and the least variable first; or None, where there is no model.
+
+    A model has a literal for each variable, in order; that of no variables is an empty list, so compare with None. The answer None is given once
+    `cubesat check` accepted the proof.
+
+    variables: how many there are; without it, up to the greatest that a clause has
+    budget:    conflicts of the first search, 1 to 100,000; another budget gives another proof, and the same answer
+    hands:     threads, 1 to 16; they change neither the answer nor the proof
+    check:     whether the proof is checked
+    proof:     where to keep the proof, which is empty where there is a model
+    program:   the path of the program; without it, see `find_program`
+
+    Raises BadClauses, NoProgram, or Fault. Formula and proof are written to a temporary folder (TMPDIR says where), but for a proof that is kept.
+    """
+    text = dimacs(clauses, variables)
+    path = find_program(program)
+    with tempfile.TemporaryDirectory(prefix="cubesat-") as folder:
+        formula = os.path.join(folder, "formula.cnf")
+        written = os.path.join(folder, "proof.lrat") if proof is None else os.path.abspath(proof)
+        with open(formula, "w") as file:
+            file.write(text)
+        ran = _run(path, "solve", "--budget", str(budget), "--hands", str(hands), "--proof", written, formula)
+        if ran.returncode == SATISFIABLE:
+            return _model(ran.stdout)
+        if ran.returncode != UNSATISFIABLE:
+            raise _fault(ran)
+        if check:
+            checked = _run(path, "check", formula, written)
+            if (checked.returncode, checked.stdout) != (0, "accepted\n"):
+                raise _fault(checked)
+    return None
+
+
+def dimacs(clauses: Iterable[Iterable[int]], variables: int | None = None) -> str:
+    """The clauses as a text in DIMACS CNF, one a line, or BadClauses. So many variables are declared, or without a number, up to the greatest."""
+    lines, count, greatest = [], 0, 0
+    for number, clause in enumerate(clauses, 1):
+        literals = _literals(clause, number)
+        count += len(literals)
+        if number > MOST_CLAUSES or count > MOST_LITERALS:
+            raise BadClauses(f"clause {number}: more than {MOST_CLAUSES:,} clauses or {MOST_LITERALS:,} literals")
+        greatest = max(greatest, max(map(abs, literals), default=0))
+        if greatest > MOST_VARIABLES:
+            raise BadClauses(f"clause {number}: a variable over {MOST_VARIABLES:,}, the greatest that there may be")
+        lines.append(" ".join(map(str, (*literals, 0))))
+    if variables is None:
+        variables = greatest
+    if type(variables) is not int or not greatest <= variables <= MOST_VARIABLES:
+        raise BadClauses(f"variables: not a number from {greatest}, the greatest in a clause, to {MOST_VARIABLES:,}")
+    return "\n".join([f"p cnf {variables} {len(lines)}", *lines, ""])
+
+
+def find_program(given: StrPath | None = None) -> str:
+    """The path of the program, or NoProgram.
+
+    It is the one that is given, else the environment's CUBESAT, else the one that was installed with this module, else the one on the PATH. A name
+    without a slash is looked for on the PATH.
+    """
+    named = given or os.environ.get("CUBESAT")
+    wanted = [os.fspath(named)] if named else [_beside(), "cubesat"]
+    found = next(filter(None, map(shutil.which, wanted)), None)
+    if found is None:
+        raise NoProgram(f"no program at {wanted[0]}" + ("" if named else ", nor on the PATH; CUBESAT may name one"))
+    return found
+
+
+def _beside() -> str:
+    """Where the program stands: in PREFIX/bin for PREFIX/lib/python3/dist-packages, and in the repository in bin beside this folder."""
+    folder = Path(__file__).resolve().parent
+    prefix = folder / "../../.." if folder.name.endswith("-packages") else folder / ".."
+    return os.path.normpath(prefix / "bin" / "cubesat")
+
+
+def _literals(clause: Iterable[int], number: int) -> list[int]:
+    try:
+        literals = [*clause]
+    except TypeError:
+        raise BadClauses(f"clause {number}: {clause!r} is no collection of literals") from None
+    for literal in literals:
+        if type(literal) is not int or literal == 0:
+            raise BadClauses(f"clause {number}: {literal!r} is no literal, which is an int other than 0")
+    return literals
+
+
+def _run(*words: str) -> subprocess.CompletedProcess[str]:
+    return subprocess.run(words, stdin=subprocess.DEVNULL, capture_output=True, text=True, errors="replace")
+
+
+def _model(answer: str) -> list[int]:
+    lines = [line[2:].split() for line in answer.splitlines() if line.startswith("v ")]
+    return [int(word) for words in lines for word in words if word != "0"]
+
+
+def _fault(ran: subprocess.CompletedProcess[str]) -> Fault:
+    said = (ran.stderr or ran.stdout).strip() if ran.returncode >= 0 else ""
+    return Fault(said or f"ended with status {ran.returncode}")

@@ -1,0 +1,179 @@
+#!/usr/bin/env python3
+"""Tests of the module `cubesat` that stands beside this file, or, where none does, of the one that is installed. What is expected follows from the
+definitions of truth and of the first model, and from docs/FORMATS.md."""
+import importlib.util
+import itertools
+import os
+import shutil
+import subprocess
+import tempfile
+import unittest
+from unittest import mock
+
+import cubesat
+
+# Three pigeons in two holes: pigeon p is in hole h where 2p + h + 1 is true.
+PIGEONS = [[1, 2], [3, 4], [5, 6], *([-a, -b] for hole in (1, 2) for a, b in itertools.combinations(range(hole, 7, 2), 2))]
+# Its models are those in which 1 differs from 2 and 2 from 3.
+ALTERNATING = [[1, 2], [-1, -2], [2, 3], [-2, -3]]
+
+FIRST_MODELS = [
+    ("alternating", ALTERNATING, None, [-1, 2, -3]),
+    ("no clauses", [], None, []),
+    ("no clauses, two variables", [], 2, [-1, -2]),
+    ("a variable that no clause has", [[1], [3]], None, [1, -2, 3]),
+    ("one behind the greatest of a clause", [[2]], 3, [-1, 2, -3]),
+    ("a literal twice, and a clause that is always true", [[1, 1], [2, -2]], None, [1, -2]),
+    ("other collections than lists", ({it} for it in (2, -1)), None, [-1, 2]),
+    ("as many variables as there may be", [[262143]], None, [*range(-1, -262143, -1), 262143]),
+]
+WITHOUT_MODEL = [("pigeons", PIGEONS), ("an empty clause", [[]]), ("an empty clause beside others", [[1], [], [-2]]), ("both units", [[1], [-1]])]
+BAD = [
+    ("zero", [[1], [2, 0]], None),
+    ("a float", [[1.0]], None),
+    ("a truth value", [[True]], None),
+    ("a text", [["1"]], None),
+    ("a clause that is a number", [1, 2], None),
+    ("a variable over the limit", [[-262144]], None),
+    ("a number of variables over the limit", [], 262144),
+    ("numbers that Python prints none of", [[10**5000]], -(10**5000)),
+    ("fewer variables than a clause has", [[1], [-3]], 2),
+    ("a negative number of variables", [], -1),
+    ("a number of variables that is none", [], 2.0),
+    ("clauses without end", itertools.repeat([]), None),
+    ("literals over the limit", [[1] * 8_000_001], None),
+]
+
+
+def program_of(folder, text):
+    """The path of a script with this text, which Bash runs."""
+    path = os.path.join(folder, "program")
+    with open(path, "w") as file:
+        file.write(f"#!/bin/bash\n{text}\n")
+    os.chmod(path, 0o755)
+    return path
+
+
+class InFolder(unittest.TestCase):
+    def setUp(self):
+        held = tempfile.TemporaryDirectory()
+        self.addCleanup(held.cleanup)
+        self.folder = held.name
+
+
+class Answers(InFolder):
+    def test_first_models(self):
+        for name, clauses, variables, model in FIRST_MODELS:
+            with self.subTest(name):
+                self.assertEqual(cubesat.solve(clauses, variables=variables), model)
+
+    def test_without_model(self):
+        for name, clauses in WITHOUT_MODEL:
+            with self.subTest(name):
+                self.assertIsNone(cubesat.solve(clauses))
+
+    def test_budget_and_hands_change_no_answer(self):
+        for budget, hands in ((1, 1), (1, 4), (100_000, 16)):
+            with self.subTest(f"budget {budget}, hands {hands}"):
+                self.assertEqual(cubesat.solve(ALTERNATING, budget=budget, hands=hands), [-1, 2, -3])
+                self.assertIsNone(cubesat.solve(PIGEONS, budget=budget, hands=hands))
+
+    def test_kept_proof_is_accepted(self):
+        formula, proof = os.path.join(self.folder, "f.cnf"), os.path.join(self.folder, "f.lrat")
+        with open(formula, "w") as file:
+            file.write(cubesat.dimacs(PIGEONS))
+        for check in (True, False):
+            self.assertIsNone(cubesat.solve(PIGEONS, proof=proof, check=check))
+            checked = subprocess.run([cubesat.find_program(), "check", formula, proof], capture_output=True, text=True)
+            self.assertEqual(checked.stdout, "accepted\n")
+            os.unlink(proof)
+
+    def test_proof_of_a_satisfiable_formula_is_empty(self):
+        proof = os.path.join(self.folder, "f.lrat")
+        cubesat.solve(ALTERNATING, proof=proof)
+        self.assertEqual(os.path.getsize(proof), 0)
+
+    def test_text_of_a_formula(self):
+        self.assertEqual(cubesat.dimacs([[1, -3], []], 4), "p cnf 4 2\n1 -3 0\n0\n")
+        self.assertEqual(cubesat.dimacs([]), "p cnf 0 0\n")
+
+    def test_temporary_files_are_taken_away(self):
+        with mock.patch.object(tempfile, "tempdir", self.folder):
+            cubesat.solve(PIGEONS)
+        self.assertEqual(os.listdir(self.folder), [])
+
+
+class Refusals(InFolder):
+    def test_bad_clauses(self):
+        for name, clauses, variables in BAD:
+            with self.subTest(name), self.assertRaises(cubesat.BadClauses):
+                cubesat.solve(clauses, variables=variables)
+
+    def test_place_of_a_bad_clause_is_named(self):
+        with self.assertRaisesRegex(cubesat.BadClauses, "^clause 2: 0 "):
+            cubesat.solve([[1], [2, 0]])
+
+    def test_fault_has_the_line(self):
+        with self.assertRaises(cubesat.Fault) as caught:
+            cubesat.solve(ALTERNATING, proof=os.path.join(self.folder, "absent", "f.lrat"))
+        self.assertEqual(caught.exception.line, "fault 56")
+
+    def test_options_out_of_range_are_a_fault(self):
+        for options in ({"hands": 0}, {"hands": 17}, {"budget": 0}, {"budget": 100_001}):
+            with self.subTest(options), self.assertRaises(cubesat.Fault):
+                cubesat.solve(ALTERNATING, **options)
+
+    def test_wrong_proof_gives_no_answer(self):
+        """The program is one that empties the proof that the true one wrote, so that no step adds the empty clause."""
+        emptied = '[[ "$*" =~ --proof\ ([^ ]+) ]] && : > "${BASH_REMATCH[1]}"'
+        program = program_of(self.folder, f'"{cubesat.find_program()}" "$@"; status=$?; {emptied}; exit $status')
+        with self.assertRaises(cubesat.Fault) as caught:
+            cubesat.solve(PIGEONS, program=program)
+        self.assertEqual(caught.exception.line, "refused 30")
+        self.assertIsNone(cubesat.solve(PIGEONS, program=program, check=False))
+
+    def test_killed_program_gives_no_answer(self):
+        program = program_of(self.folder, "echo s SATISFIABLE; kill -9 $$")
+        with self.assertRaises(cubesat.Fault) as caught:
+            cubesat.solve([], program=program)
+        self.assertEqual(caught.exception.line, "ended with status -9")
+
+
+class Programs(InFolder):
+    def test_missing_program(self):
+        absent = os.path.join(self.folder, "absent")
+        with self.assertRaises(cubesat.NoProgram):
+            cubesat.solve([], program=absent)
+        with mock.patch.dict(os.environ, CUBESAT=absent), self.assertRaises(cubesat.NoProgram):
+            cubesat.solve([])
+
+    def test_argument_goes_before_environment(self):
+        program = program_of(self.folder, "")
+        with mock.patch.dict(os.environ, CUBESAT=os.path.join(self.folder, "absent")):
+            self.assertEqual(cubesat.find_program(program), program)
+        with mock.patch.dict(os.environ, CUBESAT=program):
+            self.assertEqual(cubesat.find_program(), program)
+
+    def test_installed_module_finds_its_program_and_else_the_path(self):
+        modules, programs = os.path.join(self.folder, "lib/python3/dist-packages"), os.path.join(self.folder, "bin")
+        on_path = os.path.join(self.folder, "elsewhere")
+        for folder in (modules, programs, on_path):
+            os.makedirs(folder)
+        module = self.loaded(shutil.copy(cubesat.__file__, modules))
+        with mock.patch.dict(os.environ, CUBESAT="", PATH=on_path):
+            with self.assertRaises(module.NoProgram):
+                module.find_program()
+            elsewhere = shutil.copy(program_of(self.folder, ""), os.path.join(on_path, "cubesat"))
+            self.assertEqual(module.find_program(), elsewhere)
+            beside = shutil.copy(elsewhere, os.path.join(programs, "cubesat"))
+            self.assertEqual(os.path.realpath(module.find_program()), os.path.realpath(beside))
+
+    def loaded(self, path):
+        spec = importlib.util.spec_from_file_location("copied_cubesat", path)
+        module = importlib.util.module_from_spec(spec)
+        spec.loader.exec_module(module)
+        return module
+
+
+if __name__ == "__main__":
+    unittest.main()
