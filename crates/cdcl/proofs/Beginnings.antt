@@ -7,15 +7,18 @@ use Rattle.theory.specs.Trails.{literals, cube_trail}
 use Rattle.theory.specs.Reading.{max_vars}
 use Rattle.theory.specs.Lawful.{IsLawful}
 use Rattle.theory.specs.Results.{OutcomeSays}
-use Rattle.theory.specs.Search as definition
-use Rattle.theory.specs.Search.{first_clauses}
+use Rattle.theory.specs.Plans.{Plan}
+use Rattle.theory.specs.Search.{Outcome, RunsFrom, budget_of, first_clauses}
+use Rattle.theory.specs.Ordered.{OrderedState, IsOrderedStep}
+use Rattle.theory.specs.Runs.{Runs}
 use Rattle.theory.proofs.OpenTrails.{IsOpenBelow-cube_trail}
 use Rattle.theory.proofs.OutcomeLemmas.{Runs-says}
+use Rattle.theory.proofs.PlanLemmas.{is_ordered}
 use Rattle.theory.proofs.PureVariables.{IsFormula-searched}
 use Rattle.theory.proofs.TrailLists.{literals-cube}
 use Rattle.kernel.specs.State.{State}
 use Rattle.cdcl.specs.Searching.{IsReady, Begins, GoesOn, search_of}
-use Rattle.cdcl.specs.declared.search.Search.{Search}
+use Rattle.cdcl.specs.declared.ordered.OrderedSearch.{OrderedSearch}
 use Rattle.theory.proofs.CubeLiterals.{IsCube-from}
 use Rattle.cdcl.proofs.Progress.{IsDistinctFrom-lawful}
 
@@ -34,7 +37,7 @@ IsReady-opened F Q k opened few = rw opened (record {
 })
 
 -- the kernel goes over to the cube Q
-pub Begins-restart : (F : Formula) (Q : List Literal) (old : State) (s : Search) → IsReady F old → s.kernel ≡ record old { clauses = take old.first old.clauses; trail = cube_trail Q }
+pub Begins-restart : (F : Formula) (Q : List Literal) (old : State) (s : OrderedSearch) → IsReady F old → s.kernel ≡ record old { clauses = take old.first old.clauses; trail = cube_trail Q }
     → IsLawful s.kernel.clauses s.kernel.trail → IsOver s.kernel.vars (literals s.kernel.trail) → All (IsOver s.kernel.vars) s.kernel.clauses
     → s.conflicts ≡ 0 → s.decided ≡ None → s.lines.items ≡ [] → Begins F Q s
 Begins-restart F Q old s ready went lawful over clauses_over counted decided learnt = record {
@@ -83,14 +86,15 @@ IsReady-GoesOn F k l ready goes = record {
 }
 
 -- what a search that was begun runs to, is the cube's outcome
-pub Begins-runs : (F : Formula) (B : ℕ) (Q : List Literal) (s : Search) (o : definition.Outcome) → Begins F Q s → definition.RunsFrom s.kernel.vars (definition.budget_of B Q) (search_of s) o → definition.Runs F B Q o
-Begins-runs F B Q s o begins runs = rw (begins.begun, begins.ready.vars) at runs
+pub Begins-runs : (F : Formula) (plan : Plan) (Q : List Literal) (s : OrderedSearch) (o : Outcome) → Begins F Q s
+    → RunsFrom (IsOrderedStep s.kernel.vars (budget_of plan.budget Q)) (search_of s) o → Runs F plan Q o
+Begins-runs F plan Q s o begins runs = record { by = rw (is_ordered plan.search) (rw (begins.begun, begins.ready.vars) at runs) }
 
 -- what the outcome of the cube says
-pub Begins-says : (F : Formula) (B : ℕ) (Q : List Literal) (s : Search) (o : definition.Outcome) → Begins F Q s → IsOver F.vars Q → definition.RunsFrom s.kernel.vars (definition.budget_of B Q) (search_of s) o → OutcomeSays F Q o
-Begins-says F B Q s o begins over runs =
-    let clauses : s.kernel.clauses ≡ first_clauses F = ap (λ (t : definition.Search). t.clauses) begins.begun in
-    let trail : s.kernel.trail ≡ cube_trail Q = ap (λ (t : definition.Search). t.trail) begins.begun in
+pub Begins-says : (F : Formula) (plan : Plan) (Q : List Literal) (s : OrderedSearch) (o : Outcome) → Begins F Q s → IsOver F.vars Q → Runs F plan Q o → OutcomeSays F Q o
+Begins-says F plan Q s o begins over runs =
+    let clauses : s.kernel.clauses ≡ first_clauses F = ap (λ (t : OrderedState). t.clauses) begins.begun in
+    let trail : s.kernel.trail ≡ cube_trail Q = ap (λ (t : OrderedState). t.trail) begins.begun in
     let all : All (IsOver F.vars) (first_clauses F) = rw (clauses, begins.ready.vars) at begins.searching.clauses_over in
     let lawful : IsLawful (first_clauses F) (cube_trail Q) = rw (clauses, trail) at begins.searching.lawful in
-    Runs-says F B Q o (IsFormula-searched F all) (subst IsCube (literals-cube Q) (IsCube-from (literals (cube_trail Q)) (IsDistinctFrom-lawful (first_clauses F) [] (cube_trail Q) lawful))) over (Begins-runs F B Q s o begins runs)
+    Runs-says F plan Q o (IsFormula-searched F all) (subst IsCube (literals-cube Q) (IsCube-from (literals (cube_trail Q)) (IsDistinctFrom-lawful (first_clauses F) [] (cube_trail Q) lawful))) over runs

@@ -8,7 +8,8 @@ use Rattle.theory.specs.Trails.{Trail, Entry, literals, current_level, up_to}
 use Rattle.theory.specs.Propagation.{Closed, quiet, conflict, Propagates, clashes, grows, rests, unit_entry, least_false}
 use Rattle.theory.specs.Lawful.{IsLawful, IsLawfulAfter}
 use Rattle.theory.specs.Learning.{learn, back_level}
-use Rattle.theory.specs.Search.{Search, Next, ends, goes_on, refuted, exhausted, after, decided_next}
+use Rattle.theory.specs.Search.{Next, ends, goes_on, refuted, exhausted}
+use Rattle.theory.specs.Ordered.{OrderedState, after, decided_next}
 use Rattle.theory.proofs.SearchSteps.{Answers, after-quiet, after-conflict, conflict_next}
 use Rattle.theory.proofs.OverVariables.{AreOver, AreOver-push, AreOver-from_IsOver}
 use Rattle.theory.proofs.RefutedCubes.{AreOver-up_to}
@@ -44,7 +45,7 @@ length-Propagates K T U a (grows {u = u} h i more) =
     omega arith
 
 -- what a step does
-pub record Progresses (V budget : ℕ) (s t : Search) : Type 0 where
+pub record Progresses (V budget : ℕ) (s t : OrderedState) : Type 0 where
   pub clauses_over : All (IsOver V) t.clauses
   pub trail_over : AreOver V (literals t.trail)
   pub counted : t.conflicts < budget
@@ -58,7 +59,7 @@ more_left V budget n x y h k =
     apart : (e : ℕ) → e * (V + 2) + x < (e + 1) * (V + 2) + y
     apart e = omega arith
 
-after-decision : (V budget : ℕ) (s : Search) (x : ℕ) → IsLawful s.clauses s.trail → All (IsOver V) s.clauses → AreOver V (literals s.trail) → s.conflicts < budget
+after-decision : (V budget : ℕ) (s : OrderedState) (x : ℕ) → IsLawful s.clauses s.trail → All (IsOver V) s.clauses → AreOver V (literals s.trail) → s.conflicts < budget
     → (1 ≤ x) × (x ≤ V) → Progresses V budget s (decided_next s x)
 after-decision V budget s x lawful clauses trail counted variable = record {
   clauses_over = clauses;
@@ -69,10 +70,10 @@ after-decision V budget s x lawful clauses trail counted variable = record {
       omega arith;
 }
 
-not_last : (V budget n : ℕ) (s t : Search) → after V budget s (conflict n) ≡ goes_on t → nat_eq (s.conflicts + 1) budget ≡ false
+not_last : (V budget n : ℕ) (s t : OrderedState) → after V budget s (conflict n) ≡ goes_on t → nat_eq (s.conflicts + 1) budget ≡ false
 not_last V budget n s t e = level (nat_eq (current_level s.trail) 0) e
   where
-    stop : Next
+    stop : Next OrderedState
     stop = ends (refuted (s.lines ++ learn s.clauses s.trail n ∷ []))
 
     count : (b : Bool) → (if b then ends (exhausted (unwrap_or s.decided 0)) else goes_on (conflict_next s n)) ≡ goes_on t → b ≡ false
@@ -84,7 +85,7 @@ not_last V budget n s t e = level (nat_eq (current_level s.trail) 0) e
     level true q = absurd (cc)
     level false q = count (nat_eq (s.conflicts + 1) budget) q
 
-after-clash : (V budget : ℕ) (s : Search) (n : ℕ) → IsLawful s.clauses s.trail → All (IsOver V) s.clauses → IsOver V (literals s.trail) → s.conflicts + 1 < budget
+after-clash : (V budget : ℕ) (s : OrderedState) (n : ℕ) → IsLawful s.clauses s.trail → All (IsOver V) s.clauses → IsOver V (literals s.trail) → s.conflicts + 1 < budget
     → least_false (literals s.trail) s.clauses ≡ Some n → Progresses V budget s (conflict_next s n)
 after-clash V budget s n lawful clauses trail counted clash = record {
   clauses_over = All-push (IsOver V) s.clauses (learn s.clauses s.trail n).clause clauses (IsOver-learn V s.clauses s.trail n lawful trail clash);
@@ -93,7 +94,7 @@ after-clash V budget s n lawful clauses trail counted clash = record {
   less = more_left V budget s.conflicts (V + 1 - length (up_to s.trail (back_level s.trail (learn s.clauses s.trail n).clause))) (V + 1 - length s.trail) counted (omega arith);
 }
 
-pub after-Progresses : (V budget : ℕ) (s t : Search) (a : Closed) → IsLawful s.clauses s.trail → All (IsOver V) s.clauses → IsOver V (literals s.trail) → s.conflicts < budget
+pub after-Progresses : (V budget : ℕ) (s t : OrderedState) (a : Closed) → IsLawful s.clauses s.trail → All (IsOver V) s.clauses → IsOver V (literals s.trail) → s.conflicts < budget
     → Answers a s → after V budget s a ≡ goes_on t → Progresses V budget s t
 after-Progresses V budget s t quiet lawful clauses trail counted h e =
     let next = after-quiet V budget s t e in

@@ -7,7 +7,7 @@ use Rattle.theory.specs.Propagation.{Closed, Propagates, least_false}
 use Rattle.theory.specs.Lawful.{IsLawful, cube_of}
 use Rattle.theory.specs.Learnable.{IsLearnable}
 use Rattle.theory.specs.Learning.{learn, back_level}
-use Rattle.theory.specs.Search.{after}
+use Rattle.theory.specs.Ordered.{after}
 use Rattle.theory.proofs.LawfulTrails.{IsLawful-Propagates, least_false-at}
 use Rattle.theory.proofs.LearnableLines.{IsLearnable-learn}
 use Rattle.theory.proofs.LearntLines.{IsVariable-learn}
@@ -17,7 +17,7 @@ use Rattle.theory.proofs.RefutedCubes.{AreOver-Propagates}
 use Rattle.kernel.specs.State.{State}
 use Rattle.cdcl.specs.Searching.{IsSearching, IsSearchStep, GoesOn, search_of, next_of}
 use Rattle.cdcl.specs.declared.outcome.Outcome.{Outcome}
-use Rattle.cdcl.specs.declared.search.Search.{Search}
+use Rattle.cdcl.specs.declared.ordered.OrderedSearch.{OrderedSearch}
 
 -- propagation keeps it
 pub IsSearching-Propagates : (k l : State) (a : Closed) → IsSearching k → l.vars ≡ k.vars → l.clauses ≡ k.clauses → l.first ≡ k.first → l.short ≡ false → Propagates k.clauses k.trail a l.trail → IsSearching l
@@ -45,15 +45,12 @@ may_learn k l c level n h above clash clause back went =
     (IsOver-learn k.vars k.clauses k.trail n h.lawful h.trail_over clash, IsLearnable-learn k.clauses k.trail n h.lawful h.open_below above clash)
 
 -- a step from what propagation left
-pub IsSearchStep-from : {E : Type 0} (budget : ℕ) (old new middle : Search) (a : Closed) (r : Result (Option Outcome) E) → Propagates old.kernel.clauses old.kernel.trail a middle.kernel.trail
+pub IsSearchStep-from : {E : Type 0} (budget : ℕ) (old new middle : OrderedSearch) (a : Closed) (r : Result (Option Outcome) E) → Propagates old.kernel.clauses old.kernel.trail a middle.kernel.trail
     → (middle.kernel.vars ≡ old.kernel.vars) × (middle.kernel.clauses ≡ old.kernel.clauses) × (middle.kernel.first ≡ old.kernel.first)
     → search_of middle ≡ record (search_of old) { trail = middle.kernel.trail }
     → IfOk r (λ o. after middle.kernel.vars budget (search_of middle) a ≡ next_of o new) → OnOk r (GoesOn middle.kernel new.kernel) → IfOk r (λ o. IsSearchStep budget old o new)
 IsSearchStep-from budget old new middle a (Ok o) closes same_kernel same next kept = record {
-  answer = a;
-  trail = middle.kernel.trail;
-  closes = closes;
-  next = rw (same_kernel.0, same) at next;
+  step = record { answer = a; trail = middle.kernel.trail; propagates = closes; follows = rw (same_kernel.0, same) at next };
   goes_on = rw (same_kernel.0, same_kernel.1, same_kernel.2) at kept;
 }
 IsSearchStep-from budget old new middle a (Err e) closes same_kernel same next kept = tt

@@ -3,7 +3,8 @@ use Rattle.std.proofs.Common.{◌≡◌, ℕ, ◌<◌, ◌≤◌, length, take, 
 use Rattle.std.proofs.lemmas.List.{length-take}
 use Rattle.theory.specs.Trails.{literals}
 use Rattle.theory.specs.Search.{RunsFrom, stops, steps, first_clauses}
-use Rattle.theory.specs.Search as definition
+use Rattle.theory.specs.Search as search
+use Rattle.theory.specs.Ordered.{OrderedState, IsOrderedStep}
 use Rattle.theory.specs.Lawful.{IsLawful}
 use Rattle.theory.specs.Learnable.{IsOpenBelow}
 use Rattle.theory.proofs.SearchSteps.{Propagates-Answers}
@@ -15,16 +16,16 @@ use Rattle.kernel.specs.State.{State}
 use Rattle.cdcl.specs.Outcome.{outcome_of}
 use Rattle.cdcl.specs.Searching.{IsSearching, IsSearchStep, GoesOn, search_of}
 use Rattle.cdcl.specs.declared.outcome.Outcome.{Outcome}
-use Rattle.cdcl.specs.declared.search.Search.{Search}
+use Rattle.cdcl.specs.declared.ordered.OrderedSearch.{OrderedSearch}
 use Rattle.cdcl.proofs.Progress.{Progresses, after-Progresses, length-Propagates, remaining}
 
 -- a step that ends
-pub IsSearchStep-ends : (V budget : ℕ) (s t : Search) (o : Outcome) → s.kernel.vars ≡ V → IsSearchStep budget s (Some o) t → RunsFrom V budget (search_of s) (outcome_of o)
-IsSearchStep-ends V budget s t o vars step = stops step.closes (rw vars at step.next)
+pub IsSearchStep-ends : (V budget : ℕ) (s t : OrderedSearch) (o : Outcome) → s.kernel.vars ≡ V → IsSearchStep budget s (Some o) t → RunsFrom (IsOrderedStep V budget) (search_of s) (outcome_of o)
+IsSearchStep-ends V budget s t o vars step = stops (rw vars at step.step)
 
 -- a step to the state t
-pub IsSearchStep-leads : (V budget : ℕ) (s t : Search) (o : definition.Outcome) → s.kernel.vars ≡ V → IsSearchStep budget s None t → RunsFrom V budget (search_of t) o → RunsFrom V budget (search_of s) o
-IsSearchStep-leads V budget s t o vars step more = steps step.closes (rw vars at step.next) more
+pub IsSearchStep-leads : (V budget : ℕ) (s t : OrderedSearch) (o : search.Outcome) → s.kernel.vars ≡ V → IsSearchStep budget s None t → RunsFrom (IsOrderedStep V budget) (search_of t) o → RunsFrom (IsOrderedStep V budget) (search_of s) o
+IsSearchStep-leads V budget s t o vars step more = steps (rw vars at step.step) more
 
 -- the first clauses are still there
 within-GoesOn : (k l : State) → k.first ≤ length k.clauses → GoesOn k l → l.first ≤ length l.clauses
@@ -39,7 +40,7 @@ pub GoesOn-trans : (k l m : State) → GoesOn k l → GoesOn l m → GoesOn k m
 GoesOn-trans k l m one two = (two.0 ∙ one.0, two.1 ∙ one.1, (rw one.1 at two.2) ∙ one.2, two.3)
 
 -- what such a step keeps
-pub IsSearchStep-keeps : (budget : ℕ) (s t : Search) → IsSearching s.kernel → s.conflicts < budget → IsSearchStep budget s None t
+pub IsSearchStep-keeps : (budget : ℕ) (s t : OrderedSearch) → IsSearching s.kernel → s.conflicts < budget → IsSearchStep budget s None t
     → IsSearching t.kernel × (t.conflicts < budget) × (remaining s.kernel.vars budget t.conflicts t.kernel.trail < remaining s.kernel.vars budget s.conflicts s.kernel.trail)
 IsSearchStep-keeps budget s t h counted step = (
   record {
@@ -55,21 +56,21 @@ IsSearchStep-keeps budget s t h counted step = (
   less,
 )
   where
-    middle : definition.Search
-    middle = record (search_of s) { trail = step.trail }
+    middle : OrderedState
+    middle = record (search_of s) { trail = step.step.trail }
 
-    over : AreOver s.kernel.vars (literals step.trail)
-    over = AreOver-Propagates s.kernel.vars s.kernel.clauses s.kernel.trail step.trail step.answer h.clauses_over step.closes (AreOver-from_IsOver s.kernel.vars (literals s.kernel.trail) h.trail_over)
+    over : AreOver s.kernel.vars (literals step.step.trail)
+    over = AreOver-Propagates s.kernel.vars s.kernel.clauses s.kernel.trail step.step.trail step.step.answer h.clauses_over step.step.propagates (AreOver-from_IsOver s.kernel.vars (literals s.kernel.trail) h.trail_over)
 
     made : Progresses s.kernel.vars budget middle (search_of t)
-    made = after-Progresses s.kernel.vars budget middle (search_of t) step.answer (IsLawful-Propagates s.kernel.clauses s.kernel.trail step.trail step.answer step.closes h.lawful) h.clauses_over
-        (IsOver-from_AreOver s.kernel.vars (literals step.trail) over) counted (Propagates-Answers s.kernel.clauses s.kernel.trail step.trail middle step.answer step.closes refl refl) step.next
+    made = after-Progresses s.kernel.vars budget middle (search_of t) step.step.answer (IsLawful-Propagates s.kernel.clauses s.kernel.trail step.step.trail step.step.answer step.step.propagates h.lawful) h.clauses_over
+        (IsOver-from_AreOver s.kernel.vars (literals step.step.trail) over) counted (Propagates-Answers s.kernel.clauses s.kernel.trail step.step.trail middle step.step.answer step.step.propagates refl refl) step.step.follows
 
     kept : IsLawful t.kernel.clauses t.kernel.trail × IsOpenBelow t.kernel.clauses t.kernel.trail
-    kept = kept-step s.kernel.vars budget (search_of s) (search_of t) step.trail step.answer h.lawful h.open_below step.closes step.next
+    kept = kept-step s.kernel.vars budget (search_of s) (search_of t) step.step.trail step.step.answer h.lawful h.open_below step.step.propagates step.step.follows
 
     less : remaining s.kernel.vars budget t.conflicts t.kernel.trail < remaining s.kernel.vars budget s.conflicts s.kernel.trail
     less =
-        let falls : remaining s.kernel.vars budget t.conflicts t.kernel.trail < remaining s.kernel.vars budget s.conflicts step.trail = made.less in
-        let longer = length-Propagates s.kernel.clauses s.kernel.trail step.trail step.answer step.closes in
+        let falls : remaining s.kernel.vars budget t.conflicts t.kernel.trail < remaining s.kernel.vars budget s.conflicts step.step.trail = made.less in
+        let longer = length-Propagates s.kernel.clauses s.kernel.trail step.step.trail step.step.answer step.step.propagates in
         omega arith

@@ -1,6 +1,7 @@
 -- What the answers of analysis and search mean.
 pub mod Learnt
 pub mod Outcome
+pub mod Plans
 pub mod Searching
 pub mod Flags
 pub mod Marks

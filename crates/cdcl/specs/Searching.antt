@@ -3,18 +3,17 @@ use Rattle.std.specs.Prelude.{◌≡◌, ℕ, ◌<◌, ◌≤◌, ◌^◌, Bool,
 use Rattle.theory.specs.Literals.{Literal}
 use Rattle.theory.specs.Truth.{Formula, IsOver}
 use Rattle.theory.specs.Reading.{max_vars}
-use Rattle.theory.specs.Trails.{Trail, literals}
-use Rattle.theory.specs.Propagation.{Closed, Propagates}
+use Rattle.theory.specs.Trails.{literals}
 use Rattle.theory.specs.Lawful.{IsLawful}
 use Rattle.theory.specs.Learnable.{IsOpenBelow}
-use Rattle.theory.specs.Search as definition
-use Rattle.theory.specs.Search.{first_clauses}
+use Rattle.theory.specs.Search.{Next, ends, goes_on, first_clauses}
+use Rattle.theory.specs.Ordered.{OrderedState, IsOrderedStep, begin}
 use Rattle.kernel.specs.State.{State}
 use Rattle.cdcl.specs.declared.outcome.Outcome.{Outcome}
-use Rattle.cdcl.specs.declared.search.Search.{Search}
+use Rattle.cdcl.specs.declared.ordered.OrderedSearch.{OrderedSearch}
 use Rattle.cdcl.specs.Outcome.{outcome_of}
 
-abbrev pub search_of : Search → definition.Search
+abbrev pub search_of : OrderedSearch → OrderedState
 search_of s = record { clauses = s.kernel.clauses; trail = s.kernel.trail; conflicts = s.conflicts; decided = s.decided; lines = s.lines.items }
 
 -- what a solver is seen as: which formula it solves cubes of, and whether it has met want of memory
@@ -45,20 +44,17 @@ abbrev pub GoesOn : State → State → Type 0
 GoesOn old new = (new.vars ≡ old.vars) × (new.first ≡ old.first) × (take old.first new.clauses ≡ take old.first old.clauses) × (new.short ≡ false)
 
 -- the search of the formula's cube Q begins
-pub record Begins (F : Formula) (Q : List Literal) (s : Search) : Type 0 where
+pub record Begins (F : Formula) (Q : List Literal) (s : OrderedSearch) : Type 0 where
   pub ready : IsReady F s.kernel
   pub searching : IsSearching s.kernel
-  pub begun : search_of s ≡ definition.begin F Q
+  pub begun : search_of s ≡ begin F Q
 
 -- what follows where a step ended with an outcome, or with none left the state
-abbrev pub next_of : Option Outcome → Search → definition.Next
-next_of (Some o) s = definition.ends (outcome_of o)
-next_of None s = definition.goes_on (search_of s)
+abbrev pub next_of : Option Outcome → OrderedSearch → Next OrderedState
+next_of (Some o) s = ends (outcome_of o)
+next_of None s = goes_on (search_of s)
 
--- propagation, and what follows its answer
-pub record IsSearchStep (budget : ℕ) (old : Search) (r : Option Outcome) (new : Search) : Type 0 where
-  pub answer : Closed
-  pub trail : Trail
-  pub closes : Propagates old.kernel.clauses old.kernel.trail answer trail
-  pub next : definition.after old.kernel.vars budget (record (search_of old) { trail = trail }) answer ≡ next_of r new
+-- a step of the definition, and the kernel goes on
+pub record IsSearchStep (budget : ℕ) (old : OrderedSearch) (r : Option Outcome) (new : OrderedSearch) : Type 0 where
+  pub step : IsOrderedStep old.kernel.vars budget (search_of old) (next_of r new)
   pub goes_on : GoesOn old.kernel new.kernel

@@ -8,13 +8,15 @@ mod flags;
 mod halves;
 mod level;
 mod marks;
+mod ordered;
 mod outcome;
 mod places;
-mod search;
+mod plan;
 mod solver;
 
 pub use analysis::{Learnt, analyze};
 pub use budget::budget_of;
 pub use halves::split;
 pub use outcome::{Line, Outcome, Refutation};
-pub use solver::{Solver, solve_cube};
+pub use plan::{Plan, Search};
+pub use solver::{Solver, solve_cube, solve_cube_by_plan};

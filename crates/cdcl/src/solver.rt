@@ -1,13 +1,15 @@
 //! Solving the cubes of a formula, one after the other.
 ghost use Rattle.std.specs.Prelude.{◌≡◌, ◌≤◌, true, false, IfOk, OnOk, OnErr, IsErr};
 ghost use Rattle.theory.specs.Truth.{IsOver};
-ghost use Rattle.theory.specs.Search.{Runs};
+ghost use Rattle.theory.specs.Plans.{ordered_within};
+ghost use Rattle.theory.specs.Runs.{Runs};
 ghost use Rattle.theory.specs.Results.{OutcomeSays};
 ghost use Rattle.cdcl.specs.Outcome.{outcome_of};
 
 use crate::budget::budget_of;
+use crate::ordered::OrderedSearch;
 use crate::outcome::Outcome;
-use crate::search::Search;
+use crate::plan::{Plan, Search};
 use cnf::Formula;
 use kernel::Cube;
 use std::alloc::{AllocError, Global};
@@ -19,7 +21,7 @@ use std::snapshot::Snapshot;
 /// more than the cube's literals, and at most 1,000,000. Once a call has met want of memory, each later one answers it.
 #[derive(Drop)]
 pub struct Solver {
-    search: Search,
+    search: OrderedSearch,
     // which formula it is; it is no data, and takes no room
     formula: Snapshot<Formula>,
     // whether a call has met want of memory
@@ -43,19 +45,18 @@ impl Solver {
         ensures { IfOk result (λ s. s ≡ record { formula = formula.now; short = false }) }
     {
         Ok(Solver {
-            search: Search::open(alloc, formula)?,
+            search: OrderedSearch::open(alloc, formula)?,
             formula: Snapshot::of(formula),
             short: false,
         })
     }
 
-    /// The outcome of a cube over the formula's variables, where the root has a budget of 1 to 100,000 conflicts, and the cube one by its
-    /// literals: whatever cubes came before, it is the same. It takes time by what the search does, and by the variables for a model
-    /// alone. An error comes only where an earlier call has met want of memory, or where a request for memory is refused, and from then on.
-    pub fn solve(&mut self, cube: &Cube, budget: u32) -> Result<Outcome, AllocError>
-        requires budget { (1 ≤ budget) × (budget ≤ 100000) }
+    /// The outcome of a cube over the formula's variables, by the plan's search: whatever cubes came before, it is the same. It takes time by
+    /// what the search does, and by the variables for a model alone. An error comes only where an earlier call has met want of memory, or
+    /// where a request for memory is refused, and from then on.
+    pub fn solve(&mut self, cube: &Cube, plan: Plan) -> Result<Outcome, AllocError>
         requires over { IsOver self.old.formula.vars cube.now }
-        ensures runs { IfOk result (λ o. Runs self.old.formula budget cube.now (outcome_of o)) }
+        ensures runs { IfOk result (λ o. Runs self.old.formula plan cube.now (outcome_of o)) }
         ensures says { IfOk result (λ o. OutcomeSays self.old.formula cube.now (outcome_of o)) }
         ensures formula { self.new.formula ≡ self.old.formula }
         ensures refused { OnErr result (self.new.short ≡ true) }
@@ -67,15 +68,32 @@ impl Solver {
         }
         self.short = true; // so it stays where one of the next calls fails
         self.search.begin(cube)?;
-        let conflicts = budget_of(budget, cube.lits().len());
-        let outcome = self.search.run(conflicts)?;
+        let conflicts = budget_of(plan.budget(), cube.lits().len());
+        let outcome = match plan.search() {
+            Search::Ordered => self.search.run(conflicts)?,
+        };
         self.short = false;
         Ok(outcome)
     }
 }
 
-/// The outcome of one cube over the formula's variables, where the root has a budget of 1 to 100,000 conflicts, and the cube one by its
-/// literals. It takes time and memory by the formula too: who has many cubes keeps a `Solver`. An error comes only where memory was refused.
+/// The outcome of one cube over the formula's variables, by the plan's search. It takes time and memory by the formula too: who has many cubes
+/// keeps a `Solver`. An error comes only where memory was refused.
+pub fn solve_cube_by_plan(
+    alloc: Global,
+    formula: &Formula,
+    cube: &Cube,
+    plan: Plan,
+) -> Result<Outcome, AllocError>
+    requires over { IsOver formula.now.vars cube.now }
+    ensures runs { IfOk result (λ o. Runs formula.now plan cube.now (outcome_of o)) }
+    ensures says { IfOk result (λ o. OutcomeSays formula.now cube.now (outcome_of o)) }
+{
+    let mut solver = Solver::open(alloc, formula)?;
+    solver.solve(cube, plan)
+}
+
+/// `solve_cube_by_plan` by the ordered search, where the root has a budget of 1 to 100,000 conflicts, and the cube one by its literals.
 pub fn solve_cube(
     alloc: Global,
     formula: &Formula,
@@ -84,9 +102,8 @@ pub fn solve_cube(
 ) -> Result<Outcome, AllocError>
     requires budget { (1 ≤ budget) × (budget ≤ 100000) }
     requires over { IsOver formula.now.vars cube.now }
-    ensures runs { IfOk result (λ o. Runs formula.now budget cube.now (outcome_of o)) }
+    ensures runs { IfOk result (λ o. Runs formula.now (ordered_within budget) cube.now (outcome_of o)) }
     ensures says { IfOk result (λ o. OutcomeSays formula.now cube.now (outcome_of o)) }
 {
-    let mut solver = Solver::open(alloc, formula)?;
-    solver.solve(cube, budget)
+    solve_cube_by_plan(alloc, formula, cube, Plan::ordered(budget))
 }

@@ -2,7 +2,7 @@
 ghost use Rattle.std.specs.Prelude.{◌≡◌};
 
 use crate::outcomes::{LEVEL_LEFT_OUT, Row, Wanted, WantedLine, all_come, is_wanted, outcome};
-use cdcl::{Outcome, Solver, split};
+use cdcl::{Outcome, Plan, Solver, split};
 use cnf::{Formula, read_formula};
 use samples::{EIGHT, FOUR, TWO_MODELS, cube_of, has_var, reads};
 use std::alloc::{AllocError, Global};
@@ -227,7 +227,7 @@ fn comes_in_turn(
         return Ok(false);
     }
     let cube = cube_of(alloc, formula.vars(), turn.cube)?;
-    let outcome = solver.solve(&cube, turn.budget)?;
+    let outcome = solver.solve(&cube, Plan::ordered(turn.budget))?;
     Ok(is_wanted(&outcome, turn.wanted))
 }
 

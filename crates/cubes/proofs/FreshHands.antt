@@ -3,6 +3,7 @@ use Rattle.std.proofs.Common.{◌≡◌, ℕ, zero, suc, ◌<◌, Bool, List, []
 use Rattle.std.proofs.lemmas.List.{length-map}
 use Rattle.std.proofs.lemmas.List.Elements.{All-nil}
 use Rattle.theory.specs.Truth.{Formula}
+use Rattle.theory.specs.Plans.{Plan}
 use Rattle.theory.specs.Results as results
 use Rattle.theory.specs.Ledger.{Ledger, all_got, joined, halt}
 use Rattle.theory.specs.Work.{IsHalfOfGot, IsFoundedOn, IsTruthful, IsThorough, IsWork}
@@ -19,17 +20,17 @@ none-got : (n : ℕ) → all_got (new_ledger n) ≡ []
 none-got zero = refl
 none-got (suc n) = none-got n
 
-truthful : (F : Formula) (B n : ℕ) → IsTruthful F B (new_ledger n) []
-truthful F B n = record {
+truthful : (F : Formula) (plan : Plan) (n : ℕ) → IsTruthful F plan (new_ledger n) []
+truthful F plan n = record {
   true_of = All-nil _;
   of_got = All-nil _;
-  halves = All-nil (IsHalfOfGot F B (new_ledger n));
+  halves = All-nil (IsHalfOfGot F plan (new_ledger n));
   once = λ Q k. zero-le;
   offers = All-nil (IsFoundedOn []);
 }
 
-thorough : (F : Formula) (B n : ℕ) → IsThorough F B (new_ledger n) []
-thorough F B n = record {
+thorough : (F : Formula) (plan : Plan) (n : ℕ) → IsThorough F plan (new_ledger n) []
+thorough F plan n = record {
   each_got = rw (none-got n) (All-nil _);
   offered = All-nil _;
   looks = rw (none-got n) refl;
@@ -38,11 +39,11 @@ thorough F B n = record {
 }
 
 -- work from the ledger with which the pool was opened
-pub fresh-work : (F : Formula) (B n : ℕ) (is_short : Bool) (first last : Ledger) (s : List results.Solved) → first ≡ new_ledger n → HasWorked F B is_short first last s → IsWork F B is_short last s
-fresh-work F B n is_short first last s e h =
-    subst (λ l. IsWork F B is_short l s) (sym (h.is_last ∙ ap (λ l. joined l h.added) e)) (record {
-      truthful = IsTruthful-joined F B (new_ledger n) h.added [] s (truthful F B n) h.work.truthful;
-      thorough = λ o. IsThorough-joined F B (new_ledger n) h.added [] s (thorough F B n) (h.work.thorough o);
+pub fresh-work : (F : Formula) (plan : Plan) (n : ℕ) (is_short : Bool) (first last : Ledger) (s : List results.Solved) → first ≡ new_ledger n → HasWorked F plan is_short first last s → IsWork F plan is_short last s
+fresh-work F plan n is_short first last s e h =
+    subst (λ l. IsWork F plan is_short l s) (sym (h.is_last ∙ ap (λ l. joined l h.added) e)) (record {
+      truthful = IsTruthful-joined F plan (new_ledger n) h.added [] s (truthful F plan n) h.work.truthful;
+      thorough = λ o. IsThorough-joined F plan (new_ledger n) h.added [] s (thorough F plan n) (h.work.thorough o);
       went_home = h.work.went_home;
     })
 
@@ -56,10 +57,10 @@ get-mapped f [] k x h = absurd (cc)
 get-mapped f (y ∷ xs) zero x h = let e : y ≡ x = cc in ap (λ a. Some (f a)) e
 get-mapped f (y ∷ xs) (suc k) x h = get-mapped f xs k x h
 
-module _ (F : Formula) (B : ℕ) (pool : PoolView) (hands : List HandView) (works : List Worked) (new : AreNew pool F.vars hands) (long : length works ≡ length hands)
-    (each : (i : ℕ) (d : HandView) (e : Worked) → i < length hands → HasDone F B (slice_index_or hands i d) (slice_index_or works i e)) where
+module _ (F : Formula) (plan : Plan) (pool : PoolView) (hands : List HandView) (works : List Worked) (new : AreNew pool F.vars hands) (long : length works ≡ length hands)
+    (each : (i : ℕ) (d : HandView) (e : Worked) → i < length hands → HasDone F plan (slice_index_or hands i d) (slice_index_or works i e)) where
   -- the hand at a place did its work, from what it was as the pool was opened
-  at_place : (place : ℕ) (d : HandView) (e : Worked) → place < length works → (slice_index_or hands place d ≡ new_hand pool F.vars new.deques place) × HasDone F B (slice_index_or hands place d) (slice_index_or works place e)
+  at_place : (place : ℕ) (d : HandView) (e : Worked) → place < length works → (slice_index_or hands place d ≡ new_hand pool F.vars new.deques place) × HasDone F plan (slice_index_or hands place d) (slice_index_or works place e)
   at_place place d e less =
       let within : place < length hands = omega arith in
       let there = slice_get-below hands place within in
@@ -91,8 +92,8 @@ module _ (F : Formula) (B : ℕ) (pool : PoolView) (hands : List HandView) (work
           → (place : ℕ) × (h : HandView) × (slice_get (map (λ (v : Worked). v.hand) works) place ≡ Some h) × (h.number ≡ number)
       named number w = (number, w.0.hand, get-mapped (λ (v : Worked). v.hand) works number w.0 w.1, (at_work number w.0 w.1).0)
 
-  pub home-works : All (λ w. IsWork F B w.short_of_memory w.hand.ledger (map solved_of w.solved.items)) works
+  pub home-works : All (λ w. IsWork F plan w.short_of_memory w.hand.ledger (map solved_of w.solved.items)) works
   home-works k d less =
       let at = at_place k (slice_index_or works k d).hand d less in
-      fresh-work F B pool.hands (slice_index_or works k d).short_of_memory (slice_index_or hands k (slice_index_or works k d).hand).ledger (slice_index_or works k d).hand.ledger
+      fresh-work F plan pool.hands (slice_index_or works k d).short_of_memory (slice_index_or hands k (slice_index_or works k d).hand).ledger (slice_index_or works k d).hand.ledger
       (map solved_of (slice_index_or works k d).solved.items) (ap (λ (h : HandView). h.ledger) at.0) at.1.1

@@ -2,6 +2,7 @@
 use Rattle.std.proofs.Common.{◌≡◌, ℕ, Bool, true, false, List, [], ◌++◌, map, sym, ap, ◌∙◌, subst, append-nil}
 use Rattle.theory.specs.Literals.{Literal}
 use Rattle.theory.specs.Truth.{Formula}
+use Rattle.theory.specs.Plans.{Plan}
 use Rattle.theory.specs.Trees.{false_half, true_half}
 use Rattle.theory.specs.Ledger.{Ledger, joined, empty}
 use Rattle.theory.specs.Round.{IsHandOn}
@@ -12,49 +13,49 @@ use Rattle.cubes.specs.Solved.{solved_of}
 use Rattle.cubes.specs.Hands.{AddsHandOn, AddsHalves}
 
 -- neither half
-pub no-halves : (F : Formula) (B : ℕ) (ok : Bool) (Q : List Literal) (x : ℕ) (l : Ledger) (s : List Solved) → ok ≡ false → AddsHalves F B ok Q x l l s s
-no-halves F B ok Q x l s o = record {
+pub no-halves : (F : Formula) (plan : Plan) (ok : Bool) (Q : List Literal) (x : ℕ) (l : Ledger) (s : List Solved) → ok ≡ false → AddsHalves F plan ok Q x l l s s
+no-halves F plan ok Q x l s o = record {
   left_done = false;
   right_done = false;
   left_piece = empty;
   right_piece = empty;
   left_results = [];
   right_results = [];
-  left = IsHandOn-nothing F B (false_half Q x);
-  right = IsHandOn-nothing F B (true_half Q x);
+  left = IsHandOn-nothing F plan (false_half Q x);
+  right = IsHandOn-nothing F plan (true_half Q x);
   both_done = λ e. absurd (cc);
   is_new = sym (joined-empty (joined l empty) ∙ joined-empty l);
   is_after = sym (append-nil (map solved_of s ++ []) ∙ append-nil (map solved_of s));
 }
 
 -- the left one alone
-pub left-half : (F : Formula) (B : ℕ) (a ok : Bool) (Q H : List Literal) (x : ℕ) (l0 l1 : Ledger) (s t : List Solved) → ok ≡ false → H ≡ false_half Q x → AddsHandOn F B a H l0 l1 s t → AddsHalves F B ok Q x l0 l1 s t
-left-half F B a ok Q H x l0 l1 s t o h p = record {
+pub left-half : (F : Formula) (plan : Plan) (a ok : Bool) (Q H : List Literal) (x : ℕ) (l0 l1 : Ledger) (s t : List Solved) → ok ≡ false → H ≡ false_half Q x → AddsHandOn F plan a H l0 l1 s t → AddsHalves F plan ok Q x l0 l1 s t
+left-half F plan a ok Q H x l0 l1 s t o h p = record {
   left_done = a;
   right_done = false;
   left_piece = p.piece;
   right_piece = empty;
   left_results = p.results;
   right_results = [];
-  left = subst (λ R. IsHandOn F B a R p.piece p.results) h p.is_part;
-  right = IsHandOn-nothing F B (true_half Q x);
+  left = subst (λ R. IsHandOn F plan a R p.piece p.results) h p.is_part;
+  right = IsHandOn-nothing F plan (true_half Q x);
   both_done = λ e. absurd (cc);
   is_new = p.is_new ∙ sym (joined-empty (joined l0 p.piece));
   is_after = p.is_after ∙ sym (append-nil (map solved_of s ++ p.results));
 }
 
 -- both
-pub both-halves : (F : Formula) (B : ℕ) (a b ok : Bool) (Q H K : List Literal) (x : ℕ) (l0 l1 l2 : Ledger) (s t u : List Solved) → (ok ≡ true → (a ≡ true) × (b ≡ true)) → H ≡ false_half Q x → K ≡ true_half Q x
-    → AddsHandOn F B a H l0 l1 s t → AddsHandOn F B b K l1 l2 t u → AddsHalves F B ok Q x l0 l2 s u
-both-halves F B a b ok Q H K x l0 l1 l2 s t u all h k p q = record {
+pub both-halves : (F : Formula) (plan : Plan) (a b ok : Bool) (Q H K : List Literal) (x : ℕ) (l0 l1 l2 : Ledger) (s t u : List Solved) → (ok ≡ true → (a ≡ true) × (b ≡ true)) → H ≡ false_half Q x → K ≡ true_half Q x
+    → AddsHandOn F plan a H l0 l1 s t → AddsHandOn F plan b K l1 l2 t u → AddsHalves F plan ok Q x l0 l2 s u
+both-halves F plan a b ok Q H K x l0 l1 l2 s t u all h k p q = record {
   left_done = a;
   right_done = b;
   left_piece = p.piece;
   right_piece = q.piece;
   left_results = p.results;
   right_results = q.results;
-  left = subst (λ R. IsHandOn F B a R p.piece p.results) h p.is_part;
-  right = subst (λ R. IsHandOn F B b R q.piece q.results) k q.is_part;
+  left = subst (λ R. IsHandOn F plan a R p.piece p.results) h p.is_part;
+  right = subst (λ R. IsHandOn F plan b R q.piece q.results) k q.is_part;
   both_done = all;
   is_new = q.is_new ∙ ap (λ l. joined l q.piece) p.is_new;
   is_after = q.is_after ∙ ap (λ r. r ++ q.results) p.is_after;

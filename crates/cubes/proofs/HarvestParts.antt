@@ -3,6 +3,7 @@ use Rattle.std.proofs.Common.{◌≡◌, ℕ, zero, suc, ◌<◌, ◌≤◌, ◌
 use Rattle.std.proofs.lemmas.List.{length-map, map-append}
 use Rattle.std.proofs.lemmas.List.Elements.{All-map, All-head, All-tail, All-cons, All-nil}
 use Rattle.theory.specs.Truth.{Formula}
+use Rattle.theory.specs.Plans.{Plan}
 use Rattle.theory.specs.Ledger.{Ledger}
 use Rattle.theory.specs.Order.{IsAllOnce, IsInOrder}
 use Rattle.theory.specs.Literals.{Literal}
@@ -41,34 +42,34 @@ ledgers-in_order works ordered = record {
         let number : h.number ≡ place = sym (ap (λ (g : HandView). g.number) w.2) ∙ ordered place w.0 w.1 in
         ap (slice_get (map (λ (g : HandView). g.ledger) (map (λ (w : Worked). w.hand) works))) number ∙ slice_get-mapped (λ (g : HandView). g.ledger) (map (λ (w : Worked). w.hand) works) place h e
 
-none-short : (F : Formula) (B : ℕ) (works : List Worked) → All (λ w. IsWork F B w.short_of_memory w.hand.ledger (map solved_of w.solved.items)) works → All (λ w. w.short_of_memory ≡ false) works
-    → All (λ w. IsWork F B false w.hand.ledger (map solved_of w.solved.items)) works
-none-short F B [] all long = All-nil (λ (w : Worked). IsWork F B false w.hand.ledger (map solved_of w.solved.items))
-none-short F B (w ∷ works) all long =
-    All-cons (λ (v : Worked). IsWork F B false v.hand.ledger (map solved_of v.solved.items)) w works
-    (subst (λ b. IsWork F B b w.hand.ledger (map solved_of w.solved.items)) (All-head (λ (v : Worked). v.short_of_memory ≡ false) w works long)
-    (All-head (λ (v : Worked). IsWork F B v.short_of_memory v.hand.ledger (map solved_of v.solved.items)) w works all))
-    (none-short F B works (All-tail (λ (v : Worked). IsWork F B v.short_of_memory v.hand.ledger (map solved_of v.solved.items)) w works all) (All-tail (λ (v : Worked). v.short_of_memory ≡ false) w works long))
+none-short : (F : Formula) (plan : Plan) (works : List Worked) → All (λ w. IsWork F plan w.short_of_memory w.hand.ledger (map solved_of w.solved.items)) works → All (λ w. w.short_of_memory ≡ false) works
+    → All (λ w. IsWork F plan false w.hand.ledger (map solved_of w.solved.items)) works
+none-short F plan [] all long = All-nil (λ (w : Worked). IsWork F plan false w.hand.ledger (map solved_of w.solved.items))
+none-short F plan (w ∷ works) all long =
+    All-cons (λ (v : Worked). IsWork F plan false v.hand.ledger (map solved_of v.solved.items)) w works
+    (subst (λ b. IsWork F plan b w.hand.ledger (map solved_of w.solved.items)) (All-head (λ (v : Worked). v.short_of_memory ≡ false) w works long)
+    (All-head (λ (v : Worked). IsWork F plan v.short_of_memory v.hand.ledger (map solved_of v.solved.items)) w works all))
+    (none-short F plan works (All-tail (λ (v : Worked). IsWork F plan v.short_of_memory v.hand.ledger (map solved_of v.solved.items)) w works all) (All-tail (λ (v : Worked). v.short_of_memory ≡ false) w works long))
 
-pub closed-from : (F : Formula) (B : ℕ) (works : List Worked) (hands : List HandView) (root : List Literal) (left : List (List Literal)) (least : Option ℕ) (undone : ℕ) → 1 ≤ length works → AreNumbered works
-    → All (λ w. IsWork F B w.short_of_memory w.hand.ledger (map solved_of w.solved.items)) works → All (λ w. w.short_of_memory ≡ false) works → hands ≡ map (λ (w : Worked). w.hand) works → root ≡ []
+pub closed-from : (F : Formula) (plan : Plan) (works : List Worked) (hands : List HandView) (root : List Literal) (left : List (List Literal)) (least : Option ℕ) (undone : ℕ) → 1 ≤ length works → AreNumbered works
+    → All (λ w. IsWork F plan w.short_of_memory w.hand.ledger (map solved_of w.solved.items)) works → All (λ w. w.short_of_memory ≡ false) works → hands ≡ map (λ (w : Worked). w.hand) works → root ≡ []
     → ((ledgers : List Ledger) → AreLedgersOf hands ledgers → IsAllOnce root ledgers left) → ((ledgers : List Ledger) → AreLedgersOf hands ledgers → IsInOrder ledgers least undone) → length left < 2 ^ 64
-    → IsClosed F B (map share_of works) left least undone
-closed-from F B works hands root left least undone some ordered all long same at_root once order few =
+    → IsClosed F plan (map share_of works) left least undone
+closed-from F plan works hands root left least undone some ordered all long same at_root once order few =
     let ledgers : List Ledger = map (λ (h : HandView). h.ledger) (map (λ (w : Worked). w.hand) works) in
     let of_hands : AreLedgersOf hands ledgers = subst (λ hs. AreLedgersOf hs ledgers) (sym same) (ledgers-in_order works ordered) in
     let n : length (map share_of works) ≡ length works = length-map works share_of in
     record {
       some_hand = omega arith;
-      works = All-map (λ s. IsWork F B false s.ledger s.results) share_of works (none-short F B works all long);
+      works = All-map (λ s. IsWork F plan false s.ledger s.results) share_of works (none-short F plan works all long);
       once = rw shares-ledgers (subst (λ r. IsAllOnce r ledgers left) at_root (once ledgers of_hands));
       in_order = rw shares-ledgers (order ledgers of_hands);
       few_left = few;
     }
 
 -- so nothing was left and none to be done
-pub closed-whole : (F : Formula) (B : ℕ) (works : List Worked) (left : List (List Literal)) (least : Option ℕ) (undone : ℕ) → IsClosed F B (map share_of works) left least undone → IsHarvest F B (map share_of works) left undone
-closed-whole F B works left least undone closed = IsClosed-IsHarvest F B (map share_of works) left least undone closed
+pub closed-whole : (F : Formula) (plan : Plan) (works : List Worked) (left : List (List Literal)) (least : Option ℕ) (undone : ℕ) → IsClosed F plan (map share_of works) left least undone → IsHarvest F plan (map share_of works) left undone
+closed-whole F plan works left least undone closed = IsClosed-IsHarvest F plan (map share_of works) left least undone closed
 
-pub closed-empty : (F : Formula) (B : ℕ) (shares : List Share) (left : List (List Literal)) (least : Option ℕ) (undone : ℕ) → IsHarvest F B shares left undone → IsClosed F B shares left least undone → IsClosed F B shares [] least 0
-closed-empty F B shares left least undone harvest closed = rw (harvest.none_left, harvest.none_undone) at closed
+pub closed-empty : (F : Formula) (plan : Plan) (shares : List Share) (left : List (List Literal)) (least : Option ℕ) (undone : ℕ) → IsHarvest F plan shares left undone → IsClosed F plan shares left least undone → IsClosed F plan shares [] least 0
+closed-empty F plan shares left least undone harvest closed = rw (harvest.none_left, harvest.none_undone) at closed

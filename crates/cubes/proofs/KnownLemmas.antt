@@ -10,7 +10,8 @@ use Rattle.std.proofs.lemmas.Cmp.{int_eq_equiv, lists_equiv}
 use Rattle.std.proofs.lemmas.List.Elements.{All-head, All-tail, Contains-append_left, Contains-push, Contains-push_cases, All-contains}
 use Rattle.theory.specs.Literals.{Literal}
 use Rattle.theory.specs.Truth.{Formula}
-use Rattle.theory.specs.Search.{Runs}
+use Rattle.theory.specs.Plans.{Plan}
+use Rattle.theory.specs.Runs.{Runs}
 use Rattle.theory.specs.Search as search
 use Rattle.theory.specs.Results.{done, skipped, Solved, IsTrueOf}
 use Rattle.theory.proofs.Membership.{Contains-none}
@@ -121,14 +122,14 @@ module _ (rs : List Solved) (k n : Known) (P : List Literal) (known : AreKnown r
         lack Q a q h c (inr other) = old Q a q (sym (others Q q other) ∙ h) other (Contains-push_cases rs _ _ c)
 
 -- what is handed out leaves the others as they were
-pub AreOutcomes-taken : (F : Formula) (B : ℕ) (k n : Known) (P : List Literal) → AreOfVariables P → known_of n P ≡ None → ((Q : List Literal) → AreOfVariables Q → Q ≢ P → known_of n Q ≡ known_of k Q)
-    → AreOutcomes F B k → AreOutcomes F B n
-AreOutcomes-taken F B k n P p gone others all Q o q h = go (same_or_not P Q p q)
+pub AreOutcomes-taken : (F : Formula) (plan : Plan) (k n : Known) (P : List Literal) → AreOfVariables P → known_of n P ≡ None → ((Q : List Literal) → AreOfVariables Q → Q ≢ P → known_of n Q ≡ known_of k Q)
+    → AreOutcomes F plan k → AreOutcomes F plan n
+AreOutcomes-taken F plan k n P p gone others all Q o q h = go (same_or_not P Q p q)
   where
-    go : (Q ≡ P) ⊎ (Q ≢ P) → Runs F B Q (outcome_of o)
+    go : (Q ≡ P) ⊎ (Q ≢ P) → Runs F plan Q (outcome_of o)
     go (inl e) = absurd (let two : known_of n P ≡ Some o = rw e at h in cc)
     go (inr other) = all Q o q (sym (others Q q other) ∙ h)
 
 -- of true results, what is known is so
-pub AreOutcomes-known : (F : Formula) (B : ℕ) (rs : List Solved) (k : Known) → All (λ r. IsTrueOf F B r.cube r.what) rs → AreKnown rs k → AreOutcomes F B k
-AreOutcomes-known F B rs k all known Q o q h = All-contains (λ (r : Solved). IsTrueOf F B r.cube r.what) rs (record { cube = Q; what = done (outcome_of o) }) all (known.found Q o q h)
+pub AreOutcomes-known : (F : Formula) (plan : Plan) (rs : List Solved) (k : Known) → All (λ r. IsTrueOf F plan r.cube r.what) rs → AreKnown rs k → AreOutcomes F plan k
+AreOutcomes-known F plan rs k all known Q o q h = All-contains (λ (r : Solved). IsTrueOf F plan r.cube r.what) rs (record { cube = Q; what = done (outcome_of o) }) all (known.found Q o q h)

@@ -1,4 +1,5 @@
 pub mod NextLemmas
+pub mod OkLemmas
 pub mod Remaining
 pub mod Frames
 pub mod PlaceLemmas

@@ -1,10 +1,12 @@
 -- The walk over a whole list whose outcomes are handed out once: a cube that is reached has its outcome in the list, and it was not yet
 -- handed out.
-use Rattle.std.proofs.Common.{◌≡◌, ◌≢◌, ℕ, suc, ◌<◌, ◌≤◌, Bool, true, false, not, ◌&&◌, List, [], ◌∷◌, ◌++◌, length, Option, Some, None, Contains, sum_by, ◌⊎◌, inl, inr, refl, sym, ap, ◌∙◌, subst, if◌then◌else◌, arith}
+use Rattle.std.proofs.Common.{◌≡◌, ◌≢◌, suc, ◌<◌, ◌≤◌, Bool, true, false, not, ◌&&◌, List, [], ◌∷◌, ◌++◌, length, Option, Some, None, Contains, sum_by, ◌⊎◌, inl, inr, refl, sym, ap, ◌∙◌, subst, if◌then◌else◌, arith}
 use Rattle.std.proofs.lemmas.List.Sums.{sum_by-cons}
 use Rattle.theory.specs.Literals.{Literal, same, negated, negative}
 use Rattle.theory.specs.Truth.{Formula}
-use Rattle.theory.specs.Search.{exhausted, Runs}
+use Rattle.theory.specs.Plans.{Plan}
+use Rattle.theory.specs.Search.{exhausted}
+use Rattle.theory.specs.Runs.{Runs}
 use Rattle.theory.specs.Search as search
 use Rattle.theory.specs.Trees as trees
 use Rattle.theory.specs.Trees.{IsTree, first_model, LeadsOn, Node}
@@ -107,17 +109,17 @@ comes_first-own_next (k ∷ Q) S e = go (next_cube Q) refl e (comes_first-own_ne
         sign false p e = subst (λ T. comes_first (k ∷ Q) T ≡ true) (let one : negated k ∷ [] ≡ S = cc in one) (flip-later k Q p)
 
 -- a reached cube is one that the walk comes to
-pub reached-come : (F : Formula) (B : ℕ) (fs : List Frame) → AreReached F B fs → IsComeTo F B (cube_at fs)
-reached-come F B [] h = IsComeTo-root F B
-reached-come F B (f ∷ fs) h = go f.left h.0.left (reached-come F B fs h.1)
+pub reached-come : (F : Formula) (plan : Plan) (fs : List Frame) → AreReached F plan fs → IsComeTo F plan (cube_at fs)
+reached-come F plan [] h = IsComeTo-root F plan
+reached-come F plan (f ∷ fs) h = go f.left h.0.left (reached-come F plan fs h.1)
   where
-    go : (o : Option trees.Tree) → IsLeft F B (cube_at fs) f.var o → IsComeTo F B (cube_at fs) → IsComeTo F B (cube_at fs ++ half f.var o ∷ [])
-    go None l c = IsComeTo-left F B (cube_at fs) f.var c h.0.runs
-    go (Some t) l c = IsComeTo-right F B (cube_at fs) f.var t c h.0.runs l.0 l.1
+    go : (o : Option trees.Tree) → IsLeft F plan (cube_at fs) f.var o → IsComeTo F plan (cube_at fs) → IsComeTo F plan (cube_at fs ++ half f.var o ∷ [])
+    go None l c = IsComeTo-left F plan (cube_at fs) f.var c h.0.runs
+    go (Some t) l c = IsComeTo-right F plan (cube_at fs) f.var t c h.0.runs l.0 l.1
 
-pub reached-in : (F : Formula) (B : ℕ) (rs : List Solved) (Q : List Literal) (nodes : List Node) → IsWhole F B rs → IsReached F B Q nodes → (o : search.Outcome) × Contains rs (record { cube = Q; what = done o })
-reached-in F B rs Q nodes whole r =
-    let o = IsComeTo-outcome F B rs Q whole (subst (IsComeTo F B) r.cube_is (reached-come F B r.frames r.reached)) in
+pub reached-in : (F : Formula) (plan : Plan) (rs : List Solved) (Q : List Literal) (nodes : List Node) → IsWhole F plan rs → IsReached F plan Q nodes → (o : search.Outcome) × Contains rs (record { cube = Q; what = done o })
+reached-in F plan rs Q nodes whole r =
+    let o = IsComeTo-outcome F plan rs Q whole (subst (IsComeTo F plan) r.cube_is (reached-come F plan r.frames r.reached)) in
     (o.0, outcome_in-result rs Q o.0 o.1)
 
 -- the walk goes on to a cube that comes later
@@ -145,17 +147,17 @@ AreStillThere-on first now later w v o goes others still R named h =
     go false p = p
 
 -- a cube that is reached is handed out
-pub is_there : (F : Formula) (B : ℕ) (rs : List Solved) (first now : Known) (w : Walk) → IsWhole F B rs → IsReached F B w.cube (nodes_of w) → AreOfVariables w.cube → AreKnown rs first → AreStillThere first now w.cube
+pub is_there : (F : Formula) (plan : Plan) (rs : List Solved) (first now : Known) (w : Walk) → IsWhole F plan rs → IsReached F plan w.cube (nodes_of w) → AreOfVariables w.cube → AreKnown rs first → AreStillThere first now w.cube
     → known_of now w.cube ≢ None
-is_there F B rs first now w whole r named known still none =
-    let there = reached-in F B rs w.cube (nodes_of w) whole r in
+is_there F plan rs first now w whole r named known still none =
+    let there = reached-in F plan rs w.cube (nodes_of w) whole r in
     known.missing w.cube there.0 named (sym (still w.cube named (comes_first-itself w.cube)) ∙ none) there.1
 
 -- and it is its outcome
-pub is_outcome : (F : Formula) (B : ℕ) (rs : List Solved) (first now : Known) (w : Walk) (o : Outcome) → IsWhole F B rs → AreOfVariables w.cube → AreKnown rs first → AreStillThere first now w.cube
-    → known_of now w.cube ≡ Some o → Runs F B w.cube (outcome_of o)
-is_outcome F B rs first now w o whole named known still some =
-    AreOutcomes-known F B rs first whole.true_of known w.cube o named (sym (still w.cube named (comes_first-itself w.cube)) ∙ some)
+pub is_outcome : (F : Formula) (plan : Plan) (rs : List Solved) (first now : Known) (w : Walk) (o : Outcome) → IsWhole F plan rs → AreOfVariables w.cube → AreKnown rs first → AreStillThere first now w.cube
+    → known_of now w.cube ≡ Some o → Runs F plan w.cube (outcome_of o)
+is_outcome F plan rs first now w o whole named known still some =
+    AreOutcomes-known F plan rs first whole.true_of known w.cube o named (sym (still w.cube named (comes_first-itself w.cube)) ∙ some)
 
 length-among : (rs : List Solved) (r : Solved) → Contains rs r → length r.cube ≤ sum_by (λ r. length r.cube) rs
 length-among [] r h = absurd (Contains-none r h)
@@ -166,8 +168,8 @@ length-among (y ∷ rs) r h = go (Contains-cases y rs r h) (length-among rs r)
     go (inr there) more = let all = sum_by-cons (λ (r : Solved). length r.cube) y rs in let less = more there in omega arith
 
 -- a reached cube is no longer than all cubes of the list together
-pub length-there : (F : Formula) (B : ℕ) (rs : List Solved) (w : Walk) → IsWhole F B rs → IsReached F B w.cube (nodes_of w) → length w.cube < suc (sum_by (λ r. length r.cube) rs)
-length-there F B rs w whole r =
-    let there = reached-in F B rs w.cube (nodes_of w) whole r in
+pub length-there : (F : Formula) (plan : Plan) (rs : List Solved) (w : Walk) → IsWhole F plan rs → IsReached F plan w.cube (nodes_of w) → length w.cube < suc (sum_by (λ r. length r.cube) rs)
+length-there F plan rs w whole r =
+    let there = reached-in F plan rs w.cube (nodes_of w) whole r in
     let less = length-among rs (record { cube = w.cube; what = done there.0 }) there.1 in
     omega arith

@@ -2,9 +2,10 @@
 use Rattle.std.specs.Prelude.{◌≡◌, ℕ, Bool, true, false, List, [], ◌∷◌, ◌++◌, map, All, IfSome}
 use Rattle.theory.specs.Literals.{Literal, IsVariable, has_var}
 use Rattle.theory.specs.Truth.{Formula, Assignment}
+use Rattle.theory.specs.Plans.{Plan}
 use Rattle.theory.specs.Learning.{Line}
 use Rattle.theory.specs.Search as search
-use Rattle.theory.specs.Search.{Runs}
+use Rattle.theory.specs.Runs.{Runs}
 use Rattle.theory.specs.Ledger.{Ledger, joined, getting}
 use Rattle.theory.specs.Trees.{LeadsOn, IsCubeOf, false_half, true_half}
 use Rattle.theory.specs.Results as results
@@ -31,55 +32,55 @@ EndsIn F Q o ending.Refuted = (lines : List Line) × (o ≡ search.refuted lines
 EndsIn F Q o (ending.Exhausted x) = (o ≡ search.exhausted x) × IsVariable F.vars x × (has_var Q x ≡ false)
 
 -- the cube was solved here, and its result is kept
-pub record Settles (F : Formula) (B : ℕ) (Q : List Literal) (e : Ending) (before after : List Solved) : Type 0 where
+pub record Settles (F : Formula) (plan : Plan) (Q : List Literal) (e : Ending) (before after : List Solved) : Type 0 where
   pub outcome : search.Outcome
-  pub runs : Runs F B Q outcome
+  pub runs : Runs F plan Q outcome
   pub ends : EndsIn F Q outcome e
   pub is_after : map solved_of after ≡ map solved_of before ++ record { cube = Q; what = results.done outcome } ∷ []
 
-abbrev pub AddsRound : Formula → ℕ → Bool → List Literal → Ledger → Ledger → List Solved → List Solved → Type 0
-AddsRound F B is_done Q old new before after = Adds (IsRound F B is_done Q) old new (map solved_of before) (map solved_of after)
+abbrev pub AddsRound : Formula → Plan → Bool → List Literal → Ledger → Ledger → List Solved → List Solved → Type 0
+AddsRound F plan is_done Q old new before after = Adds (IsRound F plan is_done Q) old new (map solved_of before) (map solved_of after)
 
-abbrev pub AddsHandOn : Formula → ℕ → Bool → List Literal → Ledger → Ledger → List Solved → List Solved → Type 0
-AddsHandOn F B is_done H old new before after = Adds (IsHandOn F B is_done H) old new (map solved_of before) (map solved_of after)
+abbrev pub AddsHandOn : Formula → Plan → Bool → List Literal → Ledger → Ledger → List Solved → List Solved → Type 0
+AddsHandOn F plan is_done H old new before after = Adds (IsHandOn F plan is_done H) old new (map solved_of before) (map solved_of after)
 
 -- both halves of the cube Q are handed on, one after the other
-pub record AddsHalves (F : Formula) (B : ℕ) (is_done : Bool) (Q : List Literal) (x : ℕ) (old new : Ledger) (before after : List Solved) : Type 0 where
+pub record AddsHalves (F : Formula) (plan : Plan) (is_done : Bool) (Q : List Literal) (x : ℕ) (old new : Ledger) (before after : List Solved) : Type 0 where
   pub left_done : Bool
   pub right_done : Bool
   pub left_piece : Ledger
   pub right_piece : Ledger
   pub left_results : List results.Solved
   pub right_results : List results.Solved
-  pub left : IsHandOn F B left_done (false_half Q x) left_piece left_results
-  pub right : IsHandOn F B right_done (true_half Q x) right_piece right_results
+  pub left : IsHandOn F plan left_done (false_half Q x) left_piece left_results
+  pub right : IsHandOn F plan right_done (true_half Q x) right_piece right_results
   pub both_done : is_done ≡ true → (left_done ≡ true) × (right_done ≡ true)
   pub is_new : new ≡ joined (joined old left_piece) right_piece
   pub is_after : map solved_of after ≡ map solved_of before ++ left_results ++ right_results
 
 -- a half that is carried on puts no cube
-abbrev pub AddsCarried : Formula → ℕ → Bool → List Literal → Ledger → Ledger → List Solved → List Solved → Type 0
-AddsCarried F B is_done H old new before after = Adds (λ l s. (l.put ≡ []) × IsHandOn F B is_done H l s) old new (map solved_of before) (map solved_of after)
+abbrev pub AddsCarried : Formula → Plan → Bool → List Literal → Ledger → Ledger → List Solved → List Solved → Type 0
+AddsCarried F plan is_done H old new before after = Adds (λ l s. (l.put ≡ []) × IsHandOn F plan is_done H l s) old new (map solved_of before) (map solved_of after)
 
-abbrev pub Underway : Formula → ℕ → Ledger → Ledger → List Solved → Type 0
-Underway F B first now solved = IsUnderway F B first now (map solved_of solved)
+abbrev pub Underway : Formula → Plan → Ledger → Ledger → List Solved → Type 0
+Underway F plan first now solved = IsUnderway F plan first now (map solved_of solved)
 
-abbrev pub Worked_as : Formula → ℕ → Bool → Ledger → Ledger → List Solved → Type 0
-Worked_as F B is_short first last solved = HasWorked F B is_short first last (map solved_of solved)
+abbrev pub Worked_as : Formula → Plan → Bool → Ledger → Ledger → List Solved → Type 0
+Worked_as F plan is_short first last solved = HasWorked F plan is_short first last (map solved_of solved)
 
 -- while the half H is carried on, at the cube that lies along the path below it: no model was found yet, and each cube of H's tree is
 -- settled, or is below this one, or lies right of it
-pub record IsCarrying (F : Formula) (B : ℕ) (H path : List Literal) (solved : List results.Solved) : Type 0 where
-  pub of_tree : LeadsOn F B H path
-  pub true_of : All (λ r. results.IsTrueOf F B r.cube r.what) solved
-  pub of_half : All (λ r. IsCubeOf F B H r.cube) solved
+pub record IsCarrying (F : Formula) (plan : Plan) (H path : List Literal) (solved : List results.Solved) : Type 0 where
+  pub of_tree : LeadsOn F plan H path
+  pub true_of : All (λ r. results.IsTrueOf F plan r.cube r.what) solved
+  pub of_half : All (λ r. IsCubeOf F plan H r.cube) solved
   pub no_model : All (λ r. ¬ (results.IsModel r.what)) solved
-  pub to_here : IsCarriedTo F B H (H ++ path) solved
+  pub to_here : IsCarriedTo F plan H (H ++ path) solved
 
 -- the same of the cube, with the results before the half and now
-pub record IsCarryingAt (F : Formula) (B : ℕ) (H Q : List Literal) (before now : List Solved) : Type 0 where
+pub record IsCarryingAt (F : Formula) (plan : Plan) (H Q : List Literal) (before now : List Solved) : Type 0 where
   pub path : List Literal
   pub results : List results.Solved
   pub is_cube : Q ≡ H ++ path
   pub is_now : map solved_of now ≡ map solved_of before ++ results
-  pub carrying : IsCarrying F B H path results
+  pub carrying : IsCarrying F plan H path results

@@ -1,11 +1,12 @@
 -- Outcomes of cubes that are known, and looking them up.
-use Rattle.std.specs.Prelude.{◌≡◌, ℕ, List, Option, Some, None, Contains}
+use Rattle.std.specs.Prelude.{◌≡◌, List, Option, Some, None, Contains}
 use Rattle.std.specs.Cmp.Lexicographic.{pointwise}
 use Rattle.std.specs.HashMap.{get_by}
 use Rattle.theory.specs.Literals.{Literal}
 use Rattle.theory.specs.Search as search
-use Rattle.theory.specs.Search.{Runs}
+use Rattle.theory.specs.Runs.{Runs}
 use Rattle.theory.specs.Truth.{Formula}
+use Rattle.theory.specs.Plans.{Plan}
 use Rattle.theory.specs.Results.{done}
 use Rattle.theory.specs.Results as results
 use Rattle.cnf.specs.contracts.lit.LitPartialEq.TheImpl.{ghosts}
@@ -24,5 +25,5 @@ pub record AreKnown (rs : List results.Solved) (k : Known) : Type 0 where
   pub missing : (Q : List Literal) (o : search.Outcome) → AreOfVariables Q → known_of k Q ≡ None → ¬ (Contains rs (record { cube = Q; what = done o }))
 
 -- what is known is so
-abbrev pub AreOutcomes : Formula → ℕ → Known → Type 0
-AreOutcomes F B k = (Q : List Literal) (o : Outcome) → AreOfVariables Q → known_of k Q ≡ Some o → Runs F B Q (outcome_of o)
+abbrev pub AreOutcomes : Formula → Plan → Known → Type 0
+AreOutcomes F plan k = (Q : List Literal) (o : Outcome) → AreOfVariables Q → known_of k Q ≡ Some o → Runs F plan Q (outcome_of o)

@@ -1,6 +1,7 @@
 -- What the result of a formula is.
-use Rattle.std.specs.Prelude.{◌≡◌, ℕ, map}
+use Rattle.std.specs.Prelude.{◌≡◌, map}
 use Rattle.theory.specs.Truth.{Formula, Satisfiable}
+use Rattle.theory.specs.Plans.{Plan}
 use Rattle.theory.specs.FirstModel.{IsFirst}
 use Rattle.theory.specs.Trees as trees
 use Rattle.cubes.specs.declared.tree.Node.{Node}
@@ -13,9 +14,9 @@ node_of (Split var) = trees.split_on var
 node_of (Leaf refutation) = trees.refuted_leaf refutation.lines.items
 
 -- the tree is the formula's result: its model, or the nodes of its tree
-abbrev pub IsResultOf : Formula → ℕ → Tree → Type 0
-IsResultOf F B (Model values) = trees.IsResult F B (trees.model_of values.items)
-IsResultOf F B (Refuted nodes) = (t : trees.Tree) × trees.IsResult F B (trees.tree_of t) × (map node_of nodes.items ≡ trees.nodes_of t)
+abbrev pub IsResultOf : Formula → Plan → Tree → Type 0
+IsResultOf F plan (Model values) = trees.IsResult F plan (trees.model_of values.items)
+IsResultOf F plan (Refuted nodes) = (t : trees.Tree) × trees.IsResult F plan (trees.tree_of t) × (map node_of nodes.items ≡ trees.nodes_of t)
 
 -- what a result says of its formula: a model is the first one; without a model, the formula isn't satisfiable
 abbrev pub Says : Formula → Tree → Type 0

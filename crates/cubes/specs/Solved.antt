@@ -1,6 +1,7 @@
 -- Results of cubes, as the definitions have them.
-use Rattle.std.specs.Prelude.{ℕ, List, All}
+use Rattle.std.specs.Prelude.{List, All}
 use Rattle.theory.specs.Truth as truth
+use Rattle.theory.specs.Plans.{Plan}
 use Rattle.theory.specs.Results as results
 use Rattle.cdcl.specs.Outcome.{outcome_of}
 use Rattle.cubes.specs.declared.solved.What.{What}
@@ -15,5 +16,5 @@ abbrev pub solved_of : Solved → results.Solved
 solved_of s = record { cube = s.cube; what = what_of s.what }
 
 -- each result is true: an outcome is its cube's, and of a cube that was skipped nothing is said
-abbrev pub AreTrueResults : truth.Formula → ℕ → List Solved → Type 0
-AreTrueResults F B rs = All (λ s. results.IsTrueOf F B s.cube (what_of s.what)) rs
+abbrev pub AreTrueResults : truth.Formula → Plan → List Solved → Type 0
+AreTrueResults F plan rs = All (λ s. results.IsTrueOf F plan s.cube (what_of s.what)) rs

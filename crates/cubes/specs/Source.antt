@@ -1,9 +1,10 @@
 -- Where the outcomes of cubes come from.
-use Rattle.std.specs.Prelude.{◌≡◌, ℕ, IfSome}
+use Rattle.std.specs.Prelude.{◌≡◌, IfSome}
 use Rattle.theory.specs.Truth.{Formula}
+use Rattle.theory.specs.Plans.{Plan}
 use Rattle.cubes.specs.Known.{AreOutcomes}
 use Rattle.cubes.specs.declared.results.Source.{Source}
 
 -- what is known is so, and the solver is the formula's
-abbrev pub IsSource : Formula → ℕ → Source → Type 0
-IsSource F B s = AreOutcomes F B s.known × IfSome s.solver (λ solver. solver.formula ≡ F)
+abbrev pub IsSource : Formula → Plan → Source → Type 0
+IsSource F plan s = AreOutcomes F plan s.known × IfSome s.solver (λ solver. solver.formula ≡ F)

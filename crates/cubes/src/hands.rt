@@ -2,7 +2,8 @@
 ghost use Rattle.std.specs.Prelude.{◌≡◌, ◌≤◌, ℕ, List, false, IfOk, OnOk, OnErr, MatchOption, is_ok};
 ghost use Rattle.theory.specs.Literals.{Literal, IsVariable, has_var};
 ghost use Rattle.theory.specs.Truth.{Formula, IsOver};
-ghost use Rattle.theory.specs.Search.{Runs};
+ghost use Rattle.theory.specs.Plans as plans;
+ghost use Rattle.theory.specs.Runs.{Runs};
 ghost use Rattle.theory.specs.Ledger.{IsFit};
 ghost use Rattle.cdcl.specs.Outcome.{outcome_of};
 ghost use Rattle.pool.specs.Hands.{SameHand};
@@ -14,7 +15,7 @@ use crate::pause::Pauses;
 use crate::place::place_of;
 use crate::results::solve;
 use crate::solved::{Solved, What};
-use cdcl::{Outcome, Solver, split};
+use cdcl::{Outcome, Plan, Solver, split};
 use cnf::{Formula, Lit};
 use kernel::Cube;
 use pool::{Hand, Taken};
@@ -74,7 +75,7 @@ fn next(hand: &mut Hand) -> Option<Cube>
 }
 
 fn ending_of(outcome: &Outcome) -> Ending
-    ensures { (F : Formula) (B : ℕ) (Q : List Literal) → Runs F B Q (outcome_of outcome.now) → EndsIn F Q (outcome_of outcome.now) result }
+    ensures { (F : Formula) (plan : plans.Plan) (Q : List Literal) → Runs F plan Q (outcome_of outcome.now) → EndsIn F Q (outcome_of outcome.now) result }
 {
     match outcome {
         Outcome::Model(_) => Ending::Model,
@@ -85,18 +86,17 @@ fn ending_of(outcome: &Outcome) -> Ending
 
 impl Worker {
     /// Solves a cube here, and keeps its result.
-    fn settle(&mut self, formula: &Formula, budget: u32, cube: &Cube) -> Result<Ending, AllocError>
-        requires budget { (1 ≤ budget) × (budget ≤ 100000) }
+    fn settle(&mut self, formula: &Formula, plan: Plan, cube: &Cube) -> Result<Ending, AllocError>
         requires over { IsOver formula.now.vars cube.now }
         requires worker { IsWorker formula.now self.old }
         ensures hand { self.new.hand ≡ self.old.hand }
-        ensures settles { IfOk result (λ e. Settles formula.now budget cube.now e self.old.solved.items self.new.solved.items) }
+        ensures settles { IfOk result (λ e. Settles formula.now plan cube.now e self.old.solved.items self.new.solved.items) }
         ensures worker { OnOk result (IsWorker formula.now self.new) }
         ensures none { OnErr result (self.new.solved.items ≡ self.old.solved.items) }
     {
         let alloc = *self.solved.allocator();
         let copy = cube.copied()?;
-        let outcome = solve(alloc, formula, budget, cube, &mut self.solver)?;
+        let outcome = solve(alloc, formula, plan, cube, &mut self.solver)?;
         let ending = ending_of(&outcome);
         let what = What::Done(outcome);
         self.solved.push(Solved { cube: copy, what })?;
@@ -106,23 +106,22 @@ impl Worker {
 
 impl Worker {
     /// Hands a half of a cube on: it is put, or where that is refused, or where it is too deep for the pool, carried on here.
-    fn hand_on(&mut self, formula: &Formula, budget: u32, half: Cube) -> Result<(), AllocError>
-        requires budget { (1 ≤ budget) × (budget ≤ 100000) }
+    fn hand_on(&mut self, formula: &Formula, plan: Plan, half: Cube) -> Result<(), AllocError>
         requires over { IsOver formula.now.vars half }
         requires worker { IsWorker formula.now self.old }
         ensures same { SameHand self.old.hand self.new.hand }
         ensures worker { OnOk result (IsWorker formula.now self.new) }
-        ensures part { AddsHandOn formula.now budget (is_ok result) half self.old.hand.ledger self.new.hand.ledger self.old.solved.items self.new.solved.items }
+        ensures part { AddsHandOn formula.now plan (is_ok result) half self.old.hand.ledger self.new.hand.ledger self.old.solved.items self.new.solved.items }
     {
         if half.lits().len() > DEEPEST {
-            return self.carry_on(formula, budget, half);
+            return self.carry_on(formula, plan, half);
         }
         self.hand.more();
         match self.hand.put(half) {
             Ok(()) => Ok(()),
             Err(refused) => {
                 self.hand.less();
-                self.carry_on(formula, budget, refused)
+                self.carry_on(formula, plan, refused)
             }
         }
     }
@@ -131,39 +130,37 @@ impl Worker {
     fn hand_on_halves(
         &mut self,
         formula: &Formula,
-        budget: u32,
+        plan: Plan,
         cube: &Cube,
         var: u32,
     ) -> Result<(), AllocError>
-        requires budget { (1 ≤ budget) × (budget ≤ 100000) }
         requires over { IsOver formula.now.vars cube.now }
         requires variable { IsVariable formula.now.vars var }
         requires free { has_var cube.now var ≡ false }
         requires worker { IsWorker formula.now self.old }
         ensures same { SameHand self.old.hand self.new.hand }
         ensures worker { OnOk result (IsWorker formula.now self.new) }
-        ensures part { AddsHalves formula.now budget (is_ok result) cube.now var self.old.hand.ledger self.new.hand.ledger self.old.solved.items self.new.solved.items }
+        ensures part { AddsHalves formula.now plan (is_ok result) cube.now var self.old.hand.ledger self.new.hand.ledger self.old.solved.items self.new.solved.items }
     {
         let _vars = formula.vars(); // it ensures that there are fewer than 2^31
         let (left, right) = split(cube, var)?;
-        self.hand_on(formula, budget, left)?;
-        self.hand_on(formula, budget, right)
+        self.hand_on(formula, plan, left)?;
+        self.hand_on(formula, plan, right)
     }
 
     /// Carries a half on here: solves the cubes of its tree from left to right, up to the first model.
-    fn carry_on(&mut self, formula: &Formula, budget: u32, half: Cube) -> Result<(), AllocError>
-        requires budget { (1 ≤ budget) × (budget ≤ 100000) }
+    fn carry_on(&mut self, formula: &Formula, plan: Plan, half: Cube) -> Result<(), AllocError>
         requires over { IsOver formula.now.vars half }
         requires worker { IsWorker formula.now self.old }
         ensures same { SameHand self.old.hand self.new.hand }
         ensures worker { OnOk result (IsWorker formula.now self.new) }
-        ensures part { AddsCarried formula.now budget (is_ok result) half self.old.hand.ledger self.new.hand.ledger self.old.solved.items self.new.solved.items }
+        ensures part { AddsCarried formula.now plan (is_ok result) half self.old.hand.ledger self.new.hand.ledger self.old.solved.items self.new.solved.items }
     {
         let _vars = formula.vars(); // it ensures that there are fewer than 2^31
         let depth = half.lits().len();
         let mut cube = half;
         'cubes: loop {
-            match self.settle(formula, budget, &cube)? {
+            match self.settle(formula, plan, &cube)? {
                 Ending::Model => {
                     self.hand.offer(place_of(&cube));
                     return Ok(());
@@ -182,16 +179,15 @@ impl Worker {
     fn round<G: Gate>(
         &mut self,
         formula: &Formula,
-        budget: u32,
+        plan: Plan,
         gate: &G,
         cube: Cube,
     ) -> Result<(), AllocError>
-        requires budget { (1 ≤ budget) × (budget ≤ 100000) }
         requires over { IsOver formula.now.vars cube }
         requires worker { IsWorker formula.now self.old }
         ensures same { SameHand self.old.hand self.new.hand }
         ensures worker { OnOk result (IsWorker formula.now self.new) }
-        ensures part { AddsRound formula.now budget (is_ok result) cube self.old.hand.ledger self.new.hand.ledger self.old.solved.items self.new.solved.items }
+        ensures part { AddsRound formula.now plan (is_ok result) cube self.old.hand.ledger self.new.hand.ledger self.old.solved.items self.new.solved.items }
     {
         let place = place_of(&cube);
         let seen = self.hand.look();
@@ -204,12 +200,12 @@ impl Worker {
             }
         }
         gate.before(self.hand.number(), &cube);
-        let ending = self.settle(formula, budget, &cube);
+        let ending = self.settle(formula, plan, &cube);
         gate.after(self.hand.number(), &cube);
         match ending? {
             Ending::Model => self.hand.offer(place),
             Ending::Refuted => {}
-            Ending::Exhausted(var) => self.hand_on_halves(formula, budget, &cube, var)?,
+            Ending::Exhausted(var) => self.hand_on_halves(formula, plan, &cube, var)?,
         }
         self.hand.less();
         Ok(())
@@ -239,18 +235,17 @@ impl Worker {
 /// halted. Each cube that it gets is skipped where a model lies left of it, and else solved, and the halves of an exhausted one are put.
 /// It is the caller that waits: until nothing is left to be done by any hand. A hand that finds no cube yields its processor, a hundred
 /// times, and then sleeps between its looks, for 50 microseconds at first and for up to a millisecond, until it gets one.
-pub fn work<R: Wait + Clock, G: Gate>(
+pub fn work_by_plan<R: Wait + Clock, G: Gate>(
     rt: &R,
     alloc: Global,
     hand: Hand,
     formula: &Formula,
-    budget: u32,
+    plan: Plan,
     gate: &G,
 ) -> Worked
-    requires budget { (1 ≤ budget) × (budget ≤ 100000) }
     requires vars { hand.vars ≡ formula.now.vars }
     ensures same { SameHand hand result.hand }
-    ensures work { Worked_as formula.now budget result.short_of_memory hand.ledger result.hand.ledger result.solved.items }
+    ensures work { Worked_as formula.now plan result.short_of_memory hand.ledger result.hand.ledger result.solved.items }
 {
     let mut worker = Worker {
         hand,
@@ -266,7 +261,7 @@ pub fn work<R: Wait + Clock, G: Gate>(
         match next(&mut worker.hand) {
             Some(cube) => {
                 pauses = Pauses::none();
-                if worker.round(formula, budget, gate, cube).is_err() {
+                if worker.round(formula, plan, gate, cube).is_err() {
                     worker.hand.halt();
                     return worker.home(true);
                 }

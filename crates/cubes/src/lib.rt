@@ -1,6 +1,7 @@
 //! The tree of splits over one cube's search: which cubes are solved, and the result that they give together.
 #![tactic(auto)]
 
+mod by_budget;
 mod closing;
 mod gate;
 mod hands;
@@ -14,11 +15,12 @@ mod threads;
 mod tree;
 mod walk;
 
-pub use closing::harvest;
+pub use by_budget::{gather, solve_one, solve_with, work};
+pub use closing::{harvest, harvest_by_plan};
 pub use gate::{Gate, OpenGate};
-pub use hands::{Worked, work};
+pub use hands::{Worked, work_by_plan};
 pub use place::place_of;
-pub use results::{assemble, gather, solve_one};
+pub use results::{assemble, gather_by_plan, solve_one_by_plan};
 pub use solved::{Solved, What};
-pub use threads::{results_by_hands, solve_with};
+pub use threads::{results_by_hands, solve_by_plan};
 pub use tree::{Node, Tree};

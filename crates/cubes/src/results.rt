@@ -1,7 +1,8 @@
 //! The tree of a formula, solved from left to right, or put together from results.
 ghost use Rattle.std.specs.Prelude.{◌≡◌, ◌≤◌, ◌<◌, ◌^◌, ℕ, false, map, IfOk, IfSome, OnOk};
 ghost use Rattle.theory.specs.Truth.{Formula, IsOver};
-ghost use Rattle.theory.specs.Search.{Runs};
+ghost use Rattle.theory.specs.Plans as plans;
+ghost use Rattle.theory.specs.Runs.{Runs};
 ghost use Rattle.theory.specs.Results.{OutcomeSays, IsWhole};
 ghost use Rattle.cdcl.specs.Outcome.{outcome_of};
 ghost use Rattle.cubes.specs.Solved.{AreTrueResults, solved_of};
@@ -12,7 +13,7 @@ use crate::known::Known;
 use crate::solved::Solved;
 use crate::tree::Tree;
 use crate::walk::Walk;
-use cdcl::{Outcome, Solver};
+use cdcl::{Outcome, Plan, Solver};
 use cnf::Formula;
 use kernel::Cube;
 use std::alloc::{AllocError, Global};
@@ -21,14 +22,13 @@ use std::alloc::{AllocError, Global};
 pub(crate) fn solve(
     alloc: Global,
     formula: &Formula,
-    budget: u32,
+    plan: Plan,
     cube: &Cube,
     solver: &mut Option<Solver>,
 ) -> Result<Outcome, AllocError>
-    requires budget { (1 ≤ budget) × (budget ≤ 100000) }
     requires over { IsOver formula.now.vars cube.now }
     requires solver { IfSome solver.old (λ s. s.formula ≡ formula.now) }
-    ensures runs { IfOk result (λ o. Runs formula.now budget cube.now (outcome_of o)) }
+    ensures runs { IfOk result (λ o. Runs formula.now plan cube.now (outcome_of o)) }
     ensures says { IfOk result (λ o. OutcomeSays formula.now cube.now (outcome_of o)) }
     ensures kept { OnOk result (IfSome solver.new (λ s. s.formula ≡ formula.now)) }
 {
@@ -36,7 +36,7 @@ pub(crate) fn solve(
         Some(solver) => solver,
         None => Solver::open(alloc, formula)?,
     };
-    let outcome = ready.solve(cube, budget)?;
+    let outcome = ready.solve(cube, plan)?;
     *solver = Some(ready);
     Ok(outcome)
 }
@@ -54,35 +54,32 @@ impl Source {
         &mut self,
         alloc: Global,
         formula: &Formula,
-        budget: u32,
+        plan: Plan,
         cube: &Cube,
     ) -> Result<Outcome, AllocError>
-        requires budget { (1 ≤ budget) × (budget ≤ 100000) }
         requires over { IsOver formula.now.vars cube.now }
-        requires source { IsSource formula.now budget self.old }
-        ensures runs { IfOk result (λ o. Runs formula.now budget cube.now (outcome_of o)) }
-        ensures kept { OnOk result (IsSource formula.now budget self.new) }
+        requires source { IsSource formula.now plan self.old }
+        ensures runs { IfOk result (λ o. Runs formula.now plan cube.now (outcome_of o)) }
+        ensures kept { OnOk result (IsSource formula.now plan self.new) }
     {
         match self.known.take(cube) {
             Some(outcome) => Ok(outcome),
-            None => solve(alloc, formula, budget, cube, &mut self.solver),
+            None => solve(alloc, formula, plan, cube, &mut self.solver),
         }
     }
 }
 
-/// The result of the formula with a budget of 1 to 100,000 conflicts for the root, from which a cube's budget grows with its literals. It
-/// comes from results of cubes that are true: in any order, with cubes missing, skipped, repeated or foreign to the tree. `gather` goes
-/// through the cubes from left to right and solves those on the spot that it needs and that have no outcome among the results, all by one
-/// solver. It fails only where a request for memory is refused.
-pub fn gather(
+/// The result of the formula by the plan, from results of cubes that are true: in any order, with cubes missing, skipped, repeated or foreign to
+/// the tree. It goes through the cubes from left to right and solves those on the spot that it needs and that have no outcome among the
+/// results, all by one solver. It fails only where a request for memory is refused.
+pub fn gather_by_plan(
     alloc: Global,
     formula: &Formula,
-    budget: u32,
+    plan: Plan,
     results: Vec<Solved>,
 ) -> Result<Tree, AllocError>
-    requires budget { (1 ≤ budget) × (budget ≤ 100000) }
-    requires results { AreTrueResults formula.now budget results.items }
-    ensures result { IfOk result (λ t. IsResultOf formula.now budget t) }
+    requires results { AreTrueResults formula.now plan results.items }
+    ensures result { IfOk result (λ t. IsResultOf formula.now plan t) }
     ensures says { IfOk result (λ t. Says formula.now t) }
 {
     let _vars = formula.vars(); // it ensures what the proof needs of the formula
@@ -92,19 +89,19 @@ pub fn gather(
     };
     let mut walk = Walk::start(alloc);
     'cubes: loop {
-        let outcome = source.outcome(alloc, formula, budget, &walk.cube)?;
+        let outcome = source.outcome(alloc, formula, plan, &walk.cube)?;
         if let Some(tree) = walk.go_on(outcome)? {
             return Ok(tree);
         }
     }
 }
 
-/// The result of the formula and the budget of which the results are whole: each cube of their tree has its outcome among them, or lies
-/// right of a model. Neither the formula nor the budget is asked for, and nothing is solved. It fails only where a request for memory is
+/// The result of the formula and the plan of which the results are whole: each cube of their tree has its outcome among them, or lies
+/// right of a model. Neither the formula nor the plan is asked for, and nothing is solved. It fails only where a request for memory is
 /// refused.
 pub fn assemble(alloc: Global, results: Vec<Solved>) -> Result<Tree, AllocError>
-    requires { (F : Formula) × (B : ℕ) × (F.vars < 2 ^ 31) × IsWhole F B (map solved_of results.items) }
-    ensures { IfOk result (λ t. (F : Formula) (B : ℕ) → IsWhole F B (map solved_of results.items) → IsResultOf F B t) }
+    requires { (F : Formula) × (plan : plans.Plan) × (F.vars < 2 ^ 31) × IsWhole F plan (map solved_of results.items) }
+    ensures { IfOk result (λ t. (F : Formula) (plan : plans.Plan) → IsWhole F plan (map solved_of results.items) → IsResultOf F plan t) }
 {
     let mut known = Known::new(alloc, results)?;
     let mut walk = Walk::start(alloc);
@@ -119,11 +116,10 @@ pub fn assemble(alloc: Global, results: Vec<Solved>) -> Result<Tree, AllocError>
     }
 }
 
-/// The result of the formula with a budget of 1 to 100,000 conflicts for the root. It fails only where a request for memory is refused.
-pub fn solve_one(alloc: Global, formula: &Formula, budget: u32) -> Result<Tree, AllocError>
-    requires { (1 ≤ budget) × (budget ≤ 100000) }
-    ensures result { IfOk result (λ t. IsResultOf formula.now budget t) }
+/// The result of the formula by the plan. It fails only where a request for memory is refused.
+pub fn solve_one_by_plan(alloc: Global, formula: &Formula, plan: Plan) -> Result<Tree, AllocError>
+    ensures result { IfOk result (λ t. IsResultOf formula.now plan t) }
     ensures says { IfOk result (λ t. Says formula.now t) }
 {
-    gather(alloc, formula, budget, Vec::new(alloc))
+    gather_by_plan(alloc, formula, plan, Vec::new(alloc))
 }

@@ -8,12 +8,13 @@ ghost use Rattle.cubes.specs.Result.{IsResultOf, Says};
 ghost use Rattle.cubes.specs.Shares.{HasDone};
 ghost use Rattle.cubes.specs.Solved.{solved_of};
 
-use crate::closing::harvest;
+use crate::closing::harvest_by_plan;
 use crate::gate::Gate;
-use crate::hands::{Worked, work};
-use crate::results::{assemble, solve_one};
+use crate::hands::{Worked, work_by_plan};
+use crate::results::{assemble, solve_one_by_plan};
 use crate::solved::Solved;
 use crate::tree::Tree;
+use cdcl::Plan;
 use cnf::Formula;
 use kernel::Cube;
 use pool::{Hand, Pool};
@@ -28,23 +29,22 @@ fn all_work<R: Threads + Wait + Clock + Sync, G: Gate + Sync>(
     rt: &R,
     alloc: Global,
     formula: &Formula,
-    budget: u32,
+    plan: Plan,
     gate: &G,
     hands: Vec<Hand>,
 ) -> Result<Vec<Worked>, AllocError>
-    requires budget { (1 ≤ budget) × (budget ≤ 100000) }
     requires vars { All (λ h. h.vars ≡ formula.now.vars) hands.items }
     ensures len { IfOk result (λ v. length v.items ≡ length hands.items) }
     ensures each { IfOk result (λ v. (i : ℕ) (d : HandView) (e : Worked) → i < length hands.items
-        → HasDone formula.now budget (slice_index_or hands.items i d) (slice_index_or v.items i e)) }
+        → HasDone formula.now plan (slice_index_or hands.items i d) (slice_index_or v.items i e)) }
 {
     thread::map_vec(
         rt,
         hands,
         &|hand: Hand| -> Worked
-            requires { (1 ≤ budget) × (budget ≤ 100000) × (hand.vars ≡ formula.now.vars) }
-            ensures { HasDone formula.entry.now budget hand result }
-        { work(rt, alloc, hand, formula, budget, gate) },
+            requires { hand.vars ≡ formula.now.vars }
+            ensures { HasDone formula.entry.now plan hand result }
+        { work_by_plan(rt, alloc, hand, formula, plan, gate) },
     )
 }
 
@@ -64,22 +64,21 @@ pub fn results_by_hands<R: Threads + Wait + Clock + Sync, G: Gate + Sync>(
     rt: &R,
     alloc: Global,
     formula: &Formula,
-    budget: u32,
+    plan: Plan,
     gate: &G,
     pool: Pool,
     hands: Vec<Hand>,
 ) -> Result<Vec<Solved>, AllocError>
-    requires budget { (1 ≤ budget) × (budget ≤ 100000) }
     requires some { 1 ≤ pool.hands }
     requires root { pool.root ≡ [] }
     requires hands { AreNew pool formula.now.vars hands.items }
-    ensures { IfOk result (λ r. IsWhole formula.now budget (map solved_of r.items)) }
+    ensures { IfOk result (λ r. IsWhole formula.now plan (map solved_of r.items)) }
 {
-    let works = all_work(rt, alloc, formula, budget, gate, hands)?;
+    let works = all_work(rt, alloc, formula, plan, gate, hands)?;
     if is_short(&works) {
         return Err(AllocError);
     }
-    harvest(alloc, formula, budget, pool, works)
+    harvest_by_plan(alloc, formula, plan, pool, works)
 }
 
 /// The result, by these hands of the pool.
@@ -87,41 +86,38 @@ fn solve_by_hands<R: Threads + Wait + Clock + Sync, G: Gate + Sync>(
     rt: &R,
     alloc: Global,
     formula: &Formula,
-    budget: u32,
+    plan: Plan,
     gate: &G,
     pool: Pool,
     hands: Vec<Hand>,
 ) -> Result<Tree, AllocError>
-    requires budget { (1 ≤ budget) × (budget ≤ 100000) }
     requires some { 1 ≤ pool.hands }
     requires root { pool.root ≡ [] }
     requires hands { AreNew pool formula.now.vars hands.items }
-    ensures result { IfOk result (λ t. IsResultOf formula.now budget t) }
+    ensures result { IfOk result (λ t. IsResultOf formula.now plan t) }
     ensures says { IfOk result (λ t. Says formula.now t) }
 {
     let _vars = formula.vars(); // it ensures what the proof needs of the formula
-    let results = results_by_hands(rt, alloc, formula, budget, gate, pool, hands)?;
+    let results = results_by_hands(rt, alloc, formula, plan, gate, pool, hands)?;
     assemble(alloc, results)
 }
 
-/// The result of the formula with a budget of 1 to 100,000 conflicts for the root, by 1 to 16 hands, each in a thread of its own where one
-/// can be started. It is the same for any number of hands, any gate and any schedule. It fails only where a request for memory is refused,
+/// The result of the formula by the plan, by 1 to 16 hands, each in a thread of its own where one can be started. It is the same for any number of hands, any gate and any schedule. It fails only where a request for memory is refused,
 /// once all hands are home. If the pool isn't opened, all is solved here.
-pub fn solve_with<R: Threads + Wait + Clock + Sync, G: Gate + Sync>(
+pub fn solve_by_plan<R: Threads + Wait + Clock + Sync, G: Gate + Sync>(
     rt: &R,
     alloc: Global,
     formula: &Formula,
-    budget: u32,
+    plan: Plan,
     hands: usize,
     gate: &G,
 ) -> Result<Tree, AllocError>
-    requires budget { (1 ≤ budget) × (budget ≤ 100000) }
     requires hands { (1 ≤ hands) × (hands ≤ 16) }
-    ensures result { IfOk result (λ t. IsResultOf formula.now budget t) }
+    ensures result { IfOk result (λ t. IsResultOf formula.now plan t) }
     ensures says { IfOk result (λ t. Says formula.now t) }
 {
     match pool::open(alloc, hands, formula.vars(), Cube::root(alloc)) {
-        Ok((pool, all)) => solve_by_hands(rt, alloc, formula, budget, gate, pool, all),
-        Err(_) => solve_one(alloc, formula, budget),
+        Ok((pool, all)) => solve_by_hands(rt, alloc, formula, plan, gate, pool, all),
+        Err(_) => solve_one_by_plan(alloc, formula, plan),
     }
 }

@@ -1,11 +1,13 @@
 //! Worked rows: what the hands of a pool bring home together, with a budget of one conflict for the root, and the tree that is
 //! assembled from it.
 ghost use Rattle.std.specs.Prelude.{◌≤◌, map, IfOk};
+ghost use Rattle.theory.specs.Plans.{ordered_within};
 ghost use Rattle.theory.specs.Results.{IsWhole};
 ghost use Rattle.cubes.specs.Solved.{solved_of};
 
 use crate::hands::is_result;
 use crate::results::{Given, NODES, NODES_OF_SIXTEEN, WantedTree, is_tree};
+use cdcl::Plan;
 use cnf::{Formula, read_formula};
 use cubes::{OpenGate, Solved, Tree, assemble, results_by_hands};
 use kernel::Cube;
@@ -27,14 +29,14 @@ fn harvested<R: Threads + Wait + Clock + Sync>(
     hands: usize,
 ) -> Result<Vec<Solved>, Fail>
     requires { (1 ≤ hands) × (hands ≤ 16) }
-    ensures { IfOk result (λ r. IsWhole formula.now 1 (map solved_of r.items)) }
+    ensures { IfOk result (λ r. IsWhole formula.now (ordered_within 1) (map solved_of r.items)) }
 {
     let (pool, all) = pool::open(alloc, hands, formula.vars(), Cube::root(alloc))?;
-    Ok(results_by_hands(rt, alloc, formula, 1, &OpenGate, pool, all)?)
+    Ok(results_by_hands(rt, alloc, formula, Plan::ordered(1), &OpenGate, pool, all)?)
 }
 
 fn tree_of(alloc: Global, formula: &Formula, results: Vec<Solved>) -> Result<Tree, AllocError>
-    requires { IsWhole formula.now 1 (map solved_of results.items) }
+    requires { IsWhole formula.now (ordered_within 1) (map solved_of results.items) }
 {
     let _vars = formula.vars(); // it ensures that there are fewer than 2^31
     assemble(alloc, results)

@@ -1,5 +1,6 @@
 //! Results of cubes, and trees, as rows name them, with a budget of one conflict for the root.
 ghost use Rattle.std.specs.Prelude.{OnOk};
+ghost use Rattle.theory.specs.Plans.{ordered_within};
 ghost use Rattle.cubes.specs.Solved.{AreTrueResults};
 
 use cdcl::{Outcome, Refutation, solve_cube};
@@ -52,8 +53,8 @@ fn put_result(
     given: Given,
     results: &mut Vec<Solved>,
 ) -> Result<bool, AllocError>
-    requires { AreTrueResults formula.now 1 results.old.items }
-    ensures { OnOk result (AreTrueResults formula.now 1 results.new.items) }
+    requires { AreTrueResults formula.now (ordered_within 1) results.old.items }
+    ensures { OnOk result (AreTrueResults formula.now (ordered_within 1) results.new.items) }
 {
     let cube = cube_of(alloc, formula.vars(), numbers)?;
     if let Given::Skipped(place) = given {

@@ -1,6 +1,7 @@
 -- The texts that a formula's result gives.
 use Rattle.std.proofs.Common.{ℕ, List, ap, sym}
 use Rattle.theory.specs.Truth.{Formula}
+use Rattle.theory.specs.Plans.{Plan}
 use Rattle.theory.specs.Steps.{Step}
 use Rattle.theory.specs.Texts.{proof_text}
 use Rattle.theory.specs.Written.{IsUnsatisfiableText}
@@ -13,12 +14,12 @@ use Rattle.cubesat.specs.declared.verdict.Verdict.{Verdict}
 use Rattle.cubesat.specs.Run.{AreTexts}
 use Rattle.cubesat.specs.Written.{IsAnswer}
 
-pub result-texts : (F : Formula) (B : ℕ) (tree : Tree) (verdict : Verdict) (steps : List Step) (answer : List ℕ) → IsResultOf F B tree → Says F tree → IsAnswer tree verdict answer
-    → AreStepsOf F tree steps → AreWithin steps → AreAccepted F tree steps → AreTexts F B verdict (proof_text steps) answer
-result-texts F B (Model values) verdict steps answer result says is are within accepts =
+pub result-texts : (F : Formula) (plan : Plan) (tree : Tree) (verdict : Verdict) (steps : List Step) (answer : List ℕ) → IsResultOf F plan tree → Says F tree → IsAnswer tree verdict answer
+    → AreStepsOf F tree steps → AreWithin steps → AreAccepted F tree steps → AreTexts F plan verdict (proof_text steps) answer
+result-texts F plan (Model values) verdict steps answer result says is are within accepts =
     rw is.0 (record { model = values.items; first = says; proof_is = ap proof_text are; answer_is = is.1 })
-result-texts F B (Refuted nodes) verdict steps answer result says is are within accepts =
-    let text : IsUnsatisfiableText F B (proof_text steps) answer = record {
+result-texts F plan (Refuted nodes) verdict steps answer result says is are within accepts =
+    let text : IsUnsatisfiableText F plan (proof_text steps) answer = record {
       unsatisfiable = says;
       tree = result.0;
       is_tree = result.1.0;

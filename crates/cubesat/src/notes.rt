@@ -1,6 +1,7 @@
 //! What `--verbose` prints: lines that begin with `c`, of what is done, and of what a fault means.
 
 use crate::explanations::explanation;
+use cdcl::Plan;
 use std::io::Write;
 
 /// Prints a line. A failed write changes nothing.
@@ -9,14 +10,9 @@ fn note<E: Write>(out: &mut E, said: &str, what: &str) {
 }
 
 /// What `solve` is about to do.
-pub(crate) fn note_solve<E: Write>(
-    out: &mut E,
-    budget: u32,
-    hands: usize,
-    file: &str,
-    proof: &str,
-) {
+pub(crate) fn note_solve<E: Write>(out: &mut E, plan: Plan, hands: usize, file: &str, proof: &str) {
     note(out, "reading the formula from", file);
+    let budget = plan.budget();
     let _ = writeln!(
         out,
         "c solving it, hands {hands}, budget {budget} conflicts"

@@ -6,6 +6,7 @@ use crate::explanations::explanation;
 use crate::fault::RunFault;
 use crate::fault_lines::{FAILED, Screen, print_fault};
 use crate::solving::solve;
+use cdcl::Plan;
 use clap::error::ErrorKind;
 use std::alloc::Global;
 use std::fs::Files;
@@ -69,9 +70,12 @@ pub fn command_on<R: Files + Threads + Wait + Clock + Sync, W: Write, E: Write +
                 file,
                 shown,
             },
-        ) => solve(
-            rt, alloc, budget, hands, proof, file, shown, answer, faults, screen,
-        ),
+        ) => {
+            let plan = Plan::ordered(budget);
+            solve(
+                rt, alloc, plan, hands, proof, file, shown, answer, faults, screen,
+            )
+        }
         Ok(
             Request::Check {
                 formula,

@@ -1,5 +1,6 @@
 //! A run without threads.
 ghost use Rattle.std.specs.Prelude.{◌≡◌, ◌≤◌, [], IfOk};
+ghost use Rattle.theory.specs.Plans.{ordered_within};
 ghost use Rattle.theory.specs.Texts.{proof_text};
 ghost use Rattle.join.specs.Walking.{lines_left, IsBetweenLines};
 ghost use Rattle.cubes.specs.Result.{IsResultOf, Says};
@@ -11,8 +12,9 @@ use crate::fault::RunFault;
 use crate::output::write_text;
 use crate::proof_output::{room, write_proof};
 use crate::verdict::Verdict;
+use cdcl::Plan;
 use cnf::{Formula, read_from};
-use cubes::{Tree, solve_one};
+use cubes::{Tree, solve_one_by_plan};
 use join::{Lines, answer_bytes};
 use std::alloc::{AllocError, Global};
 use std::io::{Read, Write};
@@ -55,16 +57,16 @@ fn answer_of(
 pub(crate) fn output_of(
     alloc: Global,
     formula: &Formula,
-    budget: u32,
+    plan: Plan,
     tree: Tree,
 ) -> Result<Output, AllocError>
-    requires result { IsResultOf formula.now budget tree }
+    requires result { IsResultOf formula.now plan tree }
     requires says { Says formula.now tree }
-    ensures texts { IfOk result (λ o. AreTexts formula.now budget o.verdict (proof_text (lines_left o.lines)) o.answer.items) }
+    ensures texts { IfOk result (λ o. AreTexts formula.now plan o.verdict (proof_text (lines_left o.lines)) o.answer.items) }
     ensures lines { IfOk result (λ o. IsBetweenLines o.lines) }
     ensures buffer { IfOk result (λ o. o.buffer.items ≡ []) }
 {
-    let _budget = budget; // it is there for the contract alone
+    let _plan = plan; // it is there for the contract alone
     let (verdict, answer) = answer_of(alloc, formula, &tree)?;
     let lines = Lines::of(alloc, formula, tree)?;
     let buffer = room(alloc, &lines)?;
@@ -76,9 +78,36 @@ pub(crate) fn output_of(
     })
 }
 
-/// Decides the formula of a DIMACS text, with a budget of 1 to 100,000 conflicts a cube: writes the proof, flushes it, and then writes and
+/// Decides the formula of a DIMACS text by the plan: writes the proof, flushes it, and then writes and
 /// flushes the answer. The proof of a satisfiable formula is empty. `RunFault` says when each fault comes and what is written then. Of the two
 /// clauses `says` is all of it, with the very bytes; `answer_is_right` says of a run that ends well only that its answer is right.
+pub fn run_one_by_plan<R: Read + Drop, W: Write, P: Write>(
+    alloc: Global,
+    input: R,
+    answer: &mut W,
+    proof: &mut P,
+    plan: Plan,
+) -> Result<Verdict, RunFault>
+    ensures says { RunSays (R.remaining input) plan (P.contents proof.old) (P.contents proof.new) (W.contents answer.old) (W.contents answer.new) result }
+    ensures answer_is_right { IfOk result (IsRightAnswer (R.remaining input) (P.contents proof.old) (P.contents proof.new) (W.contents answer.old) (W.contents answer.new)) }
+{
+    let formula = match read_from(alloc, input) {
+        Ok(formula) => formula,
+        Err(fault) => return Err(RunFault::of_read(fault)),
+    };
+    let Ok(tree) = solve_one_by_plan(alloc, &formula, plan) else {
+        return Err(RunFault::NoMemory);
+    };
+    let mut output = match output_of(alloc, &formula, plan, tree) {
+        Ok(output) => output,
+        Err(_) => return Err(RunFault::NoMemory),
+    };
+    write_proof(proof, &mut output.lines, &mut output.buffer)?;
+    write_text(answer, &output.answer, RunFault::AnswerWriteFailed)?;
+    Ok(output.verdict)
+}
+
+/// `run_one_by_plan` by the ordered search, with a budget of 1 to 100,000 conflicts for the root.
 pub fn run_one<R: Read + Drop, W: Write, P: Write>(
     alloc: Global,
     input: R,
@@ -87,21 +116,8 @@ pub fn run_one<R: Read + Drop, W: Write, P: Write>(
     budget: u32,
 ) -> Result<Verdict, RunFault>
     requires { (1 ≤ budget) × (budget ≤ 100000) }
-    ensures says { RunSays (R.remaining input) budget (P.contents proof.old) (P.contents proof.new) (W.contents answer.old) (W.contents answer.new) result }
+    ensures says { RunSays (R.remaining input) (ordered_within budget) (P.contents proof.old) (P.contents proof.new) (W.contents answer.old) (W.contents answer.new) result }
     ensures answer_is_right { IfOk result (IsRightAnswer (R.remaining input) (P.contents proof.old) (P.contents proof.new) (W.contents answer.old) (W.contents answer.new)) }
 {
-    let formula = match read_from(alloc, input) {
-        Ok(formula) => formula,
-        Err(fault) => return Err(RunFault::of_read(fault)),
-    };
-    let Ok(tree) = solve_one(alloc, &formula, budget) else {
-        return Err(RunFault::NoMemory);
-    };
-    let mut output = match output_of(alloc, &formula, budget, tree) {
-        Ok(output) => output,
-        Err(_) => return Err(RunFault::NoMemory),
-    };
-    write_proof(proof, &mut output.lines, &mut output.buffer)?;
-    write_text(answer, &output.answer, RunFault::AnswerWriteFailed)?;
-    Ok(output.verdict)
+    run_one_by_plan(alloc, input, answer, proof, Plan::ordered(budget))
 }

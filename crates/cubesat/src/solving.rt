@@ -5,9 +5,10 @@ use crate::arguments::Shown;
 use crate::fault::RunFault;
 use crate::fault_lines::{FAILED, Screen, print_fault_of, print_no_file};
 use crate::notes::{note_files, note_number, note_solve};
-use crate::threaded::run;
+use crate::threaded::run_by_plan;
 use crate::verdict::Verdict;
 use crate::watched::{Effort, run_counted};
+use cdcl::Plan;
 use cubes::OpenGate;
 use statistics::{Board, Stage, print_statistics, show_progress};
 use std::alloc::Global;
@@ -76,7 +77,7 @@ fn run_with_progress<
     result
 }
 
-/// A run with what is shown of it. It writes what `run` writes.
+/// A run with what is shown of it. It writes what `run_by_plan` writes.
 fn run_shown<
     R: Files + Threads + Wait + Clock + Sync,
     I: Read + Drop,
@@ -95,6 +96,7 @@ fn run_shown<
     screen: Screen,
 ) -> Result<Verdict, RunFault> {
     let board = Board::new(rt, Stage::Reading);
+    let hands = effort.hands;
     let result = if shown.progress {
         run_with_progress(
             rt, alloc, &board, effort, input, answer, proof, faults, screen,
@@ -104,7 +106,7 @@ fn run_shown<
     };
     if shown.stats {
         let figures = board.look(rt);
-        print_statistics(faults, &figures, effort.hands);
+        print_statistics(faults, &figures, hands);
     }
     result
 }
@@ -113,7 +115,7 @@ fn run_shown<
 pub(crate) fn solve<R: Files + Threads + Wait + Clock + Sync, W: Write, E: Write + Send>(
     rt: &R,
     alloc: Global,
-    budget: u32,
+    plan: Plan,
     hands: usize,
     path: &str,
     file: &str,
@@ -122,11 +124,10 @@ pub(crate) fn solve<R: Files + Threads + Wait + Clock + Sync, W: Write, E: Write
     faults: &mut E,
     screen: Screen,
 ) -> u8
-    requires budget { (1 ≤ budget) × (budget ≤ 100000) }
     requires hands { (1 ≤ hands) × (hands ≤ 16) }
 {
     if shown.verbose {
-        note_solve(faults, budget, hands, file, path);
+        note_solve(faults, plan, hands, file, path);
     }
     let Ok(input) = fs::open(rt, file) else {
         return print_no_file(faults, file, shown.verbose);
@@ -138,14 +139,12 @@ pub(crate) fn solve<R: Files + Threads + Wait + Clock + Sync, W: Write, E: Write
         return print_no_file(faults, path, shown.verbose);
     };
     let result = if shown.stats || shown.progress {
-        let effort = Effort { budget, hands };
+        let effort = Effort { plan, hands };
         run_shown(
             rt, alloc, effort, input, answer, &mut proof, shown, faults, screen,
         )
     } else {
-        run(
-            rt, alloc, input, answer, &mut proof, budget, hands, &OpenGate,
-        )
+        run_by_plan(rt, alloc, input, answer, &mut proof, plan, hands, &OpenGate)
     };
     match result {
         Ok(Verdict::Satisfiable) => SATISFIABLE,

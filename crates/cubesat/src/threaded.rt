@@ -1,5 +1,6 @@
 //! A run by several hands.
 ghost use Rattle.std.specs.Prelude.{◌≤◌, IfOk};
+ghost use Rattle.theory.specs.Plans.{ordered_within};
 ghost use Rattle.cubesat.specs.Answer.{IsRightAnswer};
 ghost use Rattle.cubesat.specs.Run.{RunSays};
 
@@ -8,8 +9,9 @@ use crate::output::write_text;
 use crate::proof_output::write_proof;
 use crate::runs::output_of;
 use crate::verdict::Verdict;
+use cdcl::Plan;
 use cnf::read_from;
-use cubes::{Gate, solve_with};
+use cubes::{Gate, solve_by_plan};
 use statistics::{Observer, Unobserved};
 use std::alloc::Global;
 use std::io::{Read, Write};
@@ -17,7 +19,7 @@ use std::sync::Wait;
 use std::thread::Threads;
 use std::time::Clock;
 
-/// The stages of `run`, each of which an observer is told of as it ends.
+/// The stages of `run_by_plan`, each of which an observer is told of as it ends.
 pub(crate) fn run_observed<
     T: Threads + Wait + Clock + Sync,
     R: Read + Drop,
@@ -31,14 +33,13 @@ pub(crate) fn run_observed<
     input: R,
     answer: &mut W,
     proof: &mut P,
-    budget: u32,
+    plan: Plan,
     hands: usize,
     gate: &G,
     observer: &O,
 ) -> Result<Verdict, RunFault>
-    requires budget { (1 ≤ budget) × (budget ≤ 100000) }
     requires hands { (1 ≤ hands) × (hands ≤ 16) }
-    ensures says { RunSays (R.remaining input) budget (P.contents proof.old) (P.contents proof.new) (W.contents answer.old) (W.contents answer.new) result }
+    ensures says { RunSays (R.remaining input) plan (P.contents proof.old) (P.contents proof.new) (W.contents answer.old) (W.contents answer.new) result }
     ensures answer_is_right { IfOk result (IsRightAnswer (R.remaining input) (P.contents proof.old) (P.contents proof.new) (W.contents answer.old) (W.contents answer.new)) }
 {
     let formula = match read_from(alloc, input) {
@@ -46,11 +47,11 @@ pub(crate) fn run_observed<
         Err(fault) => return Err(RunFault::of_read(fault)),
     };
     observer.read(&formula);
-    let Ok(tree) = solve_with(rt, alloc, &formula, budget, hands, gate) else {
+    let Ok(tree) = solve_by_plan(rt, alloc, &formula, plan, hands, gate) else {
         return Err(RunFault::NoMemory);
     };
     observer.solved(&tree);
-    let mut output = match output_of(alloc, &formula, budget, tree) {
+    let mut output = match output_of(alloc, &formula, plan, tree) {
         Ok(output) => output,
         Err(_) => return Err(RunFault::NoMemory),
     };
@@ -61,8 +62,35 @@ pub(crate) fn run_observed<
     Ok(output.verdict)
 }
 
-/// What `run_one` does, by 1 to 16 hands, each in a thread of its own where one can be started. Whatever the hands, the gate and the
+/// What `run_one_by_plan` does, by 1 to 16 hands, each in a thread of its own where one can be started. Whatever the hands, the gate and the
 /// schedule, the same bytes are written.
+pub fn run_by_plan<
+    T: Threads + Wait + Clock + Sync,
+    R: Read + Drop,
+    W: Write,
+    P: Write,
+    G: Gate + Sync,
+>(
+    rt: &T,
+    alloc: Global,
+    input: R,
+    answer: &mut W,
+    proof: &mut P,
+    plan: Plan,
+    hands: usize,
+    gate: &G,
+) -> Result<Verdict, RunFault>
+    requires hands { (1 ≤ hands) × (hands ≤ 16) }
+    ensures says { RunSays (R.remaining input) plan (P.contents proof.old) (P.contents proof.new) (W.contents answer.old) (W.contents answer.new) result }
+    ensures answer_is_right { IfOk result (IsRightAnswer (R.remaining input) (P.contents proof.old) (P.contents proof.new) (W.contents answer.old) (W.contents answer.new)) }
+{
+    let observer = Unobserved;
+    run_observed(
+        rt, alloc, input, answer, proof, plan, hands, gate, &observer,
+    )
+}
+
+/// `run_by_plan` by the ordered search, with a budget of 1 to 100,000 conflicts for the root.
 pub fn run<T: Threads + Wait + Clock + Sync, R: Read + Drop, W: Write, P: Write, G: Gate + Sync>(
     rt: &T,
     alloc: Global,
@@ -75,11 +103,9 @@ pub fn run<T: Threads + Wait + Clock + Sync, R: Read + Drop, W: Write, P: Write,
 ) -> Result<Verdict, RunFault>
     requires budget { (1 ≤ budget) × (budget ≤ 100000) }
     requires hands { (1 ≤ hands) × (hands ≤ 16) }
-    ensures says { RunSays (R.remaining input) budget (P.contents proof.old) (P.contents proof.new) (W.contents answer.old) (W.contents answer.new) result }
+    ensures says { RunSays (R.remaining input) (ordered_within budget) (P.contents proof.old) (P.contents proof.new) (W.contents answer.old) (W.contents answer.new) result }
     ensures answer_is_right { IfOk result (IsRightAnswer (R.remaining input) (P.contents proof.old) (P.contents proof.new) (W.contents answer.old) (W.contents answer.new)) }
 {
-    let observer = Unobserved;
-    run_observed(
-        rt, alloc, input, answer, proof, budget, hands, gate, &observer,
-    )
+    let plan = Plan::ordered(budget);
+    run_by_plan(rt, alloc, input, answer, proof, plan, hands, gate)
 }

@@ -6,6 +6,7 @@ use crate::checked_line::Checked;
 use crate::fault::RunFault;
 use crate::threaded::run_observed;
 use crate::verdict::Verdict;
+use cdcl::Plan;
 use statistics::{AnswerWriter, Board, CountedReader, CountedWriter, Watch};
 use std::alloc::Global;
 use std::fs::Files;
@@ -17,9 +18,8 @@ use std::time::Clock;
 /// How a formula is to be solved.
 #[derive(Clone, Copy)]
 pub(crate) struct Effort {
-    pub(crate) budget: u32,
+    pub(crate) plan: Plan,
     pub(crate) hands: usize,
-    ghost budget_fits: { (1 ≤ budget) × (budget ≤ 100000) },
     ghost hands_fit: { (1 ≤ hands) × (hands ≤ 16) },
 }
 
@@ -53,7 +53,7 @@ pub(crate) fn run_counted<
         input,
         &mut answering,
         &mut counted,
-        effort.budget,
+        effort.plan,
         effort.hands,
         &watch,
         &watch,

@@ -4,6 +4,7 @@ use Rattle.std.proofs.lemmas.List.Elements.{All-nil}
 use Rattle.std.specs.Vec.Iter.{into_iter_items}
 use Rattle.theory.specs.Literals.{Literal}
 use Rattle.theory.specs.Truth.{Formula, IsFormula}
+use Rattle.theory.specs.Plans.{Plan}
 use Rattle.theory.specs.Pure.{pure_literals}
 use Rattle.theory.specs.Reading.{IsWithinLimits, max_vars, max_clauses}
 use Rattle.theory.specs.Search.{first_clauses}
@@ -39,11 +40,11 @@ first-count : (F : Formula) (units : List Literal) (C N : ℕ) → C ≡ length 
 first-count F units C N clauses count are = let all = ap (λ (ls : List Literal). length ls) are in let first = length-first_clauses F in omega arith
 
 -- the nodes of a formula's result are within their limits
-result-nodes : (F : Formula) (B C N : ℕ) (tree : Tree) (units : List Literal) (nodes : List Node) → IsWithinLimits F → C ≡ length F.clauses → N ≡ C + length units → AreUnitsOf F tree units → IsResultOf F B tree → AreNodesOf tree nodes
+result-nodes : (F : Formula) (plan : Plan) (C N : ℕ) (tree : Tree) (units : List Literal) (nodes : List Node) → IsWithinLimits F → C ≡ length F.clauses → N ≡ C + length units → AreUnitsOf F tree units → IsResultOf F plan tree → AreNodesOf tree nodes
     → AreNodes N (map node_of nodes)
-result-nodes F B C N (Model values) units nodes within clauses count are r same = rw same tt
-result-nodes F B C N (Refuted ns) units nodes within clauses count are r same =
-    rw (same, first-count F units C N clauses count are, r.2) (tree-nodes F B [] r.0 within refl (λ l a. absurd (cc)) r.1.0)
+result-nodes F plan C N (Model values) units nodes within clauses count are r same = rw same tt
+result-nodes F plan C N (Refuted ns) units nodes within clauses count are r same =
+    rw (same, first-count F units C N clauses count are, r.2) (tree-nodes F plan [] r.0 within refl (λ l a. absurd (cc)) r.1.0)
 
 -- the lines from the first one on are the tree's proof
 whole-proof : (F : Formula) (N : ℕ) (t : trees.Tree) (units : List Literal) (nodes : List Node) → units ≡ pure_literals F → N ≡ length (first_clauses F) → trees.first_model t ≡ None → trees.nodes_of t ≡ map node_of nodes
@@ -66,16 +67,16 @@ begun-steps l F N (Refuted ns) units nodes unit here due begun count are same = 
     (whole-proof F N t units nodes are (first-count F units (length F.clauses) N refl count are) none (of_tree ∙ ap (map node_of) (sym same)))
 
 -- the checker accepts the steps of a result that is no model
-pub accepted-steps : (F : Formula) (B : ℕ) (tree : Tree) (steps : List Step) → IsFormula F → IsResultOf F B tree → AreStepsOf F tree steps → AreAccepted F tree steps
-accepted-steps F B (Model values) steps is_formula result are = record {}
-accepted-steps F B (Refuted nodes) steps is_formula result are =
-    ap (checks F) (are result.0 result.1.1 (sym result.2)) ∙ checks-proof F B result.0 is_formula result.1.0 result.1.1
+pub accepted-steps : (F : Formula) (plan : Plan) (tree : Tree) (steps : List Step) → IsFormula F → IsResultOf F plan tree → AreStepsOf F tree steps → AreAccepted F tree steps
+accepted-steps F plan (Model values) steps is_formula result are = record {}
+accepted-steps F plan (Refuted nodes) steps is_formula result are =
+    ap (checks F) (are result.0 result.1.1 (sym result.2)) ∙ checks-proof F plan result.0 is_formula result.1.0 result.1.1
 
 -- their numbers are within the limits
-pub within-steps : (F : Formula) (B : ℕ) (tree : Tree) (steps : List Step) → IsWithinLimits F → IsResultOf F B tree → AreStepsOf F tree steps → AreWithin steps
-within-steps F B (Model values) steps within result are = λ short. rw are (All-nil IsStep)
-within-steps F B (Refuted nodes) steps within result are =
-    rw (are result.0 result.1.1 (sym result.2)) (λ short. proof-within F B result.0 within result.1.0 result.1.1 short)
+pub within-steps : (F : Formula) (plan : Plan) (tree : Tree) (steps : List Step) → IsWithinLimits F → IsResultOf F plan tree → AreStepsOf F tree steps → AreWithin steps
+within-steps F plan (Model values) steps within result are = λ short. rw are (All-nil IsStep)
+within-steps F plan (Refuted nodes) steps within result are =
+    rw (are result.0 result.1.1 (sym result.2)) (λ short. proof-within F plan result.0 within result.1.0 result.1.1 short)
 
 -- what is kept before the first line
 walk-begun : (w : Walk) (N : ℕ) (nodes : List Node) → IsBegun N nodes w → N ≤ max_clauses + max_vars → AreNodes N (map node_of nodes) → IsAt w w.next
@@ -93,15 +94,15 @@ walk-begun w N nodes begun few are =
       nodes = rw (begun.nodes, begun.clauses) are;
     }
 
-pub IsBetweenLines-begun : (l : Lines) (F : Formula) (B N : ℕ) (tree : Tree) (units : List Literal) (nodes : List Node) → IsWithinLimits F → l.unit ≡ length F.clauses + 1 → into_iter_items l.units ≡ units → l.due ≡ Nothing
-    → IsBegun N nodes l.walk → N ≡ length F.clauses + length units → AreUnitsOf F tree units → IsResultOf F B tree → AreNodesOf tree nodes → IsBetweenLines l
-IsBetweenLines-begun l F B N tree units nodes within unit here due begun count are result same =
+pub IsBetweenLines-begun : (l : Lines) (F : Formula) (plan : Plan) (N : ℕ) (tree : Tree) (units : List Literal) (nodes : List Node) → IsWithinLimits F → l.unit ≡ length F.clauses + 1 → into_iter_items l.units ≡ units → l.due ≡ Nothing
+    → IsBegun N nodes l.walk → N ≡ length F.clauses + length units → AreUnitsOf F tree units → IsResultOf F plan tree → AreNodesOf tree nodes → IsBetweenLines l
+IsBetweenLines-begun l F plan N tree units nodes within unit here due begun count are result same =
     let few = few-units F tree units within are in
     let clauses = within.clauses in
     let next = begun.next in
     let long = ap (λ (ls : List Literal). length ls) here in
     record {
-      walk = walk-begun l.walk N nodes begun (omega arith) (result-nodes F B (length F.clauses) N tree units nodes within refl count are result same);
+      walk = walk-begun l.walk N nodes begun (omega arith) (result-nodes F plan (length F.clauses) N tree units nodes within refl count are result same);
       fits = omega arith;
       due = rw due tt;
       unit = omega arith;

@@ -3,6 +3,7 @@ use Rattle.std.proofs.Common.{◌≡◌, ℕ, ◌+◌, ◌<◌, ◌≤◌, true,
 use Rattle.std.proofs.lemmas.List.Elements.{All-nil, All-cons, All-weaker}
 use Rattle.theory.specs.Literals.{Literal, Clause, IsVariable, positive, negative, negations, are_distinct}
 use Rattle.theory.specs.Truth.{Formula}
+use Rattle.theory.specs.Plans.{Plan}
 use Rattle.theory.specs.Reading.{IsWithinLimits, max_vars}
 use Rattle.theory.specs.Learning.{Line}
 use Rattle.theory.specs.Search.{refuted, exhausted, first_clauses}
@@ -67,17 +68,17 @@ nodes-append N [] ms h k = k
 nodes-append N (n ∷ ns) ms h k = (h.0, nodes-append N ns ms h.1 k)
 
 -- the nodes of a cube's tree
-pub tree-nodes : (F : Formula) (B : ℕ) (Q : List Literal) (t : Tree) → IsWithinLimits F → are_distinct Q ≡ true → AreOver F.vars Q → IsTree F B Q t → AreNodes (length (first_clauses F)) (nodes_of t)
-tree-nodes F B Q (satisfied M) within distinct over h = tt
-tree-nodes F B Q (refutation lines) within distinct over h =
-    (refutation-lines F Q lines within (Runs-says F B Q (refuted lines) within.formula distinct (IsOver-from_AreOver F.vars Q over) h).1, tt)
-tree-nodes F B Q (split x l r) within distinct over h =
-    let says = Runs-says F B Q (exhausted x) within.formula distinct (IsOver-from_AreOver F.vars Q over) h.0 in
+pub tree-nodes : (F : Formula) (plan : Plan) (Q : List Literal) (t : Tree) → IsWithinLimits F → are_distinct Q ≡ true → AreOver F.vars Q → IsTree F plan Q t → AreNodes (length (first_clauses F)) (nodes_of t)
+tree-nodes F plan Q (satisfied M) within distinct over h = tt
+tree-nodes F plan Q (refutation lines) within distinct over h =
+    (refutation-lines F Q lines within (Runs-says F plan Q (refuted lines) within.formula distinct (IsOver-from_AreOver F.vars Q over) h).1, tt)
+tree-nodes F plan Q (split x l r) within distinct over h =
+    let says = Runs-says F plan Q (exhausted x) within.formula distinct (IsOver-from_AreOver F.vars Q over) h.0 in
     let low = says.0.0 in
     let high = says.0.1 in
     let few = within.vars in (
       (low, omega arith),
       nodes-append (length (first_clauses F)) (nodes_of l) (nodes_of r)
-          (tree-nodes F B (false_half Q x) l within (are_distinct-push Q (negative x) distinct says.1) (AreOver-snoc F.vars Q (negative x) over says.0) h.1)
-          (tree-nodes F B (true_half Q x) r within (are_distinct-push Q (positive x) distinct says.1) (AreOver-snoc F.vars Q (positive x) over says.0) h.2),
+          (tree-nodes F plan (false_half Q x) l within (are_distinct-push Q (negative x) distinct says.1) (AreOver-snoc F.vars Q (negative x) over says.0) h.1)
+          (tree-nodes F plan (true_half Q x) r within (are_distinct-push Q (positive x) distinct says.1) (AreOver-snoc F.vars Q (positive x) over says.0) h.2),
     )

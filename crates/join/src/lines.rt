@@ -3,6 +3,7 @@
 ghost use Rattle.std.specs.Prelude.{◌≡◌, ℕ, ◌+◌, ◌≤◌, [], IfOk};
 ghost use Rattle.std.specs.Bool.{OnFalse};
 ghost use Rattle.std.specs.Vec.Iter.{into_iter_items};
+ghost use Rattle.theory.specs.Plans.{Plan};
 ghost use Rattle.theory.specs.ProofReading.{IsStep, max_number};
 ghost use Rattle.cubes.specs.Result.{IsResultOf};
 ghost use Rattle.join.specs.Numbered.{AreNodesOf, AreUnitsOf, AreStepsOf, AreAccepted, AreWithin};
@@ -64,7 +65,7 @@ impl Lines {
     /// The lines for a formula's result: those of its pure literals and of its tree, and none for a model. All memory that they need is asked
     /// for here; it fails only where that is refused.
     pub fn of(alloc: Global, formula: &Formula, tree: Tree) -> Result<Lines, AllocError>
-        requires { (budget : ℕ) × IsResultOf formula.now budget tree }
+        requires { (plan : Plan) × IsResultOf formula.now plan tree }
         ensures steps { IfOk result (λ l. AreStepsOf formula.now tree (lines_left l)) }
         ensures within { IfOk result (λ l. AreWithin (lines_left l)) }
         ensures accepted { IfOk result (λ l. AreAccepted formula.now tree (lines_left l)) }

@@ -3,25 +3,25 @@ use Rattle.std.proofs.Common.{◌≡◌, ℕ, zero, suc, ◌+◌, ◌≤◌, Boo
 use Rattle.std.proofs.lemmas.List.Elements.{All-weaker}
 use Rattle.theory.specs.Literals.{Literal}
 use Rattle.theory.specs.Truth.{Formula}
-use Rattle.theory.specs.Search.{exhausted}
+use Rattle.theory.specs.Plans.{Plan}
 use Rattle.theory.specs.Trees.{IsCubeOf}
 use Rattle.theory.specs.Places.{place_of}
 use Rattle.theory.specs.Results.{Solved, IsModel}
-use Rattle.theory.specs.Ledger.{Call, offer, look, halt, Ledger, all_got, both, joined, times, is_more, is_less, is_look}
+use Rattle.theory.specs.Ledger.{offer, look, halt, Ledger, all_got, both, times, is_more, is_less, is_look}
 use Rattle.theory.specs.Work.{IsHalfOfGot, IsFoundedOn, IsTruthful, IsPassedOver, IsHandedOn, IsDealtWith, IsThorough, WentHome, IsWork}
 use Rattle.theory.specs.Round.{HasWorked}
 use Rattle.pool.specs.Pools.{new_ledger}
 
 -- two ledgers with the same cubes put and got, and the same calls
-module _ (F : Formula) (B : ℕ) (l m : Ledger) (results : List Solved) (put : m.put ≡ l.put) (got : all_got m ≡ all_got l) (calls : m.calls ≡ l.calls) where
-  half_same : (Q : List Literal) → IsHalfOfGot F B l Q → IsHalfOfGot F B m Q
+module _ (F : Formula) (plan : Plan) (l m : Ledger) (results : List Solved) (put : m.put ≡ l.put) (got : all_got m ≡ all_got l) (calls : m.calls ≡ l.calls) where
+  half_same : (Q : List Literal) → IsHalfOfGot F plan l Q → IsHalfOfGot F plan m Q
   half_same Q h = record { parent = h.parent; literal = h.literal; is_half = h.is_half; is_got = subst (λ g. Contains g h.parent) (sym got) h.is_got; is_exhausted = h.is_exhausted }
 
-  truthful_same : IsTruthful F B l results → IsTruthful F B m results
+  truthful_same : IsTruthful F plan l results → IsTruthful F plan m results
   truthful_same h = record {
     true_of = h.true_of;
-    of_got = subst (λ g. All (λ r. Any (λ R. IsCubeOf F B R r.cube) g) results) (sym got) h.of_got;
-    halves = subst (λ p. All (IsHalfOfGot F B m) p) (sym put) (All-weaker (IsHalfOfGot F B l) (IsHalfOfGot F B m) half_same l.put h.halves);
+    of_got = subst (λ g. All (λ r. Any (λ R. IsCubeOf F plan R r.cube) g) results) (sym got) h.of_got;
+    halves = subst (λ p. All (IsHalfOfGot F plan m) p) (sym put) (All-weaker (IsHalfOfGot F plan l) (IsHalfOfGot F plan m) half_same l.put h.halves);
     once = λ Q k. subst (λ p. times (Q ++ k ∷ []) p ≤ times Q (all_got m)) (sym put) (subst (λ g. times (Q ++ k ∷ []) l.put ≤ times Q g) (sym got) (h.once Q k));
     offers = subst (λ c. All (IsFoundedOn results) c) (sym calls) h.offers;
   }
@@ -29,11 +29,11 @@ module _ (F : Formula) (B : ℕ) (l m : Ledger) (results : List Solved) (put : m
   passed_same : (Q : List Literal) → IsPassedOver l results Q → IsPassedOver m results Q
   passed_same Q h = record { place = h.place; seen = subst (λ c. Contains c (look (Some h.place))) (sym calls) h.seen; below = h.below; result = h.result }
 
-  handed_same : (Q : List Literal) → IsHandedOn F B l results Q → IsHandedOn F B m results Q
+  handed_same : (Q : List Literal) → IsHandedOn F plan l results Q → IsHandedOn F plan m results Q
   handed_same Q (inl c) = inl (subst (λ p. Contains p Q) (sym put) c)
   handed_same Q (inr f) = inr f
 
-  dealt_same : (Q : List Literal) → IsDealtWith F B l results Q → IsDealtWith F B m results Q
+  dealt_same : (Q : List Literal) → IsDealtWith F plan l results Q → IsDealtWith F plan m results Q
   dealt_same Q h = record {
     seen = h.seen;
     looked = subst (λ c. Contains c (look h.seen)) (sym calls) h.looked;
@@ -43,21 +43,21 @@ module _ (F : Formula) (B : ℕ) (l m : Ledger) (results : List Solved) (put : m
     halves = λ k e. handed_same (Q ++ k ∷ []) (h.halves k e);
   }
 
-  each_same : (Q : List Literal) → IsPassedOver l results Q ⊎ IsDealtWith F B l results Q → IsPassedOver m results Q ⊎ IsDealtWith F B m results Q
+  each_same : (Q : List Literal) → IsPassedOver l results Q ⊎ IsDealtWith F plan l results Q → IsPassedOver m results Q ⊎ IsDealtWith F plan m results Q
   each_same Q (inl h) = inl (passed_same Q h)
   each_same Q (inr h) = inr (dealt_same Q h)
 
-  thorough_same : IsThorough F B l results → IsThorough F B m results
+  thorough_same : IsThorough F plan l results → IsThorough F plan m results
   thorough_same h = record {
-    each_got = subst (λ g. All (λ Q. IsPassedOver m results Q ⊎ IsDealtWith F B m results Q) g) (sym got)
-        (All-weaker (λ Q. IsPassedOver l results Q ⊎ IsDealtWith F B l results Q) (λ Q. IsPassedOver m results Q ⊎ IsDealtWith F B m results Q) each_same (all_got l) h.each_got);
+    each_got = subst (λ g. All (λ Q. IsPassedOver m results Q ⊎ IsDealtWith F plan m results Q) g) (sym got)
+        (All-weaker (λ Q. IsPassedOver l results Q ⊎ IsDealtWith F plan l results Q) (λ Q. IsPassedOver m results Q ⊎ IsDealtWith F plan m results Q) each_same (all_got l) h.each_got);
     offered = subst (λ c. All (λ r. IsModel r.what → Contains c (offer (place_of r.cube))) results) (sym calls) h.offered;
     looks = ap (count_by is_look) calls ∙ h.looks ∙ sym (ap length got);
     balance = ap₂ (λ c g. count_by is_more c + length g) calls got ∙ h.balance ∙ sym (ap₂ (λ c p. count_by is_less c + length p) calls put);
     no_halt = λ c. h.no_halt (subst (λ d. Contains d halt) calls c);
   }
 
-  pub work_same : (is_short : Bool) → IsWork F B is_short l results → IsWork F B is_short m results
+  pub work_same : (is_short : Bool) → IsWork F plan is_short l results → IsWork F plan is_short m results
   work_same is_short h = record {
     truthful = truthful_same h.truthful;
     thorough = λ e. thorough_same (h.thorough e);
@@ -74,9 +74,9 @@ got_none (suc n) [] = none_got n
 got_none (suc n) (cubes ∷ got) = ap (λ g. cubes ++ g) (got_none n got)
 
 -- from the ledger of a new hand on, what was added is the work
-pub HasWorked-new : (F : Formula) (B : ℕ) (is_short : Bool) (hands : ℕ) (last : Ledger) (results : List Solved) → HasWorked F B is_short (new_ledger hands) last results → IsWork F B is_short last results
-HasWorked-new F B is_short hands last results h =
-    work_same F B h.added last results
+pub HasWorked-new : (F : Formula) (plan : Plan) (is_short : Bool) (hands : ℕ) (last : Ledger) (results : List Solved) → HasWorked F plan is_short (new_ledger hands) last results → IsWork F plan is_short last results
+HasWorked-new F plan is_short hands last results h =
+    work_same F plan h.added last results
     (ap (λ (l : Ledger). l.put) h.is_last)
     (ap all_got h.is_last ∙ got_none hands h.added.got)
     (ap (λ (l : Ledger). l.calls) h.is_last)

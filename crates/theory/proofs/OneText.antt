@@ -1,6 +1,7 @@
--- The bytes and the budget fix the proof and the answer.
+-- The bytes and the plan fix the proof and the answer.
 use Rattle.std.proofs.Common.{◌≡◌, ℕ, List, [], ◌⊎◌, inl, inr, sym, ap, ◌∙◌, subst, Option, Some}
 use Rattle.theory.specs.Truth.{Formula}
+use Rattle.theory.specs.Plans.{Plan}
 use Rattle.theory.specs.Proofs.{proof}
 use Rattle.theory.specs.Texts.{proof_text, answer_text}
 use Rattle.theory.specs.Reading.{Token, IsReadable, Reads, formula, tokens_in, tokens_of}
@@ -29,17 +30,17 @@ pub satisfiable-same : (F : Formula) (p a q b : List ℕ) → IsSatisfiableText 
 satisfiable-same F p a q b s t =
     (s.proof_is ∙ sym t.proof_is, s.answer_is ∙ ap (λ m. answer_text (Some m)) (IsFirst-unique F s.model t.model s.first t.first) ∙ sym t.answer_is)
 
-pub unsatisfiable-same : (F : Formula) (B : ℕ) (p a q b : List ℕ) → IsUnsatisfiableText F B p a → IsUnsatisfiableText F B q b → Same p a q b
-unsatisfiable-same F B p a q b s t =
-    (s.proof_is ∙ ap (λ u. proof_text (proof F u)) (IsTree-unique F B [] s.tree t.tree s.is_tree t.is_tree) ∙ sym t.proof_is, s.answer_is ∙ sym t.answer_is)
+pub unsatisfiable-same : (F : Formula) (plan : Plan) (p a q b : List ℕ) → IsUnsatisfiableText F plan p a → IsUnsatisfiableText F plan q b → Same p a q b
+unsatisfiable-same F plan p a q b s t =
+    (s.proof_is ∙ ap (λ u. proof_text (proof F u)) (IsTree-unique F plan [] s.tree t.tree s.is_tree t.is_tree) ∙ sym t.proof_is, s.answer_is ∙ sym t.answer_is)
 
-texts-same : (F : Formula) (B : ℕ) (p a q b : List ℕ) → IsSatisfiableText F p a ⊎ IsUnsatisfiableText F B p a
-    → IsSatisfiableText F q b ⊎ IsUnsatisfiableText F B q b → Same p a q b
-texts-same F B p a q b (inl s) (inl t) = satisfiable-same F p a q b s t
-texts-same F B p a q b (inl s) (inr t) = absurd (t.unsatisfiable (s.model, s.first.satisfies))
-texts-same F B p a q b (inr s) (inl t) = absurd (s.unsatisfiable (t.model, t.first.satisfies))
-texts-same F B p a q b (inr s) (inr t) = unsatisfiable-same F B p a q b s t
+texts-same : (F : Formula) (plan : Plan) (p a q b : List ℕ) → IsSatisfiableText F p a ⊎ IsUnsatisfiableText F plan p a
+    → IsSatisfiableText F q b ⊎ IsUnsatisfiableText F plan q b → Same p a q b
+texts-same F plan p a q b (inl s) (inl t) = satisfiable-same F p a q b s t
+texts-same F plan p a q b (inl s) (inr t) = absurd (t.unsatisfiable (s.model, s.first.satisfies))
+texts-same F plan p a q b (inr s) (inl t) = absurd (s.unsatisfiable (t.model, t.first.satisfies))
+texts-same F plan p a q b (inr s) (inr t) = unsatisfiable-same F plan p a q b s t
 
-pub IsWritten-one : (bytes : List ℕ) (B : ℕ) (p a q b : List ℕ) → IsWritten bytes B p a → IsWritten bytes B q b → Same p a q b
-IsWritten-one bytes B p a q b s t =
-    texts-same t.value B p a q b (subst (λ F. IsSatisfiableText F p a ⊎ IsUnsatisfiableText F B p a) (Reads-one_formula bytes s.value t.value s.reads t.reads) s.texts) t.texts
+pub IsWritten-one : (bytes : List ℕ) (plan : Plan) (p a q b : List ℕ) → IsWritten bytes plan p a → IsWritten bytes plan q b → Same p a q b
+IsWritten-one bytes plan p a q b s t =
+    texts-same t.value plan p a q b (subst (λ F. IsSatisfiableText F p a ⊎ IsUnsatisfiableText F plan p a) (Reads-one_formula bytes s.value t.value s.reads t.reads) s.texts) t.texts

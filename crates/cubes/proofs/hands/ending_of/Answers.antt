@@ -1,7 +1,7 @@
 use Rattle.std.proofs.Common.{ap}
-use Rattle.theory.proofs.SplitSoundness.{exhausted-free}
+use Rattle.theory.proofs.PlanLemmas.{Runs-free}
 use Rattle.cdcl.specs.Outcome.{outcome_of}
 use Rattle.cubes.proofs.hands.ending_of.Goals as goal
 
 pub returns-in-Exhausted : goal.returns-in-Exhausted
-returns-in-Exhausted c F B Q runs = let free = exhausted-free F B Q c.in-Exhausted.var (rw c.in-Exhausted.is at runs) in (ap outcome_of c.in-Exhausted.is, free.0, free.1)
+returns-in-Exhausted c F plan Q runs = let free = Runs-free F plan Q c.in-Exhausted.var (rw c.in-Exhausted.is at runs) in (ap outcome_of c.in-Exhausted.is, free.0, free.1)

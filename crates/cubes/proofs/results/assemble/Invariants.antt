@@ -1,5 +1,6 @@
-use Rattle.std.proofs.Common.{ℕ, suc, map, length, sum_by}
+use Rattle.std.proofs.Common.{suc, map, length, sum_by}
 use Rattle.theory.specs.Truth.{Formula}
+use Rattle.theory.specs.Plans.{Plan}
 use Rattle.theory.specs.Results.{IsWhole}
 use Rattle.cubes.specs.Solved.{solved_of}
 use Rattle.cubes.specs.Walk.{nodes_of}
@@ -8,11 +9,11 @@ use Rattle.cubes.proofs.Remaining.{left_from}
 use Rattle.cubes.proofs.WholeWalks.{AreStillThere}
 use Rattle.cubes.proofs.results.assemble.Given as goal
 
--- for whatever formula and budget the results are whole, the cube is reached, with the nodes before it; and what is needed from here on
+-- for whatever formula and plan the results are whole, the cube is reached, with the nodes before it; and what is needed from here on
 -- is still there
 abbrev pub invariant-cubes : goal.invariant-cubes
 invariant-cubes l = record {
-  reached : (F : Formula) (B : ℕ) → IsWhole F B (map solved_of l.fn.results.items) → IsReached F B l.walk.cube (nodes_of l.walk);
+  reached : (F : Formula) (plan : Plan) → IsWhole F plan (map solved_of l.fn.results.items) → IsReached F plan l.walk.cube (nodes_of l.walk);
   still : AreStillThere l.initial.known l.known l.walk.cube;
 }
 

@@ -1,5 +1,6 @@
+use Rattle.theory.specs.Plans.{ordered_within}
 use Rattle.cubes.specs.Solved.{AreTrueResults}
 use Rattle.cubes_tests.proofs.results.gathered.Given as goal
 
 abbrev pub invariant-loop-row : goal.invariant-loop-row
-invariant-loop-row l = AreTrueResults l.formula 1 l.results.items
+invariant-loop-row l = AreTrueResults l.formula (ordered_within 1) l.results.items

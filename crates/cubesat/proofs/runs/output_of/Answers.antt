@@ -4,5 +4,5 @@ use Rattle.cubesat.proofs.runs.output_of.Goals as goal
 
 pub returns-clause-texts : goal.returns-clause-texts
 returns-clause-texts c =
-    result-texts c.args.formula.now c.args.budget c.args.tree _ (lines_left c.in_ok-lines.lines) _ c.requires.result c.requires.says c.in_ok-verdict.ensures
+    result-texts c.args.formula.now c.args.plan c.args.tree _ (lines_left c.in_ok-lines.lines) _ c.requires.result c.requires.says c.in_ok-verdict.ensures
     c.in_ok-lines.ensures.steps c.in_ok-lines.ensures.within c.in_ok-lines.ensures.accepted

@@ -1,4 +1,5 @@
+use Rattle.theory.specs.Plans.{ordered_within}
 use Rattle.join_tests.proofs.joined.has_room.Goals as goal
 
 pub of-requires : goal.of-requires
-of-requires c = (c.args.budget, c.in_ok-tree.ensures.result)
+of-requires c = (ordered_within c.args.budget, c.in_ok-tree.ensures.result)

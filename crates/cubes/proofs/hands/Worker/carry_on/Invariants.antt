@@ -9,7 +9,7 @@ invariant-cubes l = record {
   hand : l.self.hand ≡ l.initial.self.hand;
   worker : IsWorker l.formula l.self;
   depth : l.depth ≡ length l.fn.half;
-  carrying : IsCarryingAt l.formula l.budget l.fn.half l.cube l.initial.self.solved.items l.self.solved.items;
+  carrying : IsCarryingAt l.formula l.plan l.fn.half l.cube l.initial.self.solved.items l.self.solved.items;
 }
 
 abbrev pub decreases-cubes : goal.decreases-cubes

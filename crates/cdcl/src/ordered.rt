@@ -1,0 +1,175 @@
+//! The ordered search in one cube, up to a budget of conflicts.
+ghost use Rattle.std.specs.Prelude.{◌≡◌, ◌≤◌, ◌<◌, ◌^◌, ◌+◌, ◌++◌, ◌∷◌, [], false, Some, IfOk, OnOk};
+ghost use Rattle.theory.specs.Truth.{Formula, IsOver};
+ghost use Rattle.theory.specs.Trails.{literals, current_level, least_free};
+ghost use Rattle.theory.specs.Propagation.{Propagates, quiet, conflict, least_false};
+ghost use Rattle.theory.specs.Lawful.{IsLawful};
+ghost use Rattle.theory.specs.Learning.{learn};
+ghost use Rattle.theory.specs.Search.{RunsFrom, values, refuted};
+ghost use Rattle.theory.specs.Ordered.{IsOrderedStep, after, learnt_next};
+ghost use Rattle.theory.specs.Ordered as definition;
+ghost use Rattle.cdcl.specs.Outcome.{outcome_of};
+ghost use Rattle.cdcl.specs.Searching.{IsReady, IsSearching, IsSearchStep, Begins, GoesOn, search_of, next_of};
+
+use crate::analysis::analyze_in;
+use crate::marks::Room;
+use crate::outcome::{Line, Outcome, Refutation};
+use cnf::{Formula, Lit};
+use kernel::{Closed, Cube, Kernel};
+use std::alloc::{AllocError, Global};
+use std::mem;
+
+/// The state of a search.
+#[derive(Drop)]
+pub(crate) struct OrderedSearch {
+    pub(crate) kernel: Kernel,
+    /// How many conflicts above level 0 were counted.
+    pub(crate) conflicts: u32,
+    /// The first variable that was decided.
+    pub(crate) decided: Option<u32>,
+    /// The lines learnt.
+    pub(crate) lines: Vec<Line>,
+    /// Room for the analysis of conflicts.
+    pub(crate) room: Room,
+}
+
+/// The truth values on the trail.
+fn values(alloc: Global, kernel: &Kernel) -> Result<Vec<bool>, AllocError>
+    requires { IsLawful kernel.now.clauses kernel.now.trail }
+    ensures { IfOk result (λ v. v.items ≡ values kernel.now.vars kernel.now.trail) }
+{
+    let vars = kernel.vars();
+    let mut values = Vec::with_capacity(alloc, vars as usize)?;
+    for index in 0..vars {
+        values.push(kernel.value(index + 1).unwrap_or(false))?;
+    }
+    Ok(values)
+}
+
+impl OrderedSearch {
+    /// A search of a formula, before its first cube: over its clauses, and behind them a unit clause for each pure literal.
+    pub(crate) fn open(alloc: Global, formula: &Formula) -> Result<OrderedSearch, AllocError>
+        ensures { IfOk result (λ s. IsReady formula.now s.kernel) }
+    {
+        let units = formula.pure(alloc)?;
+        Ok(OrderedSearch {
+            kernel: Kernel::open_with(alloc, formula, &units, &Cube::root(alloc))?,
+            conflicts: 0,
+            decided: None,
+            lines: Vec::new(alloc),
+            room: Room::new(),
+        })
+    }
+
+    /// Goes over to a cube, of which nothing is counted, decided or learnt yet.
+    pub(crate) fn begin(&mut self, cube: &Cube) -> Result<(), AllocError>
+        requires { self.old.kernel.short ≡ false → IsOver self.old.kernel.vars cube.now }
+        ensures { OnOk result ((F : Formula) → IsReady F self.old.kernel → Begins F cube.now self.new) }
+    {
+        self.kernel.restart(cube)?;
+        self.conflicts = 0;
+        self.decided = None;
+        self.lines.clear();
+        Ok(())
+    }
+
+    /// The outcome of the cube that was begun.
+    pub(crate) fn run(&mut self, budget: u32) -> Result<Outcome, AllocError>
+        requires searching { IsSearching self.old.kernel }
+        requires counted { self.old.conflicts < budget }
+        ensures runs { IfOk result (λ o. RunsFrom (IsOrderedStep self.old.kernel.vars budget) (search_of self.old) (outcome_of o)) }
+        ensures kept { OnOk result (GoesOn self.old.kernel self.new.kernel) }
+    {
+        'steps: loop {
+            if let Some(outcome) = self.step(budget)? {
+                return Ok(outcome);
+            }
+        }
+    }
+
+    /// Propagation and what follows its answer.
+    fn step(&mut self, budget: u32) -> Result<Option<Outcome>, AllocError>
+        requires searching { IsSearching self.old.kernel }
+        requires counted { self.old.conflicts < budget }
+        ensures { IfOk result (λ r. IsSearchStep budget self.old r self.new) }
+    {
+        match self.kernel.close()? {
+            Closed::Quiet => self.on_quiet(),
+            Closed::Conflict(number) => self.on_conflict(number, budget),
+        }
+    }
+
+    /// Where propagation came to rest: decides the least free variable to be false, or gives the model where none is free.
+    fn on_quiet(&mut self) -> Result<Option<Outcome>, AllocError>
+        requires searching { IsSearching self.old.kernel }
+        requires quiet { Propagates self.old.kernel.clauses self.old.kernel.trail quiet self.old.kernel.trail }
+        ensures next { IfOk result (λ r. definition.on_quiet self.old.kernel.vars (search_of self.old)
+            (least_free self.old.kernel.vars self.old.kernel.trail) ≡ next_of r self.new) }
+        ensures kept { OnOk result (GoesOn self.old.kernel self.new.kernel) }
+    {
+        match self.kernel.least_free() {
+            None => {
+                let alloc = *self.lines.allocator();
+                Ok(Some(Outcome::Model(values(alloc, &self.kernel)?)))
+            }
+            Some(var) => {
+                self.kernel.decide(Lit::of(var, false));
+                if self.decided.is_none() {
+                    self.decided = Some(var);
+                }
+                Ok(None)
+            }
+        }
+    }
+
+    /// A conflict above level 0 is counted; the last one that the budget allows exhausts the cube.
+    fn on_conflict(&mut self, number: u64, budget: u32) -> Result<Option<Outcome>, AllocError>
+        requires searching { IsSearching self.old.kernel }
+        requires conflict { least_false (literals self.old.kernel.trail) self.old.kernel.clauses ≡ Some number }
+        requires counted { self.old.conflicts < budget }
+        ensures next { IfOk result (λ r. after self.old.kernel.vars budget (search_of self.old) (conflict number) ≡ next_of r self.new) }
+        ensures kept { OnOk result (GoesOn self.old.kernel self.new.kernel) }
+    {
+        if self.kernel.level() == 0 {
+            return Ok(Some(self.refute(number)?));
+        }
+        if self.conflicts + 1 == budget {
+            return Ok(Some(Outcome::Exhausted(self.decided.unwrap_or(0))));
+        }
+        self.go_back(number)?;
+        Ok(None)
+    }
+
+    /// A conflict at level 0: the cube is refuted.
+    fn refute(&mut self, number: u64) -> Result<Outcome, AllocError>
+        requires { least_false (literals self.old.kernel.trail) self.old.kernel.clauses ≡ Some number }
+        ensures kept { self.new.kernel ≡ self.old.kernel }
+        ensures refuted { IfOk result (λ o. outcome_of o
+            ≡ refuted (self.old.lines.items ++ learn self.old.kernel.clauses self.old.kernel.trail number ∷ [])) }
+    {
+        let alloc = *self.lines.allocator();
+        let learnt = analyze_in(alloc, &self.kernel, &mut self.room, number)?;
+        self.lines.push(Line::new(learnt.clause, learnt.hints))?;
+        let lines = mem::replace(&mut self.lines, Vec::new(alloc));
+        Ok(Outcome::Refuted(Refutation { lines }))
+    }
+
+    /// A conflict that is learnt from: goes back, and the learnt clause gets the next number.
+    fn go_back(&mut self, number: u64) -> Result<(), AllocError>
+        requires searching { IsSearching self.old.kernel }
+        requires conflict { least_false (literals self.old.kernel.trail) self.old.kernel.clauses ≡ Some number }
+        requires level { 1 ≤ current_level self.old.kernel.trail }
+        requires fits { self.old.conflicts + 1 < 2 ^ 32 }
+        ensures next { OnOk result (search_of self.new
+            ≡ learnt_next (search_of self.old) (learn self.old.kernel.clauses self.old.kernel.trail number)) }
+        ensures kept { OnOk result (GoesOn self.old.kernel self.new.kernel) }
+    {
+        let alloc = *self.lines.allocator();
+        let learnt = analyze_in(alloc, &self.kernel, &mut self.room, number)?;
+        self.kernel.back_to(learnt.level);
+        self.kernel.learn(&learnt.clause)?;
+        self.conflicts += 1;
+        self.lines.push(Line::new(learnt.clause, learnt.hints))?;
+        Ok(())
+    }
+}
