@@ -20,7 +20,7 @@ use std::sync::Wait;
 use std::thread::Threads;
 use std::time::Clock;
 
-/// `work_by_plan` by the ordered search.
+/// `work_by_plan` by the ordered search, with a budget of 1 to 100,000 conflicts for the root.
 pub fn work<R: Wait + Clock, G: Gate>(
     rt: &R,
     alloc: Global,
@@ -37,7 +37,7 @@ pub fn work<R: Wait + Clock, G: Gate>(
     work_by_plan(rt, alloc, hand, formula, Plan::ordered(budget), gate)
 }
 
-/// `gather_by_plan` by the ordered search.
+/// `gather_by_plan` by the ordered search, with a budget of 1 to 100,000 conflicts for the root.
 pub fn gather(
     alloc: Global,
     formula: &Formula,
@@ -52,7 +52,7 @@ pub fn gather(
     gather_by_plan(alloc, formula, Plan::ordered(budget), results)
 }
 
-/// `solve_one_by_plan` by the ordered search.
+/// `solve_one_by_plan` by the ordered search, with a budget of 1 to 100,000 conflicts for the root.
 pub fn solve_one(alloc: Global, formula: &Formula, budget: u32) -> Result<Tree, AllocError>
     requires { (1 ≤ budget) × (budget ≤ 100000) }
     ensures result { IfOk result (λ t. IsResultOf formula.now (ordered_within budget) t) }
@@ -61,7 +61,7 @@ pub fn solve_one(alloc: Global, formula: &Formula, budget: u32) -> Result<Tree, 
     solve_one_by_plan(alloc, formula, Plan::ordered(budget))
 }
 
-/// `solve_by_plan` by the ordered search.
+/// `solve_by_plan` by the ordered search, with a budget of 1 to 100,000 conflicts for the root.
 pub fn solve_with<R: Threads + Wait + Clock + Sync, G: Gate + Sync>(
     rt: &R,
     alloc: Global,
