@@ -7,16 +7,18 @@ use Rattle.theory.specs.Trails.{literals, cube_trail}
 use Rattle.theory.specs.Reading.{max_vars}
 use Rattle.theory.specs.Lawful.{IsLawful}
 use Rattle.theory.specs.Results.{OutcomeSays}
-use Rattle.theory.specs.Plans.{Plan}
+use Rattle.theory.specs.Plans.{ordered, Plan}
 use Rattle.theory.specs.Search.{Outcome, RunsFrom, budget_of, first_clauses}
 use Rattle.theory.specs.Ordered.{OrderedState, IsOrderedStep}
 use Rattle.theory.specs.Runs.{Runs}
 use Rattle.theory.proofs.OpenTrails.{IsOpenBelow-cube_trail}
 use Rattle.theory.proofs.OutcomeLemmas.{Runs-says}
-use Rattle.theory.proofs.PlanLemmas.{is_ordered}
 use Rattle.theory.proofs.PureVariables.{IsFormula-searched}
 use Rattle.theory.proofs.TrailLists.{literals-cube}
 use Rattle.kernel.specs.State.{State}
+use Rattle.cdcl.specs.Plans as code_plans
+use Rattle.cdcl.specs.declared.plan.Search.{Search}
+use Rattle.cdcl.specs.declared.plan.Search.TheVariants.{Ordered}
 use Rattle.cdcl.specs.Searching.{IsReady, Begins, GoesOn, search_of}
 use Rattle.cdcl.specs.declared.ordered.OrderedSearch.{OrderedSearch}
 use Rattle.theory.proofs.CubeLiterals.{IsCube-from}
@@ -85,13 +87,17 @@ IsReady-GoesOn F k l ready goes = record {
   clauses = ap (λ n. take n l.clauses) goes.1 ∙ (goes.2 ∙ ready.clauses);
 }
 
+-- the ordered search is the only one that the code makes so far
+pub is_ordered : (search : Search) → code_plans.search_of search ≡ ordered
+is_ordered Ordered = refl
+
 -- what a search that was begun runs to, is the cube's outcome
-pub Begins-runs : (F : Formula) (plan : Plan) (Q : List Literal) (s : OrderedSearch) (o : Outcome) → Begins F Q s
+pub Begins-runs : (F : Formula) (plan : Plan) (Q : List Literal) (s : OrderedSearch) (o : Outcome) → plan.search ≡ ordered → Begins F Q s
     → RunsFrom (IsOrderedStep s.kernel.vars (budget_of plan.budget Q)) (search_of s) o → Runs F plan Q o
-Begins-runs F plan Q s o begins runs = record { by = rw (is_ordered plan.search) (rw (begins.begun, begins.ready.vars) at runs) }
+Begins-runs F plan Q s o it begins runs = record { by = rw it (rw (begins.begun, begins.ready.vars) at runs) }
 
 -- what the outcome of the cube says
-pub Begins-says : (F : Formula) (plan : Plan) (Q : List Literal) (s : OrderedSearch) (o : Outcome) → Begins F Q s → IsOver F.vars Q → Runs F plan Q o → OutcomeSays F Q o
+pub Begins-says : (F : Formula) (plan : Plan) (Q : List Literal) (s : OrderedSearch) (o : Outcome) → Begins F Q s → IsOver F.vars Q → Runs F plan Q o → OutcomeSays plan.search F Q o
 Begins-says F plan Q s o begins over runs =
     let clauses : s.kernel.clauses ≡ first_clauses F = ap (λ (t : OrderedState). t.clauses) begins.begun in
     let trail : s.kernel.trail ≡ cube_trail Q = ap (λ (t : OrderedState). t.trail) begins.begun in

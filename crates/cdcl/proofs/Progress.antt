@@ -5,14 +5,14 @@ use Rattle.std.proofs.lemmas.List.Elements.{All-push}
 use Rattle.theory.specs.Literals.{Clause, negative}
 use Rattle.theory.specs.Truth.{IsOver}
 use Rattle.theory.specs.Trails.{Trail, Entry, literals, current_level, up_to}
-use Rattle.theory.specs.Propagation.{Closed, quiet, conflict, Propagates, clashes, grows, rests, unit_entry, least_false}
+use Rattle.theory.specs.Propagation.{Closed, quiet, conflict, Rule, Propagates, clashes, grows, rests, unit_entry, least_false}
 use Rattle.theory.specs.Lawful.{IsLawful, IsLawfulAfter}
 use Rattle.theory.specs.Learning.{learn, back_level}
 use Rattle.theory.specs.Search.{Next, ends, goes_on, refuted, exhausted}
 use Rattle.theory.specs.Ordered.{OrderedState, after, decided_next}
 use Rattle.theory.proofs.SearchSteps.{Answers, after-quiet, after-conflict, conflict_next}
 use Rattle.theory.proofs.OverVariables.{AreOver, AreOver-push, AreOver-from_IsOver}
-use Rattle.theory.proofs.RefutedCubes.{AreOver-up_to}
+use Rattle.theory.proofs.KeptSearches.{AreOver-up_to}
 use Rattle.theory.proofs.LiteralSets.{true_false}
 use Rattle.theory.proofs.CubeLiterals.{IsDistinctFrom, IsCube-from}
 use Rattle.theory.proofs.DistinctLiterals.{length-distinct}
@@ -36,11 +36,11 @@ length-lawful V K T lawful over =
     omega arith
 
 -- propagation takes nothing off
-pub length-Propagates : (K : List Clause) (T U : Trail) (a : Closed) → Propagates K T a U → length T ≤ length U
-length-Propagates K T U a (clashes h) = omega arith
-length-Propagates K T U a (rests h i) = omega arith
-length-Propagates K T U a (grows {u = u} h i more) =
-    let rest = length-Propagates K (T ++ unit_entry T u ∷ []) U a more in
+pub length-Propagates : (rule : Rule) (K : List Clause) (T U : Trail) (a : Closed) → Propagates rule K T a U → length T ≤ length U
+length-Propagates rule K T U a (clashes h) = omega arith
+length-Propagates rule K T U a (rests h i) = omega arith
+length-Propagates rule K T U a (grows {u = u} h i more) =
+    let rest = length-Propagates rule K (T ++ unit_entry T u ∷ []) U a more in
     let one = length-append T (unit_entry T u ∷ []) in
     omega arith
 

@@ -3,7 +3,7 @@ use Rattle.std.proofs.Common.{◌≡◌, ℕ, ◌≤◌, false, Result, Ok, Err,
 use Rattle.theory.specs.Literals.{Clause, negations}
 use Rattle.theory.specs.Truth.{IsOver}
 use Rattle.theory.specs.Trails.{Trail, literals, current_level, up_to}
-use Rattle.theory.specs.Propagation.{Closed, Propagates, least_false}
+use Rattle.theory.specs.Propagation.{Closed, by_number, Propagates, least_false}
 use Rattle.theory.specs.Lawful.{IsLawful, cube_of}
 use Rattle.theory.specs.Learnable.{IsLearnable}
 use Rattle.theory.specs.Learning.{learn, back_level}
@@ -13,22 +13,23 @@ use Rattle.theory.proofs.LearnableLines.{IsLearnable-learn}
 use Rattle.theory.proofs.LearntLines.{IsVariable-learn}
 use Rattle.theory.proofs.OpenTrails.{IsOpenBelow-Propagates}
 use Rattle.theory.proofs.OverVariables.{AreOver-from_IsOver, IsOver-from_AreOver, IsOver-left}
-use Rattle.theory.proofs.RefutedCubes.{AreOver-Propagates}
+use Rattle.theory.proofs.KeptSearches.{AreOver-Propagates}
+use Rattle.theory.proofs.Rules.{IsRule-by_number}
 use Rattle.kernel.specs.State.{State}
 use Rattle.cdcl.specs.Searching.{IsSearching, IsSearchStep, GoesOn, search_of, next_of}
 use Rattle.cdcl.specs.declared.outcome.Outcome.{Outcome}
 use Rattle.cdcl.specs.declared.ordered.OrderedSearch.{OrderedSearch}
 
 -- propagation keeps it
-pub IsSearching-Propagates : (k l : State) (a : Closed) → IsSearching k → l.vars ≡ k.vars → l.clauses ≡ k.clauses → l.first ≡ k.first → l.short ≡ false → Propagates k.clauses k.trail a l.trail → IsSearching l
+pub IsSearching-Propagates : (k l : State) (a : Closed) → IsSearching k → l.vars ≡ k.vars → l.clauses ≡ k.clauses → l.first ≡ k.first → l.short ≡ false → Propagates by_number k.clauses k.trail a l.trail → IsSearching l
 IsSearching-Propagates k l a h vars clauses first memory closes = record {
   has_memory = memory;
   few = rw vars h.few;
   within = rw (first, clauses) h.within;
-  lawful = rw clauses (IsLawful-Propagates k.clauses k.trail l.trail a closes h.lawful);
-  open_below = rw clauses (IsOpenBelow-Propagates k.clauses k.trail l.trail a closes h.open_below);
+  lawful = rw clauses (IsLawful-Propagates by_number IsRule-by_number k.clauses k.trail l.trail a closes h.lawful);
+  open_below = rw clauses (IsOpenBelow-Propagates by_number k.clauses k.trail l.trail a closes h.open_below);
   clauses_over = rw (vars, clauses) h.clauses_over;
-  trail_over = rw vars (IsOver-from_AreOver k.vars (literals l.trail) (AreOver-Propagates k.vars k.clauses k.trail l.trail a h.clauses_over closes (AreOver-from_IsOver k.vars (literals k.trail) h.trail_over)));
+  trail_over = rw vars (IsOver-from_AreOver k.vars (literals l.trail) (AreOver-Propagates by_number IsRule-by_number k.vars k.clauses k.trail l.trail a h.clauses_over closes (AreOver-from_IsOver k.vars (literals k.trail) h.trail_over)));
 }
 
 -- the learnt clause is over the variables
@@ -45,7 +46,7 @@ may_learn k l c level n h above clash clause back went =
     (IsOver-learn k.vars k.clauses k.trail n h.lawful h.trail_over clash, IsLearnable-learn k.clauses k.trail n h.lawful h.open_below above clash)
 
 -- a step from what propagation left
-pub IsSearchStep-from : {E : Type 0} (budget : ℕ) (old new middle : OrderedSearch) (a : Closed) (r : Result (Option Outcome) E) → Propagates old.kernel.clauses old.kernel.trail a middle.kernel.trail
+pub IsSearchStep-from : {E : Type 0} (budget : ℕ) (old new middle : OrderedSearch) (a : Closed) (r : Result (Option Outcome) E) → Propagates by_number old.kernel.clauses old.kernel.trail a middle.kernel.trail
     → (middle.kernel.vars ≡ old.kernel.vars) × (middle.kernel.clauses ≡ old.kernel.clauses) × (middle.kernel.first ≡ old.kernel.first)
     → search_of middle ≡ record (search_of old) { trail = middle.kernel.trail }
     → IfOk r (λ o. after middle.kernel.vars budget (search_of middle) a ≡ next_of o new) → OnOk r (GoesOn middle.kernel new.kernel) → IfOk r (λ o. IsSearchStep budget old o new)

@@ -9,7 +9,9 @@ use Rattle.theory.specs.Lawful.{IsLawful}
 use Rattle.theory.specs.Learnable.{IsOpenBelow}
 use Rattle.theory.proofs.SearchSteps.{Propagates-Answers}
 use Rattle.theory.proofs.OverVariables.{AreOver, AreOver-from_IsOver, IsOver-from_AreOver}
-use Rattle.theory.proofs.RefutedCubes.{AreOver-Propagates}
+use Rattle.theory.proofs.KeptSearches.{AreOver-Propagates}
+use Rattle.theory.proofs.Rules.{IsRule-by_number}
+use Rattle.theory.specs.Propagation.{by_number}
 use Rattle.theory.proofs.LawfulTrails.{IsLawful-Propagates}
 use Rattle.theory.proofs.OpenTrails.{kept-step}
 use Rattle.kernel.specs.State.{State}
@@ -60,11 +62,11 @@ IsSearchStep-keeps budget s t h counted step = (
     middle = record (search_of s) { trail = step.step.trail }
 
     over : AreOver s.kernel.vars (literals step.step.trail)
-    over = AreOver-Propagates s.kernel.vars s.kernel.clauses s.kernel.trail step.step.trail step.step.answer h.clauses_over step.step.propagates (AreOver-from_IsOver s.kernel.vars (literals s.kernel.trail) h.trail_over)
+    over = AreOver-Propagates by_number IsRule-by_number s.kernel.vars s.kernel.clauses s.kernel.trail step.step.trail step.step.answer h.clauses_over step.step.propagates (AreOver-from_IsOver s.kernel.vars (literals s.kernel.trail) h.trail_over)
 
     made : Progresses s.kernel.vars budget middle (search_of t)
-    made = after-Progresses s.kernel.vars budget middle (search_of t) step.step.answer (IsLawful-Propagates s.kernel.clauses s.kernel.trail step.step.trail step.step.answer step.step.propagates h.lawful) h.clauses_over
-        (IsOver-from_AreOver s.kernel.vars (literals step.step.trail) over) counted (Propagates-Answers s.kernel.clauses s.kernel.trail step.step.trail middle step.step.answer step.step.propagates refl refl) step.step.follows
+    made = after-Progresses s.kernel.vars budget middle (search_of t) step.step.answer (IsLawful-Propagates by_number IsRule-by_number s.kernel.clauses s.kernel.trail step.step.trail step.step.answer step.step.propagates h.lawful) h.clauses_over
+        (IsOver-from_AreOver s.kernel.vars (literals step.step.trail) over) counted (Propagates-Answers by_number s.kernel.clauses s.kernel.trail step.step.trail middle step.step.answer step.step.propagates refl refl) step.step.follows
 
     kept : IsLawful t.kernel.clauses t.kernel.trail × IsOpenBelow t.kernel.clauses t.kernel.trail
     kept = kept-step s.kernel.vars budget (search_of s) (search_of t) step.step.trail step.step.answer h.lawful h.open_below step.step.propagates step.step.follows
@@ -72,5 +74,5 @@ IsSearchStep-keeps budget s t h counted step = (
     less : remaining s.kernel.vars budget t.conflicts t.kernel.trail < remaining s.kernel.vars budget s.conflicts s.kernel.trail
     less =
         let falls : remaining s.kernel.vars budget t.conflicts t.kernel.trail < remaining s.kernel.vars budget s.conflicts step.step.trail = made.less in
-        let longer = length-Propagates s.kernel.clauses s.kernel.trail step.step.trail step.step.answer step.step.propagates in
+        let longer = length-Propagates by_number s.kernel.clauses s.kernel.trail step.step.trail step.step.answer step.step.propagates in
         omega arith

@@ -7,6 +7,7 @@ use Rattle.cdcl.specs.declared.plan.Search.TheVariants.{Ordered}
 abbrev pub search_of : Search → plans.Search
 search_of Ordered = plans.ordered
 
--- and back
+-- and back; the focused search is none of the code's
 abbrev pub search_from : plans.Search → Search
 search_from plans.ordered = Ordered
+search_from (plans.focused c) = Ordered

@@ -2,7 +2,7 @@
 ghost use Rattle.std.specs.Prelude.{◌≡◌, ◌≤◌, ◌<◌, ◌^◌, ◌+◌, ◌++◌, ◌∷◌, [], false, Some, IfOk, OnOk};
 ghost use Rattle.theory.specs.Truth.{Formula, IsOver};
 ghost use Rattle.theory.specs.Trails.{literals, current_level, least_free};
-ghost use Rattle.theory.specs.Propagation.{Propagates, quiet, conflict, least_false};
+ghost use Rattle.theory.specs.Propagation.{by_number, Propagates, quiet, conflict, least_false};
 ghost use Rattle.theory.specs.Lawful.{IsLawful};
 ghost use Rattle.theory.specs.Learning.{learn};
 ghost use Rattle.theory.specs.Search.{RunsFrom, values, refuted};
@@ -102,7 +102,7 @@ impl OrderedSearch {
     /// Where propagation came to rest: decides the least free variable to be false, or gives the model where none is free.
     fn on_quiet(&mut self) -> Result<Option<Outcome>, AllocError>
         requires searching { IsSearching self.old.kernel }
-        requires quiet { Propagates self.old.kernel.clauses self.old.kernel.trail quiet self.old.kernel.trail }
+        requires quiet { Propagates by_number self.old.kernel.clauses self.old.kernel.trail quiet self.old.kernel.trail }
         ensures next { IfOk result (λ r. definition.on_quiet self.old.kernel.vars (search_of self.old)
             (least_free self.old.kernel.vars self.old.kernel.trail) ≡ next_of r self.new) }
         ensures kept { OnOk result (GoesOn self.old.kernel self.new.kernel) }

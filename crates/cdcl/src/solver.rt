@@ -1,7 +1,7 @@
 //! Solving the cubes of a formula, one after the other.
 ghost use Rattle.std.specs.Prelude.{◌≡◌, ◌≤◌, true, false, IfOk, OnOk, OnErr, IsErr};
 ghost use Rattle.theory.specs.Truth.{IsOver};
-ghost use Rattle.theory.specs.Plans.{ordered_within};
+ghost use Rattle.theory.specs.Plans.{ordered, ordered_within};
 ghost use Rattle.theory.specs.Runs.{Runs};
 ghost use Rattle.theory.specs.Results.{OutcomeSays};
 ghost use Rattle.cdcl.specs.Outcome.{outcome_of};
@@ -57,7 +57,7 @@ impl Solver {
     pub fn solve(&mut self, cube: &Cube, plan: Plan) -> Result<Outcome, AllocError>
         requires over { IsOver self.old.formula.vars cube.now }
         ensures runs { IfOk result (λ o. Runs self.old.formula plan cube.now (outcome_of o)) }
-        ensures says { IfOk result (λ o. OutcomeSays self.old.formula cube.now (outcome_of o)) }
+        ensures says { IfOk result (λ o. OutcomeSays plan.search self.old.formula cube.now (outcome_of o)) }
         ensures formula { self.new.formula ≡ self.old.formula }
         ensures refused { OnErr result (self.new.short ≡ true) }
         ensures has_memory { OnOk result (self.new.short ≡ false) }
@@ -87,7 +87,7 @@ pub fn solve_cube_by_plan(
 ) -> Result<Outcome, AllocError>
     requires over { IsOver formula.now.vars cube.now }
     ensures runs { IfOk result (λ o. Runs formula.now plan cube.now (outcome_of o)) }
-    ensures says { IfOk result (λ o. OutcomeSays formula.now cube.now (outcome_of o)) }
+    ensures says { IfOk result (λ o. OutcomeSays plan.search formula.now cube.now (outcome_of o)) }
 {
     let mut solver = Solver::open(alloc, formula)?;
     solver.solve(cube, plan)
@@ -103,7 +103,7 @@ pub fn solve_cube(
     requires budget { (1 ≤ budget) × (budget ≤ 100000) }
     requires over { IsOver formula.now.vars cube.now }
     ensures runs { IfOk result (λ o. Runs formula.now (ordered_within budget) cube.now (outcome_of o)) }
-    ensures says { IfOk result (λ o. OutcomeSays formula.now cube.now (outcome_of o)) }
+    ensures says { IfOk result (λ o. OutcomeSays ordered formula.now cube.now (outcome_of o)) }
 {
     solve_cube_by_plan(alloc, formula, cube, Plan::ordered(budget))
 }

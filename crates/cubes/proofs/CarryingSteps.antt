@@ -16,7 +16,7 @@ use Rattle.theory.specs.Round.{IsHandOn}
 use Rattle.theory.proofs.Membership.{Contains-none}
 use Rattle.theory.proofs.Joining.{joined-empty}
 use Rattle.theory.proofs.RoundEnds.{only_calls}
-use Rattle.theory.proofs.PlanLemmas.{Runs-free}
+use Rattle.theory.proofs.OutcomeLemmas.{Runs-exhausted}
 use Rattle.theory.proofs.DistinctLiterals.{length-distinct}
 use Rattle.theory.proofs.OverVariables.{AreOver-from_IsOver}
 use Rattle.cubes.specs.declared.solved.Solved.{Solved}
@@ -31,7 +31,7 @@ leads_on-over : (F : Formula) (plan : Plan) (H path : List Literal) → IsOver F
 leads_on-over F plan H [] over leads = subst (IsOver F.vars) (sym (append-nil H)) over
 leads_on-over F plan H (l ∷ ls) over leads =
     subst (IsOver F.vars) (append_assoc H (l ∷ []) ls)
-    (leads_on-over F plan (H ++ l ∷ []) ls (All-push (λ (k : Literal). IsVariable F.vars k.var) H l over (Runs-free F plan H l.var leads.0).0) leads.1)
+    (leads_on-over F plan (H ++ l ∷ []) ls (All-push (λ (k : Literal). IsVariable F.vars k.var) H l over (Runs-exhausted F plan H l.var leads.0).0) leads.1)
 
 module _ (F : Formula) (plan : Plan) (H : List Literal) where
   pub carries-at_first : (s : List Solved) → IsCarryingAt F plan H H s s

@@ -1,6 +1,6 @@
 //! The calls by the ordered search, with a budget of 1 to 100,000 conflicts for the root in place of a plan.
 ghost use Rattle.std.specs.Prelude.{◌≡◌, ◌≤◌, IfOk};
-ghost use Rattle.theory.specs.Plans.{ordered_within};
+ghost use Rattle.theory.specs.Plans.{ordered, ordered_within};
 ghost use Rattle.pool.specs.Hands.{SameHand};
 ghost use Rattle.cubes.specs.Hands.{Worked_as};
 ghost use Rattle.cubes.specs.Result.{IsResultOf, Says};
@@ -47,7 +47,7 @@ pub fn gather(
     requires budget { (1 ≤ budget) × (budget ≤ 100000) }
     requires results { AreTrueResults formula.now (ordered_within budget) results.items }
     ensures result { IfOk result (λ t. IsResultOf formula.now (ordered_within budget) t) }
-    ensures says { IfOk result (λ t. Says formula.now t) }
+    ensures says { IfOk result (λ t. Says ordered formula.now t) }
 {
     gather_by_plan(alloc, formula, Plan::ordered(budget), results)
 }
@@ -56,7 +56,7 @@ pub fn gather(
 pub fn solve_one(alloc: Global, formula: &Formula, budget: u32) -> Result<Tree, AllocError>
     requires { (1 ≤ budget) × (budget ≤ 100000) }
     ensures result { IfOk result (λ t. IsResultOf formula.now (ordered_within budget) t) }
-    ensures says { IfOk result (λ t. Says formula.now t) }
+    ensures says { IfOk result (λ t. Says ordered formula.now t) }
 {
     solve_one_by_plan(alloc, formula, Plan::ordered(budget))
 }
@@ -73,7 +73,7 @@ pub fn solve_with<R: Threads + Wait + Clock + Sync, G: Gate + Sync>(
     requires budget { (1 ≤ budget) × (budget ≤ 100000) }
     requires hands { (1 ≤ hands) × (hands ≤ 16) }
     ensures result { IfOk result (λ t. IsResultOf formula.now (ordered_within budget) t) }
-    ensures says { IfOk result (λ t. Says formula.now t) }
+    ensures says { IfOk result (λ t. Says ordered formula.now t) }
 {
     solve_by_plan(rt, alloc, formula, Plan::ordered(budget), hands, gate)
 }

@@ -29,7 +29,7 @@ pub(crate) fn solve(
     requires over { IsOver formula.now.vars cube.now }
     requires solver { IfSome solver.old (λ s. s.formula ≡ formula.now) }
     ensures runs { IfOk result (λ o. Runs formula.now plan cube.now (outcome_of o)) }
-    ensures says { IfOk result (λ o. OutcomeSays formula.now cube.now (outcome_of o)) }
+    ensures says { IfOk result (λ o. OutcomeSays plan.search formula.now cube.now (outcome_of o)) }
     ensures kept { OnOk result (IfSome solver.new (λ s. s.formula ≡ formula.now)) }
 {
     let mut ready = match solver.take() {
@@ -80,7 +80,7 @@ pub fn gather_by_plan(
 ) -> Result<Tree, AllocError>
     requires results { AreTrueResults formula.now plan results.items }
     ensures result { IfOk result (λ t. IsResultOf formula.now plan t) }
-    ensures says { IfOk result (λ t. Says formula.now t) }
+    ensures says { IfOk result (λ t. Says plan.search formula.now t) }
 {
     let _vars = formula.vars(); // it ensures what the proof needs of the formula
     let mut source = Source {
@@ -119,7 +119,7 @@ pub fn assemble(alloc: Global, results: Vec<Solved>) -> Result<Tree, AllocError>
 /// The result of the formula by the plan. It fails only where a request for memory is refused.
 pub fn solve_one_by_plan(alloc: Global, formula: &Formula, plan: Plan) -> Result<Tree, AllocError>
     ensures result { IfOk result (λ t. IsResultOf formula.now plan t) }
-    ensures says { IfOk result (λ t. Says formula.now t) }
+    ensures says { IfOk result (λ t. Says plan.search formula.now t) }
 {
     gather_by_plan(alloc, formula, plan, Vec::new(alloc))
 }

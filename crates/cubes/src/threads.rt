@@ -95,7 +95,7 @@ fn solve_by_hands<R: Threads + Wait + Clock + Sync, G: Gate + Sync>(
     requires root { pool.root ≡ [] }
     requires hands { AreNew pool formula.now.vars hands.items }
     ensures result { IfOk result (λ t. IsResultOf formula.now plan t) }
-    ensures says { IfOk result (λ t. Says formula.now t) }
+    ensures says { IfOk result (λ t. Says plan.search formula.now t) }
 {
     let _vars = formula.vars(); // it ensures what the proof needs of the formula
     let results = results_by_hands(rt, alloc, formula, plan, gate, pool, hands)?;
@@ -114,7 +114,7 @@ pub fn solve_by_plan<R: Threads + Wait + Clock + Sync, G: Gate + Sync>(
 ) -> Result<Tree, AllocError>
     requires hands { (1 ≤ hands) × (hands ≤ 16) }
     ensures result { IfOk result (λ t. IsResultOf formula.now plan t) }
-    ensures says { IfOk result (λ t. Says formula.now t) }
+    ensures says { IfOk result (λ t. Says plan.search formula.now t) }
 {
     match pool::open(alloc, hands, formula.vars(), Cube::root(alloc)) {
         Ok((pool, all)) => solve_by_hands(rt, alloc, formula, plan, gate, pool, all),

@@ -8,11 +8,11 @@ use Rattle.cubesat.specs.declared.fault.RunFault.{RunFault}
 use Rattle.cubesat.specs.declared.verdict.Verdict.{Verdict}
 use Rattle.cubesat.specs.declared.verdict.Verdict.TheVariants.{Satisfiable, Unsatisfiable}
 
-texts-right : (F : Formula) (plan : Plan) (verdict : Verdict) (proof answer : List ℕ) → AreTexts F plan verdict proof answer → IsRight F verdict proof answer
-texts-right F plan Satisfiable proof answer t = (t.model, t.first, t.answer_is)
+texts-right : (F : Formula) (plan : Plan) (verdict : Verdict) (proof answer : List ℕ) → AreTexts F plan verdict proof answer → IsRight plan.search F verdict proof answer
+texts-right F plan Satisfiable proof answer t = (t.model, t.found, t.answer_is)
 texts-right F plan Unsatisfiable proof answer t = (t.0.unsatisfiable, t.1, t.0.answer_is)
 
-written-right : (known : Option (List ℕ)) (plan : Plan) (p q a b : Option (List ℕ)) (verdict : Verdict) → WritesBoth known plan p q a b verdict → IsRightAnswer known p q a b verdict
+written-right : (known : Option (List ℕ)) (plan : Plan) (p q a b : Option (List ℕ)) (verdict : Verdict) → WritesBoth known plan p q a b verdict → IsRightAnswer plan.search known p q a b verdict
 written-right known plan p q a b verdict w = record {
   bytes = w.run.bytes;
   are = w.run.are;
@@ -25,6 +25,6 @@ written-right known plan p q a b verdict w = record {
   answer_written = w.answer_written;
 }
 
-pub says-right : (known : Option (List ℕ)) (plan : Plan) (p q a b : Option (List ℕ)) (r : Result Verdict RunFault) → RunSays known plan p q a b r → IfOk r (IsRightAnswer known p q a b)
+pub says-right : (known : Option (List ℕ)) (plan : Plan) (p q a b : Option (List ℕ)) (r : Result Verdict RunFault) → RunSays known plan p q a b r → IfOk r (IsRightAnswer plan.search known p q a b)
 says-right known plan p q a b (Ok verdict) says = written-right known plan p q a b verdict says
 says-right known plan p q a b (Err fault) says = tt

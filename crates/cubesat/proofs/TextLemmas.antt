@@ -14,10 +14,10 @@ use Rattle.cubesat.specs.declared.verdict.Verdict.{Verdict}
 use Rattle.cubesat.specs.Run.{AreTexts}
 use Rattle.cubesat.specs.Written.{IsAnswer}
 
-pub result-texts : (F : Formula) (plan : Plan) (tree : Tree) (verdict : Verdict) (steps : List Step) (answer : List ℕ) → IsResultOf F plan tree → Says F tree → IsAnswer tree verdict answer
+pub result-texts : (F : Formula) (plan : Plan) (tree : Tree) (verdict : Verdict) (steps : List Step) (answer : List ℕ) → IsResultOf F plan tree → Says plan.search F tree → IsAnswer tree verdict answer
     → AreStepsOf F tree steps → AreWithin steps → AreAccepted F tree steps → AreTexts F plan verdict (proof_text steps) answer
 result-texts F plan (Model values) verdict steps answer result says is are within accepts =
-    rw is.0 (record { model = values.items; first = says; proof_is = ap proof_text are; answer_is = is.1 })
+    rw is.0 (record { model = values.items; found = says; is_result = result; proof_is = ap proof_text are; answer_is = is.1 })
 result-texts F plan (Refuted nodes) verdict steps answer result says is are within accepts =
     let text : IsUnsatisfiableText F plan (proof_text steps) answer = record {
       unsatisfiable = says;

@@ -16,7 +16,7 @@ use Rattle.cubesat.specs.declared.verdict.Verdict.TheVariants.{Satisfiable, Unsa
 
 -- the texts of the proof and the answer for a formula and a plan, and the verdict that they give
 abbrev pub AreTexts : truth.Formula → Plan → Verdict → List ℕ → List ℕ → Type 0
-AreTexts F plan Satisfiable proof answer = IsSatisfiableText F proof answer
+AreTexts F plan Satisfiable proof answer = IsSatisfiableText F plan proof answer
 AreTexts F plan Unsatisfiable proof answer = IsUnsatisfiableText F plan proof answer × IsAccepted F proof
 
 -- the texts for the formula of the bytes that a reader gave, where it tells them

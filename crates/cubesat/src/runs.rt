@@ -1,6 +1,7 @@
 //! A run without threads.
 ghost use Rattle.std.specs.Prelude.{◌≡◌, ◌≤◌, [], IfOk};
-ghost use Rattle.theory.specs.Plans.{ordered_within};
+ghost use Rattle.theory.specs.Plans as plans;
+ghost use Rattle.theory.specs.Plans.{ordered, ordered_within};
 ghost use Rattle.theory.specs.Texts.{proof_text};
 ghost use Rattle.join.specs.Walking.{lines_left, IsBetweenLines};
 ghost use Rattle.cubes.specs.Result.{IsResultOf, Says};
@@ -38,7 +39,7 @@ fn answer_of(
     formula: &Formula,
     tree: &Tree,
 ) -> Result<(Verdict, Vec<u8>), AllocError>
-    requires { Says formula.now tree.now }
+    requires { (search : plans.Search) × Says search formula.now tree.now }
     ensures { IfOk result (λ p. IsAnswer tree.now p.0 p.1.items) }
 {
     match tree {
@@ -61,7 +62,7 @@ pub(crate) fn output_of(
     tree: Tree,
 ) -> Result<Output, AllocError>
     requires result { IsResultOf formula.now plan tree }
-    requires says { Says formula.now tree }
+    requires says { Says plan.search formula.now tree }
     ensures texts { IfOk result (λ o. AreTexts formula.now plan o.verdict (proof_text (lines_left o.lines)) o.answer.items) }
     ensures lines { IfOk result (λ o. IsBetweenLines o.lines) }
     ensures buffer { IfOk result (λ o. o.buffer.items ≡ []) }
@@ -89,7 +90,7 @@ pub fn run_one_by_plan<R: Read + Drop, W: Write, P: Write>(
     plan: Plan,
 ) -> Result<Verdict, RunFault>
     ensures says { RunSays (R.remaining input) plan (P.contents proof.old) (P.contents proof.new) (W.contents answer.old) (W.contents answer.new) result }
-    ensures answer_is_right { IfOk result (IsRightAnswer (R.remaining input) (P.contents proof.old) (P.contents proof.new) (W.contents answer.old) (W.contents answer.new)) }
+    ensures answer_is_right { IfOk result (IsRightAnswer plan.search (R.remaining input) (P.contents proof.old) (P.contents proof.new) (W.contents answer.old) (W.contents answer.new)) }
 {
     let formula = match read_from(alloc, input) {
         Ok(formula) => formula,
@@ -117,7 +118,7 @@ pub fn run_one<R: Read + Drop, W: Write, P: Write>(
 ) -> Result<Verdict, RunFault>
     requires { (1 ≤ budget) × (budget ≤ 100000) }
     ensures says { RunSays (R.remaining input) (ordered_within budget) (P.contents proof.old) (P.contents proof.new) (W.contents answer.old) (W.contents answer.new) result }
-    ensures answer_is_right { IfOk result (IsRightAnswer (R.remaining input) (P.contents proof.old) (P.contents proof.new) (W.contents answer.old) (W.contents answer.new)) }
+    ensures answer_is_right { IfOk result (IsRightAnswer ordered (R.remaining input) (P.contents proof.old) (P.contents proof.new) (W.contents answer.old) (W.contents answer.new)) }
 {
     run_one_by_plan(alloc, input, answer, proof, Plan::ordered(budget))
 }

@@ -1,6 +1,6 @@
 //! A run by several hands.
 ghost use Rattle.std.specs.Prelude.{◌≤◌, IfOk};
-ghost use Rattle.theory.specs.Plans.{ordered_within};
+ghost use Rattle.theory.specs.Plans.{ordered, ordered_within};
 ghost use Rattle.cubesat.specs.Answer.{IsRightAnswer};
 ghost use Rattle.cubesat.specs.Run.{RunSays};
 
@@ -40,7 +40,7 @@ pub(crate) fn run_observed<
 ) -> Result<Verdict, RunFault>
     requires hands { (1 ≤ hands) × (hands ≤ 16) }
     ensures says { RunSays (R.remaining input) plan (P.contents proof.old) (P.contents proof.new) (W.contents answer.old) (W.contents answer.new) result }
-    ensures answer_is_right { IfOk result (IsRightAnswer (R.remaining input) (P.contents proof.old) (P.contents proof.new) (W.contents answer.old) (W.contents answer.new)) }
+    ensures answer_is_right { IfOk result (IsRightAnswer plan.search (R.remaining input) (P.contents proof.old) (P.contents proof.new) (W.contents answer.old) (W.contents answer.new)) }
 {
     let formula = match read_from(alloc, input) {
         Ok(formula) => formula,
@@ -82,7 +82,7 @@ pub fn run_by_plan<
 ) -> Result<Verdict, RunFault>
     requires hands { (1 ≤ hands) × (hands ≤ 16) }
     ensures says { RunSays (R.remaining input) plan (P.contents proof.old) (P.contents proof.new) (W.contents answer.old) (W.contents answer.new) result }
-    ensures answer_is_right { IfOk result (IsRightAnswer (R.remaining input) (P.contents proof.old) (P.contents proof.new) (W.contents answer.old) (W.contents answer.new)) }
+    ensures answer_is_right { IfOk result (IsRightAnswer plan.search (R.remaining input) (P.contents proof.old) (P.contents proof.new) (W.contents answer.old) (W.contents answer.new)) }
 {
     let observer = Unobserved;
     run_observed(
@@ -104,7 +104,7 @@ pub fn run<T: Threads + Wait + Clock + Sync, R: Read + Drop, W: Write, P: Write,
     requires budget { (1 ≤ budget) × (budget ≤ 100000) }
     requires hands { (1 ≤ hands) × (hands ≤ 16) }
     ensures says { RunSays (R.remaining input) (ordered_within budget) (P.contents proof.old) (P.contents proof.new) (W.contents answer.old) (W.contents answer.new) result }
-    ensures answer_is_right { IfOk result (IsRightAnswer (R.remaining input) (P.contents proof.old) (P.contents proof.new) (W.contents answer.old) (W.contents answer.new)) }
+    ensures answer_is_right { IfOk result (IsRightAnswer ordered (R.remaining input) (P.contents proof.old) (P.contents proof.new) (W.contents answer.old) (W.contents answer.new)) }
 {
     let plan = Plan::ordered(budget);
     run_by_plan(rt, alloc, input, answer, proof, plan, hands, gate)

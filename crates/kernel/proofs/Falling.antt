@@ -3,10 +3,11 @@ use Rattle.std.proofs.Common.{◌≡◌, ℕ, ◌+◌, ◌<◌, ◌≤◌, Bool,
 use Rattle.theory.specs.Literals.{Literal, Clause, has_var, IsVariable}
 use Rattle.theory.specs.Truth.{IsOver}
 use Rattle.theory.specs.Status.{is_unit_in, unit_literal}
-use Rattle.theory.specs.Propagation.{Closed, Propagates, grows, least_false, least_unit, clause_at}
+use Rattle.theory.specs.Propagation.{Closed, by_number, Propagates, grows, least_false, least_unit, clause_at}
 use Rattle.theory.specs.Trails.{Trail, literals, current_level}
 use Rattle.theory.specs.Lawful.{IsLawful}
-use Rattle.theory.proofs.LawfulTrails.{IsLawful-unit, least_unit-at, unit_literal-facts}
+use Rattle.theory.proofs.LawfulTrails.{IsLawful-unit, unit_literal-facts}
+use Rattle.theory.proofs.Rules.{IsRule-by_number, least_unit-at}
 use Rattle.theory.proofs.OverVariables.{clause_at-over}
 use Rattle.theory.proofs.TrailEntries.{literals-at}
 use Rattle.theory.proofs.ClauseLemmas.{unit-fresh}
@@ -99,7 +100,7 @@ pub record Grew (K : List Clause) (T new : Trail) : Type 0 where
   pub level_is : level ≡ current_level T
   pub pushed : new ≡ T ++ record { lit = lit; reason = Some number; level = level } ∷ []
 
-pub Grew-Propagates : (K : List Clause) (T new U : Trail) (a : Closed) → Grew K T new → Propagates K new a U → Propagates K T a U
+pub Grew-Propagates : (K : List Clause) (T new U : Trail) (a : Closed) → Grew K T new → Propagates by_number K new a U → Propagates by_number K T a U
 Grew-Propagates K T new U a g h =
     grows g.none_false g.unit (rw (← g.level_is, ← g.pushed) h)
 
@@ -109,7 +110,7 @@ Grew-falls K T new g =
 
 pub Grew-lawful : (K : List Clause) (T new : Trail) → Grew K T new → IsLawful K T → IsLawful K new
 Grew-lawful K T new g h =
-    rw (g.pushed, g.level_is) (IsLawful-unit K T (g.number, g.lit) h g.unit)
+    rw (g.pushed, g.level_is) (IsLawful-unit by_number IsRule-by_number K T (g.number, g.lit) h g.unit)
 
 -- the literal of a unit clause is of a free variable, one of those that the clauses are over
 pub least_unit-free : (P : List Literal) (K : List Clause) (u : ℕ × Literal) → least_unit P K ≡ Some u → has_var P u.1.var ≡ false

@@ -7,7 +7,7 @@ use Rattle.std.specs.List.Sorted.{IsPermutation}
 use Rattle.theory.specs.Literals.{Literal, Clause, same, has, has_var, negated, are_distinct}
 use Rattle.theory.specs.Truth.{IsOver}
 use Rattle.theory.specs.Trails.{Entry, Trail, literals, current_level, up_to, level_of, level_at, entry_of}
-use Rattle.theory.specs.Propagation.{Propagates, quiet, grows, rests, least_false, least_unit}
+use Rattle.theory.specs.Propagation.{by_number, Propagates, quiet, grows, rests, least_false, least_unit}
 use Rattle.theory.specs.Learnable.{IsLearnable}
 use Rattle.theory.proofs.LiteralLemmas.{and-left, and-right, or-cases, true_or_false, not_true, same-eq}
 use Rattle.theory.proofs.LiteralSets.{false_unless}
@@ -27,7 +27,7 @@ use Rattle.kernel.proofs.Attached.{attached-places, attached-entries}
 use Rattle.kernel.proofs.Visits.{code-within, over-var}
 
 -- where propagation leaves the trail as it is, no clause is false or unit
-pub at-rest : (K : List Clause) (T U : Trail) → Propagates K T quiet U → (least_false (literals U) K ≡ None) × (least_unit (literals U) K ≡ None)
+pub at-rest : (K : List Clause) (T U : Trail) → Propagates by_number K T quiet U → (least_false (literals U) K ≡ None) × (least_unit (literals U) K ≡ None)
 at-rest K T U (rests a b) = (a, b)
 at-rest K T U (grows {u = u} a b h) = at-rest K _ U h
 
@@ -59,7 +59,7 @@ up_to-level_of (e ∷ T) m l d h = go (nat_le e.level m) refl h (up_to-level_of 
     go false x y more = behind y (more y)
 
 -- a decision
-pub decide-watching : (V first : ℕ) (K : List Clause) (T : Trail) (at floor low : ℕ) (k : WatchLists) (single : List ℕ) (empty : Option ℕ) (e : Entry) → IsOrdered V T → Propagates K T quiet T → e.level ≡ current_level T + 1 → ((at ≡ length T) × (low ≡ floor)) ⊎ ((low ≤ at) × (low ≤ floor))
+pub decide-watching : (V first : ℕ) (K : List Clause) (T : Trail) (at floor low : ℕ) (k : WatchLists) (single : List ℕ) (empty : Option ℕ) (e : Entry) → IsOrdered V T → Propagates by_number K T quiet T → e.level ≡ current_level T + 1 → ((at ≡ length T) × (low ≡ floor)) ⊎ ((low ≤ at) × (low ≤ floor))
     → IsWatching V first K T at floor k single empty → IsWatching V first K (T ++ e ∷ []) at low k single empty
 decide-watching V first K T at floor low k single empty e ordered closes level which s = record {
   lists = s.lists;

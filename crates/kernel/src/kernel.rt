@@ -5,7 +5,7 @@ ghost use Rattle.theory.specs.Literals.{IsVariable, IsCube, has_var};
 ghost use Rattle.theory.specs.Truth.{IsOver};
 ghost use Rattle.theory.specs.Pure.{unit_clauses};
 ghost use Rattle.theory.specs.Trails.{literals, current_level, entry_of, cube_trail, up_to, least_free};
-ghost use Rattle.theory.specs.Propagation.{clause_at, Propagates, quiet};
+ghost use Rattle.theory.specs.Propagation.{clause_at, by_number, Propagates, quiet};
 ghost use Rattle.theory.specs.Lawful.{IsLawful};
 ghost use Rattle.theory.specs.Learnable.{IsLearnable};
 ghost use Rattle.theory.specs.Reading.{max_vars};
@@ -196,14 +196,14 @@ impl Kernel {
     /// takes time by the clauses that watch a literal which became false. It fails where a request for memory is refused, and from then
     /// on; the trail then ends on the way: what propagation leads to from it, it leads to from the trail before.
     pub fn close(&mut self) -> Result<Closed, AllocError>
-        ensures ok { IfOk result (λ a. Propagates self.old.clauses self.old.trail (closed_of a) self.new.trail) }
+        ensures ok { IfOk result (λ a. Propagates by_number self.old.clauses self.old.trail (closed_of a) self.new.trail) }
         ensures kept { (self.new.vars ≡ self.old.vars) × (self.new.clauses ≡ self.old.clauses) × (self.new.first ≡ self.old.first) }
         ensures short { OnOk result (self.new.short ≡ false) }
         ensures refused { OnErr result (self.new.short ≡ true) }
         ensures stays { self.old.short ≡ true → IsErr result }
         ensures unchanged { self.old.short ≡ true → self.new.trail ≡ self.old.trail }
         ensures was { OnOk result (self.old.short ≡ false) }
-        ensures onward { (a : closing.Closed) (U : trails.Trail) → Propagates self.old.clauses self.new.trail a U → Propagates self.old.clauses self.old.trail a U }
+        ensures onward { (a : closing.Closed) (U : trails.Trail) → Propagates by_number self.old.clauses self.new.trail a U → Propagates by_number self.old.clauses self.old.trail a U }
     {
         if self.short {
             return Err(AllocError);
@@ -224,7 +224,7 @@ impl Kernel {
     pub fn decide(&mut self, lit: Lit)
         requires { self.old.short ≡ false →
             IsVariable self.old.vars lit.var × (has_var (literals self.old.trail) lit.var ≡ false)
-            × Propagates self.old.clauses self.old.trail quiet self.old.trail }
+            × Propagates by_number self.old.clauses self.old.trail quiet self.old.trail }
         ensures { self.new ≡ (if self.old.short then self.old else record self.old {
           trail =
               self.old.trail ++ record { lit = lit; reason = None; level = current_level self.old.trail + 1 } ∷ [];

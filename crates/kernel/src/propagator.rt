@@ -8,7 +8,7 @@ ghost use Rattle.std.specs.List.Sorted.{IsPermutation};
 ghost use Rattle.theory.specs.Literals.{Literal, same, has, negated};
 ghost use Rattle.theory.specs.Truth.{IsOver};
 ghost use Rattle.theory.specs.Trails.{literals, current_level};
-ghost use Rattle.theory.specs.Propagation.{least_unit, Propagates};
+ghost use Rattle.theory.specs.Propagation.{least_unit, by_number, Propagates};
 ghost use Rattle.theory.specs.Lawful.{IsLawful};
 ghost use Rattle.theory.specs.Propagation as closing;
 ghost use Rattle.theory.specs.Trails as closing_trails;
@@ -273,8 +273,8 @@ impl Propagator {
         requires over { All (IsOver trail.old.vars) self.old.clauses }
         requires lists { length self.old.lists.items ≡ 2 * trail.old.vars + 2 }
         requires served { (floor : ℕ) × IsServed floor self.old.clauses trail.old.entries served (tending (kept_of self.old)) }
-        ensures closes { IfOk result (λ a. Propagates self.old.clauses trail.old.entries (closed_of a) trail.new.entries) }
-        ensures onward { (a : closing.Closed) (U : closing_trails.Trail) → Propagates self.old.clauses trail.new.entries a U → Propagates self.old.clauses trail.old.entries a U }
+        ensures closes { IfOk result (λ a. Propagates by_number self.old.clauses trail.old.entries (closed_of a) trail.new.entries) }
+        ensures onward { (a : closing.Closed) (U : closing_trails.Trail) → Propagates by_number self.old.clauses trail.new.entries a U → Propagates by_number self.old.clauses trail.old.entries a U }
         ensures lawful { IsLawful self.old.clauses trail.old.entries → IsLawful self.old.clauses trail.new.entries }
         ensures served { OnOk result ((floor : ℕ) → IsServed floor self.old.clauses trail.old.entries served (tending (kept_of self.old))
             → IsServed floor self.old.clauses trail.new.entries (length trail.new.entries) (tending (kept_of self.new))) }

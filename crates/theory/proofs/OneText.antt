@@ -7,7 +7,8 @@ use Rattle.theory.specs.Texts.{proof_text, answer_text}
 use Rattle.theory.specs.Reading.{Token, IsReadable, Reads, formula, tokens_in, tokens_of}
 use Rattle.theory.specs.Written.{IsSatisfiableText, IsUnsatisfiableText, IsWritten}
 use Rattle.theory.proofs.ReadingMachine.{ReaderState, at_p, at_body}
-use Rattle.theory.proofs.FirstModelLemmas.{IsFirst-unique}
+use Rattle.theory.proofs.FoundModels.{IsFound-satisfies}
+use Rattle.theory.proofs.OneResult.{IsFirstLeaf-unique}
 use Rattle.theory.proofs.SearchLemmas.{IsTree-unique}
 use Rattle.theory.proofs.PrintedTokens.{states, formula-states}
 
@@ -26,21 +27,21 @@ Reads-one_formula bytes F G f g = IsReadable-unique (tokens_in (tokens_of bytes)
 abbrev pub Same : (p a q b : List ℕ) → Type 0
 Same p a q b = (p ≡ q) × (a ≡ b)
 
-pub satisfiable-same : (F : Formula) (p a q b : List ℕ) → IsSatisfiableText F p a → IsSatisfiableText F q b → Same p a q b
-satisfiable-same F p a q b s t =
-    (s.proof_is ∙ sym t.proof_is, s.answer_is ∙ ap (λ m. answer_text (Some m)) (IsFirst-unique F s.model t.model s.first t.first) ∙ sym t.answer_is)
+pub satisfiable-same : (F : Formula) (plan : Plan) (p a q b : List ℕ) → IsSatisfiableText F plan p a → IsSatisfiableText F plan q b → Same p a q b
+satisfiable-same F plan p a q b s t =
+    (s.proof_is ∙ sym t.proof_is, s.answer_is ∙ ap (λ m. answer_text (Some m)) (IsFirstLeaf-unique F plan [] s.model t.model s.is_result t.is_result) ∙ sym t.answer_is)
 
 pub unsatisfiable-same : (F : Formula) (plan : Plan) (p a q b : List ℕ) → IsUnsatisfiableText F plan p a → IsUnsatisfiableText F plan q b → Same p a q b
 unsatisfiable-same F plan p a q b s t =
     (s.proof_is ∙ ap (λ u. proof_text (proof F u)) (IsTree-unique F plan [] s.tree t.tree s.is_tree t.is_tree) ∙ sym t.proof_is, s.answer_is ∙ sym t.answer_is)
 
-texts-same : (F : Formula) (plan : Plan) (p a q b : List ℕ) → IsSatisfiableText F p a ⊎ IsUnsatisfiableText F plan p a
-    → IsSatisfiableText F q b ⊎ IsUnsatisfiableText F plan q b → Same p a q b
-texts-same F plan p a q b (inl s) (inl t) = satisfiable-same F p a q b s t
-texts-same F plan p a q b (inl s) (inr t) = absurd (t.unsatisfiable (s.model, s.first.satisfies))
-texts-same F plan p a q b (inr s) (inl t) = absurd (s.unsatisfiable (t.model, t.first.satisfies))
+texts-same : (F : Formula) (plan : Plan) (p a q b : List ℕ) → IsSatisfiableText F plan p a ⊎ IsUnsatisfiableText F plan p a
+    → IsSatisfiableText F plan q b ⊎ IsUnsatisfiableText F plan q b → Same p a q b
+texts-same F plan p a q b (inl s) (inl t) = satisfiable-same F plan p a q b s t
+texts-same F plan p a q b (inl s) (inr t) = absurd (t.unsatisfiable (s.model, IsFound-satisfies plan.search F s.model s.found))
+texts-same F plan p a q b (inr s) (inl t) = absurd (s.unsatisfiable (t.model, IsFound-satisfies plan.search F t.model t.found))
 texts-same F plan p a q b (inr s) (inr t) = unsatisfiable-same F plan p a q b s t
 
 pub IsWritten-one : (bytes : List ℕ) (plan : Plan) (p a q b : List ℕ) → IsWritten bytes plan p a → IsWritten bytes plan q b → Same p a q b
 IsWritten-one bytes plan p a q b s t =
-    texts-same t.value plan p a q b (subst (λ F. IsSatisfiableText F p a ⊎ IsUnsatisfiableText F plan p a) (Reads-one_formula bytes s.value t.value s.reads t.reads) s.texts) t.texts
+    texts-same t.value plan p a q b (subst (λ F. IsSatisfiableText F plan p a ⊎ IsUnsatisfiableText F plan p a) (Reads-one_formula bytes s.value t.value s.reads t.reads) s.texts) t.texts

@@ -26,7 +26,7 @@ tree-unsatisfiable F plan Q (split x l r) f c o h e N s q = go (value N x) refl
     (tree-unsatisfiable F plan (true_half Q x) r f (are_distinct-push Q (positive x) c free.1) (push-over F.vars Q (positive x) o free.0) h.2 (parts (first_model l) (first_model r) e).1 N s)
   where
     free : IsVariable F.vars x × (has_var Q x ≡ false)
-    free = Runs-exhausted F plan Q x f c o h.0
+    free = Runs-exhausted F plan Q x h.0
 
     parts : (o p : Option Assignment) → or_else o p ≡ None → (o ≡ None) × (p ≡ None)
     parts None p k = (refl, k)

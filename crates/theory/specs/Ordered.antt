@@ -2,10 +2,10 @@
 -- Source: textbook CDCL (Handbook of Satisfiability), with a fixed order of decisions and no restarts.
 use Rattle.std.specs.Prelude.{◌≡◌, ℕ, ◌+◌, nat_eq, List, [], ◌∷◌, ◌++◌, Option, Some, None, if◌then◌else◌}
 use Rattle.std.specs.Option.{unwrap_or}
-use Rattle.theory.specs.Literals.{Literal, Clause}
+use Rattle.theory.specs.Literals.{Literal, Clause, negative}
 use Rattle.theory.specs.Truth.{Formula}
 use Rattle.theory.specs.Trails.{Trail, current_level, cube_trail, decide, up_to, least_free}
-use Rattle.theory.specs.Propagation.{Closed, quiet, conflict, Propagates}
+use Rattle.theory.specs.Propagation.{Closed, quiet, conflict, by_number, Propagates}
 use Rattle.theory.specs.Learning.{Line, learn, back_level}
 use Rattle.theory.specs.Search.{Outcome, model, refuted, exhausted, first_clauses, budget_of, values, Next, ends, goes_on, RunsFrom}
 
@@ -22,7 +22,7 @@ begin F Q = record { clauses = first_clauses F; trail = cube_trail Q; conflicts 
 
 -- the state after the decision that x is false
 abbrev pub decided_next : OrderedState → ℕ → OrderedState
-decided_next s x = record s { trail = decide s.trail x; decided = Some (unwrap_or s.decided x) }
+decided_next s x = record s { trail = decide s.trail (negative x); decided = Some (unwrap_or s.decided x) }
 
 -- the state after a line was learnt
 abbrev pub learnt_next : OrderedState → Line → OrderedState
@@ -53,7 +53,7 @@ after V budget s (conflict n) = on_conflict budget s (learn s.clauses s.trail n)
 pub record IsOrderedStep (V budget : ℕ) (s : OrderedState) (next : Next OrderedState) : Type 0 where
   pub answer : Closed
   pub trail : Trail
-  pub propagates : Propagates s.clauses s.trail answer trail
+  pub propagates : Propagates by_number s.clauses s.trail answer trail
   pub follows : after V budget (record s { trail = trail }) answer ≡ next
 
 -- the outcome of the cube Q, where B is the budget of the root

@@ -1,11 +1,11 @@
 use Rattle.std.proofs.Common.{refl}
-use Rattle.theory.specs.Propagation.{Propagates, quiet, conflict}
+use Rattle.theory.specs.Propagation.{by_number, Propagates, quiet, conflict}
 use Rattle.theory.proofs.LawfulTrails.{Propagates-conflict}
 use Rattle.cdcl.proofs.SearchingLemmas.{IsSearching-Propagates, IsSearchStep-from}
 use Rattle.theory.proofs.PropagationLemmas.{Propagates-rests}
 use Rattle.cdcl.proofs.ordered.OrderedSearch.step.Goals as goal
 
-came_to_rest : (c : goal.After-on_quiet-arg-1) → Propagates c.args.self.now.kernel.clauses c.args.self.now.kernel.trail quiet c.close.new.self.trail
+came_to_rest : (c : goal.After-on_quiet-arg-1) → Propagates by_number c.args.self.now.kernel.clauses c.args.self.now.kernel.trail quiet c.close.new.self.trail
 came_to_rest c = rw c.in-Quiet.is at c.in_ok-close.ensures.ok
 
 pub on_quiet-requires-clause-searching : goal.on_quiet-requires-clause-searching
@@ -13,9 +13,9 @@ on_quiet-requires-clause-searching c =
     IsSearching-Propagates c.args.self.now.kernel c.close.new.self quiet c.requires.searching c.close.ensures.kept.0 c.close.ensures.kept.1 c.close.ensures.kept.2 c.in_ok-close.ensures.short (came_to_rest c)
 
 pub on_quiet-requires-clause-quiet : goal.on_quiet-requires-clause-quiet
-on_quiet-requires-clause-quiet c = rw c.close.ensures.kept.1 (Propagates-rests _ _ _ (came_to_rest c))
+on_quiet-requires-clause-quiet c = rw c.close.ensures.kept.1 (Propagates-rests _ _ _ _ (came_to_rest c))
 
-met : (c : goal.After-on_conflict-arg-1) → Propagates c.args.self.now.kernel.clauses c.args.self.now.kernel.trail (conflict c.in-Conflict.number) c.close.new.self.trail
+met : (c : goal.After-on_conflict-arg-1) → Propagates by_number c.args.self.now.kernel.clauses c.args.self.now.kernel.trail (conflict c.in-Conflict.number) c.close.new.self.trail
 met c = rw c.in-Conflict.is at c.in_ok-close.ensures.ok
 
 pub on_conflict-requires-clause-searching : goal.on_conflict-requires-clause-searching
@@ -23,7 +23,7 @@ on_conflict-requires-clause-searching c =
     IsSearching-Propagates c.args.self.now.kernel c.close.new.self (conflict c.in-Conflict.number) c.requires.searching c.close.ensures.kept.0 c.close.ensures.kept.1 c.close.ensures.kept.2 c.in_ok-close.ensures.short (met c)
 
 pub on_conflict-requires-clause-conflict : goal.on_conflict-requires-clause-conflict
-on_conflict-requires-clause-conflict c = rw c.close.ensures.kept.1 (Propagates-conflict _ _ _ _ (met c))
+on_conflict-requires-clause-conflict c = rw c.close.ensures.kept.1 (Propagates-conflict _ _ _ _ _ (met c))
 
 pub returns-in-Quiet : goal.returns-in-Quiet
 returns-in-Quiet c =

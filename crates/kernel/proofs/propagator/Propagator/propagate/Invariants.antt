@@ -1,6 +1,6 @@
 use Rattle.std.proofs.Common.{◌≡◌, ◌≤◌, ℕ, length}
 use Rattle.theory.specs.Trails.{Trail, literals}
-use Rattle.theory.specs.Propagation.{Closed, Propagates}
+use Rattle.theory.specs.Propagation.{Closed, by_number, Propagates}
 use Rattle.theory.specs.Lawful.{IsLawful}
 use Rattle.kernel.proofs.Falling.{open_among}
 use Rattle.kernel.specs.Watching.{IsServed}
@@ -11,7 +11,7 @@ use Rattle.kernel.proofs.propagator.Propagator.propagate.Given as goal
 abbrev pub invariant-steps : goal.invariant-steps
 invariant-steps l = record {
   vars : l.trail.vars ≡ l.initial.trail.vars;
-  leads : (a : Closed) (U : Trail) → Propagates l.initial.self.clauses l.trail.entries a U → Propagates l.initial.self.clauses l.initial.trail.entries a U;
+  leads : (a : Closed) (U : Trail) → Propagates by_number l.initial.self.clauses l.trail.entries a U → Propagates by_number l.initial.self.clauses l.initial.trail.entries a U;
   lawful : IsLawful l.initial.self.clauses l.initial.trail.entries → IsLawful l.initial.self.clauses l.trail.entries;
   inside : l.served ≤ length l.trail.entries;
   entries : AreEntries l.initial.self.clauses (kept_of l.self);
