@@ -1,10 +1,8 @@
-pub mod NextLemmas
+pub mod Walks
 pub mod OkLemmas
-pub mod Remaining
-pub mod Frames
 pub mod PlaceLemmas
 pub mod KnownLemmas
-pub mod WalkLemmas
+pub mod GatheringLemmas
 pub mod WholeWalks
 pub mod Carrying
 pub mod RoundParts

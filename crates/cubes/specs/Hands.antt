@@ -1,5 +1,5 @@
 -- The parts of a hand's work, over the crate's own types.
-use Rattle.std.specs.Prelude.{◌≡◌, ℕ, Bool, true, false, List, [], ◌∷◌, ◌++◌, map, All, IfSome}
+use Rattle.std.specs.Prelude.{◌≡◌, ℕ, Bool, true, false, List, [], ◌∷◌, ◌++◌, map, IfSome}
 use Rattle.theory.specs.Literals.{Literal, IsVariable, has_var}
 use Rattle.theory.specs.Truth.{Formula, Assignment}
 use Rattle.theory.specs.Plans.{Plan}
@@ -7,9 +7,9 @@ use Rattle.theory.specs.Learning.{Line}
 use Rattle.theory.specs.Search as search
 use Rattle.theory.specs.Runs.{Runs}
 use Rattle.theory.specs.Ledger.{Ledger, joined, getting}
-use Rattle.theory.specs.Trees.{LeadsOn, IsCubeOf, false_half, true_half}
+use Rattle.theory.specs.Trees.{false_half, true_half}
 use Rattle.theory.specs.Results as results
-use Rattle.theory.specs.Round.{IsHandOn, IsRound, Adds, HasWorked, IsCarriedTo}
+use Rattle.theory.specs.Round.{IsHandOn, IsRound, Adds, HasWorked}
 use Rattle.theory.specs.Work.{IsUnderway}
 use Rattle.cubes.specs.Solved.{solved_of}
 use Rattle.cubes.specs.declared.solved.Solved.{Solved}
@@ -67,20 +67,3 @@ Underway F plan first now solved = IsUnderway F plan first now (map solved_of so
 
 abbrev pub Worked_as : Formula → Plan → Bool → Ledger → Ledger → List Solved → Type 0
 Worked_as F plan is_short first last solved = HasWorked F plan is_short first last (map solved_of solved)
-
--- while the half H is carried on, at the cube that lies along the path below it: no model was found yet, and each cube of H's tree is
--- settled, or is below this one, or lies right of it
-pub record IsCarrying (F : Formula) (plan : Plan) (H path : List Literal) (solved : List results.Solved) : Type 0 where
-  pub of_tree : LeadsOn F plan H path
-  pub true_of : All (λ r. results.IsTrueOf F plan r.cube r.what) solved
-  pub of_half : All (λ r. IsCubeOf F plan H r.cube) solved
-  pub no_model : All (λ r. ¬ (results.IsModel r.what)) solved
-  pub to_here : IsCarriedTo F plan H (H ++ path) solved
-
--- the same of the cube, with the results before the half and now
-pub record IsCarryingAt (F : Formula) (plan : Plan) (H Q : List Literal) (before now : List Solved) : Type 0 where
-  pub path : List Literal
-  pub results : List results.Solved
-  pub is_cube : Q ≡ H ++ path
-  pub is_now : map solved_of now ≡ map solved_of before ++ results
-  pub carrying : IsCarrying F plan H path results

@@ -1,9 +1,10 @@
 -- The order of a tree's cubes, and what a result is.
+pub mod CubeWalks
+pub mod Gathering
 pub mod Hands
 pub mod Known
-pub mod Next
 pub mod Result
 pub mod Shares
 pub mod Solved
 pub mod Source
-pub mod Walk
+pub mod Traversal

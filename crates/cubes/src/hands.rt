@@ -9,14 +9,14 @@ ghost use Rattle.cdcl.specs.Outcome.{outcome_of};
 ghost use Rattle.pool.specs.Hands.{SameHand};
 ghost use Rattle.cubes.specs.Hands.{Gets, IsWorker, EndsIn, Settles, AddsRound, AddsHandOn, AddsHalves, AddsCarried, Worked_as};
 
+use crate::cube_walk::CubeWalk;
 use crate::gate::Gate;
-use crate::next::go_right_below;
 use crate::pause::Pauses;
 use crate::place::place_of;
 use crate::results::solve;
 use crate::solved::{Solved, What};
 use cdcl::{Outcome, Plan, Solver, split};
-use cnf::{Formula, Lit};
+use cnf::Formula;
 use kernel::Cube;
 use pool::{Hand, Taken};
 use std::alloc::{AllocError, Global};
@@ -157,17 +157,17 @@ impl Worker {
         ensures part { AddsCarried formula.now plan (is_ok result) half self.old.hand.ledger self.new.hand.ledger self.old.solved.items self.new.solved.items }
     {
         let _vars = formula.vars(); // it ensures that there are fewer than 2^31
-        let depth = half.lits().len();
-        let mut cube = half;
+        let _lits = half.lits(); // it ensures that their variables are distinct
+        let mut at = CubeWalk::from(*self.solved.allocator(), half);
         'cubes: loop {
-            match self.settle(formula, plan, &cube)? {
+            match self.settle(formula, plan, &at.cube)? {
                 Ending::Model => {
-                    self.hand.offer(place_of(&cube));
+                    self.hand.offer(place_of(&at.cube));
                     return Ok(());
                 }
-                Ending::Exhausted(var) => cube.push(Lit::of(var, false))?,
+                Ending::Exhausted(var) => at.enter(var)?,
                 Ending::Refuted => {
-                    if !go_right_below(&mut cube, depth)? {
+                    if !at.go_on()? {
                         return Ok(());
                     }
                 }

@@ -3,17 +3,18 @@
 
 mod by_budget;
 mod closing;
+mod cube_walk;
 mod gate;
+mod gathering;
 mod hands;
 mod known;
-mod next;
 mod pause;
 mod place;
 mod results;
 mod solved;
 mod threads;
+mod traversal;
 mod tree;
-mod walk;
 
 pub use by_budget::{gather, solve_one, solve_with, work};
 pub use closing::{harvest, harvest_by_plan};
@@ -23,4 +24,5 @@ pub use place::place_of;
 pub use results::{assemble, gather_by_plan, solve_one_by_plan};
 pub use solved::{Solved, What};
 pub use threads::{results_by_hands, solve_by_plan};
+pub use traversal::{Split, Turn, Walk};
 pub use tree::{Node, Tree};

@@ -9,10 +9,10 @@ ghost use Rattle.cubes.specs.Solved.{AreTrueResults, solved_of};
 ghost use Rattle.cubes.specs.Source.{IsSource};
 ghost use Rattle.cubes.specs.Result.{IsResultOf, Says};
 
+use crate::gathering::Gathering;
 use crate::known::Known;
 use crate::solved::Solved;
 use crate::tree::Tree;
-use crate::walk::Walk;
 use cdcl::{Outcome, Plan, Solver};
 use cnf::Formula;
 use kernel::Cube;
@@ -87,10 +87,10 @@ pub fn gather_by_plan(
         known: Known::new(alloc, results)?,
         solver: None,
     };
-    let mut walk = Walk::start(alloc);
+    let mut gathering = Gathering::start(alloc);
     'cubes: loop {
-        let outcome = source.outcome(alloc, formula, plan, &walk.cube)?;
-        if let Some(tree) = walk.go_on(outcome)? {
+        let outcome = source.outcome(alloc, formula, plan, &gathering.at.cube)?;
+        if let Some(tree) = gathering.go_on(outcome)? {
             return Ok(tree);
         }
     }
@@ -104,13 +104,13 @@ pub fn assemble(alloc: Global, results: Vec<Solved>) -> Result<Tree, AllocError>
     ensures { IfOk result (λ t. (F : Formula) (plan : plans.Plan) → IsWhole F plan (map solved_of results.items) → IsResultOf F plan t) }
 {
     let mut known = Known::new(alloc, results)?;
-    let mut walk = Walk::start(alloc);
+    let mut gathering = Gathering::start(alloc);
     'cubes: loop {
-        let outcome = match known.take(&walk.cube) {
+        let outcome = match known.take(&gathering.at.cube) {
             Some(outcome) => outcome,
             None => unreachable!(),
         };
-        if let Some(tree) = walk.go_on(outcome)? {
+        if let Some(tree) = gathering.go_on(outcome)? {
             return Ok(tree);
         }
     }

@@ -1,15 +1,21 @@
-use Rattle.std.proofs.Common.{suc, map, length, sum_by, sym, ◌∙◌}
+use Rattle.std.proofs.Common.{suc, map, length, sum_by, refl, sym, ◌∙◌}
 use Rattle.cubes.specs.Solved.{solved_of}
-use Rattle.cubes.proofs.WalkLemmas.{can_go_on, comes_to, fewer}
+use Rattle.cubes.proofs.GatheringLemmas.{IsGathered-start, can_go_on, gives, fewer}
 use Rattle.cubes.proofs.WholeWalks.{AreStillThere-on, is_there, is_outcome, length-there}
 use Rattle.cubes.proofs.results.assemble.Goals as goal
+
+pub cubes-init : goal.cubes-init
+cubes-init c = record {
+  reached = λ F plan whole. IsGathered-start F plan c.start-gathering.result c.start-gathering.ensures.cube c.start-gathering.ensures.walk c.start-gathering.ensures.nodes;
+  still = (rw c.start-gathering.ensures.walk c.start-gathering.ensures.cube, λ R named n. refl);
+}
 
 pub unreachable-requires : goal.unreachable-requires
 unreachable-requires c =
     let F = c.requires.0 in
     let plan = c.requires.1 in
     let whole = c.requires.3 in
-    is_there F plan (map solved_of c.args.results.items) c.in_ok-known.known c.cubes.known c.cubes.walk whole (c.cubes.invariant.reached F plan whole) c.take.ensures.variables c.in_ok-known.ensures c.cubes.invariant.still
+    is_there F plan (map solved_of c.args.results.items) c.in_ok-known.known c.cubes.known c.cubes.gathering whole (c.cubes.invariant.reached F plan whole) c.take.ensures.variables c.in_ok-known.ensures c.cubes.invariant.still
     (sym c.take.ensures.outcome ∙ c.in-None.is)
 
 pub go_on-requires : goal.go_on-requires
@@ -17,13 +23,13 @@ go_on-requires c =
     let F = c.requires.0 in
     let plan = c.requires.1 in
     let whole = c.requires.3 in
-    can_go_on F plan c.cubes.walk c.in-Some.outcome c.requires.2
-    (is_outcome F plan (map solved_of c.args.results.items) c.in_ok-known.known c.cubes.known c.cubes.walk c.in-Some.outcome whole c.take.ensures.variables c.in_ok-known.ensures c.cubes.invariant.still (sym c.take.ensures.outcome ∙ c.in-Some.is))
+    can_go_on F plan c.cubes.gathering c.in-Some.outcome c.requires.2
+    (is_outcome F plan (map solved_of c.args.results.items) c.in_ok-known.known c.cubes.known c.cubes.gathering c.in-Some.outcome whole c.take.ensures.variables c.in_ok-known.ensures c.cubes.invariant.still (sym c.take.ensures.outcome ∙ c.in-Some.is))
 
 pub returns-in-Some-2 : goal.returns-in-Some-2
 returns-in-Some-2 c F plan whole =
-    comes_to F plan c.cubes.walk c.go_on.new.self c.in-Some.outcome _ (c.cubes.invariant.reached F plan whole)
-    (is_outcome F plan (map solved_of c.args.results.items) c.in_ok-known.known c.cubes.known c.cubes.walk c.in-Some.outcome whole c.take.ensures.variables c.in_ok-known.ensures c.cubes.invariant.still (sym c.take.ensures.outcome ∙ c.in-Some.is))
+    gives F plan c.cubes.gathering c.go_on.new.self c.in-Some.outcome _ (c.cubes.invariant.reached F plan whole)
+    (is_outcome F plan (map solved_of c.args.results.items) c.in_ok-known.known c.cubes.known c.cubes.gathering c.in-Some.outcome whole c.take.ensures.variables c.in_ok-known.ensures c.cubes.invariant.still (sym c.take.ensures.outcome ∙ c.in-Some.is))
     (rw c.in-Some-2.is at c.in_ok-tree.ensures)
 
 pub cubes-smaller : goal.cubes-smaller
@@ -31,13 +37,13 @@ cubes-smaller c =
     let F = c.requires.0 in
     let plan = c.requires.1 in
     let whole = c.requires.3 in
-    fewer (suc (sum_by (λ r. length r.cube) (map solved_of c.args.results.items))) c.cubes.walk c.go_on.new.self c.in-Some.outcome
-    (length-there F plan (map solved_of c.args.results.items) c.cubes.walk whole (c.cubes.invariant.reached F plan whole)) (rw c.in_default.is at c.in_ok-tree.ensures)
+    fewer (suc (sum_by (λ r. length r.cube) (map solved_of c.args.results.items))) c.cubes.gathering c.go_on.new.self c.in-Some.outcome
+    (length-there F plan (map solved_of c.args.results.items) c.cubes.gathering whole (c.cubes.invariant.reached F plan whole)) (rw c.in_default.is at c.in_ok-tree.ensures)
 
 pub cubes-preserved : goal.cubes-preserved
 cubes-preserved c = record {
-  reached = λ F plan whole. comes_to F plan c.cubes.walk c.go_on.new.self c.in-Some.outcome _ (c.cubes.invariant.reached F plan whole)
-      (is_outcome F plan (map solved_of c.args.results.items) c.in_ok-known.known c.cubes.known c.cubes.walk c.in-Some.outcome whole c.take.ensures.variables c.in_ok-known.ensures c.cubes.invariant.still (sym c.take.ensures.outcome ∙ c.in-Some.is))
+  reached = λ F plan whole. gives F plan c.cubes.gathering c.go_on.new.self c.in-Some.outcome _ (c.cubes.invariant.reached F plan whole)
+      (is_outcome F plan (map solved_of c.args.results.items) c.in_ok-known.known c.cubes.known c.cubes.gathering c.in-Some.outcome whole c.take.ensures.variables c.in_ok-known.ensures c.cubes.invariant.still (sym c.take.ensures.outcome ∙ c.in-Some.is))
       (rw c.in_default.is at c.in_ok-tree.ensures);
-  still = AreStillThere-on c.in_ok-known.known c.cubes.known c.take.new.self c.cubes.walk c.go_on.new.self c.in-Some.outcome (rw c.in_default.is at c.in_ok-tree.ensures) c.take.ensures.others c.cubes.invariant.still;
+  still = AreStillThere-on c.in_ok-known.known c.cubes.known c.take.new.self c.cubes.gathering c.go_on.new.self c.in-Some.outcome (rw c.in_default.is at c.in_ok-tree.ensures) c.take.ensures.others c.cubes.invariant.still;
 }

@@ -3,9 +3,8 @@ use Rattle.theory.specs.Truth.{Formula}
 use Rattle.theory.specs.Plans.{Plan}
 use Rattle.theory.specs.Results.{IsWhole}
 use Rattle.cubes.specs.Solved.{solved_of}
-use Rattle.cubes.specs.Walk.{nodes_of}
-use Rattle.cubes.proofs.Frames.{IsReached}
-use Rattle.cubes.proofs.Remaining.{left_from}
+use Rattle.cubes.proofs.GatheringLemmas.{IsGathered}
+use Rattle.cubes.proofs.Walks.{to_come}
 use Rattle.cubes.proofs.WholeWalks.{AreStillThere}
 use Rattle.cubes.proofs.results.assemble.Given as goal
 
@@ -13,9 +12,9 @@ use Rattle.cubes.proofs.results.assemble.Given as goal
 -- is still there
 abbrev pub invariant-cubes : goal.invariant-cubes
 invariant-cubes l = record {
-  reached : (F : Formula) (plan : Plan) → IsWhole F plan (map solved_of l.fn.results.items) → IsReached F plan l.walk.cube (nodes_of l.walk);
-  still : AreStillThere l.initial.known l.known l.walk.cube;
+  reached : (F : Formula) (plan : Plan) → IsWhole F plan (map solved_of l.fn.results.items) → IsGathered F plan l.gathering;
+  still : AreStillThere l.initial.known l.known l.gathering;
 }
 
 abbrev pub decreases-cubes : goal.decreases-cubes
-decreases-cubes l = left_from (suc (sum_by (λ r. length r.cube) (map solved_of l.fn.results.items))) l.walk.cube
+decreases-cubes l = to_come (suc (sum_by (λ r. length r.cube) (map solved_of l.fn.results.items))) l.gathering.at.walk

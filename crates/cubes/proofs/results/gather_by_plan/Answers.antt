@@ -1,41 +1,40 @@
-use Rattle.std.proofs.Common.{◌+◌, map, arith}
-use Rattle.std.proofs.lemmas.List.Elements.{All-map}
+use Rattle.std.proofs.Common.{◌+◌, [], map, refl, arith}
+use Rattle.std.proofs.lemmas.List.Elements.{All-map, All-nil}
 use Rattle.theory.specs.Results.{IsTrueOf}
 use Rattle.cubes.specs.Solved.{solved_of}
-use Rattle.cubes.specs.Walk.{nodes_of}
-use Rattle.cubes.proofs.Frames.{IsReached-root, IsReached-over, length-reached}
+use Rattle.cubes.proofs.Walks.{IsReached-over, IsReached-short}
 use Rattle.cubes.proofs.KnownLemmas.{AreOutcomes-known}
-use Rattle.cubes.proofs.WalkLemmas.{can_go_on, comes_to, fewer, says}
+use Rattle.cubes.proofs.GatheringLemmas.{IsGathered-start, can_go_on, gives, fewer, says}
 use Rattle.cubes.proofs.results.gather_by_plan.Goals as goal
 
 pub cubes-init : goal.cubes-init
 cubes-init c = record {
   source = (AreOutcomes-known c.args.formula.now c.args.plan (map solved_of c.args.results.items) c.in_ok-new.field-0 (All-map (λ r. IsTrueOf c.args.formula.now c.args.plan r.cube r.what) solved_of c.args.results.items c.requires.results) c.in_ok-new.ensures, tt);
-  reached = rw (c.start-walk.ensures.cube, c.start-walk.ensures.nodes) (IsReached-root c.args.formula.now c.args.plan);
+  reached = IsGathered-start c.args.formula.now c.args.plan c.start-gathering.result c.start-gathering.ensures.cube c.start-gathering.ensures.walk c.start-gathering.ensures.nodes;
 }
 
 pub outcome-requires-clause-over : goal.outcome-requires-clause-over
-outcome-requires-clause-over c = IsReached-over c.args.formula.now c.args.plan c.cubes.walk.cube (nodes_of c.cubes.walk) c.cubes.invariant.reached
+outcome-requires-clause-over c = let r = c.cubes.invariant.reached in IsReached-over c.args.formula.now c.args.plan [] c.cubes.gathering.at.walk r.results c.cubes.gathering.at.cube r.below refl (All-nil _) r.reached
 
 pub go_on-requires : goal.go_on-requires
-go_on-requires c = can_go_on c.args.formula.now c.args.plan c.cubes.walk c.in_ok-outcome.outcome (let few = c.vars-vars.ensures.within.vars in omega arith) c.in_ok-outcome.ensures.runs
+go_on-requires c = can_go_on c.args.formula.now c.args.plan c.cubes.gathering c.in_ok-outcome.outcome (let few = c.vars-vars.ensures.within.vars in omega arith) c.in_ok-outcome.ensures.runs
 
 pub returns-in-Some-clause-result : goal.returns-in-Some-clause-result
 returns-in-Some-clause-result c =
-    comes_to c.args.formula.now c.args.plan c.cubes.walk c.go_on.new.self c.in_ok-outcome.outcome _ c.cubes.invariant.reached c.in_ok-outcome.ensures.runs (rw c.in-Some.is at c.in_ok-tree.ensures)
+    gives c.args.formula.now c.args.plan c.cubes.gathering c.go_on.new.self c.in_ok-outcome.outcome _ c.cubes.invariant.reached c.in_ok-outcome.ensures.runs (rw c.in-Some.is at c.in_ok-tree.ensures)
 
 pub returns-in-Some-clause-says : goal.returns-in-Some-clause-says
 returns-in-Some-clause-says c =
     says c.args.formula.now c.args.plan c.in-Some.tree c.vars-vars.ensures.within.formula
-    (comes_to c.args.formula.now c.args.plan c.cubes.walk c.go_on.new.self c.in_ok-outcome.outcome _ c.cubes.invariant.reached c.in_ok-outcome.ensures.runs (rw c.in-Some.is at c.in_ok-tree.ensures))
+    (gives c.args.formula.now c.args.plan c.cubes.gathering c.go_on.new.self c.in_ok-outcome.outcome _ c.cubes.invariant.reached c.in_ok-outcome.ensures.runs (rw c.in-Some.is at c.in_ok-tree.ensures))
 
 pub cubes-smaller : goal.cubes-smaller
 cubes-smaller c =
-    fewer (c.args.formula.now.vars + 1) c.cubes.walk c.go_on.new.self c.in_ok-outcome.outcome
-    (let short = length-reached c.args.formula.now c.args.plan c.cubes.walk.cube (nodes_of c.cubes.walk) c.cubes.invariant.reached in omega arith) (rw c.in_default.is at c.in_ok-tree.ensures)
+    fewer (c.args.formula.now.vars + 1) c.cubes.gathering c.go_on.new.self c.in_ok-outcome.outcome
+    (let r = c.cubes.invariant.reached in let short = IsReached-short c.args.formula.now c.args.plan [] c.cubes.gathering.at.walk r.results c.cubes.gathering.at.cube r.below refl (All-nil _) r.reached in omega arith) (rw c.in_default.is at c.in_ok-tree.ensures)
 
 pub cubes-preserved : goal.cubes-preserved
 cubes-preserved c = record {
   source = c.in_ok-outcome.ensures.kept;
-  reached = comes_to c.args.formula.now c.args.plan c.cubes.walk c.go_on.new.self c.in_ok-outcome.outcome _ c.cubes.invariant.reached c.in_ok-outcome.ensures.runs (rw c.in_default.is at c.in_ok-tree.ensures);
+  reached = gives c.args.formula.now c.args.plan c.cubes.gathering c.go_on.new.self c.in_ok-outcome.outcome _ c.cubes.invariant.reached c.in_ok-outcome.ensures.runs (rw c.in_default.is at c.in_ok-tree.ensures);
 }

@@ -1,5 +1,5 @@
 use Rattle.cubes.proofs.OkLemmas.{if_ok}
-use Rattle.cubes.proofs.WalkLemmas.{says}
+use Rattle.cubes.proofs.GatheringLemmas.{says}
 use Rattle.cubes.proofs.threads.solve_by_hands.Goals as goal
 
 pub returns-clause-says : goal.returns-clause-says

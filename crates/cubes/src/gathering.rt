@@ -1,30 +1,30 @@
-//! Going through the cubes of a tree of splits, from left to right, wherever their outcomes come from.
+//! Gathering the tree of a formula, from left to right, wherever the outcomes of its cubes come from.
 ghost use Rattle.std.specs.Prelude.{◌≡◌, [], IfOk};
-ghost use Rattle.cubes.specs.Walk.{CanSplit, GoesOnWith, nodes_of};
+ghost use Rattle.cubes.specs.Gathering.{CanSplit, GoesOnWith, nodes_of};
 
-use crate::next::go_right;
+use crate::cube_walk::CubeWalk;
 use crate::tree::{Node, Tree};
 use cdcl::Outcome;
-use cnf::Lit;
 use kernel::Cube;
 use std::alloc::{AllocError, Global};
 use std::mem;
 
 /// A cube of the tree, and the nodes before it.
 #[derive(Drop)]
-pub(crate) struct Walk {
-    pub(crate) cube: Cube,
+pub(crate) struct Gathering {
+    pub(crate) at: CubeWalk,
     pub(crate) nodes: Vec<Node>,
 }
 
-impl Walk {
+impl Gathering {
     /// At the root. It takes no memory.
-    pub(crate) fn start(alloc: Global) -> Walk
-        ensures cube { result.cube ≡ [] }
+    pub(crate) fn start(alloc: Global) -> Gathering
+        ensures cube { result.at.cube ≡ [] }
+        ensures walk { result.at.walk ≡ [] }
         ensures nodes { nodes_of result ≡ [] }
     {
-        Walk {
-            cube: Cube::root(alloc),
+        Gathering {
+            at: CubeWalk::from(alloc, Cube::root(alloc)),
             nodes: Vec::new(alloc),
         }
     }
@@ -38,12 +38,12 @@ impl Walk {
             Outcome::Model(values) => Ok(Some(Tree::Model(values))),
             Outcome::Exhausted(var) => {
                 self.nodes.push(Node::Split(var))?;
-                self.cube.push(Lit::of(var, false))?;
+                self.at.enter(var)?;
                 Ok(None)
             }
             Outcome::Refuted(refutation) => {
                 self.nodes.push(Node::Leaf(refutation))?;
-                if go_right(&mut self.cube)? {
+                if self.at.go_on()? {
                     return Ok(None);
                 }
                 let alloc = *self.nodes.allocator();
