@@ -1,6 +1,6 @@
 //! The traversal of a tree of splits, from left to right and without recursion: into a split, away from a leaf or a split. It knows nothing of
 //! what a leaf is, nor of what is made of the halves.
-ghost use Rattle.std.specs.Prelude.{◌≡◌, [], ◌∷◌, None, IfOk, OnOk};
+ghost use Rattle.std.specs.Prelude.{◌≡◌, [], ◌∷◌, reverse, None, IfOk, OnOk};
 ghost use Rattle.cubes.specs.Traversal.{Turns};
 
 use std::alloc::{AllocError, Global};
@@ -58,6 +58,13 @@ impl<T: Drop> Walk<T> {
         Ok(Walk {
             splits: Vec::with_capacity(alloc, splits)?,
         })
+    }
+
+    /// The splits on the way, from the root on.
+    pub fn splits(&self) -> &[Split<T>]
+        ensures { result.now ≡ reverse self.now }
+    {
+        &self.splits
     }
 
     /// Enters a split on this variable, which stands at this place: the way goes on in its left half. Where a request for memory is refused, the

@@ -22,7 +22,7 @@ use Rattle.cubes.specs.Result.{node_of, IsResultOf}
 use Rattle.join.specs.declared.line.Due.TheVariants.{Nothing}
 use Rattle.join.specs.Joining.{Joined, lines_below, lines_from}
 use Rattle.join.specs.declared.lines.Lines.{Lines}
-use Rattle.join.specs.declared.walk.Walk.{Walk}
+use Rattle.join.specs.declared.walk.TreeWalk.{TreeWalk}
 use Rattle.join.specs.Numbered.{AreLines, AreNodes, AreNodesOf, AreUnitsOf, AreStepsOf, AreAccepted, AreWithin, IsHalf}
 use Rattle.join.specs.Walking.{IsAt, IsBegun, IsBetweenLines, lines_left}
 use Rattle.join.proofs.TreeLemmas.{tree-nodes}
@@ -61,9 +61,9 @@ whole-proof F N t units nodes pure count none are =
 pub begun-steps : (l : Lines) (F : Formula) (N : ℕ) (tree : Tree) (units : List Literal) (nodes : List Node) → l.unit ≡ length F.clauses + 1 → into_iter_items l.units ≡ units → l.due ≡ Nothing → IsBegun N nodes l.walk
     → N ≡ length F.clauses + length units → AreUnitsOf F tree units → AreNodesOf tree nodes → AreStepsOf F tree (lines_left l)
 begun-steps l F N (Model values) units nodes unit here due begun count are same =
-    rw (here, are, due, begun.halves, begun.leaf, begun.nodes, same) refl
+    rw (here, are, due, begun.place, begun.leaf, begun.nodes, same) refl
 begun-steps l F N (Refuted ns) units nodes unit here due begun count are same = λ t none of_tree.
-    rw (here, unit, due, begun.halves, begun.leaf, begun.nodes, begun.clauses, begun.first, begun.next)
+    rw (here, unit, due, begun.place, begun.leaf, begun.nodes, begun.clauses, begun.first, begun.next)
     (whole-proof F N t units nodes are (first-count F units (length F.clauses) N refl count are) none (of_tree ∙ ap (map node_of) (sym same)))
 
 -- the checker accepts the steps of a result that is no model
@@ -79,7 +79,7 @@ within-steps F plan (Refuted nodes) steps within result are =
     rw (are result.0 result.1.1 (sym result.2)) (λ short. proof-within F plan result.0 within result.1.0 result.1.1 short)
 
 -- what is kept before the first line
-walk-begun : (w : Walk) (N : ℕ) (nodes : List Node) → IsBegun N nodes w → N ≤ max_clauses + max_vars → AreNodes N (map node_of nodes) → IsAt w w.next
+walk-begun : (w : TreeWalk) (N : ℕ) (nodes : List Node) → IsBegun N nodes w → N ≤ max_clauses + max_vars → AreNodes N (map node_of nodes) → IsAt w w.next
 walk-begun w N nodes begun few are =
     let clauses = begun.clauses in
     let next = begun.next in
@@ -88,8 +88,8 @@ walk-begun w N nodes begun few are =
       clauses = omega arith;
       first = omega arith;
       begun = omega arith;
-      halves = subst (All (IsHalf w.next)) (sym begun.halves) (All-nil (IsHalf w.next));
-      started = λ e some. let long = ap length begun.halves in absurd (omega arith);
+      splits = subst (All (IsHalf w.next)) (sym begun.place) (All-nil (IsHalf w.next));
+      started = λ e some. let long = ap length begun.place in absurd (omega arith);
       leaf = subst (AreLines (w.clauses + (w.next - w.first))) (sym begun.leaf) tt;
       nodes = rw (begun.nodes, begun.clauses) are;
     }

@@ -8,17 +8,18 @@ use Rattle.theory.specs.Reading.{max_vars, max_clauses}
 use Rattle.theory.specs.Learning.{Line}
 use Rattle.theory.specs.Proofs.{renumbered, numbers_from}
 use Rattle.theory.proofs.DeletedNumbers.{numbers_from-All}
-use Rattle.join.specs.declared.line.Half.{Half}
-use Rattle.join.specs.Joining.{cube_of, learnt_line, split_line}
+use Rattle.cubes.specs.declared.traversal.Split.{Split}
+use Rattle.cubes.specs.Traversal.{path}
+use Rattle.join.specs.Joining.{learnt_line, split_line}
 use Rattle.theory.specs.Steps.{add, delete}
 use Rattle.theory.specs.ProofReading.{IsStep, IsNumber, IsLiteral, IsGroup, IsAddition, max_number}
 use Rattle.join.specs.Numbered.{IsHalf, IsBefore, AreUpTo}
-use Rattle.join.proofs.CubeLemmas.{opposite, negations-reversed}
+use Rattle.join.proofs.CubeLemmas.{opposite, negations-path, All-reverse}
 
 -- the negations of the cube are over the variables
-pub IsOver-negations : (hs : List Half) → All (λ h. IsVariable max_vars h.var) hs → IsOver max_vars (negations (cube_of (reverse hs)))
+pub IsOver-negations : (hs : List (Split ℕ)) → All (λ h. IsVariable max_vars h.var) hs → IsOver max_vars (negations (path hs))
 IsOver-negations hs h =
-    subst (IsOver max_vars) (sym (negations-reversed hs)) (All-map (λ (l : Literal). IsVariable max_vars l.var) opposite hs h)
+    subst (IsOver max_vars) (sym (negations-path hs)) (All-map (λ (l : Literal). IsVariable max_vars l.var) opposite (reverse hs) (All-reverse (λ s. IsVariable max_vars s.var) hs h))
 
 -- a hint's number in the proof, where its line has the number first + k
 renumbered-within : (N first k h : ℕ) → N < first → (1 ≤ h) × (h ≤ N + k) → (1 ≤ renumbered N first h) × (renumbered N first h ≤ first + k - 1)
@@ -47,37 +48,37 @@ IsBefore-later n None h = h
 IsBefore-later n (Some left) h = let below = h.1 in (h.0, omega arith)
 
 -- the splits, before one more line
-pub AreHalves-later : (n : ℕ) (hs : List Half) → All (IsHalf n) hs → All (IsHalf (n + 1)) hs
+pub AreHalves-later : (n : ℕ) (hs : List (Split ℕ)) → All (IsHalf n) hs → All (IsHalf (n + 1)) hs
 AreHalves-later n hs h = All-weaker (IsHalf n) (IsHalf (n + 1)) (λ h w. record { variable = w.variable; left = IsBefore-later n h.left w.left }) hs h
 
-pub variables-of : (n : ℕ) (hs : List Half) → All (IsHalf n) hs → All (λ h. IsVariable max_vars h.var) hs
+pub variables-of : (n : ℕ) (hs : List (Split ℕ)) → All (IsHalf n) hs → All (λ h. IsVariable max_vars h.var) hs
 variables-of n hs h = All-weaker (IsHalf n) (λ h. IsVariable max_vars h.var) (λ x k. k.variable) hs h
 
 -- the line for a leaf's line, and that of a split, are within the limits
-pub IsStep-learnt : (N first n : ℕ) (hs : List Half) (line : Line) → first ≤ n → n ≤ max_number → N < first → All (λ h. IsVariable max_vars h.var) hs → IsOver max_vars line.clause
-    → AreUpTo (N + (n - first)) line.hints → IsStep (learnt_line N first n (cube_of (reverse hs)) line)
+pub IsStep-learnt : (N first n : ℕ) (hs : List (Split ℕ)) (line : Line) → first ≤ n → n ≤ max_number → N < first → All (λ h. IsVariable max_vars h.var) hs → IsOver max_vars line.clause
+    → AreUpTo (N + (n - first)) line.hints → IsStep (learnt_line N first n (path hs) line)
 IsStep-learnt N first n hs line begun fits low halves over up_to =
     let number : first + (n - first) - 1 ≡ n - 1 = omega arith in
-    IsAddition-line n (line.clause ++ negations (cube_of (reverse hs))) (map (renumbered N first) line.hints) (omega arith) fits
+    IsAddition-line n (line.clause ++ negations (path hs)) (map (renumbered N first) line.hints) (omega arith) fits
     (All-append (λ (l : Literal). IsVariable max_vars l.var) line.clause _ over (IsOver-negations hs halves))
     (subst (λ m. AreUpTo m (map (renumbered N first) line.hints)) number (AreUpTo-renumbered N first (n - first) line.hints low up_to))
 
-pub IsStep-split : (n left : ℕ) (hs : List Half) → n ≤ max_number → 1 ≤ left → left < n → All (λ h. IsVariable max_vars h.var) hs → IsStep (split_line n (cube_of (reverse hs)) left (n - 1))
+pub IsStep-split : (n left : ℕ) (hs : List (Split ℕ)) → n ≤ max_number → 1 ≤ left → left < n → All (λ h. IsVariable max_vars h.var) hs → IsStep (split_line n (path hs) left (n - 1))
 IsStep-split n left hs fits low before halves =
-    IsAddition-line n (negations (cube_of (reverse hs))) (left ∷ (n - 1) ∷ []) (omega arith) fits (IsOver-negations hs halves)
+    IsAddition-line n (negations (path hs)) (left ∷ (n - 1) ∷ []) (omega arith) fits (IsOver-negations hs halves)
     (All-cons (λ h. (1 ≤ h) × (h ≤ n - 1)) left ((n - 1) ∷ []) (low, omega arith) (All-cons (λ h. (1 ≤ h) × (h ≤ n - 1)) (n - 1) [] (omega arith, omega arith) (All-nil (λ h. (1 ≤ h) × (h ≤ n - 1)))))
 
 -- a hint and the number of the first line make a number
 pub fits-renumbered : (N first n : ℕ) (hints : List ℕ) → first ≤ n → n ≤ max_number → N ≤ max_clauses + max_vars → AreUpTo (N + (n - first)) hints → All (λ h. h + first < 2 ^ 64) hints
 fits-renumbered N first n hints begun fits few h = All-weaker (λ h. (1 ≤ h) × (h ≤ N + (n - first))) (λ h. h + first < 2 ^ 64) (λ h w. let most = w.1 in omega arith) hints h
 
-pub within-learnt : (N first n : ℕ) (hs : List Half) (line : Line) (clause : List Literal) (hints : List ℕ) → first ≤ n → n ≤ max_number → N < first → All (λ h. IsVariable max_vars h.var) hs → IsOver max_vars line.clause
-    → AreUpTo (N + (n - first)) line.hints → clause ≡ line.clause ++ negations (cube_of (reverse hs)) → hints ≡ map (renumbered N first) line.hints
+pub within-learnt : (N first n : ℕ) (hs : List (Split ℕ)) (line : Line) (clause : List Literal) (hints : List ℕ) → first ≤ n → n ≤ max_number → N < first → All (λ h. IsVariable max_vars h.var) hs → IsOver max_vars line.clause
+    → AreUpTo (N + (n - first)) line.hints → clause ≡ line.clause ++ negations (path hs) → hints ≡ map (renumbered N first) line.hints
     → IsStep (add (record { id = n; clause = clause; hints = hints; groups = [] }))
 within-learnt N first n hs line clause hints begun fits low halves over up_to c h = rw (c, h) (IsStep-learnt N first n hs line begun fits low halves over up_to)
 
-pub within-split : (n left : ℕ) (hs : List Half) (clause : List Literal) (hints : List ℕ) → n ≤ max_number → 1 ≤ left → left < n → All (λ h. IsVariable max_vars h.var) hs
-    → clause ≡ negations (cube_of (reverse hs)) → hints ≡ left ∷ (n - 1) ∷ [] → IsStep (add (record { id = n; clause = clause; hints = hints; groups = [] }))
+pub within-split : (n left : ℕ) (hs : List (Split ℕ)) (clause : List Literal) (hints : List ℕ) → n ≤ max_number → 1 ≤ left → left < n → All (λ h. IsVariable max_vars h.var) hs
+    → clause ≡ negations (path hs) → hints ≡ left ∷ (n - 1) ∷ [] → IsStep (add (record { id = n; clause = clause; hints = hints; groups = [] }))
 within-split n left hs clause hints fits low before halves c h = rw (c, h) (IsStep-split n left hs fits low before halves)
 
 -- the numbers of a leaf's lines but the last one

@@ -1,39 +1,31 @@
 -- How a tree's nodes, one after the other, give the lines of its proof.
-use Rattle.std.specs.Prelude.{ℕ, ◌+◌, ◌-◌, List, [], ◌∷◌, ◌++◌, map, length, Option, Some, None}
-use Rattle.theory.specs.Literals.{Literal, positive, negative, negations}
+use Rattle.std.specs.Prelude.{ℕ, ◌+◌, ◌-◌, List, [], ◌∷◌, ◌++◌, map, length, Some, None}
+use Rattle.theory.specs.Literals.{Literal, negations}
 use Rattle.theory.specs.Trees as trees
 use Rattle.theory.specs.Steps.{Step, add}
 use Rattle.theory.specs.Learning.{Line}
 use Rattle.theory.specs.Proofs.{renumbered, leaf_steps, refuted_steps, split_steps, deletion, numbers_from}
-use Rattle.join.specs.declared.line.Half.{Half}
-
-abbrev pub literal_in : ℕ → Option ℕ → Literal
-literal_in x None = negative x
-literal_in x (Some left) = positive x
-
--- the cube of the splits on the way, of which the last stands first
-abbrev pub cube_of : List Half → List Literal
-cube_of [] = []
-cube_of (h ∷ hs) = cube_of hs ++ literal_in h.var h.left ∷ []
+use Rattle.cubes.specs.declared.traversal.Split.{Split}
+use Rattle.cubes.specs.Traversal.{path}
 
 -- the splits on the way, the last one first; the number of the next line; and the lines so far
 pub record Joined : Type 0 where
-  pub halves : List Half
+  pub halves : List (Split ℕ)
   pub next : ℕ
   pub steps : List Step
 
 -- what follows a subtree's last line: on to the half beside it, or, behind that, the line of their split, and so on
-abbrev pub climb : List Half → ℕ → List Step → Joined
+abbrev pub climb : List (Split ℕ) → ℕ → List Step → Joined
 climb [] n steps = record { halves = []; next = n; steps = steps }
 climb (h ∷ hs) n steps = elim h.left [
   | None ↦ record { halves = record { var = h.var; left = Some (n - 1) } ∷ hs; next = n; steps = steps }
-  | Some left ↦ climb hs (n + 1) (steps ++ split_steps n (cube_of hs) left (n - 1))
+  | Some left ↦ climb hs (n + 1) (steps ++ split_steps n (path hs) left (n - 1))
 ]
 
 -- what follows a node, where N is the number of the clauses that a search begins with
 abbrev pub on_node : ℕ → Joined → trees.Node → Joined
 on_node N s (trees.split_on x) = record s { halves = record { var = x; left = None } ∷ s.halves }
-on_node N s (trees.refuted_leaf lines) = climb s.halves (s.next + length lines) (s.steps ++ refuted_steps N s.next (cube_of s.halves) lines)
+on_node N s (trees.refuted_leaf lines) = climb s.halves (s.next + length lines) (s.steps ++ refuted_steps N s.next (path s.halves) lines)
 
 abbrev pub on_nodes : ℕ → Joined → List trees.Node → Joined
 on_nodes N s [] = s
@@ -52,7 +44,7 @@ abbrev pub split_line : ℕ → List Literal → ℕ → ℕ → Step
 split_line n Q left right = add (record { id = n; clause = negations Q; hints = left ∷ right ∷ []; groups = [] })
 
 -- the lines from a node on
-abbrev pub lines_below : ℕ → ℕ → List Half → List trees.Node → List Step
+abbrev pub lines_below : ℕ → ℕ → List (Split ℕ) → List trees.Node → List Step
 lines_below N n hs nodes = (on_nodes N (record { halves = hs; next = n; steps = [] }) nodes).steps
 
 -- what is left of a leaf's lines, of which the next has the number n, and what they leave to be deleted; behind the last one nothing is left
@@ -61,10 +53,10 @@ leaf_left N first n Q [] = []
 leaf_left N first n Q (line ∷ lines) = leaf_steps N first n Q (line ∷ lines) ++ deletion Q (n + length lines) (numbers_from first (n + length lines - first))
 
 -- the lines from within a leaf on, of which some lines are left, or none
-abbrev pub lines_from : ℕ → ℕ → ℕ → List Half → List Line → List trees.Node → List Step
-lines_from N first n hs leaf nodes = (on_nodes N (climb hs (n + length leaf) (leaf_left N first n (cube_of hs) leaf)) nodes).steps
+abbrev pub lines_from : ℕ → ℕ → ℕ → List (Split ℕ) → List Line → List trees.Node → List Step
+lines_from N first n hs leaf nodes = (on_nodes N (climb hs (n + length leaf) (leaf_left N first n (path hs) leaf)) nodes).steps
 
 -- the lines from a leaf on that was looked for: without one there are none
-abbrev pub lines_entered : ℕ → ℕ → ℕ → List Half → List Line → List trees.Node → List Step
+abbrev pub lines_entered : ℕ → ℕ → ℕ → List (Split ℕ) → List Line → List trees.Node → List Step
 lines_entered N first n hs [] nodes = []
 lines_entered N first n hs (line ∷ leaf) nodes = lines_from N first n hs (line ∷ leaf) nodes

@@ -15,7 +15,7 @@ use Rattle.cubes.specs.Result.{node_of}
 use Rattle.cubes.specs.declared.tree.Node.{Node}
 use Rattle.cubes.specs.declared.tree.Tree.{Tree}
 use Rattle.cubes.specs.declared.tree.Tree.TheVariants.{Model, Refuted}
-use Rattle.join.specs.declared.line.Half.{Half}
+use Rattle.cubes.specs.declared.traversal.Split.{Split}
 use Rattle.join.specs.declared.line.Due.{Due}
 use Rattle.join.specs.declared.line.Due.TheVariants.{Nothing, Leaf, Halves}
 
@@ -42,7 +42,7 @@ abbrev pub IsBefore : ℕ → Option ℕ → Type 0
 IsBefore n None = Unit {0}
 IsBefore n (Some left) = (1 ≤ left) × (left < n)
 
-pub record IsHalf (n : ℕ) (h : Half) : Type 0 where
+pub record IsHalf (n : ℕ) (h : Split ℕ) : Type 0 where
   pub variable : IsVariable max_vars h.var
   pub left : IsBefore n h.left
 

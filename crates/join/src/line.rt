@@ -1,5 +1,5 @@
 //! A line of a proof: what a pure literal, a leaf's line or a split gives, and what is deleted behind them.
-ghost use Rattle.std.specs.Prelude.{◌≡◌, ℕ, ◌≤◌, ◌<◌, ◌^◌, ◌+◌, ◌-◌, ◌++◌, map, reverse, All, IfOk, OnOk};
+ghost use Rattle.std.specs.Prelude.{◌≡◌, ℕ, ◌≤◌, ◌<◌, ◌^◌, ◌+◌, ◌-◌, ◌++◌, map, All, IfOk, OnOk};
 ghost use Rattle.theory.specs.Literals.{IsVariable, negations};
 ghost use Rattle.theory.specs.Truth.{IsOver};
 ghost use Rattle.theory.specs.Reading.{max_vars, max_clauses};
@@ -7,22 +7,16 @@ ghost use Rattle.theory.specs.Steps.{delete};
 ghost use Rattle.theory.specs.Proofs.{renumbered, numbers_from};
 ghost use Rattle.theory.specs.ProofReading.{IsStep, max_number};
 ghost use Rattle.lrat_text.specs.Steps.{step_of};
-ghost use Rattle.join.specs.Joining.{cube_of, unit_line, learnt_line, split_line};
+ghost use Rattle.cubes.specs.Traversal.{path};
+ghost use Rattle.join.specs.Joining.{unit_line, learnt_line, split_line};
 ghost use Rattle.join.specs.Numbered.{AreUpTo, IsDue, numbers_due};
 ghost use Rattle.join.specs.Walking.{line_of};
 
 use cdcl::Line;
 use cnf::Lit;
+use cubes::Walk;
 use lrat::{Addition, Deletion, Step};
 use std::alloc::{AllocError, Global};
-
-/// A split on the way from the root: the way goes on in the half where the variable is false, or, once that half's last line has its
-/// number, in the half where it is true.
-#[derive(Drop)]
-pub(crate) struct Half {
-    pub(crate) var: u32,
-    pub(crate) left: Option<u64>,
-}
 
 /// What the last line of a cube leaves to be deleted.
 #[derive(Clone, Copy)]
@@ -62,13 +56,14 @@ pub struct ProofLine {
 }
 
 /// Puts the negations of the cube's literals behind a clause.
-fn put_negations(halves: &[Half], clause: &mut Vec<Lit>) -> Result<(), AllocError>
-    requires { All (λ h. (1 ≤ h.var) × (h.var < 2 ^ 31)) halves.now }
-    ensures { OnOk result (clause.new.items ≡ clause.old.items ++ negations (cube_of (reverse halves.now))) }
+fn put_negations(place: &Walk<u64>, clause: &mut Vec<Lit>) -> Result<(), AllocError>
+    requires { All (λ s. (1 ≤ s.var) × (s.var < 2 ^ 31)) place.now }
+    ensures { OnOk result (clause.new.items ≡ clause.old.items ++ negations (path place.now)) }
 {
-    for half in halves {
+    let splits = place.splits();
+    for split in splits {
         // While the left half has no last line yet, the cube holds the variable as false.
-        clause.push(Lit::of(half.var, half.left.is_none()))?;
+        clause.push(Lit::of(split.var, split.left.is_none()))?;
     }
     Ok(())
 }
@@ -145,40 +140,40 @@ impl ProofLine {
         &mut self,
         id: u64,
         learnt: &Line,
-        halves: &[Half],
+        place: &Walk<u64>,
         clauses: u64,
         first: u64,
     ) -> Result<(), AllocError>
         requires id { (first ≤ id) × (id ≤ max_number) }
         requires first { (clauses < first) × (clauses ≤ max_clauses + max_vars) }
-        requires halves { All (λ h. IsVariable max_vars h.var) halves.now }
+        requires splits { All (λ s. IsVariable max_vars s.var) place.now }
         requires clause { IsOver max_vars learnt.now.clause }
         requires hints { AreUpTo (clauses + (id - first)) learnt.now.hints }
-        ensures line { OnOk result (line_of self.new ≡ learnt_line clauses first id (cube_of (reverse halves.now)) learnt.now) }
+        ensures line { OnOk result (line_of self.new ≡ learnt_line clauses first id (path place.now) learnt.now) }
         ensures within { OnOk result (IsStep (line_of self.new)) }
     {
         self.kind = Kind::Addition;
         self.id = id;
         self.clause.clear();
         self.clause.extend_from_slice(learnt.clause())?;
-        put_negations(halves, &mut self.clause)?;
+        put_negations(place, &mut self.clause)?;
         self.numbers.clear();
         put_renumbered(learnt.hints(), clauses, first, &mut self.numbers)?;
         Ok(())
     }
 
     /// Becomes the line of a split, behind the last line of the right half; `left` is the number of the left half's last line.
-    pub(crate) fn split(&mut self, id: u64, left: u64, halves: &[Half]) -> Result<(), AllocError>
+    pub(crate) fn split(&mut self, id: u64, left: u64, place: &Walk<u64>) -> Result<(), AllocError>
         requires id { id ≤ max_number }
         requires left { (1 ≤ left) × (left < id) }
-        requires halves { All (λ h. IsVariable max_vars h.var) halves.now }
-        ensures line { OnOk result (line_of self.new ≡ split_line id (cube_of (reverse halves.now)) left (id - 1)) }
+        requires splits { All (λ s. IsVariable max_vars s.var) place.now }
+        ensures line { OnOk result (line_of self.new ≡ split_line id (path place.now) left (id - 1)) }
         ensures within { OnOk result (IsStep (line_of self.new)) }
     {
         self.kind = Kind::Addition;
         self.id = id;
         self.clause.clear();
-        put_negations(halves, &mut self.clause)?;
+        put_negations(place, &mut self.clause)?;
         self.numbers.clear();
         self.numbers.push(left)?;
         self.numbers.push(id - 1)?;

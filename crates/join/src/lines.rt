@@ -11,7 +11,7 @@ ghost use Rattle.join.specs.Walking.{line_of, lines_left, HasNextLine, IsBetween
 
 use crate::line::{Due, ProofLine};
 use crate::room::Need;
-use crate::walk::{Source, Walk, due_behind};
+use crate::walk::{Source, TreeWalk, due_behind};
 use cnf::{Formula, Lit};
 use cubes::{Node, Tree};
 use lrat::MAX_NUMBER;
@@ -29,7 +29,7 @@ pub struct Lines {
     unit: u64,
 
     /// The way through the tree.
-    walk: Walk,
+    walk: TreeWalk,
 
     /// What the tree's line that was given last leaves to be deleted.
     due: Due,
@@ -80,7 +80,7 @@ impl Lines {
         Ok(Lines {
             units: units.into_iter(),
             unit: clauses + 1,
-            walk: Walk::over(alloc, first_clauses, nodes, need.splits)?,
+            walk: TreeWalk::over(alloc, first_clauses, nodes, need.splits)?,
             due: Due::Nothing,
             line: ProofLine::with_room(alloc, literals, need.numbers)?,
         })
@@ -125,7 +125,7 @@ impl Lines {
     {
         let due = self.due;
         self.due = Due::Nothing;
-        if self.walk.halves.is_empty() {
+        if self.walk.place.splits().is_empty() {
             return Ok(false);
         }
         self.line.delete(self.walk.next - 1, due, self.walk.first)?;
@@ -150,14 +150,14 @@ impl Lines {
                 self.line.learn(
                     id,
                     &learnt,
-                    &self.walk.halves,
+                    &self.walk.place,
                     self.walk.clauses,
                     self.walk.first,
                 )?;
                 self.due = due_behind(&self.walk.leaf);
             }
             Source::Split(left) => {
-                self.line.split(id, left, &self.walk.halves)?;
+                self.line.split(id, left, &self.walk.place)?;
                 self.due = Due::Halves(left);
             }
             Source::End => return Ok(false),

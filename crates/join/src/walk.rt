@@ -5,9 +5,9 @@ ghost use Rattle.theory.specs.ProofReading.{max_number};
 ghost use Rattle.join.specs.Numbered.{due_behind};
 ghost use Rattle.join.specs.Walking.{Gives, IsAt, IsBegun, IsUnder, IsWithin, Reaches};
 
-use crate::line::{Due, Half};
+use crate::line::Due;
 use cdcl::Line;
-use cubes::Node;
+use cubes::{Node, Turn, Walk};
 use std::alloc::{AllocError, Global};
 use std::vec::IntoIter;
 
@@ -26,15 +26,15 @@ pub(crate) enum Source {
 
 /// The way through a tree, which is let go on it.
 #[derive(Drop)]
-pub(crate) struct Walk {
+pub(crate) struct TreeWalk {
     /// How many clauses the search of a cube begins with: the numbers up to it are theirs.
     pub(crate) clauses: u64,
 
     /// The number of the tree's next line.
     pub(crate) next: u64,
 
-    /// The splits on the way from the root.
-    pub(crate) halves: Vec<Half>,
+    /// The splits on the way from the root; a left half comes to the number of its last line.
+    pub(crate) place: Walk<u64>,
 
     /// The number of the first line of the leaf that was reached last.
     pub(crate) first: u64,
@@ -57,7 +57,7 @@ pub(crate) fn due_behind(leaf: &IntoIter<Line>) -> Due
     }
 }
 
-impl Walk {
+impl TreeWalk {
     /// The way through the tree of these nodes, where a search begins with so many clauses. It takes no more memory while a way from the root has
     /// no more splits.
     pub(crate) fn over(
@@ -65,14 +65,14 @@ impl Walk {
         clauses: u64,
         nodes: Vec<Node>,
         splits: usize,
-    ) -> Result<Walk, AllocError>
+    ) -> Result<TreeWalk, AllocError>
         requires { clauses < max_number }
         ensures { IfOk result (λ w. IsBegun clauses nodes.items w) }
     {
-        Ok(Walk {
+        Ok(TreeWalk {
             clauses,
             next: clauses + 1,
-            halves: Vec::with_capacity(alloc, splits)?,
+            place: Walk::with_room(alloc, splits)?,
             first: clauses + 1,
             leaf: Vec::new(alloc).into_iter(),
             nodes: nodes.into_iter(),
@@ -86,7 +86,7 @@ impl Walk {
     {
         while let Some(node) = self.nodes.next() {
             match node {
-                Node::Split(var) => self.halves.push(Half { var, left: None })?,
+                Node::Split(var) => self.place.enter(var)?,
                 Node::Leaf(refutation) => {
                     self.first = self.next;
                     self.leaf = refutation.lines.into_iter();
@@ -109,14 +109,10 @@ impl Walk {
         if let Some(learnt) = self.leaf.next() {
             return Ok(Source::Learnt(learnt));
         }
-        if let Some(half) = self.halves.pop() {
-            if let Some(left) = half.left {
-                return Ok(Source::Split(left));
-            }
-            self.halves.push(Half {
-                var: half.var,
-                left: Some(self.next - 1),
-            })?;
+        match self.place.leave(self.next - 1)? {
+            Turn::Both { left, .. } => return Ok(Source::Split(left)),
+            Turn::Right(_) => {}
+            Turn::End(_) => {}
         }
         self.descend()?;
         match self.leaf.next() {

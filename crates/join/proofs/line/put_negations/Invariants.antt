@@ -3,5 +3,5 @@ use Rattle.join.proofs.CubeLemmas.{opposite}
 use Rattle.join.proofs.line.put_negations.Given as goal
 
 -- what is left gives the rest
-abbrev pub invariant-loop-half : goal.invariant-loop-half
-invariant-loop-half l = l.clause.items ++ map opposite (drop l.half-index l.halves) ≡ l.initial.clause.items ++ map opposite l.halves
+abbrev pub invariant-loop-split : goal.invariant-loop-split
+invariant-loop-split l = l.clause.items ++ map opposite (drop l.split-index l.splits) ≡ l.initial.clause.items ++ map opposite l.splits

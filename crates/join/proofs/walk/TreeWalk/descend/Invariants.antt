@@ -1,7 +1,7 @@
 use Rattle.std.proofs.Common.{◌≡◌}
 use Rattle.std.specs.Vec.Iter.{into_iter_len}
 use Rattle.join.specs.Walking.{IsUnder, tree_under}
-use Rattle.join.proofs.walk.Walk.descend.Given as goal
+use Rattle.join.proofs.walk.TreeWalk.descend.Given as goal
 
 -- the nodes that are left give the same
 abbrev pub invariant-loop-node : goal.invariant-loop-node
