@@ -1,0 +1,5 @@
+pub mod TournamentLemmas
+pub mod RankingLemmas
+pub mod BestOnes
+pub mod RankingViews
+pub mod RecentGlues

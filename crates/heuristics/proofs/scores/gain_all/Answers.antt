@@ -1,0 +1,21 @@
+use Rattle.std.proofs.Common.{◌≡◌, ◌<◌, ◌^◌, ◌∙◌, length, drop, slice_index, sym, ap, arith}
+use Rattle.heuristics.proofs.RankingLemmas.{gained-more, room-left}
+use Rattle.heuristics.proofs.scores.gain_all.Goals as goal
+
+pub gain-requires-clause-room : goal.gain-requires-clause-room
+gain-requires-clause-room c =
+    let k = c.loop-variable.variable-index in
+    room-left c.args.scores.now c.loop-variable.scores c.args.seen.now k c.args.step (2 ^ 64) c.requires.distinct c.loop-variable-test.true (c.requires.variables k c.loop-variable-test.true).1 c.loop-variable.invariant.gained c.requires.room
+
+pub loop-variable-preserved : goal.loop-variable-preserved
+loop-variable-preserved c =
+    let k = c.loop-variable.variable-index in
+    let e = c.in_ok-gain.ensures in
+    let same = c.loop-variable.auto.scores in
+    let inside = (c.requires.variables k c.loop-variable-test.true).1 in
+    let leaves : drop (length c.args.scores.now) c.gain.new.winners ≡ drop (length c.args.scores.now) c.loop-variable.winners = rw same at c.gain.ensures.leaves in
+    record {
+      ranked = c.gain.ensures.ranked;
+      leaves = leaves ∙ c.loop-variable.invariant.leaves;
+      gained = rw e.gained (gained-more c.args.scores.now c.loop-variable.scores c.args.seen.now k c.args.step c.requires.distinct c.loop-variable-test.true (omega (arith, inside, same)) c.loop-variable.invariant.gained);
+    }

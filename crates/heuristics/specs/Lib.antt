@@ -1,0 +1,5 @@
+-- What the focused search chooses by.
+pub mod Ranges
+pub mod Tournaments
+pub mod Rankings
+pub mod Averages

@@ -1,0 +1,65 @@
+-- The variables by their scores, and which of them wait to be chosen.
+use Rattle.std.specs.Prelude.{◌≡◌, ◌≢◌, ℕ, ◌+◌, ◌-◌, ◌/◌, ◌<◌, ◌≤◌, Bool, true, false, List, [], ◌∷◌, map, filter, drop, length, Option, nat_eq, nat_lt, slice_index, slice_index_or, slice_set}
+use Rattle.std.specs.List.{list_any}
+use Rattle.theory.specs.Plans.{Constants}
+use Rattle.theory.specs.Trails.{variables}
+use Rattle.theory.specs.Scores.{Scores, first_scores, best_of, gained, divided, scores_after}
+use Rattle.heuristics.specs.Tournaments.{IsPlayedBut}
+
+-- the numbers of the search, the scores of the variables 1, 2 and so on, and whether each of them waits to be chosen
+pub record Ranking : Type 0 where
+  pub constants : Constants
+  pub scores : Scores
+  pub waiting : List Bool
+
+-- how many variables it has
+abbrev pub vars_of : Ranking → ℕ
+vars_of r = length r.scores.scores
+
+abbrev pub waits : Ranking → ℕ → Bool
+waits r v = slice_index_or r.waiting (v - 1) false
+
+-- as a cube begins: all wait
+abbrev pub first_ranking : Constants → ℕ → Ranking
+first_ranking c V = record { constants = c; scores = first_scores c V; waiting = map (λ v. true) (variables V) }
+
+-- of those that wait, the one of greatest score, of several the greatest
+abbrev pub best_waiting : Ranking → Option ℕ
+best_waiting r = best_of r.scores (filter (waits r) (variables (vars_of r)))
+
+-- the same, but that the variable waits or doesn't
+abbrev pub with_waiting : Ranking → ℕ → Bool → Ranking
+with_waiting r v b = record r { waiting = slice_set r.waiting (v - 1) b }
+
+-- these variables have gained a step
+abbrev pub with_gains : Ranking → List ℕ → Ranking
+with_gains r seen = record r { scores = record { scores = (gained r.constants (vars_of r) (λ v. list_any (nat_eq v) seen) r.scores).scores; step = r.scores.step } }
+
+-- the step has grown
+abbrev pub grown : Ranking → Ranking
+grown r = record r { scores = divided r.constants (record { scores = r.scores.scores; step = r.scores.step + r.scores.step / r.constants.growth }) }
+
+-- the scores after a conflict that has seen these variables
+abbrev pub after_conflict : Ranking → List ℕ → Ranking
+after_conflict r seen = record r { scores = scores_after r.constants (vars_of r) (λ v. list_any (nat_eq v) seen) r.scores }
+
+-- all but the scores stays
+pub record IsKept (r s : Ranking) : Type 0 where
+  pub waiting : s.waiting ≡ r.waiting
+  pub constants : s.constants ≡ r.constants
+  pub vars : vars_of s ≡ vars_of r
+
+-- no number stands there twice
+abbrev pub AreDistinct : List ℕ → Type 0
+AreDistinct xs = (i j : ℕ) → i < j → j < length xs → slice_index xs i ≢ slice_index xs j
+
+-- which variables wait by the leaves of a tournament; the first leaf is that of number 0, which is no variable
+abbrev pub waiting_in : List ℕ → List ℕ → List Bool
+waiting_in S W = map (nat_lt 0) (drop 1 (drop (length S) W))
+
+-- scores S by variable, number 0 among them, the tournament W by them, and the variables G that gained: others have the score 0
+pub record AreRanked (S W G : List ℕ) : Type 0 where
+  pub played : IsPlayedBut S W 0
+  pub none : slice_index S 0 ≡ 0
+  pub within : (i : ℕ) → slice_index G i < length S
+  pub gained : (v : ℕ) → slice_index S v ≢ 0 → list_any (nat_eq v) G ≡ true

@@ -1,0 +1,80 @@
+//! A tournament of variables by their scores: the best one stands at the root, and each change is played again along one path.
+ghost use Rattle.std.specs.Prelude.{◌≡◌, ◌<◌, ◌≤◌, ◌+◌, ◌*◌, ◌/◌, ◌⊎◌, length, drop, slice_set};
+ghost use Rattle.heuristics.specs.Tournaments.{IsWinner, IsField, IsPlayedBut};
+
+/// The better of two variables: that of greater score, or of equal scores the greater.
+fn better(scores: &[u64], a: u32, b: u32) -> u32
+    requires { (a < length scores.now) × (b < length scores.now) }
+    ensures { IsWinner scores.now a b result }
+{
+    let score_a = scores[a as usize];
+    let score_b = scores[b as usize];
+    if score_a < score_b || (score_a == score_b && a < b) {
+        b
+    } else {
+        a
+    }
+}
+
+/// Plays the matches from a node up to the root again, where that of the node above it may be wrong. It stops where a winner stays.
+pub(crate) fn replay(scores: &[u64], winners: &mut [u32], node: usize)
+    requires played { IsPlayedBut scores.now winners.old (node / 2) }
+    requires inside { node < length winners.old }
+    ensures played { IsPlayedBut scores.now winners.new 0 }
+    ensures leaves { drop (length scores.now) winners.new ≡ drop (length scores.now) winners.old }
+{
+    let mut node = node;
+    while node > 1 {
+        node /= 2;
+        let winner = better(scores, winners[2 * node], winners[2 * node + 1]);
+        if winners[node] == winner {
+            return;
+        }
+        winners[node] = winner;
+    }
+}
+
+/// Plays all matches.
+pub(crate) fn play_all(scores: &[u64], winners: &mut [u32])
+    requires { IsField scores.now winners.old }
+    ensures played { IsPlayedBut scores.now winners.new 0 }
+    ensures leaves { drop (length scores.now) winners.new ≡ drop (length scores.now) winners.old }
+{
+    let mut node = scores.len();
+    while node > 1 {
+        node -= 1;
+        winners[node] = better(scores, winners[2 * node], winners[2 * node + 1]);
+    }
+}
+
+/// Writes the leaf of a variable, itself or 0, and plays its matches again.
+pub(crate) fn enter(scores: &[u64], winners: &mut [u32], variable: u32, entrant: u32)
+    requires played { IsPlayedBut scores.now winners.old 0 }
+    requires inside { variable < length scores.now }
+    requires entrant { (entrant ≡ variable) ⊎ (entrant ≡ 0) }
+    ensures played { IsPlayedBut scores.now winners.new 0 }
+    ensures leaves { drop (length scores.now) winners.new ≡
+        slice_set (drop (length scores.now) winners.old) variable entrant }
+{
+    let leaf = scores.len() + variable as usize;
+    winners[leaf] = entrant;
+    replay(scores, winners, leaf);
+}
+
+/// Gives a variable another score. One that takes part leaves for that while, since only those who don't stand at no node.
+pub(crate) fn rescore(scores: &mut [u64], winners: &mut [u32], variable: u32, score: u64)
+    requires played { IsPlayedBut scores.old winners.old 0 }
+    requires inside { (1 ≤ variable) × (variable < length scores.old) }
+    ensures scores { scores.new ≡ slice_set scores.old variable score }
+    ensures played { IsPlayedBut scores.new winners.new 0 }
+    ensures leaves { drop (length scores.old) winners.new ≡ drop (length scores.old) winners.old }
+{
+    let leaf = scores.len() + variable as usize;
+    if winners[leaf] == 0 {
+        scores[variable as usize] = score;
+        return;
+    }
+    enter(scores, winners, variable, 0);
+    scores[variable as usize] = score;
+    enter(scores, winners, variable, variable);
+}
