@@ -7,7 +7,7 @@ use Rattle.theory.specs.Trails.{variables}
 use Rattle.theory.specs.Scores.{Scores, score_of, better, best_of, best_outside}
 use Rattle.theory.proofs.LiteralSets.{true_false}
 use Rattle.theory.proofs.LiteralLemmas.{not_true}
-use Rattle.heuristics.specs.Rankings.{Ranking, vars_of, waits, best_waiting}
+use Rattle.heuristics.specs.Rankings.{Ranking, vars_of, waits, best_waiting, AllWait}
 
 -- of two, the second where it is no worse
 pushed : Scores → Option ℕ → ℕ → Option ℕ
@@ -141,11 +141,7 @@ best_of-nobody s p V h = go (best_of s (filter p (variables V))) (best_of-is s p
     go None k = refl
     go (Some y) k = true_false (p y) k.passes (h y k.low k.high)
 
--- each variable without a literal in P waits
-abbrev pub AllWait : Ranking → List Literal → Type 0
-AllWait r P = (v : ℕ) → 1 ≤ v → v ≤ vars_of r → has_var P v ≡ false → waits r v ≡ true
-
--- so the best one that waits is the best one outside P, if it is outside
+-- where all outside P wait, the best one that waits is the best one outside P, if it is outside
 pub best_outside-waiting : (r : Ranking) (P : List Literal) (x : ℕ) → AllWait r P → best_waiting r ≡ Some x → has_var P x ≡ false → best_outside (vars_of r) P r.scores ≡ Some x
 best_outside-waiting r P x all best free =
     let top : IsTop r.scores (waits r) (vars_of r) x = subst (IsAnswer r.scores (waits r) (vars_of r)) best (best_of-is r.scores (waits r) (vars_of r)) in
@@ -153,7 +149,7 @@ best_outside-waiting r P x all best free =
       low = top.low;
       high = top.high;
       passes = ap not free;
-      above = λ v l u t. top.above v l u (all v l u (not_true (has_var P v) t));
+      above = λ v l u t. top.above v l u (all v (l, u) (not_true (has_var P v) t));
     })
 
 pub best_outside-nobody : (r : Ranking) (P : List Literal) → AllWait r P → best_waiting r ≡ None → best_outside (vars_of r) P r.scores ≡ None
@@ -163,4 +159,4 @@ best_outside-nobody r P all best =
   where
     go : (v : ℕ) → 1 ≤ v → v ≤ vars_of r → (b : Bool) → has_var P v ≡ b → AreNone (waits r) (vars_of r) → not b ≡ false
     go v l u true e none = refl
-    go v l u false e none = true_false (waits r v) (all v l u e) (none v l u)
+    go v l u false e none = true_false (waits r v) (all v (l, u) e) (none v l u)

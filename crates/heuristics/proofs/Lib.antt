@@ -3,3 +3,5 @@ pub mod RankingLemmas
 pub mod BestOnes
 pub mod RankingViews
 pub mod RecentGlues
+pub mod CandidateOrder
+pub mod HalfLemmas

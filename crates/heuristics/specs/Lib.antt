@@ -3,3 +3,4 @@ pub mod Ranges
 pub mod Tournaments
 pub mod Rankings
 pub mod Averages
+pub mod Halves

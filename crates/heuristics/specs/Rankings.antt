@@ -1,6 +1,7 @@
 -- The variables by their scores, and which of them wait to be chosen.
 use Rattle.std.specs.Prelude.{◌≡◌, ◌≢◌, ℕ, ◌+◌, ◌-◌, ◌/◌, ◌<◌, ◌≤◌, Bool, true, false, List, [], ◌∷◌, map, filter, drop, length, Option, nat_eq, nat_lt, slice_index, slice_index_or, slice_set}
 use Rattle.std.specs.List.{list_any}
+use Rattle.theory.specs.Literals.{Literal, IsVariable, has_var}
 use Rattle.theory.specs.Plans.{Constants}
 use Rattle.theory.specs.Trails.{variables}
 use Rattle.theory.specs.Scores.{Scores, first_scores, best_of, gained, divided, scores_after}
@@ -26,6 +27,10 @@ first_ranking c V = record { constants = c; scores = first_scores c V; waiting =
 -- of those that wait, the one of greatest score, of several the greatest
 abbrev pub best_waiting : Ranking → Option ℕ
 best_waiting r = best_of r.scores (filter (waits r) (variables (vars_of r)))
+
+-- each variable without a literal in P waits
+abbrev pub AllWait : Ranking → List Literal → Type 0
+AllWait r P = (v : ℕ) → IsVariable (vars_of r) v → has_var P v ≡ false → waits r v ≡ true
 
 -- the same, but that the variable waits or doesn't
 abbrev pub with_waiting : Ranking → ℕ → Bool → Ranking

@@ -1,0 +1,26 @@
+//! What these choices come to in the search. Each function does nothing: its contract is a law.
+ghost use Rattle.std.specs.Prelude.{◌≡◌, ℕ, List, Some, None, true, false, nat_eq};
+ghost use Rattle.std.specs.List.{list_any};
+ghost use Rattle.theory.specs.Literals.{Literal, Clause, has_var};
+ghost use Rattle.theory.specs.Plans as plans;
+ghost use Rattle.theory.specs.Trails.{Trail};
+ghost use Rattle.theory.specs.Scores.{best_outside};
+ghost use Rattle.theory.specs.Forgetting.{candidates, forget};
+ghost use Rattle.heuristics.specs.Rankings.{Ranking, AllWait, vars_of, best_waiting};
+ghost use Rattle.heuristics.specs.Halves.{AreOfDistinctNumbers};
+
+/// Where each variable without a literal in a list waits, the best one that waits is the best one without, if it has none there; and if none waits, there is none.
+pub fn best_waiting_is_best()
+    ensures some { (r : Ranking) (P : List Literal) (x : ℕ) → AllWait r P → best_waiting r ≡ Some x → has_var P x ≡ false →
+        best_outside (vars_of r) P r.scores ≡ Some x }
+    ensures none { (r : Ranking) (P : List Literal) → AllWait r P → best_waiting r ≡ None →
+        best_outside (vars_of r) P r.scores ≡ None }
+{}
+
+/// The candidates of learnt clauses have distinct numbers; and clauses are forgotten by which numbers there are, in any order.
+pub fn numbers_decide()
+    ensures distinct { (c : plans.Constants) (T : Trail) (n : ℕ) (learnt : List Clause) (glues : List ℕ) →
+        AreOfDistinctNumbers (candidates c T n learnt glues) }
+    ensures forgotten { (ms ns : List ℕ) (n : ℕ) (K : List Clause) → ((k : ℕ) → list_any (nat_eq k) ms ≡ list_any (nat_eq k) ns) →
+        forget ms n K ≡ forget ns n K }
+{}
