@@ -1,11 +1,10 @@
 -- Scores by variable: one gains, all are divided, all are 0 again.
-use Rattle.std.proofs.Common.{◌≡◌, ◌≢◌, ℕ, zero, suc, ◌+◌, ◌-◌, ◌*◌, ◌/◌, ◌<◌, ◌≤◌, ◌⊎◌, inl, inr, Bool, true, false, ◌||◌, List, [], ◌∷◌, ◌++◌, length, drop, take, map, filter, slice_index, slice_set, nat_eq, nat_lt, refl, ap, sym, ◌∙◌, subst, eq-eqb, eqb-true, arith, if◌then◌else◌}
+use Rattle.std.proofs.Common.{◌≡◌, ◌≢◌, ℕ, zero, suc, ◌+◌, ◌<◌, ◌≤◌, inl, inr, Bool, true, false, ◌||◌, List, [], ◌∷◌, ◌++◌, length, take, slice_index, slice_set, nat_eq, refl, ap, sym, ◌∙◌, subst, eq-eqb, eqb-true, arith, if◌then◌else◌}
 use Rattle.std.specs.List.{list_any}
 use Rattle.std.proofs.lemmas.Bool.{cases_eq, cases_lt}
-use Rattle.std.proofs.lemmas.List.{get_or-set_same, get_or-set_other, length-set, get_or_past, get_or_push, get_or_append_left, length_push, length-map, drop_more, drop_all}
-use Rattle.std.proofs.Math.Nat.{zero-div}
+use Rattle.std.proofs.lemmas.List.{get_or-set_same, get_or-set_other, length-set, get_or_past, get_or_push, get_or_append_left, length_push}
 use Rattle.std.proofs.lemmas.List.Folds.{list_any-append, list_any_more}
-use Rattle.theory.proofs.LiteralLemmas.{or-cases, or-left, or-right}
+use Rattle.theory.proofs.LiteralLemmas.{or-left, or-right}
 use Rattle.heuristics.specs.Tournaments.{IsPlayedBut}
 use Rattle.heuristics.specs.Rankings.{AreRanked, AreDistinct}
 

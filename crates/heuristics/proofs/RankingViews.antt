@@ -1,17 +1,17 @@
 -- What a ranking shows of its tables: scores by variable, and which variables wait.
-use Rattle.std.proofs.Common.{◌≡◌, ◌≢◌, ℕ, zero, suc, ◌+◌, ◌-◌, ◌*◌, ◌/◌, ◌<◌, ◌≤◌, inl, inr, Bool, true, false, List, [], ◌∷◌, ◌++◌, length, drop, map, filter, get_or, slice_index, slice_index_or, slice_set, nat_lt, nat_eq, nat_le, ltb-true, refl, ap, sym, ◌∙◌, subst, ⊎_elim, Option, Some, None, replicate, All, arith, if◌then◌else◌}
+use Rattle.std.proofs.Common.{◌^◌, ◌≡◌, ◌≢◌, ℕ, zero, suc, ◌+◌, ◌-◌, ◌*◌, ◌/◌, ◌<◌, ◌≤◌, inl, inr, Bool, true, false, List, [], ◌∷◌, length, drop, map, filter, get_or, slice_index, slice_index_or, slice_set, nat_lt, nat_eq, nat_le, ltb-true, refl, ap, sym, ◌∙◌, ◌^◌, subst, ⊎_elim, Some, None, replicate, All, arith, if◌then◌else◌}
 use Rattle.std.specs.List.{list_any}
 use Rattle.std.proofs.lemmas.Bool.{cases_eq, cases_lt, lt-ltb, lt-leb, le-leb}
 use Rattle.std.proofs.lemmas.Grind.{get_or_after_one}
 use Rattle.std.proofs.lemmas.List.{get_or-drop, get_or_push, get_or_append_left, ext_get_or, length-drop, length-map, map-set, drop-map, get_or_past, length-replicate}
-use Rattle.std.proofs.lemmas.List.Elements.{All-head, All-tail}
-use Rattle.std.proofs.Math.ListN as seq
+use Rattle.std.proofs.lemmas.List.Elements.{All-head, All-tail, All-weaker}
 use Rattle.theory.specs.Plans.{Constants}
 use Rattle.theory.specs.Trails.{variables}
-use Rattle.theory.specs.Scores.{Scores, score_of, best_of, first_scores, gained}
+use Rattle.theory.specs.Scores.{Scores, score_of, best_of, first_scores, gained, scores_after}
+use Rattle.theory.proofs.ScoreBounds.{scores-most}
 use Rattle.theory.proofs.ModelLemmas.{length-variables}
 use Rattle.heuristics.specs.Tournaments.{Beats, IsField, IsPlayedBut}
-use Rattle.heuristics.specs.Rankings.{Ranking, waits, waiting_in, first_ranking, with_waiting, with_gains, grown, IsKept}
+use Rattle.heuristics.specs.Rankings.{Ranking, ranking, waits, waiting_in, first_ranking, with_waiting, with_gains, grown, IsKept}
 use Rattle.heuristics.proofs.TournamentLemmas.{root-beats, node-from-leaf}
 use Rattle.heuristics.proofs.BestOnes.{IsTop, best_of-top, best_of-nobody}
 
@@ -76,9 +76,6 @@ waiting-set S W X v x low leaves =
     ap (λ (l : List ℕ). map (nat_lt 0) (drop 1 l)) leaves ∙ ap (map (nat_lt 0)) (set-after_one (drop (length S) W) v x low) ∙ map-set (nat_lt 0) (drop 1 (drop (length S) W)) (v - 1) x
 
 -- the root is the best one that waits
-abbrev ranking : Constants → List ℕ → ℕ → List ℕ → Ranking
-ranking c S step W = record { constants = c; scores = record { scores = drop 1 S; step = step }; waiting = waiting_in S W }
-
 waits-read : (c : Constants) (S : List ℕ) (step : ℕ) (W : List ℕ) (v : ℕ) → 1 ≤ v → waits (ranking c S step W) v ≡ nat_lt 0 (slice_index W (length S + v))
 waits-read c S step W v low = waiting-read S W v low
 
@@ -272,3 +269,7 @@ open-view c V S first W X Y is zeros back leaves wait =
 
     zero-at : (T : List ℕ) (n v : ℕ) → T ≡ replicate n 0 → slice_index T v ≡ 0
     zero-at T n v e = ap (λ (t : List ℕ). slice_index t v) e ∙ none n v
+
+-- no score gains more than the greatest step
+pub bound-after : (c : Constants) (V : ℕ) (seen : ℕ → Bool) (s : Scores) (b : ℕ) → s.step ≤ 2 ^ 40 → All (λ x. x ≤ b) s.scores → All (λ x. x ≤ b + 2 ^ 40) (scores_after c V seen s).scores
+bound-after c V seen s b small h = All-weaker (λ x. x ≤ b + s.step) (λ x. x ≤ b + 2 ^ 40) (λ x l. omega arith) (scores_after c V seen s).scores (scores-most c V seen s b h)

@@ -1,7 +1,7 @@
 -- The glues by whose averages the focused search restarts.
-use Rattle.std.specs.Prelude.{◌≡◌, ℕ, ◌≤◌, ◌^◌, List, [], length, sum, All}
+use Rattle.std.specs.Prelude.{ℕ}
 use Rattle.theory.specs.Plans.{Constants}
-use Rattle.theory.specs.Restarts.{Glues, no_glues, with_glue, restarts, restarted}
+use Rattle.theory.specs.Restarts.{Glues, no_glues, with_glue}
 
 -- the numbers of the search, and its glues
 pub record Averages : Type 0 where

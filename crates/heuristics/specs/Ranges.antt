@@ -1,5 +1,5 @@
 -- The numbers that the focused search can be given.
-use Rattle.std.specs.Prelude.{ℕ, ◌<◌, ◌≤◌, ◌^◌}
+use Rattle.std.specs.Prelude.{◌<◌, ◌≤◌, ◌^◌}
 use Rattle.theory.specs.Plans.{Constants}
 
 -- so that no sum or product of a search passes 2 ^ 64

@@ -1,5 +1,5 @@
 -- The variables by their scores, and which of them wait to be chosen.
-use Rattle.std.specs.Prelude.{◌≡◌, ◌≢◌, ℕ, ◌+◌, ◌-◌, ◌/◌, ◌<◌, ◌≤◌, Bool, true, false, List, [], ◌∷◌, map, filter, drop, length, Option, nat_eq, nat_lt, slice_index, slice_index_or, slice_set}
+use Rattle.std.specs.Prelude.{◌≡◌, ◌≢◌, ℕ, ◌+◌, ◌-◌, ◌/◌, ◌<◌, Bool, true, false, List, map, filter, drop, length, Option, nat_eq, nat_lt, slice_index, slice_index_or, slice_set}
 use Rattle.std.specs.List.{list_any}
 use Rattle.theory.specs.Literals.{Literal, IsVariable, has_var}
 use Rattle.theory.specs.Plans.{Constants}
@@ -68,3 +68,7 @@ pub record AreRanked (S W G : List ℕ) : Type 0 where
   pub none : slice_index S 0 ≡ 0
   pub within : (i : ℕ) → slice_index G i < length S
   pub gained : (v : ℕ) → slice_index S v ≢ 0 → list_any (nat_eq v) G ≡ true
+
+-- what scores by variable, a step and a tournament show
+abbrev pub ranking : Constants → List ℕ → ℕ → List ℕ → Ranking
+ranking c S step W = record { constants = c; scores = record { scores = drop 1 S; step = step }; waiting = waiting_in S W }

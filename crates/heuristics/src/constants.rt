@@ -32,11 +32,38 @@ impl Model for Constants {
 
     ghost Value = { plans.Constants };
 
-    ghost view = { λ c. record { first_step = c.first_step; growth = c.growth; greatest_step = c.greatest_step; divisor = c.divisor; window = c.window; first_interval = c.first_interval; interval_gain = c.interval_gain; kept_glue = c.kept_glue } };
+    ghost view = { λ c. record {
+      first_step = c.first_step;
+      growth = c.growth;
+      greatest_step = c.greatest_step;
+      divisor = c.divisor;
+      window = c.window;
+      first_interval = c.first_interval;
+      interval_gain = c.interval_gain;
+      kept_glue = c.kept_glue;
+    } };
 
-    ghost invariant = { λ c. AreInRange (record { first_step = c.first_step; growth = c.growth; greatest_step = c.greatest_step; divisor = c.divisor; window = c.window; first_interval = c.first_interval; interval_gain = c.interval_gain; kept_glue = c.kept_glue }) };
+    ghost invariant = { λ c. AreInRange (record {
+      first_step = c.first_step;
+      growth = c.growth;
+      greatest_step = c.greatest_step;
+      divisor = c.divisor;
+      window = c.window;
+      first_interval = c.first_interval;
+      interval_gain = c.interval_gain;
+      kept_glue = c.kept_glue;
+    }) };
 
-    ghost inverse = { λ c. record { first_step = c.first_step; growth = c.growth; greatest_step = c.greatest_step; divisor = c.divisor; window = c.window; first_interval = c.first_interval; interval_gain = c.interval_gain; kept_glue = c.kept_glue } };
+    ghost inverse = { λ c. record {
+      first_step = c.first_step;
+      growth = c.growth;
+      greatest_step = c.greatest_step;
+      divisor = c.divisor;
+      window = c.window;
+      first_interval = c.first_interval;
+      interval_gain = c.interval_gain;
+      kept_glue = c.kept_glue;
+    } };
 }
 
 impl Default for Constants {

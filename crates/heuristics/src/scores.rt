@@ -28,13 +28,13 @@ pub struct Scores {
 }
 
 impl Model for Scores {
-    ghost use Rattle.std.specs.Prelude.{◌<◌, drop};
+    ghost use Rattle.std.specs.Prelude.{◌<◌};
     ghost use Rattle.heuristics.specs.Ranges.{AreInRange};
-    ghost use Rattle.heuristics.specs.Rankings.{Ranking, AreRanked, waiting_in};
+    ghost use Rattle.heuristics.specs.Rankings.{Ranking, AreRanked, ranking};
 
     ghost Value = { Ranking };
 
-    ghost view = { λ a. record { constants = a.constants; scores = record { scores = drop 1 a.scores.items; step = a.step }; waiting = waiting_in a.scores.items a.winners.items } };
+    ghost view = { λ a. ranking a.constants a.scores.items a.step a.winners.items };
 
     ghost invariant = { λ a. AreRanked a.scores.items a.winners.items a.gained.items × AreInRange a.constants
         × (a.step < a.constants.greatest_step) };
@@ -42,7 +42,8 @@ impl Model for Scores {
 
 /// The leaf of each variable, which waits, and of number 0, in a tournament that isn't played yet.
 fn leaves_of(alloc: Global, vars: u32) -> Result<Vec<u32>, AllocError>
-    ensures { IfOk result (λ w. (S : List ℕ) → length S ≡ vars + 1 → IsField S w.items × (waiting_in S w.items ≡ map (λ v. true) (variables vars))) }
+    ensures { IfOk result (λ w. (S : List ℕ) → length S ≡ vars + 1 →
+        IsField S w.items × (waiting_in S w.items ≡ map (λ v. true) (variables vars))) }
 {
     let count = vars as usize + 1;
     let mut winners = vec![in alloc; 0; 2 * count]?;
@@ -170,14 +171,16 @@ impl Scores {
         enter(&self.scores, &mut self.winners, variable, variable);
     }
 
-    /// Takes a conflict that has seen these variables, distinct ones: each one's score gains the step, which then grows; where it comes to the greatest
-    /// one, it and all scores are divided. Where memory runs out, some of them have gained, and which ones wait stays. It takes logarithmic
-    /// time for each of them, and all variables' time where it divides.
+    /// Takes a conflict that has seen these variables, distinct ones: each one's score gains the step, which then grows; where it comes to
+    /// the greatest one, it and all scores are divided. Where memory runs out, some of them have gained, and which ones wait stays. It takes
+    /// logarithmic time for each of them, and time by all variables where it divides.
     pub fn learn_from(&mut self, seen: &[u32]) -> Result<(), AllocError>
         requires variables { (i : ℕ) → i < length seen.now → IsVariable (vars_of self.old) (slice_index seen.now i) }
         requires distinct { AreDistinct seen.now }
         requires room { All (λ x. x ≤ 2 ^ 63) self.old.scores.scores }
         ensures after { OnOk result (self.new ≡ after_conflict self.old seen.now) }
+        ensures bound { OnOk result ((b : ℕ) → All (λ x. x ≤ b) self.old.scores.scores →
+            All (λ x. x ≤ b + 2 ^ 40) self.new.scores.scores) }
         ensures kept { IsKept self.old self.new }
     {
         self.gain(seen)?;
@@ -191,6 +194,7 @@ impl Scores {
         requires distinct { AreDistinct seen.now }
         requires room { All (λ x. x ≤ 2 ^ 63) self.old.scores.scores }
         ensures after { OnOk result (self.new ≡ with_gains self.old seen.now) }
+        ensures step { self.old.scores.step ≤ 2 ^ 40 }
         ensures kept { IsKept self.old self.new }
     {
         gain_all(

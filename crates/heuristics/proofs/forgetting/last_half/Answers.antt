@@ -1,4 +1,4 @@
-use Rattle.std.proofs.Common.{◌≡◌, ◌-◌, ◌/◌, ◌≤◌, ◌∙◌, length, map, drop, take, nat_eq, ap}
+use Rattle.std.proofs.Common.{◌-◌, ◌/◌, ◌∙◌, length, map, nat_eq, ap}
 use Rattle.std.specs.List.{list_any}
 use Rattle.std.proofs.lemmas.List.{take_all, take_rest}
 use Rattle.theory.specs.Forgetting.{Candidate}

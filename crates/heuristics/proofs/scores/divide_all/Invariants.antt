@@ -1,4 +1,4 @@
-use Rattle.std.proofs.Common.{◌≡◌, ◌/◌, ℕ, ◌<◌, ◌≤◌, length, slice_index}
+use Rattle.std.proofs.Common.{◌≡◌, ◌/◌, ℕ, ◌<◌, ◌≤◌, slice_index}
 use Rattle.heuristics.proofs.scores.divide_all.Given as goal
 
 -- those so far are divided

@@ -1,4 +1,3 @@
-use Rattle.std.proofs.Common.{◌≡◌, ◌+◌, ◌∙◌, slice_index, inl, inr, arith}
 use Rattle.heuristics.proofs.RankingLemmas.{AreRanked-noted, AreRanked-known}
 use Rattle.heuristics.proofs.scores.gain.Goals as goal
 use Rattle.heuristics.proofs.scores.gain.Goals.{then-score-eq0+in_ok-push, else-score-eq0}

@@ -1,4 +1,4 @@
-use Rattle.std.proofs.Common.{◌≡◌, ◌<◌, ◌^◌, ◌∙◌, length, drop, slice_index, sym, ap, arith}
+use Rattle.std.proofs.Common.{◌≡◌, ◌^◌, ◌∙◌, length, drop, arith}
 use Rattle.heuristics.proofs.RankingLemmas.{gained-more, room-left}
 use Rattle.heuristics.proofs.scores.gain_all.Goals as goal
 

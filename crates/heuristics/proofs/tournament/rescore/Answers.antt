@@ -1,4 +1,3 @@
-use Rattle.std.proofs.Common.{◌≡◌, ◌≢◌, ◌<◌, ◌+◌, length, slice_index, slice_set, inl, inr, arith}
 use Rattle.heuristics.proofs.TournamentLemmas.{IsPlayedBut-rescored, left-out, leaf-back}
 use Rattle.heuristics.proofs.tournament.rescore.Goals as goal
 

@@ -1,5 +1,5 @@
-use Rattle.std.proofs.Common.{◌≡◌, ◌≤◌, ◌∙◌, ◌^◌, length, sum, ap, arith, All}
-use Rattle.circular_buffer.specs.Buffer.{keep_last, Buffer}
+use Rattle.std.proofs.Common.{◌≡◌, ◌≤◌, ◌^◌, sum, ap, arith}
+use Rattle.circular_buffer.specs.Buffer.{keep_last}
 use Rattle.heuristics.proofs.RecentGlues.{kept-few, kept-most, sum-most}
 use Rattle.heuristics.proofs.restarts.Glues.take_glue.Goals as goal
 

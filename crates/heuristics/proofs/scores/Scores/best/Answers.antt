@@ -1,4 +1,4 @@
-use Rattle.std.proofs.Common.{◌≡◌, ◌<◌, length, slice_index, sym, ap, ◌∙◌, Some, arith}
+use Rattle.std.proofs.Common.{◌≡◌, slice_index, sym, ap, ◌∙◌, Some, arith}
 use Rattle.std.proofs.lemmas.List.{get_or_read}
 use Rattle.heuristics.proofs.RankingViews.{root-none, root-some}
 use Rattle.heuristics.proofs.scores.Scores.best.Goals as goal

@@ -1,4 +1,4 @@
-use Rattle.std.proofs.Common.{◌≡◌, ◌≤◌, ◌<◌, ◌+◌, ◌^◌, ◌∙◌, length, drop, slice_index, sym, ap, arith, All}
+use Rattle.std.proofs.Common.{◌≡◌, ◌≤◌, ◌^◌, ◌∙◌, length, drop, sym, arith, All}
 use Rattle.std.proofs.lemmas.List.{take_at}
 use Rattle.heuristics.proofs.RankingViews.{gained-view, score-room}
 use Rattle.heuristics.proofs.scores.Scores.gain.Goals as goal

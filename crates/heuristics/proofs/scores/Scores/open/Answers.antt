@@ -1,4 +1,4 @@
-use Rattle.std.proofs.Common.{◌≡◌, ◌+◌, ◌∙◌, length, drop, replicate, sym, ap, arith}
+use Rattle.std.proofs.Common.{◌≡◌, ◌+◌, ◌∙◌, length, drop, replicate, sym, ap}
 use Rattle.std.proofs.lemmas.List.{take_at}
 use Rattle.theory.specs.Plans.{Constants}
 use Rattle.heuristics.proofs.RankingViews.{open-view}

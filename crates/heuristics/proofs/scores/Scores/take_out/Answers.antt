@@ -1,5 +1,4 @@
-use Rattle.std.proofs.Common.{◌≡◌, ◌∙◌, length, drop, slice_set, false, sym, ap, refl, arith}
-use Rattle.std.proofs.lemmas.Bool.{lt-ltb}
+use Rattle.std.proofs.Common.{◌≡◌, ◌∙◌, length, drop, slice_set, false, sym, refl}
 use Rattle.std.proofs.lemmas.List.{take_at}
 use Rattle.heuristics.proofs.RankingViews.{entered}
 use Rattle.heuristics.proofs.scores.Scores.take_out.Goals as goal
