@@ -1,5 +1,5 @@
 //! What these choices come to in the search. Each function does nothing: its contract is a law.
-ghost use Rattle.std.specs.Prelude.{◌≡◌, ℕ, List, Some, None, true, false, nat_eq};
+ghost use Rattle.std.specs.Prelude.{◌≡◌, ℕ, List, Some, None, false, nat_eq};
 ghost use Rattle.std.specs.List.{list_any};
 ghost use Rattle.theory.specs.Literals.{Literal, Clause, has_var};
 ghost use Rattle.theory.specs.Plans as plans;

@@ -1,8 +1,8 @@
 //! When the focused search restarts: the glues learnt of late, and those of the whole cube.
 ghost use Rattle.std.specs.Prelude.{◌≡◌, ◌≤◌, ◌+◌, ◌*◌, ◌^◌, ◌∷◌, ◌++◌, [], length, sum, nat_lt, IfOk, if◌then◌else◌};
-ghost use Rattle.theory.specs.Restarts.{no_glues, with_glue, restarts, restarted};
+ghost use Rattle.theory.specs.Restarts.{with_glue, restarts, restarted};
 ghost use Rattle.circular_buffer.specs.Buffer.{buffer, keep_last};
-ghost use Rattle.heuristics.specs.Averages.{Averages, first_averages, with_next};
+ghost use Rattle.heuristics.specs.Averages.{Averages, first_averages};
 
 use crate::constants::Constants;
 use circular_buffer::HeapCircularBuffer;

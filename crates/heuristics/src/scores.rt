@@ -1,5 +1,5 @@
 //! The scores of variables, by which the focused search decides and splits.
-ghost use Rattle.std.specs.Prelude.{◌≡◌, ◌<◌, ◌≤◌, ◌+◌, ◌/◌, ◌^◌, ℕ, true, false, map, drop, length, slice_index, slice_set, nat_eq, IfOk, OnOk, IfSome, if◌then◌else◌};
+ghost use Rattle.std.specs.Prelude.{◌≡◌, ◌<◌, ◌≤◌, ◌+◌, ◌/◌, ◌^◌, ℕ, true, false, map, drop, length, slice_index, slice_set, nat_eq, IfOk, OnOk, if◌then◌else◌};
 ghost use Rattle.std.specs.List.{list_any};
 ghost use Rattle.theory.specs.Literals.{IsVariable};
 ghost use Rattle.std.specs.Prelude.{List, All};
