@@ -16,6 +16,7 @@ use Rattle.theory.proofs.OutcomeLemmas.{Runs-says}
 use Rattle.theory.proofs.PureVariables.{IsFormula-searched}
 use Rattle.theory.proofs.TrailLists.{literals-cube}
 use Rattle.kernel.specs.State.{State}
+use Rattle.kernel.specs.declared.order.Order.TheVariants.{ByNumber}
 use Rattle.cdcl.specs.Plans as code_plans
 use Rattle.cdcl.specs.declared.plan.Search.{Search}
 use Rattle.cdcl.specs.declared.plan.Search.TheVariants.{Ordered}
@@ -29,9 +30,10 @@ take-whole n K e = ap (λ k. take k K) e ∙ take-length K
 
 -- a kernel that was just opened may go over to a cube
 pub IsReady-opened : (F : Formula) (Q : List Literal) (k : State)
-    → k ≡ record { vars = F.vars; first = length (first_clauses F); clauses = first_clauses F; trail = cube_trail Q; short = false } → k.vars ≤ max_vars → IsReady F k
+    → k ≡ record { vars = F.vars; order = ByNumber; first = length (first_clauses F); clauses = first_clauses F; trail = cube_trail Q; short = false } → k.vars ≤ max_vars → IsReady F k
 IsReady-opened F Q k opened few = rw opened (record {
   has_memory = refl;
+  order = refl;
   vars = refl;
   few = rw opened at few;
   first = refl;
@@ -45,6 +47,7 @@ pub Begins-restart : (F : Formula) (Q : List Literal) (old : State) (s : Ordered
 Begins-restart F Q old s ready went lawful over clauses_over counted decided learnt = record {
   ready = record {
     has_memory = short;
+    order = order;
     vars = vars;
     few = ready.few;
     first = first;
@@ -52,6 +55,7 @@ Begins-restart F Q old s ready went lawful over clauses_over counted decided lea
   };
   searching = record {
     has_memory = short;
+    order = order;
     few = let few = ready.few in let same = vars in omega arith;
     within = let long = ap length clauses in let same = first in omega arith;
     lawful = lawful;
@@ -64,6 +68,9 @@ Begins-restart F Q old s ready went lawful over clauses_over counted decided lea
   where
     short : s.kernel.short ≡ false
     short = ap (λ (k : State). k.short) went ∙ ready.has_memory
+
+    order : s.kernel.order ≡ ByNumber
+    order = ap (λ (k : State). k.order) went ∙ ready.order
 
     vars : s.kernel.vars ≡ F.vars
     vars = ap (λ (k : State). k.vars) went ∙ ready.vars
@@ -81,6 +88,7 @@ Begins-restart F Q old s ready went lawful over clauses_over counted decided lea
 pub IsReady-GoesOn : (F : Formula) (k l : State) → IsReady F k → GoesOn k l → IsReady F l
 IsReady-GoesOn F k l ready goes = record {
   has_memory = goes.3;
+  order = goes.4 ∙ ready.order;
   vars = goes.0 ∙ ready.vars;
   few = ready.few;
   first = goes.1 ∙ ready.first;

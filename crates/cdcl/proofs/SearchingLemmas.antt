@@ -1,5 +1,5 @@
 -- What a search keeps from step to step, and why it ends: with each step a conflict more is counted, or the trail is longer.
-use Rattle.std.proofs.Common.{◌≡◌, ℕ, ◌≤◌, false, Result, Ok, Err, IfOk, OnOk, if◌then◌else◌, List, Option, Some}
+use Rattle.std.proofs.Common.{◌≡◌, ◌∙◌, ℕ, ◌≤◌, false, Result, Ok, Err, IfOk, OnOk, if◌then◌else◌, List, Option, Some}
 use Rattle.theory.specs.Literals.{Clause, negations}
 use Rattle.theory.specs.Truth.{IsOver}
 use Rattle.theory.specs.Trails.{Trail, literals, current_level, up_to}
@@ -21,9 +21,10 @@ use Rattle.cdcl.specs.declared.outcome.Outcome.{Outcome}
 use Rattle.cdcl.specs.declared.ordered.OrderedSearch.{OrderedSearch}
 
 -- propagation keeps it
-pub IsSearching-Propagates : (k l : State) (a : Closed) → IsSearching k → l.vars ≡ k.vars → l.clauses ≡ k.clauses → l.first ≡ k.first → l.short ≡ false → Propagates by_number k.clauses k.trail a l.trail → IsSearching l
-IsSearching-Propagates k l a h vars clauses first memory closes = record {
+pub IsSearching-Propagates : (k l : State) (a : Closed) → IsSearching k → l.vars ≡ k.vars → l.clauses ≡ k.clauses → l.first ≡ k.first → l.order ≡ k.order → l.short ≡ false → Propagates by_number k.clauses k.trail a l.trail → IsSearching l
+IsSearching-Propagates k l a h vars clauses first order memory closes = record {
   has_memory = memory;
+  order = order ∙ h.order;
   few = rw vars h.few;
   within = rw (first, clauses) h.within;
   lawful = rw clauses (IsLawful-Propagates by_number IsRule-by_number k.clauses k.trail l.trail a closes h.lawful);
@@ -47,11 +48,11 @@ may_learn k l c level n h above clash clause back went =
 
 -- a step from what propagation left
 pub IsSearchStep-from : {E : Type 0} (budget : ℕ) (old new middle : OrderedSearch) (a : Closed) (r : Result (Option Outcome) E) → Propagates by_number old.kernel.clauses old.kernel.trail a middle.kernel.trail
-    → (middle.kernel.vars ≡ old.kernel.vars) × (middle.kernel.clauses ≡ old.kernel.clauses) × (middle.kernel.first ≡ old.kernel.first)
+    → (middle.kernel.vars ≡ old.kernel.vars) × (middle.kernel.clauses ≡ old.kernel.clauses) × (middle.kernel.first ≡ old.kernel.first) × (middle.kernel.order ≡ old.kernel.order)
     → search_of middle ≡ record (search_of old) { trail = middle.kernel.trail }
     → IfOk r (λ o. after middle.kernel.vars budget (search_of middle) a ≡ next_of o new) → OnOk r (GoesOn middle.kernel new.kernel) → IfOk r (λ o. IsSearchStep budget old o new)
 IsSearchStep-from budget old new middle a (Ok o) closes same_kernel same next kept = record {
   step = record { answer = a; trail = middle.kernel.trail; propagates = closes; follows = rw (same_kernel.0, same) at next };
-  goes_on = rw (same_kernel.0, same_kernel.1, same_kernel.2) at kept;
+  goes_on = rw (same_kernel.0, same_kernel.1, same_kernel.2, same_kernel.3) at kept;
 }
 IsSearchStep-from budget old new middle a (Err e) closes same_kernel same next kept = tt

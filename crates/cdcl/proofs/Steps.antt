@@ -39,7 +39,7 @@ within-GoesOn k l within goes =
     omega arith
 
 pub GoesOn-trans : (k l m : State) → GoesOn k l → GoesOn l m → GoesOn k m
-GoesOn-trans k l m one two = (two.0 ∙ one.0, two.1 ∙ one.1, (rw one.1 at two.2) ∙ one.2, two.3)
+GoesOn-trans k l m one two = (two.0 ∙ one.0, two.1 ∙ one.1, (rw one.1 at two.2) ∙ one.2, two.3, two.4 ∙ one.4)
 
 -- what such a step keeps
 pub IsSearchStep-keeps : (budget : ℕ) (s t : OrderedSearch) → IsSearching s.kernel → s.conflicts < budget → IsSearchStep budget s None t
@@ -47,6 +47,7 @@ pub IsSearchStep-keeps : (budget : ℕ) (s t : OrderedSearch) → IsSearching s.
 IsSearchStep-keeps budget s t h counted step = (
   record {
     has_memory = step.goes_on.3;
+    order = step.goes_on.4 ∙ h.order;
     few = rw step.goes_on.0 h.few;
     within = within-GoesOn s.kernel t.kernel h.within step.goes_on;
     lawful = kept.0;

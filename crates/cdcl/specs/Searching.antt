@@ -9,6 +9,7 @@ use Rattle.theory.specs.Learnable.{IsOpenBelow}
 use Rattle.theory.specs.Search.{Next, ends, goes_on, first_clauses}
 use Rattle.theory.specs.Ordered.{OrderedState, IsOrderedStep, begin}
 use Rattle.kernel.specs.State.{State}
+use Rattle.kernel.specs.declared.order.Order.TheVariants.{ByNumber}
 use Rattle.cdcl.specs.declared.outcome.Outcome.{Outcome}
 use Rattle.cdcl.specs.declared.ordered.OrderedSearch.{OrderedSearch}
 use Rattle.cdcl.specs.Outcome.{outcome_of}
@@ -24,6 +25,7 @@ pub record Solving : Type 0 where
 -- the kernel may go over to a cube of the formula
 pub record IsReady (F : Formula) (k : State) : Type 0 where
   pub has_memory : k.short ≡ false
+  pub order : k.order ≡ ByNumber
   pub vars : k.vars ≡ F.vars
   pub few : F.vars ≤ max_vars
   pub first : k.first ≡ length (first_clauses F)
@@ -32,6 +34,7 @@ pub record IsReady (F : Formula) (k : State) : Type 0 where
 -- what a search keeps of its kernel from step to step
 pub record IsSearching (k : State) : Type 0 where
   pub has_memory : k.short ≡ false
+  pub order : k.order ≡ ByNumber
   pub few : k.vars < 2 ^ 31
   pub within : k.first ≤ length k.clauses
   pub lawful : IsLawful k.clauses k.trail
@@ -41,7 +44,9 @@ pub record IsSearching (k : State) : Type 0 where
 
 -- a search goes on with the kernel, whose first clauses stay
 abbrev pub GoesOn : State → State → Type 0
-GoesOn old new = (new.vars ≡ old.vars) × (new.first ≡ old.first) × (take old.first new.clauses ≡ take old.first old.clauses) × (new.short ≡ false)
+GoesOn old new =
+    (new.vars ≡ old.vars) × (new.first ≡ old.first) × (take old.first new.clauses ≡ take old.first old.clauses) × (new.short ≡ false)
+    × (new.order ≡ old.order)
 
 -- the search of the formula's cube Q begins
 pub record Begins (F : Formula) (Q : List Literal) (s : OrderedSearch) : Type 0 where

@@ -1,5 +1,5 @@
 -- A decision, and the way back to an earlier level.
-use Rattle.std.proofs.Common.{◌≡◌, ℕ, suc, zero, ◌+◌, ◌-◌, ◌<◌, ◌≤◌, Bool, true, false, ◌||◌, List, [], ◌∷◌, ◌++◌, length, get_or, take, Option, Some, None, option_map, refl, ap, sym, subst, ◌∙◌, ◌⊎◌, inl, inr, arith, cond, nat_le, leb-true, slice_get, min}
+use Rattle.std.proofs.Common.{◌≡◌, ℕ, suc, zero, ◌+◌, ◌-◌, ◌<◌, ◌≤◌, Bool, true, false, ◌||◌, List, [], ◌∷◌, ◌++◌, length, get_or, take, Option, Some, None, refl, ap, sym, subst, ◌∙◌, ◌⊎◌, inl, inr, arith, cond, nat_le, leb-true, slice_get, min}
 use Rattle.std.proofs.lemmas.Bool.{cases_lt, leb-false}
 use Rattle.std.proofs.lemmas.Option.{slice_get-get_or}
 use Rattle.std.specs.List.{Contains}
@@ -19,7 +19,7 @@ use Rattle.kernel.proofs.AtRest.{other-false}
 use Rattle.kernel.proofs.Steps.{not-in}
 use Rattle.kernel.proofs.LeastClauses.{unit_literal-is}
 use Rattle.theory.specs.Status.{is_false, unit_literal}
-use Rattle.theory.specs.Propagation.{least_false, least_unit}
+use Rattle.theory.specs.Propagation.{Rule, IsRule, least_false}
 use Rattle.std.proofs.lemmas.List.{take-append-le, take_min}
 use Rattle.std.specs.Option.{unwrap_or}
 use Rattle.theory.specs.Propagation.{clause_at}
@@ -34,24 +34,18 @@ least_false-each P K n c h a = subst (λ (d : Clause). is_false P d ≡ false) o
     one : clause_at K (n + 1) ≡ c
     one = ap (λ i. unwrap_or (slice_get K i) []) here ∙ ap (λ o. unwrap_or o []) (slice_get-get_or K n c a.0) ∙ a.1
 
-abbrev shifted : ℕ × Literal → ℕ × Literal
-shifted u = (u.0 + 1, u.1)
-
-least_unit-each : (P : List Literal) (K : List Clause) (n : ℕ) (c : Clause) → least_unit P K ≡ None → At K n c → unit_literal P c ≡ None
-least_unit-each P [] n c h a = absurd (omega (arith, a.0))
-least_unit-each P (k ∷ K) n c h a = go (unit_literal P k) refl h n a (λ x i z. least_unit-each P K i c x z)
+-- where a rule gives none, no clause is unit
+pub none-each : (rule : Rule) → IsRule rule → (K : List Clause) (T : Trail) → rule T K ≡ None → (n : ℕ) (c : Clause) → At K n c → unit_literal (literals T) c ≡ None
+none-each rule is K T h n c a = subst (λ (d : Clause). unit_literal (literals T) d ≡ None) one (is.none T K (n + 1) h (omega arith) (omega (arith, a.0)))
   where
-    rest : (o : Option (ℕ × Literal)) → option_map shifted o ≡ None → o ≡ None
-    rest None e = refl
-    rest (Some i) e = absurd (cc)
+    here : n + 1 - 1 ≡ n
+    here = omega arith
 
-    go : (o : Option Literal) → unit_literal P k ≡ o → ◌≡◌ {A = Option (ℕ × Literal)} (elim o [ Some l ↦ Some (1, l) | None ↦ option_map shifted (least_unit P K) ]) None → (n : ℕ) → At (k ∷ K) n c → (least_unit P K ≡ None → (i : ℕ) → At K i c → unit_literal P c ≡ None) → unit_literal P c ≡ None
-    go (Some l) e x n a more = absurd (cc)
-    go None e x zero a more = subst (λ (d : Clause). unit_literal P d ≡ None) a.1 e
-    go None e x (suc n) a more = more (rest (least_unit P K) x) n ((let z : n < length K = omega (arith, a.0) in z), a.1)
+    one : clause_at K (n + 1) ≡ c
+    one = ap (λ i. unwrap_or (slice_get K i) []) here ∙ ap (λ o. unwrap_or o []) (slice_get-get_or K n c a.0) ∙ a.1
 
 -- where no clause is false or unit, each is held
-rest-held : (floor : ℕ) (K : List Clause) (T : Trail) (served : ℕ) (t : Tending) → least_false (literals T) K ≡ None → least_unit (literals T) K ≡ None → IsServed floor K T served t → AreWatchedIn (literals (take served T)) (literals T) K t.pairs
+rest-held : (floor : ℕ) (K : List Clause) (T : Trail) (served : ℕ) (t : Tending) → least_false (literals T) K ≡ None → ((n : ℕ) (c : Clause) → At K n c → unit_literal (literals T) c ≡ None) → IsServed floor K T served t → AreWatchedIn (literals (take served T)) (literals T) K t.pairs
 rest-held floor K T served t none_false none_unit s n c w a b = (nonempty, go (s.good n w b))
   where
     not_false : (m : ℕ) (d : Clause) → At K m d → is_false (literals T) d ≡ true → ⊥
@@ -78,7 +72,7 @@ rest-held floor K T served t none_false none_unit s n c w a b = (nonempty, go (s
             sign (inr e) = absurd (not_false n c a (all_false e))
         by (inr h) =
             let e : unit_literal (literals T) c ≡ Some y = unit_literal-is (literals T) c y m h others in
-            let f : unit_literal (literals T) c ≡ None = least_unit-each (literals T) K n c none_unit a in
+            let f : unit_literal (literals T) c ≡ None = none_unit n c a in
             absurd (cc)
 
     go : Good K (literals (take served T)) (literals T) t.units t.least w n → IsWatched K n (literals (take served T)) (literals T) w
@@ -155,7 +149,7 @@ up_to-up_to (e ∷ T) m k h = go (nat_le e.level m) refl (nat_le e.level k) refl
     go false x false y r = r
 
 -- a decision where propagation has nothing more to find; what was served until then may be less than the trail
-pub decided : (floor low : ℕ) (K : List Clause) (T : Trail) (e : Entry) (served : ℕ) (t : Tending) → IsRisingFrom 0 T → least_false (literals T) K ≡ None → least_unit (literals T) K ≡ None → served ≤ length T → low ≤ floor
+pub decided : (floor low : ℕ) (K : List Clause) (T : Trail) (e : Entry) (served : ℕ) (t : Tending) → IsRisingFrom 0 T → least_false (literals T) K ≡ None → ((n : ℕ) (c : Clause) → At K n c → unit_literal (literals T) c ≡ None) → served ≤ length T → low ≤ floor
     → Includes (literals (take served T)) (literals (take low T)) → e.level ≡ current_level T + 1 → IsServed floor K T served t → IsServed low K (T ++ e ∷ []) served t
 decided floor low K T e served t rising none_false none_unit within less sub level s = record {
   tends = record {

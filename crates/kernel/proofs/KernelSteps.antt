@@ -7,8 +7,12 @@ use Rattle.std.specs.List.Sorted.{IsPermutation}
 use Rattle.theory.specs.Literals.{Literal, Clause, same, has, has_var, negated, are_distinct}
 use Rattle.theory.specs.Truth.{IsOver}
 use Rattle.theory.specs.Trails.{Entry, Trail, literals, current_level, up_to, level_of, level_at, entry_of}
-use Rattle.theory.specs.Propagation.{by_number, Propagates, quiet, grows, rests, least_false, least_unit}
+use Rattle.theory.specs.Propagation.{Rule, IsRule, Propagates, quiet, grows, rests, least_false}
 use Rattle.theory.specs.Learnable.{IsLearnable}
+use Rattle.theory.proofs.Rules.{IsRule-by_number, IsRule-by_place}
+use Rattle.kernel.specs.declared.order.Order.{Order}
+use Rattle.kernel.specs.declared.order.Order.TheVariants.{ByNumber, ByPlace}
+use Rattle.kernel.specs.Rules.{rule_of}
 use Rattle.theory.proofs.LiteralLemmas.{and-left, and-right, or-cases, true_or_false, not_true, same-eq}
 use Rattle.theory.proofs.LiteralSets.{false_unless}
 use Rattle.kernel.specs.declared.watch.Watched.{Watched}
@@ -20,16 +24,20 @@ use Rattle.kernel.proofs.LiteralFacts.{true_false, all-member, has-var, free-not
 use Rattle.kernel.proofs.Places.{At-push}
 use Rattle.kernel.proofs.TrailFacts.{Includes-take, Includes-up_to}
 use Rattle.kernel.proofs.LeastClauses.{unit_literal-says}
-use Rattle.kernel.proofs.Backtracking.{decided, went_back, Includes-take-le}
+use Rattle.kernel.proofs.Backtracking.{decided, none-each, went_back, Includes-take-le}
 use Rattle.kernel.proofs.Beginning.{no-literal}
 use Rattle.kernel.proofs.Adding.{added, At-longer}
 use Rattle.kernel.proofs.Attached.{attached-places, attached-entries}
 use Rattle.kernel.proofs.Visits.{code-within, over-var}
 
+pub IsRule-of : (order : Order) → IsRule (rule_of order)
+IsRule-of ByNumber = IsRule-by_number
+IsRule-of ByPlace = IsRule-by_place
+
 -- where propagation leaves the trail as it is, no clause is false or unit
-pub at-rest : (K : List Clause) (T U : Trail) → Propagates by_number K T quiet U → (least_false (literals U) K ≡ None) × (least_unit (literals U) K ≡ None)
-at-rest K T U (rests a b) = (a, b)
-at-rest K T U (grows {u = u} a b h) = at-rest K _ U h
+pub at-rest : (rule : Rule) (K : List Clause) (T U : Trail) → Propagates rule K T quiet U → (least_false (literals U) K ≡ None) × (rule U K ≡ None)
+at-rest rule K T U (rests a b) = (a, b)
+at-rest rule K T U (grows {u = u} a b h) = at-rest rule K _ U h
 
 -- an entry that is still there at an earlier level is of at most that level
 pub up_to-level_of : (T : Trail) (m : ℕ) (l : Literal) → are_distinct (literals T) ≡ true → has (literals (up_to T m)) l ≡ true → level_of T l ≤ m
@@ -59,13 +67,13 @@ up_to-level_of (e ∷ T) m l d h = go (nat_le e.level m) refl h (up_to-level_of 
     go false x y more = behind y (more y)
 
 -- a decision
-pub decide-watching : (V first : ℕ) (K : List Clause) (T : Trail) (at floor low : ℕ) (k : WatchLists) (single : List ℕ) (empty : Option ℕ) (e : Entry) → IsOrdered V T → Propagates by_number K T quiet T → e.level ≡ current_level T + 1 → ((at ≡ length T) × (low ≡ floor)) ⊎ ((low ≤ at) × (low ≤ floor))
+pub decide-watching : (rule : Rule) → IsRule rule → (V first : ℕ) (K : List Clause) (T : Trail) (at floor low : ℕ) (k : WatchLists) (single : List ℕ) (empty : Option ℕ) (e : Entry) → IsOrdered V T → Propagates rule K T quiet T → e.level ≡ current_level T + 1 → ((at ≡ length T) × (low ≡ floor)) ⊎ ((low ≤ at) × (low ≤ floor))
     → IsWatching V first K T at floor k single empty → IsWatching V first K (T ++ e ∷ []) at low k single empty
-decide-watching V first K T at floor low k single empty e ordered closes level which s = record {
+decide-watching rule is V first K T at floor low k single empty e ordered closes level which s = record {
   lists = s.lists;
   served =
-      let r = at-rest K T T closes in
-      decided floor low K T e at (tending k) ordered.rising r.0 r.1 s.within (less which) (sub which) level s.served;
+      let r = at-rest rule K T T closes in
+      decided floor low K T e at (tending k) ordered.rising r.0 (none-each rule is K T r.1) s.within (less which) (sub which) level s.served;
   entries = s.entries;
   within = omega (arith, s.within, length_push T e);
   base = s.base;

@@ -10,7 +10,7 @@ use Rattle.kernel.specs.Watching.{At}
 use Rattle.kernel.proofs.LiteralFacts.{true_false, all-member, free-not_negated}
 
 -- a fact on each place of a longer list
-At-behind : {X : Type 0} (x : X) (xs : List X) (n : ℕ) (y : X) → At xs n y → At (x ∷ xs) (suc n) y
+pub At-behind : {X : Type 0} (x : X) (xs : List X) (n : ℕ) (y : X) → At xs n y → At (x ∷ xs) (suc n) y
 At-behind x xs n y a = (omega (arith, a.0), a.1)
 
 pub least_false-none : (P : List Literal) (K : List Clause) → ((n : ℕ) (c : Clause) → At K n c → is_false P c ≡ false) → least_false P K ≡ None

@@ -6,11 +6,14 @@ pub mod Beginning
 pub mod Cutting
 pub mod Falling
 pub mod KernelSteps
+pub mod LastFalse
 pub mod LeastClauses
 pub mod Levels
 pub mod LiteralFacts
+pub mod NearestClauses
 pub mod NextServed
 pub mod Pieces
+pub mod Placed
 pub mod Places
 pub mod Popping
 pub mod Restarting

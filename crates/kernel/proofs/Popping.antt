@@ -105,8 +105,11 @@ module _ (floor : ℕ) (K : List Clause) (T : Trail) (t : Tending) (consistent :
         go (Some y) e = absurd (never (all-wait n c y a e))
 
     -- none waits, so none is unit
+    pub none-is_unit : t.units ≡ [] → (n : ℕ) (c : Clause) → At K n c → unit_literal (literals T) c ≡ None
+    none-is_unit e n c a = not_unit n c a (λ m. let x : Contains [] n = subst (λ (xs : List ℕ). Contains xs n) e m in omega (arith, x.1))
+
     pub none-unit : t.units ≡ [] → least_unit (literals T) K ≡ None
-    none-unit e = least_unit-none (literals T) K (λ n c a. not_unit n c a (λ m. let x : Contains [] n = subst (λ (xs : List ℕ). Contains xs n) e m in omega (arith, x.1)))
+    none-unit e = least_unit-none (literals T) K (none-is_unit e)
 
 pub Good-grow : (K : List Clause) (S P Q : List Literal) (H : List ℕ) (f : Option ℕ) (w : Watched) (n : ℕ) → Includes Q P → Good K S P H f w n → Good K S Q H f w n
 Good-grow K S P Q H f w n more (held (apart d a b)) = held (apart d a b)
@@ -149,14 +152,13 @@ Tends-grow floor K T e t level s = record {
     one y l (inl f) = or-left (same y l) (has (literals (T ++ e ∷ [])) (negated l)) f
     one y l (inr f) = or-right (same y l) (has (literals (T ++ e ∷ [])) (negated l)) (grown (negated l) f)
 
--- the least number was taken out of those that wait
+-- a number was taken out of those that wait
 pub record Pops (t u : Tending) (n : ℕ) (w : Watched) : Type 0 where
   pub pairs : u.pairs ≡ t.pairs
   pub lists : u.lists ≡ t.lists
   pub least : u.least ≡ t.least
   pub none : t.least ≡ None
   pub units : IsPermutation t.units (n ∷ u.units)
-  pub smallest : All (λ m. n ≤ m) t.units
   pub watch : At t.pairs n w
 
 module _ (floor : ℕ) (K : List Clause) (T : Trail) (t u : Tending) (n : ℕ) (w : Watched) (ok : IsConsistent (literals T)) (s : IsServed floor K T (length T) t) (p : Pops t u n w) where
@@ -274,8 +276,8 @@ module _ (floor : ℕ) (K : List Clause) (T : Trail) (t u : Tending) (n : ℕ) (
       go (inr e) = let b = choice.both_false e in held-otherwise b.0 b.1
 
   -- it is unit in the chosen literal, where that is free
-  pub pop-unit : has_var (literals T) (chosen (literals T) w).var ≡ false → least_unit (literals T) K ≡ Some (n + 1, chosen (literals T) w)
-  pop-unit free = least_unit-some (literals T) K n (get_or K n []) (chosen (literals T) w) c-at unit before
+  pub pop-is_unit : has_var (literals T) (chosen (literals T) w).var ≡ false → unit_literal (literals T) (get_or K n []) ≡ Some (chosen (literals T) w)
+  pop-is_unit free = unit_literal-is (literals T) (get_or K n []) (chosen (literals T) w) choice.member free (subst (λ (y : Literal). others_false (literals T) (get_or K n []) y ≡ true) y-is was.2)
     where
       y-is : was.0 ≡ chosen (literals T) w
       y-is = go (other-false (literals T) (get_or K n []) was.0 (chosen (literals T) w) was.2 choice.member)
@@ -284,11 +286,16 @@ module _ (floor : ℕ) (K : List Clause) (T : Trail) (t u : Tending) (n : ℕ) (
           go (inl e) = e
           go (inr e) = absurd (free-not_negated (literals T) (chosen (literals T) w) free e)
 
-      unit : unit_literal (literals T) (get_or K n []) ≡ Some (chosen (literals T) w)
-      unit = unit_literal-is (literals T) (get_or K n []) (chosen (literals T) w) choice.member free (subst (λ (y : Literal). others_false (literals T) (get_or K n []) y ≡ true) y-is was.2)
+  -- each unit clause waits
+  pub unit-waited : (m : ℕ) (d : Clause) (y : Literal) → At K m d → unit_literal (literals T) d ≡ Some y → Contains t.units m
+  unit-waited m d y a h = all-wait floor K T t ok s p.none m d y a h
 
+  -- the one of least number
+  pub pop-unit : All (λ m. n ≤ m) t.units → has_var (literals T) (chosen (literals T) w).var ≡ false → least_unit (literals T) K ≡ Some (n + 1, chosen (literals T) w)
+  pop-unit smallest free = least_unit-some (literals T) K n (get_or K n []) (chosen (literals T) w) c-at (pop-is_unit free) before
+    where
       before : (m : ℕ) (d : Clause) → m < n → At K m d → unit_literal (literals T) d ≡ None
-      before m d l a = not_unit floor K T t ok s p.none m d a (λ q. let x : n ≤ m = All-contains (λ i. n ≤ i) t.units m p.smallest q in omega (arith, x, l))
+      before m d l a = not_unit floor K T t ok s p.none m d a (λ q. let x : n ≤ m = All-contains (λ i. n ≤ i) t.units m smallest q in omega (arith, x, l))
 
   pub pop-entry : (e : Entry) → e.lit ≡ chosen (literals T) w → e.level ≡ current_level T → IsServed floor K (T ++ e ∷ []) (length T) u
   pop-entry e lit level = record {
@@ -311,5 +318,5 @@ pop-within floor K T t n us s p =
     omega (arith, (s.found.units n waited).0, s.listed.length_pairs)
 
 -- the facts that a program has once it took a number out
-pub pops : (t : Tending) (us : List ℕ) (n : ℕ) (w : Watched) → t.least ≡ None → IsPermutation t.units (n ∷ us) → All (λ m. n ≤ m) t.units → At t.pairs n w → Pops t (record t { units = us }) n w
-pops t us n w none units smallest watch = record { pairs = refl; lists = refl; least = refl; none = none; units = units; smallest = smallest; watch = watch }
+pub pops : (t : Tending) (us : List ℕ) (n : ℕ) (w : Watched) → t.least ≡ None → IsPermutation t.units (n ∷ us) → At t.pairs n w → Pops t (record t { units = us }) n w
+pops t us n w none units watch = record { pairs = refl; lists = refl; least = refl; none = none; units = units; watch = watch }

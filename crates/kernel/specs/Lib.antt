@@ -3,6 +3,8 @@ pub mod Answer
 pub mod Attaching
 pub mod Cutting
 pub mod Pieces
+pub mod Placing
+pub mod Rules
 pub mod State
 pub mod Visiting
 pub mod Waiting

@@ -5,16 +5,20 @@ ghost use Rattle.theory.specs.Literals.{IsVariable, IsCube, has_var};
 ghost use Rattle.theory.specs.Truth.{IsOver};
 ghost use Rattle.theory.specs.Pure.{unit_clauses};
 ghost use Rattle.theory.specs.Trails.{literals, current_level, entry_of, cube_trail, up_to, least_free};
-ghost use Rattle.theory.specs.Propagation.{clause_at, by_number, Propagates, quiet};
+ghost use Rattle.theory.specs.Propagation.{clause_at, Propagates, quiet};
 ghost use Rattle.theory.specs.Lawful.{IsLawful};
 ghost use Rattle.theory.specs.Learnable.{IsLearnable};
 ghost use Rattle.theory.specs.Reading.{max_vars};
 ghost use Rattle.theory.specs.Propagation as closing;
 ghost use Rattle.theory.specs.Trails as trails;
 ghost use Rattle.kernel.specs.Answer.{closed_of};
+ghost use Rattle.kernel.specs.Rules.{rule_of};
+ghost use Rattle.kernel.specs.declared.order.Order.TheVariants.{ByNumber};
 
 use crate::attach::Room;
 use crate::closed::Closed;
+use crate::line::Line;
+use crate::order::Order;
 use crate::propagator::Propagator;
 use cnf::{Formula, Lit};
 use std::alloc::{AllocError, Global};
@@ -28,6 +32,10 @@ use trail::{Cube, Entry, Trail};
 pub struct Kernel {
     // the clauses, and their watches
     propagator: Propagator,
+    // which unit clause propagation takes first
+    order: Order,
+    // those that wait by place, while propagation goes on; empty between two calls
+    line: Line,
     // how many of the clauses were there from the beginning: the formula's, and the units behind them; the others were learnt
     first: usize,
     // those of one literal among them, which wait as units when a cube begins
@@ -44,7 +52,7 @@ pub struct Kernel {
 }
 
 impl Model for Kernel {
-    ghost use Rattle.std.specs.Prelude.{◌≡◌, ◌≤◌, All, length, false};
+    ghost use Rattle.std.specs.Prelude.{◌≡◌, ◌≤◌, All, length, false, []};
     ghost use Rattle.theory.specs.Truth.{IsOver};
     ghost use Rattle.theory.specs.Trails.{literals};
     ghost use Rattle.theory.specs.Lawful.{IsLawful};
@@ -56,6 +64,7 @@ impl Model for Kernel {
 
     ghost view = { λ a. record {
       vars = a.trail.vars;
+      order = a.order;
       first = a.first;
       clauses = a.propagator.clauses;
       trail = a.trail.entries;
@@ -64,7 +73,8 @@ impl Model for Kernel {
 
     ghost invariant = { λ a.
         IsLawful a.propagator.clauses a.trail.entries × All (IsOver a.trail.vars) a.propagator.clauses × (a.first ≤ length a.propagator.clauses)
-        × (a.short ≡ false → IsWatching a.trail.vars a.first a.propagator.clauses a.trail.entries a.served a.floor (kept_of a.propagator) a.singles.items a.empty) };
+        × (a.short ≡ false → IsWatching a.trail.vars a.first a.propagator.clauses a.trail.entries a.served a.floor (kept_of a.propagator) a.singles.items a.empty)
+        × (a.short ≡ false → a.line ≡ []) };
 }
 
 /// Puts a cube's literals on a trail without entries.
@@ -102,6 +112,7 @@ impl Kernel {
         requires { IsOver formula.now.vars cube.now }
         ensures opened { IfOk result (λ k. k ≡ record {
           vars = formula.now.vars;
+          order = ByNumber;
           first = length formula.now.clauses;
           clauses = formula.now.clauses;
           trail = cube_trail cube.now;
@@ -127,6 +138,33 @@ impl Kernel {
         requires units { IsCube units.now × IsOver formula.now.vars units.now }
         ensures opened { IfOk result (λ k. k ≡ record {
           vars = formula.now.vars;
+          order = ByNumber;
+          first = length (formula.now.clauses ++ unit_clauses units.now);
+          clauses = formula.now.clauses ++ unit_clauses units.now;
+          trail = cube_trail cube.now;
+          short = false;
+        }) }
+        ensures lawful { IfOk result (λ k.
+            IsLawful k.clauses k.trail × IsOver k.vars (literals k.trail) × All (IsOver k.vars) k.clauses) }
+        ensures few { IfOk result (λ k. k.vars ≤ max_vars) }
+    {
+        let kernel = Kernel::open_in_order(alloc, formula, units, cube, Order::ByNumber)?;
+        Ok(kernel)
+    }
+
+    /// As `open_with`, for propagation in an order.
+    pub fn open_in_order(
+        alloc: Global,
+        formula: &Formula,
+        units: &[Lit],
+        cube: &Cube,
+        order: Order,
+    ) -> Result<Kernel, AllocError>
+        requires cube { IsOver formula.now.vars cube.now }
+        requires units { IsCube units.now × IsOver formula.now.vars units.now }
+        ensures opened { IfOk result (λ k. k ≡ record {
+          vars = formula.now.vars;
+          order = order;
           first = length (formula.now.clauses ++ unit_clauses units.now);
           clauses = formula.now.clauses ++ unit_clauses units.now;
           trail = cube_trail cube.now;
@@ -149,6 +187,8 @@ impl Kernel {
         Ok(Kernel {
             first: propagator.clauses.len(),
             propagator,
+            order,
+            line: Line::new(alloc),
             singles,
             empty,
             trail,
@@ -171,7 +211,7 @@ impl Kernel {
         ensures lawful { OnOk result (IsLawful self.new.clauses self.new.trail) }
         ensures over { OnOk result (IsOver self.new.vars (literals self.new.trail)) }
         ensures clauses_over { OnOk result (All (IsOver self.new.vars) self.new.clauses) }
-        ensures kept { (self.new.vars ≡ self.old.vars) × (self.new.first ≡ self.old.first) }
+        ensures kept { (self.new.vars ≡ self.old.vars) × (self.new.first ≡ self.old.first) × (self.new.order ≡ self.old.order) }
         ensures refused { OnErr result (self.new.short ≡ true) }
         ensures stays { self.old.short ≡ true → IsErr result }
         ensures unchanged { self.old.short ≡ true → self.new ≡ self.old }
@@ -191,24 +231,28 @@ impl Kernel {
         Ok(())
     }
 
-    /// Propagation: while no clause is false, the unit clause of least number puts its literal on the trail, with that number as
-    /// reason, at the current level. The answer is the false clause of least number, or `Quiet` where none is false or unit. It
+    /// Propagation: while no clause is false, the unit clause that goes first in the kernel's order puts its literal on the trail, with
+    /// its number as reason, at the current level. The answer is the false clause of least number, or `Quiet` where none is false or unit. It
     /// takes time by the clauses that watch a literal which became false. It fails where a request for memory is refused, and from then
     /// on; the trail then ends on the way: what propagation leads to from it, it leads to from the trail before.
     pub fn close(&mut self) -> Result<Closed, AllocError>
-        ensures ok { IfOk result (λ a. Propagates by_number self.old.clauses self.old.trail (closed_of a) self.new.trail) }
-        ensures kept { (self.new.vars ≡ self.old.vars) × (self.new.clauses ≡ self.old.clauses) × (self.new.first ≡ self.old.first) }
+        ensures ok { IfOk result (λ a. Propagates (rule_of self.old.order) self.old.clauses self.old.trail (closed_of a) self.new.trail) }
+        ensures kept { (self.new.vars ≡ self.old.vars) × (self.new.clauses ≡ self.old.clauses) × (self.new.first ≡ self.old.first)
+            × (self.new.order ≡ self.old.order) }
         ensures short { OnOk result (self.new.short ≡ false) }
         ensures refused { OnErr result (self.new.short ≡ true) }
         ensures stays { self.old.short ≡ true → IsErr result }
         ensures unchanged { self.old.short ≡ true → self.new.trail ≡ self.old.trail }
         ensures was { OnOk result (self.old.short ≡ false) }
-        ensures onward { (a : closing.Closed) (U : trails.Trail) → Propagates by_number self.old.clauses self.new.trail a U → Propagates by_number self.old.clauses self.old.trail a U }
+        ensures onward { (a : closing.Closed) (U : trails.Trail) → Propagates (rule_of self.old.order) self.old.clauses self.new.trail a U → Propagates (rule_of self.old.order) self.old.clauses self.old.trail a U }
     {
         if self.short {
             return Err(AllocError);
         }
-        match self.propagator.propagate(&mut self.trail, self.served) {
+        match self
+            .propagator
+            .close(self.order, &mut self.trail, self.served, &mut self.line)
+        {
             Ok(closed) => {
                 self.served = self.trail.entries().len();
                 Ok(closed)
@@ -224,7 +268,7 @@ impl Kernel {
     pub fn decide(&mut self, lit: Lit)
         requires { self.old.short ≡ false →
             IsVariable self.old.vars lit.var × (has_var (literals self.old.trail) lit.var ≡ false)
-            × Propagates by_number self.old.clauses self.old.trail quiet self.old.trail }
+            × Propagates (rule_of self.old.order) self.old.clauses self.old.trail quiet self.old.trail }
         ensures { self.new ≡ (if self.old.short then self.old else record self.old {
           trail =
               self.old.trail ++ record { lit = lit; reason = None; level = current_level self.old.trail + 1 } ∷ [];

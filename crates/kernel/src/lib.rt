@@ -2,10 +2,14 @@
 #![tactic(auto)]
 
 mod attach;
+mod by_place;
 mod clauses;
 mod closed;
 mod cut;
 mod kernel;
+mod last_false;
+mod line;
+mod order;
 mod propagator;
 mod queue;
 mod replacement;
@@ -14,4 +18,5 @@ mod watch;
 
 pub use closed::Closed;
 pub use kernel::Kernel;
+pub use order::Order;
 pub use trail::{Cube, Entry};

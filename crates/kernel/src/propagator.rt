@@ -3,7 +3,7 @@
 //! A clause can become false or unit only when one of its two watched literals becomes false, so only the clauses in that literal's list are
 //! visited: each finds another literal to watch, or is satisfied, or is unit, or is false. Going back to an earlier level changes nothing
 //! here. Source: Moskewicz et al., 'Chaff' (DAC 2001).
-ghost use Rattle.std.specs.Prelude.{◌≡◌, ◌+◌, ◌<◌, ◌≤◌, ◌*◌, ◌∷◌, [], ◌++◌, All, IfOk, OnOk, IfSome, IfNone, Some, None, length, map, Bool, true, false, slice_set, slice_get, min, take, ℕ};
+ghost use Rattle.std.specs.Prelude.{◌≡◌, ◌+◌, ◌<◌, ◌≤◌, ◌*◌, ◌∷◌, [], ◌++◌, All, IfOk, OnOk, IfSome, IfNone, Some, None, length, map, Bool, true, false, slice_set, slice_get, min, take, ℕ, List};
 ghost use Rattle.std.specs.List.Sorted.{IsPermutation};
 ghost use Rattle.theory.specs.Literals.{Literal, same, has, negated};
 ghost use Rattle.theory.specs.Truth.{IsOver};
@@ -16,6 +16,7 @@ ghost use Rattle.kernel.specs.Answer.{closed_of};
 ghost use Rattle.trail.specs.TrailOver.{IsOrdered};
 ghost use Rattle.trail.specs.Tables.{IsTruth, value_of};
 ghost use Rattle.kernel.specs.Watching.{code, lesser, At, IsNext, IsServed, Tends, AllGood, chosen};
+ghost use Rattle.kernel.specs.Placing.{also};
 ghost use Rattle.kernel.specs.Visiting.{WatchLists, kept_of, entries_at, CanVisit, IsVisit, IsLast, Replaces, tending, with_list, AreEntries};
 
 use crate::clauses::Clauses;
@@ -55,7 +56,7 @@ pub struct Unit {
 }
 
 /// A watched literal that isn't false, where one isn't.
-fn chosen(trail: &Trail, watched: Watched) -> Lit
+pub fn chosen(trail: &Trail, watched: Watched) -> Lit
     requires { watched.first.var ≤ trail.now.vars }
     ensures { result ≡ chosen (literals trail.now.entries) watched }
 {
@@ -162,7 +163,8 @@ impl Propagator {
     }
 
     /// Visits each clause that watches a literal which became false, in a list that was taken out. Entries leave it by the last one
-    /// taking their place, so that those that stay are written to only for a new blocker. The answer is how many entries stay.
+    /// taking their place, so that those that stay are written to only for a new blocker. The answer is how many entries stay. Other
+    /// clauses may wait elsewhere, also in the next two.
     fn visit_all(
         &mut self,
         trail: &Trail,
@@ -170,14 +172,14 @@ impl Propagator {
         list: &mut [Watch],
     ) -> Result<usize, AllocError>
         requires ordered { IsOrdered trail.now.vars trail.now.entries }
-        requires served { (floor : ℕ) × (n : ℕ) × IsNext trail.now.entries n gone × IsServed floor self.old.clauses trail.now.entries n (tending (with_list (kept_of self.old) gone list.old)) }
+        requires served { (floor : ℕ) × (n : ℕ) × IsNext trail.now.entries n gone × (elsewhere : List ℕ) × IsServed floor self.old.clauses trail.now.entries n (tending (with_list (also elsewhere (kept_of self.old)) gone list.old)) }
         requires entries { AreEntries self.old.clauses (with_list (kept_of self.old) gone list.old) }
         requires over { All (IsOver trail.now.vars) self.old.clauses }
         requires lists { length self.old.lists.items ≡ 2 * trail.now.vars + 2 }
         ensures within { IfOk result (λ m. m ≤ length list.new) }
-        ensures served { IfOk result (λ m. (floor n : ℕ) → IsNext trail.now.entries n gone → IsServed floor self.old.clauses trail.now.entries n (tending (with_list (kept_of self.old) gone list.old))
-            → Tends floor self.old.clauses trail.now.entries (tending (with_list (kept_of self.new) gone (take m list.new)))
-            × AllGood self.old.clauses (literals (take n trail.now.entries) ++ negated gone ∷ []) (literals trail.now.entries) (tending (with_list (kept_of self.new) gone (take m list.new)))) }
+        ensures served { IfOk result (λ m. (floor n : ℕ) (elsewhere : List ℕ) → IsNext trail.now.entries n gone → IsServed floor self.old.clauses trail.now.entries n (tending (with_list (also elsewhere (kept_of self.old)) gone list.old))
+            → Tends floor self.old.clauses trail.now.entries (tending (with_list (also elsewhere (kept_of self.new)) gone (take m list.new)))
+            × AllGood self.old.clauses (literals (take n trail.now.entries) ++ negated gone ∷ []) (literals trail.now.entries) (tending (with_list (also elsewhere (kept_of self.new)) gone (take m list.new)))) }
         ensures entries { IfOk result (λ m. AreEntries self.old.clauses (with_list (kept_of self.new) gone (take m list.new))) }
         ensures kept { (self.new.clauses ≡ self.old.clauses) × (length self.new.lists.items ≡ length self.old.lists.items) }
     {
@@ -204,9 +206,9 @@ impl Propagator {
         requires entries { AreEntries self.old.clauses (kept_of self.old) }
         requires over { All (IsOver trail.now.vars) self.old.clauses }
         requires lists { length self.old.lists.items ≡ 2 * trail.now.vars + 2 }
-        requires served { (floor : ℕ) × IsServed floor self.old.clauses trail.now.entries place (tending (kept_of self.old)) }
-        ensures served { OnOk result ((floor : ℕ) → IsServed floor self.old.clauses trail.now.entries place (tending (kept_of self.old))
-            → IsServed floor self.old.clauses trail.now.entries (place + 1) (tending (kept_of self.new))) }
+        requires served { (floor : ℕ) × (elsewhere : List ℕ) × IsServed floor self.old.clauses trail.now.entries place (tending (also elsewhere (kept_of self.old))) }
+        ensures served { OnOk result ((floor : ℕ) (elsewhere : List ℕ) → IsServed floor self.old.clauses trail.now.entries place (tending (also elsewhere (kept_of self.old)))
+            → IsServed floor self.old.clauses trail.now.entries (place + 1) (tending (also elsewhere (kept_of self.new)))) }
         ensures entries { OnOk result (AreEntries self.old.clauses (kept_of self.new)) }
         ensures kept { (self.new.clauses ≡ self.old.clauses) × (length self.new.lists.items ≡ length self.old.lists.items) }
     {
@@ -223,14 +225,14 @@ impl Propagator {
     }
 
     /// Serves the trail's entries from a place on.
-    fn serve_from(&mut self, trail: &Trail, from: usize) -> Result<(), AllocError>
+    pub fn serve_from(&mut self, trail: &Trail, from: usize) -> Result<(), AllocError>
         requires inside { from ≤ length trail.now.entries }
         requires entries { AreEntries self.old.clauses (kept_of self.old) }
         requires over { All (IsOver trail.now.vars) self.old.clauses }
         requires lists { length self.old.lists.items ≡ 2 * trail.now.vars + 2 }
-        requires served { (floor : ℕ) × IsServed floor self.old.clauses trail.now.entries from (tending (kept_of self.old)) }
-        ensures served { OnOk result ((floor : ℕ) → IsServed floor self.old.clauses trail.now.entries from (tending (kept_of self.old))
-            → IsServed floor self.old.clauses trail.now.entries (length trail.now.entries) (tending (kept_of self.new))) }
+        requires served { (floor : ℕ) × (elsewhere : List ℕ) × IsServed floor self.old.clauses trail.now.entries from (tending (also elsewhere (kept_of self.old))) }
+        ensures served { OnOk result ((floor : ℕ) (elsewhere : List ℕ) → IsServed floor self.old.clauses trail.now.entries from (tending (also elsewhere (kept_of self.old)))
+            → IsServed floor self.old.clauses trail.now.entries (length trail.now.entries) (tending (also elsewhere (kept_of self.new)))) }
         ensures entries { OnOk result (AreEntries self.old.clauses (kept_of self.new)) }
         ensures kept { (self.new.clauses ≡ self.old.clauses) × (length self.new.lists.items ≡ length self.old.lists.items) }
     {

@@ -7,7 +7,7 @@ use crate::acts::{are_same, back_to, decide, learn_pair, learn_turned_pair, lear
 use crate::scan::Scan;
 use crate::visits::thousand;
 use cnf::{Formula, Lit, read_formula};
-use kernel::{Closed, Cube, Kernel};
+use kernel::{Closed, Cube, Kernel, Order};
 use samples::cube_of;
 use std::alloc::{AllocError, Global};
 use std::test::Fail;
@@ -80,7 +80,7 @@ impl Twins {
         let units = cube_of(alloc, formula.vars(), units)?;
         Ok(Twins {
             kernel: Kernel::open_with(alloc, formula, units.lits(), &Cube::root(alloc))?,
-            scan: Scan::open(alloc, formula.clauses(), units.lits(), &[])?,
+            scan: Scan::open(alloc, formula.clauses(), units.lits(), &[], Order::ByNumber)?,
             is_quiet: false,
             is_back: false,
             agree: true,

@@ -6,7 +6,7 @@ use crate::acts::{are_same, back_to, decide, learn_pair, learn_three, learn_unit
 use crate::dice::{Dice, formula_text};
 use crate::scan::Scan;
 use cnf::{Formula, Lit, read_formula};
-use kernel::{Closed, Cube, Kernel};
+use kernel::{Closed, Cube, Kernel, Order};
 use samples::cube_of;
 use std::alloc::{AllocError, Global};
 use std::test::Fail;
@@ -49,12 +49,17 @@ fn learn(kernel: &mut Kernel, clause: &[i32]) -> Result<bool, AllocError> {
 }
 
 impl Twins {
-    fn open(alloc: Global, dice: &mut Dice, formula: &Formula) -> Result<Twins, AllocError> {
+    fn open(
+        alloc: Global,
+        dice: &mut Dice,
+        formula: &Formula,
+        order: Order,
+    ) -> Result<Twins, AllocError> {
         let cube = small_cube(alloc, dice, formula.vars())?;
         let units = small_cube(alloc, dice, formula.vars())?;
         Ok(Twins {
-            kernel: Kernel::open_with(alloc, formula, units.lits(), &cube)?,
-            scan: Scan::open(alloc, formula.clauses(), units.lits(), cube.lits())?,
+            kernel: Kernel::open_in_order(alloc, formula, units.lits(), &cube, order)?,
+            scan: Scan::open(alloc, formula.clauses(), units.lits(), cube.lits(), order)?,
         })
     }
 
@@ -157,9 +162,9 @@ fn some_formula(alloc: Global, dice: &mut Dice) -> Result<Formula, Fail> {
 }
 
 /// Whether the kernel and the scan agree in a run over one formula.
-fn agrees(alloc: Global, dice: &mut Dice) -> Result<bool, Fail> {
+fn agrees(alloc: Global, dice: &mut Dice, order: Order) -> Result<bool, Fail> {
     let formula = some_formula(alloc, dice)?;
-    let mut twins = Twins::open(alloc, dice, &formula)?;
+    let mut twins = Twins::open(alloc, dice, &formula, order)?;
     twins.agree(alloc, dice)
 }
 
@@ -167,7 +172,22 @@ fn agrees(alloc: Global, dice: &mut Dice) -> Result<bool, Fail> {
 fn as_a_scan_of_all_clauses(rt: HostRuntime) -> Result<(), Fail> {
     let mut dice = Dice { state: 1 };
     for run in 0..400 {
-        assert_eq!(rt; (run, agrees(rt.alloc(), &mut dice)?), (run, true));
+        assert_eq!(rt;
+            (run, agrees(rt.alloc(), &mut dice, Order::ByNumber)?),
+            (run, true)
+        );
+    }
+    Ok(())
+}
+
+#[test]
+fn as_a_scan_by_place(rt: HostRuntime) -> Result<(), Fail> {
+    let mut dice = Dice { state: 2 };
+    for run in 0..400 {
+        assert_eq!(rt;
+            (run, agrees(rt.alloc(), &mut dice, Order::ByPlace)?),
+            (run, true)
+        );
     }
     Ok(())
 }

@@ -1,6 +1,6 @@
 //! Propagation that looks at each clause in each step, to compare the kernel with.
 use cnf::Lit;
-use kernel::{Closed, Entry};
+use kernel::{Closed, Entry, Order};
 use std::alloc::{AllocError, Global};
 
 /// Clauses and a trail. Nothing else is kept, so nothing can be stale.
@@ -10,6 +10,16 @@ pub struct Scan {
     // how many of the clauses were there from the beginning
     first: usize,
     trail: Vec<Entry>,
+    order: Order,
+}
+
+fn has(clause: &[Lit], wanted: Lit) -> bool {
+    for lit in clause {
+        if lit.same(&wanted) {
+            return true;
+        }
+    }
+    false
 }
 
 impl Scan {
@@ -19,11 +29,13 @@ impl Scan {
         clauses: &[Vec<Lit>],
         units: &[Lit],
         cube: &[Lit],
+        order: Order,
     ) -> Result<Scan, AllocError> {
         let mut scan = Scan {
             clauses: Vec::new(alloc),
             first: clauses.len().saturating_add(units.len()),
             trail: Vec::new(alloc),
+            order,
         };
         for clause in clauses {
             scan.learn(clause)?;
@@ -113,13 +125,56 @@ impl Scan {
         None
     }
 
+    /// The place of the clause's last false literal on the trail, counted from 1; 0 where none is false.
+    fn last_false(&self, clause: &[Lit]) -> u64 {
+        let mut last = 0;
+        let mut place = 0u64;
+        for entry in &self.trail {
+            let entry = *entry;
+            place = place.saturating_add(1);
+            if has(clause, entry.lit.negated()) {
+                last = place;
+            }
+        }
+        last
+    }
+
+    /// The unit clause of least place, and of several the one of least number.
+    fn nearest_unit(&self) -> Option<Entry> {
+        let mut nearest = None;
+        let mut least = u64::MAX;
+        let mut number = 0u64;
+        for clause in &self.clauses {
+            number = number.saturating_add(1);
+            if let Some(lit) = self.unit_literal(clause) {
+                let place = self.last_false(clause);
+                if place < least {
+                    least = place;
+                    nearest = Some(Entry {
+                        lit,
+                        reason: Some(number),
+                        level: self.level(),
+                    });
+                }
+            }
+        }
+        nearest
+    }
+
+    fn next_unit(&self) -> Option<Entry> {
+        match self.order {
+            Order::ByNumber => self.least_unit(),
+            Order::ByPlace => self.nearest_unit(),
+        }
+    }
+
     /// Each step gives one of the variables a value, so there are at most `vars` steps, and a last one that finds nothing.
     pub fn close(&mut self, vars: u32) -> Result<Closed, AllocError> {
         for _ in 0..=vars {
             if let Some(number) = self.least_false() {
                 return Ok(Closed::Conflict(number));
             }
-            match self.least_unit() {
+            match self.next_unit() {
                 Some(entry) => self.trail.push(entry)?,
                 None => return Ok(Closed::Quiet),
             }

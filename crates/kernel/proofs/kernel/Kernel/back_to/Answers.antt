@@ -17,4 +17,5 @@ invariant_of-self c =
       λ h. rw (k.0, c.back_to.ensures.vars, c.min-self-inside.ensures, c.entries.ensures.entries, c.back_to.ensures.entries)
           (back-watching V c.self.inside.first K T c.self.inside.served c.self.inside.floor c.args.level (kept_of c.self.inside.propagator) (kept_of c.calm.new.self) c.self.inside.singles.items c.self.inside.empty asked
           (ap (λ v. v.items) k.1) (ap (λ v. map (λ w. w.items) v.items) k.2) c.calm.ensures.calm.0 c.calm.ensures.calm.1 (c.self.invariant.3 h)),
+      c.self.invariant.4,
     )

@@ -2,7 +2,8 @@ use Rattle.std.proofs.Common.{◌≡◌, ◌+◌, ◌<◌, ◌≤◌, ℕ, lengt
 use Rattle.theory.specs.Trails.{current_level}
 use Rattle.kernel.proofs.Levels.{current_level-length, IsLawful-decision}
 use Rattle.kernel.specs.Visiting.{kept_of}
-use Rattle.kernel.proofs.KernelSteps.{decide-watching}
+use Rattle.kernel.specs.Rules.{rule_of}
+use Rattle.kernel.proofs.KernelSteps.{decide-watching, IsRule-of}
 use Rattle.trail.proofs.Ordered.{length-free}
 use Rattle.kernel.proofs.kernel.Kernel.decide.Goals as goal
 
@@ -28,7 +29,8 @@ invariant_of-self c =
       rw c.push.ensures.vars c.self.invariant.1,
       c.self.invariant.2,
       λ h. rw (c.push.ensures.entries, c.push.ensures.vars)
-          (decide-watching c.self.inside.trail.vars c.self.inside.first c.self.inside.propagator.clauses c.self.inside.trail.entries c.self.inside.served c.self.inside.floor c.floor_of-self-inside.result (kept_of c.self.inside.propagator)
+          (decide-watching (rule_of c.self.inside.order) (IsRule-of c.self.inside.order) c.self.inside.trail.vars c.self.inside.first c.self.inside.propagator.clauses c.self.inside.trail.entries c.self.inside.served c.self.inside.floor c.floor_of-self-inside.result (kept_of c.self.inside.propagator)
           c.self.inside.singles.items c.self.inside.empty (record { lit = c.args.lit; reason = None; level = c.level-level.result + 1 }) c.level-level.ensures.ordered asked.2 (ap (λ n. n + 1) level)
           (which (length c.self.inside.trail.entries) c.self.inside.served c.self.inside.floor c.floor_of-self-inside.result s.within (rw (← c.entries.ensures.entries) c.floor_of-self-inside.ensures)) s),
+      c.self.invariant.4,
     )

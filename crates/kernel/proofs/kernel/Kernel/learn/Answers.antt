@@ -12,4 +12,5 @@ invariant_of-self c =
       rw e.clauses (All-push (IsOver c.self.inside.trail.vars) _ _ c.self.invariant.1 asked.0),
       rw (e.clauses, length-append) (omega (arith, c.self.invariant.2)),
       λ h. e.watching c.self.inside.first c.self.inside.served c.self.inside.floor c.self.inside.singles.items c.self.inside.empty c.self.invariant.2 (c.self.invariant.3 h),
+      c.self.invariant.4,
     )

@@ -26,7 +26,7 @@ left V first K new over within (inr e) = rw e (All-take (IsOver V) first K over,
 pub invariant_of-self : goal.invariant_of-self
 invariant_of-self c =
     let r = left c.self.inside.trail.vars c.self.inside.first c.self.inside.propagator.clauses c.cut.new.self.clauses c.self.invariant.1 c.self.invariant.2 c.in-Err.ensures.refused in
-    (rw c.clear.ensures.entries tt, rw c.clear.ensures.vars r.0, r.1, λ h. absurd (cc))
+    (rw c.clear.ensures.entries tt, rw c.clear.ensures.vars r.0, r.1, λ h. absurd (cc), λ h. absurd (cc))
 
 pub invariant_of-self-2 : goal.invariant_of-self-2
 invariant_of-self-2 c =
@@ -43,6 +43,7 @@ invariant_of-self-2 c =
           let s = c.in_default.ensures.watching V c.self.inside.served c.self.inside.floor c.self.inside.trail.entries was in
           rw (vars, entries, ← c.deref.ensures.value)
           (begun 18446744073709551615 V first c.cut.new.self.clauses (cube_trail c.args.cube.now) (kept_of c.cut.new.self) c.deref.result.now c.self.inside.empty (current_level-cube_trail c.args.cube.now) s),
+      c.self.invariant.4,
     )
 
 pub returns-clause-lawful : goal.returns-clause-lawful

@@ -22,7 +22,7 @@ chosen-lit-requires c =
     let s = c.loop-clause.invariant.served c.requires.served.0 c.requires.served.1 in
     let inside = pop-within c.requires.served.0 c.args.self.now.clauses c.args.trail.now.entries (tending (kept_of c.loop-clause.self)) c.in-Some.clause c.pop.new.self s.tends c.in-Some.ensures.taken in
     let ok = distinct-consistent (literals c.args.trail.now.entries) c.entries-trail.ensures.ordered.distinct in
-    let p = pops (tending (kept_of c.loop-clause.self)) c.pop.new.self c.in-Some.clause c.index.result.now (c.loop-clause.invariant.conflict ∙ c.requires.none) c.in-Some.ensures.taken c.in-Some.ensures.least (inside, sym c.index.ensures) in
+    let p = pops (tending (kept_of c.loop-clause.self)) c.pop.new.self c.in-Some.clause c.index.result.now (c.loop-clause.invariant.conflict ∙ c.requires.none) c.in-Some.ensures.taken (inside, sym c.index.ensures) in
     over-var c.args.trail.now.vars (get_or c.args.self.now.clauses c.in-Some.clause []) c.index.result.now.first
     (c.requires.over c.in-Some.clause [] (popped-within c.requires.served.0 c.args.self.now.clauses c.args.trail.now.entries (tending (kept_of c.loop-clause.self)) _ c.in-Some.clause c.index.result.now ok s p))
     (first-in c.requires.served.0 c.args.self.now.clauses c.args.trail.now.entries (tending (kept_of c.loop-clause.self)) _ c.in-Some.clause c.index.result.now ok s p)
@@ -32,7 +32,7 @@ truth-requires c =
     let s = c.loop-clause.invariant.served c.requires.served.0 c.requires.served.1 in
     let inside = pop-within c.requires.served.0 c.args.self.now.clauses c.args.trail.now.entries (tending (kept_of c.loop-clause.self)) c.in-Some.clause c.pop.new.self s.tends c.in-Some.ensures.taken in
     let ok = distinct-consistent (literals c.args.trail.now.entries) c.entries-trail.ensures.ordered.distinct in
-    let p = pops (tending (kept_of c.loop-clause.self)) c.pop.new.self c.in-Some.clause c.index.result.now (c.loop-clause.invariant.conflict ∙ c.requires.none) c.in-Some.ensures.taken c.in-Some.ensures.least (inside, sym c.index.ensures) in
+    let p = pops (tending (kept_of c.loop-clause.self)) c.pop.new.self c.in-Some.clause c.index.result.now (c.loop-clause.invariant.conflict ∙ c.requires.none) c.in-Some.ensures.taken (inside, sym c.index.ensures) in
     subst (λ (l : Literal). l.var ≤ c.args.trail.now.vars) (sym c.chosen-lit.ensures)
     (over-var c.args.trail.now.vars (get_or c.args.self.now.clauses c.in-Some.clause []) (chosen (literals c.args.trail.now.entries) c.index.result.now)
     (c.requires.over c.in-Some.clause [] (popped-within c.requires.served.0 c.args.self.now.clauses c.args.trail.now.entries (tending (kept_of c.loop-clause.self)) _ c.in-Some.clause c.index.result.now ok s p))
@@ -43,10 +43,10 @@ returns-then-is_none-clause-unit c =
     let s = c.loop-clause.invariant.served c.requires.served.0 c.requires.served.1 in
     let inside = pop-within c.requires.served.0 c.args.self.now.clauses c.args.trail.now.entries (tending (kept_of c.loop-clause.self)) c.in-Some.clause c.pop.new.self s.tends c.in-Some.ensures.taken in
     let ok = distinct-consistent (literals c.args.trail.now.entries) c.entries-trail.ensures.ordered.distinct in
-    let p = pops (tending (kept_of c.loop-clause.self)) c.pop.new.self c.in-Some.clause c.index.result.now (c.loop-clause.invariant.conflict ∙ c.requires.none) c.in-Some.ensures.taken c.in-Some.ensures.least (inside, sym c.index.ensures) in
+    let p = pops (tending (kept_of c.loop-clause.self)) c.pop.new.self c.in-Some.clause c.index.result.now (c.loop-clause.invariant.conflict ∙ c.requires.none) c.in-Some.ensures.taken (inside, sym c.index.ensures) in
     let free : has_var (literals c.args.trail.now.entries) c.chosen-lit.result.var ≡ false = truth-none (literals c.args.trail.now.entries) c.chosen-lit.result c.truth.result c.truth.ensures.truth (c.is_none.ensures ∙ ap not c.if-is_none.true) in
     subst (λ (l : Literal). least_unit (literals c.args.trail.now.entries) c.args.self.now.clauses ≡ Some (c.in-Some.clause + 1, l)) (sym c.chosen-lit.ensures)
-    (pop-unit c.requires.served.0 c.args.self.now.clauses c.args.trail.now.entries (tending (kept_of c.loop-clause.self)) _ c.in-Some.clause c.index.result.now ok s p
+    (pop-unit c.requires.served.0 c.args.self.now.clauses c.args.trail.now.entries (tending (kept_of c.loop-clause.self)) _ c.in-Some.clause c.index.result.now ok s p c.in-Some.ensures.least
     (subst (λ (l : Literal). has_var (literals c.args.trail.now.entries) l.var ≡ false) c.chosen-lit.ensures free))
 
 pub returns-then-is_none-clause-grows : goal.returns-then-is_none-clause-grows
@@ -54,7 +54,7 @@ returns-then-is_none-clause-grows c floor e lit level served =
     let s = c.loop-clause.invariant.served floor served in
     let inside = pop-within floor c.args.self.now.clauses c.args.trail.now.entries (tending (kept_of c.loop-clause.self)) c.in-Some.clause c.pop.new.self s.tends c.in-Some.ensures.taken in
     let ok = distinct-consistent (literals c.args.trail.now.entries) c.entries-trail.ensures.ordered.distinct in
-    let p = pops (tending (kept_of c.loop-clause.self)) c.pop.new.self c.in-Some.clause c.index.result.now (c.loop-clause.invariant.conflict ∙ c.requires.none) c.in-Some.ensures.taken c.in-Some.ensures.least (inside, sym c.index.ensures) in
+    let p = pops (tending (kept_of c.loop-clause.self)) c.pop.new.self c.in-Some.clause c.index.result.now (c.loop-clause.invariant.conflict ∙ c.requires.none) c.in-Some.ensures.taken (inside, sym c.index.ensures) in
     pop-entry floor c.args.self.now.clauses c.args.trail.now.entries (tending (kept_of c.loop-clause.self)) _ c.in-Some.clause c.index.result.now ok s p e (lit ∙ c.chosen-lit.ensures) level
 
 pub loop-clause-smaller : goal.loop-clause-smaller
@@ -68,7 +68,7 @@ loop-clause-preserved c =
       served = λ floor served.
           let s = c.loop-clause.invariant.served floor served in
           let inside = pop-within floor c.args.self.now.clauses c.args.trail.now.entries (tending (kept_of c.loop-clause.self)) c.in-Some.clause c.pop.new.self s.tends c.in-Some.ensures.taken in
-          let p = pops (tending (kept_of c.loop-clause.self)) c.pop.new.self c.in-Some.clause c.index.result.now (c.loop-clause.invariant.conflict ∙ c.requires.none) c.in-Some.ensures.taken c.in-Some.ensures.least (inside, sym c.index.ensures) in
+          let p = pops (tending (kept_of c.loop-clause.self)) c.pop.new.self c.in-Some.clause c.index.result.now (c.loop-clause.invariant.conflict ∙ c.requires.none) c.in-Some.ensures.taken (inside, sym c.index.ensures) in
           pop-stale floor c.args.self.now.clauses c.args.trail.now.entries (tending (kept_of c.loop-clause.self)) _ c.in-Some.clause c.index.result.now ok s p
           (subst (λ (l : Literal). has_var (literals c.args.trail.now.entries) l.var ≡ true) c.chosen-lit.ensures taken);
       clauses = c.loop-clause.invariant.clauses;

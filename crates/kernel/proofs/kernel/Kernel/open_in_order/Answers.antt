@@ -11,24 +11,24 @@ use Rattle.theory.specs.Trails.{cube_trail}
 use Rattle.theory.proofs.TrailEntries.{IsLawful-cube}
 use Rattle.trail.specs.TrailOver.{TrailOver}
 use Rattle.theory.proofs.TrailLists.{literals-cube}
-use Rattle.kernel.proofs.kernel.Kernel.open_with.Goals as goal
+use Rattle.kernel.proofs.kernel.Kernel.open_in_order.Goals as goal
 
 -- the parts of the kernel, as the calls have told them
-vars_of : (c : goal.After-len) → c.put_cube.new.trail.vars ≡ c.args.formula.now.vars
+vars_of : (c : goal.After-new) → c.put_cube.new.trail.vars ≡ c.args.formula.now.vars
 vars_of c = c.put_cube.ensures.vars ∙ (ap (λ (t : TrailOver). t.vars) c.in_ok-trail.ensures ∙ c.vars-vars.ensures.vars)
 
-entries_of : (c : goal.After-len) → c.put_cube.new.trail.entries ≡ cube_trail c.args.cube.now
+entries_of : (c : goal.After-new) → c.put_cube.new.trail.entries ≡ cube_trail c.args.cube.now
 entries_of c = c.put_cube.ensures.entries ∙ ap cube_trail c.lits.ensures.lits
 
-clauses_are : (c : goal.After-len) → c.attach_units.new.self.clauses ≡ c.args.formula.now.clauses ++ unit_clauses c.args.units.now
+clauses_are : (c : goal.After-new) → c.attach_units.new.self.clauses ≡ c.args.formula.now.clauses ++ unit_clauses c.args.units.now
 clauses_are c = rw (c.in_ok-attach_units.ensures.clauses, c.in_ok-attach_all.ensures.clauses, c.in_ok-propagator.ensures.none.0, c.clauses-clauses.ensures.clauses) refl
 
 -- the clauses are over the formula's variables
-over_of : (c : goal.After-len) → All (IsOver c.args.formula.now.vars) (c.args.formula.now.clauses ++ unit_clauses c.args.units.now)
+over_of : (c : goal.After-new) → All (IsOver c.args.formula.now.vars) (c.args.formula.now.clauses ++ unit_clauses c.args.units.now)
 over_of c = All-append (IsOver c.args.formula.now.vars) c.args.formula.now.clauses (unit_clauses c.args.units.now) c.vars-vars.ensures.within.formula (IsOver-unit_clauses c.args.formula.now.vars c.args.units.now c.requires.units.1)
 
 -- nothing is decided, so whatever the cube puts on the trail is yet to be served
-watching : (c : goal.After-len) → IsWatching c.put_cube.new.trail.vars c.len.result c.attach_units.new.self.clauses c.put_cube.new.trail.entries 0 18446744073709551615 (kept_of c.attach_units.new.self) c.attach_units.new.singles.items c.attach_units.new.self.conflict
+watching : (c : goal.After-new) → IsWatching c.put_cube.new.trail.vars c.len.result c.attach_units.new.self.clauses c.put_cube.new.trail.entries 0 18446744073709551615 (kept_of c.attach_units.new.self) c.attach_units.new.singles.items c.attach_units.new.self.conflict
 watching c =
     let V = c.vars-vars.result in
     let e = c.in_ok-propagator.ensures in
@@ -43,7 +43,7 @@ pub attach_all-requires : goal.attach_all-requires
 attach_all-requires c = record { over = (c.vars-vars.result, rw c.vars-vars.ensures.vars (over-items (λ v. v.items) c.args.formula.now.vars c.clauses-clauses.result.now c.args.formula.now.clauses c.clauses-clauses.ensures.clauses c.vars-vars.ensures.within.formula), c.in_ok-propagator.ensures.none.1 ∙ c.in_ok-room.ensures) }
 
 pub invariant_of-result : goal.invariant_of-result
-invariant_of-result c = (rw (entries_of c) (IsLawful-cube _ _ c.lits.ensures.cube), rw (vars_of c, clauses_are c) (over_of c), omega (arith, c.len.ensures), λ h. watching c)
+invariant_of-result c = (rw (entries_of c) (IsLawful-cube _ _ c.lits.ensures.cube), rw (vars_of c, clauses_are c) (over_of c), omega (arith, c.len.ensures), λ h. watching c, λ h. c.new.ensures)
 
 pub returns-clause-lawful : goal.returns-clause-lawful
 returns-clause-lawful c = (
