@@ -4,9 +4,9 @@ use Rattle.std.proofs.lemmas.Bool.{cases_eq, cases_lt}
 use Rattle.std.proofs.lemmas.List.{length_push, length-set, get_or-set_same, get_or-set_other, get_or_append_left, get_or_past}
 use Rattle.std.proofs.lemmas.List.Elements.{Contains-append_left, Contains-push, Contains-push_cases}
 use Rattle.std.specs.List.{Contains}
-use Rattle.theory.specs.Literals.{Literal, Clause, same, has}
+use Rattle.theory.specs.Literals.{Literal, Clause, same, has, has_both_signs}
 use Rattle.theory.specs.Trails.{Trail, literals, current_level, up_to}
-use Rattle.kernel.specs.Watching.{At, IsPair, IsWatched, apart, first_true, second_true, other_true, Reached, Good, held, waits, reached, Tending, list_at, IsFull, IsListed, Tends, AllGood, WasUnit, code, listed_at, listed_both, IsExact, IsServed}
+use Rattle.kernel.specs.Watching.{At, IsPair, IsWatched, apart, first_true, second_true, other_true, both_signs, Reached, Good, held, waits, reached, Tending, list_at, IsFull, IsListed, Tends, AllGood, WasUnit, code, listed_at, listed_both, IsExact, IsServed}
 use Rattle.kernel.specs.declared.watch.Watched.{Watched}
 use Rattle.theory.proofs.LiteralLemmas.{same-eq, same-refl}
 use Rattle.kernel.proofs.LiteralFacts.{true_false}
@@ -36,6 +36,7 @@ IsWatched-longer K c n S P w (apart d a b) = apart d a b
 IsWatched-longer K c n S P w (first_true t) = first_true t
 IsWatched-longer K c n S P w (second_true t) = second_true t
 IsWatched-longer K c n S P w (other_true d y a m t) = other_true d y (At-longer K c d n a) m t
+IsWatched-longer K c n S P w (both_signs d a b) = both_signs d (At-longer K c d n a) b
 
 pub Good-longer : (K : List Clause) (c : Clause) (S P : List Literal) (H : List ℕ) (f : Option ℕ) (w : Watched) (n : ℕ) → Good K S P H f w n → Good (K ++ c ∷ []) S P H f w n
 Good-longer K c S P H f w n (held h) = held (IsWatched-longer K c n S P w h)
@@ -61,7 +62,7 @@ Tends-add floor K T c w t u p s = record {
   listed = record {
     length_pairs = ap length p.pairs ∙ (let z : length (t.pairs ++ w ∷ []) ≡ length (K ++ c ∷ []) = omega (arith, length_push t.pairs w, length_push K c, s.listed.length_pairs) in z);
     pairs = λ m d v a b ne. pair m d v a ne (At-push t.pairs w m v (subst (λ ws. At ws m v) p.pairs b));
-    listed = λ m d v a b ne. stands m d v a ne (At-push t.pairs w m v (subst (λ ws. At ws m v) p.pairs b));
+    listed = λ m d v a b ne one. stands m d v a ne one (At-push t.pairs w m v (subst (λ ws. At ws m v) p.pairs b));
     within = λ k ns m a b. full m (within k ns m (p.only k ns m a b));
   };
   exact = subst (λ ws. IsExact ws u.lists) (sym p.pairs) p.exact;
@@ -86,9 +87,9 @@ Tends-add floor K T c w t u p s = record {
     pair m d v a ne (inl b) = s.listed.pairs m d v (old-at K c d m (old m v b) a) b ne
     pair m d v a ne (inr (e, f)) = rw (new-at K c d m (new m e) a, f) p.pair
 
-    stands : (m : ℕ) (d : Clause) (v : Watched) → At (K ++ c ∷ []) m d → (d ≡ [] → ⊥) → At t.pairs m v ⊎ ((m ≡ length t.pairs) × (v ≡ w)) → Contains (list_at u.lists v.first) m × Contains (list_at u.lists v.second) m
-    stands m d v a ne (inl b) = let r = s.listed.listed m d v (old-at K c d m (old m v b) a) b ne in (p.kept v.first m r.0, p.kept v.second m r.1)
-    stands m d v a ne (inr (e, f)) = rw (f, new m e) (p.first_listed, p.second_listed)
+    stands : (m : ℕ) (d : Clause) (v : Watched) → At (K ++ c ∷ []) m d → (d ≡ [] → ⊥) → has_both_signs d ≡ false → At t.pairs m v ⊎ ((m ≡ length t.pairs) × (v ≡ w)) → Contains (list_at u.lists v.first) m × Contains (list_at u.lists v.second) m
+    stands m d v a ne one (inl b) = let r = s.listed.listed m d v (old-at K c d m (old m v b) a) b ne one in (p.kept v.first m r.0, p.kept v.second m r.1)
+    stands m d v a ne one (inr (e, f)) = rw (f, new m e) (p.first_listed, p.second_listed)
 
     within : (k : ℕ) (ns : List ℕ) (m : ℕ) → (m ≡ length K) ⊎ ((xs : List ℕ) × At t.lists k xs × Contains xs m) → (m ≡ length K) ⊎ IsFull K m
     within k ns m (inl e) = inl e

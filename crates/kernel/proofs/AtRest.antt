@@ -1,12 +1,13 @@
 -- Once each entry of the trail was served: which clauses are false, and which are unit.
 use Rattle.std.proofs.Common.{◌≡◌, ℕ, true, false, ◌||◌, List, Option, None, subst, ◌⊎◌, inl, inr}
 use Rattle.std.specs.List.{Contains}
-use Rattle.theory.specs.Literals.{Literal, Clause, same, has, has_var, negated}
+use Rattle.theory.specs.Literals.{Literal, Clause, same, has, has_var, has_both_signs, negated}
 use Rattle.theory.specs.Status.{is_false, others_false}
 use Rattle.theory.proofs.LiteralLemmas.{or-cases, same-eq, same-refl}
-use Rattle.kernel.specs.Watching.{IsConsistent, IsPair, apart, first_true, second_true, other_true, At, Reached, Good, held, waits, reached}
+use Rattle.kernel.specs.Watching.{IsConsistent, IsPair, apart, first_true, second_true, other_true, both_signs, At, Reached, Good, held, waits, reached}
 use Rattle.kernel.specs.declared.watch.Watched.{Watched}
 use Rattle.kernel.proofs.Places.{At-one}
+use Rattle.kernel.proofs.BothSigns.{both_signs-false, both_signs-unit}
 use Rattle.kernel.proofs.LiteralFacts.{true_false, all-member, free-not}
 
 -- a false clause stands at or behind the least one that was found
@@ -24,6 +25,7 @@ false-reached K P H f c w n at ok pair all good = go good
     go (held (first_true t)) = absurd (ok w.first t first_false)
     go (held (second_true t)) = absurd (ok w.second t second_false)
     go (held (other_true d y a m t)) = absurd (ok y t (all-member (λ l. has P (negated l)) c y all (subst (λ (x : Clause). has x y ≡ true) (At-one K n d c a at) m)))
+    go (held (both_signs d a b)) = absurd (both_signs-false P c ok (subst (λ (x : Clause). has_both_signs x ≡ true) (At-one K n d c a at) b) all)
     go (waits m (inl a)) = absurd (true_false (has P (negated w.first)) first_false a)
     go (waits m (inr b)) = absurd (true_false (has P (negated w.second)) second_false b)
     go (reached r) = r
@@ -60,5 +62,6 @@ unit-waits K P H c w n y at ok pair free all good = go good
     go (held (first_true t)) = absurd (not_true w.first first_is t)
     go (held (second_true t)) = absurd (not_true w.second second_is t)
     go (held (other_true d x a m t)) = absurd (not_true x (other-false P c y x all (subst (λ (e : Clause). has e x ≡ true) (At-one K n d c a at) m)) t)
+    go (held (both_signs d a b)) = absurd (both_signs-unit P c y ok (subst (λ (x : Clause). has_both_signs x ≡ true) (At-one K n d c a at) b) free all)
     go (waits m z) = m
     go (reached r) = absurd r

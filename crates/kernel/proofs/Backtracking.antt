@@ -6,7 +6,7 @@ use Rattle.std.specs.List.{Contains}
 use Rattle.theory.specs.Literals.{Literal, Clause, same, has, has_var, negated}
 use Rattle.theory.specs.Trails.{Entry, Trail, literals, current_level, level_at, up_to}
 use Rattle.theory.proofs.LiteralLemmas.{or-cases, or-left, or-right, true_or_false}
-use Rattle.kernel.specs.Watching.{At, IsWatched, Reached, Good, held, waits, reached, Tending, Includes, AreWatchedIn, Tends, AllGood, IsServed, other_true, apart, first_true, second_true, WasUnit}
+use Rattle.kernel.specs.Watching.{At, IsWatched, Reached, Good, held, waits, reached, Tending, Includes, AreWatchedIn, Tends, AllGood, IsServed, other_true, both_signs, apart, first_true, second_true, WasUnit}
 use Rattle.kernel.specs.declared.watch.Watched.{Watched}
 use Rattle.trail.specs.TrailOver.{IsRisingFrom}
 use Rattle.trail.proofs.Ordered.{rising-at}
@@ -90,6 +90,7 @@ IsWatched-less K n R S P w sub (apart d a b) = apart d (not-in S R (negated w.fi
 IsWatched-less K n R S P w sub (first_true t) = first_true t
 IsWatched-less K n R S P w sub (second_true t) = second_true t
 IsWatched-less K n R S P w sub (other_true c y a m t) = other_true c y a m t
+IsWatched-less K n R S P w sub (both_signs c a b) = both_signs c a b
 
 pub Includes-take-le : (T : Trail) (a b : ℕ) → a ≤ b → Includes (literals (take b T)) (literals (take a T))
 Includes-take-le [] zero zero le l h = h
@@ -216,7 +217,7 @@ went_back floor K T m t u h pairs lists units least s = record {
     listed = record {
       length_pairs = rw pairs s.listed.length_pairs;
       pairs = λ n c w a b ne. s.listed.pairs n c w a (rw (← pairs) b) ne;
-      listed = λ n c w a b ne. rw lists (s.listed.listed n c w a (rw (← pairs) b) ne);
+      listed = λ n c w a b ne one. rw lists (s.listed.listed n c w a (rw (← pairs) b) ne one);
       within = λ k ns n a b. s.listed.within k ns n (rw (← lists) a) b;
     };
     exact = rw (pairs, lists) s.exact;

@@ -180,7 +180,7 @@ module _ (V : ℕ) (K : List Clause) (k u : WatchLists) (single : List ℕ) (e :
         listed = record {
           length_pairs = ap length pairs ∙ (let z : length (k.pairs ++ w ∷ []) ≡ length (K ++ c ∷ []) = omega (arith, length_push k.pairs w, length_push K c, s.served.tends.listed.length_pairs) in z);
           pairs = λ n d v a b ne. s.served.tends.listed.pairs n d v (old-at n d a ne) (old-pair n v b (old-at n d a ne).0) ne;
-          listed = λ n d v a b ne. rw lists (s.served.tends.listed.listed n d v (old-at n d a ne) (old-pair n v b (old-at n d a ne).0) ne);
+          listed = λ n d v a b ne one. rw lists (s.served.tends.listed.listed n d v (old-at n d a ne) (old-pair n v b (old-at n d a ne).0) ne one);
           within = λ i ns n a b. let r = s.served.tends.listed.within i ns n (rw (← lists) a) b in (longer n r.0, λ x. r.1 (front n [] r.0 x));
         };
         exact = rw (pairs, lists) (record {

@@ -3,6 +3,7 @@ pub mod AtRest
 pub mod Attached
 pub mod Backtracking
 pub mod Beginning
+pub mod BothSigns
 pub mod Cutting
 pub mod Falling
 pub mod KernelSteps

@@ -82,7 +82,7 @@ IsServed-permuted floor K T n t u pairs lists least units s = record {
     listed = record {
       length_pairs = rw pairs s.tends.listed.length_pairs;
       pairs = λ m d v a b ne. s.tends.listed.pairs m d v a (rw (← pairs) b) ne;
-      listed = λ m d v a b ne. rw lists (s.tends.listed.listed m d v a (rw (← pairs) b) ne);
+      listed = λ m d v a b ne one. rw lists (s.tends.listed.listed m d v a (rw (← pairs) b) ne one);
       within = λ k ns m a b. s.tends.listed.within k ns m (rw (← lists) a) b;
     };
     exact = rw (pairs, lists) s.tends.exact;

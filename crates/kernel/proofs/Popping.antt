@@ -11,7 +11,7 @@ use Rattle.theory.specs.Status.{is_false, others_false, unit_literal}
 use Rattle.theory.specs.Trails.{Entry, Trail, literals, current_level}
 use Rattle.theory.specs.Propagation.{least_false, least_unit}
 use Rattle.theory.proofs.LiteralLemmas.{and-left, and-right, or-cases, or-left, or-right, true_or_false, same-refl}
-use Rattle.kernel.specs.Watching.{IsConsistent, IsPair, IsWatched, apart, first_true, second_true, other_true, Reached, Good, held, waits, reached, At, Tending, Includes, Tends, WasUnit, AllGood, IsServed, chosen}
+use Rattle.kernel.specs.Watching.{IsConsistent, IsPair, IsWatched, apart, first_true, second_true, other_true, both_signs, Reached, Good, held, waits, reached, At, Tending, Includes, Tends, WasUnit, AllGood, IsServed, chosen}
 use Rattle.kernel.specs.declared.watch.Watched.{Watched}
 use Rattle.kernel.proofs.LiteralFacts.{true_false, has-push, free-not_negated}
 use Rattle.kernel.proofs.Places.{At-one, At-get}
@@ -116,6 +116,7 @@ Good-grow K S P Q H f w n more (held (apart d a b)) = held (apart d a b)
 Good-grow K S P Q H f w n more (held (first_true t)) = held (first_true (more w.first t))
 Good-grow K S P Q H f w n more (held (second_true t)) = held (second_true (more w.second t))
 Good-grow K S P Q H f w n more (held (other_true c y a m t)) = held (other_true c y a m (more y t))
+Good-grow K S P Q H f w n more (held (both_signs c a b)) = held (both_signs c a b)
 Good-grow K S P Q H f w n more (waits m z) = waits m z
 Good-grow K S P Q H f w n more (reached r) = reached r
 
@@ -221,7 +222,7 @@ module _ (floor : ℕ) (K : List Clause) (T : Trail) (t u : Tending) (n : ℕ) (
     listed = record {
       length_pairs = rw p.pairs s.tends.listed.length_pairs;
       pairs = λ m d v a b ne. s.tends.listed.pairs m d v a (rw (← p.pairs) b) ne;
-      listed = λ m d v a b ne. rw p.lists (s.tends.listed.listed m d v a (rw (← p.pairs) b) ne);
+      listed = λ m d v a b ne one. rw p.lists (s.tends.listed.listed m d v a (rw (← p.pairs) b) ne one);
       within = λ k ns m a b. s.tends.listed.within k ns m (rw (← p.lists) a) b;
     };
     exact = rw (p.pairs, p.lists) s.tends.exact;

@@ -127,8 +127,8 @@ module _ (V first at floor : ℕ) (K : List Clause) (T : Trail) (k u : WatchList
         listed = record {
           length_pairs = ap length pairs ∙ (length-take-le first k.pairs within_pairs ∙ sym size);
           pairs = λ n c w a b ne. s.served.tends.listed.pairs n c w (front-clause n c a).1 (front-pair n w b).1 ne;
-          listed = λ n c w a b ne.
-              let h = s.served.tends.listed.listed n c w (front-clause n c a).1 (front-pair n w b).1 ne in
+          listed = λ n c w a b ne one.
+              let h = s.served.tends.listed.listed n c w (front-clause n c a).1 (front-pair n w b).1 ne one in
               (still w.first n (front-clause n c a).0 h.0, still w.second n (front-clause n c a).0 h.1);
           within = λ i ns n a b. full i ns n a b;
         };

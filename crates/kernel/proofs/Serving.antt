@@ -2,9 +2,9 @@
 use Rattle.std.proofs.Common.{◌≡◌, ◌≢◌, ℕ, ◌+◌, ◌<◌, ◌≤◌, Bool, true, false, List, [], ◌∷◌, ◌++◌, length, get_or, set, Option, refl, sym, subst, ◌∙◌, ◌⊎◌, inl, inr, arith}
 use Rattle.std.specs.List.{Contains, swap_remove}
 use Rattle.std.proofs.lemmas.Bool.{cases_eq}
-use Rattle.theory.specs.Literals.{Literal, Clause, same, has, negated}
+use Rattle.theory.specs.Literals.{Literal, Clause, same, has, has_both_signs, negated}
 use Rattle.theory.proofs.LiteralLemmas.{same-eq}
-use Rattle.kernel.specs.Watching.{apart, first_true, second_true, other_true, Reached, Good, held, waits, reached, At, StandsFrom, Tending, GoodBut, AllGood, list_at, IsListed, IsFound}
+use Rattle.kernel.specs.Watching.{apart, first_true, second_true, other_true, both_signs, Reached, Good, held, waits, reached, At, StandsFrom, Tending, GoodBut, AllGood, list_at, IsListed, IsFound}
 use Rattle.kernel.specs.declared.watch.Watched.{Watched}
 use Rattle.kernel.proofs.LiteralFacts.{or_false, has-push, same-negated, negated-negated}
 use Rattle.kernel.proofs.Places.{At-one, At-get, At-set, swap_remove-place}
@@ -30,6 +30,7 @@ Good-untouched K S P l H f w n d e (held (apart x a b)) = held (apart x (not-ser
 Good-untouched K S P l H f w n d e (held (first_true t)) = held (first_true t)
 Good-untouched K S P l H f w n d e (held (second_true t)) = held (second_true t)
 Good-untouched K S P l H f w n d e (held (other_true c y a m t)) = held (other_true c y a m t)
+Good-untouched K S P l H f w n d e (held (both_signs c a b)) = held (both_signs c a b)
 Good-untouched K S P l H f w n d e (waits m (inl a)) = waits m (inl (not-served S l w.first d a))
 Good-untouched K S P l H f w n d e (waits m (inr b)) = waits m (inr (not-served S l w.second e b))
 Good-untouched K S P l H f w n d e (reached r) = reached r
@@ -88,11 +89,15 @@ GoodBut-start K S l P t listed found all n w a = go (get_or K n []) refl
     watching : (k : Literal) → same k (negated l) ≡ true → Contains (list_at t.lists k) n → StandsFrom 0 (list_at t.lists (negated l)) n
     watching k e h = subst (λ (x : Literal). StandsFrom 0 (list_at t.lists x) n) (same-eq k (negated l) e) (h.0, (let z : 0 ≤ h.0 = omega arith in z), h.1, h.2)
 
-    by : (b d : Bool) → same w.first (negated l) ≡ b → same w.second (negated l) ≡ d → (get_or K n [] ≡ [] → ⊥) → Good K (S ++ l ∷ []) P t.units t.least w n ⊎ (StandsFrom 0 (list_at t.lists (negated l)) n × Good K S P t.units t.least w n)
-    by true d e f ne = inr (watching w.first e (listed.listed n (get_or K n []) w at a ne).0, all n w a)
-    by false true e f ne = inr (watching w.second f (listed.listed n (get_or K n []) w at a ne).1, all n w a)
-    by false false e f ne = inl (Good-untouched K S P l t.units t.least w n e f (all n w a))
+    by : (b d : Bool) → same w.first (negated l) ≡ b → same w.second (negated l) ≡ d → (get_or K n [] ≡ [] → ⊥) → has_both_signs (get_or K n []) ≡ false → Good K (S ++ l ∷ []) P t.units t.least w n ⊎ (StandsFrom 0 (list_at t.lists (negated l)) n × Good K S P t.units t.least w n)
+    by true d e f ne one = inr (watching w.first e (listed.listed n (get_or K n []) w at a ne one).0, all n w a)
+    by false true e f ne one = inr (watching w.second f (listed.listed n (get_or K n []) w at a ne one).1, all n w a)
+    by false false e f ne one = inl (Good-untouched K S P l t.units t.least w n e f (all n w a))
+
+    signs : (b : Bool) → has_both_signs (get_or K n []) ≡ b → (get_or K n [] ≡ [] → ⊥) → Good K (S ++ l ∷ []) P t.units t.least w n ⊎ (StandsFrom 0 (list_at t.lists (negated l)) n × Good K S P t.units t.least w n)
+    signs true e ne = inl (held (both_signs (get_or K n []) at e))
+    signs false e ne = by (same w.first (negated l)) (same w.second (negated l)) refl refl ne e
 
     go : (c : Clause) → get_or K n [] ≡ c → Good K (S ++ l ∷ []) P t.units t.least w n ⊎ (StandsFrom 0 (list_at t.lists (negated l)) n × Good K S P t.units t.least w n)
     go [] e = inl (reached (found.empties n (rw (← e) at)))
-    go (k ∷ c) e = by (same w.first (negated l)) (same w.second (negated l)) refl refl (λ z. let f : k ∷ c ≡ [] = sym e ∙ z in absurd (cc))
+    go (k ∷ c) e = signs (has_both_signs (get_or K n [])) refl (λ z. let f : k ∷ c ≡ [] = sym e ∙ z in absurd (cc))

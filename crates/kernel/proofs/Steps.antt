@@ -4,11 +4,11 @@ use Rattle.std.proofs.lemmas.Bool.{cases_lt}
 use Rattle.std.proofs.lemmas.List.{length-set, get_or-set_same, get_or-set_other}
 use Rattle.std.proofs.lemmas.List.Elements.{Contains-append_left, Contains-push, Contains-push_cases}
 use Rattle.std.specs.List.{Contains, swap_remove}
-use Rattle.theory.specs.Literals.{Literal, Clause, same, has, negated}
+use Rattle.theory.specs.Literals.{Literal, Clause, same, has, has_both_signs, negated}
 use Rattle.theory.specs.Status.{is_false}
 use Rattle.theory.specs.Trails.{Trail, literals, current_level, up_to}
 use Rattle.theory.proofs.LiteralLemmas.{true_or_false, same-eq, same-refl}
-use Rattle.kernel.specs.Watching.{IsConsistent, IsPair, IsWatched, apart, first_true, second_true, other_true, Reached, Good, held, waits, reached, At, Tending, list_at, code, IsExact, Includes, Tends, IsBeside, lesser, WasUnit, moved, IsFull}
+use Rattle.kernel.specs.Watching.{IsConsistent, IsPair, IsWatched, apart, first_true, second_true, other_true, both_signs, Reached, Good, held, waits, reached, At, Tending, list_at, code, IsExact, Includes, Tends, IsBeside, lesser, WasUnit, moved, IsFull}
 use Rattle.kernel.specs.declared.watch.Watched.{Watched}
 use Rattle.kernel.proofs.LiteralFacts.{true_false, all-member, same-sym, same-sym-false}
 use Rattle.kernel.proofs.Places.{At-one, At-get, At-set, code-one, Contains-of_swap_remove, Contains-swap_remove, At-push, swap_remove-gone, swap_remove-once}
@@ -47,6 +47,7 @@ Good-move K R S P H f w g k z n ok beside sub gone free apart_z more good = go b
     go (inl (e, i)) (held (second_true t)) = held (first_true (subst (λ (x : Literal). has P x ≡ true) i t))
     go (inr (e, i)) (held (second_true t)) = absurd (ok g (subst (λ (x : Literal). has P x ≡ true) e t) gone)
     go b (held (other_true c y a m t)) = held (other_true c y a m t)
+    go b (held (both_signs c a x)) = held (both_signs c a x)
     go b (waits m s) = waits m (inr z_free)
     go b (reached r) = reached r
 
@@ -66,6 +67,7 @@ IsWatched-move K n R Q P w g k z ok beside sub gone free apart_z served h = go b
     go (inl (e, i)) (second_true t) = first_true (subst (λ (x : Literal). has Q x ≡ true) i t)
     go (inr (e, i)) (second_true t) = absurd (ok g (sub g (subst (λ (x : Literal). has Q x ≡ true) e t)) gone)
     go b (other_true c y a m t) = other_true c y a m t
+    go b (both_signs c a x) = both_signs c a x
 
 -- the same watched literals, and the same lists
 pub exact-same : (t u : Tending) → u.pairs ≡ t.pairs → u.lists ≡ t.lists → IsExact t.pairs t.lists → IsExact u.pairs u.lists
@@ -78,7 +80,7 @@ Tends-unit floor K T t u n pairs lists least units inside unit s = record {
   listed = record {
     length_pairs = rw pairs s.listed.length_pairs;
     pairs = λ m c w a b ne. s.listed.pairs m c w a (rw (← pairs) b) ne;
-    listed = λ m c w a b ne. rw lists (s.listed.listed m c w a (rw (← pairs) b) ne);
+    listed = λ m c w a b ne one. rw lists (s.listed.listed m c w a (rw (← pairs) b) ne one);
     within = λ k ns m a b. s.listed.within k ns m (rw (← lists) a) b;
   };
   exact = exact-same t u pairs lists s.exact;
@@ -117,7 +119,7 @@ Tends-false floor K T t u n pairs lists units least inside all s = record {
   listed = record {
     length_pairs = rw pairs s.listed.length_pairs;
     pairs = λ m c w a b ne. s.listed.pairs m c w a (rw (← pairs) b) ne;
-    listed = λ m c w a b ne. rw lists (s.listed.listed m c w a (rw (← pairs) b) ne);
+    listed = λ m c w a b ne one. rw lists (s.listed.listed m c w a (rw (← pairs) b) ne one);
     within = λ k ns m a b. s.listed.within k ns m (rw (← lists) a) b;
   };
   exact = exact-same t u pairs lists s.exact;
@@ -263,7 +265,7 @@ Tends-move floor K T t u g k z w c₀ n j d pairs lists units least ok cuts at_c
   listed = record {
     length_pairs = rw pairs (length-set t.pairs n (both k z) ∙ s.listed.length_pairs);
     pairs = λ m c v a b ne. pair m c v a (At-set t.pairs n (both k z) m v (rw (← pairs) b)) ne;
-    listed = λ m c v a b ne. rw lists (stands m c v a (At-set t.pairs n (both k z) m v (rw (← pairs) b)) ne);
+    listed = λ m c v a b ne one. rw lists (stands m c v a (At-set t.pairs n (both k z) m v (rw (← pairs) b)) ne one);
     within = λ i ns m a b. inside i ns m (rw (← lists) a) b;
   };
   exact = rw (pairs, lists) (moved-exact t.pairs t.lists g k z w n j d hg hz z_g k_z at_n at_w beside s.exact);
@@ -295,12 +297,12 @@ Tends-move floor K T t u g k z w c₀ n j d pairs lists units least ok cuts at_c
         go (inl (e, i)) = subst (λ (x : Literal). has c₀ x ≡ true) i old.second_in
         go (inr (e, i)) = subst (λ (x : Literal). has c₀ x ≡ true) i old.first_in
 
-    k_listed : Contains (list_at t.lists k) n
-    k_listed = go beside
+    k_listed : has_both_signs c₀ ≡ false → Contains (list_at t.lists k) n
+    k_listed one = go beside
       where
         go : IsBeside w g k → Contains (list_at t.lists k) n
-        go (inl (e, i)) = subst (λ (x : Literal). Contains (list_at t.lists x) n) i (s.listed.listed n c₀ w at_c at_w nonempty).1
-        go (inr (e, i)) = subst (λ (x : Literal). Contains (list_at t.lists x) n) i (s.listed.listed n c₀ w at_c at_w nonempty).0
+        go (inl (e, i)) = subst (λ (x : Literal). Contains (list_at t.lists x) n) i (s.listed.listed n c₀ w at_c at_w nonempty one).1
+        go (inr (e, i)) = subst (λ (x : Literal). Contains (list_at t.lists x) n) i (s.listed.listed n c₀ w at_c at_w nonempty one).0
 
     -- were the two one, the clause would have no other literal
     k_g : same k g ≡ false
@@ -331,14 +333,15 @@ Tends-move floor K T t u g k z w c₀ n j d pairs lists units least ok cuts at_c
         rw f (rw (← one) (record { first_in = k_in; second_in = z_in; single = λ h. absurd (true_false (same k z) h k_z) }))
     pair m c v a (inr (o, b)) ne = s.listed.pairs m c v a b ne
 
-    stands : (m : ℕ) (c : Clause) (v : Watched) → At K m c → ((m ≡ n) × (v ≡ both k z)) ⊎ ((m ≢ n) × At t.pairs m v) → (c ≡ [] → ⊥) → Contains (list_at (moved t.lists g z n j d) v.first) m × Contains (list_at (moved t.lists g z n j d) v.second) m
-    stands m c v a (inl (e, f)) ne =
+    stands : (m : ℕ) (c : Clause) (v : Watched) → At K m c → ((m ≡ n) × (v ≡ both k z)) ⊎ ((m ≢ n) × At t.pairs m v) → (c ≡ [] → ⊥) → has_both_signs c ≡ false → Contains (list_at (moved t.lists g z n j d) v.first) m × Contains (list_at (moved t.lists g z n j d) v.second) m
+    stands m c v a (inl (e, f)) ne one =
+        let its : has_both_signs c₀ ≡ false = subst (λ (x : Clause). has_both_signs x ≡ false) (At-one K n c c₀ (rw (← e) a) at_c) one in
         rw (e, f) (
-          subst (λ (ns : List ℕ). Contains ns n) (sym (list-moved_other t.lists g z k n j d k_z k_g)) k_listed,
+          subst (λ (ns : List ℕ). Contains ns n) (sym (list-moved_other t.lists g z k n j d k_z k_g)) (k_listed its),
           subst (λ (ns : List ℕ). Contains ns n) (sym (list-moved_to t.lists g z n j d hz z_g)) (Contains-push (list_at t.lists z) n),
         )
-    stands m c v a (inr (o, b)) ne =
-        let h = s.listed.listed m c v a b ne in
+    stands m c v a (inr (o, b)) ne one =
+        let h = s.listed.listed m c v a b ne one in
         (moved-other t.lists g z v.first n j d m hg hz z_g at_n o h.0, moved-other t.lists g z v.second n j d m hg hz z_g at_n o h.1)
 
     inside : (i : ℕ) (ns : List ℕ) (m : ℕ) → At (moved t.lists g z n j d) i ns → Contains ns m → IsFull K m

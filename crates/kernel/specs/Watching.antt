@@ -3,7 +3,7 @@
 -- Source: Moskewicz et al., 'Chaff' (DAC 2001); Een and Sorensson, 'An Extensible SAT-solver' (SAT 2003).
 use Rattle.std.specs.Prelude.{◌≡◌, ℕ, ◌+◌, ◌*◌, ◌<◌, ◌≤◌, true, false, List, [], ◌∷◌, ◌++◌, length, Option, Some, None, cond, ◌⊎◌, slice_index_or, slice_set, take, min}
 use Rattle.std.specs.List.{list_all, Contains, swap_remove}
-use Rattle.theory.specs.Literals.{Literal, Clause, same, has, negated}
+use Rattle.theory.specs.Literals.{Literal, Clause, same, has, negated, has_both_signs}
 use Rattle.theory.specs.Status.{is_false, others_false}
 use Rattle.theory.specs.Trails.{Trail, literals, current_level, up_to}
 use Rattle.kernel.specs.declared.watch.Watched.{Watched}
@@ -38,12 +38,14 @@ pub record IsPair (c : Clause) (w : Watched) : Type 0 where
 abbrev pub IsBeside : Watched → Literal → Literal → Type 0
 IsBeside w g k = ((w.first ≡ g) × (w.second ≡ k)) ⊎ ((w.second ≡ g) × (w.first ≡ k))
 
--- the watched literals differ and neither is known to be false, or a literal of the clause at n is true
+-- the watched literals differ and neither is known to be false, or a literal of the clause at n is true, or it has both signs of a
+-- variable: it is never unit and never false
 pub data IsWatched (K : List Clause) (n : ℕ) (S P : List Literal) (w : Watched) : Type 0 where
   apart : same w.first w.second ≡ false → has S (negated w.first) ≡ false → has S (negated w.second) ≡ false → IsWatched K n S P w
   first_true : has P w.first ≡ true → IsWatched K n S P w
   second_true : has P w.second ≡ true → IsWatched K n S P w
   other_true : (c : Clause) (y : Literal) → At K n c → has c y ≡ true → has P y ≡ true → IsWatched K n S P w
+  both_signs : (c : Clause) → At K n c → has_both_signs c ≡ true → IsWatched K n S P w
 
 -- the least place of a false clause so far is at most n
 abbrev pub Reached : Option ℕ → ℕ → Type 0
@@ -76,11 +78,11 @@ pub record Tending : Type 0 where
 abbrev pub IsFull : List Clause → ℕ → Type 0
 IsFull K n = (n < length K) × (At K n [] → ⊥)
 
--- of each clause that isn't empty two literals are watched, and the clause stands in the lists of both
+-- of each clause that isn't empty two literals are watched; it stands in the lists of both, unless it has both signs of a variable
 pub record IsListed (K : List Clause) (t : Tending) : Type 0 where
   pub length_pairs : length t.pairs ≡ length K
   pub pairs : (n : ℕ) (c : Clause) (w : Watched) → At K n c → At t.pairs n w → (c ≡ [] → ⊥) → IsPair c w
-  pub listed : (n : ℕ) (c : Clause) (w : Watched) → At K n c → At t.pairs n w → (c ≡ [] → ⊥) → Contains (list_at t.lists w.first) n × Contains (list_at t.lists w.second) n
+  pub listed : (n : ℕ) (c : Clause) (w : Watched) → At K n c → At t.pairs n w → (c ≡ [] → ⊥) → has_both_signs c ≡ false → Contains (list_at t.lists w.first) n × Contains (list_at t.lists w.second) n
   pub within : (k : ℕ) (ns : List ℕ) (n : ℕ) → At t.lists k ns → Contains ns n → IsFull K n
 
 -- a list has no other clauses than those that watch the literal, and each once
