@@ -25,7 +25,7 @@ use Rattle.std.specs.Option.{unwrap_or}
 use Rattle.theory.specs.Propagation.{clause_at}
 use Rattle.theory.proofs.LawfulTrails.{least_false-none}
 
-least_false-each : (P : List Literal) (K : List Clause) (n : ℕ) (c : Clause) → least_false P K ≡ None → At K n c → is_false P c ≡ false
+pub least_false-each : (P : List Literal) (K : List Clause) (n : ℕ) (c : Clause) → least_false P K ≡ None → At K n c → is_false P c ≡ false
 least_false-each P K n c h a = subst (λ (d : Clause). is_false P d ≡ false) one (least_false-none P K (n + 1) h (omega arith) (omega (arith, a.0)))
   where
     here : n + 1 - 1 ≡ n

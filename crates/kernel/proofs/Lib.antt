@@ -6,9 +6,14 @@ pub mod Beginning
 pub mod BothSigns
 pub mod Cutting
 pub mod Falling
+pub mod Filtering
+pub mod Forgetting
+pub mod ForgottenAt
 pub mod KernelSteps
 pub mod LastFalse
 pub mod LeastClauses
+pub mod LeftClauses
+pub mod LeftLists
 pub mod Levels
 pub mod LiteralFacts
 pub mod NearestClauses

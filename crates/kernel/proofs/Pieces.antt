@@ -1,7 +1,7 @@
--- Lists that lie one behind the other: one more at the end, and the one at a place.
-use Rattle.std.proofs.Common.{◌≡◌, ℕ, zero, suc, ◌+◌, ◌-◌, ◌<◌, ◌≤◌, List, [], ◌∷◌, ◌++◌, length, take, drop, get_or, Some, slice_get, refl, ap, sym, ◌∙◌, arith}
+-- Lists that lie one behind the other: one more at the end, the one at a place, and others behind the first ones.
+use Rattle.std.proofs.Common.{◌≡◌, ℕ, zero, suc, ◌+◌, ◌-◌, ◌<◌, ◌≤◌, List, [], ◌∷◌, ◌++◌, length, map, take, drop, get_or, Some, slice_get, refl, ap, sym, subst, ◌∙◌, arith, All, length-append}
 use Rattle.std.specs.List.{slice_range}
-use Rattle.std.proofs.lemmas.List.{take-append-le, take-append-drop, drop-append-le, length-drop, length-take-le}
+use Rattle.std.proofs.lemmas.List.{take-append-le, take-append-drop, drop-append-le, length-drop, length-take-le, get_or_default}
 use Rattle.std.proofs.Math.Seq.{drop-append_seam}
 use Rattle.kernel.specs.Pieces.{pieces, AreEnds, start_at}
 
@@ -95,3 +95,56 @@ pieces-take {X} from xs ends i h less =
     sym (pieces-front from (take n xs) (drop n xs) (take i ends) n (AreEnds-take from ends (length xs) i h less) (omega arith))
     ∙ ap (λ (ys : List X). pieces from ys (take i ends)) (take-append-drop n xs)
     ∙ pieces-fewer from xs ends i
+
+-- lists that lie behind all others
+drop-behind : {X : Type 0} (xs ys : List X) (a : ℕ) → drop (length xs + a) (xs ++ ys) ≡ drop a ys
+drop-behind [] ys a = let e : 0 + a ≡ a = omega arith in ap (λ n. drop n ys) e
+drop-behind {X} (x ∷ xs) ys a = let e : suc (length xs) + a ≡ suc (length xs + a) = omega arith in ap (λ n. drop n (x ∷ (xs ++ ys))) e ∙ drop-behind xs ys a
+
+pieces-behind : {X : Type 0} (xs ys : List X) (a from : ℕ) (ends : List ℕ) → from ≡ length xs + a → pieces from (xs ++ ys) (map (λ e. length xs + e) ends) ≡ pieces a ys ends
+pieces-behind xs ys a from [] e = refl
+pieces-behind {X} xs ys a from (end ∷ ends) e =
+    let here : slice_range (xs ++ ys) from (length xs + end) ≡ slice_range ys a end =
+    ap (λ n. take (length xs + end - n) (drop n (xs ++ ys))) e ∙ (ap (take (length xs + end - (length xs + a))) (drop-behind xs ys a) ∙ ap (λ n. take n (drop a ys)) (let z : length xs + end - (length xs + a) ≡ end - a = omega arith in z)) in
+    ap (λ zs. zs ∷ pieces (length xs + end) (xs ++ ys) (map (λ e. length xs + e) ends)) here
+    ∙ ap (λ (k : List (List X)). slice_range ys a end ∷ k) (pieces-behind xs ys end (length xs + end) ends refl)
+
+pieces-join : {X : Type 0} (from : ℕ) (xs ys : List X) (ends more : List ℕ) → AreEnds from ends (length xs) → pieces from (xs ++ ys) (ends ++ map (λ e. length xs + e) more) ≡ pieces from xs ends ++ pieces 0 ys more
+pieces-join from xs ys [] more h = pieces-behind xs ys 0 from more (omega (arith, h))
+pieces-join {X} from xs ys (end ∷ ends) more h =
+    let here : slice_range (xs ++ ys) from end ≡ slice_range xs from end = range-front xs ys from end h.0 (ends-last end ends (length xs) h.1) in
+    ap (λ zs. zs ∷ pieces end (xs ++ ys) (ends ++ map (λ e. length xs + e) more)) here ∙ ap (λ (k : List (List X)). slice_range xs from end ∷ k) (pieces-join end xs ys ends more h.1)
+
+ends-behind : (n a from m : ℕ) (ends : List ℕ) → from ≡ n + a → AreEnds a ends m → AreEnds from (map (λ e. n + e) ends) (n + m)
+ends-behind n a from m [] e h = e ∙ ap (λ k. n + k) h
+ends-behind n a from m (end ∷ ends) e h = (omega (arith, e, h.0), ends-behind n end (n + end) m ends refl h.1)
+
+AreEnds-join : (from n m : ℕ) (ends more : List ℕ) → AreEnds from ends n → AreEnds 0 more m → AreEnds from (ends ++ map (λ e. n + e) more) (n + m)
+AreEnds-join from n m [] more h k = ends-behind n 0 from m more (omega (arith, h)) k
+AreEnds-join from n m (end ∷ ends) more h k = (h.0, AreEnds-join end n m ends more h.1 k)
+
+-- the first ones stay, and others stand behind them
+module _ {X : Type 0} (xs ys : List X) (ends more : List ℕ) (i : ℕ) (h : AreEnds 0 ends (length xs)) (k : AreEnds 0 more (length ys)) (less : i ≤ length ends) where
+  abbrev start : ℕ
+  start = start_at 0 ends i
+
+  front-long : length (take start xs) ≡ start
+  front-long = length-take-le start xs (start-within 0 ends (length xs) i h less)
+
+  pub pieces-put : pieces 0 (take start xs ++ ys) (take i ends ++ map (λ e. start + e) more) ≡ take i (pieces 0 xs ends) ++ pieces 0 ys more
+  pieces-put =
+      ap (λ n. pieces 0 (take start xs ++ ys) (take i ends ++ map (λ e. n + e) more)) (sym front-long)
+      ∙ (pieces-join 0 (take start xs) ys (take i ends) more (subst (AreEnds 0 (take i ends)) (sym front-long) (AreEnds-take 0 ends (length xs) i h less))
+      ∙ ap (λ (p : List (List X)). p ++ pieces 0 ys more) (pieces-take 0 xs ends i h less))
+
+  pub AreEnds-put : AreEnds 0 (take i ends ++ map (λ e. start + e) more) (length (take start xs ++ ys))
+  AreEnds-put =
+      let long : start + length ys ≡ length (take start xs ++ ys) = omega (arith, length-append (take start xs) ys, front-long) in
+      subst (AreEnds 0 (take i ends ++ map (λ e. start + e) more)) long (AreEnds-join 0 start (length ys) (take i ends) more (AreEnds-take 0 ends (length xs) i h less) k)
+
+  -- no end comes past what a list can be long
+  pub ends-small : (bound : ℕ) → length (take start xs ++ ys) < bound → All (λ e. start + e < bound) more
+  ends-small bound small j d inside =
+      let high : get_or more j 0 ≤ length ys = end-le 0 more (length ys) j k inside in
+      let same : get_or more j d ≡ get_or more j 0 = get_or_default more j d 0 inside in
+      omega (arith, small, high, same, length-append (take start xs) ys, front-long)

@@ -2,6 +2,7 @@
 pub mod Answer
 pub mod Attaching
 pub mod Cutting
+pub mod Forgetting
 pub mod Pieces
 pub mod Placing
 pub mod Rules

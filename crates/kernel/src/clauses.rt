@@ -1,9 +1,12 @@
 //! The clauses of a kernel, in the order of their numbers. Their literals lie in one list, so that looking at one clause after the
 //! other goes through memory from front to back.
-ghost use Rattle.std.specs.Prelude.{◌≡◌, ◌<◌, ◌≤◌, [], ◌∷◌, ◌++◌, map, length, take, sum_by, IfOk, OnOk, OnErr, slice_get, Some};
+ghost use Rattle.std.specs.Prelude.{◌≡◌, ◌+◌, ◌^◌, ◌<◌, ◌≤◌, [], ◌∷◌, ◌++◌, All, map, length, take, drop, sum_by, IfOk, OnOk, OnErr, slice_get, Some, ℕ, List, false};
 ghost use Rattle.theory.specs.Reading.{max_literals};
+ghost use Rattle.theory.specs.Forgetting.{forget};
 ghost use Rattle.kernel.specs.Pieces.{pieces, AreEnds, start_at};
+ghost use Rattle.kernel.specs.Forgetting.{Tells, names};
 
+use crate::named::Named;
 use cnf::Lit;
 use std::alloc::{AllocError, Global};
 use std::marker::Model;
@@ -58,6 +61,17 @@ fn count_lits(clauses: &[Vec<Lit>]) -> usize
         count += clause.len();
     }
     count
+}
+
+/// Writes ends over those from a place on, as many, each so much further on.
+fn put_ends(ends: &mut [usize], first: usize, start: usize, new: &[usize])
+    requires long { first + length new.now ≡ length ends.old }
+    requires small { All (λ e. start + e < 2 ^ 64) new.now }
+    ensures { ends.new ≡ take first ends.old ++ map (λ e. start + e) new.now }
+{
+    for index in 0..new.len() {
+        ends[first + index] = start + new[index];
+    }
 }
 
 impl Clauses {
@@ -116,5 +130,60 @@ impl Clauses {
         let end = start_of(&self.ends, count);
         self.lits.truncate(end);
         self.ends.truncate(count);
+    }
+
+    /// The clauses from `first` on, with `1 -1` in place of those that are named. It fails where a
+    /// request for memory is refused.
+    fn left_from(&self, alloc: Global, first: usize, named: &Named) -> Result<Clauses, AllocError>
+        requires { first ≤ length self.now }
+        ensures forgotten { IfOk result (λ left. (numbers : List ℕ) → Tells (names named.now) numbers → left ≡ forget numbers (first + 1) (drop first self.now)) }
+        ensures long { IfOk result (λ left. first + length left ≡ length self.now) }
+    {
+        let mut left = Clauses {
+            lits: Vec::new(alloc),
+            ends: Vec::new(alloc),
+        };
+        let forgotten = [Lit::of(1, true), Lit::of(1, false)];
+        for index in first..self.len() {
+            if named.has(index) {
+                left.push(&forgotten)?;
+            } else {
+                left.push(self.get(index))?;
+            }
+        }
+        Ok(left)
+    }
+
+    /// Puts clauses in the place of those from `first` on, as many. It takes memory only where they
+    /// have more literals than those; where that is refused, nothing has changed.
+    fn put_from(&mut self, first: usize, left: &Clauses) -> Result<(), AllocError>
+        requires { first + length left.now ≡ length self.old }
+        ensures ok { OnOk result (self.new ≡ take first self.old ++ left.now) }
+        ensures err { OnErr result (self.new ≡ self.old) }
+    {
+        let start = start_of(&self.ends, first);
+        let room = self.lits.len() - start;
+        self.lits.reserve(left.lits.len().saturating_sub(room))?;
+        self.lits.truncate(start);
+        if self.lits.extend_from_slice(&left.lits).is_err() {
+            unreachable!();
+        }
+        put_ends(&mut self.ends, first, start, &left.ends);
+        Ok(())
+    }
+
+    /// Puts `1 -1` in place of the clauses that are named, which are from `first` on. The literals
+    /// of the others move together, so that those of the next clauses take the room. It takes time
+    /// by the literals of the clauses from `first` on, and memory for them while it goes on; where
+    /// that is refused, nothing has changed.
+    pub fn forget(&mut self, first: usize, named: &Named) -> Result<(), AllocError>
+        requires within { first ≤ length self.old }
+        requires learnt { (n : ℕ) → n < first → names named.now n ≡ false }
+        ensures ok { OnOk result ((numbers : List ℕ) → Tells (names named.now) numbers → self.new ≡ forget numbers 1 self.old) }
+        ensures err { OnErr result (self.new ≡ self.old) }
+    {
+        let left = self.left_from(*self.ends.allocator(), first, named)?;
+        self.put_from(first, &left)?;
+        Ok(())
     }
 }

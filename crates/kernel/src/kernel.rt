@@ -5,7 +5,8 @@ ghost use Rattle.theory.specs.Literals.{IsVariable, IsCube, has_var};
 ghost use Rattle.theory.specs.Truth.{IsOver};
 ghost use Rattle.theory.specs.Pure.{unit_clauses};
 ghost use Rattle.theory.specs.Trails.{literals, current_level, entry_of, cube_trail, up_to, least_free};
-ghost use Rattle.theory.specs.Propagation.{clause_at, Propagates, quiet};
+ghost use Rattle.theory.specs.Propagation.{clause_at, Propagates, quiet, least_false};
+ghost use Rattle.theory.specs.Forgetting.{is_reason, forget};
 ghost use Rattle.theory.specs.Lawful.{IsLawful};
 ghost use Rattle.theory.specs.Learnable.{IsLearnable};
 ghost use Rattle.theory.specs.Reading.{max_vars};
@@ -26,8 +27,8 @@ use std::marker::Model;
 use trail::{Cube, Entry, Trail};
 
 /// The clauses and the trail of the search in one cube, or in one cube after the other. Once a call has met want of memory, `close`,
-/// `learn` and `restart` answer it from then on, `decide` and `back_to` change nothing, and the other calls answer of the trail as it
-/// stands.
+/// `learn`, `forget` and `restart` answer it from then on, `decide` and `back_to` change nothing, and the other calls answer of the trail
+/// as it stands.
 #[derive(Drop)]
 pub struct Kernel {
     // the clauses, and their watches
@@ -318,6 +319,34 @@ impl Kernel {
         }
         match self.propagator.attach_learnt(&self.trail, clause) {
             Ok(()) => Ok(self.propagator.clauses.len() as u64),
+            Err(error) => {
+                self.short = true;
+                Err(error)
+            }
+        }
+    }
+
+    /// Forgets learnt clauses, so that propagation goes by the others alone: each keeps its number
+    /// and becomes `1 -1`, which is never unit and never false. Each number is that of a learnt
+    /// clause and no reason on the trail, and no clause is false. It gives the memory of their
+    /// literals back to the clauses that are learnt next. It takes time by the entries of all lists
+    /// and by the literals of the learnt clauses, and memory for the latter while it goes on. It
+    /// fails where a request for memory is refused, and from then on; the clauses and the trail are
+    /// then as they were.
+    pub fn forget(&mut self, numbers: &[u64]) -> Result<(), AllocError>
+        requires learnt { self.old.short ≡ false → All (λ n. (self.old.first < n) × (n ≤ length self.old.clauses)) numbers.now }
+        requires no_reasons { self.old.short ≡ false → All (λ n. is_reason self.old.trail n ≡ false) numbers.now }
+        requires open { self.old.short ≡ false → least_false (literals self.old.trail) self.old.clauses ≡ None }
+        ensures forgotten { OnOk result (self.new ≡ record self.old { clauses = forget numbers.now 1 self.old.clauses }) }
+        ensures refused { OnErr result (self.new ≡ record self.old { short = true }) }
+        ensures stays { self.old.short ≡ true → IsErr result }
+        ensures was { OnOk result (self.old.short ≡ false) }
+    {
+        if self.short {
+            return Err(AllocError);
+        }
+        match self.propagator.forget(self.first, numbers) {
+            Ok(()) => Ok(()),
             Err(error) => {
                 self.short = true;
                 Err(error)

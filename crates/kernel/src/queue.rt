@@ -1,7 +1,9 @@
 //! Numbers that come by rising size and are taken out in that order.
 ghost use Rattle.std.specs.Prelude.{◌≡◌, ◌≤◌, true, [], ◌∷◌, ◌++◌, All, OnOk, IfOk, IfSome, IfNone};
 ghost use Rattle.std.specs.List.{Contains};
+ghost use Rattle.kernel.specs.Forgetting.{places_left, names};
 
+use crate::named::Named;
 use std::alloc::{AllocError, Global};
 use std::marker::Model;
 
@@ -80,6 +82,17 @@ impl Queue {
             self.clear();
         }
         Some(least)
+    }
+
+    /// Takes those out that are named.
+    pub fn drop_named(&mut self, named: &Named)
+        ensures { self.new ≡ places_left (names named.now) self.old }
+    {
+        self.items.rotate_left(self.head);
+        let count = self.items.len() - self.head;
+        self.items.truncate(count);
+        self.head = 0;
+        self.items.retain(|number| !named.has(*number as usize));
     }
 
     /// Takes all numbers out.

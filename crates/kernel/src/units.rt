@@ -4,7 +4,9 @@ ghost use Rattle.std.specs.BinaryHeap.{IsHeap, heap_items};
 ghost use Rattle.std.specs.List.{Contains};
 ghost use Rattle.std.specs.Ordering.{nat_cmp};
 ghost use Rattle.std.specs.List.Sorted.{IsPermutation};
+ghost use Rattle.kernel.specs.Forgetting.{places_left, names};
 
+use crate::named::Named;
 use crate::queue::Queue;
 use std::alloc::{AllocError, Global};
 use std::cmp::Reverse;
@@ -96,6 +98,14 @@ impl Units {
         } else {
             self.queue.pop()
         }
+    }
+
+    /// Takes those out that are named.
+    pub fn drop_named(&mut self, named: &Named)
+        ensures { IsPermutation (places_left (names named.now) self.old) self.new }
+    {
+        self.queue.drop_named(named);
+        self.heap.retain(|number| !named.has(number.0 as usize));
     }
 
     /// Takes all numbers out.

@@ -1,0 +1,15 @@
+use Rattle.std.proofs.Common.{◌≡◌, ◌++◌, length, map, take, drop}
+use Rattle.kernel.specs.Visiting.{kept_of}
+use Rattle.kernel.specs.Forgetting.{names, entries_left}
+use Rattle.kernel.proofs.propagator.Propagator.drop_all_entries.Given as goal
+
+-- the lists before the place were gone through
+abbrev pub invariant-loop-at : goal.invariant-loop-at
+invariant-loop-at l = record {
+  lists : (kept_of l.self).lists ≡ map (entries_left (names l.named)) (take l.at (kept_of l.initial.self).lists) ++ drop l.at (kept_of l.initial.self).lists;
+  long : length l.self.lists.items ≡ length l.initial.self.lists.items;
+  clauses : l.self.clauses ≡ l.initial.self.clauses;
+  pairs : l.self.pairs ≡ l.initial.self.pairs;
+  units : l.self.units ≡ l.initial.self.units;
+  conflict : l.self.conflict ≡ l.initial.self.conflict;
+}
