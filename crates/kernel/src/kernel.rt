@@ -426,6 +426,21 @@ impl Kernel {
         self.propagator.visits
     }
 
+    /// How many clauses there are: their numbers are 1 up to it.
+    pub fn count(&self) -> u64
+        ensures { result ≡ length self.now.clauses }
+    {
+        self.propagator.clauses.len() as u64
+    }
+
+    /// How many of the clauses were there from the beginning; those of greater numbers were learnt.
+    pub fn first_count(&self) -> u64
+        ensures count { result ≡ self.now.first }
+        ensures within { self.now.first ≤ length self.now.clauses }
+    {
+        self.first as u64
+    }
+
     /// The literals of the clause of a number, which is one from 1 up to the number of clauses.
     pub fn clause(&self, number: u64) -> &[Lit]
         requires { (1 ≤ number) × (number ≤ length self.now.clauses) }
