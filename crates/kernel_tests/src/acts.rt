@@ -3,6 +3,7 @@ ghost use Rattle.std.specs.Prelude.{◌≡◌, true, false, IfSome, Some};
 ghost use Rattle.theory.specs.Literals.{IsVariable, has_var, negated, same};
 ghost use Rattle.theory.specs.Trails.{literals, entry_of};
 
+use crate::forgetting::forget;
 use cnf::{Lit, read_formula};
 use kernel::{Closed, Entry, Kernel};
 use samples::{cube_of, reads};
@@ -78,6 +79,8 @@ pub enum Act<'a> {
     LearnPair(u32, i32, i32),
     /// Another cube.
     Restart(&'a [i32]),
+    /// Learnt clauses are forgotten.
+    Forget(&'a [u64]),
 }
 
 /// Whether the literal is of a free variable.
@@ -221,6 +224,7 @@ pub fn acts(alloc: Global, kernel: &mut Kernel, act: Act) -> Result<bool, AllocE
             restart(alloc, kernel, numbers)?;
             Ok(true)
         }
+        Act::Forget(numbers) => forget(kernel, numbers),
     }
 }
 

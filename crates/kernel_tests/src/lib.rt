@@ -8,6 +8,8 @@ mod all_runs;
 #[cfg(test)]
 mod dice;
 #[cfg(test)]
+mod forgetting;
+#[cfg(test)]
 mod look_ups;
 #[cfg(test)]
 mod restarts;

@@ -4,6 +4,7 @@ ghost use Rattle.theory.specs.Truth.{IsOver};
 
 use crate::acts::{are_same, back_to, decide, learn_pair, learn_three, learn_unit, lits_of};
 use crate::dice::{Dice, formula_text};
+use crate::forgetting::{forget, is_reason};
 use crate::scan::Scan;
 use cnf::{Formula, Lit, read_formula};
 use kernel::{Closed, Cube, Kernel, Order};
@@ -46,6 +47,18 @@ fn learn(kernel: &mut Kernel, clause: &[i32]) -> Result<bool, AllocError> {
         [other, lit, free] => learn_three(kernel, [*other, *lit, *free]),
         _ => Ok(false),
     }
+}
+
+/// Learnt clauses that may be forgotten: each of them or not.
+fn some_learnt(alloc: Global, dice: &mut Dice, kernel: &Kernel) -> Result<Vec<u64>, AllocError> {
+    let mut numbers = Vec::new(alloc);
+    for place in kernel.first_count()..kernel.count() {
+        let number = place.saturating_add(1);
+        if dice.below(2) == 0 && !is_reason(kernel.trail(), number) {
+            numbers.push(number)?;
+        }
+    }
+    Ok(numbers)
 }
 
 impl Twins {
@@ -116,12 +129,24 @@ impl Twins {
         Ok(())
     }
 
+    fn forget(&mut self, alloc: Global, dice: &mut Dice) -> Result<(), AllocError> {
+        let numbers = some_learnt(alloc, dice, &self.kernel)?;
+        if forget(&mut self.kernel, &numbers)? {
+            self.scan.forget(&numbers)?;
+        }
+        Ok(())
+    }
+
     fn after_conflict(&mut self, alloc: Global, dice: &mut Dice) -> Result<(), AllocError> {
         if self.kernel.level() == 0 || dice.below(8) == 0 {
             return self.restart(alloc, dice);
         }
         self.back_to(dice);
-        self.learn(alloc, dice)
+        self.learn(alloc, dice)?;
+        if dice.below(3) == 0 {
+            self.forget(alloc, dice)?;
+        }
+        Ok(())
     }
 
     fn after_quiet(&mut self, alloc: Global, dice: &mut Dice) -> Result<(), AllocError> {
@@ -132,9 +157,11 @@ impl Twins {
                 Ok(())
             }
             2 => self.learn(alloc, dice),
+            3 => self.forget(alloc, dice),
             _ => self.decide(dice),
         }
     }
+
     /// Propagates in both, and goes on. Whether both answered the same.
     fn go_on(&mut self, alloc: Global, dice: &mut Dice) -> Result<bool, AllocError> {
         match self.close()? {

@@ -209,6 +209,22 @@ impl Scan {
         Ok(())
     }
 
+    /// Puts `1 -1` in the place of the clauses of these numbers.
+    pub fn forget(&mut self, numbers: &[u64]) -> Result<(), AllocError> {
+        for number in numbers {
+            let place = (*number as usize).wrapping_sub(1);
+            if place < self.clauses.len() {
+                self.clauses[place] = self.forgotten()?;
+            }
+        }
+        Ok(())
+    }
+
+    fn forgotten(&self) -> Result<Vec<Lit>, AllocError> {
+        let alloc = *self.clauses.allocator();
+        Vec::from_slice(alloc, &[Lit::of(1, true), Lit::of(1, false)])
+    }
+
     pub fn restart(&mut self, cube: &[Lit]) -> Result<(), AllocError> {
         self.clauses.truncate(self.first);
         self.trail.clear();
