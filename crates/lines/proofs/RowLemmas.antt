@@ -1,0 +1,80 @@
+-- What bytes, numbers and lines behind others say.
+use Rattle.std.proofs.Common.{◌≡◌, ℕ, ◌+◌, ◌-◌, ◌/◌, ◌%◌, ◌^◌, ◌<◌, ◌≤◌, Bool, true, false, List, [], ◌∷◌, ◌++◌, length, refl, ap, sym, ◌∙◌, arith, nat_lt, nat_eq, lt-ltb, le-ltb, length-append}
+use Rattle.theory.specs.Learning.{Line}
+use Rattle.lines.specs.Rows.{Part, whole, with_bits, with_number, with_byte, with_bytes, row, IsBetween}
+
+pub length-push : (lines : List Line) (l : Line) → length (lines ++ l ∷ []) ≡ length lines + 1
+length-push lines l = length-append lines (l ∷ [])
+
+pub with_bytes-append : (p : Part) (xs ys : List ℕ) → with_bytes p (xs ++ ys) ≡ with_bytes (with_bytes p xs) ys
+with_bytes-append p [] ys = refl
+with_bytes-append p (x ∷ xs) ys = with_bytes-append (with_byte p x) xs ys
+
+pub row-push : (xs : List ℕ) (b : ℕ) → row (xs ++ b ∷ []) ≡ with_byte (row xs) b
+row-push xs b = with_bytes-append (whole []) xs (b ∷ [])
+
+-- seven bits more of a number that fits
+more-bits : (n d : ℕ) → n < 2 ^ 64 → d ≡ n % 128 → with_bits (n / 128) d ≡ n
+more-bits n d fits e = omega (arith, fits, e)
+
+-- a byte with 128 more
+not-last : (d : ℕ) → nat_lt (d + 128) 128 ≡ false
+not-last d = le-ltb (d + 128) 128 (omega arith)
+
+back : (d : ℕ) → (d + 128) - 128 ≡ d
+back d = omega arith
+
+is-last : (n : ℕ) → nat_lt (n % 128) 128 ≡ true
+is-last n = lt-ltb (n % 128) 128 (omega arith)
+
+abbrev between : Part → ℕ → Bool → Part
+between p value begun = record p { value = value; begun = begun }
+
+pub between-again : (p : Part) → IsBetween p → record p { value = 0; begun = false } ≡ p
+between-again p (v, b) = ap (λ n. between p n false) (sym v) ∙ ap (λ c. between p p.value c) (sym b)
+
+high-byte : (q : Part) (n : ℕ) → n < 2 ^ 64 → q.value ≡ n / 128 → with_byte q (n % 128 + 128) ≡ record q { value = n; begun = true }
+high-byte q n fits v = rw (not-last (n % 128), back (n % 128), v, more-bits n (n % 128) fits refl) refl
+
+last-byte : (q : Part) (n : ℕ) → n < 2 ^ 64 → q.value ≡ n / 128 → with_byte q (n % 128) ≡ with_number (record q { value = 0; begun = false }) n
+last-byte q n fits v = rw (is-last n, v, more-bits n (n % 128) fits refl) refl
+
+-- the high bits of a number stand behind a row's bytes
+abbrev pub HasHigh : List ℕ → List ℕ → ℕ → Type 0
+HasHigh old new n = IsBetween (row old) → row new ≡ record (row old) { value = n; begun = nat_lt 0 n }
+
+pub high-pushed : (old mid new : List ℕ) (n : ℕ) → n < 2 ^ 64 → 0 < n → new ≡ mid ++ (n % 128 + 128) ∷ [] → HasHigh old mid (n / 128) → HasHigh old new n
+high-pushed old mid new n fits some e high h =
+    let m = high h in
+    let v : (row mid).value ≡ n / 128 = ap (λ (p : Part). p.value) m in
+    ap row e ∙ row-push mid (n % 128 + 128) ∙ high-byte (row mid) n fits v ∙ ap (λ (p : Part). set p true) m ∙ ap (λ b. set (row old) b) (sym (lt-ltb 0 n some))
+  where
+    set : Part → Bool → Part
+    set p b = record p { value = n; begun = b }
+
+pub number-pushed : (old mid new : List ℕ) (n : ℕ) → n < 2 ^ 64 → new ≡ mid ++ n % 128 ∷ [] → HasHigh old mid (n / 128) → IsBetween (row old) → row new ≡ with_number (row old) n
+number-pushed old mid new n fits e high h =
+    let m = high h in
+    let v : (row mid).value ≡ n / 128 = ap (λ (p : Part). p.value) m in
+    ap row e ∙ row-push mid (n % 128) ∙ last-byte (row mid) n fits v ∙ ap (λ (p : Part). with_number (between p 0 false) n) m ∙ ap (λ (p : Part). with_number p n) (between-again (row old) h)
+
+-- a byte ends one line at most
+line-ends : (p : Part) (n : ℕ) → length (with_number p n).lines ≤ length p.lines + 1
+line-ends p n = go (nat_eq n 0) p.in_hints refl refl
+  where
+    go : (z h : Bool) → nat_eq n 0 ≡ z → p.in_hints ≡ h → length (with_number p n).lines ≤ length p.lines + 1
+    go true true e f = rw (e, f) (omega (arith, length-push p.lines (record { clause = p.clause; hints = p.hints })))
+    go true false e f = rw (e, f) (omega arith)
+    go false true e f = rw (e, f) (omega arith)
+    go false false e f = rw (e, f) (omega arith)
+
+byte-ends : (p : Part) (b : ℕ) → length (with_byte p b).lines ≤ length p.lines + 1
+byte-ends p b = go (nat_lt b 128) refl
+  where
+    go : (low : Bool) → nat_lt b 128 ≡ low → length (with_byte p b).lines ≤ length p.lines + 1
+    go true e = rw e (line-ends (record p { value = 0; begun = false }) (with_bits p.value b))
+    go false e = rw e (omega arith)
+
+pub lines-within : (p : Part) (bs : List ℕ) → length (with_bytes p bs).lines ≤ length p.lines + length bs
+lines-within p [] = omega arith
+lines-within p (b ∷ bs) = omega (arith, lines-within (with_byte p b) bs, byte-ends p b)

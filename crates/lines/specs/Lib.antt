@@ -1,0 +1,2 @@
+-- Lines as bytes.
+pub mod Rows

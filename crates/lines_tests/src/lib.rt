@@ -1,0 +1,5 @@
+//! Worked rows of lines as bytes.
+#![tactic(auto)]
+
+#[cfg(test)]
+mod rows;
