@@ -13,3 +13,14 @@ pub mod JoinedSets
 pub mod TakenClauses
 pub mod SeenVariables
 pub mod Beginnings
+pub mod NumberSets
+pub mod GlueCounts
+pub mod TrailFronts
+pub mod WaitingLemmas
+pub mod SeenLemmas
+pub mod ForgettingLemmas
+pub mod FocusedLemmas
+pub mod LearntStates
+pub mod FocusedSteps
+pub mod FocusedBeginnings
+pub mod SearcherLemmas

@@ -3,7 +3,7 @@ use Rattle.std.proofs.Common.{◌≡◌, ◌∙◌, ℕ, ◌≤◌, false, Resul
 use Rattle.theory.specs.Literals.{Clause, negations}
 use Rattle.theory.specs.Truth.{IsOver}
 use Rattle.theory.specs.Trails.{Trail, literals, current_level, up_to}
-use Rattle.theory.specs.Propagation.{Closed, by_number, Propagates, least_false}
+use Rattle.theory.specs.Propagation.{Closed, IsRule, by_number, Propagates, least_false}
 use Rattle.theory.specs.Lawful.{IsLawful, cube_of}
 use Rattle.theory.specs.Learnable.{IsLearnable}
 use Rattle.theory.specs.Learning.{learn, back_level}
@@ -14,23 +14,31 @@ use Rattle.theory.proofs.LearntLines.{IsVariable-learn}
 use Rattle.theory.proofs.OpenTrails.{IsOpenBelow-Propagates}
 use Rattle.theory.proofs.OverVariables.{AreOver-from_IsOver, IsOver-from_AreOver, IsOver-left}
 use Rattle.theory.proofs.KeptSearches.{AreOver-Propagates}
-use Rattle.theory.proofs.Rules.{IsRule-by_number}
+use Rattle.theory.proofs.Rules.{IsRule-by_number, IsRule-by_place}
 use Rattle.kernel.specs.State.{State}
+use Rattle.kernel.specs.Rules.{rule_of}
+use Rattle.kernel.specs.declared.order.Order.{Order}
+use Rattle.kernel.specs.declared.order.Order.TheVariants.{ByNumber, ByPlace}
 use Rattle.cdcl.specs.Searching.{IsSearching, IsSearchStep, GoesOn, search_of, next_of}
 use Rattle.cdcl.specs.declared.outcome.Outcome.{Outcome}
 use Rattle.cdcl.specs.declared.ordered.OrderedSearch.{OrderedSearch}
 
 -- propagation keeps it
-pub IsSearching-Propagates : (k l : State) (a : Closed) → IsSearching k → l.vars ≡ k.vars → l.clauses ≡ k.clauses → l.first ≡ k.first → l.order ≡ k.order → l.short ≡ false → Propagates by_number k.clauses k.trail a l.trail → IsSearching l
-IsSearching-Propagates k l a h vars clauses first order memory closes = record {
+pub IsRule-of : (order : Order) → IsRule (rule_of order)
+IsRule-of ByNumber = IsRule-by_number
+IsRule-of ByPlace = IsRule-by_place
+
+pub IsSearching-Propagates : (order : Order) (k l : State) (a : Closed) → IsSearching order k → l.vars ≡ k.vars → l.clauses ≡ k.clauses → l.first ≡ k.first → l.order ≡ k.order → l.short ≡ false
+    → Propagates (rule_of order) k.clauses k.trail a l.trail → IsSearching order l
+IsSearching-Propagates order k l a h vars clauses first same_order memory closes = record {
   has_memory = memory;
-  order = order ∙ h.order;
+  in_order = same_order ∙ h.in_order;
   few = rw vars h.few;
   within = rw (first, clauses) h.within;
-  lawful = rw clauses (IsLawful-Propagates by_number IsRule-by_number k.clauses k.trail l.trail a closes h.lawful);
-  open_below = rw clauses (IsOpenBelow-Propagates by_number k.clauses k.trail l.trail a closes h.open_below);
+  lawful = rw clauses (IsLawful-Propagates (rule_of order) (IsRule-of order) k.clauses k.trail l.trail a closes h.lawful);
+  open_below = rw clauses (IsOpenBelow-Propagates (rule_of order) k.clauses k.trail l.trail a closes h.open_below);
   clauses_over = rw (vars, clauses) h.clauses_over;
-  trail_over = rw vars (IsOver-from_AreOver k.vars (literals l.trail) (AreOver-Propagates by_number IsRule-by_number k.vars k.clauses k.trail l.trail a h.clauses_over closes (AreOver-from_IsOver k.vars (literals k.trail) h.trail_over)));
+  trail_over = rw vars (IsOver-from_AreOver k.vars (literals l.trail) (AreOver-Propagates (rule_of order) (IsRule-of order) k.vars k.clauses k.trail l.trail a h.clauses_over closes (AreOver-from_IsOver k.vars (literals k.trail) h.trail_over)));
 }
 
 -- the learnt clause is over the variables
@@ -40,9 +48,9 @@ IsOver-learn V K T n lawful over h =
     IsOver-left V (learn K T n).clause (negations (cube_of T)) (IsOver-from_AreOver V _ (IsVariable-learn V K T n lawful (AreOver-from_IsOver V (literals T) over) at.2))
 
 -- the kernel after going back may learn the clause
-pub may_learn : (k l : State) (c : Clause) (level n : ℕ) → IsSearching k → 1 ≤ current_level k.trail → least_false (literals k.trail) k.clauses ≡ Some n → c ≡ (learn k.clauses k.trail n).clause
+pub may_learn : (order : Order) (k l : State) (c : Clause) (level n : ℕ) → IsSearching order k → 1 ≤ current_level k.trail → least_false (literals k.trail) k.clauses ≡ Some n → c ≡ (learn k.clauses k.trail n).clause
     → level ≡ back_level k.trail (learn k.clauses k.trail n).clause → l ≡ (if k.short then k else record k { trail = up_to k.trail level }) → IsOver l.vars c × IsLearnable l.trail c
-may_learn k l c level n h above clash clause back went =
+may_learn order k l c level n h above clash clause back went =
     rw (rw (h.has_memory, back) at went, clause)
     (IsOver-learn k.vars k.clauses k.trail n h.lawful h.trail_over clash, IsLearnable-learn k.clauses k.trail n h.lawful h.open_below above clash)
 

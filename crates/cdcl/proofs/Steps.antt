@@ -15,6 +15,7 @@ use Rattle.theory.specs.Propagation.{by_number}
 use Rattle.theory.proofs.LawfulTrails.{IsLawful-Propagates}
 use Rattle.theory.proofs.OpenTrails.{kept-step}
 use Rattle.kernel.specs.State.{State}
+use Rattle.kernel.specs.declared.order.Order.TheVariants.{ByNumber}
 use Rattle.cdcl.specs.Outcome.{outcome_of}
 use Rattle.cdcl.specs.Searching.{IsSearching, IsSearchStep, GoesOn, search_of}
 use Rattle.cdcl.specs.declared.outcome.Outcome.{Outcome}
@@ -42,12 +43,12 @@ pub GoesOn-trans : (k l m : State) → GoesOn k l → GoesOn l m → GoesOn k m
 GoesOn-trans k l m one two = (two.0 ∙ one.0, two.1 ∙ one.1, (rw one.1 at two.2) ∙ one.2, two.3, two.4 ∙ one.4)
 
 -- what such a step keeps
-pub IsSearchStep-keeps : (budget : ℕ) (s t : OrderedSearch) → IsSearching s.kernel → s.conflicts < budget → IsSearchStep budget s None t
-    → IsSearching t.kernel × (t.conflicts < budget) × (remaining s.kernel.vars budget t.conflicts t.kernel.trail < remaining s.kernel.vars budget s.conflicts s.kernel.trail)
+pub IsSearchStep-keeps : (budget : ℕ) (s t : OrderedSearch) → IsSearching ByNumber s.kernel → s.conflicts < budget → IsSearchStep budget s None t
+    → IsSearching ByNumber t.kernel × (t.conflicts < budget) × (remaining s.kernel.vars budget t.conflicts t.kernel.trail < remaining s.kernel.vars budget s.conflicts s.kernel.trail)
 IsSearchStep-keeps budget s t h counted step = (
   record {
     has_memory = step.goes_on.3;
-    order = step.goes_on.4 ∙ h.order;
+    in_order = step.goes_on.4 ∙ h.in_order;
     few = rw step.goes_on.0 h.few;
     within = within-GoesOn s.kernel t.kernel h.within step.goes_on;
     lawful = kept.0;

@@ -4,4 +4,9 @@ pub mod Outcome
 pub mod Plans
 pub mod Searching
 pub mod Flags
+pub mod Numbers
+pub mod Saving
+pub mod Forgetful
+pub mod Focusing
+pub mod Solving
 pub mod Marks

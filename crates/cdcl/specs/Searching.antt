@@ -1,15 +1,15 @@
 -- The state of a search, as the definition of a search has it, and its steps.
-use Rattle.std.specs.Prelude.{◌≡◌, ℕ, ◌<◌, ◌≤◌, ◌^◌, Bool, false, Option, Some, None, List, length, take, All}
+use Rattle.std.specs.Prelude.{◌≡◌, ℕ, ◌<◌, ◌≤◌, ◌^◌, false, Option, Some, None, List, length, take, All}
 use Rattle.theory.specs.Literals.{Literal}
 use Rattle.theory.specs.Truth.{Formula, IsOver}
 use Rattle.theory.specs.Reading.{max_vars}
 use Rattle.theory.specs.Trails.{literals}
 use Rattle.theory.specs.Lawful.{IsLawful}
 use Rattle.theory.specs.Learnable.{IsOpenBelow}
-use Rattle.theory.specs.Plans.{Plan}
 use Rattle.theory.specs.Search.{Next, ends, goes_on, first_clauses}
 use Rattle.theory.specs.Ordered.{OrderedState, IsOrderedStep, begin}
 use Rattle.kernel.specs.State.{State}
+use Rattle.kernel.specs.declared.order.Order.{Order}
 use Rattle.kernel.specs.declared.order.Order.TheVariants.{ByNumber}
 use Rattle.cdcl.specs.declared.outcome.Outcome.{Outcome}
 use Rattle.cdcl.specs.declared.ordered.OrderedSearch.{OrderedSearch}
@@ -18,29 +18,19 @@ use Rattle.cdcl.specs.Outcome.{outcome_of}
 abbrev pub search_of : OrderedSearch → OrderedState
 search_of s = record { clauses = s.kernel.clauses; trail = s.kernel.trail; conflicts = s.conflicts; decided = s.decided; lines = s.lines.items }
 
--- what a solver is seen as: which formula it solves cubes of, by which plan, and whether it has met want of memory
-pub record Solving : Type 0 where
-  pub formula : Formula
-  pub plan : Plan
-  pub short : Bool
-
--- the solver is one of this formula and this plan
-abbrev pub IsSolverOf : Formula → Plan → Solving → Type 0
-IsSolverOf F plan s = (s.formula ≡ F) × (s.plan ≡ plan)
-
--- the kernel may go over to a cube of the formula
-pub record IsReady (F : Formula) (k : State) : Type 0 where
+-- the kernel, which propagates in this order, may go over to a cube of the formula
+pub record IsReady (order : Order) (F : Formula) (k : State) : Type 0 where
   pub has_memory : k.short ≡ false
-  pub order : k.order ≡ ByNumber
+  pub in_order : k.order ≡ order
   pub vars : k.vars ≡ F.vars
   pub few : F.vars ≤ max_vars
   pub first : k.first ≡ length (first_clauses F)
   pub clauses : take k.first k.clauses ≡ first_clauses F
 
 -- what a search keeps of its kernel from step to step
-pub record IsSearching (k : State) : Type 0 where
+pub record IsSearching (order : Order) (k : State) : Type 0 where
   pub has_memory : k.short ≡ false
-  pub order : k.order ≡ ByNumber
+  pub in_order : k.order ≡ order
   pub few : k.vars < 2 ^ 31
   pub within : k.first ≤ length k.clauses
   pub lawful : IsLawful k.clauses k.trail
@@ -56,8 +46,8 @@ GoesOn old new =
 
 -- the search of the formula's cube Q begins
 pub record Begins (F : Formula) (Q : List Literal) (s : OrderedSearch) : Type 0 where
-  pub ready : IsReady F s.kernel
-  pub searching : IsSearching s.kernel
+  pub ready : IsReady ByNumber F s.kernel
+  pub searching : IsSearching ByNumber s.kernel
   pub begun : search_of s ≡ begin F Q
 
 -- what follows where a step ended with an outcome, or with none left the state

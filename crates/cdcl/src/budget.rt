@@ -1,7 +1,7 @@
 //! A cube's budget of conflicts.
 ghost use Rattle.std.specs.Prelude.{◌≡◌, ◌≤◌, List, length};
 ghost use Rattle.theory.specs.Literals.{Literal};
-ghost use Rattle.theory.specs.Search.{budget_of};
+ghost use Rattle.theory.specs.Search.{budget_of, max_budget};
 
 /// No cube has a greater budget.
 const MAX_BUDGET: u64 = 1_000_000;
@@ -11,6 +11,7 @@ pub fn budget_of(budget: u32, literals: usize) -> u32
     requires { (1 ≤ budget) × (budget ≤ 100000) }
     ensures same { (Q : List Literal) → length Q ≡ literals → result ≡ budget_of budget Q }
     ensures some { 1 ≤ result }
+    ensures most { result ≤ max_budget }
 {
     // more literals than conflicts make no difference, and so the product can't wrap
     let literals = (literals as u64).min(MAX_BUDGET);

@@ -4,15 +4,25 @@
 
 mod analysis;
 mod budget;
+mod decisions;
 mod flags;
+mod focused;
+mod forgetting;
+mod glue;
 mod halves;
+mod lesson;
 mod level;
 mod marks;
+mod numbers;
 mod ordered;
 mod outcome;
 mod places;
 mod plan;
+mod saved;
+mod searcher;
+mod seen;
 mod solver;
+mod values;
 
 pub use analysis::{Learnt, analyze};
 pub use budget::budget_of;

@@ -5,19 +5,20 @@ ghost use Rattle.theory.specs.Trails.{literals, current_level, least_free};
 ghost use Rattle.theory.specs.Propagation.{by_number, Propagates, quiet, conflict, least_false};
 ghost use Rattle.theory.specs.Lawful.{IsLawful};
 ghost use Rattle.theory.specs.Learning.{learn};
-ghost use Rattle.theory.specs.Search.{RunsFrom, values, refuted};
+ghost use Rattle.theory.specs.Search.{RunsFrom};
 ghost use Rattle.theory.specs.Ordered.{IsOrderedStep, after, learnt_next};
 ghost use Rattle.theory.specs.Ordered as definition;
+ghost use Rattle.kernel.specs.declared.order.Order.TheVariants.{ByNumber};
 ghost use Rattle.cdcl.specs.Outcome.{outcome_of};
 ghost use Rattle.cdcl.specs.Searching.{IsReady, IsSearching, IsSearchStep, Begins, GoesOn, search_of, next_of};
 
 use crate::analysis::analyze_in;
 use crate::marks::Room;
-use crate::outcome::{Line, Outcome, Refutation};
+use crate::outcome::{Line, Outcome};
+use crate::values::{refute, values};
 use cnf::{Formula, Lit};
 use kernel::{Closed, Cube, Kernel};
 use std::alloc::{AllocError, Global};
-use std::mem;
 
 /// The state of a search.
 #[derive(Drop)]
@@ -33,23 +34,10 @@ pub(crate) struct OrderedSearch {
     pub(crate) room: Room,
 }
 
-/// The truth values on the trail.
-fn values(alloc: Global, kernel: &Kernel) -> Result<Vec<bool>, AllocError>
-    requires { IsLawful kernel.now.clauses kernel.now.trail }
-    ensures { IfOk result (λ v. v.items ≡ values kernel.now.vars kernel.now.trail) }
-{
-    let vars = kernel.vars();
-    let mut values = Vec::with_capacity(alloc, vars as usize)?;
-    for index in 0..vars {
-        values.push(kernel.value(index + 1).unwrap_or(false))?;
-    }
-    Ok(values)
-}
-
 impl OrderedSearch {
     /// A search of a formula, before its first cube: over its clauses, and behind them a unit clause for each pure literal.
     pub(crate) fn open(alloc: Global, formula: &Formula) -> Result<OrderedSearch, AllocError>
-        ensures { IfOk result (λ s. IsReady formula.now s.kernel) }
+        ensures { IfOk result (λ s. IsReady ByNumber formula.now s.kernel) }
     {
         let units = formula.pure(alloc)?;
         Ok(OrderedSearch {
@@ -64,7 +52,7 @@ impl OrderedSearch {
     /// Goes over to a cube, of which nothing is counted, decided or learnt yet.
     pub(crate) fn begin(&mut self, cube: &Cube) -> Result<(), AllocError>
         requires { self.old.kernel.short ≡ false → IsOver self.old.kernel.vars cube.now }
-        ensures { OnOk result ((F : Formula) → IsReady F self.old.kernel → Begins F cube.now self.new) }
+        ensures { OnOk result ((F : Formula) → IsReady ByNumber F self.old.kernel → Begins F cube.now self.new) }
     {
         self.kernel.restart(cube)?;
         self.conflicts = 0;
@@ -75,7 +63,7 @@ impl OrderedSearch {
 
     /// The outcome of the cube that was begun.
     pub(crate) fn run(&mut self, budget: u32) -> Result<Outcome, AllocError>
-        requires searching { IsSearching self.old.kernel }
+        requires searching { IsSearching ByNumber self.old.kernel }
         requires counted { self.old.conflicts < budget }
         ensures runs { IfOk result (λ o. RunsFrom (IsOrderedStep self.old.kernel.vars budget) (search_of self.old) (outcome_of o)) }
         ensures kept { OnOk result (GoesOn self.old.kernel self.new.kernel) }
@@ -89,7 +77,7 @@ impl OrderedSearch {
 
     /// Propagation and what follows its answer.
     fn step(&mut self, budget: u32) -> Result<Option<Outcome>, AllocError>
-        requires searching { IsSearching self.old.kernel }
+        requires searching { IsSearching ByNumber self.old.kernel }
         requires counted { self.old.conflicts < budget }
         ensures { IfOk result (λ r. IsSearchStep budget self.old r self.new) }
     {
@@ -101,7 +89,7 @@ impl OrderedSearch {
 
     /// Where propagation came to rest: decides the least free variable to be false, or gives the model where none is free.
     fn on_quiet(&mut self) -> Result<Option<Outcome>, AllocError>
-        requires searching { IsSearching self.old.kernel }
+        requires searching { IsSearching ByNumber self.old.kernel }
         requires quiet { Propagates by_number self.old.kernel.clauses self.old.kernel.trail quiet self.old.kernel.trail }
         ensures next { IfOk result (λ r. definition.on_quiet self.old.kernel.vars (search_of self.old)
             (least_free self.old.kernel.vars self.old.kernel.trail) ≡ next_of r self.new) }
@@ -124,14 +112,14 @@ impl OrderedSearch {
 
     /// A conflict above level 0 is counted; the last one that the budget allows exhausts the cube.
     fn on_conflict(&mut self, number: u64, budget: u32) -> Result<Option<Outcome>, AllocError>
-        requires searching { IsSearching self.old.kernel }
+        requires searching { IsSearching ByNumber self.old.kernel }
         requires conflict { least_false (literals self.old.kernel.trail) self.old.kernel.clauses ≡ Some number }
         requires counted { self.old.conflicts < budget }
         ensures next { IfOk result (λ r. after self.old.kernel.vars budget (search_of self.old) (conflict number) ≡ next_of r self.new) }
         ensures kept { OnOk result (GoesOn self.old.kernel self.new.kernel) }
     {
         if self.kernel.level() == 0 {
-            return Ok(Some(self.refute(number)?));
+            return Ok(Some(refute(&self.kernel, &mut self.room, &mut self.lines, number)?));
         }
         if self.conflicts + 1 == budget {
             return Ok(Some(Outcome::Exhausted(self.decided.unwrap_or(0))));
@@ -140,23 +128,9 @@ impl OrderedSearch {
         Ok(None)
     }
 
-    /// A conflict at level 0: the cube is refuted.
-    fn refute(&mut self, number: u64) -> Result<Outcome, AllocError>
-        requires { least_false (literals self.old.kernel.trail) self.old.kernel.clauses ≡ Some number }
-        ensures kept { self.new.kernel ≡ self.old.kernel }
-        ensures refuted { IfOk result (λ o. outcome_of o
-            ≡ refuted (self.old.lines.items ++ learn self.old.kernel.clauses self.old.kernel.trail number ∷ [])) }
-    {
-        let alloc = *self.lines.allocator();
-        let learnt = analyze_in(alloc, &self.kernel, &mut self.room, number)?;
-        self.lines.push(Line::new(learnt.clause, learnt.hints))?;
-        let lines = mem::replace(&mut self.lines, Vec::new(alloc));
-        Ok(Outcome::Refuted(Refutation { lines }))
-    }
-
     /// A conflict that is learnt from: goes back, and the learnt clause gets the next number.
     fn go_back(&mut self, number: u64) -> Result<(), AllocError>
-        requires searching { IsSearching self.old.kernel }
+        requires searching { IsSearching ByNumber self.old.kernel }
         requires conflict { least_false (literals self.old.kernel.trail) self.old.kernel.clauses ≡ Some number }
         requires level { 1 ≤ current_level self.old.kernel.trail }
         requires fits { self.old.conflicts + 1 < 2 ^ 32 }

@@ -7,9 +7,9 @@ ghost use Rattle.theory.specs.Results.{OutcomeSays};
 ghost use Rattle.cdcl.specs.Outcome.{outcome_of};
 
 use crate::budget::budget_of;
-use crate::ordered::OrderedSearch;
 use crate::outcome::Outcome;
-use crate::plan::{Plan, Search};
+use crate::plan::Plan;
+use crate::searcher::Searcher;
 use cnf::Formula;
 use kernel::Cube;
 use std::alloc::{AllocError, Global};
@@ -21,7 +21,7 @@ use std::snapshot::Snapshot;
 /// more than the cube's literals, and at most 1,000,000. Once a call has met want of memory, each later one answers it.
 #[derive(Drop)]
 pub struct Solver {
-    search: OrderedSearch,
+    search: Searcher,
     // which formula it is; it is no data, and takes no room
     formula: Snapshot<Formula>,
     plan: Plan,
@@ -31,13 +31,13 @@ pub struct Solver {
 
 impl Model for Solver {
     ghost use Rattle.std.specs.Prelude.{◌≡◌, false};
-    ghost use Rattle.cdcl.specs.Searching.{IsReady, Solving};
+    ghost use Rattle.cdcl.specs.Solving.{IsReadyBy, Solving};
 
     ghost Value = { Solving };
 
     ghost view = { λ a. record { formula = a.formula.value; plan = a.plan; short = a.short } };
 
-    ghost invariant = { λ a. a.short ≡ false → IsReady a.formula.value a.search.kernel };
+    ghost invariant = { λ a. a.short ≡ false → IsReadyBy a.plan.search a.formula.value a.search };
 }
 
 impl Solver {
@@ -46,7 +46,7 @@ impl Solver {
         ensures { IfOk result (λ s. s ≡ record { formula = formula.now; plan = plan; short = false }) }
     {
         Ok(Solver {
-            search: OrderedSearch::open(alloc, formula)?,
+            search: Searcher::open(alloc, formula, plan)?,
             formula: Snapshot::of(formula),
             plan,
             short: false,
@@ -70,13 +70,7 @@ impl Solver {
         }
         self.short = true; // so it stays where one of the next calls fails
         let conflicts = budget_of(self.plan.budget(), cube.lits().len());
-        let outcome = match self.plan.search() {
-            Search::Ordered => {
-                self.search.begin(cube)?;
-                self.search.run(conflicts)?
-            }
-            Search::Focused => return Err(AllocError),
-        };
+        let outcome = self.search.solve(cube, conflicts)?;
         self.short = false;
         Ok(outcome)
     }

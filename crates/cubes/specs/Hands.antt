@@ -11,7 +11,7 @@ use Rattle.theory.specs.Trees.{false_half, true_half}
 use Rattle.theory.specs.Results as results
 use Rattle.theory.specs.Round.{IsHandOn, IsRound, Adds, HasWorked}
 use Rattle.theory.specs.Work.{IsUnderway}
-use Rattle.cdcl.specs.Searching.{IsSolverOf}
+use Rattle.cdcl.specs.Solving.{IsSolverOf}
 use Rattle.cubes.specs.Solved.{solved_of}
 use Rattle.cubes.specs.declared.solved.Solved.{Solved}
 use Rattle.cubes.specs.declared.hands.Ending.{Ending}

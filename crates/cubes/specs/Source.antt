@@ -2,7 +2,7 @@
 use Rattle.std.specs.Prelude.{IfSome}
 use Rattle.theory.specs.Truth.{Formula}
 use Rattle.theory.specs.Plans.{Plan}
-use Rattle.cdcl.specs.Searching.{IsSolverOf}
+use Rattle.cdcl.specs.Solving.{IsSolverOf}
 use Rattle.cubes.specs.Known.{AreOutcomes}
 use Rattle.cubes.specs.declared.results.Source.{Source}
 

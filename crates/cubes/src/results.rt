@@ -5,7 +5,7 @@ ghost use Rattle.theory.specs.Plans as plans;
 ghost use Rattle.theory.specs.Runs.{Runs};
 ghost use Rattle.theory.specs.Results.{OutcomeSays, IsWhole};
 ghost use Rattle.cdcl.specs.Outcome.{outcome_of};
-ghost use Rattle.cdcl.specs.Searching.{IsSolverOf};
+ghost use Rattle.cdcl.specs.Solving.{IsSolverOf};
 ghost use Rattle.cubes.specs.Solved.{AreTrueResults, solved_of};
 ghost use Rattle.cubes.specs.Source.{IsSource};
 ghost use Rattle.cubes.specs.Result.{IsResultOf, Says};

@@ -1,6 +1,7 @@
 use Rattle.std.proofs.Common.{◌∙◌, ap}
 use Rattle.theory.specs.Learning.{Line}
 use Rattle.theory.proofs.LearnableLines.{back_level-learn}
+use Rattle.kernel.specs.declared.order.Order.TheVariants.{ByNumber}
 use Rattle.cdcl.proofs.SearchingLemmas.{may_learn}
 use Rattle.cdcl.proofs.ordered.OrderedSearch.go_back.Goals as goal
 
@@ -11,5 +12,5 @@ back_to-requires c _ =
 
 pub learn-requires : goal.learn-requires
 learn-requires c _ =
-    may_learn c.args.self.now.kernel c.back_to.new.self c.deref.result.now c.in_ok-learnt.learnt.level c.args.number c.requires.searching c.requires.level c.requires.conflict
+    may_learn ByNumber c.args.self.now.kernel c.back_to.new.self c.deref.result.now c.in_ok-learnt.learnt.level c.args.number c.requires.searching c.requires.level c.requires.conflict
     (c.deref.ensures.value ∙ ap (λ (l : Line). l.clause) c.in_ok-learnt.ensures.line) c.in_ok-learnt.ensures.level c.back_to.ensures

@@ -11,4 +11,4 @@ of-requires c =
 pub decide-requires : goal.decide-requires
 decide-requires c _ =
     let free = least_free-variable c.args.self.now.kernel.vars c.args.self.now.kernel.trail c.in-Some.var (sym c.in-Some.ensures) in
-    rw (c.of.ensures, c.requires.searching.order) (free.0, free.1, c.requires.quiet)
+    rw (c.of.ensures, c.requires.searching.in_order) (free.0, free.1, c.requires.quiet)

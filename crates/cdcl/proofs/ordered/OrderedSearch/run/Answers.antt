@@ -1,4 +1,5 @@
 use Rattle.std.proofs.Common.{◌<◌, None}
+use Rattle.kernel.specs.declared.order.Order.TheVariants.{ByNumber}
 use Rattle.cdcl.specs.Searching.{IsSearching, IsSearchStep}
 use Rattle.cdcl.proofs.Progress.{remaining}
 use Rattle.cdcl.proofs.Steps.{IsSearchStep-ends, IsSearchStep-leads, IsSearchStep-keeps, GoesOn-trans}
@@ -12,7 +13,7 @@ returns-in-Some-clause-runs c =
 went_on : (c : In_default) → IsSearchStep c.args.budget c.steps.self None c.step.new.self
 went_on c = rw c.in_default.is at c.in_ok-outcome.ensures
 
-kept : (c : In_default) → IsSearching c.step.new.self.kernel × (c.step.new.self.conflicts < c.args.budget)
+kept : (c : In_default) → IsSearching ByNumber c.step.new.self.kernel × (c.step.new.self.conflicts < c.args.budget)
     × (remaining c.steps.self.kernel.vars c.args.budget c.step.new.self.conflicts c.step.new.self.kernel.trail
     < remaining c.steps.self.kernel.vars c.args.budget c.steps.self.conflicts c.steps.self.kernel.trail)
 kept c = IsSearchStep-keeps c.args.budget c.steps.self c.step.new.self c.steps.invariant.searching c.steps.invariant.counted (went_on c)

@@ -1,7 +1,7 @@
 use Rattle.std.proofs.Common.{◌≡◌, map}
 use Rattle.theory.specs.Literals.{has, positive}
 use Rattle.theory.specs.Trails.{literals, variables}
-use Rattle.cdcl.proofs.ordered.values.Given as goal
+use Rattle.cdcl.proofs.values.values.Given as goal
 
 -- the values of the variables so far
 abbrev pub invariant-loop-index : goal.invariant-loop-index

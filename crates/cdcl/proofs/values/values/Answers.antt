@@ -1,6 +1,6 @@
 use Rattle.std.proofs.Common.{ap, ◌∙◌, unwrap_or, false}
 use Rattle.cdcl.proofs.TrailValues.{values-more}
-use Rattle.cdcl.proofs.ordered.values.Goals as goal
+use Rattle.cdcl.proofs.values.values.Goals as goal
 
 pub loop-index-preserved : goal.loop-index-preserved
 loop-index-preserved c =

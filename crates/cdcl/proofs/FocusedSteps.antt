@@ -1,0 +1,254 @@
+-- The steps of the focused search, as the definition has them.
+use Rattle.std.proofs.Common.{◌≡◌, ℕ, ◌+◌, ◌-◌, ◌*◌, ◌^◌, ◌<◌, ◌≤◌, false, List, [], ◌∷◌, ◌++◌, length, length-append, refl, ap, sym, subst, ◌∙◌, nat_eq, eq-eqb, ◌⊎◌, inl, inr, Option, Some, None, Result, Ok, Err, IfOk, OnOk, All, arith}
+use Rattle.theory.specs.Literals.{Clause, IsVariable, has_var}
+use Rattle.theory.specs.Truth.{Assignment, IsOver, value}
+use Rattle.theory.specs.Trails.{Trail, Entry, literals, current_level}
+use Rattle.theory.specs.Propagation.{Closed, quiet, conflict, by_place, Propagates, least_false}
+use Rattle.theory.specs.Lawful.{IsLawful}
+use Rattle.theory.specs.Learning.{learn}
+use Rattle.theory.specs.Search.{RunsFrom, stops, steps, Next, ends, goes_on, model, refuted, exhausted, values}
+use Rattle.theory.specs.Search as search
+use Rattle.theory.specs.Scores.{best_outside}
+use Rattle.theory.specs.Focused as definition
+use Rattle.theory.specs.Focused.{FocusedState, IsFocusedStep, saved_literal, decided_next, learnt_next, splits_on}
+use Rattle.theory.proofs.OpenTrails.{IsOpenBelow-decide}
+use Rattle.theory.proofs.OverVariables.{AreOver-from_IsOver}
+use Rattle.theory.proofs.SplitSoundness.{Propagates-more, has_var-front}
+use Rattle.theory.proofs.TrailLists.{literals-append}
+use Rattle.theory.proofs.BestVariables.{best_outside-some}
+use Rattle.kernel.specs.State.{State}
+use Rattle.kernel.specs.declared.order.Order.TheVariants.{ByPlace}
+use Rattle.cdcl.specs.Outcome.{outcome_of}
+use Rattle.cdcl.specs.declared.outcome.Outcome.{Outcome}
+use Rattle.cdcl.specs.declared.focused.FocusedSearch.{FocusedSearch}
+use Rattle.cdcl.specs.declared.decisions.Decisions.{Decisions}
+use Rattle.cdcl.specs.Saving.{AreWaiting}
+use Rattle.cdcl.specs.Focusing.{state_of, HasSaved, IsEquipped, IsFocusing, Follows, GoesOnward, Onward, Continues, IsFocusedSearchStep}
+use Rattle.cdcl.proofs.SearchingLemmas.{IsSearching-Propagates}
+use Rattle.cdcl.proofs.Progress.{remaining, length-lawful, length-Propagates}
+
+-- what is free on a longer trail is free on the shorter one
+pub free-before : (T R : Trail) (v : ℕ) → has_var (literals (T ++ R)) v ≡ false → has_var (literals T) v ≡ false
+free-before T R v h = has_var-front (literals T) (literals R) v (subst (λ P. has_var P v ≡ false) (literals-append T R) h)
+
+pub AreWaiting-longer : (V : ℕ) (T R : Trail) (d : Decisions) → AreWaiting V (literals T) d → AreWaiting V (literals (T ++ R)) d
+AreWaiting-longer V T R d h = record { vars = h.vars; long = h.long; saved = h.saved; waits = λ v k free. h.waits v k (free-before T R v free) }
+
+-- the kernel has propagated
+pub IsFocusing-Propagates : (s : FocusedSearch) (k : State) (a : Closed) → IsFocusing s → k.vars ≡ s.kernel.vars → k.clauses ≡ s.kernel.clauses → k.first ≡ s.kernel.first → k.order ≡ s.kernel.order → k.short ≡ false
+    → Propagates by_place s.kernel.clauses s.kernel.trail a k.trail → IsFocusing (record s { kernel = k })
+IsFocusing-Propagates s k a f vars clauses first order memory closes =
+    let more = Propagates-more by_place s.kernel.clauses s.kernel.trail k.trail a closes in record {
+      searching = IsSearching-Propagates ByPlace s.kernel k a f.searching vars clauses first order memory closes;
+      few = rw vars f.few;
+      equipped = record {
+        waiting = rw (vars, more.1) (AreWaiting-longer s.kernel.vars s.kernel.trail more.0 s.decisions f.equipped.waiting);
+        seen = rw vars f.equipped.seen;
+        levels = rw vars f.equipped.levels;
+        scored = f.equipped.scored;
+        averaged = f.equipped.averaged;
+      };
+      scores = f.scores;
+      total = f.total;
+      learnt = rw (clauses, first) f.learnt;
+      glues = f.glues;
+      plain = rw (vars, clauses, first) f.plain;
+    }
+
+pub HasSaved-Propagates : (s : FocusedSearch) (k : State) (a : Closed) (saved : Assignment) → k.vars ≡ s.kernel.vars → Propagates by_place s.kernel.clauses s.kernel.trail a k.trail → HasSaved s saved
+    → HasSaved (record s { kernel = k }) saved
+HasSaved-Propagates s k a saved vars closes h v variable free =
+    let more = Propagates-more by_place s.kernel.clauses s.kernel.trail k.trail a closes in
+    h v (rw vars at variable) (free-before s.kernel.trail more.0 v (subst (λ (U : Trail). has_var (literals U) v ≡ false) more.1 free))
+
+-- a step from what propagation left
+pub step-from : {E : Type 0} (budget : ℕ) (s t : FocusedSearch) (k : State) (a : Closed) (r : Result (Option Outcome) E) → k.vars ≡ s.kernel.vars → k.clauses ≡ s.kernel.clauses
+    → Propagates by_place s.kernel.clauses s.kernel.trail a k.trail
+    → IfOk r (λ o. (saved : Assignment) → HasSaved (record s { kernel = k }) saved → Follows budget a (record s { kernel = k }) saved o t)
+    → IfOk r (λ o. (saved : Assignment) → HasSaved s saved → IsFocusedSearchStep budget s saved o t)
+step-from budget s t k a (Err e) vars clauses closes h = tt
+step-from budget s t k a (Ok o) vars clauses closes h = λ saved has.
+    let f = h saved (HasSaved-Propagates s k a saved vars closes has) in record {
+      values = f.values;
+      step = record { answer = a; trail = k.trail; propagates = closes; follows = same saved ∙ f.next };
+      onward = onward o f.values f.onward;
+    }
+  where
+    same : (saved : Assignment) → definition.after s.constants s.kernel.vars budget (record (state_of s saved) { trail = k.trail }) a ≡ definition.after s.constants k.vars budget (state_of (record s { kernel = k }) saved) a
+    same saved =
+        ap (λ (K : List Clause). definition.after s.constants s.kernel.vars budget (record (state_of (record s { kernel = k }) saved) { clauses = K }) a) (sym clauses)
+        ∙ ap (λ V. definition.after s.constants V budget (state_of (record s { kernel = k }) saved) a) (sym vars)
+
+    onward : (o : Option Outcome) (values : Assignment) → Onward budget (record s { kernel = k }) o t values → Onward budget s o t values
+    onward (Some o) values i = tt
+    onward None values i = record { saves = i.saves; focusing = i.focusing; counted = i.counted; moves = moves i.moves }
+      where
+        longer : length s.kernel.trail ≤ length k.trail
+        longer = length-Propagates by_place s.kernel.clauses s.kernel.trail k.trail a closes
+
+        moves : (t.conflicts ≡ s.conflicts + 1) ⊎ ((t.conflicts ≡ s.conflicts) × (length k.trail < length t.kernel.trail)) → (t.conflicts ≡ s.conflicts + 1) ⊎ ((t.conflicts ≡ s.conflicts) × (length s.kernel.trail < length t.kernel.trail))
+        moves (inl e) = inl e
+        moves (inr m) = inr (m.0, let more = m.1 in let before = longer in omega arith)
+
+pub Continues-from : {E : Type 0} (s t : FocusedSearch) (k : State) (r : Result (Option Outcome) E) → (k.vars ≡ s.kernel.vars) × (k.clauses ≡ s.kernel.clauses) × (k.first ≡ s.kernel.first) × (k.order ≡ s.kernel.order)
+    → OnOk r (Continues (record s { kernel = k }) t) → OnOk r (Continues s t)
+Continues-from s t k (Err e) same h = tt
+Continues-from s t k (Ok o) same h = record { goes_on = rw (same.0, same.1, same.2, same.3) at h.goes_on; constants = h.constants; equipped = h.equipped }
+
+-- the model, where no variable is free
+pub Follows-model : (budget : ℕ) (s t : FocusedSearch) (saved : Assignment) (o : Outcome) → best_outside s.kernel.vars (literals s.kernel.trail) s.decisions.scores.scores ≡ None
+    → outcome_of o ≡ model (values s.kernel.vars s.kernel.trail) → Follows budget quiet s saved (Some o) t
+Follows-model budget s t saved o none is = record {
+  values = saved;
+  next = ap (definition.on_quiet s.kernel.vars (state_of s saved)) none ∙ ap ends (sym is);
+  onward = tt;
+}
+
+-- a decision
+pub Follows-decided : (budget : ℕ) (s t : FocusedSearch) (saved : Assignment) (x : ℕ) → IsFocusing s → s.conflicts < budget → least_false (literals s.kernel.trail) s.kernel.clauses ≡ None
+    → best_outside s.kernel.vars (literals s.kernel.trail) s.decisions.scores.scores ≡ Some x → HasSaved s saved
+    → t.kernel ≡ record s.kernel { trail = s.kernel.trail ++ record { lit = saved_literal s.decisions.saved x; reason = None; level = current_level s.kernel.trail + 1 } ∷ [] }
+    → IsLawful t.kernel.clauses t.kernel.trail → IsOver t.kernel.vars (literals t.kernel.trail) → All (IsOver t.kernel.vars) t.kernel.clauses
+    → AreWaiting s.kernel.vars (literals s.kernel.trail) t.decisions → t.decisions.scores.scores ≡ s.decisions.scores.scores → t.decisions.scores.constants ≡ s.decisions.scores.constants
+    → t.decisions.saved ≡ s.decisions.saved → t ≡ record s { kernel = t.kernel; decisions = t.decisions } → Follows budget quiet s saved None t
+Follows-decided budget s t saved x f counted calm best has went lawful over clauses_over waiting scores constants same is = record {
+  values = saved;
+  next = ap (definition.on_quiet s.kernel.vars (state_of s saved)) best ∙ ap goes_on next;
+  onward = record {
+    saves = λ v variable free. ap (λ (M : Assignment). value M v) same ∙ has v (rw vars at variable) (free-before s.kernel.trail (e ∷ []) v (rw trail at free));
+    focusing = focusing;
+    counted = subst (λ (u : FocusedSearch). u.conflicts < budget) (sym is) counted;
+    moves = inr (ap (λ (u : FocusedSearch). u.conflicts) is, let one = length-append s.kernel.trail (e ∷ []) in let long = ap length trail in omega arith);
+  };
+}
+  where
+    e : Entry
+    e = record { lit = saved_literal s.decisions.saved x; reason = None; level = current_level s.kernel.trail + 1 }
+
+    trail : t.kernel.trail ≡ s.kernel.trail ++ e ∷ []
+    trail = ap (λ (k : State). k.trail) went
+
+    vars : t.kernel.vars ≡ s.kernel.vars
+    vars = ap (λ (k : State). k.vars) went
+
+    clauses : t.kernel.clauses ≡ s.kernel.clauses
+    clauses = ap (λ (k : State). k.clauses) went
+
+    x-is : IsVariable s.kernel.vars x × (has_var (literals s.kernel.trail) x ≡ false)
+    x-is = best_outside-some s.kernel.vars (literals s.kernel.trail) s.decisions.scores.scores x best
+
+    literal-is : saved_literal s.decisions.saved x ≡ saved_literal saved x
+    literal-is = ap (λ b. record { var = x; positive = b }) (has x x-is.0 x-is.1)
+
+    next : decided_next (state_of s saved) x ≡ state_of t saved
+    next = sym (rw (trail, clauses, scores) (subst (λ (u : FocusedSearch). record {
+      clauses = s.kernel.clauses;
+      trail = s.kernel.trail ++ e ∷ [];
+      conflicts = u.conflicts;
+      lines = u.lines.items;
+      glues = u.glues.items;
+      scores = s.decisions.scores.scores;
+      saved = saved;
+      averages = u.averages.glues;
+      schedule = u.schedule;
+    } ≡ decided_next (state_of s saved) x) (sym is) (rw literal-is refl)))
+
+    focusing : IsFocusing t
+    focusing = record {
+      searching = record {
+        has_memory = ap (λ (k : State). k.short) went ∙ f.searching.has_memory;
+        in_order = ap (λ (k : State). k.order) went ∙ f.searching.in_order;
+        few = rw vars f.searching.few;
+        within = let a = ap length clauses in let b = ap (λ (k : State). k.first) went in let c = f.searching.within in omega arith;
+        lawful = lawful;
+        open_below = rw (clauses, trail) (IsOpenBelow-decide s.kernel.clauses s.kernel.trail (saved_literal s.decisions.saved x) f.searching.lawful calm f.searching.open_below);
+        clauses_over = clauses_over;
+        trail_over = over;
+      };
+      few = rw vars f.few;
+      equipped = equipped;
+      scores = subst (λ (u : FocusedSearch). All (λ y. y ≤ u.conflicts * 2 ^ 40) t.decisions.scores.scores.scores) (sym is) (rw scores f.scores);
+      total = subst (λ (u : FocusedSearch). u.averages.glues.total ≤ u.conflicts * 2 ^ 20) (sym is) f.total;
+      learnt = subst (λ (u : FocusedSearch). length t.kernel.clauses ≡ t.kernel.first + length u.lines.items) (sym is) (rw (clauses, ap (λ (k : State). k.first) went) f.learnt);
+      glues = subst (λ (u : FocusedSearch). length u.glues.items ≡ length u.lines.items) (sym is) f.glues;
+      plain = rw (vars, clauses, ap (λ (k : State). k.first) went) f.plain;
+    }
+      where
+        equipped : IsEquipped t
+        equipped = record {
+          waiting = rw (vars, trail) (AreWaiting-longer s.kernel.vars s.kernel.trail (e ∷ []) t.decisions waiting);
+          seen = subst (λ (u : FocusedSearch). t.kernel.vars < u.analysis.seen.bound) (sym is) (rw vars f.equipped.seen);
+          levels = subst (λ (u : FocusedSearch). t.kernel.vars < u.analysis.levels.bound) (sym is) (rw vars f.equipped.levels);
+          scored = subst (λ (u : FocusedSearch). t.decisions.scores.constants ≡ u.constants) (sym is) (constants ∙ f.equipped.scored);
+          averaged = subst (λ (u : FocusedSearch). u.averages.constants ≡ u.constants) (sym is) f.equipped.averaged;
+        }
+
+-- a conflict: at level 0, the last one of the budget, and another one
+pub Follows-refuted : (budget n : ℕ) (s t : FocusedSearch) (saved : Assignment) (o : Outcome) → current_level s.kernel.trail ≡ 0
+    → outcome_of o ≡ refuted (s.lines.items ++ learn s.kernel.clauses s.kernel.trail n ∷ []) → Follows budget (conflict n) s saved (Some o) t
+Follows-refuted budget n s t saved o low is = record { values = saved; next = rw low (ap ends (sym is)); onward = tt }
+
+pub Follows-exhausted : (budget n : ℕ) (s t : FocusedSearch) (saved : Assignment) (x : ℕ) (o : Outcome) → nat_eq (current_level s.kernel.trail) 0 ≡ false → s.conflicts + 1 ≡ budget
+    → x ≡ splits_on s.kernel.vars (state_of s saved) → outcome_of o ≡ exhausted x → Follows budget (conflict n) s saved (Some o) t
+Follows-exhausted budget n s t saved x o above last splits is = record {
+  values = saved;
+  next = rw (above, eq-eqb (s.conflicts + 1) budget last) (ap ends (sym (is ∙ ap exhausted splits)));
+  onward = tt;
+}
+
+pub Follows-learns : (budget n : ℕ) (s t : FocusedSearch) (saved values : Assignment) → nat_eq (current_level s.kernel.trail) 0 ≡ false → nat_eq (s.conflicts + 1) budget ≡ false → s.conflicts + 1 < budget
+    → state_of t values ≡ learnt_next s.constants s.kernel.vars (state_of s saved) (learn s.kernel.clauses s.kernel.trail n) → HasSaved t values → IsFocusing t
+    → t.conflicts ≡ s.conflicts + 1 → Follows budget (conflict n) s saved None t
+Follows-learns budget n s t saved values above more fewer next saves focusing counted = record {
+  values = values;
+  next = rw (above, more) (ap goes_on (sym next));
+  onward = record { saves = saves; focusing = focusing; counted = rw counted fewer; moves = inl counted };
+}
+
+-- what goes on ends
+more_left : (e V x y : ℕ) → x ≤ V + 1 → e * (V + 2) + x < (e + 1) * (V + 2) + y
+more_left e V x y h = let product : (e + 1) * (V + 2) ≡ e * (V + 2) + (V + 2) = omega arith in omega (arith, product, h)
+
+pub GoesOnward-less : (budget : ℕ) (s t : FocusedSearch) (saved : Assignment) → s.conflicts < budget → t.kernel.vars ≡ s.kernel.vars → GoesOnward budget s t saved
+    → remaining s.kernel.vars budget t.conflicts t.kernel.trail < remaining s.kernel.vars budget s.conflicts s.kernel.trail
+GoesOnward-less budget s t saved counted vars g = go g.moves
+  where
+    go : (t.conflicts ≡ s.conflicts + 1) ⊎ ((t.conflicts ≡ s.conflicts) × (length s.kernel.trail < length t.kernel.trail))
+        → remaining s.kernel.vars budget t.conflicts t.kernel.trail < remaining s.kernel.vars budget s.conflicts s.kernel.trail
+    go (inl one) =
+        let e = budget - (s.conflicts + 1) in
+        let left : budget - s.conflicts ≡ e + 1 = omega arith in
+        rw (one, left) (more_left e s.kernel.vars (s.kernel.vars + 1 - length t.kernel.trail) (s.kernel.vars + 1 - length s.kernel.trail) (omega arith))
+    go (inr longer) =
+        let most : length t.kernel.trail ≤ t.kernel.vars = length-lawful t.kernel.vars t.kernel.clauses t.kernel.trail g.focusing.searching.lawful (AreOver-from_IsOver t.kernel.vars (literals t.kernel.trail) g.focusing.searching.trail_over) in
+        let more = longer.1 in
+        let v = vars in
+        rw longer.0 (omega (arith, most, more, v))
+
+-- whatever the state t leads to, s does
+abbrev pub LeadsTo : ℕ → FocusedSearch → FocusedSearch → Type 0
+LeadsTo budget s t =
+    (saved : Assignment) → HasSaved s saved → (now : Assignment) × HasSaved t now
+    × ((o : search.Outcome) → RunsFrom (IsFocusedStep s.constants s.kernel.vars budget) (state_of t now) o → RunsFrom (IsFocusedStep s.constants s.kernel.vars budget) (state_of s saved) o)
+
+pub LeadsTo-refl : (budget : ℕ) (s : FocusedSearch) → LeadsTo budget s s
+LeadsTo-refl budget s saved h = (saved, h, λ o runs. runs)
+
+pub LeadsTo-step : (budget : ℕ) (s t u : FocusedSearch) → t.constants ≡ s.constants → t.kernel.vars ≡ s.kernel.vars → LeadsTo budget s t
+    → ((saved : Assignment) → HasSaved t saved → IsFocusedSearchStep budget t saved None u) → LeadsTo budget s u
+LeadsTo-step budget s t u constants vars leads step saved h =
+    let l = leads saved h in
+    let w = step l.0 l.1 in
+    (w.values, w.onward.saves, λ o runs. l.2 o (steps (rw (constants, vars) at w.step) runs))
+
+pub LeadsTo-ends : (budget : ℕ) (s t u : FocusedSearch) (o : Outcome) → t.constants ≡ s.constants → t.kernel.vars ≡ s.kernel.vars → LeadsTo budget s t
+    → ((saved : Assignment) → HasSaved t saved → IsFocusedSearchStep budget t saved (Some o) u)
+    → (saved : Assignment) → HasSaved s saved → RunsFrom (IsFocusedStep s.constants s.kernel.vars budget) (state_of s saved) (outcome_of o)
+LeadsTo-ends budget s t u o constants vars leads step saved h =
+    let l = leads saved h in
+    let w = step l.0 l.1 in
+    l.2 (outcome_of o) (stops (rw (constants, vars) at w.step))
+
+pub if_ok-map : {X E : Type 0} (r : Result X E) (P Q : X → Type 0) → ((x : X) → P x → Q x) → IfOk r P → IfOk r Q
+if_ok-map (Ok x) P Q f h = f x h
+if_ok-map (Err e) P Q f h = tt

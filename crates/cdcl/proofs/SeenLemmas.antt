@@ -1,0 +1,151 @@
+-- The variables that a conflict has seen, as a list.
+use Rattle.std.proofs.Common.{◌≡◌, ℕ, suc, zero, ◌<◌, ◌≤◌, Bool, true, false, ◌&&◌, ◌||◌, List, [], ◌∷◌, length, slice_index, count_by, cond, refl, ap, sym, subst, ◌∙◌, nat_eq, nat_lt, eqb-true, eq-eqb, Option, Some, None, All, arith}
+use Rattle.std.specs.List.{list_any}
+use Rattle.std.proofs.lemmas.List.Elements.{All-nil, All-cons}
+use Rattle.theory.specs.Literals.{Clause, IsVariable, has_var}
+use Rattle.theory.specs.Truth.{IsOver}
+use Rattle.theory.specs.Plans.{Constants}
+use Rattle.theory.specs.Trails.{Trail, Entry, literals, entry_of, level_at}
+use Rattle.theory.specs.Propagation.{clause_at, least_false}
+use Rattle.theory.specs.Lawful.{IsLawful}
+use Rattle.theory.specs.Learning.{learn, with_literals}
+use Rattle.theory.specs.Scores.{Scores, is_seen, scores_after}
+use Rattle.theory.proofs.LiteralLemmas.{and-left}
+use Rattle.theory.proofs.LawfulTrails.{least_false-at}
+use Rattle.theory.proofs.OverVariables.{AreOver-from_IsOver}
+use Rattle.theory.proofs.Walks.{walk-all, grounded-place}
+use Rattle.heuristics.specs.Rankings.{AreDistinct}
+use Rattle.cdcl.specs.Numbers.{is_one_of, AreWith, StandOnce}
+use Rattle.cdcl.proofs.NumberSets.{count-cons, one-counted}
+use Rattle.cdcl.proofs.TrailValues.{entry_of-there}
+
+or-turned : (a b : Bool) → (a || b) ≡ (b || a)
+or-turned true true = refl
+or-turned true false = refl
+or-turned false true = refl
+or-turned false false = refl
+
+-- a variable that is in already, one of level 0, and another one
+pub seen-there : (before : List ℕ) (x : ℕ) (above : ℕ → Bool) → is_one_of before x ≡ true → (v : ℕ) → is_one_of before v ≡ (is_one_of before v || (above v && nat_eq v x))
+seen-there before x above there v = go (nat_eq v x) refl
+  where
+    last : (a b : Bool) → a ≡ true → a ≡ (a || b)
+    last true b h = refl
+    last false b h = absurd (cc)
+
+    none : (a b : Bool) → a ≡ (a || (b && false))
+    none true b = refl
+    none false true = refl
+    none false false = refl
+
+    go : (t : Bool) → nat_eq v x ≡ t → is_one_of before v ≡ (is_one_of before v || (above v && t))
+    go true q = last (is_one_of before v) (above v && true) (ap (is_one_of before) (eqb-true v x q) ∙ there)
+    go false q = none (is_one_of before v) (above v)
+
+pub seen-below : (before : List ℕ) (x : ℕ) (above : ℕ → Bool) → above x ≡ false → (v : ℕ) → is_one_of before v ≡ (is_one_of before v || (above v && nat_eq v x))
+seen-below before x above low v = go (nat_eq v x) refl
+  where
+    none : (a b : Bool) → b ≡ false → a ≡ (a || b)
+    none true b h = refl
+    none false true h = absurd (cc)
+    none false false h = refl
+
+    no_and : (b : Bool) → (b && false) ≡ false
+    no_and true = refl
+    no_and false = refl
+
+    go : (t : Bool) → nat_eq v x ≡ t → is_one_of before v ≡ (is_one_of before v || (above v && t))
+    go true q = none (is_one_of before v) (above v && true) (ap (λ b. b && true) (ap above (eqb-true v x q) ∙ low))
+    go false q = none (is_one_of before v) (above v && false) (no_and (above v))
+
+pub seen-new : (before after : List ℕ) (x : ℕ) (above : ℕ → Bool) → above x ≡ true → AreWith x before after → (v : ℕ) → is_one_of after v ≡ (is_one_of before v || (above v && nat_eq v x))
+seen-new before after x above high put v = put v ∙ (or-turned (nat_eq v x) (is_one_of before v) ∙ go (nat_eq v x) refl)
+  where
+    no_and : (b : Bool) → false ≡ (b && false)
+    no_and true = refl
+    no_and false = refl
+
+    go : (t : Bool) → nat_eq v x ≡ t → (is_one_of before v || t) ≡ (is_one_of before v || (above v && t))
+    go true q = ap (λ b. is_one_of before v || b) (sym (ap (λ b. b && true) (ap above (eqb-true v x q) ∙ high)))
+    go false q = ap (λ b. is_one_of before v || b) (no_and (above v))
+
+-- one literal more of a clause, and one clause more
+pub seen-more : (a b c d : Bool) → ((a || (d && b)) || (d && c)) ≡ (a || (d && (b || c)))
+seen-more true b c d = refl
+seen-more false b c true = refl
+seen-more false b c false = refl
+
+pub seen-nothing : (a d : Bool) → a ≡ (a || (d && false))
+seen-nothing true d = refl
+seen-nothing false true = refl
+seen-nothing false false = refl
+
+pub clauses-more : (b c d : Bool) → ((d && b) || (d && c)) ≡ (d && (b || c))
+clauses-more b c true = refl
+clauses-more b c false = refl
+
+pub clauses-none : (d : Bool) → false ≡ (d && false)
+clauses-none true = refl
+clauses-none false = refl
+
+-- each is a variable
+pub seen-variable : (V : ℕ) (K : List Clause) (T : Trail) (numbers : List ℕ) (v : ℕ) → IsOver V (literals T) → is_seen K T numbers v ≡ true → IsVariable V v
+seen-variable V K T numbers v over h = go (entry_of T v) refl (and-left (nat_lt 0 (level_at (entry_of T v))) (list_any (λ n. has_var (clause_at K n) v) numbers) h)
+  where
+    go : (o : Option Entry) → entry_of T v ≡ o → nat_lt 0 (level_at o) ≡ true → IsVariable V v
+    go None e q = absurd (cc)
+    go (Some d) e q = let there = entry_of-there T v d e in subst (IsVariable V) there.0 (AreOver-from_IsOver V (literals T) over d.lit there.1)
+
+-- what stands in a list of numbers is one of them
+pub one-at : (xs : List ℕ) (i : ℕ) → i < length xs → is_one_of xs (slice_index xs i) ≡ true
+one-at [] i h = absurd (omega arith)
+one-at (x ∷ xs) zero h = ap (λ b. b || is_one_of xs x) (eq-eqb x x refl)
+one-at (x ∷ xs) (suc i) h = rw (one-at xs i (omega arith)) (or_true (nat_eq (slice_index xs i) x))
+  where
+    or_true : (b : Bool) → (b || true) ≡ true
+    or_true true = refl
+    or_true false = refl
+
+pub All-one_of : (P : ℕ → Type 0) (xs : List ℕ) → ((n : ℕ) → is_one_of xs n ≡ true → P n) → All P xs
+All-one_of P [] t = All-nil P
+All-one_of P (y ∷ ys) t = All-cons P y ys (t y (ap (λ b. b || is_one_of ys y) (eq-eqb y y refl))) (All-one_of P ys (λ n k. t n (later n k)))
+  where
+    later : (n : ℕ) → is_one_of ys n ≡ true → (nat_eq n y || is_one_of ys n) ≡ true
+    later n k = rw k (or_true (nat_eq n y))
+      where
+        or_true : (b : Bool) → (b || true) ≡ true
+        or_true true = refl
+        or_true false = refl
+
+-- a number that stands at two places is counted twice
+counted-twice : (xs : List ℕ) (i j n : ℕ) → i < j → j < length xs → slice_index xs i ≡ n → slice_index xs j ≡ n → 2 ≤ count_by (nat_eq n) xs
+counted-twice [] i j n less inside one two = absurd (omega arith)
+counted-twice (x ∷ xs) i zero n less inside one two = absurd (omega arith)
+counted-twice (x ∷ xs) zero (suc j) n less inside one two =
+    let sum = count-cons (nat_eq n) x xs in
+    let here : ◌≡◌ {A = ℕ} (cond (nat_eq n x) 1 0) 1 = ap (λ b. cond b 1 0) (eq-eqb n x (sym one)) in
+    let rest = one-counted n xs (subst (λ k. is_one_of xs k ≡ true) two (one-at xs j (omega arith))) in
+    omega (arith, sum, here, rest)
+counted-twice (x ∷ xs) (suc i) (suc j) n less inside one two = let sum = count-cons (nat_eq n) x xs in let rest = counted-twice xs i j n (omega arith) (omega arith) one two in omega (arith, sum, rest)
+
+pub AreDistinct-once : (xs : List ℕ) → StandOnce xs → AreDistinct xs
+AreDistinct-once xs once i j less inside same =
+    let twice = counted-twice xs i j (slice_index xs j) less inside same refl in
+    let most = once (slice_index xs j) in
+    omega (arith, twice, most)
+
+-- the same variables gain
+pub scores_after-same : (c : Constants) (V : ℕ) (f g : ℕ → Bool) (s : Scores) → ((v : ℕ) → f v ≡ g v) → scores_after c V f s ≡ scores_after c V g s
+scores_after-same c V f g s h = ap (λ (seen : ℕ → Bool). scores_after c V seen s) (λ i v. h v i)
+
+-- the hints are numbers of clauses
+AreNumbered : List Clause → List ℕ → Type 0
+AreNumbered K hints = All (λ k. (1 ≤ k) × (k ≤ length K)) hints
+
+pub hints-numbered : (K : List Clause) (T : Trail) (n : ℕ) → IsLawful K T → least_false (literals T) K ≡ Some n → All (λ k. (1 ≤ k) × (k ≤ length K)) (learn K T n).hints
+unfolding AreNumbered
+hints-numbered K T n lawful clash =
+    walk-all K T (λ before w. AreNumbered K w.1) (λ before e es w place none h. h)
+    (λ before e es w m place used h. All-cons (λ k. (1 ≤ k) × (k ≤ length K)) m w.1 (grounded-place K T before e es w.0 m lawful place used).1.numbered h)
+    (with_literals (clause_at K n) []) (n ∷ [])
+    (let at = least_false-at (literals T) K n clash in All-cons (λ k. (1 ≤ k) × (k ≤ length K)) n [] (at.0, at.1) (All-nil (λ k. (1 ≤ k) × (k ≤ length K))))

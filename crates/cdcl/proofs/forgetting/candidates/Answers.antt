@@ -1,0 +1,59 @@
+use Rattle.std.proofs.Common.{◌≡◌, ◌∙◌, ◌+◌, ◌-◌, ◌<◌, ◌++◌, not, length, List, slice_index_or, sym, ap, refl, append_assoc, append-nil, drop, arith}
+use Rattle.theory.specs.Literals.{has_both_signs}
+use Rattle.theory.specs.Forgetting as forgetting
+use Rattle.theory.specs.Forgetting.{Candidate, is_reason}
+use Rattle.theory.proofs.LiteralLemmas.{and-left, not_true}
+use Rattle.cdcl.proofs.MarkedSets.{mark-read}
+use Rattle.cdcl.proofs.ForgettingLemmas.{candidates-next, candidates-end, plain-at, length-plain}
+use Rattle.cdcl.proofs.forgetting.candidates.Goals as goal
+use Rattle.cdcl.proofs.forgetting.candidates.Goals.{After-index, then-may_go+in_ok-push, else-may_go}
+
+inside : (c : After-index) → c.args.from - 1 + c.loop-at.at < length c.args.kernel.now.clauses
+inside c = let most = c.requires.learnt.1 in let more = c.loop-at-test.true in omega arith
+
+pub may_go-requires : goal.may_go-requires
+may_go-requires c = (c.args.kernel.now.vars, plain-at c.args.kernel.now.vars c.args.kernel.now.clauses c.args.from c.loop-at.at c.clause-clause.result.now c.requires.learnt.0 (inside c) c.clause-clause.ensures c.requires.plain)
+
+pub overflow_cast-size : goal.overflow_cast-size
+overflow_cast-size c =
+    let most = c.requires.learnt.1 in
+    let more = c.loop-at-test.true in
+    let low : c.args.from - 1 + c.loop-at.at < length c.args.kernel.now.clauses = omega arith in
+    let plain = plain-at c.args.kernel.now.vars c.args.kernel.now.clauses c.args.from c.loop-at.at c.clause-clause.result.now c.requires.learnt.0 low c.clause-clause.ensures c.requires.plain in
+    let one = not_true (has_both_signs c.clause-clause.result.now) (and-left (not (has_both_signs c.clause-clause.result.now)) _ (sym c.may_go.ensures ∙ c.if-may_go.true)) in
+    let short = length-plain c.args.kernel.now.vars c.clause-clause.result.now plain one in
+    let few = c.requires.few.1 in
+    omega arith
+
+pub loop-at-preserved : goal.loop-at-preserved
+loop-at-preserved c d kept =
+    let K = c.args.kernel.now.clauses in
+    let T = c.args.kernel.now.trail in
+    let clause = c.clause-clause.result.now in
+    let from = c.args.from in
+    let at = c.loop-at.at in
+    let g = slice_index_or c.args.glues.now at 0 in
+    let most = c.requires.learnt.1 in
+    let more = c.loop-at-test.true in
+    let low : from - 1 + at < length K = omega arith in
+    let here : at < length c.args.glues.now = omega arith in
+    let next = candidates-next d T K c.args.glues.now from at g clause c.requires.learnt.0 low here c.clause-clause.ensures refl in
+    let before = c.loop-at.invariant d kept in
+    let many : at < length c.in_ok-reasons.reasons.items = rw c.in_ok-reasons.ensures.long here in
+    let reason : is_reason T (from + at) ≡ c.index.result.now =
+    sym (c.in_ok-reasons.ensures.reasons at here) ∙ mark-read c.in_ok-reasons.reasons.items at at c.index.result.now refl many c.index.ensures in
+    let goes : forgetting.may_go d T (from + at) clause g ≡ c.may_go.result = rw (kept, reason) (sym c.may_go.ensures) in
+    elim c.if-may_go.branch [
+      | then-may_go+in_ok-push w ↦
+          let all = rw (goes ∙ w.if-may_go.true) at next in
+          rw (w.candidates-is, w.in_ok-push.ensures.items) (append_assoc c.loop-at.candidates.items _ _ ∙ (ap (λ (rest : List Candidate). c.loop-at.candidates.items ++ rest) (sym all) ∙ before))
+      | else-may_go w ↦
+          let all = rw (goes ∙ w.if-may_go.false) at next in
+          rw w.candidates-is (ap (λ (rest : List Candidate). c.loop-at.candidates.items ++ rest) (sym all) ∙ before)
+    ]
+
+pub returns : goal.returns
+returns c d kept =
+    let before = c.loop-at.invariant d kept in
+    let end = candidates-end d c.args.kernel.now.trail (c.args.from + c.loop-at.at) c.loop-at.at (drop (c.args.from - 1 + c.loop-at.at) c.args.kernel.now.clauses) c.args.glues.now c.loop-at-test.false in
+    sym (append-nil c.loop-at.candidates.items) ∙ (ap (λ (rest : List Candidate). c.loop-at.candidates.items ++ rest) (sym end) ∙ before)

@@ -1,0 +1,61 @@
+//! The search of a plan.
+ghost use Rattle.std.specs.Prelude.{◌≡◌, ◌≤◌, IfOk, OnOk};
+ghost use Rattle.theory.specs.Truth.{Formula, IsOver};
+ghost use Rattle.theory.specs.Plans as plans;
+ghost use Rattle.theory.specs.Search.{budget_of, max_budget};
+ghost use Rattle.theory.specs.Runs.{Runs};
+ghost use Rattle.theory.specs.Results.{OutcomeSays};
+ghost use Rattle.cdcl.specs.Outcome.{outcome_of};
+ghost use Rattle.cdcl.specs.Solving.{IsReadyBy};
+
+use crate::focused::FocusedSearch;
+use crate::ordered::OrderedSearch;
+use crate::outcome::Outcome;
+use crate::plan::{Plan, Search};
+use cnf::Formula;
+use kernel::Cube;
+use std::alloc::{AllocError, Global};
+
+/// One of the searches, with all that it keeps from cube to cube.
+#[derive(Drop)]
+pub(crate) enum Searcher {
+    Ordered(OrderedSearch),
+    Focused(FocusedSearch),
+}
+
+impl Searcher {
+    /// The plan's search of a formula, before its first cube.
+    pub(crate) fn open(alloc: Global, formula: &Formula, plan: Plan) -> Result<Searcher, AllocError>
+        ensures { IfOk result (IsReadyBy plan.search formula.now) }
+    {
+        match plan.search() {
+            Search::Ordered => Ok(Searcher::Ordered(OrderedSearch::open(alloc, formula)?)),
+            Search::Focused => {
+                let search = FocusedSearch::open(alloc, formula, plan.constants())?;
+                Ok(Searcher::Focused(search))
+            }
+        }
+    }
+
+    /// The outcome of a cube, with this budget of conflicts.
+    pub(crate) fn solve(&mut self, cube: &Cube, budget: u32) -> Result<Outcome, AllocError>
+        requires ready { (F : Formula) × (search : plans.Search) × IsReadyBy search F self.old × IsOver F.vars cube.now }
+        requires budget { (1 ≤ budget) × (budget ≤ max_budget) }
+        ensures runs { IfOk result (λ o. (F : Formula) (plan : plans.Plan) → IsReadyBy plan.search F self.old → budget ≡ budget_of plan.budget cube.now →
+            Runs F plan cube.now (outcome_of o)) }
+        ensures says { IfOk result (λ o. (F : Formula) (plan : plans.Plan) → IsReadyBy plan.search F self.old → budget ≡ budget_of plan.budget cube.now →
+            IsOver F.vars cube.now → OutcomeSays plan.search F cube.now (outcome_of o)) }
+        ensures ready { OnOk result ((F : Formula) (search : plans.Search) → IsReadyBy search F self.old → IsReadyBy search F self.new) }
+    {
+        match self {
+            Searcher::Ordered(search) => {
+                search.begin(cube)?;
+                search.run(budget)
+            }
+            Searcher::Focused(search) => {
+                search.begin(cube)?;
+                search.run(budget)
+            }
+        }
+    }
+}
