@@ -38,7 +38,7 @@ def lookahead(circuit, a, b, is_broken):
     if is_broken:
         propagate[1] = generate[1]
     carries = [generate[0]]
-    for at in range(1, BITS):
+    for at in range(1, len(a)):
         carries.append(circuit.gate("or", generate[at], circuit.gate("and", propagate[at], carries[-1])))
     halves = [circuit.gate("xor", x, y) for x, y in zip(a, b)]
     return [halves[0], *(circuit.gate("xor", half, carry) for half, carry in zip(halves[1:], carries)), carries[-1]]
