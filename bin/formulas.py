@@ -1,5 +1,5 @@
-"""Formulas of many kinds, made from fixed seeds: what `bin/benchmark` measures. Some are those of `examples/`, larger. A formula is a number of variables
-and a list of clauses."""
+"""Formulas of many kinds, made from fixed seeds: what `bin/benchmark` measures. A formula is a number
+of variables and a list of clauses."""
 import itertools
 import os
 import random
@@ -66,7 +66,8 @@ def factors(number, bits):
 
 
 def sliding(steps, seed):
-    """Eight tiles in a square of nine cells, each numbered for where it belongs: so many steps of the empty cell, 0, order them."""
+    """Eight tiles in a square of nine cells, each numbered for where it belongs: so many steps of the
+    empty cell, 0, order them."""
     dice, formula, nine = random.Random(seed), Formula(), range(9)
     near = {cell: [it for it in nine if abs(cell // 3 - it // 3) + abs(cell % 3 - it % 3) == 1] for cell in nine}
     begin = [0, *dice.sample(range(1, 9), 8)]
@@ -90,7 +91,7 @@ def sliding(steps, seed):
 
 
 def counter(bits, steps, target):
-    """A counter begins at 1, and each step adds 1 or doubles it: whether it is at the target after so many steps."""
+    """A counter begins at 1, and each step adds 1 or doubles it, until it is at the target."""
     circuit = circuits.Circuit()
     false = circuit.var("false")
     circuit.add(-false)
@@ -111,13 +112,14 @@ def counter(bits, steps, target):
 
 
 def shop(jobs, machines, end, seed):
-    """Each job goes over all machines in an order of its own, 1 to 9 hours at each; a machine has one job at a time, and all is done at the end."""
+    """Each job goes over all machines in an order of its own, 1 to 9 hours at each; a machine has one
+    job at a time, and all is done at the end."""
     dice, formula = random.Random(seed), Formula()
     orders = [dice.sample(range(machines), machines) for _ in range(jobs)]
     hours = {(job, machine): dice.randint(1, 9) for job in range(jobs) for machine in range(machines)}
 
     def begun(task, time):
-        """The literal that says that a task has begun by this time: known before 0, and when it has to have begun."""
+        """The literal that says that a task has begun by this time; known before 0, and at its last time."""
         if time < 0:
             return False
         return True if time > end - hours[task] else formula.var(task, time)

@@ -1,5 +1,6 @@
-"""The two searches, the tree and the text of its proof, in the plainest form: without watches, a heap or marks. `bin/fuzz` compares what the program
-writes with it, byte for byte; docs/DEFINITIONS.md has the rules in words. Literals are whole numbers, as in DIMACS."""
+"""The two searches, the tree and the text of its proof, in the plainest form: without watches, a heap
+or marks. `bin/fuzz` compares what the program writes with it, byte for byte; docs/DEFINITIONS.md has
+the rules in words. Literals are whole numbers, as in DIMACS."""
 import collections
 
 MAX_BUDGET = 1_000_000
@@ -19,8 +20,9 @@ class Entry:
 
 
 class Clauses:
-    """Clauses, numbered from 1, and which literals are false. Of each clause is counted how many of its literals aren't false; where at most one isn't,
-    `last` has it, or None: false and unit clauses are among these."""
+    """Clauses, numbered from 1, and which literals are false. Of each clause is counted how many of its
+    literals aren't false; where at most one isn't, `last` has it, or None: false and unit clauses are
+    among these."""
 
     def __init__(self):
         self.literals, self.open = [set()], [0]
@@ -73,7 +75,8 @@ class Clauses:
 
 
 class Search:
-    """The search in one cube. `outcome` is ('model', literals), ('refuted', lines) or ('exhausted', variable); a line is a clause and its hints."""
+    """The search in one cube. `outcome` is ('model', literals), ('refuted', lines) or ('exhausted',
+    variable); a line is a clause and its hints."""
 
     def __init__(self, variables, clauses, cube, budget):
         self.variables, self.first = variables, len(clauses)
@@ -138,7 +141,8 @@ class Search:
             self.learnt(clause, hints)
 
     def learn(self, conflict):
-        """Resolution from the conflict back to the first unique implication point: the clause by rising variable, without the cube's literals."""
+        """Resolution from the conflict back to the first unique implication point: the clause by rising
+        variable, without the cube's literals, and the hints."""
         current = self.level()
         left, reasons = {*self.clauses.literals[conflict]}, []
         for entry in reversed(self.trail):
@@ -253,8 +257,8 @@ class Satisfied(Exception):
 
 
 class Tree:
-    """The tree of cubes and its proof, up to the first cube from the left that has a model. `model` is the values of the variables, or None; `proof` is
-    empty where there is a model."""
+    """The tree of cubes and its proof, up to the first cube from the left that has a model. `model` is
+    the values of the variables, or None; `proof` is empty where there is a model."""
 
     def __init__(self, variables, clauses, budget, search):
         positive = {it for clause in clauses for it in clause if it > 0}
