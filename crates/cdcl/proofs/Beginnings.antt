@@ -17,9 +17,6 @@ use Rattle.theory.proofs.PureVariables.{IsFormula-searched}
 use Rattle.theory.proofs.TrailLists.{literals-cube}
 use Rattle.kernel.specs.State.{State}
 use Rattle.kernel.specs.declared.order.Order.TheVariants.{ByNumber}
-use Rattle.cdcl.specs.Plans as code_plans
-use Rattle.cdcl.specs.declared.plan.Search.{Search}
-use Rattle.cdcl.specs.declared.plan.Search.TheVariants.{Ordered}
 use Rattle.cdcl.specs.Searching.{IsReady, Begins, GoesOn, search_of}
 use Rattle.cdcl.specs.declared.ordered.OrderedSearch.{OrderedSearch}
 use Rattle.theory.proofs.CubeLiterals.{IsCube-from}
@@ -94,10 +91,6 @@ IsReady-GoesOn F k l ready goes = record {
   first = goes.1 ∙ ready.first;
   clauses = ap (λ n. take n l.clauses) goes.1 ∙ (goes.2 ∙ ready.clauses);
 }
-
--- the ordered search is the only one that the code makes so far
-pub is_ordered : (search : Search) → code_plans.search_of search ≡ ordered
-is_ordered Ordered = refl
 
 -- what a search that was begun runs to, is the cube's outcome
 pub Begins-runs : (F : Formula) (plan : Plan) (Q : List Literal) (s : OrderedSearch) (o : Outcome) → plan.search ≡ ordered → Begins F Q s

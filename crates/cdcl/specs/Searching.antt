@@ -6,6 +6,7 @@ use Rattle.theory.specs.Reading.{max_vars}
 use Rattle.theory.specs.Trails.{literals}
 use Rattle.theory.specs.Lawful.{IsLawful}
 use Rattle.theory.specs.Learnable.{IsOpenBelow}
+use Rattle.theory.specs.Plans.{Plan}
 use Rattle.theory.specs.Search.{Next, ends, goes_on, first_clauses}
 use Rattle.theory.specs.Ordered.{OrderedState, IsOrderedStep, begin}
 use Rattle.kernel.specs.State.{State}
@@ -17,10 +18,15 @@ use Rattle.cdcl.specs.Outcome.{outcome_of}
 abbrev pub search_of : OrderedSearch → OrderedState
 search_of s = record { clauses = s.kernel.clauses; trail = s.kernel.trail; conflicts = s.conflicts; decided = s.decided; lines = s.lines.items }
 
--- what a solver is seen as: which formula it solves cubes of, and whether it has met want of memory
+-- what a solver is seen as: which formula it solves cubes of, by which plan, and whether it has met want of memory
 pub record Solving : Type 0 where
   pub formula : Formula
+  pub plan : Plan
   pub short : Bool
+
+-- the solver is one of this formula and this plan
+abbrev pub IsSolverOf : Formula → Plan → Solving → Type 0
+IsSolverOf F plan s = (s.formula ≡ F) × (s.plan ≡ plan)
 
 -- the kernel may go over to a cube of the formula
 pub record IsReady (F : Formula) (k : State) : Type 0 where

@@ -1,8 +1,10 @@
 //! How a formula is searched.
 ghost use Rattle.std.specs.Prelude.{◌≡◌, ◌≤◌};
-ghost use Rattle.theory.specs.Plans.{ordered_within};
-ghost use Rattle.cdcl.specs.Plans.{search_of};
+ghost use Rattle.theory.specs.Plans.{ordered_within, focused, default_constants};
+ghost use Rattle.heuristics.specs.Ranges.{AreInRange};
+ghost use Rattle.cdcl.specs.Plans.{search_of, constants_from};
 
+use heuristics::Constants;
 use std::marker::Model;
 
 /// Which search is made in a cube.
@@ -10,6 +12,9 @@ use std::marker::Model;
 pub enum Search {
     /// It decides the least free variable to be false, and forgets nothing: the model that it finds is the first one.
     Ordered,
+    /// It decides the variables that gained most in conflicts, restarts and forgets, so that hard formulas are solved: the model
+    /// that it finds is one of several.
+    Focused,
 }
 
 /// A search, and the budget of the root: 1 to 100,000 conflicts. Formula and plan fix the answer and the proof, byte for byte.
@@ -17,20 +22,24 @@ pub enum Search {
 pub struct Plan {
     search: Search,
     budget: u32,
+    // the numbers of the focused search; the usual ones where the search is ordered
+    constants: Constants,
 }
 
 impl Model for Plan {
-    ghost use Rattle.std.specs.Prelude.{◌≤◌};
+    ghost use Rattle.std.specs.Prelude.{◌≡◌, ◌≤◌};
     ghost use Rattle.theory.specs.Plans as plans;
-    ghost use Rattle.cdcl.specs.Plans.{search_of, search_from};
+    ghost use Rattle.heuristics.specs.Ranges.{AreInRange};
+    ghost use Rattle.cdcl.specs.Plans.{search_of, search_from, constants_from};
 
     ghost Value = { plans.Plan };
 
-    ghost view = { λ p. record { search = search_of p.search; budget = p.budget } };
+    ghost view = { λ p. record { search = search_of p.search p.constants; budget = p.budget } };
 
-    ghost invariant = { λ p. (1 ≤ p.budget) × (p.budget ≤ 100000) };
+    ghost invariant = { λ p. (1 ≤ p.budget) × (p.budget ≤ 100000) × AreInRange p.constants
+        × (constants_from (search_of p.search p.constants) ≡ p.constants) };
 
-    ghost inverse = { λ p. record { search = search_from p.search; budget = p.budget } };
+    ghost inverse = { λ p. record { search = search_from p.search; budget = p.budget; constants = constants_from p.search } };
 }
 
 impl Plan {
@@ -39,17 +48,49 @@ impl Plan {
         requires { (1 ≤ budget) × (budget ≤ 100000) }
         ensures { result ≡ ordered_within budget }
     {
+        let constants = Constants::default();
+        constants.are_in_range();
         Plan {
             search: Search::Ordered,
             budget,
+            constants,
+        }
+    }
+
+    /// The focused search with the usual numbers, and a budget of 1 to 100,000 conflicts for the root.
+    pub fn focused(budget: u32) -> Plan
+        requires { (1 ≤ budget) × (budget ≤ 100000) }
+        ensures { result ≡ record { search = focused default_constants; budget = budget } }
+    {
+        Plan::focused_by(budget, Constants::default())
+    }
+
+    /// The focused search with other numbers.
+    pub fn focused_by(budget: u32, constants: Constants) -> Plan
+        requires { (1 ≤ budget) × (budget ≤ 100000) }
+        ensures { result ≡ record { search = focused constants; budget = budget } }
+    {
+        constants.are_in_range();
+        Plan {
+            search: Search::Focused,
+            budget,
+            constants,
         }
     }
 
     /// The search.
     pub fn search(&self) -> Search
-        ensures { search_of result ≡ self.now.search }
+        ensures { search_of result (constants_from self.now.search) ≡ self.now.search }
     {
         self.search
+    }
+
+    /// The numbers of the focused search, or where the search is ordered the usual ones.
+    pub fn constants(&self) -> Constants
+        ensures same { result ≡ constants_from self.now.search }
+        ensures within { AreInRange result }
+    {
+        self.constants
     }
 
     /// The budget of the root, in conflicts.

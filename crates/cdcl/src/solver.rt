@@ -16,7 +16,7 @@ use std::alloc::{AllocError, Global};
 use std::marker::Model;
 use std::snapshot::Snapshot;
 
-/// Solves cubes of one formula. The formula's clauses are copied once, with a unit clause for each of its pure literals, and the room for
+/// Solves cubes of one formula by one plan. The formula's clauses are copied once, with a unit clause for each of its pure literals, and the room for
 /// analysis is made once, so that a cube costs what its search does and not what the formula holds. A cube's budget is the root's times one
 /// more than the cube's literals, and at most 1,000,000. Once a call has met want of memory, each later one answers it.
 #[derive(Drop)]
@@ -24,6 +24,7 @@ pub struct Solver {
     search: OrderedSearch,
     // which formula it is; it is no data, and takes no room
     formula: Snapshot<Formula>,
+    plan: Plan,
     // whether a call has met want of memory
     short: bool,
 }
@@ -34,19 +35,20 @@ impl Model for Solver {
 
     ghost Value = { Solving };
 
-    ghost view = { λ a. record { formula = a.formula.value; short = a.short } };
+    ghost view = { λ a. record { formula = a.formula.value; plan = a.plan; short = a.short } };
 
     ghost invariant = { λ a. a.short ≡ false → IsReady a.formula.value a.search.kernel };
 }
 
 impl Solver {
-    /// A solver of a formula. It takes time and memory by the formula's literals and variables, and fails where that is refused.
-    pub fn open(alloc: Global, formula: &Formula) -> Result<Solver, AllocError>
-        ensures { IfOk result (λ s. s ≡ record { formula = formula.now; short = false }) }
+    /// A solver of a formula by a plan. It takes time and memory by the formula's literals and variables, and fails where that is refused.
+    pub fn open(alloc: Global, formula: &Formula, plan: Plan) -> Result<Solver, AllocError>
+        ensures { IfOk result (λ s. s ≡ record { formula = formula.now; plan = plan; short = false }) }
     {
         Ok(Solver {
             search: OrderedSearch::open(alloc, formula)?,
             formula: Snapshot::of(formula),
+            plan,
             short: false,
         })
     }
@@ -54,11 +56,11 @@ impl Solver {
     /// The outcome of a cube over the formula's variables, by the plan's search: whatever cubes came before, it is the same. It takes time by
     /// what the search does, and by the variables for a model alone. An error comes only where an earlier call has met want of memory, or
     /// where a request for memory is refused, and from then on.
-    pub fn solve(&mut self, cube: &Cube, plan: Plan) -> Result<Outcome, AllocError>
+    pub fn solve(&mut self, cube: &Cube) -> Result<Outcome, AllocError>
         requires over { IsOver self.old.formula.vars cube.now }
-        ensures runs { IfOk result (λ o. Runs self.old.formula plan cube.now (outcome_of o)) }
-        ensures says { IfOk result (λ o. OutcomeSays plan.search self.old.formula cube.now (outcome_of o)) }
-        ensures formula { self.new.formula ≡ self.old.formula }
+        ensures runs { IfOk result (λ o. Runs self.old.formula self.old.plan cube.now (outcome_of o)) }
+        ensures says { IfOk result (λ o. OutcomeSays self.old.plan.search self.old.formula cube.now (outcome_of o)) }
+        ensures solves { (self.new.formula ≡ self.old.formula) × (self.new.plan ≡ self.old.plan) }
         ensures refused { OnErr result (self.new.short ≡ true) }
         ensures has_memory { OnOk result (self.new.short ≡ false) }
         ensures stays { self.old.short ≡ true → IsErr result }
@@ -67,10 +69,13 @@ impl Solver {
             return Err(AllocError);
         }
         self.short = true; // so it stays where one of the next calls fails
-        self.search.begin(cube)?;
-        let conflicts = budget_of(plan.budget(), cube.lits().len());
-        let outcome = match plan.search() {
-            Search::Ordered => self.search.run(conflicts)?,
+        let conflicts = budget_of(self.plan.budget(), cube.lits().len());
+        let outcome = match self.plan.search() {
+            Search::Ordered => {
+                self.search.begin(cube)?;
+                self.search.run(conflicts)?
+            }
+            Search::Focused => return Err(AllocError),
         };
         self.short = false;
         Ok(outcome)
@@ -89,8 +94,8 @@ pub fn solve_cube_by_plan(
     ensures runs { IfOk result (λ o. Runs formula.now plan cube.now (outcome_of o)) }
     ensures says { IfOk result (λ o. OutcomeSays plan.search formula.now cube.now (outcome_of o)) }
 {
-    let mut solver = Solver::open(alloc, formula)?;
-    solver.solve(cube, plan)
+    let mut solver = Solver::open(alloc, formula, plan)?;
+    solver.solve(cube)
 }
 
 /// `solve_cube_by_plan` by the ordered search, where the root has a budget of 1 to 100,000 conflicts, and the cube one by its literals.

@@ -1,5 +1,5 @@
 //! Worked searches of cubes, and the halves of a cube.
-ghost use Rattle.std.specs.Prelude.{◌≡◌};
+ghost use Rattle.std.specs.Prelude.{◌≡◌, ◌≤◌};
 
 use crate::outcomes::{LEVEL_LEFT_OUT, Row, Wanted, WantedLine, all_come, is_wanted, outcome};
 use cdcl::{Outcome, Plan, Solver, split};
@@ -205,11 +205,10 @@ fn cubes_by_themselves(rt: HostRuntime) -> Result<(), Fail> {
     all_come(&rt, rt.alloc(), &ROWS)
 }
 
-/// A cube, with the root's budget, and what it is to come to.
+/// A cube, and what it is to come to.
 #[derive(Clone, Copy)]
 struct Turn<'a> {
     cube: &'a [i32],
-    budget: u32,
     wanted: Wanted<'a>,
 }
 
@@ -223,11 +222,8 @@ fn comes_in_turn(
     requires { solver.old.formula ≡ formula.now }
     ensures { solver.new.formula ≡ formula.now }
 {
-    if turn.budget < 1 || turn.budget > 100_000 {
-        return Ok(false);
-    }
     let cube = cube_of(alloc, formula.vars(), turn.cube)?;
-    let outcome = solver.solve(&cube, Plan::ordered(turn.budget))?;
+    let outcome = solver.solve(&cube)?;
     Ok(is_wanted(&outcome, turn.wanted))
 }
 
@@ -248,77 +244,65 @@ fn first_failed(
     Ok(None)
 }
 
-/// The same of a text.
-fn failed_turn(alloc: Global, text: &[u8], turns: &[Turn]) -> Result<Option<usize>, Fail> {
+/// The same of a text, where the root has a budget of so many conflicts.
+fn failed_turn(
+    alloc: Global,
+    text: &[u8],
+    budget: u32,
+    turns: &[Turn],
+) -> Result<Option<usize>, Fail>
+    requires { (1 ≤ budget) × (budget ≤ 100000) }
+{
     let formula = read_formula(alloc, text)?;
-    let mut solver = Solver::open(alloc, &formula)?;
+    let mut solver = Solver::open(alloc, &formula, Plan::ordered(budget))?;
     first_failed(alloc, &formula, &mut solver, turns)
 }
 
 // the halves of the root come to what they come to by themselves
 const LEFT_HALF: Turn = Turn {
     cube: &[-1],
-    budget: 2,
     wanted: Wanted::Refuted(&LEFT_LINES),
 };
 
 const RIGHT_HALF: Turn = Turn {
     cube: &[1],
-    budget: 2,
     wanted: Wanted::Refuted(&RIGHT_LINES),
 };
 
 const EXHAUSTED_ROOT: Turn = Turn {
     cube: &[],
-    budget: 2,
     wanted: Wanted::Exhausted,
 };
 
 const REFUTED_ROOT: Turn = Turn {
     cube: &[],
-    budget: 4,
     wanted: Wanted::Refuted(&ROOT_LINES),
 };
 
-const REFUTED_ROOT_WITH_MORE: Turn = Turn {
-    cube: &[],
-    budget: 1000,
-    wanted: Wanted::Refuted(&ROOT_LINES),
-};
+static TURNS_OF_TWO: [Turn; 5] = [LEFT_HALF, RIGHT_HALF, EXHAUSTED_ROOT, LEFT_HALF, RIGHT_HALF];
 
-static TURNS: [Turn; 9] = [
-    LEFT_HALF,
-    RIGHT_HALF,
-    EXHAUSTED_ROOT,
-    LEFT_HALF,
-    RIGHT_HALF,
-    REFUTED_ROOT,
-    REFUTED_ROOT_WITH_MORE,
-    LEFT_HALF,
-    RIGHT_HALF,
-];
+static TURNS_OF_MORE: [Turn; 4] = [LEFT_HALF, REFUTED_ROOT, REFUTED_ROOT, RIGHT_HALF];
 
 #[test]
 fn one_solver_for_all_cubes(rt: HostRuntime) -> Result<(), Fail> {
-    assert_eq!(rt; failed_turn(rt.alloc(), EIGHT, &TURNS)?, None);
+    assert_eq!(rt; failed_turn(rt.alloc(), EIGHT, 2, &TURNS_OF_TWO)?, None);
+    assert_eq!(rt; failed_turn(rt.alloc(), EIGHT, 4, &TURNS_OF_MORE)?, None);
+    assert_eq!(rt; failed_turn(rt.alloc(), EIGHT, 1000, &TURNS_OF_MORE)?, None);
     Ok(())
 }
 
 const REFUTED_QUARTER: Turn = Turn {
     cube: &[-1, -2],
-    budget: 1,
     wanted: Wanted::Refuted(&[(&[], &[1, 2])]),
 };
 
 const SATISFIED_HALF: Turn = Turn {
     cube: &[-1],
-    budget: 1,
     wanted: Wanted::Model(&[false, true, false]),
 };
 
 const ROOT_OF_TWO_MODELS: Turn = Turn {
     cube: &[],
-    budget: 1,
     wanted: Wanted::Exhausted,
 };
 
@@ -334,7 +318,7 @@ static TURNS_OF_TWO_MODELS: [Turn; 6] = [
 #[test]
 fn models_in_turn(rt: HostRuntime) -> Result<(), Fail> {
     assert_eq!(rt;
-        failed_turn(rt.alloc(), TWO_MODELS, &TURNS_OF_TWO_MODELS)?,
+        failed_turn(rt.alloc(), TWO_MODELS, 1, &TURNS_OF_TWO_MODELS)?,
         None
     );
     Ok(())

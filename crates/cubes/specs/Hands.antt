@@ -11,6 +11,7 @@ use Rattle.theory.specs.Trees.{false_half, true_half}
 use Rattle.theory.specs.Results as results
 use Rattle.theory.specs.Round.{IsHandOn, IsRound, Adds, HasWorked}
 use Rattle.theory.specs.Work.{IsUnderway}
+use Rattle.cdcl.specs.Searching.{IsSolverOf}
 use Rattle.cubes.specs.Solved.{solved_of}
 use Rattle.cubes.specs.declared.solved.Solved.{Solved}
 use Rattle.cubes.specs.declared.hands.Ending.{Ending}
@@ -21,9 +22,9 @@ use Rattle.cubes.specs.declared.hands.Worker.{Worker}
 abbrev pub Gets : Ledger → Ledger → List Literal → Type 0
 Gets old new Q = (d : ℕ) × (new ≡ joined old (getting d Q))
 
--- the hand's own solver, if there is one yet, is the formula's, and the pool is over the formula's variables
-abbrev pub IsWorker : Formula → Worker → Type 0
-IsWorker F w = IfSome w.solver (λ s. s.formula ≡ F) × (w.hand.vars ≡ F.vars)
+-- the hand's own solver, if there is one yet, is the formula's, by the plan, and the pool is over the formula's variables
+abbrev pub IsWorker : Formula → Plan → Worker → Type 0
+IsWorker F plan w = IfSome w.solver (IsSolverOf F plan) × (w.hand.vars ≡ F.vars)
 
 -- how a cube's outcome goes on
 abbrev pub EndsIn : Formula → List Literal → search.Outcome → Ending → Type 0

@@ -88,10 +88,10 @@ impl Worker {
     /// Solves a cube here, and keeps its result.
     fn settle(&mut self, formula: &Formula, plan: Plan, cube: &Cube) -> Result<Ending, AllocError>
         requires over { IsOver formula.now.vars cube.now }
-        requires worker { IsWorker formula.now self.old }
+        requires worker { IsWorker formula.now plan self.old }
         ensures hand { self.new.hand ≡ self.old.hand }
         ensures settles { IfOk result (λ e. Settles formula.now plan cube.now e self.old.solved.items self.new.solved.items) }
-        ensures worker { OnOk result (IsWorker formula.now self.new) }
+        ensures worker { OnOk result (IsWorker formula.now plan self.new) }
         ensures none { OnErr result (self.new.solved.items ≡ self.old.solved.items) }
     {
         let alloc = *self.solved.allocator();
@@ -108,9 +108,9 @@ impl Worker {
     /// Hands a half of a cube on: it is put, or where that is refused, or where it is too deep for the pool, carried on here.
     fn hand_on(&mut self, formula: &Formula, plan: Plan, half: Cube) -> Result<(), AllocError>
         requires over { IsOver formula.now.vars half }
-        requires worker { IsWorker formula.now self.old }
+        requires worker { IsWorker formula.now plan self.old }
         ensures same { SameHand self.old.hand self.new.hand }
-        ensures worker { OnOk result (IsWorker formula.now self.new) }
+        ensures worker { OnOk result (IsWorker formula.now plan self.new) }
         ensures part { AddsHandOn formula.now plan (is_ok result) half self.old.hand.ledger self.new.hand.ledger self.old.solved.items self.new.solved.items }
     {
         if half.lits().len() > DEEPEST {
@@ -137,9 +137,9 @@ impl Worker {
         requires over { IsOver formula.now.vars cube.now }
         requires variable { IsVariable formula.now.vars var }
         requires free { has_var cube.now var ≡ false }
-        requires worker { IsWorker formula.now self.old }
+        requires worker { IsWorker formula.now plan self.old }
         ensures same { SameHand self.old.hand self.new.hand }
-        ensures worker { OnOk result (IsWorker formula.now self.new) }
+        ensures worker { OnOk result (IsWorker formula.now plan self.new) }
         ensures part { AddsHalves formula.now plan (is_ok result) cube.now var self.old.hand.ledger self.new.hand.ledger self.old.solved.items self.new.solved.items }
     {
         let _vars = formula.vars(); // it ensures that there are fewer than 2^31
@@ -151,9 +151,9 @@ impl Worker {
     /// Carries a half on here: solves the cubes of its tree from left to right, up to the first model.
     fn carry_on(&mut self, formula: &Formula, plan: Plan, half: Cube) -> Result<(), AllocError>
         requires over { IsOver formula.now.vars half }
-        requires worker { IsWorker formula.now self.old }
+        requires worker { IsWorker formula.now plan self.old }
         ensures same { SameHand self.old.hand self.new.hand }
-        ensures worker { OnOk result (IsWorker formula.now self.new) }
+        ensures worker { OnOk result (IsWorker formula.now plan self.new) }
         ensures part { AddsCarried formula.now plan (is_ok result) half self.old.hand.ledger self.new.hand.ledger self.old.solved.items self.new.solved.items }
     {
         let _vars = formula.vars(); // it ensures that there are fewer than 2^31
@@ -184,9 +184,9 @@ impl Worker {
         cube: Cube,
     ) -> Result<(), AllocError>
         requires over { IsOver formula.now.vars cube }
-        requires worker { IsWorker formula.now self.old }
+        requires worker { IsWorker formula.now plan self.old }
         ensures same { SameHand self.old.hand self.new.hand }
-        ensures worker { OnOk result (IsWorker formula.now self.new) }
+        ensures worker { OnOk result (IsWorker formula.now plan self.new) }
         ensures part { AddsRound formula.now plan (is_ok result) cube self.old.hand.ledger self.new.hand.ledger self.old.solved.items self.new.solved.items }
     {
         let place = place_of(&cube);

@@ -5,6 +5,7 @@ ghost use Rattle.theory.specs.Plans as plans;
 ghost use Rattle.theory.specs.Runs.{Runs};
 ghost use Rattle.theory.specs.Results.{OutcomeSays, IsWhole};
 ghost use Rattle.cdcl.specs.Outcome.{outcome_of};
+ghost use Rattle.cdcl.specs.Searching.{IsSolverOf};
 ghost use Rattle.cubes.specs.Solved.{AreTrueResults, solved_of};
 ghost use Rattle.cubes.specs.Source.{IsSource};
 ghost use Rattle.cubes.specs.Result.{IsResultOf, Says};
@@ -18,7 +19,7 @@ use cnf::Formula;
 use kernel::Cube;
 use std::alloc::{AllocError, Global};
 
-/// The outcome of a cube, by the solver of the formula, which is made where there is none yet.
+/// The outcome of a cube, by the solver of the formula and the plan, which is made where there is none yet.
 pub(crate) fn solve(
     alloc: Global,
     formula: &Formula,
@@ -27,16 +28,16 @@ pub(crate) fn solve(
     solver: &mut Option<Solver>,
 ) -> Result<Outcome, AllocError>
     requires over { IsOver formula.now.vars cube.now }
-    requires solver { IfSome solver.old (λ s. s.formula ≡ formula.now) }
+    requires solver { IfSome solver.old (IsSolverOf formula.now plan) }
     ensures runs { IfOk result (λ o. Runs formula.now plan cube.now (outcome_of o)) }
     ensures says { IfOk result (λ o. OutcomeSays plan.search formula.now cube.now (outcome_of o)) }
-    ensures kept { OnOk result (IfSome solver.new (λ s. s.formula ≡ formula.now)) }
+    ensures kept { OnOk result (IfSome solver.new (IsSolverOf formula.now plan)) }
 {
     let mut ready = match solver.take() {
         Some(solver) => solver,
-        None => Solver::open(alloc, formula)?,
+        None => Solver::open(alloc, formula, plan)?,
     };
-    let outcome = ready.solve(cube, plan)?;
+    let outcome = ready.solve(cube)?;
     *solver = Some(ready);
     Ok(outcome)
 }

@@ -8,7 +8,7 @@ use Rattle.cubes.proofs.hands.Worker.carry_on.Given as goal
 abbrev pub invariant-cubes : goal.invariant-cubes
 invariant-cubes l = record {
   hand : l.self.hand ≡ l.initial.self.hand;
-  worker : IsWorker l.formula l.self;
+  worker : IsWorker l.formula l.plan l.self;
   carrying : IsCarrying l.formula l.plan l.fn.half l.at l.initial.self.solved.items l.self.solved.items;
 }
 
