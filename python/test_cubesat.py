@@ -119,7 +119,7 @@ class Refusals(InFolder):
         self.assertEqual(caught.exception.line, "fault 56")
 
     def test_options_out_of_range_are_a_fault(self):
-        for options in ({"hands": 0}, {"hands": 17}, {"budget": 0}, {"budget": 100_001}):
+        for options in ({"hands": 0}, {"hands": 17}, {"budget": 0}, {"budget": 100_001}, {"search": "x"}):
             with self.subTest(options), self.assertRaises(cubesat.Fault):
                 cubesat.solve(ALTERNATING, **options)
 
