@@ -52,7 +52,7 @@ def main():
     b = [circuit.var("b", bit) for bit in range(BITS)]
     pairs = zip(ripple(circuit, a, b), lookahead(circuit, a, b, is_broken))
     circuit.add(*(circuit.gate("xor", one, other) for one, other in pairs))
-    true = solve(circuit, refuted="the circuits are equal")
+    true = solve(circuit, search="focused", refuted="the circuits are equal")
     if true is None:
         return
     left, right = (sum(2**bit for bit in range(BITS) if (name, bit) in true) for name in "ab")

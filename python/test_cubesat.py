@@ -78,6 +78,12 @@ class Answers(InFolder):
                 self.assertEqual(cubesat.solve(ALTERNATING, budget=budget, hands=hands), [-1, 2, -3])
                 self.assertIsNone(cubesat.solve(PIGEONS, budget=budget, hands=hands))
 
+    def test_focused_search_finds_a_model_or_none(self):
+        self.assertIn(cubesat.solve(ALTERNATING, search="focused"), ([-1, 2, -3], [1, -2, 3]))
+        for budget, hands in ((1, 1), (1, 4), (None, 16)):
+            with self.subTest(f"budget {budget}, hands {hands}"):
+                self.assertIsNone(cubesat.solve(PIGEONS, search="focused", budget=budget, hands=hands))
+
     def test_kept_proof_is_accepted(self):
         formula, proof = os.path.join(self.folder, "f.cnf"), os.path.join(self.folder, "f.lrat")
         with open(formula, "w") as file:
