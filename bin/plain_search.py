@@ -1,100 +1,278 @@
-"""The search, its tree and the text of its proof, in the plainest form: each step looks at all clauses. `bin/fuzz` compares what the program writes
-with it, byte for byte; docs/DEFINITIONS.md has the rules in words. Literals are whole numbers, as in DIMACS."""
+"""The two searches, the tree and the text of its proof, in the plainest form: without watches, a heap
+or marks. `bin/fuzz` compares what the program writes with it, byte for byte; docs/DEFINITIONS.md has
+the rules in words. Literals are whole numbers, as in DIMACS."""
+import collections
 
 MAX_BUDGET = 1_000_000
 
+# the numbers of the focused search
+FIRST_STEP, GROWTH = 65_536, 20
+GREATEST_STEP, DIVISOR = 2**40, 2**24
+WINDOW = 50
+FIRST_INTERVAL, INTERVAL_GAIN, KEPT_GLUE = 2000, 300, 2
+
 
 class Entry:
-    """A literal of the trail, the number of its reason or None, and its level."""
+    """A literal of the trail, the number of its reason or None, its level, and its place from 1 on."""
 
-    def __init__(self, literal, reason, level):
-        self.literal, self.reason, self.level = literal, reason, level
+    def __init__(self, literal, reason, level, place):
+        self.literal, self.reason, self.level, self.place = literal, reason, level, place
+
+
+class Clauses:
+    """Clauses, numbered from 1, and which literals are false. Of each clause is counted how many of its
+    literals aren't false; where at most one isn't, `last` has it, or None: false and unit clauses are
+    among these."""
+
+    def __init__(self):
+        self.literals, self.open = [set()], [0]
+        self.having = collections.defaultdict(list)
+        self.false, self.last = set(), {}
+
+    def add(self, clause):
+        self.literals.append({*clause})
+        number = len(self.open)
+        for it in self.literals[number]:
+            self.having[it].append(number)
+        self.open.append(len(self.literals[number] - self.false))
+        if self.open[number] < 2:
+            self.last[number] = self.open_one(number)
+
+    def open_one(self, number):
+        return next((it for it in self.literals[number] if it not in self.false), None)
+
+    def falsify(self, literal):
+        self.false.add(literal)
+        for number in self.having[literal]:
+            self.open[number] -= 1
+            if self.open[number] < 2:
+                self.last[number] = self.open_one(number)
+
+    def free(self, literal):
+        self.false.remove(literal)
+        for number in self.having[literal]:
+            self.open[number] += 1
+            if self.open[number] == 1:
+                self.last[number] = literal
+            elif self.open[number] == 2:
+                del self.last[number]
+
+    def forget(self, numbers):
+        """A forgotten clause keeps its number, and is never false or unit again."""
+        for literal, having in self.having.items():
+            self.having[literal] = [it for it in having if it not in numbers]
+        for number in numbers:
+            self.literals[number] = {1, -1}
+            self.last.pop(number, None)
+
+    def conflict(self):
+        """The least number of a false clause, or None."""
+        return min((number for number, literal in self.last.items() if literal is None), default=None)
+
+    def units(self):
+        """The number of each unit clause, with its literal that isn't false; where no clause is false."""
+        return [(number, literal) for number, literal in self.last.items() if -literal not in self.false]
 
 
 class Search:
-    """The search in one cube. `outcome` is ('model',), ('refuted', lines) or ('exhausted', variable); a line is a clause and its hints."""
+    """The search in one cube. `outcome` is ('model', literals), ('refuted', lines) or ('exhausted',
+    variable); a line is a clause and its hints."""
 
     def __init__(self, variables, clauses, cube, budget):
-        self.variables, self.clauses = variables, list(clauses)
-        self.trail = [Entry(it, None, 0) for it in cube]
-        self.decided, self.lines = None, []
+        self.variables, self.first = variables, len(clauses)
+        self.clauses = Clauses()
+        for it in clauses:
+            self.clauses.add(it)
+        self.trail, self.entry = [], {}
+        for it in cube:
+            self.push(it, None, 0)
+        self.lines = []
         self.outcome = None
+        self.begin()
         while self.outcome is None:
             self.step(budget)
+
+    def push(self, literal, reason, level):
+        self.trail.append(Entry(literal, reason, level, len(self.trail) + 1))
+        self.entry[abs(literal)] = self.trail[-1]
+        self.clauses.falsify(-literal)
+
+    def back_to(self, level):
+        while self.level() > level:
+            literal = self.trail.pop().literal
+            del self.entry[abs(literal)]
+            self.clauses.free(-literal)
 
     def level(self):
         return self.trail[-1].level if self.trail else 0
 
     def level_of(self, literal):
-        return next((it.level for it in self.trail if abs(it.literal) == abs(literal)), 0)
+        return self.entry[abs(literal)].level
+
+    def free_variables(self):
+        return (it for it in range(1, self.variables + 1) if it not in self.entry)
 
     def propagate(self):
         """The number of the first false clause, or None where no clause is false or unit."""
         while True:
-            held = {it.literal for it in self.trail}
-            for number, clause in enumerate(self.clauses, 1):
-                if all(-it in held for it in clause):
-                    return number
-            unit = next((found for found in map(lambda at: self.unit_in(held, at), range(len(self.clauses))) if found), None)
-            if unit is None:
-                return None
-            self.trail.append(Entry(*unit, self.level()))
-
-    def unit_in(self, held, at):
-        free = {it for it in self.clauses[at] if -it not in held}
-        if len(free) == 1 and not free & held:
-            return free.pop(), at + 1
-        return None
+            conflict = self.clauses.conflict()
+            units = [] if conflict else self.clauses.units()
+            if not units:
+                return conflict
+            number, literal = min(units, key=self.turn)
+            self.push(literal, number, self.level())
 
     def step(self, budget):
         conflict = self.propagate()
         if conflict is None:
-            taken = {abs(it.literal) for it in self.trail}
-            free = next((it for it in range(1, self.variables + 1) if it not in taken), None)
-            if free is None:
-                self.outcome = ("model",)
-                return
-            self.decided = self.decided or free
-            self.trail.append(Entry(-free, None, self.level() + 1))
+            literal = self.decision()
+            if literal is None:
+                self.outcome = ("model", [it.literal for it in self.trail])
+            else:
+                self.push(literal, None, self.level() + 1)
             return
         clause, hints = self.learn(conflict)
         if self.level() == 0:
             self.outcome = ("refuted", [*self.lines, (clause, hints)])
         elif len(self.lines) + 1 == budget:
-            self.outcome = ("exhausted", self.decided)
+            self.outcome = ("exhausted", self.splits_on())
         else:
-            levels = [self.level_of(it) for it in clause]
-            back = max([it for it in levels if it != self.level()], default=0)
             self.lines.append((clause, hints))
-            self.clauses.append(clause)
-            self.trail = [it for it in self.trail if it.level <= back]
+            self.learnt(clause, hints)
 
     def learn(self, conflict):
-        """Resolution from the conflict back to the first unique implication point: the clause by rising variable, without the cube's literals."""
+        """Resolution from the conflict back to the first unique implication point: the clause by rising
+        variable, without the cube's literals, and the hints."""
         current = self.level()
-        left, hints = set(self.clauses[conflict - 1]), [conflict]
+        left, reasons = {*self.clauses.literals[conflict]}, []
         for entry in reversed(self.trail):
             if -entry.literal not in left or entry.reason is None:
                 continue
             of_level = sum(self.level_of(it) == current for it in left)
             if entry.level == 0 or (entry.level == current and of_level >= 2):
-                left = (left - {-entry.literal}) | (set(self.clauses[entry.reason - 1]) - {entry.literal})
-                hints.insert(0, entry.reason)
-        given = {abs(it.literal) for it in self.trail if it.level == 0 and it.reason is None}
-        return sorted((it for it in left if abs(it) not in given), key=abs), hints
+                left = (left - {-entry.literal}) | (self.clauses.literals[entry.reason] - {entry.literal})
+                reasons.append(entry.reason)
+        return sorted((it for it in left if self.level_of(it) > 0), key=abs), [*reversed(reasons), conflict]
+
+    def back_level(self, clause):
+        return max((self.level_of(it) for it in clause if self.level_of(it) != self.level()), default=0)
 
 
-class Proof:
-    """The lines of the proof of an unsatisfiable formula."""
+class Ordered(Search):
+    """It decides the least free variable to be false, and forgets nothing."""
 
-    def __init__(self, variables, clauses, budget):
+    def begin(self):
+        self.decided = None
+
+    def turn(self, unit):
+        return unit[0]
+
+    def decision(self):
+        free = next(self.free_variables(), None)
+        self.decided = self.decided or free
+        return free and -free
+
+    def splits_on(self):
+        return self.decided
+
+    def learnt(self, clause, hints):
+        self.back_to(self.back_level(clause))
+        self.clauses.add(clause)
+
+
+class Focused(Search):
+    """It decides the variables that gained most in conflicts, restarts, and forgets learnt clauses."""
+
+    def begin(self):
+        self.score_step, self.scores = FIRST_STEP, [0] * (self.variables + 1)
+        self.saved = [False] * (self.variables + 1)
+        self.glues, self.recent = [], []
+        self.interval = self.next = FIRST_INTERVAL
+        self.restarts = self.forgettings = 0
+
+    def turn(self, unit):
+        """The place of the last false literal, and the number."""
+        number, literal = unit
+        return max((self.entry[abs(it)].place for it in self.clauses.literals[number] if it != literal), default=0), number
+
+    def best(self, variables):
+        return max(variables, key=lambda it: (self.scores[it], it), default=None)
+
+    def decision(self):
+        best = self.best(self.free_variables())
+        return best if best is None or self.saved[best] else -best
+
+    def splits_on(self):
+        return self.best(it for it in range(1, self.variables + 1) if it not in self.entry or self.level_of(it) > 0)
+
+    def learnt(self, clause, hints):
+        glue, back = len({self.level_of(it) for it in clause}), self.back_level(clause)
+        self.gain({abs(it) for number in hints for it in self.clauses.literals[number]})
+        for entry in self.trail:
+            self.saved[abs(entry.literal)] = entry.literal > 0
+        self.back_to(0 if self.restarts_at(glue) else back)
+        self.forget()
+        self.glues.append(glue)
+        self.clauses.add(clause)
+
+    def gain(self, seen):
+        """The variables that the conflict has seen above level 0 gain a step, and the step grows."""
+        for it in seen:
+            if self.level_of(it) > 0:
+                self.scores[it] += self.score_step
+        self.score_step += self.score_step // GROWTH
+        if self.score_step >= GREATEST_STEP:
+            self.score_step //= DIVISOR
+            self.scores = [it // DIVISOR for it in self.scores]
+
+    def restarts_at(self, glue):
+        """Whether the mean of the recent glues, of which this is the last, is above 5/4 of the mean of all."""
+        self.recent = [*self.recent, glue][-WINDOW:]
+        if len(self.recent) < WINDOW or sum(self.recent) * len(self.lines) * 4 <= (sum(self.glues) + glue) * WINDOW * 5:
+            return False
+        self.recent = []
+        self.restarts += 1
+        return True
+
+    def forget(self):
+        """Forgets the worse half of the learnt clauses that may go, where it is time."""
+        if len(self.lines) < self.next:
+            return
+        self.interval += INTERVAL_GAIN
+        self.next = len(self.lines) + self.interval
+        reasons = {it.reason for it in self.trail}
+        learnt = enumerate(self.glues, self.first + 1)
+        may_go = [(glue, len(self.clauses.literals[it]), -it) for it, glue in learnt
+                  if self.clauses.literals[it] != {1, -1} and glue > KEPT_GLUE and it not in reasons]
+        kept = len(may_go) - len(may_go) // 2
+        self.clauses.forget({-it for _, _, it in sorted(may_go)[kept:]})
+        self.forgettings += 1
+
+
+SEARCHES = {"ordered": Ordered, "focused": Focused}
+
+
+class Satisfied(Exception):
+    """A cube has a model, whose literals these are."""
+
+
+class Tree:
+    """The tree of cubes and its proof, up to the first cube from the left that has a model. `model` is
+    the values of the variables, or None; `proof` is empty where there is a model."""
+
+    def __init__(self, variables, clauses, budget, search):
         positive = {it for clause in clauses for it in clause if it > 0}
         pure = [-it for it in range(1, variables + 1) if it not in positive]
-        self.variables, self.budget = variables, budget
+        self.variables, self.budget, self.search = variables, budget, SEARCHES[search]
         self.clauses = [*clauses, *([it] for it in pure)]
         self.text = [f"{len(clauses) + at} {it} 0 0\n" for at, it in enumerate(pure, 1)]
         self.last = len(self.clauses)
-        self.cube([])
+        self.searched = []
+        try:
+            self.cube([])
+            self.model, self.proof = None, "".join(self.text)
+        except Satisfied as satisfied:
+            self.model, self.proof = tuple(it > 0 for it in sorted(satisfied.args[0], key=abs)), ""
 
     def add(self, literals, hints):
         self.last += 1
@@ -107,19 +285,17 @@ class Proof:
     def cube(self, cube):
         """The lines of a cube's tree; the number of the last addition."""
         denied = [-it for it in cube]
-        kind, *found = Search(self.variables, self.clauses, cube, min(self.budget * (len(cube) + 1), MAX_BUDGET)).outcome
+        self.searched.append(self.search(self.variables, self.clauses, cube, min(self.budget * (len(cube) + 1), MAX_BUDGET)))
+        kind, found = self.searched[-1].outcome
+        if kind == "model":
+            raise Satisfied(found)
         if kind == "exhausted":
-            left, right = self.cube([*cube, -found[0]]), self.cube([*cube, found[0]])
+            left, right = self.cube([*cube, -found]), self.cube([*cube, found])
             self.add(denied, [left, right])
             self.delete(cube, [left, right])
         else:
             first, count = self.last + 1, len(self.clauses)
-            for clause, hints in found[0]:
+            for clause, hints in found:
                 self.add([*clause, *denied], [it if it <= count else first + it - count - 1 for it in hints])
             self.delete(cube, list(range(first, self.last)))
         return self.last
-
-
-def proof_text(variables, clauses, budget):
-    """The text of the proof of an unsatisfiable formula with a budget."""
-    return "".join(Proof(variables, clauses, budget).text)

@@ -38,7 +38,7 @@ def lookahead(circuit, a, b, is_broken):
     if is_broken:
         propagate[1] = generate[1]
     carries = [generate[0]]
-    for at in range(1, BITS):
+    for at in range(1, len(a)):
         carries.append(circuit.gate("or", generate[at], circuit.gate("and", propagate[at], carries[-1])))
     halves = [circuit.gate("xor", x, y) for x, y in zip(a, b)]
     return [halves[0], *(circuit.gate("xor", half, carry) for half, carry in zip(halves[1:], carries)), carries[-1]]
@@ -52,7 +52,7 @@ def main():
     b = [circuit.var("b", bit) for bit in range(BITS)]
     pairs = zip(ripple(circuit, a, b), lookahead(circuit, a, b, is_broken))
     circuit.add(*(circuit.gate("xor", one, other) for one, other in pairs))
-    true = solve(circuit, refuted="the circuits are equal")
+    true = solve(circuit, search="focused", refuted="the circuits are equal")
     if true is None:
         return
     left, right = (sum(2**bit for bit in range(BITS) if (name, bit) in true) for name in "ab")

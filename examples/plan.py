@@ -57,7 +57,7 @@ def shown(true, time):
 def main():
     arguments(__doc__).parse_args()
     steps = 1
-    while (true := solve(formula_of(steps), refuted=f"no plan of {steps} {'step' if steps == 1 else 'steps'}")) is None:
+    while (true := solve(formula_of(steps), search="focused", refuted=f"no plan of {steps} {'step' if steps == 1 else 'steps'}")) is None:
         steps += 1
     print(f"{steps} steps")
     for begin in range(0, steps + 1, 6):

@@ -48,10 +48,11 @@ def program():
     return found
 
 
-def solve(formula, *, refuted=None):
-    """The names that are true in the first model, or None where there is none. What that means, where it is given, is printed: the proof was checked."""
+def solve(formula, *, search="ordered", refuted=None):
+    """The names that are true in the model that the search finds, or None where there is none. What
+    that means, where it is given, is printed: the proof was checked."""
     try:
-        model = cubesat.solve(formula.clauses, variables=len(formula.numbers), program=program())
+        model = cubesat.solve(formula.clauses, variables=len(formula.numbers), search=search, program=program())
     except cubesat.Error as error:
         sys.exit(str(error))
     if model is None:

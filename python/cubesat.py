@@ -53,19 +53,24 @@ def solve(
     clauses: Iterable[Iterable[int]],
     *,
     variables: int | None = None,
-    budget: int = 1000,
+    search: str = "ordered",
+    budget: int | None = None,
     hands: int = 1,
     check: bool = True,
     proof: StrPath | None = None,
     program: StrPath | None = None,
 ) -> list[int] | None:
-    """The first model in the order of assignments, false before true and the least variable first; or None, where there is no model.
+    """A model, or None, where there is none.
 
     A model has a literal for each variable, in order; that of no variables is an empty list, so compare with None. The answer None is given once
     `cubesat check` accepted the proof.
 
     variables: how many there are; without it, up to the greatest that a clause has
-    budget:    conflicts of the first search, 1 to 100,000; another budget gives another proof, and the same answer
+    search:    "ordered" gives the first model in the order of assignments, false before true and the
+               least variable first; "focused" gives one of several, and decides most large formulas
+               sooner
+    budget:    conflicts of the first cube, 1 to 100,000; without it 1000 for "ordered", and 100,000
+               for "focused". Another budget gives another proof, and by "focused" maybe another model
     hands:     threads, 1 to 16; they change neither the answer nor the proof
     check:     whether the proof is checked
     proof:     where to keep the proof, which is empty where there is a model
@@ -80,7 +85,8 @@ def solve(
         written = os.path.join(folder, "proof.lrat") if proof is None else os.path.abspath(proof)
         with open(formula, "w") as file:
             file.write(text)
-        ran = _run(path, "solve", "--budget", str(budget), "--hands", str(hands), "--proof", written, formula)
+        options = ["--search", search, "--hands", str(hands)] + ([] if budget is None else ["--budget", str(budget)])
+        ran = _run(path, "solve", *options, "--proof", written, formula)
         if ran.returncode == SATISFIABLE:
             return _model(ran.stdout)
         if ran.returncode != UNSATISFIABLE:

@@ -78,6 +78,12 @@ class Answers(InFolder):
                 self.assertEqual(cubesat.solve(ALTERNATING, budget=budget, hands=hands), [-1, 2, -3])
                 self.assertIsNone(cubesat.solve(PIGEONS, budget=budget, hands=hands))
 
+    def test_focused_search_finds_a_model_or_none(self):
+        self.assertIn(cubesat.solve(ALTERNATING, search="focused"), ([-1, 2, -3], [1, -2, 3]))
+        for budget, hands in ((1, 1), (1, 4), (None, 16)):
+            with self.subTest(f"budget {budget}, hands {hands}"):
+                self.assertIsNone(cubesat.solve(PIGEONS, search="focused", budget=budget, hands=hands))
+
     def test_kept_proof_is_accepted(self):
         formula, proof = os.path.join(self.folder, "f.cnf"), os.path.join(self.folder, "f.lrat")
         with open(formula, "w") as file:
@@ -119,7 +125,7 @@ class Refusals(InFolder):
         self.assertEqual(caught.exception.line, "fault 56")
 
     def test_options_out_of_range_are_a_fault(self):
-        for options in ({"hands": 0}, {"hands": 17}, {"budget": 0}, {"budget": 100_001}):
+        for options in ({"hands": 0}, {"hands": 17}, {"budget": 0}, {"budget": 100_001}, {"search": "x"}):
             with self.subTest(options), self.assertRaises(cubesat.Fault):
                 cubesat.solve(ALTERNATING, **options)
 

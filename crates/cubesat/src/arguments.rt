@@ -2,12 +2,22 @@
 ghost use Rattle.std.specs.Prelude.{◌≤◌, IfOk};
 ghost use Rattle.cubesat.specs.Arguments.{IsRequest, IsWithin};
 
+use cdcl::Search;
 use clap::error::ErrorKind;
 use clap::{Arg, ArgAction, ArgMatches, Command, Error};
 use std::alloc::{AllocError, Global};
 
 /// The largest budget.
 const MAX_BUDGET: u32 = 100_000;
+
+/// The budget of the ordered search, where none is asked for.
+const ORDERED_BUDGET: u32 = 1000;
+
+/// That of the focused search. It loses more by a split, since both halves begin from nothing.
+const FOCUSED_BUDGET: u32 = 100_000;
+
+/// The names of the searches.
+static SEARCHES: [&str; 2] = ["ordered", "focused"];
 
 /// The most hands.
 const MAX_HANDS: u32 = 16;
@@ -34,6 +44,7 @@ pub(crate) struct Shown {
 pub(crate) enum Request<'a> {
     /// Decide the formula in `file`, and write its proof to `proof`.
     Solve {
+        search: Search,
         budget: u32,
         hands: usize,
         proof: &'a str,
@@ -61,15 +72,28 @@ fn flag<'a>(alloc: Global, name: &'a str, help: &'a str) -> Arg<'a> {
         .help(help)
 }
 
-fn solve_command<'a>(alloc: Global) -> Result<Command<'a>, AllocError> {
-    let budget = Arg::new(alloc, "budget")
+fn search_option<'a>(alloc: Global) -> Arg<'a> {
+    Arg::new(alloc, "search")
+        .long("search")
+        .value_name("NAME")
+        .value_parser(SEARCHES.as_slice())
+        .default_value("ordered")
+        .help(
+            "Ordered gives the first model; focused gives one of several, and decides most large formulas sooner",
+        )
+}
+
+fn budget_option<'a>(alloc: Global) -> Arg<'a> {
+    Arg::new(alloc, "budget")
         .long("budget")
         .value_name("N")
         .value_parser(clap::value_parser!(u32).range(1..=100_000))
-        .default_value("1000")
         .help(
-            "Conflicts that the first search may have before it is split, 1 to 100000; a cube of d literals has d + 1 times as many, at most 1000000",
-        );
+            "Conflicts that the first cube may have before it is split, 1 to 100000; a cube of d literals has d + 1 times as many, at most 1000000 [default: 1000 with the ordered search, 100000 with the focused one]",
+        )
+}
+
+fn solve_command<'a>(alloc: Global) -> Result<Command<'a>, AllocError> {
     let hands = Arg::new(alloc, "hands")
         .long("hands")
         .value_name("N")
@@ -86,7 +110,8 @@ fn solve_command<'a>(alloc: Global) -> Result<Command<'a>, AllocError> {
         .help("The formula, in DIMACS CNF");
     Command::new(alloc, "solve")
         .about("Decide a formula: status 10 satisfiable, 20 unsatisfiable, 1 on a fault")
-        .arg(budget)?
+        .arg(search_option(alloc))?
+        .arg(budget_option(alloc))?
         .arg(hands)?
         .arg(proof)?
         .arg(flag(alloc, "stats", STATS))?
@@ -125,14 +150,15 @@ fn explain_command<'a>(alloc: Global) -> Result<Command<'a>, AllocError> {
 }
 
 /// The version, and the kit that the program was proved and built by.
-const VERSION: &str = "0.3.0 (rattle-kit-13b logic dac8208d650f15bf)";
+const VERSION: &str = "0.3.0 (rattle-kit-13f logic dac8208d650f15bf)";
 
 const EXAMPLES: &str = "Examples:
-  cubesat solve --proof f.lrat f.cnf              decide f.cnf
-  cubesat solve --hands 4 --proof f.lrat f.cnf    the same bytes, by four threads
-  cubesat solve --stats --proof f.lrat f.cnf      and what it took
-  cubesat check f.cnf f.lrat                      check the proof
-  cubesat explain 51 5                            what `fault 51: refusal 5` means";
+  cubesat solve --proof f.lrat f.cnf                     decide f.cnf, with its first model
+  cubesat solve --search focused --proof f.lrat f.cnf    mostly sooner, with one of its models
+  cubesat solve --hands 4 --proof f.lrat f.cnf           the same bytes as with one, by four threads
+  cubesat solve --stats --proof f.lrat f.cnf             and what it took
+  cubesat check f.cnf f.lrat                             check the proof
+  cubesat explain 51 5                                   what `fault 51: refusal 5` means";
 
 fn whole_command<'a>(alloc: Global) -> Result<Command<'a>, AllocError> {
     Command::new(alloc, "cubesat")
@@ -146,12 +172,33 @@ fn whole_command<'a>(alloc: Global) -> Result<Command<'a>, AllocError> {
         .subcommand(explain_command(alloc)?)
 }
 
+/// The search of this name.
+fn search_named(name: &str) -> Option<Search> {
+    match name {
+        "ordered" => Some(Search::Ordered),
+        "focused" => Some(Search::Focused),
+        _ => None,
+    }
+}
+
+/// The budget of the root where none is asked for.
+fn default_budget(search: Search) -> u32 {
+    match search {
+        Search::Ordered => ORDERED_BUDGET,
+        Search::Focused => FOCUSED_BUDGET,
+    }
+}
+
 /// The request of a subcommand's matches. The command has been built so that each value is there and in its range; this is tested again,
 /// since no clause of the parser's says it of a subcommand.
 fn solve_request<'a>(matches: &ArgMatches<'a>) -> Option<Request<'a>>
     ensures { IsWithin result }
 {
-    let budget = matches.get_one::<u32>("budget")?;
+    let search = search_named(matches.get_str("search")?)?;
+    let budget = match matches.get_one::<u32>("budget") {
+        Some(budget) => budget,
+        None => default_budget(search),
+    };
     let hands = matches.get_one::<u32>("hands")?;
     let proof = matches.get_str("proof")?;
     let file = matches.get_str("FILE")?;
@@ -164,6 +211,7 @@ fn solve_request<'a>(matches: &ArgMatches<'a>) -> Option<Request<'a>>
         return None;
     }
     Some(Request::Solve {
+        search,
         budget,
         hands: hands as usize,
         proof,

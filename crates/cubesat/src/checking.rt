@@ -7,7 +7,7 @@ use crate::fault::RunFault;
 use crate::fault_lines::{FAILED, Screen, print_fault_of, print_no_file};
 use crate::notes::{note_check, note_number};
 use crate::watched::check_counted;
-use statistics::{Beginning, Board, KeptWriter, Stage, show_progress};
+use statistics::{Beginning, Board, KeptWriter, Showing, Stage, show_progress};
 use std::alloc::Global;
 use std::fs::Files;
 use std::io::{Read, Write};
@@ -36,10 +36,10 @@ fn check_shown<
     screen: Screen,
 ) -> Result<Checked, RunFault> {
     let board = Board::new(rt, Stage::Checking);
-    let manner = screen.manner();
+    let showing = Showing::of(Some(screen.manner()), false);
     let (_, result) = thread::join(
         rt,
-        || show_progress(rt, &board, faults, manner),
+        || show_progress(rt, &board, faults, showing),
         || check_counted(rt, alloc, &board, formula, proof, answer),
     );
     result

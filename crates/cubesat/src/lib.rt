@@ -28,6 +28,8 @@ pub use fault_lines::Screen;
 pub use laws::runs_write_the_same;
 pub use program::{command, command_on};
 pub use runs::{run_one, run_one_by_plan};
-pub use statistics::{CubeCounts, Figures, Manner, Stage, TextSize, print_line};
+pub use statistics::{
+    Board, CubeCounts, Figures, Manner, Showing, Stage, TextSize, print_line, show_progress,
+};
 pub use threaded::{run, run_by_plan};
 pub use verdict::Verdict;

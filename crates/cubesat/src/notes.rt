@@ -1,7 +1,7 @@
 //! What `--verbose` prints: lines that begin with `c`, of what is done, and of what a fault means.
 
 use crate::explanations::explanation;
-use cdcl::Plan;
+use cdcl::{Plan, Search};
 use std::io::Write;
 
 /// Prints a line. A failed write changes nothing.
@@ -12,10 +12,14 @@ fn note<E: Write>(out: &mut E, said: &str, what: &str) {
 /// What `solve` is about to do.
 pub(crate) fn note_solve<E: Write>(out: &mut E, plan: Plan, hands: usize, file: &str, proof: &str) {
     note(out, "reading the formula from", file);
+    let search = match plan.search() {
+        Search::Ordered => "ordered",
+        Search::Focused => "focused",
+    };
     let budget = plan.budget();
     let _ = writeln!(
         out,
-        "c solving it, hands {hands}, budget {budget} conflicts"
+        "c solving it by the {search} search, hands {hands}, budget {budget} conflicts"
     );
     note(out, "writing the proof to", proof);
 }

@@ -1,4 +1,5 @@
 //! The program: a command line, and what is done for it.
+ghost use Rattle.std.specs.Prelude.{◌≤◌};
 
 use crate::arguments::{Request, request_of};
 use crate::checking::check;
@@ -6,7 +7,7 @@ use crate::explanations::explanation;
 use crate::fault::RunFault;
 use crate::fault_lines::{FAILED, Screen, print_fault};
 use crate::solving::solve;
-use cdcl::Plan;
+use cdcl::{Plan, Search};
 use clap::error::ErrorKind;
 use std::alloc::Global;
 use std::fs::Files;
@@ -49,6 +50,16 @@ fn explain<W: Write, E: Write>(
     if is_known { SHOWN } else { FAILED }
 }
 
+/// The plan of a search with this budget for the root.
+fn plan_of(search: Search, budget: u32) -> Plan
+    requires { (1 ≤ budget) × (budget ≤ 100000) }
+{
+    match search {
+        Search::Ordered => Plan::ordered(budget),
+        Search::Focused => Plan::focused(budget),
+    }
+}
+
 /// Does all that the program does for a command line, of which the first word is the program's name: reads and writes its files, writes
 /// the answer to `answer`, faults and what is shown of the run to `faults`, and answers the exit status: 10 satisfiable, 20 unsatisfiable, 0 for
 /// help, for an explanation and for a proof that is accepted, 1 for one that is refused, on a fault or a wrong command line. A failed write to
@@ -64,6 +75,7 @@ pub fn command_on<R: Files + Threads + Wait + Clock + Sync, W: Write, E: Write +
     match request_of(alloc, words) {
         Ok(
             Request::Solve {
+                search,
                 budget,
                 hands,
                 proof,
@@ -71,7 +83,7 @@ pub fn command_on<R: Files + Threads + Wait + Clock + Sync, W: Write, E: Write +
                 shown,
             },
         ) => {
-            let plan = Plan::ordered(budget);
+            let plan = plan_of(search, budget);
             solve(
                 rt, alloc, plan, hands, proof, file, shown, answer, faults, screen,
             )

@@ -8,9 +8,9 @@ use crate::notes::{note_files, note_number, note_solve};
 use crate::threaded::run_by_plan;
 use crate::verdict::Verdict;
 use crate::watched::{Effort, run_counted};
-use cdcl::Plan;
+use cdcl::{Plan, Search};
 use cubes::OpenGate;
-use statistics::{Board, Stage, print_statistics, show_progress};
+use statistics::{Board, Showing, Stage, print_statistics, show_progress};
 use std::alloc::Global;
 use std::fs::{Files, OpenFile};
 use std::io::{Read, Write};
@@ -50,8 +50,21 @@ fn print_same_file<E: Write>(faults: &mut E, file: &str, proof: &str, is_explain
     FAILED
 }
 
-/// A run that is counted, with its progress shown by a thread beside it. Where that can't be started, nothing is shown.
-fn run_with_progress<
+/// What is shown of a run while it goes on. On a terminal, the ordered search names the focused one
+/// when it takes long.
+fn showing_of(shown: Shown, plan: Plan, screen: Screen) -> Showing {
+    let progress = if shown.progress {
+        Some(screen.manner())
+    } else {
+        None
+    };
+    let names_focused = screen == Screen::Terminal && plan.search() == Search::Ordered;
+    Showing::of(progress, names_focused)
+}
+
+/// A run that is counted, with what is shown of it by a thread beside it. Where that can't be started,
+/// nothing is shown.
+fn run_beside<
     R: Files + Threads + Wait + Clock + Sync,
     I: Read + Drop,
     W: Write,
@@ -66,12 +79,11 @@ fn run_with_progress<
     answer: &mut W,
     proof: &mut P,
     faults: &mut E,
-    screen: Screen,
+    showing: Showing,
 ) -> Result<Verdict, RunFault> {
-    let manner = screen.manner();
     let (_, result) = thread::join(
         rt,
-        || show_progress(rt, board, faults, manner),
+        || show_progress(rt, board, faults, showing),
         || run_counted(rt, alloc, board, effort, input, answer, proof),
     );
     result
@@ -91,20 +103,20 @@ fn run_shown<
     input: I,
     answer: &mut W,
     proof: &mut P,
-    shown: Shown,
+    stats: bool,
     faults: &mut E,
-    screen: Screen,
+    showing: Showing,
 ) -> Result<Verdict, RunFault> {
     let board = Board::new(rt, Stage::Reading);
     let hands = effort.hands;
-    let result = if shown.progress {
-        run_with_progress(
-            rt, alloc, &board, effort, input, answer, proof, faults, screen,
+    let result = if showing.is_any() {
+        run_beside(
+            rt, alloc, &board, effort, input, answer, proof, faults, showing,
         )
     } else {
         run_counted(rt, alloc, &board, effort, input, answer, proof)
     };
-    if shown.stats {
+    if stats {
         let figures = board.look(rt);
         print_statistics(faults, &figures, hands);
     }
@@ -138,10 +150,19 @@ pub(crate) fn solve<R: Files + Threads + Wait + Clock + Sync, W: Write, E: Write
     let Ok(mut proof) = fs::create(rt, path) else {
         return print_no_file(faults, path, shown.verbose);
     };
-    let result = if shown.stats || shown.progress {
+    let showing = showing_of(shown, plan, screen);
+    let result = if shown.stats || showing.is_any() {
         let effort = Effort { plan, hands };
         run_shown(
-            rt, alloc, effort, input, answer, &mut proof, shown, faults, screen,
+            rt,
+            alloc,
+            effort,
+            input,
+            answer,
+            &mut proof,
+            shown.stats,
+            faults,
+            showing,
         )
     } else {
         run_by_plan(rt, alloc, input, answer, &mut proof, plan, hands, &OpenGate)

@@ -10,7 +10,7 @@ use std::test::Fail;
 const HOLES: u32 = 6;
 
 /// Two circuits that add numbers of four bits, with one output bit different.
-const MITER: &str = "p cnf 53 155
+pub const MITER: &str = "p cnf 53 155
 -1 -5 -9 0 1 5 -9 0 1 -5 9 0 -1 5 9 0 1 -10 0 5 -10 0 -1 -5 10 0 -2 -6 -11 0 2 6 -11 0 2 -6 11 0 -2 6 11 0 -11 -10 -12 0
 11 10 -12 0 11 -10 12 0 -11 10 12 0 2 -13 0 6 -13 0 -2 -6 13 0 11 -14 0 10 -14 0 -11 -10 14 0 -13 15 0 -14 15 0 13 14 -15 0
 -3 -7 -16 0 3 7 -16 0 3 -7 16 0 -3 7 16 0 -16 -15 -17 0 16 15 -17 0 16 -15 17 0 -16 15 17 0 3 -18 0 7 -18 0 -3 -7 18 0 16 -19 0
@@ -59,7 +59,7 @@ fn write_rivals(text: &mut String, hole: u32, pigeon: u32) -> Result<(), AllocEr
 }
 
 /// Seven pigeons in six holes, at most one in each.
-fn pigeonhole(alloc: Global) -> Result<String, AllocError> {
+pub fn pigeonhole(alloc: Global) -> Result<String, AllocError> {
     let mut text = String::from_str(alloc, "p cnf 42 133\n")?;
     for pigeon in 0..=HOLES {
         write_pigeon(&mut text, pigeon)?;
@@ -86,7 +86,7 @@ fn proof_of(alloc: Global, text: &str, budget: u32) -> Result<Option<Vec<u8>>, R
 }
 
 /// Whether a proof is accepted, and the line says so.
-fn is_accepted(alloc: Global, text: &str, proof: &[u8]) -> Result<bool, RunFault> {
+pub fn is_accepted(alloc: Global, text: &str, proof: &[u8]) -> Result<bool, RunFault> {
     let mut line = Vec::new(alloc);
     let checked = check_run(alloc, text.as_bytes(), proof, &mut line)?;
     Ok(checked == Checked::Accepted && line.as_slice() == b"accepted\n".as_slice())

@@ -1,5 +1,7 @@
-//! Worked rows: the bytes of the proof and the answer for the bytes of a formula, and the line for those of a proof; what failing readers and
-//! writers leave; two hands at a gate; proofs of many steps, and those with one byte changed; examples from end to end; the program and its options.
+//! Worked rows: the bytes of the proof and the answer for the bytes of a formula, by both searches,
+//! and the line for those of a proof; what failing readers and writers leave; two hands at a gate;
+//! proofs of many steps, and those with one byte changed; examples from end to end; the program and
+//! its options.
 #![tactic(auto)]
 
 #[cfg(test)]
@@ -12,6 +14,8 @@ mod examples;
 mod faults;
 #[cfg(test)]
 mod faulty;
+#[cfg(test)]
+mod focused;
 #[cfg(test)]
 mod gates;
 #[cfg(test)]

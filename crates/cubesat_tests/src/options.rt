@@ -51,6 +51,14 @@ fn each_budget_is_the_one_named(rt: HostRuntime) -> Result<(), Fail> {
 }
 
 #[test]
+fn the_ordered_search_is_the_one_of_no_name(rt: HostRuntime) -> Result<(), Fail> {
+    let words = [
+        "cubesat", "solve", "--search", "ordered", "--proof", "PROOF", "FORMULA",
+    ];
+    check_rows(&rt, "ordered.cnf", &[solved_with(&words, LEARNT)])
+}
+
+#[test]
 fn each_number_of_hands_writes_the_same(rt: HostRuntime) -> Result<(), Fail> {
     for hands in ["1", "2", "8", "16"] {
         let words = [
@@ -182,7 +190,7 @@ fn the_version_is_shown(rt: HostRuntime) {
     assert!(rt;
         printed
             .answer
-            .ends_with(b" (rattle-kit-13b logic dac8208d650f15bf)\n")
+            .ends_with(b" (rattle-kit-13f logic dac8208d650f15bf)\n")
     );
     assert!(rt; printed.answer.starts_with(b"cubesat 0."));
 }

@@ -144,7 +144,7 @@ fn a_folder_is_no_formula(rt: HostRuntime) -> Result<(), Fail> {
     check_rows(&rt, "folder.cnf", &FOLDER)
 }
 
-static WRONG: [&[&str]; 13] = [
+static WRONG: [&[&str]; 17] = [
     // no subcommand
     &["cubesat"],
     // no words
@@ -177,6 +177,17 @@ static WRONG: [&[&str]; 13] = [
         "x.lrat",
         "x.cnf",
     ],
+    // searches that are none
+    &[
+        "cubesat", "solve", "--search", "x", "--proof", "x.lrat", "x.cnf",
+    ],
+    &[
+        "cubesat", "solve", "--search", "", "--proof", "x.lrat", "x.cnf",
+    ],
+    &[
+        "cubesat", "solve", "--search", "Focused", "--proof", "x.lrat", "x.cnf",
+    ],
+    &["cubesat", "solve", "--proof", "x.lrat", "x.cnf", "--search"],
     // numbers of hands that are none
     &[
         "cubesat", "solve", "--hands", "0", "--proof", "x.lrat", "x.cnf",

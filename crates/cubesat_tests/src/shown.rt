@@ -3,14 +3,17 @@ use crate::faulty::{Limited, Limits};
 use crate::options::SPLIT;
 use crate::sessions::{Paths, Printed, run};
 use crate::texts::EIGHT;
-use cubesat::{CubeCounts, Figures, Manner, Screen, Stage, TextSize, command_on, print_line};
+use cubesat::{
+    Board, CubeCounts, Figures, Manner, Screen, Showing, Stage, TextSize, command_on, print_line,
+    show_progress,
+};
 use std::alloc::Global;
-use std::fs;
 use std::rt::Files;
 use std::sync::Wait;
 use std::test::Fail;
 use std::thread::Threads;
-use std::time::Clock;
+use std::time::{Clock, Duration};
+use std::{fs, thread};
 
 /// Formulas with the words of runs and answers, and the lines of `--stats` up to the times.
 static RUNS: [(&str, &[&str], &str, &str); 4] = [
@@ -218,6 +221,35 @@ fn progress_has_a_line_for_each_stage(rt: HostRuntime) -> Result<(), Fail> {
         }
     }
     Ok(())
+}
+
+/// What is printed of a run in this stage that goes on for a while, where the focused search is named
+/// at once.
+fn hinted<R: Threads + Wait + Clock + Sync>(rt: &R, alloc: Global, stage: Stage) -> Vec<u8> {
+    let board = Board::new(rt, stage);
+    let showing = Showing {
+        progress: None,
+        hint: Some(0),
+    };
+    let mut out = Vec::new(alloc);
+    let _ = thread::join(
+        rt,
+        || show_progress(rt, &board, &mut out, showing),
+        || {
+            thread::sleep(rt, Duration::from_millis(200));
+            board.end_progress(rt);
+        },
+    );
+    out
+}
+
+#[test]
+fn the_focused_search_is_named_once_while_cubes_are_solved(rt: HostRuntime) {
+    let wanted =
+        b"c --search focused decides most large formulas sooner, with a model that need not be the first\n";
+    let solving = hinted(&rt, rt.alloc(), Stage::Solving);
+    assert_eq!(rt; solving.as_slice(), wanted.as_slice());
+    assert!(rt; hinted(&rt, rt.alloc(), Stage::Reading).is_empty());
 }
 
 /// How many cubes of the depths 0 to 4 are solved, how many lie in the deques at most, and the part of the tree that is closed at least.

@@ -199,7 +199,7 @@ const REFUTED: Row = Row {
     begins: &[
         "c reading the formula from ",
         "FORMULA",
-        "\nc solving it, hands 1, budget 1000 conflicts\nc writing the proof to ",
+        "\nc solving it by the ordered search, hands 1, budget 1000 conflicts\nc writing the proof to ",
         "PROOF",
         "\n",
     ],
@@ -233,7 +233,7 @@ static RUNS: [Row; 4] = [
         begins: &[
             "c reading the formula from ",
             "FORMULA",
-            "\nc solving it, hands 1, budget 1000 conflicts\nc writing the proof to ",
+            "\nc solving it by the ordered search, hands 1, budget 1000 conflicts\nc writing the proof to ",
             "MISSING",
             "\n",
         ],
@@ -256,7 +256,7 @@ static RUNS: [Row; 4] = [
         begins: &[
             "c reading the formula from ",
             "FORMULA",
-            "\nc solving it, hands 1, budget 1000 conflicts\nc writing the proof to ",
+            "\nc solving it by the ordered search, hands 1, budget 1000 conflicts\nc writing the proof to ",
             "FORMULA",
             "\n",
         ],

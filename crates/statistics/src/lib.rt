@@ -18,6 +18,6 @@ pub use cube_counts::CubeCounts;
 pub use figures::{Figures, Stage, TextSize};
 pub use kept::{Beginning, KeptWriter};
 pub use observer::{Observer, Unobserved};
-pub use progress::{Manner, print_line, show_progress};
+pub use progress::{Manner, Showing, print_line, show_progress};
 pub use statistics::print_statistics;
 pub use watch::Watch;

@@ -1,4 +1,4 @@
-//! Lines that show how far a run is, about one a second.
+//! Lines that show how far a run is, about one a second, and one that names the focused search.
 
 use crate::board::Board;
 use crate::figures::{Figures, Stage};
@@ -10,8 +10,12 @@ use std::time::{Clock, Duration};
 /// How many milliseconds pass between two lines.
 const PAUSE: u64 = 1000;
 
-/// How many milliseconds are slept between two looks at the figures. A run that has ended is left after as many.
+/// How many milliseconds are slept at most between two looks at the figures. A run that has ended is
+/// left after as many.
 const LOOK: u64 = 20;
+
+/// How many milliseconds the ordered search goes on before the focused one is named.
+const PATIENCE: u64 = 10_000;
 
 /// How progress is shown.
 #[derive(Clone, Copy, Debug, PartialEq, Eq)]
@@ -39,6 +43,59 @@ impl Manner {
     }
 }
 
+/// What is shown of a run while it goes on.
+#[derive(Clone, Copy, Debug)]
+pub struct Showing {
+    /// How its progress is shown, if it is.
+    pub progress: Option<Manner>,
+    /// After how many milliseconds the focused search is named, if it is and wasn't yet.
+    pub hint: Option<u64>,
+}
+
+impl Showing {
+    /// Progress in this manner, if in any; and the focused search after ten seconds, where it may be
+    /// named.
+    pub fn of(progress: Option<Manner>, names_focused: bool) -> Showing {
+        let hint = if names_focused { Some(PATIENCE) } else { None };
+        Showing { progress, hint }
+    }
+
+    /// Whether anything is shown.
+    pub fn is_any(&self) -> bool {
+        self.progress.is_some() || self.hint.is_some()
+    }
+
+    /// Whether the focused search is to be named, in this stage and after so many milliseconds. It is
+    /// named once.
+    fn takes_hint(&mut self, stage: Stage, now: u64) -> bool {
+        match self.hint {
+            Some(after) if now >= after && stage == Stage::Solving => {
+                self.hint = None;
+                true
+            }
+            _ => false,
+        }
+    }
+}
+
+/// Names the focused search in a line of its own, unless the run has ended. A line of progress that
+/// stands on the terminal is written over.
+fn print_hint<R: Wait, E: Write>(rt: &R, board: &Board, out: &mut E, progress: Option<Manner>) {
+    if !board.figures().lock(rt).draw() {
+        return;
+    }
+    let start = if progress == Some(Manner::Rewritten) {
+        "\r\x1b[K"
+    } else {
+        ""
+    };
+    let _ = writeln!(
+        out,
+        "{start}c --search focused decides most large formulas sooner, with a model that need not be the first"
+    );
+    board.figures().lock(rt).erase();
+}
+
 /// Prints the line of these figures. A failed write changes nothing.
 pub fn print_line<E: Write>(out: &mut E, manner: Manner, seconds: u64, figures: &Figures) {
     let (start, end) = (manner.start(), manner.end());
@@ -63,27 +120,47 @@ pub fn print_line<E: Write>(out: &mut E, manner: Manner, seconds: u64, figures: 
     };
 }
 
-/// Shows how far a run is until it ends. On a terminal nothing is left of it.
-pub fn show_progress<R: Wait + Clock, E: Write>(
+/// Prints the line of these figures, on a terminal unless the run has ended.
+fn show_line<R: Wait, E: Write>(
     rt: &R,
     board: &Board,
     out: &mut E,
     manner: Manner,
+    seconds: u64,
+    figures: &Figures,
+) {
+    if manner == Manner::Listed || board.figures().lock(rt).draw() {
+        print_line(out, manner, seconds, figures);
+    }
+}
+
+/// Shows what is to be shown of a run until it ends. On a terminal nothing is left of its progress.
+/// The first looks come one soon after another, so that a short run isn't held up.
+pub fn show_progress<R: Wait + Clock, E: Write>(
+    rt: &R,
+    board: &Board,
+    out: &mut E,
+    mut showing: Showing,
 ) {
     let mut due = PAUSE;
+    let mut look = 1u64;
     for _ in rt.forever() {
         let figures = board.look(rt);
         if figures.is_ended {
             break;
         }
         let now = board.now(rt);
-        if now >= due {
-            due = now.saturating_add(PAUSE);
-            if manner == Manner::Listed || board.figures().lock(rt).draw() {
-                print_line(out, manner, now / 1000, &figures);
+        if showing.takes_hint(figures.stage, now) {
+            print_hint(rt, board, out, showing.progress);
+        }
+        if let Some(manner) = showing.progress {
+            if now >= due {
+                due = now.saturating_add(PAUSE);
+                show_line(rt, board, out, manner, now / 1000, &figures);
             }
         }
-        thread::sleep(rt, Duration::from_millis(LOOK));
+        thread::sleep(rt, Duration::from_millis(look));
+        look = look.saturating_mul(2).min(LOOK);
     }
     if board.look(rt).is_drawn {
         let _ = write!(out, "\r\x1b[K");

@@ -1,0 +1,141 @@
+//! Worked rows of the focused search, and examples from end to end by it.
+ghost use Rattle.std.specs.Prelude.{◌≤◌};
+
+use crate::examples::{MITER, is_accepted, pigeonhole};
+use crate::sessions::{Paths, Row, Wanted, check_rows, run};
+use crate::texts::{EIGHT, FOUR};
+use cdcl::Plan;
+use cubesat::{RunFault, Verdict, run_one_by_plan};
+use std::alloc::Global;
+use std::process::Abort;
+use std::test::Fail;
+
+/// A formula, a budget, the answer, and the proof.
+type Decided = (&'static str, &'static str, &'static str, &'static str);
+
+const UNSATISFIABLE: &str = "s UNSATISFIABLE\n";
+
+const SPLIT: &str =
+    "9 2 3 0 1 5 0\n10 3 0 9 3 7 0\n10 d 9 0\n11 2 -3 0 2 6 0\n12 -3 0 11 4 8 0\n12 d 11 0\n13 0 10 12 0\n";
+
+/// The variable of greatest score was 3 until the second conflict, and then it is 2.
+const SPLIT_LATER: &str =
+    "9 3 2 0 1 5 0\n10 2 0 9 2 6 0\n10 d 9 0\n11 3 -2 0 3 7 0\n12 -2 0 11 4 8 0\n12 d 11 0\n13 0 10 12 0\n";
+
+const LEARNT: &str = "9 2 3 0 1 5 0\n10 3 0 9 3 7 0\n11 -2 0 10 4 8 0\n12 0 10 11 2 6 0\n";
+
+/// The greatest of the variables of equal score is decided first, so that models differ from the first ones.
+static DECIDED: [Decided; 13] = [
+    ("p cnf 0 1\n0\n", "1", UNSATISFIABLE, "2 0 1 0\n"),
+    (
+        FOUR,
+        "1",
+        UNSATISFIABLE,
+        "5 2 0 1 3 0\n6 -2 0 2 4 0\n7 0 5 6 0\n",
+    ),
+    (FOUR, "2", UNSATISFIABLE, "5 2 0 1 3 0\n6 0 5 2 4 0\n"),
+    (
+        "p cnf 3 4\n1 2 0\n1 -2 0\n-1 2 0\n-1 -2 0\n",
+        "1",
+        UNSATISFIABLE,
+        "5 -3 0 0\n6 2 0 1 3 0\n7 -2 0 2 4 0\n8 0 6 7 0\n",
+    ),
+    (EIGHT, "1", UNSATISFIABLE, SPLIT),
+    (EIGHT, "2", UNSATISFIABLE, SPLIT),
+    (EIGHT, "3", UNSATISFIABLE, SPLIT_LATER),
+    (EIGHT, "4", UNSATISFIABLE, LEARNT),
+    (EIGHT, "100000", UNSATISFIABLE, LEARNT),
+    ("p cnf 0 0\n", "1", "s SATISFIABLE\nv 0\n", ""),
+    ("p cnf 2 1\n1 2 0\n", "1", "s SATISFIABLE\nv 1 -2 0\n", ""),
+    (
+        "p cnf 3 4\n1 2 3 0\n1 2 -3 0\n-1 2 3 0\n-1 2 -3 0\n",
+        "1",
+        "s SATISFIABLE\nv 1 2 -3 0\n",
+        "",
+    ),
+    (
+        "p cnf 3 4\n1 2 3 0\n-1 -2 3 0\n1 -2 -3 0\n-1 2 3 0\n",
+        "2",
+        "s SATISFIABLE\nv -1 2 -3 0\n",
+        "",
+    ),
+];
+
+/// The row of a command line for it.
+fn row_of<'a>(decided: &'a Decided, words: &'a [&'a str]) -> Row<'a> {
+    let (formula, _, answer, proof) = *decided;
+    Row {
+        formula,
+        before: None,
+        words,
+        wanted: Wanted {
+            status: if answer == UNSATISFIABLE { 20 } else { 10 },
+            answer,
+            faults: "",
+        },
+        after: proof,
+    }
+}
+
+#[test]
+fn formulas_are_decided_by_any_number_of_hands(rt: HostRuntime) -> Result<(), Fail> {
+    for decided in &DECIDED {
+        for hands in ["1", "2", "8"] {
+            let words = [
+                "cubesat", "solve", "--search", "focused", "--budget", decided.1, "--hands", hands,
+                "--proof", "PROOF", "FORMULA",
+            ];
+            check_rows(&rt, "focused.cnf", &[row_of(decided, &words)])?;
+        }
+    }
+    Ok(())
+}
+
+#[test]
+fn the_budget_is_the_greatest_where_none_is_asked_for(rt: HostRuntime) -> Result<(), Fail> {
+    let paths = Paths::of(&rt, "focused_budget.cnf")?;
+    let words = [
+        "cubesat",
+        "solve",
+        "--search",
+        "focused",
+        "--verbose",
+        "--proof",
+        "MISSING",
+        "MISSING",
+    ];
+    let printed = run(&rt, &paths.words(rt.alloc(), &words)?);
+    let wanted = "\nc solving it by the focused search, hands 1, budget 100000 conflicts\n";
+    assert!(rt; str::from_utf8(&printed.faults)?.contains(wanted));
+    Ok(())
+}
+
+/// Whether an unsatisfiable formula is refuted by a run without threads, with a proof that is accepted.
+fn is_refuted(alloc: Global, text: &str, budget: u32) -> Result<bool, RunFault>
+    requires { (1 ≤ budget) × (budget ≤ 100000) }
+{
+    let mut proof = Vec::new(alloc);
+    let mut answer = Vec::new(alloc);
+    let plan = Plan::focused(budget);
+    let verdict = run_one_by_plan(alloc, text.as_bytes(), &mut answer, &mut proof, plan)?;
+    Ok(verdict == Verdict::Unsatisfiable && is_accepted(alloc, text, &proof)?)
+}
+
+/// Checks that a formula is refuted, at each of some budgets.
+fn check_budgets(rt: &impl Abort, alloc: Global, text: &str) -> Result<(), Fail> {
+    for budget in [1, 2, 10, 1000] {
+        assert!(rt; is_refuted(alloc, text, budget)?, "budget {budget}");
+    }
+    Ok(())
+}
+
+#[test]
+fn pigeons(rt: HostRuntime) -> Result<(), Fail> {
+    let text = pigeonhole(rt.alloc())?;
+    check_budgets(&rt, rt.alloc(), text.as_str())
+}
+
+#[test]
+fn circuits(rt: HostRuntime) -> Result<(), Fail> {
+    check_budgets(&rt, rt.alloc(), MITER)
+}
