@@ -33,8 +33,8 @@ state_of s saved = record {
   schedule = s.schedule;
 }
 
--- the values that the definition has saved are those of the search, for each variable that is free: the search saves a value when its
--- variable leaves the trail
+-- the values that the definition has saved are those of the search, for each variable that is free:
+-- the search saves a value when its variable leaves the trail
 abbrev pub HasSaved : FocusedSearch → Assignment → Type 0
 HasSaved s saved = AgreeOutside s.kernel.vars (literals s.kernel.trail) s.decisions.saved saved
 
@@ -46,7 +46,8 @@ pub record IsEquipped (s : FocusedSearch) : Type 0 where
   pub scored : s.decisions.scores.constants ≡ s.constants
   pub averaged : s.averages.constants ≡ s.constants
 
--- what it keeps from step to step: each score gains less than 2 ^ 40 at a conflict, and each glue is at most 2 ^ 20
+-- what it keeps from step to step: each score gains less than 2 ^ 40 at a conflict, and each glue
+-- is at most 2 ^ 20
 pub record IsFocusing (s : FocusedSearch) : Type 0 where
   pub searching : IsSearching ByPlace s.kernel
   pub few : s.kernel.vars ≤ max_vars
@@ -79,14 +80,16 @@ pub record Continues (old new : FocusedSearch) : Type 0 where
   pub constants : new.constants ≡ old.constants
   pub equipped : IsEquipped new
 
--- the conflict with the clause of number n is learnt from, where the definition has these saved values
+-- the conflict with the clause of number n is learnt from, where the definition has these saved
+-- values
 pub record Learns (old : FocusedSearch) (saved : Assignment) (n : ℕ) (new : FocusedSearch) : Type 0 where
   pub next : state_of new (saved_after old.kernel.vars old.kernel.trail saved)
       ≡ learnt_next old.constants old.kernel.vars (state_of old saved) (learn old.kernel.clauses old.kernel.trail n)
   pub saves : HasSaved new (saved_after old.kernel.vars old.kernel.trail saved)
   pub focusing : IsFocusing new
 
--- what follows where a step ended with an outcome, or with none left the state with these saved values
+-- what follows where a step ended with an outcome, or with none left the state with these saved
+-- values
 abbrev pub next_of : Option Outcome → FocusedSearch → Assignment → Next FocusedState
 next_of (Some o) s saved = ends (outcome_of o)
 next_of None s saved = goes_on (state_of s saved)

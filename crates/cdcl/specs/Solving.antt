@@ -8,7 +8,8 @@ use Rattle.cdcl.specs.declared.searcher.Searcher.TheVariants.{Ordered, Focused}
 use Rattle.cdcl.specs.Searching.{IsReady}
 use Rattle.cdcl.specs.Focusing.{IsEquipped}
 
--- what a solver is seen as: which formula it solves cubes of, by which plan, and whether it has met want of memory
+-- what a solver is seen as: which formula it solves cubes of, by which plan, and whether it has met
+-- want of memory
 pub record Solving : Type 0 where
   pub formula : Formula
   pub plan : Plan

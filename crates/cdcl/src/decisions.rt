@@ -56,7 +56,8 @@ impl Decisions {
         })
     }
 
-    /// The free variable of greatest score, of several the greatest. Those that stand on the trail don't wait any more, once they are met.
+    /// The free variable of greatest score, of several the greatest. Those that stand on the trail
+    /// don't wait any more, once they are met.
     pub(crate) fn best_free(&mut self, kernel: &Kernel) -> Option<u32>
         requires waiting { AreWaiting kernel.now.vars (literals kernel.now.trail) self.old }
         ensures best { result ≡ best_outside kernel.now.vars (literals kernel.now.trail) self.old.scores.scores }
@@ -95,7 +96,8 @@ impl Decisions {
         Ok(())
     }
 
-    /// Saves the values of the variables whose entries stand behind the first so many, and lets them wait.
+    /// Saves the values of the variables whose entries stand behind the first so many, and lets
+    /// them wait.
     pub(crate) fn release(&mut self, kernel: &Kernel, kept: usize) -> Result<(), AllocError>
         requires kept { kept ≤ length kernel.now.trail }
         requires waiting { AreWaiting kernel.now.vars (literals kernel.now.trail) self.old }
@@ -113,7 +115,8 @@ impl Decisions {
         Ok(())
     }
 
-    /// As it was before the first cube, where each variable waits. It takes time by what the last cube changed.
+    /// As it was before the first cube, where each variable waits. It takes time by what the last
+    /// cube changed.
     pub(crate) fn begin_again(&mut self)
         ensures scores { self.new.scores ≡ record self.old.scores { scores = first_scores self.old.scores.constants (vars_of self.old.scores) } }
         ensures long { length self.new.saved ≡ length self.old.saved }

@@ -66,7 +66,8 @@ fn back_to(kernel: &mut Kernel, level: u32)
     }
 }
 
-/// Goes back to a line's level, where its clause gets the next number, and from there to level 0, if the search restarts.
+/// Goes back to a line's level, where its clause gets the next number, and from there to level 0,
+/// if the search restarts.
 fn go_back(
     kernel: &mut Kernel,
     decisions: &mut Decisions,
@@ -95,7 +96,8 @@ fn go_back(
     Ok(number)
 }
 
-/// Forgets half of the clauses that may be, of those that were learnt before the last one, which has this number. They have these glues.
+/// Forgets half of the clauses that may be, of those that were learnt before the last one, which
+/// has this number. They have these glues.
 fn forget(
     kernel: &mut Kernel,
     number: u64,
@@ -116,7 +118,8 @@ fn forget(
 }
 
 impl FocusedSearch {
-    /// A search of a formula, before its first cube: over its clauses, and behind them a unit clause for each pure literal.
+    /// A search of a formula, before its first cube: over its clauses, and behind them a unit
+    /// clause for each pure literal.
     pub(crate) fn open(
         alloc: Global,
         formula: &Formula,
@@ -144,7 +147,8 @@ impl FocusedSearch {
         })
     }
 
-    /// Goes over to a cube, of which nothing is counted, learnt or saved yet. It takes time by what the last cube changed.
+    /// Goes over to a cube, of which nothing is counted, learnt or saved yet. It takes time by what
+    /// the last cube changed.
     pub(crate) fn begin(&mut self, cube: &Cube) -> Result<(), AllocError>
         requires over { self.old.kernel.short ≡ false → IsOver self.old.kernel.vars cube.now }
         requires equipped { IsEquipped self.old }
@@ -189,7 +193,8 @@ impl FocusedSearch {
         }
     }
 
-    /// Where propagation came to rest: decides the free variable of greatest score, or gives the model where none is free.
+    /// Where propagation came to rest: decides the free variable of greatest score, or gives the
+    /// model where none is free.
     fn on_quiet(&mut self) -> Result<Option<Outcome>, AllocError>
         requires focusing { IsFocusing self.old }
         requires quiet { Propagates by_place self.old.kernel.clauses self.old.kernel.trail quiet self.old.kernel.trail }
@@ -232,7 +237,8 @@ impl FocusedSearch {
         Ok(None)
     }
 
-    /// The variable in which the cube is exhausted: of those that don't stand at level 0, the one of greatest score. It goes back there.
+    /// The variable in which the cube is exhausted: of those that don't stand at level 0, the one
+    /// of greatest score. It goes back there.
     fn split(&mut self) -> Result<u32, AllocError>
         requires focusing { IsFocusing self.old }
         requires level { 1 ≤ current_level self.old.kernel.trail }
@@ -273,7 +279,8 @@ impl FocusedSearch {
         Ok(())
     }
 
-    /// Forgets half of the clauses that may be, of those that were learnt before the last one, where it is time.
+    /// Forgets half of the clauses that may be, of those that were learnt before the last one,
+    /// where it is time.
     fn forget_where_due(&mut self, last: u64) -> Result<(), AllocError>
         requires last { last ≡ length self.old.kernel.clauses }
         requires learnt { CanForget self.old.kernel (length self.old.glues.items) }

@@ -51,8 +51,8 @@ fn reasons(alloc: Global, kernel: &Kernel, from: u64, count: usize) -> Result<Ve
     Ok(reasons)
 }
 
-/// Those of the learnt clauses from a number on that may be forgotten, where they have these glues. It takes time by the trail and by how
-/// many glues there are.
+/// Those of the learnt clauses from a number on that may be forgotten, where they have these glues.
+/// It takes time by the trail and by how many glues there are.
 pub(crate) fn candidates(
     alloc: Global,
     kernel: &Kernel,

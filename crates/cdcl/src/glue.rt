@@ -9,7 +9,8 @@ use cnf::Lit;
 use kernel::Kernel;
 use std::alloc::AllocError;
 
-/// In how many levels above 0 the clause has literals. The levels are gathered in a table that is used again.
+/// In how many levels above 0 the clause has literals. The levels are gathered in a table that is
+/// used again.
 pub(crate) fn glue(kernel: &Kernel, levels: &mut Numbers, clause: &[Lit]) -> Result<u32, AllocError>
     requires { kernel.now.vars < levels.old.bound }
     ensures bound { levels.new.bound ≡ levels.old.bound }

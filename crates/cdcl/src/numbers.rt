@@ -5,7 +5,8 @@ ghost use Rattle.cdcl.specs.Numbers.{AreWith, AreAmong, StandOnce, is_one_of};
 use std::alloc::{AllocError, Global};
 use std::marker::Model;
 
-/// Numbers below a bound, each once, in the order in which they were put in. To clear it takes time by how many they are.
+/// Numbers below a bound, each once, in the order in which they were put in. To clear it takes time
+/// by how many they are.
 #[derive(Drop)]
 pub(crate) struct Numbers {
     // by number: whether it is in

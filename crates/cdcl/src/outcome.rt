@@ -59,11 +59,13 @@ pub struct Refutation {
 /// What the search in a cube comes to.
 #[derive(Drop)]
 pub enum Outcome {
-    /// The truth values of the variables 1, 2 and so on: the first assignment that satisfies the formula and the cube and has the pure
-    /// variables false.
+    /// The truth values of the variables 1, 2 and so on: an assignment that satisfies the formula and
+    /// the cube and has the pure variables false, by the ordered search the first such one.
     Model(Vec<bool>),
     /// No assignment satisfies the formula and the cube and has the pure variables false.
     Refuted(Refutation),
-    /// The budget of conflicts is used up; the variable is the first one that was decided.
+    /// The budget of conflicts is used up; the variable, on which the cube is to be split, is the
+    /// first one that was decided by the ordered search, and by the focused search the one of
+    /// greatest score among those that don't stand at level 0.
     Exhausted(u32),
 }

@@ -10,14 +10,16 @@ use std::marker::Model;
 /// Which search is made in a cube.
 #[derive(Clone, Copy, Debug, PartialEq, Eq)]
 pub enum Search {
-    /// It decides the least free variable to be false, and forgets nothing: the model that it finds is the first one.
+    /// It decides the least free variable to be false, and forgets nothing: the model that it finds
+    /// is the first one.
     Ordered,
-    /// It decides the variables that gained most in conflicts, restarts and forgets, so that hard formulas are solved: the model
-    /// that it finds is one of several.
+    /// It decides the variables that gained most in conflicts, restarts and forgets, so that hard
+    /// formulas are solved: the model that it finds is one of several.
     Focused,
 }
 
-/// A search, and the budget of the root: 1 to 100,000 conflicts. Formula and plan fix the answer and the proof, byte for byte.
+/// A search, and the budget of the root: 1 to 100,000 conflicts. Formula and plan fix the answer
+/// and the proof, byte for byte.
 #[derive(Clone, Copy, Debug, PartialEq, Eq)]
 pub struct Plan {
     search: Search,
@@ -57,7 +59,8 @@ impl Plan {
         }
     }
 
-    /// The focused search with the usual numbers, and a budget of 1 to 100,000 conflicts for the root.
+    /// The focused search with the usual numbers, and a budget of 1 to 100,000 conflicts for the
+    /// root.
     pub fn focused(budget: u32) -> Plan
         requires { (1 ≤ budget) × (budget ≤ 100000) }
         ensures { result ≡ record { search = focused default_constants; budget = budget } }
