@@ -61,9 +61,8 @@ static DECIDED: [Decided; 13] = [
     ),
 ];
 
-/// The row of a command line for it.
-fn row_of<'a>(decided: &'a Decided, words: &'a [&'a str]) -> Row<'a> {
-    let (formula, _, answer, proof) = *decided;
+/// The row of a command line that decides a formula.
+fn row_of<'a>(words: &'a [&'a str], formula: &'a str, answer: &'a str, proof: &'a str) -> Row<'a> {
     Row {
         formula,
         before: None,
@@ -79,13 +78,14 @@ fn row_of<'a>(decided: &'a Decided, words: &'a [&'a str]) -> Row<'a> {
 
 #[test]
 fn formulas_are_decided_by_any_number_of_hands(rt: HostRuntime) -> Result<(), Fail> {
-    for decided in &DECIDED {
+    for (formula, budget, answer, proof) in &DECIDED {
         for hands in ["1", "2", "8"] {
             let words = [
-                "cubesat", "solve", "--search", "focused", "--budget", decided.1, "--hands", hands,
+                "cubesat", "solve", "--search", "focused", "--budget", budget, "--hands", hands,
                 "--proof", "PROOF", "FORMULA",
             ];
-            check_rows(&rt, "focused.cnf", &[row_of(decided, &words)])?;
+            let row = row_of(&words, formula, answer, proof);
+            check_rows(&rt, "focused.cnf", &[row])?;
         }
     }
     Ok(())
