@@ -1,7 +1,7 @@
 //! What cubes are to come to.
 ghost use Rattle.std.specs.Prelude.{◌≤◌};
 
-use cdcl::{Outcome, Refutation, solve_cube};
+use cdcl::{Outcome, Plan, Refutation, solve_cube, solve_cube_by_plan};
 use cnf::read_formula;
 use samples::{cube_of, reads};
 use std::alloc::Global;
@@ -19,8 +19,17 @@ pub type WantedLine<'a> = (&'a [i32], &'a [u64]);
 pub enum Wanted<'a> {
     /// Nothing but the variable to split on, which is the first.
     Exhausted,
+    /// Nothing but the variable to split on.
+    ExhaustedOn(u32),
     Model(&'a [bool]),
     Refuted(&'a [WantedLine<'a>]),
+}
+
+/// The outcome of the root, by a plan.
+pub fn outcome_by(alloc: Global, text: &[u8], plan: Plan) -> Result<Outcome, Fail> {
+    let formula = read_formula(alloc, text)?;
+    let root = cube_of(alloc, formula.vars(), &[])?;
+    Ok(solve_cube_by_plan(alloc, &formula, &root, plan)?)
 }
 
 /// The outcome of a cube.
@@ -47,6 +56,7 @@ fn has_lines(refutation: &Refutation, wanted: &[WantedLine]) -> bool {
 pub fn is_wanted(outcome: &Outcome, wanted: Wanted) -> bool {
     match (outcome, wanted) {
         (Outcome::Exhausted(var), Wanted::Exhausted) => *var == 1,
+        (Outcome::Exhausted(var), Wanted::ExhaustedOn(wanted)) => *var == wanted,
         (Outcome::Model(values), Wanted::Model(wanted)) => &values[..] == wanted,
         (Outcome::Refuted(refutation), Wanted::Refuted(lines)) => has_lines(refutation, lines),
         _ => false,

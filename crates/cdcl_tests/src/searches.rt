@@ -1,5 +1,5 @@
 //! Worked searches of cubes, and the halves of a cube.
-ghost use Rattle.std.specs.Prelude.{◌≡◌, ◌≤◌};
+ghost use Rattle.std.specs.Prelude.{◌≡◌};
 
 use crate::outcomes::{LEVEL_LEFT_OUT, Row, Wanted, WantedLine, all_come, is_wanted, outcome};
 use cdcl::{Outcome, Plan, Solver, split};
@@ -244,17 +244,15 @@ fn first_failed(
     Ok(None)
 }
 
-/// The same of a text, where the root has a budget of so many conflicts.
+/// The same of a text, by a plan.
 fn failed_turn(
     alloc: Global,
     text: &[u8],
-    budget: u32,
+    plan: Plan,
     turns: &[Turn],
-) -> Result<Option<usize>, Fail>
-    requires { (1 ≤ budget) × (budget ≤ 100000) }
-{
+) -> Result<Option<usize>, Fail> {
     let formula = read_formula(alloc, text)?;
-    let mut solver = Solver::open(alloc, &formula, Plan::ordered(budget))?;
+    let mut solver = Solver::open(alloc, &formula, plan)?;
     first_failed(alloc, &formula, &mut solver, turns)
 }
 
@@ -285,9 +283,18 @@ static TURNS_OF_MORE: [Turn; 4] = [LEFT_HALF, REFUTED_ROOT, REFUTED_ROOT, RIGHT_
 
 #[test]
 fn one_solver_for_all_cubes(rt: HostRuntime) -> Result<(), Fail> {
-    assert_eq!(rt; failed_turn(rt.alloc(), EIGHT, 2, &TURNS_OF_TWO)?, None);
-    assert_eq!(rt; failed_turn(rt.alloc(), EIGHT, 4, &TURNS_OF_MORE)?, None);
-    assert_eq!(rt; failed_turn(rt.alloc(), EIGHT, 1000, &TURNS_OF_MORE)?, None);
+    assert_eq!(rt;
+        failed_turn(rt.alloc(), EIGHT, Plan::ordered(2), &TURNS_OF_TWO)?,
+        None
+    );
+    assert_eq!(rt;
+        failed_turn(rt.alloc(), EIGHT, Plan::ordered(4), &TURNS_OF_MORE)?,
+        None
+    );
+    assert_eq!(rt;
+        failed_turn(rt.alloc(), EIGHT, Plan::ordered(1000), &TURNS_OF_MORE)?,
+        None
+    );
     Ok(())
 }
 
@@ -315,10 +322,48 @@ static TURNS_OF_TWO_MODELS: [Turn; 6] = [
     ROOT_OF_TWO_MODELS,
 ];
 
+// by the focused search the variable 3 is decided first
+const LEFT_HALF_FOCUSED: Turn = Turn {
+    cube: &[-1],
+    wanted: Wanted::Refuted(&[(&[3], &[1, 3]), (&[], &[9, 2, 4])]),
+};
+
+const RIGHT_HALF_FOCUSED: Turn = Turn {
+    cube: &[1],
+    wanted: Wanted::Refuted(&[(&[3], &[5, 7]), (&[], &[9, 6, 8])]),
+};
+
+const ROOT_FOCUSED: Turn = Turn {
+    cube: &[],
+    wanted: Wanted::ExhaustedOn(3),
+};
+
+static TURNS_FOCUSED: [Turn; 5] = [
+    LEFT_HALF_FOCUSED,
+    ROOT_FOCUSED,
+    RIGHT_HALF_FOCUSED,
+    ROOT_FOCUSED,
+    LEFT_HALF_FOCUSED,
+];
+
+#[test]
+fn one_focused_solver_for_all_cubes(rt: HostRuntime) -> Result<(), Fail> {
+    assert_eq!(rt;
+        failed_turn(rt.alloc(), EIGHT, Plan::focused(2), &TURNS_FOCUSED)?,
+        None
+    );
+    Ok(())
+}
+
 #[test]
 fn models_in_turn(rt: HostRuntime) -> Result<(), Fail> {
     assert_eq!(rt;
-        failed_turn(rt.alloc(), TWO_MODELS, 1, &TURNS_OF_TWO_MODELS)?,
+        failed_turn(
+            rt.alloc(),
+            TWO_MODELS,
+            Plan::ordered(1),
+            &TURNS_OF_TWO_MODELS
+        )?,
         None
     );
     Ok(())
