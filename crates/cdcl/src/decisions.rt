@@ -15,12 +15,21 @@ use kernel::{Entry, Kernel};
 use std::alloc::{AllocError, Global};
 
 /// By what variables are decided.
-#[derive(Drop)]
 pub(crate) struct Decisions {
     /// The scores of the variables. Each free one waits, and maybe some that stand on the trail.
     pub(crate) scores: Scores,
     /// The value of each variable when it left the trail last.
     pub(crate) saved: Saved,
+}
+
+// written out, so that proofs of its owners stay short (docs/CHANGING.md)
+impl Drop for Decisions {
+    fn drop(self) {
+        let Decisions {
+            scores: _,
+            saved: _,
+        } = self;
+    }
 }
 
 /// How many entries, from the first on, are of a level or below it. It takes time by the others.

@@ -16,6 +16,7 @@ ghost use Rattle.cdcl.specs.Saving.{AgreeOutside, AreWaiting, AreKept};
 ghost use Rattle.cdcl.specs.Focusing.{state_of, HasSaved, IsEquipped, IsFocusing, IsTaught, CanForget, Learns, Follows, IsFocusedSearchStep, Begins, Continues};
 
 use crate::analysis::Learnt;
+use crate::counts::{Counts, Watcher, tell};
 use crate::decisions::{Decisions, count_up_to};
 use crate::forgetting::candidates;
 use crate::lesson::Analysis;
@@ -27,7 +28,6 @@ use kernel::{Closed, Cube, Kernel, Order};
 use std::alloc::{AllocError, Global};
 
 /// The state of a search.
-#[derive(Drop)]
 pub(crate) struct FocusedSearch {
     pub(crate) constants: Constants,
     pub(crate) kernel: Kernel,
@@ -45,6 +45,23 @@ pub(crate) struct FocusedSearch {
     pub(crate) schedule: Schedule,
     /// Room for the analysis of conflicts.
     pub(crate) analysis: Analysis,
+}
+
+// written out, so that proofs of its owners stay short (docs/CHANGING.md)
+impl Drop for FocusedSearch {
+    fn drop(self) {
+        let FocusedSearch {
+            constants: _,
+            kernel: _,
+            conflicts: _,
+            lines: _,
+            glues: _,
+            decisions: _,
+            averages: _,
+            schedule: _,
+            analysis: _,
+        } = self;
+    }
 }
 
 /// The level to go back to.
@@ -165,18 +182,29 @@ impl FocusedSearch {
         Ok(())
     }
 
+    /// How much was done in all cubes so far.
+    pub(crate) fn counts(&self) -> Counts {
+        Counts::of(self.kernel.counts(), self.averages.restarts())
+    }
+
     /// The outcome of the cube that was begun.
-    pub(crate) fn run(&mut self, budget: u32) -> Result<Outcome, AllocError>
+    pub(crate) fn run<W: Watcher>(
+        &mut self,
+        budget: u32,
+        watcher: &W,
+    ) -> Result<Outcome, AllocError>
         requires focusing { IsFocusing self.old }
         requires counted { (self.old.conflicts < budget) × (budget ≤ max_budget) }
         ensures runs { IfOk result (λ o. (saved : Assignment) → HasSaved self.old saved →
             RunsFrom (IsFocusedStep self.old.constants self.old.kernel.vars budget) (state_of self.old saved) (outcome_of o)) }
         ensures kept { OnOk result (Continues self.old self.new) }
     {
+        let mut told = self.counts().conflicts;
         'steps: loop {
             if let Some(outcome) = self.step(budget)? {
                 return Ok(outcome);
             }
+            told = tell(watcher, self.counts(), told);
         }
     }
 

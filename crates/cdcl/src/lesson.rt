@@ -24,13 +24,23 @@ pub(crate) struct Lesson {
 }
 
 /// Room for the analysis of conflicts.
-#[derive(Drop)]
 pub(crate) struct Analysis {
     pub(crate) room: Room,
     /// The variables that the last conflict has seen.
     pub(crate) seen: Numbers,
     /// The levels of the clause that was learnt last.
     pub(crate) levels: Numbers,
+}
+
+// written out, so that proofs of its owners stay short (docs/CHANGING.md)
+impl Drop for Analysis {
+    fn drop(self) {
+        let Analysis {
+            room: _,
+            seen: _,
+            levels: _,
+        } = self;
+    }
 }
 
 impl Analysis {

@@ -4,6 +4,7 @@
 
 mod analysis;
 mod budget;
+mod counts;
 mod decisions;
 mod flags;
 mod focused;
@@ -26,6 +27,7 @@ mod values;
 
 pub use analysis::{Learnt, analyze};
 pub use budget::budget_of;
+pub use counts::{Counts, Unwatched, Watcher};
 pub use halves::split;
 pub use outcome::{Line, Outcome, Refutation};
 pub use plan::{Plan, Search};

@@ -13,6 +13,7 @@ ghost use Rattle.cdcl.specs.Outcome.{outcome_of};
 ghost use Rattle.cdcl.specs.Searching.{IsReady, IsSearching, IsSearchStep, Begins, GoesOn, search_of, next_of};
 
 use crate::analysis::analyze_in;
+use crate::counts::{Counts, Watcher, tell};
 use crate::marks::Room;
 use crate::outcome::{Line, Outcome};
 use crate::values::{refute, values};
@@ -21,7 +22,6 @@ use kernel::{Closed, Cube, Kernel};
 use std::alloc::{AllocError, Global};
 
 /// The state of a search.
-#[derive(Drop)]
 pub(crate) struct OrderedSearch {
     pub(crate) kernel: Kernel,
     /// How many conflicts above level 0 were counted.
@@ -32,6 +32,19 @@ pub(crate) struct OrderedSearch {
     pub(crate) lines: Vec<Line>,
     /// Room for the analysis of conflicts.
     pub(crate) room: Room,
+}
+
+// written out, so that proofs of its owners stay short (docs/CHANGING.md)
+impl Drop for OrderedSearch {
+    fn drop(self) {
+        let OrderedSearch {
+            kernel: _,
+            conflicts: _,
+            decided: _,
+            lines: _,
+            room: _,
+        } = self;
+    }
 }
 
 impl OrderedSearch {
@@ -61,17 +74,28 @@ impl OrderedSearch {
         Ok(())
     }
 
+    /// How much was done in all cubes so far.
+    pub(crate) fn counts(&self) -> Counts {
+        Counts::of(self.kernel.counts(), 0)
+    }
+
     /// The outcome of the cube that was begun.
-    pub(crate) fn run(&mut self, budget: u32) -> Result<Outcome, AllocError>
+    pub(crate) fn run<W: Watcher>(
+        &mut self,
+        budget: u32,
+        watcher: &W,
+    ) -> Result<Outcome, AllocError>
         requires searching { IsSearching ByNumber self.old.kernel }
         requires counted { self.old.conflicts < budget }
         ensures runs { IfOk result (λ o. RunsFrom (IsOrderedStep self.old.kernel.vars budget) (search_of self.old) (outcome_of o)) }
         ensures kept { OnOk result (GoesOn self.old.kernel self.new.kernel) }
     {
+        let mut told = self.counts().conflicts;
         'steps: loop {
             if let Some(outcome) = self.step(budget)? {
                 return Ok(outcome);
             }
+            told = tell(watcher, self.counts(), told);
         }
     }
 

@@ -8,6 +8,7 @@ ghost use Rattle.theory.specs.Results.{OutcomeSays};
 ghost use Rattle.cdcl.specs.Outcome.{outcome_of};
 ghost use Rattle.cdcl.specs.Solving.{IsReadyBy};
 
+use crate::counts::{Counts, Watcher};
 use crate::focused::FocusedSearch;
 use crate::ordered::OrderedSearch;
 use crate::outcome::Outcome;
@@ -37,8 +38,21 @@ impl Searcher {
         }
     }
 
+    /// How much it has done in all cubes so far.
+    pub(crate) fn counts(&self) -> Counts {
+        match self {
+            Searcher::Ordered(search) => search.counts(),
+            Searcher::Focused(search) => search.counts(),
+        }
+    }
+
     /// The outcome of a cube, with this budget of conflicts.
-    pub(crate) fn solve(&mut self, cube: &Cube, budget: u32) -> Result<Outcome, AllocError>
+    pub(crate) fn solve<W: Watcher>(
+        &mut self,
+        cube: &Cube,
+        budget: u32,
+        watcher: &W,
+    ) -> Result<Outcome, AllocError>
         requires ready { (F : Formula) × (search : plans.Search) × IsReadyBy search F self.old × IsOver F.vars cube.now }
         requires budget { (1 ≤ budget) × (budget ≤ max_budget) }
         ensures runs { IfOk result (λ o. (F : Formula) (plan : plans.Plan) → IsReadyBy plan.search F self.old → budget ≡ budget_of plan.budget cube.now →
@@ -50,11 +64,11 @@ impl Searcher {
         match self {
             Searcher::Ordered(search) => {
                 search.begin(cube)?;
-                search.run(budget)
+                search.run(budget, watcher)
             }
             Searcher::Focused(search) => {
                 search.begin(cube)?;
-                search.run(budget)
+                search.run(budget, watcher)
             }
         }
     }

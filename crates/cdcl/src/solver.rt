@@ -7,6 +7,7 @@ ghost use Rattle.theory.specs.Results.{OutcomeSays};
 ghost use Rattle.cdcl.specs.Outcome.{outcome_of};
 
 use crate::budget::budget_of;
+use crate::counts::{Counts, Unwatched, Watcher};
 use crate::outcome::Outcome;
 use crate::plan::Plan;
 use crate::searcher::Searcher;
@@ -19,7 +20,6 @@ use std::snapshot::Snapshot;
 /// Solves cubes of one formula by one plan. The formula's clauses are copied once, with a unit clause for each of its pure literals, and the room for
 /// analysis is made once, so that a cube costs what its search does and not what the formula holds. A cube's budget is the root's times one
 /// more than the cube's literals, and at most 1,000,000. Once a call has met want of memory, each later one answers it.
-#[derive(Drop)]
 pub struct Solver {
     search: Searcher,
     // which formula it is; it is no data, and takes no room
@@ -27,6 +27,18 @@ pub struct Solver {
     plan: Plan,
     // whether a call has met want of memory
     short: bool,
+}
+
+// written out, so that proofs of its owners stay short (docs/CHANGING.md)
+impl Drop for Solver {
+    fn drop(self) {
+        let Solver {
+            search: _,
+            formula: _,
+            plan: _,
+            short: _,
+        } = self;
+    }
 }
 
 impl Model for Solver {
@@ -65,12 +77,36 @@ impl Solver {
         ensures has_memory { OnOk result (self.new.short ≡ false) }
         ensures stays { self.old.short ≡ true → IsErr result }
     {
+        let outcome = self.solve_watched(cube, &Unwatched)?;
+        Ok(outcome)
+    }
+
+    /// How much was done in all cubes so far.
+    pub fn counts(&self) -> Counts {
+        self.search.counts()
+    }
+
+    /// As `solve`, and tells a watcher what is done.
+    pub fn solve_watched<W: Watcher>(
+        &mut self,
+        cube: &Cube,
+        watcher: &W,
+    ) -> Result<Outcome, AllocError>
+        requires over { IsOver self.old.formula.vars cube.now }
+        ensures runs { IfOk result (λ o. Runs self.old.formula self.old.plan cube.now (outcome_of o)) }
+        ensures says { IfOk result (λ o. OutcomeSays self.old.plan.search self.old.formula cube.now (outcome_of o)) }
+        ensures solves { (self.new.formula ≡ self.old.formula) × (self.new.plan ≡ self.old.plan) }
+        ensures refused { OnErr result (self.new.short ≡ true) }
+        ensures has_memory { OnOk result (self.new.short ≡ false) }
+        ensures stays { self.old.short ≡ true → IsErr result }
+    {
         if self.short {
             return Err(AllocError);
         }
         self.short = true; // so it stays where one of the next calls fails
         let conflicts = budget_of(self.plan.budget(), cube.lits().len());
-        let outcome = self.search.solve(cube, conflicts)?;
+        let outcome = self.search.solve(cube, conflicts, watcher)?;
+        watcher.counted(self.search.counts());
         self.short = false;
         Ok(outcome)
     }

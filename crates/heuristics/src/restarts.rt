@@ -18,6 +18,8 @@ pub struct Glues {
     // of the recent ones
     recent_sum: u64,
     total: u64,
+    // how often the search has restarted, in all cubes; nothing goes by it
+    restarts: u64,
 }
 
 impl Model for Glues {
@@ -66,6 +68,7 @@ impl Glues {
             recent: HeapCircularBuffer::with_capacity(alloc, window)?,
             recent_sum: 0,
             total: 0,
+            restarts: 0,
         })
     }
 
@@ -89,8 +92,14 @@ impl Glues {
         if restarts {
             self.recent.clear();
             self.recent_sum = 0;
+            self.restarts = self.restarts.saturating_add(1);
         }
         restarts
+    }
+
+    /// How often the search has restarted, in all cubes so far; the greatest number stays.
+    pub fn restarts(&self) -> u64 {
+        self.restarts
     }
 
     /// No glues, as another cube begins.

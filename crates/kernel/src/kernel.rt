@@ -18,6 +18,7 @@ ghost use Rattle.kernel.specs.declared.order.Order.TheVariants.{ByNumber};
 
 use crate::attach::Room;
 use crate::closed::Closed;
+use crate::counts::Counts;
 use crate::line::Line;
 use crate::order::Order;
 use crate::propagator::Propagator;
@@ -29,7 +30,6 @@ use trail::{Cube, Entry, Trail};
 /// The clauses and the trail of the search in one cube, or in one cube after the other. Once a call has met want of memory, `close`,
 /// `learn`, `forget` and `restart` answer it from then on, `decide` and `back_to` change nothing, and the other calls answer of the trail
 /// as it stands.
-#[derive(Drop)]
 pub struct Kernel {
     // the clauses, and their watches
     propagator: Propagator,
@@ -50,6 +50,27 @@ pub struct Kernel {
     floor: usize,
     // whether a call has met want of memory
     short: bool,
+    // what was done; nothing goes by it
+    counts: Counts,
+}
+
+// written out, so that proofs of its owners stay short (docs/CHANGING.md)
+impl Drop for Kernel {
+    fn drop(self) {
+        let Kernel {
+            propagator: _,
+            order: _,
+            line: _,
+            first: _,
+            singles: _,
+            empty: _,
+            trail: _,
+            served: _,
+            floor: _,
+            short: _,
+            counts: _,
+        } = self;
+    }
 }
 
 impl Model for Kernel {
@@ -196,6 +217,7 @@ impl Kernel {
             served: 0,
             floor: usize::MAX,
             short: false,
+            counts: Counts::none(),
         })
     }
 
@@ -255,7 +277,10 @@ impl Kernel {
             .close(self.order, &mut self.trail, self.served, &mut self.line)
         {
             Ok(closed) => {
-                self.served = self.trail.entries().len();
+                let served = self.trail.entries().len();
+                let gone_over = served.saturating_sub(self.served);
+                self.counts.add_propagation(gone_over, closed);
+                self.served = served;
                 Ok(closed)
             }
             Err(error) => {
@@ -285,6 +310,7 @@ impl Kernel {
             reason: None,
             level,
         });
+        self.counts.add_decision();
     }
 
     /// Takes the entries above a level off, which is below the current one. It takes no memory, and time by the entries taken off.
@@ -318,7 +344,10 @@ impl Kernel {
             return Err(AllocError);
         }
         match self.propagator.attach_learnt(&self.trail, clause) {
-            Ok(()) => Ok(self.propagator.clauses.len() as u64),
+            Ok(()) => {
+                self.counts.add_learnt();
+                Ok(self.propagator.clauses.len() as u64)
+            }
             Err(error) => {
                 self.short = true;
                 Err(error)
@@ -346,7 +375,10 @@ impl Kernel {
             return Err(AllocError);
         }
         match self.propagator.forget(self.first, numbers) {
-            Ok(()) => Ok(()),
+            Ok(()) => {
+                self.counts.add_forgotten(numbers.len());
+                Ok(())
+            }
             Err(error) => {
                 self.short = true;
                 Err(error)
@@ -424,6 +456,11 @@ impl Kernel {
     /// How many visits of clauses `close` has made since `open`; the greatest number stays.
     pub fn visits(&self) -> u64 {
         self.propagator.visits
+    }
+
+    /// How much was done since `open`.
+    pub fn counts(&self) -> Counts {
+        self.counts
     }
 
     /// How many clauses there are: their numbers are 1 up to it.

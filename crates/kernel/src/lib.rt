@@ -5,6 +5,7 @@ mod attach;
 mod by_place;
 mod clauses;
 mod closed;
+mod counts;
 mod cut;
 mod forget;
 mod kernel;
@@ -19,6 +20,7 @@ mod units;
 mod watch;
 
 pub use closed::Closed;
+pub use counts::Counts;
 pub use kernel::Kernel;
 pub use order::Order;
 pub use trail::{Cube, Entry};

@@ -3,33 +3,34 @@ use Rattle.theory.specs.Truth.{Assignment}
 use Rattle.cdcl.specs.Focusing.{HasSaved, IsFocusedSearchStep, GoesOnward}
 use Rattle.cdcl.proofs.Steps.{GoesOn-trans}
 use Rattle.cdcl.proofs.FocusedSteps.{LeadsTo-step, LeadsTo-ends, GoesOnward-less}
+use Rattle.cdcl.proofs.focused.FocusedSearch.run.Given.{Over}
 use Rattle.cdcl.proofs.focused.FocusedSearch.run.Goals as goal
-use Rattle.cdcl.proofs.focused.FocusedSearch.run.Goals.{In_default}
+use Rattle.cdcl.proofs.focused.FocusedSearch.run.Goals.{After-tell-told}
 
 pub returns-in-Some-clause-runs : goal.returns-in-Some-clause-runs
-returns-in-Some-clause-runs c =
+returns-in-Some-clause-runs g c =
     LeadsTo-ends c.args.budget c.args.self.now c.steps.self c.step.new.self c.in-Some.outcome c.steps.invariant.constants c.steps.invariant.goes_on.0 c.steps.invariant.leads (rw c.in-Some.is at c.in_ok-outcome.ensures.step)
 
-went_on : (c : In_default) → (saved : Assignment) → HasSaved c.steps.self saved → IsFocusedSearchStep c.args.budget c.steps.self saved None c.step.new.self
-went_on c = rw c.in_default.is at c.in_ok-outcome.ensures.step
+went_on : (g : Over) (c : After-tell-told g) → (saved : Assignment) → HasSaved c.steps.self saved → IsFocusedSearchStep c.args.budget c.steps.self saved None c.step.new.self
+went_on g c = rw c.in_default.is at c.in_ok-outcome.ensures.step
 
 -- with the values that the search has saved itself
-values : In_default → Assignment
-values c = (went_on c c.steps.self.decisions.saved (λ v k f. refl)).values
+values : (g : Over) → After-tell-told g → Assignment
+values g c = (went_on g c c.steps.self.decisions.saved (λ v k f. refl)).values
 
-onward : (c : In_default) → GoesOnward c.args.budget c.steps.self c.step.new.self (values c)
+onward : (g : Over) (c : After-tell-told g) → GoesOnward c.args.budget c.steps.self c.step.new.self (values g c)
 unfolding values
-onward c = (went_on c c.steps.self.decisions.saved (λ v k f. refl)).onward
+onward g c = (went_on g c c.steps.self.decisions.saved (λ v k f. refl)).onward
 
 pub steps-smaller : goal.steps-smaller
-steps-smaller c =
-    rw c.steps.invariant.goes_on.0 at (GoesOnward-less c.args.budget c.steps.self c.step.new.self (values c) c.steps.invariant.counted c.in_ok-outcome.ensures.kept.goes_on.0 (onward c))
+steps-smaller g c =
+    rw c.steps.invariant.goes_on.0 at (GoesOnward-less c.args.budget c.steps.self c.step.new.self (values g c) c.steps.invariant.counted c.in_ok-outcome.ensures.kept.goes_on.0 (onward g c))
 
 pub steps-preserved : goal.steps-preserved
-steps-preserved c = record {
-  focusing = (onward c).focusing;
-  counted = (onward c).counted;
+steps-preserved g c = record {
+  focusing = (onward g c).focusing;
+  counted = (onward g c).counted;
   goes_on = GoesOn-trans c.args.self.now.kernel c.steps.self.kernel c.step.new.self.kernel c.steps.invariant.goes_on c.in_ok-outcome.ensures.kept.goes_on;
   constants = c.in_ok-outcome.ensures.kept.constants ∙ c.steps.invariant.constants;
-  leads = LeadsTo-step c.args.budget c.args.self.now c.steps.self c.step.new.self c.steps.invariant.constants c.steps.invariant.goes_on.0 c.steps.invariant.leads (went_on c);
+  leads = LeadsTo-step c.args.budget c.args.self.now c.steps.self c.step.new.self c.steps.invariant.constants c.steps.invariant.goes_on.0 c.steps.invariant.leads (went_on g c);
 }

@@ -7,7 +7,7 @@ use Rattle.cdcl.proofs.focused.FocusedSearch.run.Given as goal
 
 -- whatever the state leads to, the state at first does
 abbrev pub invariant-steps : goal.invariant-steps
-invariant-steps l = record {
+invariant-steps g l = record {
   focusing : IsFocusing l.self;
   counted : l.self.conflicts < l.budget;
   goes_on : GoesOn l.initial.self.kernel l.self.kernel;
@@ -16,4 +16,4 @@ invariant-steps l = record {
 }
 
 abbrev pub decreases-steps : goal.decreases-steps
-decreases-steps l = remaining l.initial.self.kernel.vars l.budget l.self.conflicts l.self.kernel.trail
+decreases-steps g l = remaining l.initial.self.kernel.vars l.budget l.self.conflicts l.self.kernel.trail

@@ -3,28 +3,29 @@ use Rattle.kernel.specs.declared.order.Order.TheVariants.{ByNumber}
 use Rattle.cdcl.specs.Searching.{IsSearching, IsSearchStep}
 use Rattle.cdcl.proofs.Progress.{remaining}
 use Rattle.cdcl.proofs.Steps.{IsSearchStep-ends, IsSearchStep-leads, IsSearchStep-keeps, GoesOn-trans}
+use Rattle.cdcl.proofs.ordered.OrderedSearch.run.Given.{Over}
 use Rattle.cdcl.proofs.ordered.OrderedSearch.run.Goals as goal
-use Rattle.cdcl.proofs.ordered.OrderedSearch.run.Goals.{In_default}
+use Rattle.cdcl.proofs.ordered.OrderedSearch.run.Goals.{After-tell-told}
 
 pub returns-in-Some-clause-runs : goal.returns-in-Some-clause-runs
-returns-in-Some-clause-runs c =
+returns-in-Some-clause-runs g c =
     c.steps.invariant.leads _ (IsSearchStep-ends c.args.self.now.kernel.vars c.args.budget c.steps.self c.step.new.self c.in-Some.outcome c.steps.invariant.goes_on.0 (rw c.in-Some.is at c.in_ok-outcome.ensures))
 
-went_on : (c : In_default) → IsSearchStep c.args.budget c.steps.self None c.step.new.self
-went_on c = rw c.in_default.is at c.in_ok-outcome.ensures
+went_on : (g : Over) (c : After-tell-told g) → IsSearchStep c.args.budget c.steps.self None c.step.new.self
+went_on g c = rw c.in_default.is at c.in_ok-outcome.ensures
 
-kept : (c : In_default) → IsSearching ByNumber c.step.new.self.kernel × (c.step.new.self.conflicts < c.args.budget)
+kept : (g : Over) (c : After-tell-told g) → IsSearching ByNumber c.step.new.self.kernel × (c.step.new.self.conflicts < c.args.budget)
     × (remaining c.steps.self.kernel.vars c.args.budget c.step.new.self.conflicts c.step.new.self.kernel.trail
     < remaining c.steps.self.kernel.vars c.args.budget c.steps.self.conflicts c.steps.self.kernel.trail)
-kept c = IsSearchStep-keeps c.args.budget c.steps.self c.step.new.self c.steps.invariant.searching c.steps.invariant.counted (went_on c)
+kept g c = IsSearchStep-keeps c.args.budget c.steps.self c.step.new.self c.steps.invariant.searching c.steps.invariant.counted (went_on g c)
 
 pub steps-smaller : goal.steps-smaller
-steps-smaller c = rw c.steps.invariant.goes_on.0 at (kept c).2
+steps-smaller g c = rw c.steps.invariant.goes_on.0 at (kept g c).2
 
 pub steps-preserved : goal.steps-preserved
-steps-preserved c = record {
-  searching = (kept c).0;
-  counted = (kept c).1;
-  goes_on = GoesOn-trans c.args.self.now.kernel c.steps.self.kernel c.step.new.self.kernel c.steps.invariant.goes_on (went_on c).goes_on;
-  leads = λ o h. c.steps.invariant.leads o (IsSearchStep-leads c.args.self.now.kernel.vars c.args.budget c.steps.self c.step.new.self o c.steps.invariant.goes_on.0 (went_on c) h);
+steps-preserved g c = record {
+  searching = (kept g c).0;
+  counted = (kept g c).1;
+  goes_on = GoesOn-trans c.args.self.now.kernel c.steps.self.kernel c.step.new.self.kernel c.steps.invariant.goes_on (went_on g c).goes_on;
+  leads = λ o h. c.steps.invariant.leads o (IsSearchStep-leads c.args.self.now.kernel.vars c.args.budget c.steps.self c.step.new.self o c.steps.invariant.goes_on.0 (went_on g c) h);
 }

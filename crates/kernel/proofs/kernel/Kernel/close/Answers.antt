@@ -19,7 +19,7 @@ invariant_of-self c =
       rw e.kept.0 (e.lawful c.self.invariant.0),
       rw (e.kept.0, e.vars) c.self.invariant.1,
       rw e.kept.0 c.self.invariant.2,
-      λ h. rw (e.kept.0, e.vars, c.entries.ensures.entries) (record {
+      λ h. rw (e.kept.0, e.vars, c.entries-served.ensures.entries) (record {
         lists = len ∙ s.lists;
         served = e.served c.self.inside.floor s.served;
         entries = e.entries;

@@ -14,21 +14,21 @@ use Rattle.theory.proofs.TrailLists.{literals-cube}
 use Rattle.kernel.proofs.kernel.Kernel.open_in_order.Goals as goal
 
 -- the parts of the kernel, as the calls have told them
-vars_of : (c : goal.After-new) → c.put_cube.new.trail.vars ≡ c.args.formula.now.vars
+vars_of : (c : goal.After-none) → c.put_cube.new.trail.vars ≡ c.args.formula.now.vars
 vars_of c = c.put_cube.ensures.vars ∙ (ap (λ (t : TrailOver). t.vars) c.in_ok-trail.ensures ∙ c.vars-vars.ensures.vars)
 
-entries_of : (c : goal.After-new) → c.put_cube.new.trail.entries ≡ cube_trail c.args.cube.now
+entries_of : (c : goal.After-none) → c.put_cube.new.trail.entries ≡ cube_trail c.args.cube.now
 entries_of c = c.put_cube.ensures.entries ∙ ap cube_trail c.lits.ensures.lits
 
-clauses_are : (c : goal.After-new) → c.attach_units.new.self.clauses ≡ c.args.formula.now.clauses ++ unit_clauses c.args.units.now
+clauses_are : (c : goal.After-none) → c.attach_units.new.self.clauses ≡ c.args.formula.now.clauses ++ unit_clauses c.args.units.now
 clauses_are c = rw (c.in_ok-attach_units.ensures.clauses, c.in_ok-attach_all.ensures.clauses, c.in_ok-propagator.ensures.none.0, c.clauses-clauses.ensures.clauses) refl
 
 -- the clauses are over the formula's variables
-over_of : (c : goal.After-new) → All (IsOver c.args.formula.now.vars) (c.args.formula.now.clauses ++ unit_clauses c.args.units.now)
+over_of : (c : goal.After-none) → All (IsOver c.args.formula.now.vars) (c.args.formula.now.clauses ++ unit_clauses c.args.units.now)
 over_of c = All-append (IsOver c.args.formula.now.vars) c.args.formula.now.clauses (unit_clauses c.args.units.now) c.vars-vars.ensures.within.formula (IsOver-unit_clauses c.args.formula.now.vars c.args.units.now c.requires.units.1)
 
 -- nothing is decided, so whatever the cube puts on the trail is yet to be served
-watching : (c : goal.After-new) → IsWatching c.put_cube.new.trail.vars c.len.result c.attach_units.new.self.clauses c.put_cube.new.trail.entries 0 18446744073709551615 (kept_of c.attach_units.new.self) c.attach_units.new.singles.items c.attach_units.new.self.conflict
+watching : (c : goal.After-none) → IsWatching c.put_cube.new.trail.vars c.len.result c.attach_units.new.self.clauses c.put_cube.new.trail.entries 0 18446744073709551615 (kept_of c.attach_units.new.self) c.attach_units.new.singles.items c.attach_units.new.self.conflict
 watching c =
     let V = c.vars-vars.result in
     let e = c.in_ok-propagator.ensures in

@@ -1,0 +1,82 @@
+//! How much a search has done, and who is told of it while it goes on.
+
+/// How much a solver has done since it was opened, in all its cubes. Each number stays once it has
+/// come to the greatest one.
+#[derive(Clone, Copy, Debug, PartialEq, Eq)]
+pub struct Counts {
+    pub conflicts: u64,
+    pub decisions: u64,
+    /// Entries of the trail that propagation went over, decisions among them.
+    pub propagations: u64,
+    /// How often the focused search has restarted.
+    pub restarts: u64,
+    /// Clauses that were learnt.
+    pub learnt: u64,
+    /// Learnt clauses that were forgotten.
+    pub forgotten: u64,
+}
+
+impl Counts {
+    /// Nothing was done.
+    pub fn none() -> Counts {
+        Counts {
+            conflicts: 0,
+            decisions: 0,
+            propagations: 0,
+            restarts: 0,
+            learnt: 0,
+            forgotten: 0,
+        }
+    }
+
+    /// What a kernel has done, and so many restarts.
+    pub(crate) fn of(kernel: kernel::Counts, restarts: u64) -> Counts {
+        Counts {
+            conflicts: kernel.conflicts,
+            decisions: kernel.decisions,
+            propagations: kernel.propagations,
+            restarts,
+            learnt: kernel.learnt,
+            forgotten: kernel.forgotten,
+        }
+    }
+
+    /// What two solvers have done together.
+    pub fn with(self, other: Counts) -> Counts {
+        Counts {
+            conflicts: self.conflicts.saturating_add(other.conflicts),
+            decisions: self.decisions.saturating_add(other.decisions),
+            propagations: self.propagations.saturating_add(other.propagations),
+            restarts: self.restarts.saturating_add(other.restarts),
+            learnt: self.learnt.saturating_add(other.learnt),
+            forgotten: self.forgotten.saturating_add(other.forgotten),
+        }
+    }
+}
+
+/// Who is told what a solver has done: about each thousand conflicts while it is in a cube, and at
+/// the cube's end. What the solver answers doesn't depend on it.
+pub trait Watcher {
+    /// The solver has done so much since it was opened.
+    fn counted(&self, counts: Counts);
+}
+
+/// The watcher that does nothing.
+#[derive(Clone, Copy)]
+pub struct Unwatched;
+
+impl Watcher for Unwatched {
+    fn counted(&self, _counts: Counts) {}
+}
+
+/// So many conflicts pass before a watcher is told again.
+const BETWEEN: u64 = 1000;
+
+/// Tells a watcher what was done, where it was told so many conflicts before; how many it was told.
+pub(crate) fn tell<W: Watcher>(watcher: &W, counts: Counts, told: u64) -> u64 {
+    if counts.conflicts.saturating_sub(told) < BETWEEN {
+        return told;
+    }
+    watcher.counted(counts);
+    counts.conflicts
+}
