@@ -1,5 +1,5 @@
 -- The place of a clause's last false literal.
-use Rattle.std.proofs.Common.{◌≡◌, ℕ, suc, zero, ◌+◌, ◌<◌, ◌≤◌, Bool, true, false, not, ◌||◌, [], ◌∷◌, ◌++◌, length, max, Some, refl, ap, sym, subst, ◌∙◌, ◌⊎◌, inl, inr, arith, cond, nat_eq, nat_lt, eqb-true, eq-eqb, slice_get}
+use Rattle.std.proofs.Common.{◌≡◌, ℕ, suc, zero, ◌+◌, ◌-◌, ◌<◌, ◌≤◌, Bool, true, false, not, ◌||◌, [], ◌∷◌, ◌++◌, length, max, Some, refl, ap, sym, subst, ◌∙◌, ◌⊎◌, inl, inr, arith, cond, nat_eq, nat_lt, eqb-true, eq-eqb, slice_get, get_or}
 use Rattle.std.specs.Ordering.{is_lt, nat_cmp}
 use Rattle.std.specs.declared.cmp.Ordering.TheVariants.{Less, Equal, Greater}
 use Rattle.std.proofs.lemmas.Bool.{ltb-true, ltb-false}
@@ -135,3 +135,17 @@ max-is x y = go (nat_lt y x) refl (nat_eq y x)
     go true e c = let f = ltb-true y x e in omega (arith, f)
     go false e true = let f = ltb-false y x e in omega (arith, f)
     go false e false = let f = ltb-false y x e in omega (arith, f)
+
+-- of a clause with a literal that the last entry makes false
+last_false-last : (T : Trail) (p : ℕ) (e x : Entry) (c : Clause) → length T ≡ p + 1 → e ≡ get_or T p x → has c (negated e.lit) ≡ true → last_false T c ≡ length T
+last_false-last [] p e x c long found h = absurd (omega (arith, long))
+last_false-last (d ∷ []) zero e x c long found h = ap (λ b. with_first b 0) (ap (λ (y : Entry). has c (negated y.lit)) (sym found) ∙ h)
+last_false-last (d ∷ []) (suc p) e x c long found h = absurd (omega (arith, long))
+last_false-last (d ∷ f ∷ T) zero e x c long found h = absurd (omega (arith, long))
+last_false-last (d ∷ f ∷ T) (suc p) e x c long found h =
+    let r : last_false (f ∷ T) c ≡ length (f ∷ T) = last_false-last (f ∷ T) p e x c (omega (arith, long)) found h in
+    ap (with_first (has c (negated d.lit))) r
+
+pub last_false-fell : (T : Trail) (e x : Entry) (c : Clause) (l gone : Literal) → 0 < length T → e ≡ get_or T (length T - 1) x → gone ≡ negated e.lit → same l gone ≡ true → has c l ≡ true → last_false T c ≡ length T
+last_false-fell T e x c l gone some found is one member =
+    last_false-last T (length T - 1) e x c (omega (arith, some)) found (subst (λ (k : Literal). has c k ≡ true) (same-eq l gone one ∙ is) member)

@@ -1,4 +1,5 @@
 pub mod Adding
+pub mod Arranged
 pub mod AtRest
 pub mod Attached
 pub mod Backtracking
@@ -9,6 +10,7 @@ pub mod Falling
 pub mod Filtering
 pub mod Forgetting
 pub mod ForgottenAt
+pub mod InOrder
 pub mod KernelSteps
 pub mod LastFalse
 pub mod LeastClauses
@@ -24,6 +26,7 @@ pub mod Places
 pub mod Popping
 pub mod Restarting
 pub mod Serving
+pub mod Sights
 pub mod Steps
 pub mod TrailFacts
 pub mod Turns

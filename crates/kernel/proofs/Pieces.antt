@@ -1,8 +1,9 @@
 -- Lists that lie one behind the other: one more at the end, the one at a place, and others behind the first ones.
-use Rattle.std.proofs.Common.{◌≡◌, ℕ, zero, suc, ◌+◌, ◌-◌, ◌<◌, ◌≤◌, List, [], ◌∷◌, ◌++◌, length, map, take, drop, get_or, Some, slice_get, refl, ap, sym, subst, ◌∙◌, arith, All, length-append}
+use Rattle.std.proofs.Common.{◌≡◌, ℕ, zero, suc, ◌+◌, ◌-◌, ◌<◌, ◌≤◌, List, [], ◌∷◌, ◌++◌, length, map, take, drop, get_or, Some, slice_get, refl, ap, sym, subst, ◌∙◌, arith, All, length-append, append_assoc, set}
 use Rattle.std.specs.List.{slice_range}
-use Rattle.std.proofs.lemmas.List.{take-append-le, take-append-drop, drop-append-le, length-drop, length-take-le, get_or_default}
+use Rattle.std.proofs.lemmas.List.{take-append-le, take-append-drop, drop-append-le, length-drop, length-take-le, get_or_default, drop-drop}
 use Rattle.std.proofs.Math.Seq.{drop-append_seam}
+use Rattle.std.proofs.lemmas.Option.{get_or_from_slice_get}
 use Rattle.kernel.specs.Pieces.{pieces, AreEnds, start_at}
 
 pub start_at-behind : (from : ℕ) (ends : List ℕ) (i : ℕ) → 0 < i → start_at from ends i ≡ get_or ends (i - 1) 0
@@ -148,3 +149,129 @@ module _ {X : Type 0} (xs ys : List X) (ends more : List ℕ) (i : ℕ) (h : Are
       let high : get_or more j 0 ≤ length ys = end-le 0 more (length ys) j k inside in
       let same : get_or more j d ≡ get_or more j 0 = get_or_default more j d 0 inside in
       omega (arith, small, high, same, length-append (take start xs) ys, front-long)
+
+-- where others begin is no earlier than where the first one does
+start-from : (from : ℕ) (ends : List ℕ) (n i : ℕ) → AreEnds from ends n → i ≤ length ends → from ≤ start_at from ends i
+start-from from ends n zero h less = omega arith
+start-from from [] n (suc i) h less = absurd (omega (arith, less))
+start-from from (end ∷ ends) n (suc zero) h less = h.0
+start-from from (end ∷ ends) n (suc (suc i)) h less = let a = h.0 in let b : end ≤ start_at end ends (suc i) = start-from end ends n (suc i) h.1 (omega (arith, less)) in omega (arith, a, b)
+
+-- one of the lists is written anew: xs and ys differ from s up to e alone, and d is there in ys
+module _ {X : Type 0} (xs ys d : List X) (s e : ℕ) (before : (a b : ℕ) → a ≤ b → b ≤ s → slice_range ys a b ≡ slice_range xs a b) (behind : (a b : ℕ) → e ≤ a → slice_range ys a b ≡ slice_range xs a b) (here : slice_range ys s e ≡ d) where
+  alike : (from : ℕ) (ends : List ℕ) (n : ℕ) → e ≤ from → AreEnds from ends n → pieces from ys ends ≡ pieces from xs ends
+  alike from [] n low h = refl
+  alike from (end ∷ ends) n low h = ap (λ zs. zs ∷ pieces end ys ends) (behind from end low) ∙ ap (λ (k : List (List X)). slice_range xs from end ∷ k) (alike end ends n (let a = h.0 in omega (arith, low, a)) h.1)
+
+  written : (from : ℕ) (ends : List ℕ) (n i : ℕ) → AreEnds from ends n → i < length ends → s ≡ start_at from ends i → e ≡ get_or ends i 0 → pieces from ys ends ≡ set (pieces from xs ends) i d
+  written from [] n i h less a b = absurd (omega (arith, less))
+  written from (end ∷ ends) n zero h less a b =
+      ap (λ zs. zs ∷ pieces end ys ends) (ap (λ m. slice_range ys m end) (sym a) ∙ (ap (λ m. slice_range ys s m) (sym b) ∙ here)) ∙ ap (λ (k : List (List X)). d ∷ k) (alike end ends n (omega (arith, b)) h.1)
+  written from (end ∷ ends) n (suc i) h less a b =
+      let next : s ≡ start_at end ends i = a ∙ start-next i in
+      let low : end ≤ s = let z : end ≤ start_at end ends i = start-from end ends n i h.1 (omega (arith, less)) in omega (arith, z, next) in
+      ap (λ zs. zs ∷ pieces end ys ends) (before from end h.0 low) ∙ ap (λ (k : List (List X)). slice_range xs from end ∷ k) (written end ends n i h.1 (omega (arith, less)) next b)
+    where
+      start-next : (j : ℕ) → start_at from (end ∷ ends) (suc j) ≡ start_at end ends j
+      start-next zero = refl
+      start-next (suc j) = refl
+
+-- one of the lists, written anew
+module _ {X : Type 0} (xs d : List X) (ends : List ℕ) (i : ℕ) (h : AreEnds 0 ends (length xs)) (less : i < length ends) (long : length d ≡ get_or ends i 0 - start_at 0 ends i) where
+  abbrev from_here : ℕ
+  from_here = start_at 0 ends i
+
+  abbrev to_here : ℕ
+  to_here = get_or ends i 0
+
+  low : from_here ≤ to_here
+  low = start-le 0 ends (length xs) i h less
+
+  high : to_here ≤ length xs
+  high = end-le 0 ends (length xs) i h less
+
+  abbrev first_part : List X
+  first_part = take from_here xs
+
+  first-long : length first_part ≡ from_here
+  first-long = length-take-le from_here xs (omega (arith, low, high))
+
+  part-long : length (first_part ++ d) ≡ to_here
+  part-long = let a = length-append first_part d in omega (arith, a, first-long, long, low)
+
+  joined : first_part ++ (d ++ drop to_here xs) ≡ (first_part ++ d) ++ drop to_here xs
+  joined = sym (append_assoc first_part d (drop to_here xs))
+
+  pub length-rewritten : length (first_part ++ (d ++ drop to_here xs)) ≡ length xs
+  length-rewritten = ap length joined ∙ (let a = length-append (first_part ++ d) (drop to_here xs) in let b = length-drop to_here xs in omega (arith, a, b, part-long, high))
+
+  before-part : (a b : ℕ) → a ≤ b → b ≤ from_here → slice_range (first_part ++ (d ++ drop to_here xs)) a b ≡ slice_range xs a b
+  before-part a b p q =
+      range-front first_part (d ++ drop to_here xs) a b p (omega (arith, q, first-long))
+      ∙ (sym (range-front first_part (drop from_here xs) a b p (omega (arith, q, first-long))) ∙ ap (λ (zs : List X). slice_range zs a b) (take-append-drop from_here xs))
+
+  behind-part : (a b : ℕ) → to_here ≤ a → slice_range (first_part ++ (d ++ drop to_here xs)) a b ≡ slice_range xs a b
+  behind-part a b p = ap (take (b - a)) (one ∙ sym two)
+    where
+      at_part : length (first_part ++ d) + (a - to_here) ≡ a
+      at_part = omega (arith, p, part-long)
+
+      one : drop a (first_part ++ (d ++ drop to_here xs)) ≡ drop (a - to_here) (drop to_here xs)
+      one = ap (drop a) joined ∙ (ap (λ n. drop n ((first_part ++ d) ++ drop to_here xs)) (sym at_part) ∙ drop-behind (first_part ++ d) (drop to_here xs) (a - to_here))
+
+      front_part : length (take to_here xs) + (a - to_here) ≡ a
+      front_part = let z : length (take to_here xs) ≡ to_here = length-take-le to_here xs high in omega (arith, p, z)
+
+      two : drop a xs ≡ drop (a - to_here) (drop to_here xs)
+      two = ap (drop a) (sym (take-append-drop to_here xs)) ∙ (ap (λ n. drop n (take to_here xs ++ drop to_here xs)) (sym front_part) ∙ drop-behind (take to_here xs) (drop to_here xs) (a - to_here))
+
+  here-part : slice_range (first_part ++ (d ++ drop to_here xs)) from_here to_here ≡ d
+  here-part =
+      ap (λ (zs : List X). slice_range zs from_here to_here) joined
+      ∙ (range-front (first_part ++ d) (drop to_here xs) from_here to_here low (omega (arith, part-long))
+      ∙ (ap (λ n. slice_range (first_part ++ d) n to_here) (sym first-long) ∙ range-back first_part d to_here (omega (arith, first-long, long, low))))
+
+  pub pieces-rewritten : pieces 0 (first_part ++ (d ++ drop to_here xs)) ends ≡ set (pieces 0 xs ends) i d
+  pieces-rewritten = written xs (first_part ++ (d ++ drop to_here xs)) d from_here to_here before-part behind-part here-part 0 ends (length xs) i h less refl refl
+
+-- the same as a program has it: what is read at the place, and what stands there then
+module _ {X : Type 0} (xs read : List X) (ends : List ℕ) (clauses : List (List X)) (i s e : ℕ) (are : pieces 0 xs ends ≡ clauses) (h : AreEnds 0 ends (length xs)) (less : i < length clauses) (value : read ≡ xs) (start : s ≡ start_at 0 ends i) (end : e ≡ get_or ends i e) where
+  pub part-ends : i < length ends
+  part-ends = subst (λ n. i < n) (sym (ap length are) ∙ length-pieces 0 xs ends) less
+
+  part-end : e ≡ get_or ends i 0
+  part-end = end ∙ get_or_default ends i e 0 part-ends
+
+  pub part-low : s ≤ e
+  part-low = let a = start-le 0 ends (length xs) i h part-ends in omega (arith, a, start, part-end)
+
+  pub part-high : e ≤ length xs
+  part-high = let a = end-le 0 ends (length xs) i h part-ends in omega (arith, a, part-end)
+
+  pub part-read : (c : List X) → get_or clauses i c ≡ c → take (e - s) (drop s read) ≡ c
+  part-read c at =
+      (λ j. take (part-end j - start j) (drop (start j) (value j)))
+      ∙ (sym (get_or_from_slice_get (pieces 0 xs ends) i (slice_range xs (start_at 0 ends i) (get_or ends i 0)) c (pieces-at 0 xs ends i part-ends)) ∙ (ap (λ (ks : List (List X)). get_or ks i c) are ∙ at))
+
+  part-written : (d : List X) → take s read ++ (d ++ drop (e - s) (drop s read)) ≡ take (start_at 0 ends i) xs ++ (d ++ drop (get_or ends i 0) xs)
+  part-written d =
+      let whole : s + (e - s) ≡ get_or ends i 0 = let a = part-low in omega (arith, a, part-end) in
+      ap (λ (zs : List X). take s read ++ (d ++ zs)) (drop-drop (e - s) s read ∙ ap (λ n. drop n read) whole)
+      ∙ (λ j. take (start j) (value j) ++ (d ++ drop (get_or ends i 0) (value j)))
+
+  pub part-put : (d now : List X) → length d ≡ e - s → now ≡ take s read ++ (d ++ drop (e - s) (drop s read)) → pieces 0 now ends ≡ set clauses i d
+  part-put d now long is =
+      let size : length d ≡ get_or ends i 0 - start_at 0 ends i = omega (arith, long, start, part-end) in
+      ap (λ (zs : List X). pieces 0 zs ends) (is ∙ part-written d) ∙ (pieces-rewritten xs d ends i h part-ends size ∙ ap (λ (ks : List (List X)). set ks i d) are)
+
+  pub part-length : (d now : List X) → length d ≡ e - s → now ≡ take s read ++ (d ++ drop (e - s) (drop s read)) → length now ≡ length xs
+  part-length d now long is =
+      let size : length d ≡ get_or ends i 0 - start_at 0 ends i = omega (arith, long, start, part-end) in
+      ap length (is ∙ part-written d) ∙ length-rewritten xs d ends i h part-ends size
+
+  -- as many literals as are read
+  pub part-size : length (take (e - s) (drop s read)) ≡ e - s
+  part-size =
+      let a = part-high in
+      let b : length (drop s read) ≡ length xs - s = length-drop s read ∙ ap (λ (zs : List X). length zs - s) value in
+      length-take-le (e - s) (drop s read) (omega (arith, a, b))

@@ -202,3 +202,8 @@ in-line ws rest w h = Contains-permutation (w ∷ rest) ws w (IsPermutation-sym 
 -- the clause at a place is over the variables that all are over
 pub At-over : (V : ℕ) (K : List Clause) (n : ℕ) (c : Clause) → All (IsOver V) K → At K n c → IsOver V c
 At-over V K n c over a = subst (λ (d : Clause). IsOver V d) (At-one K n (get_or K n []) c (At-get K n [] a.0) a) (over n [] a.0)
+
+-- a clause that was unit isn't empty
+pub WasUnit-full : (P : List Literal) (c : Clause) → WasUnit P c → c ≡ [] → ⊥
+WasUnit-full P [] u e = absurd (true_false (has [] u.0) u.1 refl)
+WasUnit-full P (l ∷ c) u e = absurd (cc)

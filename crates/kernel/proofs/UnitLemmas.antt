@@ -19,10 +19,10 @@ none-below x (y ∷ xs) h = (ge_from_not_lt y.0 x h.0, none-below x xs h.1)
 pub All-not_below : (x : ℕ) (xs : List (Reverse ℕ)) → AllByRecursion (λ y. is_lt (nat_cmp y.0 x) ≡ false) xs → All (λ m. x ≤ m) (map (λ r. r.0) xs)
 All-not_below x xs h = All-from_recursion (λ m. x ≤ m) (map (λ r. r.0) xs) (none-below x xs h)
 
--- the number at the top of a heap stands in it
-pub top-there : (xs : List (Reverse ℕ)) (x : Reverse ℕ) → 0 < length xs → x ≡ get_or xs 0 x → Contains (map (λ r. r.0) xs) x.0
+-- what is at the top of a heap stands in it
+pub top-there : {X : Type 0} (xs : List (Reverse X)) (x : Reverse X) → 0 < length xs → x ≡ get_or xs 0 x → Contains (map (λ r. r.0) xs) x.0
 top-there [] x h e = absurd (omega (arith, h))
-top-there (y ∷ ys) x h e = (0, (let z : 0 < length (map (λ r. r.0) (y ∷ ys)) = omega arith in z), ap (λ (r : Reverse ℕ). r.0) (sym e))
+top-there (y ∷ ys) x h e = (0, (let z : 0 < length (map (λ r. r.0) (y ∷ ys)) = omega arith in z), ap (λ r. r.0) (sym e))
 
 -- a number at the end that is no less than those from a place on
 pub rising-push : (head : ℕ) (ns : List ℕ) (n : ℕ) → head ≤ length ns → NeverFallsFrom head ns → All (λ m. m ≤ n) (drop head ns) → NeverFallsFrom head (ns ++ n ∷ [])
@@ -53,16 +53,16 @@ rising-push head ns n within rising all i j low le high = go (cases_lt j (length
     go (inr h) (inl k) = rw (old i k, new j (omega (arith, h, high, long))) (at_most k)
     go (inr h) (inr k) = rw (new i (omega (arith, k, le, high, long)), new j (omega (arith, h, high, long))) (omega arith)
 
--- a number more in the queue, or in the heap
-pub queued-units : (q h : List ℕ) (n : ℕ) → IsPermutation (n ∷ (q ++ h)) ((q ++ n ∷ []) ++ h)
-queued-units q h n = subst (λ (ns : List ℕ). IsPermutation (n ∷ (q ++ h)) ns) (sym (append_assoc q (n ∷ []) h)) (IsPermutation-sym (q ++ n ∷ h) (n ∷ (q ++ h)) (IsPermutation-middle q n h))
+-- one more in the queue, or in the heap
+pub queued-units : {X : Type 0} (q h : List X) (n : X) → IsPermutation (n ∷ (q ++ h)) ((q ++ n ∷ []) ++ h)
+queued-units q h n = subst (λ ns. IsPermutation (n ∷ (q ++ h)) ns) (sym (append_assoc q (n ∷ []) h)) (IsPermutation-sym (q ++ n ∷ h) (n ∷ (q ++ h)) (IsPermutation-middle q n h))
 
-pub heaped-units : (q h u : List ℕ) (n : ℕ) → IsPermutation (n ∷ h) u → IsPermutation (n ∷ (q ++ h)) (q ++ u)
+pub heaped-units : {X : Type 0} (q h u : List X) (n : X) → IsPermutation (n ∷ h) u → IsPermutation (n ∷ (q ++ h)) (q ++ u)
 heaped-units q h u n p =
     IsPermutation-trans (n ∷ (q ++ h)) (q ++ n ∷ h) (q ++ u) (IsPermutation-sym (q ++ n ∷ h) (n ∷ (q ++ h)) (IsPermutation-middle q n h)) (IsPermutation-append_right q (n ∷ h) u p)
 
--- the least of the heap taken out
-unheaped-units : (q h u : List ℕ) (n : ℕ) → IsPermutation h (n ∷ u) → IsPermutation (q ++ h) (n ∷ (q ++ u))
+-- one taken out of the heap
+unheaped-units : {X : Type 0} (q h u : List X) (n : X) → IsPermutation h (n ∷ u) → IsPermutation (q ++ h) (n ∷ (q ++ u))
 unheaped-units q h u n p = IsPermutation-trans (q ++ h) (q ++ n ∷ u) (n ∷ (q ++ u)) (IsPermutation-append_right q h (n ∷ u) p) (IsPermutation-middle q n u)
 
 -- a number that stands in the heap and is less than those of the queue
@@ -72,7 +72,7 @@ least-unheaped (Some n) q h m first there less queue all =
     let here : n ≤ m = subst (λ k. n ≤ k) there.2 (all there.0 m there.1) in
     All-append (λ k. n ≤ k) q h (All-weaker (λ k. first ≤ k) (λ k. n ≤ k) (λ k f. omega (arith, f, less, here)) q queue) all
 
-pub taken-unheaped : (o : Option ℕ) (q h u : List ℕ) → IfSome o (λ n. IsPermutation h (n ∷ u)) → IfSome o (λ n. IsPermutation (q ++ h) (n ∷ (q ++ u)))
+pub taken-unheaped : {X : Type 0} (o : Option X) (q h u : List X) → IfSome o (λ n. IsPermutation h (n ∷ u)) → IfSome o (λ n. IsPermutation (q ++ h) (n ∷ (q ++ u)))
 taken-unheaped None q h u p = tt
 taken-unheaped (Some n) q h u p = unheaped-units q h u n p
 

@@ -1,11 +1,13 @@
 -- What a kernel and its parts are seen as. Trails and propagation are said in the crate `theory`.
 pub mod Answer
+pub mod Arranging
 pub mod Attaching
 pub mod Cutting
 pub mod Forgetting
 pub mod Pieces
 pub mod Placing
 pub mod Rules
+pub mod Seeing
 pub mod State
 pub mod Visiting
 pub mod Waiting

@@ -23,7 +23,7 @@ abbrev pub entries_at : List (List Watch) → Literal → List Watch
 entries_at lists l = slice_index_or lists (code l) []
 
 abbrev pub kept_of : Propagator → WatchLists
-kept_of p = record { pairs = p.pairs.items; lists = map (λ v. v.items) p.lists.items; units = p.units; least = p.conflict }
+kept_of p = record { pairs = p.clauses.pairs; lists = map (λ v. v.items) p.lists.items; units = p.units; least = p.conflict }
 
 -- the same without what the entries say beside the clauses' places
 abbrev pub tending : WatchLists → Tending

@@ -11,9 +11,9 @@ ghost use Rattle.kernel.specs.Watching.{code, IsPair, lesser};
 ghost use Rattle.kernel.specs.Visiting.{kept_of};
 ghost use Rattle.kernel.specs.Attaching.{with_entry, attached, IsLater, IsWatching};
 
-use crate::clauses::Clauses;
 use crate::propagator::Propagator;
 use crate::replacement::Starts;
+use crate::store::Store;
 use crate::units::Units;
 use crate::watch::{Watch, Watched, code};
 use cnf::Lit;
@@ -106,10 +106,10 @@ pub fn learnt_watched(trail: &Trail, clause: &[Lit]) -> Option<Watched>
 
 impl Propagator {
     /// Puts an entry into the list of a literal.
-    fn list(&mut self, lit: Lit, watch: Watch) -> Result<(), AllocError>
+    pub fn list(&mut self, lit: Lit, watch: Watch) -> Result<(), AllocError>
         requires { code lit < length self.old.lists.items }
         ensures lists { OnOk result ((kept_of self.new).lists ≡ with_entry (kept_of self.old).lists lit watch) }
-        ensures kept { (self.new.clauses ≡ self.old.clauses) × (self.new.pairs ≡ self.old.pairs) × (self.new.units ≡ self.old.units) × (self.new.conflict ≡ self.old.conflict)
+        ensures kept { (self.new.clauses.given ≡ self.old.clauses.given) × (self.new.clauses.pairs ≡ self.old.clauses.pairs) × (self.new.units ≡ self.old.units) × (self.new.conflict ≡ self.old.conflict)
             × (length self.new.lists.items ≡ length self.old.lists.items) }
     {
         self.lists[code(lit)].push(watch)?;
@@ -121,12 +121,13 @@ impl Propagator {
     pub fn attach(&mut self, clause: &[Lit], watched: Watched) -> Result<(), AllocError>
         requires first { code watched.first < length self.old.lists.items }
         requires second { code watched.second < length self.old.lists.items }
-        ensures clauses { OnOk result (self.new.clauses ≡ self.old.clauses ++ clause.now ∷ []) }
-        ensures pairs { OnOk result (self.new.pairs.items ≡ self.old.pairs.items ++ watched ∷ []) }
-        ensures lists { OnOk result ((kept_of self.new).lists ≡ attached (kept_of self.old).lists watched (length self.old.clauses) (nat_le (length clause.now) 2)) }
-        ensures small { OnOk result (length self.old.clauses < 2 ^ 32) }
+        requires pair { IsPair clause.now watched }
+        ensures clauses { OnOk result (self.new.clauses.given ≡ self.old.clauses.given ++ clause.now ∷ []) }
+        ensures pairs { OnOk result (self.new.clauses.pairs ≡ self.old.clauses.pairs ++ watched ∷ []) }
+        ensures lists { OnOk result ((kept_of self.new).lists ≡ attached (kept_of self.old).lists watched (length self.old.clauses.given) (nat_le (length clause.now) 2)) }
+        ensures small { OnOk result (length self.old.clauses.given < 2 ^ 32) }
         ensures kept { (self.new.units ≡ self.old.units) × (self.new.conflict ≡ self.old.conflict) × (length self.new.lists.items ≡ length self.old.lists.items) }
-        ensures refused { OnErr result (self.new.clauses ≡ self.old.clauses) }
+        ensures refused { OnErr result (self.new.clauses.given ≡ self.old.clauses.given) }
     {
         let number = self.clauses.len();
         if number >= u32::MAX as usize {
@@ -151,23 +152,21 @@ impl Propagator {
                 },
             )?;
         }
-        self.pairs.push(watched)?;
-        self.clauses.push(clause)
+        self.clauses.push(clause, watched)
     }
 
     /// Puts an empty clause at the end. It is false from the beginning on, and watches nothing.
     fn attach_empty(&mut self) -> Result<(), AllocError>
-        ensures clauses { OnOk result (self.new.clauses ≡ self.old.clauses ++ [] ∷ []) }
-        ensures pairs { OnOk result ((w : Watched) × (self.new.pairs.items ≡ self.old.pairs.items ++ w ∷ [])) }
-        ensures least { OnOk result (self.new.conflict ≡ Some (lesser self.old.conflict (length self.old.clauses))) }
+        ensures clauses { OnOk result (self.new.clauses.given ≡ self.old.clauses.given ++ [] ∷ []) }
+        ensures pairs { OnOk result ((w : Watched) × (self.new.clauses.pairs ≡ self.old.clauses.pairs ++ w ∷ [])) }
+        ensures least { OnOk result (self.new.conflict ≡ Some (lesser self.old.conflict (length self.old.clauses.given))) }
         ensures kept { (self.new.units ≡ self.old.units) × (self.new.lists ≡ self.old.lists) }
     {
         let number = self.clauses.len();
         if number >= u32::MAX as usize {
             return Err(AllocError);
         }
-        self.pairs.push(Watched::default())?;
-        self.clauses.push(&[])?;
+        self.clauses.push_empty()?;
         self.conflict = Some(match self.conflict {
             None => number as u32,
             Some(least) => least.min(number as u32),
@@ -178,9 +177,9 @@ impl Propagator {
     /// Puts a clause of the formula at the end, before anything is decided: it is watched, and noted where it is empty or of one literal.
     fn attach_first(&mut self, clause: &[Lit], singles: &mut Vec<u32>) -> Result<(), AllocError>
         requires lists { (V : ℕ) × IsOver V clause.now × (length self.old.lists.items ≡ 2 * V + 2) }
-        ensures clauses { OnOk result (self.new.clauses ≡ self.old.clauses ++ clause.now ∷ []) }
-        ensures watching { OnOk result ((V : ℕ) → IsOver V clause.now → IsWatching V (length self.old.clauses) self.old.clauses [] 0 0 (kept_of self.old) singles.old.items self.old.conflict
-            → IsWatching V (length self.new.clauses) self.new.clauses [] 0 0 (kept_of self.new) singles.new.items self.new.conflict) }
+        ensures clauses { OnOk result (self.new.clauses.given ≡ self.old.clauses.given ++ clause.now ∷ []) }
+        ensures watching { OnOk result ((V : ℕ) → IsOver V clause.now → IsWatching V (length self.old.clauses.given) self.old.clauses.given [] 0 0 (kept_of self.old) singles.old.items self.old.conflict
+            → IsWatching V (length self.new.clauses.given) self.new.clauses.given [] 0 0 (kept_of self.new) singles.new.items self.new.conflict) }
         ensures lists { length self.new.lists.items ≡ length self.old.lists.items }
     {
         match first_two(clause) {
@@ -203,11 +202,11 @@ impl Propagator {
         requires over { IsOver trail.now.vars clause.now }
         requires learnable { IsLearnable trail.now.entries clause.now }
         requires lists { length self.old.lists.items ≡ 2 * trail.now.vars + 2 }
-        ensures clauses { OnOk result (self.new.clauses ≡ self.old.clauses ++ clause.now ∷ []) }
-        ensures watching { OnOk result ((first at floor : ℕ) (single : List ℕ) (empty : Option ℕ) → first ≤ length self.old.clauses
-            → IsWatching trail.now.vars first self.old.clauses trail.now.entries at floor (kept_of self.old) single empty
-            → IsWatching trail.now.vars first self.new.clauses trail.now.entries at floor (kept_of self.new) single empty) }
-        ensures refused { OnErr result (self.new.clauses ≡ self.old.clauses) }
+        ensures clauses { OnOk result (self.new.clauses.given ≡ self.old.clauses.given ++ clause.now ∷ []) }
+        ensures watching { OnOk result ((first at floor : ℕ) (single : List ℕ) (empty : Option ℕ) → first ≤ length self.old.clauses.given
+            → IsWatching trail.now.vars first self.old.clauses.given trail.now.entries at floor (kept_of self.old) single empty
+            → IsWatching trail.now.vars first self.new.clauses.given trail.now.entries at floor (kept_of self.new) single empty) }
+        ensures refused { OnErr result (self.new.clauses.given ≡ self.old.clauses.given) }
     {
         let _entries = trail.entries(); // it ensures what the proof needs of the trail
         let number = self.clauses.len();
@@ -231,9 +230,9 @@ impl Propagator {
         singles: &mut Vec<u32>,
     ) -> Result<(), AllocError>
         requires over { (V : ℕ) × All (λ c. IsOver V c.items) clauses.now × (length self.old.lists.items ≡ 2 * V + 2) }
-        ensures clauses { OnOk result (self.new.clauses ≡ self.old.clauses ++ map (λ c. c.items) clauses.now) }
-        ensures watching { OnOk result ((V : ℕ) → All (λ c. IsOver V c.items) clauses.now → IsWatching V (length self.old.clauses) self.old.clauses [] 0 0 (kept_of self.old) singles.old.items self.old.conflict
-            → IsWatching V (length self.new.clauses) self.new.clauses [] 0 0 (kept_of self.new) singles.new.items self.new.conflict) }
+        ensures clauses { OnOk result (self.new.clauses.given ≡ self.old.clauses.given ++ map (λ c. c.items) clauses.now) }
+        ensures watching { OnOk result ((V : ℕ) → All (λ c. IsOver V c.items) clauses.now → IsWatching V (length self.old.clauses.given) self.old.clauses.given [] 0 0 (kept_of self.old) singles.old.items self.old.conflict
+            → IsWatching V (length self.new.clauses.given) self.new.clauses.given [] 0 0 (kept_of self.new) singles.new.items self.new.conflict) }
         ensures lists { length self.new.lists.items ≡ length self.old.lists.items }
     {
         for clause in clauses {
@@ -245,9 +244,9 @@ impl Propagator {
     /// Attaches a clause of each of these literals, before anything is decided, and notes them as those of one literal.
     pub fn attach_units(&mut self, units: &[Lit], singles: &mut Vec<u32>) -> Result<(), AllocError>
         requires over { (V : ℕ) × IsOver V units.now × (length self.old.lists.items ≡ 2 * V + 2) }
-        ensures clauses { OnOk result (self.new.clauses ≡ self.old.clauses ++ unit_clauses units.now) }
-        ensures watching { OnOk result ((V : ℕ) → IsOver V units.now → IsWatching V (length self.old.clauses) self.old.clauses [] 0 0 (kept_of self.old) singles.old.items self.old.conflict
-            → IsWatching V (length self.new.clauses) self.new.clauses [] 0 0 (kept_of self.new) singles.new.items self.new.conflict) }
+        ensures clauses { OnOk result (self.new.clauses.given ≡ self.old.clauses.given ++ unit_clauses units.now) }
+        ensures watching { OnOk result ((V : ℕ) → IsOver V units.now → IsWatching V (length self.old.clauses.given) self.old.clauses.given [] 0 0 (kept_of self.old) singles.old.items self.old.conflict
+            → IsWatching V (length self.new.clauses.given) self.new.clauses.given [] 0 0 (kept_of self.new) singles.new.items self.new.conflict) }
     {
         for lit in units {
             self.attach_first(&[*lit], singles)?;
@@ -343,12 +342,11 @@ impl Propagator {
         units: &[Lit],
     ) -> Result<Propagator, AllocError>
         requires few { sum_by (λ c. length c.items) clauses.now ≤ max_literals }
-        ensures none { IfOk result (λ p. (p.clauses ≡ []) × (length p.lists.items ≡ length room.entries.items)) }
+        ensures none { IfOk result (λ p. (p.clauses.given ≡ []) × (length p.lists.items ≡ length room.entries.items)) }
         ensures watching { IfOk result (λ p. (V : ℕ) → length room.entries.items ≡ 2 * V + 2 → IsWatching V 0 [] [] 0 0 (kept_of p) [] p.conflict) }
     {
         Ok(Propagator {
-            clauses: Clauses::with_room(alloc, clauses, units)?,
-            pairs: Vec::with_capacity(alloc, clauses.len() + units.len())?,
+            clauses: Store::with_room(alloc, clauses, units)?,
             lists: no_entries(alloc, &room.entries)?,
             units: Units::with_room(alloc, room.singles)?,
             conflict: None,

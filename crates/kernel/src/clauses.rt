@@ -1,15 +1,26 @@
 //! The clauses of a kernel, in the order of their numbers. Their literals lie in one list, so that looking at one clause after the
 //! other goes through memory from front to back.
-ghost use Rattle.std.specs.Prelude.{◌≡◌, ◌+◌, ◌^◌, ◌<◌, ◌≤◌, [], ◌∷◌, ◌++◌, All, map, length, take, drop, sum_by, IfOk, OnOk, OnErr, slice_get, Some, ℕ, List, false};
+ghost use Rattle.std.specs.Prelude.{◌≡◌, ◌+◌, ◌^◌, ◌<◌, ◌≤◌, [], ◌∷◌, ◌++◌, All, map, length, take, drop, sum_by, IfOk, OnOk, OnErr, slice_get, slice_set, Some, ℕ, List, false};
+ghost use Rattle.std.specs.List.Sorted.{IsPermutation};
+ghost use Rattle.theory.specs.Literals.{Clause};
 ghost use Rattle.theory.specs.Reading.{max_literals};
 ghost use Rattle.theory.specs.Forgetting.{forget};
 ghost use Rattle.kernel.specs.Pieces.{pieces, AreEnds, start_at};
+ghost use Rattle.theory.specs.Trails.{literals};
+ghost use Rattle.kernel.specs.Watching.{At, IsPair};
 ghost use Rattle.kernel.specs.Forgetting.{Tells, names};
+ghost use Rattle.kernel.specs.Arranging.{front};
+ghost use Rattle.kernel.specs.Seeing.{CanSee, IsSeen};
 
+use crate::arrange::lead;
 use crate::named::Named;
+use crate::replacement::Starts;
+use crate::sight::{Sight, look_at};
+use crate::watch::Watched;
 use cnf::Lit;
 use std::alloc::{AllocError, Global};
 use std::marker::Model;
+use trail::Trail;
 
 /// Clauses, which are named by their places, from 0 on.
 #[derive(Drop)]
@@ -52,7 +63,7 @@ fn piece<'a>(lits: &'a [Lit], ends: &[usize], index: usize) -> &'a [Lit]
 }
 
 /// How many literals the clauses have.
-fn count_lits(clauses: &[Vec<Lit>]) -> usize
+pub fn count_lits(clauses: &[Vec<Lit>]) -> usize
     requires { sum_by (λ c. length c.items) clauses.now ≤ max_literals }
     ensures { result ≡ sum_by (λ c. length c.items) clauses.now }
 {
@@ -75,18 +86,14 @@ fn put_ends(ends: &mut [usize], first: usize, start: usize, new: &[usize])
 }
 
 impl Clauses {
-    /// No clauses, with room for these, and for a clause of each of these literals. It fails where a request for memory is refused.
-    pub fn with_room(
-        alloc: Global,
-        clauses: &[Vec<Lit>],
-        units: &[Lit],
-    ) -> Result<Clauses, AllocError>
-        requires { sum_by (λ c. length c.items) clauses.now ≤ max_literals }
+    /// No clauses, with room for so many, of so many literals. It fails where a request for memory
+    /// is refused.
+    pub fn with_room(alloc: Global, clauses: usize, lits: usize) -> Result<Clauses, AllocError>
         ensures { IfOk result (λ k. k ≡ []) }
     {
         Ok(Clauses {
-            lits: Vec::with_capacity(alloc, count_lits(clauses) + units.len())?,
-            ends: Vec::with_capacity(alloc, clauses.len() + units.len())?,
+            lits: Vec::with_capacity(alloc, lits)?,
+            ends: Vec::with_capacity(alloc, clauses)?,
         })
     }
 
@@ -122,6 +129,42 @@ impl Clauses {
         }
     }
 
+    /// Puts two literals of the clause at a place in front, or the only one.
+    fn lead(&mut self, index: usize, watched: Watched)
+        requires within { index < length self.old }
+        requires pair { (c : Clause) → At self.old index c → IsPair c watched }
+        ensures { (c : Clause) → At self.old index c → (d : Clause) × (self.new ≡ slice_set self.old index d) × IsPermutation c d × (front d ≡ watched) }
+    {
+        let start = start_of(&self.ends, index);
+        let end = self.ends[index];
+        lead(&mut self.lits[start..end], watched);
+    }
+
+    /// Puts a clause at the end, with two of its literals in front, or the only one. Where a
+    /// request for memory is refused, nothing has changed.
+    pub fn push_led(&mut self, clause: &[Lit], watched: Watched) -> Result<(), AllocError>
+        requires { IsPair clause.now watched }
+        ensures ok { OnOk result ((d : Clause) × (self.new ≡ self.old ++ d ∷ []) × IsPermutation clause.now d × (front d ≡ watched)) }
+        ensures err { OnErr result (self.new ≡ self.old) }
+    {
+        let index = self.len();
+        self.push(clause)?;
+        self.lead(index, watched);
+        Ok(())
+    }
+
+    /// Looks at the clause at a place, in which `gone`, one of the two front literals, became
+    /// false.
+    pub fn look(&mut self, trail: &Trail, gone: Lit, index: usize, starts: &mut Starts) -> Sight
+        requires within { index < length self.old }
+        requires clause { (c : Clause) → At self.old index c → CanSee trail.now.vars (literals trail.now.entries) gone c }
+        ensures { (c : Clause) → At self.old index c → (d : Clause) × (self.new ≡ slice_set self.old index d) × IsSeen (literals trail.now.entries) gone c d result }
+    {
+        let start = start_of(&self.ends, index);
+        let end = self.ends[index];
+        look_at(trail, &mut self.lits[start..end], gone, starts, index)
+    }
+
     /// Cuts off the clauses from a place on. It takes no memory, and leaves the room of the literals for the next ones.
     pub fn truncate(&mut self, count: usize)
         requires { count ≤ length self.old }
@@ -139,10 +182,8 @@ impl Clauses {
         ensures forgotten { IfOk result (λ left. (numbers : List ℕ) → Tells (names named.now) numbers → left ≡ forget numbers (first + 1) (drop first self.now)) }
         ensures long { IfOk result (λ left. first + length left ≡ length self.now) }
     {
-        let mut left = Clauses {
-            lits: Vec::new(alloc),
-            ends: Vec::new(alloc),
-        };
+        let start = start_of(&self.ends, first);
+        let mut left = Clauses::with_room(alloc, self.ends.len() - first, self.lits.len() - start)?;
         let forgotten = [Lit::of(1, true), Lit::of(1, false)];
         for index in first..self.len() {
             if named.has(index) {
@@ -152,6 +193,14 @@ impl Clauses {
             }
         }
         Ok(left)
+    }
+
+    /// The same clauses with `1 -1` in place of those that are named. It fails where a request for
+    /// memory is refused.
+    pub fn with_forgotten(&self, named: &Named) -> Result<Clauses, AllocError>
+        ensures { IfOk result (λ left. (numbers : List ℕ) → Tells (names named.now) numbers → left ≡ forget numbers 1 self.now) }
+    {
+        self.left_from(*self.ends.allocator(), 0, named)
     }
 
     /// Puts clauses in the place of those from `first` on, as many. It takes memory only where they

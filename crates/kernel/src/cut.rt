@@ -37,15 +37,15 @@ fn keep_below(list: &mut [Watch], first: usize) -> usize
 impl Propagator {
     /// Where the lists stand that have entries of clauses from `first` on, by rising number; some stand here twice.
     fn lists_from(&self, first: usize) -> Result<Vec<usize>, AllocError>
-        requires first { first ≤ length self.now.pairs.items }
-        requires lists { (n : ℕ) (w : Watched) → first ≤ n → At self.now.pairs.items n w → (code w.first < length self.now.lists.items) × (code w.second < length self.now.lists.items) }
+        requires first { first ≤ length self.now.clauses.pairs }
+        requires lists { (n : ℕ) (w : Watched) → first ≤ n → At self.now.clauses.pairs n w → (code w.first < length self.now.lists.items) × (code w.second < length self.now.lists.items) }
         ensures within { IfOk result (λ cs. All (λ n. n < length self.now.lists.items) cs.items) }
-        ensures codes { IfOk result (λ cs. AreCodesOf first self.now.pairs.items cs.items) }
+        ensures codes { IfOk result (λ cs. AreCodesOf first self.now.clauses.pairs cs.items) }
     {
         let alloc = *self.lists.allocator();
         let mut codes = Vec::new(alloc);
-        for index in first..self.pairs.len() {
-            let watched = self.pairs[index];
+        for index in first..self.clauses.len() {
+            let watched = self.clauses.watched(index);
             codes.push(code(watched.first))?;
             codes.push(code(watched.second))?;
         }
@@ -56,7 +56,7 @@ impl Propagator {
     /// Takes the entries of clauses from `first` on out of a list.
     fn drop_list(&mut self, at: usize, first: usize)
         requires { at < length self.old.lists.items }
-        ensures kept { (self.new.clauses ≡ self.old.clauses) × (self.new.pairs ≡ self.old.pairs) × (self.new.units ≡ self.old.units) × (self.new.conflict ≡ self.old.conflict) }
+        ensures kept { (self.new.clauses.given ≡ self.old.clauses.given) × (self.new.clauses.pairs ≡ self.old.clauses.pairs) × (self.new.units ≡ self.old.units) × (self.new.conflict ≡ self.old.conflict) }
         ensures long { length self.new.lists.items ≡ length self.old.lists.items }
         ensures list { (ws : List Watch) × ((kept_of self.new).lists ≡ slice_set (kept_of self.old).lists at ws) × IsKeptBelow first (slice_index_or (kept_of self.old).lists at []) ws }
     {
@@ -68,7 +68,7 @@ impl Propagator {
     /// Takes the entries of clauses from `first` on out of some lists. A list that is named twice in a row is gone through once.
     fn drop_from(&mut self, codes: &[usize], first: usize)
         requires { All (λ n. n < length self.old.lists.items) codes.now }
-        ensures kept { (self.new.clauses ≡ self.old.clauses) × (self.new.pairs ≡ self.old.pairs) × (self.new.units ≡ self.old.units) × (self.new.conflict ≡ self.old.conflict) }
+        ensures kept { (self.new.clauses.given ≡ self.old.clauses.given) × (self.new.clauses.pairs ≡ self.old.clauses.pairs) × (self.new.units ≡ self.old.units) × (self.new.conflict ≡ self.old.conflict) }
         ensures lists { AreKeptBelow first codes.now (kept_of self.old).lists (kept_of self.new).lists }
         ensures long { length self.new.lists.items ≡ length self.old.lists.items }
     {
@@ -91,17 +91,16 @@ impl Propagator {
         singles: &[u32],
         empty: Option<u32>,
     ) -> Result<(), AllocError>
-        requires inside { first ≤ length self.old.clauses }
-        requires watching { (V : ℕ) × (T : trails.Trail) × (at : ℕ) × (floor : ℕ) × IsWatching V first self.old.clauses T at floor (kept_of self.old) singles.now empty }
-        requires over { (V : ℕ) × All (IsOver V) self.old.clauses × (length self.old.lists.items ≡ 2 * V + 2) }
-        ensures clauses { OnOk result (self.new.clauses ≡ take first self.old.clauses) }
-        ensures watching { OnOk result ((V at floor : ℕ) (T : trails.Trail) → IsWatching V first self.old.clauses T at floor (kept_of self.old) singles.now empty
-            → IsWatching V first self.new.clauses [] 0 0 (kept_of self.new) singles.now empty) }
-        ensures refused { OnErr result ((self.new.clauses ≡ self.old.clauses) ⊎ (self.new.clauses ≡ take first self.old.clauses)) }
+        requires inside { first ≤ length self.old.clauses.given }
+        requires watching { (V : ℕ) × (T : trails.Trail) × (at : ℕ) × (floor : ℕ) × IsWatching V first self.old.clauses.given T at floor (kept_of self.old) singles.now empty }
+        requires over { (V : ℕ) × All (IsOver V) self.old.clauses.given × (length self.old.lists.items ≡ 2 * V + 2) }
+        ensures clauses { OnOk result (self.new.clauses.given ≡ take first self.old.clauses.given) }
+        ensures watching { OnOk result ((V at floor : ℕ) (T : trails.Trail) → IsWatching V first self.old.clauses.given T at floor (kept_of self.old) singles.now empty
+            → IsWatching V first self.new.clauses.given [] 0 0 (kept_of self.new) singles.now empty) }
+        ensures refused { OnErr result ((self.new.clauses.given ≡ self.old.clauses.given) ⊎ (self.new.clauses.given ≡ take first self.old.clauses.given)) }
     {
         let codes = self.lists_from(first)?;
         self.drop_from(&codes, first);
-        self.pairs.truncate(first);
         self.clauses.truncate(first);
         self.units.clear();
         self.conflict = empty;
@@ -113,7 +112,7 @@ impl Propagator {
     fn wait(&mut self, clauses: &[u32]) -> Result<(), AllocError>
         requires { self.old.units ≡ [] }
         ensures units { OnOk result (IsPermutation clauses.now self.new.units) }
-        ensures kept { (self.new.clauses ≡ self.old.clauses) × (self.new.pairs ≡ self.old.pairs) × (self.new.lists ≡ self.old.lists) × (self.new.conflict ≡ self.old.conflict) }
+        ensures kept { (self.new.clauses.given ≡ self.old.clauses.given) × (self.new.clauses.pairs ≡ self.old.clauses.pairs) × (self.new.lists ≡ self.old.lists) × (self.new.conflict ≡ self.old.conflict) }
     {
         for clause in clauses {
             let number = *clause;

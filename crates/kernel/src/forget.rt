@@ -6,19 +6,17 @@ ghost use Rattle.theory.specs.Propagation.{least_false};
 ghost use Rattle.theory.specs.Forgetting.{forget};
 ghost use Rattle.kernel.specs.Visiting.{kept_of};
 ghost use Rattle.kernel.specs.Attaching.{IsWatching};
-ghost use Rattle.kernel.specs.Forgetting.{entries_left, ArePairsLeft, names};
+ghost use Rattle.kernel.specs.Forgetting.{entries_left, names};
 
 use crate::named::Named;
 use crate::propagator::Propagator;
-use crate::watch::Watched;
-use cnf::Lit;
 use std::alloc::AllocError;
 
 impl Propagator {
     /// Takes the entries of clauses that are named out of a list.
     fn drop_entries(&mut self, at: usize, named: &Named)
         requires { at < length self.old.lists.items }
-        ensures kept { (self.new.clauses ≡ self.old.clauses) × (self.new.pairs ≡ self.old.pairs) × (self.new.units ≡ self.old.units) × (self.new.conflict ≡ self.old.conflict) }
+        ensures kept { (self.new.clauses.given ≡ self.old.clauses.given) × (self.new.clauses.pairs ≡ self.old.clauses.pairs) × (self.new.units ≡ self.old.units) × (self.new.conflict ≡ self.old.conflict) }
         ensures long { length self.new.lists.items ≡ length self.old.lists.items }
         ensures list { (kept_of self.new).lists ≡ slice_set (kept_of self.old).lists at (entries_left (names named.now) (slice_index_or (kept_of self.old).lists at [])) }
     {
@@ -27,7 +25,7 @@ impl Propagator {
 
     /// Takes the entries of clauses that are named out of all lists.
     fn drop_all_entries(&mut self, named: &Named)
-        ensures kept { (self.new.clauses ≡ self.old.clauses) × (self.new.pairs ≡ self.old.pairs) × (self.new.units ≡ self.old.units) × (self.new.conflict ≡ self.old.conflict) }
+        ensures kept { (self.new.clauses.given ≡ self.old.clauses.given) × (self.new.clauses.pairs ≡ self.old.clauses.pairs) × (self.new.units ≡ self.old.units) × (self.new.conflict ≡ self.old.conflict) }
         ensures long { length self.new.lists.items ≡ length self.old.lists.items }
         ensures lists { (kept_of self.new).lists ≡ map (entries_left (names named.now)) (kept_of self.old).lists }
     {
@@ -40,35 +38,19 @@ impl Propagator {
     /// beginning. No clause is false. It takes time by all entries of lists and by the learnt
     /// clauses' literals. Where a request for memory is refused, the clauses are as they were.
     pub fn forget(&mut self, first: usize, numbers: &[u64]) -> Result<(), AllocError>
-        requires inside { first ≤ length self.old.clauses }
-        requires learnt { All (λ n. (first < n) × (n ≤ length self.old.clauses)) numbers.now }
-        requires pairs { length self.old.pairs.items ≡ length self.old.clauses }
-        ensures clauses { OnOk result (self.new.clauses ≡ forget numbers.now 1 self.old.clauses) }
-        ensures watching { OnOk result ((V at floor : ℕ) (T : trails.Trail) (single : List ℕ) (empty : Option ℕ) → least_false (trails.literals T) self.old.clauses ≡ None
-            → IsWatching V first self.old.clauses T at floor (kept_of self.old) single empty
-            → IsWatching V first self.new.clauses T at floor (kept_of self.new) single empty) }
-        ensures refused { OnErr result (self.new.clauses ≡ self.old.clauses) }
+        requires inside { first ≤ length self.old.clauses.given }
+        requires learnt { All (λ n. (first < n) × (n ≤ length self.old.clauses.given)) numbers.now }
+        ensures clauses { OnOk result (self.new.clauses.given ≡ forget numbers.now 1 self.old.clauses.given) }
+        ensures watching { OnOk result ((V at floor : ℕ) (T : trails.Trail) (single : List ℕ) (empty : Option ℕ) → least_false (trails.literals T) self.old.clauses.given ≡ None
+            → IsWatching V first self.old.clauses.given T at floor (kept_of self.old) single empty
+            → IsWatching V first self.new.clauses.given T at floor (kept_of self.new) single empty) }
+        ensures refused { OnErr result (self.new.clauses.given ≡ self.old.clauses.given) }
     {
         let alloc = *self.lists.allocator();
         let named = Named::of(alloc, first, self.clauses.len(), numbers)?;
         self.clauses.forget(first, &named)?;
         self.drop_all_entries(&named);
-        unwatch(&mut self.pairs, numbers);
         self.units.drop_named(&named);
         Ok(())
-    }
-}
-
-/// Lets the clauses of these numbers watch the literals of a forgotten clause.
-fn unwatch(pairs: &mut [Watched], numbers: &[u64])
-    requires { All (λ n. (0 < n) × (n ≤ length pairs.old)) numbers.now }
-    ensures { ArePairsLeft numbers.now pairs.old pairs.new }
-{
-    for number in numbers {
-        let place = *number as usize - 1;
-        pairs[place] = Watched {
-            first: Lit::of(1, true),
-            second: Lit::of(1, false),
-        };
     }
 }

@@ -88,14 +88,14 @@ impl Model for Kernel {
       vars = a.trail.vars;
       order = a.order;
       first = a.first;
-      clauses = a.propagator.clauses;
+      clauses = a.propagator.clauses.given;
       trail = a.trail.entries;
       short = a.short;
     } };
 
     ghost invariant = { λ a.
-        IsLawful a.propagator.clauses a.trail.entries × All (IsOver a.trail.vars) a.propagator.clauses × (a.first ≤ length a.propagator.clauses)
-        × (a.short ≡ false → IsWatching a.trail.vars a.first a.propagator.clauses a.trail.entries a.served a.floor (kept_of a.propagator) a.singles.items a.empty)
+        IsLawful a.propagator.clauses.given a.trail.entries × All (IsOver a.trail.vars) a.propagator.clauses.given × (a.first ≤ length a.propagator.clauses.given)
+        × (a.short ≡ false → IsWatching a.trail.vars a.first a.propagator.clauses.given a.trail.entries a.served a.floor (kept_of a.propagator) a.singles.items a.empty)
         × (a.short ≡ false → a.line ≡ []) };
 }
 

@@ -1,8 +1,10 @@
 //! Where the last false literal of a clause stands on the trail.
-ghost use Rattle.std.specs.Prelude.{◌≡◌, ◌≤◌, ◌∷◌, []};
+ghost use Rattle.std.specs.Prelude.{◌≡◌, ◌≤◌, ◌∷◌, [], true, length};
+ghost use Rattle.theory.specs.Literals.{Clause, has};
 ghost use Rattle.theory.specs.Truth.{IsOver};
 ghost use Rattle.theory.specs.Propagation.{last_false};
 
+use crate::watch::Watched;
 use cnf::Lit;
 use trail::Trail;
 
@@ -33,4 +35,18 @@ pub fn last_place(trail: &Trail, clause: &[Lit]) -> usize
         last = last.max(false_place(trail, lit));
     }
     last
+}
+
+/// Whether one of these literals became false by the trail's last entry.
+pub fn fell_last(trail: &Trail, watched: Watched) -> bool
+    ensures { result ≡ true → (c : Clause) → has c watched.first ≡ true → has c watched.second ≡ true → last_false trail.now.entries c ≡ length trail.now.entries }
+{
+    let entries = trail.entries();
+    let count = entries.len();
+    if count == 0 {
+        return false;
+    }
+    let last = entries[count - 1];
+    let gone = last.lit.negated();
+    watched.first.same(&gone) || watched.second.same(&gone)
 }

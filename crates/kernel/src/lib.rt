@@ -1,6 +1,7 @@
 //! The kernel of the search in one cube: its clauses, its trail, and propagation over them.
 #![tactic(auto)]
 
+mod arrange;
 mod attach;
 mod by_place;
 mod clauses;
@@ -16,7 +17,10 @@ mod order;
 mod propagator;
 mod queue;
 mod replacement;
+mod sight;
+mod store;
 mod units;
+mod waiting_queue;
 mod watch;
 
 pub use closed::Closed;

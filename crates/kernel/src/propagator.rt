@@ -19,11 +19,12 @@ ghost use Rattle.kernel.specs.Watching.{code, lesser, At, IsNext, IsServed, Tend
 ghost use Rattle.kernel.specs.Placing.{also};
 ghost use Rattle.kernel.specs.Visiting.{WatchLists, kept_of, entries_at, CanVisit, IsVisit, IsLast, Replaces, tending, with_list, AreEntries};
 
-use crate::clauses::Clauses;
 use crate::closed::Closed;
-use crate::replacement::{Starts, replacement};
+use crate::replacement::Starts;
+use crate::sight::Sight;
+use crate::store::Store;
 use crate::units::Units;
-use crate::watch::{Watch, Watched, beside, code};
+use crate::watch::{Watch, Watched, code};
 use cnf::Lit;
 use std::alloc::{AllocError, Global};
 use std::mem;
@@ -32,9 +33,7 @@ use trail::{Entry, Trail, Truth};
 /// Clauses with their watches, and what was found of them. Clauses are named by their places, from 0 on.
 #[derive(Drop)]
 pub struct Propagator {
-    pub clauses: Clauses,
-    /// By clause: its watched literals.
-    pub pairs: Vec<Watched>,
+    pub clauses: Store,
     /// By literal: the clauses that watch it. They are made with the room that the formula's clauses take, so that opening never moves
     /// one; each visit of a list takes it out and puts it back, so it is a small value.
     pub lists: Vec<Vec<Watch>>,
@@ -72,7 +71,7 @@ impl Propagator {
     fn note(&mut self, clause: u32, status: Truth) -> Result<(), AllocError>
         ensures unit { OnOk result (value_of status ≡ None → IsPermutation (clause ∷ self.old.units) self.new.units × (self.new.conflict ≡ self.old.conflict)) }
         ensures clashes { OnOk result ((b : Bool) → value_of status ≡ Some b → (self.new.units ≡ self.old.units) × (self.new.conflict ≡ Some (lesser self.old.conflict clause))) }
-        ensures kept { (self.new.clauses ≡ self.old.clauses) × (self.new.pairs ≡ self.old.pairs) × (self.new.lists ≡ self.old.lists) }
+        ensures kept { (self.new.clauses.given ≡ self.old.clauses.given) × (self.new.clauses.pairs ≡ self.old.clauses.pairs) × (self.new.lists ≡ self.old.lists) }
     {
         match status {
             Truth::Unassigned => self.units.push(clause),
@@ -86,50 +85,33 @@ impl Propagator {
         }
     }
 
-    /// Watches a literal in place of one that became false, beside `other`.
-    fn watch(&mut self, clause: u32, other: Lit, lit: Lit) -> Result<(), AllocError>
-        requires inside { clause < length self.old.pairs.items }
-        requires listed { code lit < length self.old.lists.items }
-        ensures watched { OnOk result (kept_of self.new ≡ record (kept_of self.old) {
-          pairs = slice_set self.old.pairs.items clause record { first = other; second = lit };
-          lists = slice_set (kept_of self.old).lists (code lit) (entries_at (kept_of self.old).lists lit ++ record { clause = clause; blocker = other; is_short = false } ∷ []);
-        }) }
-        ensures kept { (self.new.clauses ≡ self.old.clauses) × (length self.new.lists.items ≡ length self.old.lists.items) }
-    {
-        self.lists[code(lit)].push(Watch {
-            clause,
-            blocker: other,
-            is_short: false,
-        })?;
-        self.pairs[clause as usize] = Watched {
-            first: other,
-            second: lit,
-        };
-        Ok(())
-    }
-
     /// Looks at the clause of an entry in the list of a literal that became false.
     fn look(&mut self, trail: &Trail, gone: Lit, watch: Watch) -> Result<Option<Lit>, AllocError>
         requires long { watch.is_short ≡ false }
-        requires visit { CanVisit self.old.clauses (literals trail.now.entries) gone watch (kept_of self.old) }
-        requires over { All (IsOver trail.now.vars) self.old.clauses }
+        requires visit { CanVisit self.old.clauses.given (literals trail.now.entries) gone watch (kept_of self.old) }
+        requires over { All (IsOver trail.now.vars) self.old.clauses.given }
         requires lists { length self.old.lists.items ≡ 2 * trail.now.vars + 2 }
-        ensures visit { IfOk result (λ r. IsVisit self.old.clauses (literals trail.now.entries) gone watch (kept_of self.old) (kept_of self.new) r) }
-        ensures kept { (self.new.clauses ≡ self.old.clauses) × (length self.new.lists.items ≡ length self.old.lists.items) }
+        ensures visit { IfOk result (λ r. IsVisit self.old.clauses.given (literals trail.now.entries) gone watch (kept_of self.old) (kept_of self.new) r) }
+        ensures kept { (self.new.clauses.given ≡ self.old.clauses.given) × (length self.new.lists.items ≡ length self.old.lists.items) }
     {
         let clause = watch.clause;
-        let other = beside(self.pairs[clause as usize], gone);
-        let status = trail.status(other);
-        if status.is_satisfied() {
-            return Ok(Some(other));
-        }
-        let lits = self.clauses.get(clause as usize);
-        match replacement(trail, lits, other, &mut self.starts, clause as usize) {
-            Some(lit) => {
-                self.watch(clause, other, lit)?;
+        match self
+            .clauses
+            .look(trail, gone, clause as usize, &mut self.starts)
+        {
+            Sight::Satisfied(other) => Ok(Some(other)),
+            Sight::Moved(watched) => {
+                self.list(
+                    watched.second,
+                    Watch {
+                        clause,
+                        blocker: watched.first,
+                        is_short: false,
+                    },
+                )?;
                 Ok(None)
             }
-            None => {
+            Sight::Last(other, status) => {
                 self.note(clause, status)?;
                 Ok(Some(other))
             }
@@ -140,11 +122,11 @@ impl Propagator {
     /// leaves the list, since another literal is watched. Behind the least false clause nothing is looked for, since only an earlier one
     /// can be the answer, and the literal is taken back before the next propagation.
     fn visit(&mut self, trail: &Trail, gone: Lit, watch: Watch) -> Result<Option<Lit>, AllocError>
-        requires visit { CanVisit self.old.clauses (literals trail.now.entries) gone watch (kept_of self.old) }
-        requires over { All (IsOver trail.now.vars) self.old.clauses }
+        requires visit { CanVisit self.old.clauses.given (literals trail.now.entries) gone watch (kept_of self.old) }
+        requires over { All (IsOver trail.now.vars) self.old.clauses.given }
         requires lists { length self.old.lists.items ≡ 2 * trail.now.vars + 2 }
-        ensures visit { IfOk result (λ r. IsVisit self.old.clauses (literals trail.now.entries) gone watch (kept_of self.old) (kept_of self.new) r) }
-        ensures kept { (self.new.clauses ≡ self.old.clauses) × (length self.new.lists.items ≡ length self.old.lists.items) }
+        ensures visit { IfOk result (λ r. IsVisit self.old.clauses.given (literals trail.now.entries) gone watch (kept_of self.old) (kept_of self.new) r) }
+        ensures kept { (self.new.clauses.given ≡ self.old.clauses.given) × (length self.new.lists.items ≡ length self.old.lists.items) }
     {
         let status = trail.status(watch.blocker);
         if status.is_satisfied() {
@@ -172,16 +154,16 @@ impl Propagator {
         list: &mut [Watch],
     ) -> Result<usize, AllocError>
         requires ordered { IsOrdered trail.now.vars trail.now.entries }
-        requires served { (floor : ℕ) × (n : ℕ) × IsNext trail.now.entries n gone × (elsewhere : List ℕ) × IsServed floor self.old.clauses trail.now.entries n (tending (with_list (also elsewhere (kept_of self.old)) gone list.old)) }
-        requires entries { AreEntries self.old.clauses (with_list (kept_of self.old) gone list.old) }
-        requires over { All (IsOver trail.now.vars) self.old.clauses }
+        requires served { (floor : ℕ) × (n : ℕ) × IsNext trail.now.entries n gone × (elsewhere : List ℕ) × IsServed floor self.old.clauses.given trail.now.entries n (tending (with_list (also elsewhere (kept_of self.old)) gone list.old)) }
+        requires entries { AreEntries self.old.clauses.given (with_list (kept_of self.old) gone list.old) }
+        requires over { All (IsOver trail.now.vars) self.old.clauses.given }
         requires lists { length self.old.lists.items ≡ 2 * trail.now.vars + 2 }
         ensures within { IfOk result (λ m. m ≤ length list.new) }
-        ensures served { IfOk result (λ m. (floor n : ℕ) (elsewhere : List ℕ) → IsNext trail.now.entries n gone → IsServed floor self.old.clauses trail.now.entries n (tending (with_list (also elsewhere (kept_of self.old)) gone list.old))
-            → Tends floor self.old.clauses trail.now.entries (tending (with_list (also elsewhere (kept_of self.new)) gone (take m list.new)))
-            × AllGood self.old.clauses (literals (take n trail.now.entries) ++ negated gone ∷ []) (literals trail.now.entries) (tending (with_list (also elsewhere (kept_of self.new)) gone (take m list.new)))) }
-        ensures entries { IfOk result (λ m. AreEntries self.old.clauses (with_list (kept_of self.new) gone (take m list.new))) }
-        ensures kept { (self.new.clauses ≡ self.old.clauses) × (length self.new.lists.items ≡ length self.old.lists.items) }
+        ensures served { IfOk result (λ m. (floor n : ℕ) (elsewhere : List ℕ) → IsNext trail.now.entries n gone → IsServed floor self.old.clauses.given trail.now.entries n (tending (with_list (also elsewhere (kept_of self.old)) gone list.old))
+            → Tends floor self.old.clauses.given trail.now.entries (tending (with_list (also elsewhere (kept_of self.new)) gone (take m list.new)))
+            × AllGood self.old.clauses.given (literals (take n trail.now.entries) ++ negated gone ∷ []) (literals trail.now.entries) (tending (with_list (also elsewhere (kept_of self.new)) gone (take m list.new)))) }
+        ensures entries { IfOk result (λ m. AreEntries self.old.clauses.given (with_list (kept_of self.new) gone (take m list.new))) }
+        ensures kept { (self.new.clauses.given ≡ self.old.clauses.given) × (length self.new.lists.items ≡ length self.old.lists.items) }
     {
         let mut end = list.len();
         let mut place = 0;
@@ -203,14 +185,14 @@ impl Propagator {
     /// Visits the clauses that watch the negation of the literal of the trail's entry at a place.
     fn serve(&mut self, trail: &Trail, place: usize) -> Result<(), AllocError>
         requires inside { place < length trail.now.entries }
-        requires entries { AreEntries self.old.clauses (kept_of self.old) }
-        requires over { All (IsOver trail.now.vars) self.old.clauses }
+        requires entries { AreEntries self.old.clauses.given (kept_of self.old) }
+        requires over { All (IsOver trail.now.vars) self.old.clauses.given }
         requires lists { length self.old.lists.items ≡ 2 * trail.now.vars + 2 }
-        requires served { (floor : ℕ) × (elsewhere : List ℕ) × IsServed floor self.old.clauses trail.now.entries place (tending (also elsewhere (kept_of self.old))) }
-        ensures served { OnOk result ((floor : ℕ) (elsewhere : List ℕ) → IsServed floor self.old.clauses trail.now.entries place (tending (also elsewhere (kept_of self.old)))
-            → IsServed floor self.old.clauses trail.now.entries (place + 1) (tending (also elsewhere (kept_of self.new)))) }
-        ensures entries { OnOk result (AreEntries self.old.clauses (kept_of self.new)) }
-        ensures kept { (self.new.clauses ≡ self.old.clauses) × (length self.new.lists.items ≡ length self.old.lists.items) }
+        requires served { (floor : ℕ) × (elsewhere : List ℕ) × IsServed floor self.old.clauses.given trail.now.entries place (tending (also elsewhere (kept_of self.old))) }
+        ensures served { OnOk result ((floor : ℕ) (elsewhere : List ℕ) → IsServed floor self.old.clauses.given trail.now.entries place (tending (also elsewhere (kept_of self.old)))
+            → IsServed floor self.old.clauses.given trail.now.entries (place + 1) (tending (also elsewhere (kept_of self.new)))) }
+        ensures entries { OnOk result (AreEntries self.old.clauses.given (kept_of self.new)) }
+        ensures kept { (self.new.clauses.given ≡ self.old.clauses.given) × (length self.new.lists.items ≡ length self.old.lists.items) }
     {
         let entry = trail.entries()[place];
         let gone = entry.lit.negated();
@@ -227,14 +209,14 @@ impl Propagator {
     /// Serves the trail's entries from a place on.
     pub fn serve_from(&mut self, trail: &Trail, from: usize) -> Result<(), AllocError>
         requires inside { from ≤ length trail.now.entries }
-        requires entries { AreEntries self.old.clauses (kept_of self.old) }
-        requires over { All (IsOver trail.now.vars) self.old.clauses }
+        requires entries { AreEntries self.old.clauses.given (kept_of self.old) }
+        requires over { All (IsOver trail.now.vars) self.old.clauses.given }
         requires lists { length self.old.lists.items ≡ 2 * trail.now.vars + 2 }
-        requires served { (floor : ℕ) × (elsewhere : List ℕ) × IsServed floor self.old.clauses trail.now.entries from (tending (also elsewhere (kept_of self.old))) }
-        ensures served { OnOk result ((floor : ℕ) (elsewhere : List ℕ) → IsServed floor self.old.clauses trail.now.entries from (tending (also elsewhere (kept_of self.old)))
-            → IsServed floor self.old.clauses trail.now.entries (length trail.now.entries) (tending (also elsewhere (kept_of self.new)))) }
-        ensures entries { OnOk result (AreEntries self.old.clauses (kept_of self.new)) }
-        ensures kept { (self.new.clauses ≡ self.old.clauses) × (length self.new.lists.items ≡ length self.old.lists.items) }
+        requires served { (floor : ℕ) × (elsewhere : List ℕ) × IsServed floor self.old.clauses.given trail.now.entries from (tending (also elsewhere (kept_of self.old))) }
+        ensures served { OnOk result ((floor : ℕ) (elsewhere : List ℕ) → IsServed floor self.old.clauses.given trail.now.entries from (tending (also elsewhere (kept_of self.old)))
+            → IsServed floor self.old.clauses.given trail.now.entries (length trail.now.entries) (tending (also elsewhere (kept_of self.new)))) }
+        ensures entries { OnOk result (AreEntries self.old.clauses.given (kept_of self.new)) }
+        ensures kept { (self.new.clauses.given ≡ self.old.clauses.given) × (length self.new.lists.items ≡ length self.old.lists.items) }
     {
         for place in from..trail.entries().len() {
             self.serve(trail, place)?;
@@ -245,21 +227,21 @@ impl Propagator {
     /// The unit clause of least number, taken out of those that wait; stale ones are dropped.
     fn next_unit(&mut self, trail: &Trail) -> Option<Unit>
         requires none { self.old.conflict ≡ None }
-        requires over { All (IsOver trail.now.vars) self.old.clauses }
-        requires served { (floor : ℕ) × IsServed floor self.old.clauses trail.now.entries (length trail.now.entries) (tending (kept_of self.old)) }
-        ensures none { IfNone result (least_unit (literals trail.now.entries) self.old.clauses ≡ None) }
+        requires over { All (IsOver trail.now.vars) self.old.clauses.given }
+        requires served { (floor : ℕ) × IsServed floor self.old.clauses.given trail.now.entries (length trail.now.entries) (tending (kept_of self.old)) }
+        ensures none { IfNone result (least_unit (literals trail.now.entries) self.old.clauses.given ≡ None) }
         ensures empty { IfNone result (self.new.units ≡ []) }
-        ensures rest { IfNone result ((floor : ℕ) → IsServed floor self.old.clauses trail.now.entries (length trail.now.entries) (tending (kept_of self.old))
-            → IsServed floor self.old.clauses trail.now.entries (length trail.now.entries) (tending (kept_of self.new))) }
-        ensures unit { IfSome result (λ u. least_unit (literals trail.now.entries) self.old.clauses ≡ Some (u.clause + 1, u.lit)) }
+        ensures rest { IfNone result ((floor : ℕ) → IsServed floor self.old.clauses.given trail.now.entries (length trail.now.entries) (tending (kept_of self.old))
+            → IsServed floor self.old.clauses.given trail.now.entries (length trail.now.entries) (tending (kept_of self.new))) }
+        ensures unit { IfSome result (λ u. least_unit (literals trail.now.entries) self.old.clauses.given ≡ Some (u.clause + 1, u.lit)) }
         ensures grows { IfSome result (λ u. (floor : ℕ) (e : closing_trails.Entry) → e.lit ≡ u.lit → e.level ≡ current_level trail.now.entries
-            → IsServed floor self.old.clauses trail.now.entries (length trail.now.entries) (tending (kept_of self.old))
-            → IsServed floor self.old.clauses (trail.now.entries ++ e ∷ []) (length trail.now.entries) (tending (kept_of self.new))) }
-        ensures kept { (self.new.clauses ≡ self.old.clauses) × (self.new.pairs ≡ self.old.pairs) × (self.new.lists ≡ self.old.lists) × (self.new.conflict ≡ self.old.conflict) }
+            → IsServed floor self.old.clauses.given trail.now.entries (length trail.now.entries) (tending (kept_of self.old))
+            → IsServed floor self.old.clauses.given (trail.now.entries ++ e ∷ []) (length trail.now.entries) (tending (kept_of self.new))) }
+        ensures kept { (self.new.clauses.given ≡ self.old.clauses.given) × (self.new.clauses.pairs ≡ self.old.clauses.pairs) × (self.new.lists ≡ self.old.lists) × (self.new.conflict ≡ self.old.conflict) }
     {
         let _trail = trail.entries(); // it ensures what the proof needs of the trail
         while let Some(clause) = self.units.pop() {
-            let lit = chosen(trail, self.pairs[clause as usize]);
+            let lit = chosen(trail, self.clauses.watched(clause as usize));
             if trail.truth(lit).is_none() {
                 return Some(Unit { clause, lit });
             }
@@ -271,18 +253,18 @@ impl Propagator {
     /// clause of least number first, until a clause is false or none is unit.
     pub fn propagate(&mut self, trail: &mut Trail, served: usize) -> Result<Closed, AllocError>
         requires inside { served ≤ length trail.old.entries }
-        requires entries { AreEntries self.old.clauses (kept_of self.old) }
-        requires over { All (IsOver trail.old.vars) self.old.clauses }
+        requires entries { AreEntries self.old.clauses.given (kept_of self.old) }
+        requires over { All (IsOver trail.old.vars) self.old.clauses.given }
         requires lists { length self.old.lists.items ≡ 2 * trail.old.vars + 2 }
-        requires served { (floor : ℕ) × IsServed floor self.old.clauses trail.old.entries served (tending (kept_of self.old)) }
-        ensures closes { IfOk result (λ a. Propagates by_number self.old.clauses trail.old.entries (closed_of a) trail.new.entries) }
-        ensures onward { (a : closing.Closed) (U : closing_trails.Trail) → Propagates by_number self.old.clauses trail.new.entries a U → Propagates by_number self.old.clauses trail.old.entries a U }
-        ensures lawful { IsLawful self.old.clauses trail.old.entries → IsLawful self.old.clauses trail.new.entries }
-        ensures served { OnOk result ((floor : ℕ) → IsServed floor self.old.clauses trail.old.entries served (tending (kept_of self.old))
-            → IsServed floor self.old.clauses trail.new.entries (length trail.new.entries) (tending (kept_of self.new))) }
-        ensures entries { OnOk result (AreEntries self.old.clauses (kept_of self.new)) }
+        requires served { (floor : ℕ) × IsServed floor self.old.clauses.given trail.old.entries served (tending (kept_of self.old)) }
+        ensures closes { IfOk result (λ a. Propagates by_number self.old.clauses.given trail.old.entries (closed_of a) trail.new.entries) }
+        ensures onward { (a : closing.Closed) (U : closing_trails.Trail) → Propagates by_number self.old.clauses.given trail.new.entries a U → Propagates by_number self.old.clauses.given trail.old.entries a U }
+        ensures lawful { IsLawful self.old.clauses.given trail.old.entries → IsLawful self.old.clauses.given trail.new.entries }
+        ensures served { OnOk result ((floor : ℕ) → IsServed floor self.old.clauses.given trail.old.entries served (tending (kept_of self.old))
+            → IsServed floor self.old.clauses.given trail.new.entries (length trail.new.entries) (tending (kept_of self.new))) }
+        ensures entries { OnOk result (AreEntries self.old.clauses.given (kept_of self.new)) }
         ensures vars { trail.new.vars ≡ trail.old.vars }
-        ensures kept { (self.new.clauses ≡ self.old.clauses) × (length self.new.lists.items ≡ length self.old.lists.items) }
+        ensures kept { (self.new.clauses.given ≡ self.old.clauses.given) × (length self.new.lists.items ≡ length self.old.lists.items) }
     {
         let mut served = served;
         'steps: loop {
@@ -308,7 +290,7 @@ impl Propagator {
     /// Forgets what was found unit or false.
     pub fn calm(&mut self)
         ensures calm { (self.new.units ≡ []) × (self.new.conflict ≡ None) }
-        ensures kept { (self.new.clauses ≡ self.old.clauses) × (self.new.pairs ≡ self.old.pairs) × (self.new.lists ≡ self.old.lists) }
+        ensures kept { (self.new.clauses.given ≡ self.old.clauses.given) × (self.new.clauses.pairs ≡ self.old.clauses.pairs) × (self.new.lists ≡ self.old.lists) }
     {
         self.units.clear();
         self.conflict = None;

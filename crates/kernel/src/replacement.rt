@@ -7,20 +7,19 @@ ghost use Rattle.std.specs.Prelude.{◌≡◌, ◌<◌, ◌≤◌, ◌⊎◌, tr
 ghost use Rattle.theory.specs.Literals.{same, has, negated};
 ghost use Rattle.theory.specs.Truth.{IsOver};
 ghost use Rattle.theory.specs.Trails.{literals};
-ghost use Rattle.kernel.specs.Visiting.{IsLast, Replaces};
+ghost use Rattle.kernel.specs.Visiting.{IsLast};
+ghost use Rattle.kernel.specs.Seeing.{IsFound};
 
 use cnf::Lit;
 use std::alloc::{AllocError, Global};
 use trail::Trail;
 
-/// A clause of at most so many literals is gone through to its end: where the search ends can't be foretold, and the branch that ends it costs
-/// more than the few literals behind.
-const FEW: usize = 4;
-
-/// A clause of more literals than this is long. Others are gone through faster than a place of theirs is read.
+/// Of more literals than this behind the two that it watches a clause is long. Others are gone
+/// through faster than a place of theirs is read.
 const LONG: usize = 64;
 
-/// By clause: the place of the literal that was found last, in a long one. It is a hint: any place serves.
+/// By clause: the place of the literal that was found last, in a long one, counted behind the two
+/// that it watches. It is a hint: any place serves.
 #[derive(Drop)]
 pub struct Starts {
     places: Vec<u32>,
@@ -53,39 +52,23 @@ impl Starts {
     }
 }
 
-/// Whether a literal isn't false, and other than `except`. Both are always asked: which of a clause's literals are so can't be foretold,
-/// and one branch for both is missed less often than two.
+/// Whether a literal isn't false, and other than `except`. A clause of the formula may have a
+/// literal more than once.
 fn is_open(trail: &Trail, lit: Lit, except: Lit) -> bool
     requires { lit.var ≤ trail.now.vars }
     ensures yes { result ≡ true → (same lit except ≡ false) × (has (literals trail.now.entries) (negated lit) ≡ false) }
     ensures no { result ≡ false → (same lit except ≡ true) ⊎ (has (literals trail.now.entries) (negated lit) ≡ true) }
 {
-    let is_false = trail.status(lit).is_falsified();
-    let is_except = lit.same(&except);
-    !(is_false | is_except)
-}
-
-/// A literal that isn't false, other than `except`: the last such one of the clause, which is gone through to its end.
-fn last_open(trail: &Trail, clause: &[Lit], except: Lit) -> Option<Lit>
-    requires { IsOver trail.now.vars clause.now }
-    ensures some { IfSome result (λ z. Replaces (literals trail.now.entries) clause.now except z) }
-    ensures none { IfNone result (IsLast (literals trail.now.entries) clause.now except) }
-{
-    let mut found = None;
-    for place in 0..clause.len() {
-        let lit = clause[place];
-        if is_open(trail, lit, except) {
-            found = Some(lit);
-        }
+    if trail.status(lit).is_falsified() {
+        return false;
     }
-    found
+    !lit.same(&except)
 }
 
 /// The first literal that isn't false, other than `except`, with its place.
 fn first_open(trail: &Trail, clause: &[Lit], except: Lit) -> Option<(usize, Lit)>
     requires { IsOver trail.now.vars clause.now }
-    ensures within { IfSome result (λ r. r.0 < length clause.now) }
-    ensures some { IfSome result (λ r. Replaces (literals trail.now.entries) clause.now except r.1) }
+    ensures some { IfSome result (λ r. IsFound (literals trail.now.entries) clause.now except r.0 r.1) }
     ensures none { IfNone result (IsLast (literals trail.now.entries) clause.now except) }
 {
     for place in 0..clause.len() {
@@ -101,7 +84,7 @@ fn first_open(trail: &Trail, clause: &[Lit], except: Lit) -> Option<(usize, Lit)
 fn open_from(trail: &Trail, clause: &[Lit], except: Lit, start: usize) -> Option<(usize, Lit)>
     requires over { IsOver trail.now.vars clause.now }
     requires start { start ≤ length clause.now }
-    ensures some { IfSome result (λ r. Replaces (literals trail.now.entries) clause.now except r.1) }
+    ensures some { IfSome result (λ r. IsFound (literals trail.now.entries) clause.now except r.0 r.1) }
     ensures none { IfNone result (IsLast (literals trail.now.entries) clause.now except) }
 {
     match first_open(trail, &clause[start..], except) {
@@ -110,32 +93,27 @@ fn open_from(trail: &Trail, clause: &[Lit], except: Lit, start: usize) -> Option
     }
 }
 
-/// A literal that isn't false, other than `except`, of the clause of a number.
+/// A literal that isn't false, other than `except`, among literals of the clause of a number, with
+/// its place.
 pub fn replacement(
     trail: &Trail,
     clause: &[Lit],
     except: Lit,
     starts: &mut Starts,
     number: usize,
-) -> Option<Lit>
+) -> Option<(usize, Lit)>
     requires { IsOver trail.now.vars clause.now }
-    ensures some { IfSome result (λ z. Replaces (literals trail.now.entries) clause.now except z) }
+    ensures some { IfSome result (λ r. IsFound (literals trail.now.entries) clause.now except r.0 r.1) }
     ensures none { IfNone result (IsLast (literals trail.now.entries) clause.now except) }
 {
-    if clause.len() <= FEW {
-        return last_open(trail, clause, except);
-    }
     if clause.len() <= LONG {
-        return match first_open(trail, clause, except) {
-            Some((_, lit)) => Some(lit),
-            None => None,
-        };
+        return first_open(trail, clause, except);
     }
     match open_from(trail, clause, except, starts.of(number, clause.len())) {
+        None => None,
         Some((place, lit)) => {
             starts.put(number, place);
-            Some(lit)
+            Some((place, lit))
         }
-        None => None,
     }
 }

@@ -1,5 +1,5 @@
 //! Which literals a clause watches, and the entries of the lists of those that watch a literal.
-ghost use Rattle.std.specs.Prelude.{◌≡◌, ◌+◌, ◌*◌, true, false, if◌then◌else◌};
+ghost use Rattle.std.specs.Prelude.{◌≡◌, ◌+◌, ◌*◌, true, false};
 ghost use Rattle.theory.specs.Literals.{same};
 ghost use Rattle.kernel.specs.Watching.{code};
 
@@ -31,25 +31,6 @@ pub fn code(lit: Lit) -> usize
 {
     let double = 2 * lit.var() as usize;
     if lit.positive() { double + 1 } else { double }
-}
-
-/// The watched literal beside one. Which of the two it is can't be foretold, so it is chosen by its place and not by a branch.
-pub fn beside(watched: Watched, lit: Lit) -> Lit
-    ensures { result ≡ (if same watched.first lit then watched.second else watched.first) }
-{
-    let both = [watched.first, watched.second];
-    let place = usize::from(watched.first.same(&lit));
-    both[place]
-}
-
-// what stands beside an empty clause
-impl Default for Watched {
-    fn default() -> Watched {
-        Watched {
-            first: Lit::of(1, true),
-            second: Lit::of(1, true),
-        }
-    }
 }
 
 // what fills the unused inline places of a list

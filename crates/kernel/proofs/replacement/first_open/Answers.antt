@@ -7,7 +7,10 @@ pub returns-then-is_open-clause-some : goal.returns-then-is_open-clause-some
 returns-then-is_open-clause-some c =
     let found = c.is_open.ensures.yes c.if-is_open.true in
     record {
-      member = subst (λ (l : Literal). has c.args.clause.now l ≡ true) (sym c.index-clause-place.is) (has-get c.args.clause.now c.loop-place.place c.index-clause-place.result c.loop-place-test.true);
-      apart = found.0;
-      not_false = found.1;
+      at = (c.loop-place-test.true, sym c.index-clause-place.is);
+      replaces = record {
+        member = subst (λ (l : Literal). has c.args.clause.now l ≡ true) (sym c.index-clause-place.is) (has-get c.args.clause.now c.loop-place.place c.index-clause-place.result c.loop-place-test.true);
+        apart = found.0;
+        not_false = found.1;
+      };
     }

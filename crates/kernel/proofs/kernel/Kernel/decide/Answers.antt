@@ -29,7 +29,7 @@ invariant_of-self c =
       rw c.push.ensures.vars c.self.invariant.1,
       c.self.invariant.2,
       λ h. rw (c.push.ensures.entries, c.push.ensures.vars)
-          (decide-watching (rule_of c.self.inside.order) (IsRule-of c.self.inside.order) c.self.inside.trail.vars c.self.inside.first c.self.inside.propagator.clauses c.self.inside.trail.entries c.self.inside.served c.self.inside.floor c.floor_of-self-inside.result (kept_of c.self.inside.propagator)
+          (decide-watching (rule_of c.self.inside.order) (IsRule-of c.self.inside.order) c.self.inside.trail.vars c.self.inside.first c.self.inside.propagator.clauses.given c.self.inside.trail.entries c.self.inside.served c.self.inside.floor c.floor_of-self-inside.result (kept_of c.self.inside.propagator)
           c.self.inside.singles.items c.self.inside.empty (record { lit = c.args.lit; reason = None; level = c.level-level.result + 1 }) c.level-level.ensures.ordered asked.2 (ap (λ n. n + 1) level)
           (which (length c.self.inside.trail.entries) c.self.inside.served c.self.inside.floor c.floor_of-self-inside.result s.within (rw (← c.entries.ensures.entries) c.floor_of-self-inside.ensures)) s),
       c.self.invariant.4,

@@ -9,7 +9,7 @@ pub invariant_of-self : goal.invariant_of-self
 invariant_of-self c =
     let e = c.in-Ok.ensures in
     let k = c.self.inside in
-    let K = k.propagator.clauses in
+    let K = k.propagator.clauses.given in
     let T = k.trail.entries in
     let numbers = c.args.numbers.now in
     let learnt = (rw (← c.self.view_is) at c.requires.learnt) c.if-self.false in

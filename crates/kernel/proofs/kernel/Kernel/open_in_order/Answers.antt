@@ -20,7 +20,7 @@ vars_of c = c.put_cube.ensures.vars ∙ (ap (λ (t : TrailOver). t.vars) c.in_ok
 entries_of : (c : goal.After-none) → c.put_cube.new.trail.entries ≡ cube_trail c.args.cube.now
 entries_of c = c.put_cube.ensures.entries ∙ ap cube_trail c.lits.ensures.lits
 
-clauses_are : (c : goal.After-none) → c.attach_units.new.self.clauses ≡ c.args.formula.now.clauses ++ unit_clauses c.args.units.now
+clauses_are : (c : goal.After-none) → c.attach_units.new.self.clauses.given ≡ c.args.formula.now.clauses ++ unit_clauses c.args.units.now
 clauses_are c = rw (c.in_ok-attach_units.ensures.clauses, c.in_ok-attach_all.ensures.clauses, c.in_ok-propagator.ensures.none.0, c.clauses-clauses.ensures.clauses) refl
 
 -- the clauses are over the formula's variables
@@ -28,7 +28,7 @@ over_of : (c : goal.After-none) → All (IsOver c.args.formula.now.vars) (c.args
 over_of c = All-append (IsOver c.args.formula.now.vars) c.args.formula.now.clauses (unit_clauses c.args.units.now) c.vars-vars.ensures.within.formula (IsOver-unit_clauses c.args.formula.now.vars c.args.units.now c.requires.units.1)
 
 -- nothing is decided, so whatever the cube puts on the trail is yet to be served
-watching : (c : goal.After-none) → IsWatching c.put_cube.new.trail.vars c.len.result c.attach_units.new.self.clauses c.put_cube.new.trail.entries 0 18446744073709551615 (kept_of c.attach_units.new.self) c.attach_units.new.singles.items c.attach_units.new.self.conflict
+watching : (c : goal.After-none) → IsWatching c.put_cube.new.trail.vars c.len.result c.attach_units.new.self.clauses.given c.put_cube.new.trail.entries 0 18446744073709551615 (kept_of c.attach_units.new.self) c.attach_units.new.singles.items c.attach_units.new.self.conflict
 watching c =
     let V = c.vars-vars.result in
     let e = c.in_ok-propagator.ensures in
@@ -36,14 +36,14 @@ watching c =
     let s = c.in_ok-attach_all.ensures.watching V over (rw (e.none.0, c.in_ok-singles.ensures.items) (e.watching V c.in_ok-room.ensures)) in
     let t = c.in_ok-attach_units.ensures.watching V (rw c.vars-vars.ensures.vars c.requires.units.1) s in
     let vars : c.put_cube.new.trail.vars ≡ V = c.put_cube.ensures.vars ∙ ap (λ (t : TrailOver). t.vars) c.in_ok-trail.ensures in
-    rw (vars, c.len.ensures, c.put_cube.ensures.entries)
-    (begun 18446744073709551615 V (length c.attach_units.new.self.clauses) c.attach_units.new.self.clauses (cube_trail c.lits.result.now) (kept_of c.attach_units.new.self) c.attach_units.new.singles.items c.attach_units.new.self.conflict (current_level-cube_trail c.lits.result.now) t)
+    rw (vars, c.len.ensures.given, c.put_cube.ensures.entries)
+    (begun 18446744073709551615 V (length c.attach_units.new.self.clauses.given) c.attach_units.new.self.clauses.given (cube_trail c.lits.result.now) (kept_of c.attach_units.new.self) c.attach_units.new.singles.items c.attach_units.new.self.conflict (current_level-cube_trail c.lits.result.now) t)
 
 pub attach_all-requires : goal.attach_all-requires
 attach_all-requires c = record { over = (c.vars-vars.result, rw c.vars-vars.ensures.vars (over-items (λ v. v.items) c.args.formula.now.vars c.clauses-clauses.result.now c.args.formula.now.clauses c.clauses-clauses.ensures.clauses c.vars-vars.ensures.within.formula), c.in_ok-propagator.ensures.none.1 ∙ c.in_ok-room.ensures) }
 
 pub invariant_of-result : goal.invariant_of-result
-invariant_of-result c = (rw (entries_of c) (IsLawful-cube _ _ c.lits.ensures.cube), rw (vars_of c, clauses_are c) (over_of c), omega (arith, c.len.ensures), λ h. watching c, λ h. c.new.ensures)
+invariant_of-result c = (rw (entries_of c) (IsLawful-cube _ _ c.lits.ensures.cube), rw (vars_of c, clauses_are c) (over_of c), omega (arith, c.len.ensures.given), λ h. watching c, λ h. c.new.ensures)
 
 pub returns-clause-lawful : goal.returns-clause-lawful
 returns-clause-lawful c = (

@@ -25,7 +25,7 @@ left V first K new over within (inr e) = rw e (All-take (IsOver V) first K over,
 
 pub invariant_of-self : goal.invariant_of-self
 invariant_of-self c =
-    let r = left c.self.inside.trail.vars c.self.inside.first c.self.inside.propagator.clauses c.cut.new.self.clauses c.self.invariant.1 c.self.invariant.2 c.in-Err.ensures.refused in
+    let r = left c.self.inside.trail.vars c.self.inside.first c.self.inside.propagator.clauses.given c.cut.new.self.clauses.given c.self.invariant.1 c.self.invariant.2 c.in-Err.ensures.refused in
     (rw c.clear.ensures.entries tt, rw c.clear.ensures.vars r.0, r.1, λ h. absurd (cc), λ h. absurd (cc))
 
 pub invariant_of-self-2 : goal.invariant_of-self-2
@@ -33,7 +33,7 @@ invariant_of-self-2 c =
     let entries : c.put_cube.new.trail.entries ≡ cube_trail c.args.cube.now = c.put_cube.ensures.entries ∙ ap cube_trail c.lits.ensures.lits in
     let vars : c.put_cube.new.trail.vars ≡ c.self.inside.trail.vars = c.put_cube.ensures.vars ∙ c.clear.ensures.vars in
     let V = c.self.inside.trail.vars in
-    let K = c.self.inside.propagator.clauses in
+    let K = c.self.inside.propagator.clauses.given in
     let first = c.self.inside.first in (
       rw entries (IsLawful-cube _ _ c.lits.ensures.cube),
       rw (vars, c.in_default.ensures.clauses) (All-take (IsOver V) _ _ c.self.invariant.1),
@@ -42,7 +42,7 @@ invariant_of-self-2 c =
           let was : IsWatching V first K c.self.inside.trail.entries c.self.inside.served c.self.inside.floor (kept_of c.self.inside.propagator) c.deref.result.now c.self.inside.empty = rw c.deref.ensures.value (c.self.invariant.3 h) in
           let s = c.in_default.ensures.watching V c.self.inside.served c.self.inside.floor c.self.inside.trail.entries was in
           rw (vars, entries, ← c.deref.ensures.value)
-          (begun 18446744073709551615 V first c.cut.new.self.clauses (cube_trail c.args.cube.now) (kept_of c.cut.new.self) c.deref.result.now c.self.inside.empty (current_level-cube_trail c.args.cube.now) s),
+          (begun 18446744073709551615 V first c.cut.new.self.clauses.given (cube_trail c.args.cube.now) (kept_of c.cut.new.self) c.deref.result.now c.self.inside.empty (current_level-cube_trail c.args.cube.now) s),
       c.self.invariant.4,
     )
 

@@ -1,16 +1,15 @@
-use Rattle.std.proofs.lemmas.List.Sorted.{IsPermutation-map}
-use Rattle.kernel.proofs.Placed.{All-goes_first}
+use Rattle.kernel.proofs.UnitLemmas.{taken-unheaped}
+use Rattle.kernel.proofs.InOrder.{first-unheaped, first-queued}
 use Rattle.kernel.proofs.line.Line.pop.Goals as goal
-use Rattle.kernel.proofs.line.Line.pop.Goals.{in-None, in-Some}
 
-pub returns-clause-taken : goal.returns-clause-taken
-returns-clause-taken c = elim c.match-pop.branch [
-  | in-None w ↦ rw w.result-is tt
-  | in-Some w ↦ rw (w.result-is, ← c.self.view_is) (IsPermutation-map (λ r. r.0) _ _ w.in-Some.ensures.permutation)
-]
+pub returns-then-has_before-clause-taken : goal.returns-then-has_before-clause-taken
+returns-then-has_before-clause-taken c = rw (← c.self.view_is) (taken-unheaped _ _ _ _ c.take_first-then-has_before.ensures.taken)
 
-pub returns-clause-first : goal.returns-clause-first
-returns-clause-first c = elim c.match-pop.branch [
-  | in-None w ↦ rw w.result-is tt
-  | in-Some w ↦ rw (w.result-is, ← c.self.view_is) (All-goes_first _ _ (w.in-Some.ensures.heap_order c.self.invariant).1)
-]
+pub returns-then-has_before-clause-first : goal.returns-then-has_before-clause-first
+returns-then-has_before-clause-first c =
+    let before = c.has_before.ensures.before c.if-has_before.true in
+    rw (← c.self.view_is) (first-unheaped _ _ _ before.0 c.in-Some.first before.1 before.2 c.in-Some.ensures.first c.take_first-then-has_before.ensures.first)
+
+pub returns-else-has_before-clause-first : goal.returns-else-has_before-clause-first
+returns-else-has_before-clause-first c =
+    rw (← c.self.view_is) (first-queued _ _ _ c.in-Some.first c.in-Some.ensures.there (c.has_before.ensures.none c.if-has_before.false) c.pop.ensures.first)

@@ -9,8 +9,8 @@ invariant-loop-code l = record {
   below : AreKeptBelow l.first (take l.code-index l.codes) (kept_of l.initial.self).lists (kept_of l.self).lists;
   last : (n : ℕ) → l.last ≡ Some n → Contains (take l.code-index l.codes) n;
   long : length l.self.lists.items ≡ length l.initial.self.lists.items;
-  clauses : l.self.clauses ≡ l.initial.self.clauses;
-  pairs : l.self.pairs ≡ l.initial.self.pairs;
+  clauses : l.self.clauses.given ≡ l.initial.self.clauses.given;
+  pairs : l.self.clauses.pairs ≡ l.initial.self.clauses.pairs;
   units : l.self.units ≡ l.initial.self.units;
   conflict : l.self.conflict ≡ l.initial.self.conflict;
 }

@@ -6,8 +6,8 @@ use Rattle.kernel.proofs.propagator.Propagator.give_back.Given as goal
 abbrev pub invariant-loop-waiting : goal.invariant-loop-waiting
 invariant-loop-waiting l = record {
   waiting : IsPermutation (clauses_of l.initial.line ++ l.initial.self.units) (clauses_of l.line ++ l.self.units);
-  clauses : l.self.clauses ≡ l.initial.self.clauses;
-  pairs : l.self.pairs ≡ l.initial.self.pairs;
+  clauses : l.self.clauses.given ≡ l.initial.self.clauses.given;
+  pairs : l.self.clauses.pairs ≡ l.initial.self.clauses.pairs;
   lists : l.self.lists ≡ l.initial.self.lists;
   conflict : l.self.conflict ≡ l.initial.self.conflict;
 }

@@ -1,17 +1,21 @@
-use Rattle.std.proofs.Common.{arith}
+use Rattle.std.proofs.Common.{[], get_or, arith}
 use Rattle.std.proofs.lemmas.List.Sorted.{length_permutation, IsPermutation-map}
-use Rattle.kernel.proofs.Visits.{read-At}
-use Rattle.kernel.proofs.Placed.{At-over, lined, ArePlaced-push, taken-there, rest-there}
+use Rattle.std.specs.List.{Contains}
+use Rattle.kernel.proofs.Places.{At-get}
+use Rattle.kernel.proofs.Placed.{lined, ArePlaced-push, taken-there, rest-there}
 use Rattle.kernel.proofs.propagator.Propagator.line_up.Goals as goal
 
-pub get-requires : goal.get-requires
-get-requires c = rw c.loop-clause.invariant.clauses (c.loop-clause.invariant.within c.in-Some.clause (taken-there _ _ c.in-Some.clause c.in-Some.ensures.taken))
+-- the clause taken was found before
+found : (c : goal.In-Some) → Contains c.args.self.now.units c.in-Some.clause
+found c = c.loop-clause.invariant.found c.in-Some.clause (taken-there _ _ c.in-Some.clause c.in-Some.ensures.taken)
 
-pub last_place-place-requires : goal.last_place-place-requires
-last_place-place-requires c =
+pub place_of-place-requires-clause-within : goal.place_of-place-requires-clause-within
+place_of-place-requires-clause-within c = rw c.loop-clause.invariant.clauses (c.requires.within c.in-Some.clause (found c))
+
+pub place_of-place-requires-clause-pair : goal.place_of-place-requires-clause-pair
+place_of-place-requires-clause-pair c d w a b =
     let i = c.loop-clause.invariant in
-    let inside = i.within c.in-Some.clause (taken-there _ _ c.in-Some.clause c.in-Some.ensures.taken) in
-    At-over c.args.trail.now.vars c.args.self.now.clauses c.in-Some.clause c.get.result.now c.requires.over (read-At c.args.self.now.clauses c.in-Some.clause c.get.result.now inside (rw i.clauses at c.get.ensures))
+    c.requires.pairs c.in-Some.clause d w (found c) (rw i.clauses at a) (rw i.pairs at b)
 
 pub loop-clause-smaller : goal.loop-clause-smaller
 loop-clause-smaller c = omega (arith, length_permutation _ _ c.in-Some.ensures.taken)
@@ -19,12 +23,14 @@ loop-clause-smaller c = omega (arith, length_permutation _ _ c.in-Some.ensures.t
 pub loop-clause-preserved : goal.loop-clause-preserved
 loop-clause-preserved c =
     let i = c.loop-clause.invariant in
-    let inside = i.within c.in-Some.clause (taken-there _ _ c.in-Some.clause c.in-Some.ensures.taken) in
+    let K = c.args.self.now.clauses.given in
+    let n = c.in-Some.clause in
+    let there = At-get K n [] (c.requires.within n (i.found n (taken-there _ _ n c.in-Some.ensures.taken))) in
     record {
-      waiting = lined _ _ _ _ _ c.in-Some.clause i.waiting c.in-Some.ensures.taken (IsPermutation-map (λ w. w.clause) _ _ c.in_ok-push.ensures);
-      placed = λ h. ArePlaced-push c.args.self.now.clauses c.args.trail.now.entries c.loop-clause.line c.push.new.self _ c.get.result.now
-          (read-At c.args.self.now.clauses c.in-Some.clause c.get.result.now inside (rw i.clauses at c.get.ensures)) c.last_place-place.ensures c.in_ok-push.ensures (i.placed h);
-      within = λ n m. i.within n (rest-there _ _ c.in-Some.clause n c.in-Some.ensures.taken m);
+      waiting = lined _ _ _ _ _ n i.waiting c.in-Some.ensures.taken (IsPermutation-map (λ w. w.clause) _ _ c.in_ok-push.ensures);
+      placed = λ h. ArePlaced-push K c.args.trail.now.entries c.loop-clause.line c.push.new.self _ (get_or K n []) there
+          (c.place_of-place.ensures (get_or K n []) (rw i.clauses there)) c.in_ok-push.ensures (i.placed h);
+      found = λ m h. i.found m (rest-there _ _ n m c.in-Some.ensures.taken h);
       clauses = i.clauses;
       pairs = i.pairs;
       lists = i.lists;

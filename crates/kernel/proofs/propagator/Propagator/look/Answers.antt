@@ -1,39 +1,44 @@
 use Rattle.std.proofs.Common.{refl}
-use Rattle.trail.specs.Tables.{value_of}
-use Rattle.kernel.specs.Visiting.{kept_of, satisfied}
-use Rattle.kernel.proofs.Visits.{over-of, over-var, looked, looked-stays, looked-last, looked-moves, clause-read, clause-over, noted, code-within}
+use Rattle.kernel.specs.Visiting.{kept_of}
+use Rattle.kernel.proofs.Visits.{over-var, clause-over, code-within}
+use Rattle.kernel.proofs.Sights.{clause, pair, clause-at, pair-at, sees-satisfied, sees-last, sees-moved}
 use Rattle.kernel.proofs.propagator.Propagator.look.Goals as goal
 
-pub status-status-requires : goal.status-status-requires
-status-status-requires c =
-    let seen = looked _ _ _ _ _ c.requires.visit c.index.result.now c.beside-other.result c.index.ensures c.beside-other.ensures in
-    over-of _ _ _ _ _ c.requires.visit c.args.trail.now.vars c.beside-other.result c.requires.over seen.member
+pub look-requires-clause-watched : goal.look-requires-clause-watched
+look-requires-clause-watched c w at =
+    let v = c.requires.visit in
+    (v.pair (clause _ _ _ _ _ v c.requires.long) w (clause-at _ _ _ _ _ v c.requires.long) at).1
 
-pub returns-then-is_satisfied-clause-visit : goal.returns-then-is_satisfied-clause-visit
-returns-then-is_satisfied-clause-visit c =
-    let seen = looked _ _ _ _ _ c.requires.visit c.index.result.now c.beside-other.result c.index.ensures c.beside-other.ensures in
-    satisfied (looked-stays _ _ _ _ _ c.requires.visit _ _ c.requires.long seen) (rw (c.is_satisfied.ensures.yes c.if-is_satisfied.true) at c.status-status.ensures.truth) refl
-
-pub replacement-requires : goal.replacement-requires
-replacement-requires c = clause-over _ _ _ _ _ c.requires.visit c.args.trail.now.vars c.get-lits.result.now c.requires.over (clause-read _ _ _ _ _ c.requires.visit c.get-lits.result.now c.get-lits.ensures)
-
-pub watch-requires-clause-listed : goal.watch-requires-clause-listed
-watch-requires-clause-listed c =
-    code-within c.in-Some.lit c.args.trail.now.vars _
-    (over-var c.args.trail.now.vars c.get-lits.result.now c.in-Some.lit
-    (clause-over _ _ _ _ _ c.requires.visit c.args.trail.now.vars c.get-lits.result.now c.requires.over (clause-read _ _ _ _ _ c.requires.visit c.get-lits.result.now c.get-lits.ensures)) c.in-Some.ensures.some.member)
+pub list-requires : goal.list-requires
+list-requires c =
+    let v = c.requires.visit in
+    let long = c.requires.long in
+    let d = clause _ _ _ _ _ v long in
+    let at = clause-at _ _ _ _ _ v long in
+    let seen = c.in-Moved.ensures.seen d (pair _ _ _ _ _ v long) at (pair-at _ _ _ _ _ v long) in
+    code-within c.in-Moved.watched.second c.args.trail.now.vars _
+    (over-var c.args.trail.now.vars d c.in-Moved.watched.second (clause-over _ _ _ _ _ v c.args.trail.now.vars d c.requires.over at) seen.2.1.member)
     c.requires.lists
 
-pub returns-in_ok-watch-in-Some-clause-visit : goal.returns-in_ok-watch-in-Some-clause-visit
-returns-in_ok-watch-in-Some-clause-visit c =
-    let seen = looked _ _ _ _ _ c.requires.visit c.index.result.now c.beside-other.result c.index.ensures c.beside-other.ensures in
-    looked-moves _ _ _ _ _ c.requires.visit (kept_of c.watch.new.self) c.index.result.now c.beside-other.result c.in-Some.lit c.get-lits.result.now c.requires.long seen
-    (clause-read _ _ _ _ _ c.requires.visit c.get-lits.result.now c.get-lits.ensures) c.in-Some.ensures.some c.in_ok-watch-in-Some.ensures.watched
+pub returns-in-Satisfied-clause-visit : goal.returns-in-Satisfied-clause-visit
+returns-in-Satisfied-clause-visit c =
+    let v = c.requires.visit in
+    let long = c.requires.long in
+    let seen = c.in-Satisfied.ensures.seen (clause _ _ _ _ _ v long) (pair _ _ _ _ _ v long) (clause-at _ _ _ _ _ v long) (pair-at _ _ _ _ _ v long) in
+    sees-satisfied _ _ _ _ _ v long c.in-Satisfied.other (record (kept_of c.args.self.now) { pairs = c.look.new.self.pairs }) seen.0 seen.2 seen.1 refl refl refl
 
-pub returns-in_ok-note-in-None-clause-visit : goal.returns-in_ok-note-in-None-clause-visit
-returns-in_ok-note-in-None-clause-visit c =
-    let seen = looked _ _ _ _ _ c.requires.visit c.index.result.now c.beside-other.result c.index.ensures c.beside-other.ensures in
-    let kept = c.in_ok-note-in-None.ensures.kept in
-    noted _ _ _ _ _ c.requires.visit (kept_of c.note.new.self) c.beside-other.result (value_of c.status-status.result) (looked-stays _ _ _ _ _ c.requires.visit _ _ c.requires.long seen)
-    (looked-last _ _ _ _ _ c.requires.visit c.index.result.now c.beside-other.result c.get-lits.result.now seen (clause-read _ _ _ _ _ c.requires.visit c.get-lits.result.now c.get-lits.ensures) c.in-None.ensures.none)
-    c.status-status.ensures.truth (c.is_satisfied.ensures.no c.if-is_satisfied.false) c.in_ok-note-in-None.ensures.unit c.in_ok-note-in-None.ensures.clashes (rw kept.1 refl) (rw kept.2 refl)
+pub returns-in_ok-list-in-Moved-clause-visit : goal.returns-in_ok-list-in-Moved-clause-visit
+returns-in_ok-list-in-Moved-clause-visit c =
+    let v = c.requires.visit in
+    let long = c.requires.long in
+    let seen = c.in-Moved.ensures.seen (clause _ _ _ _ _ v long) (pair _ _ _ _ _ v long) (clause-at _ _ _ _ _ v long) (pair-at _ _ _ _ _ v long) in
+    let e = c.in_ok-list-in-Moved.ensures in
+    sees-moved _ _ _ _ _ v long c.in-Moved.watched (kept_of c.list.new.self) seen.0 seen.2 (rw e.kept.1 seen.1) e.lists e.kept.2 e.kept.3
+
+pub returns-in_ok-note-in-Last-clause-visit : goal.returns-in_ok-note-in-Last-clause-visit
+returns-in_ok-note-in-Last-clause-visit c =
+    let v = c.requires.visit in
+    let long = c.requires.long in
+    let seen = c.in-Last.ensures.seen (clause _ _ _ _ _ v long) (pair _ _ _ _ _ v long) (clause-at _ _ _ _ _ v long) (pair-at _ _ _ _ _ v long) in
+    let e = c.in_ok-note-in-Last.ensures in
+    sees-last _ _ _ _ _ v long c.in-Last.other c.in-Last.status (kept_of c.note.new.self) seen.0 seen.2 e.unit e.clashes (rw e.kept.1 seen.1) (rw e.kept.2 refl)

@@ -6,9 +6,9 @@ use Rattle.kernel.proofs.propagator.Propagator.next_in_line.Given as goal
 
 abbrev pub invariant-loop-waiting : goal.invariant-loop-waiting
 invariant-loop-waiting l = record {
-  served : (floor : ℕ) → IsServed floor l.self.clauses l.trail.entries (length l.trail.entries) (record (tending (kept_of l.self)) { units = clauses_of l.initial.line })
-      → IsServed floor l.self.clauses l.trail.entries (length l.trail.entries) (record (tending (kept_of l.self)) { units = clauses_of l.line });
-  placed : ArePlaced l.self.clauses l.trail.entries l.line;
+  served : (floor : ℕ) → IsServed floor l.self.clauses.given l.trail.entries (length l.trail.entries) (record (tending (kept_of l.self)) { units = clauses_of l.initial.line })
+      → IsServed floor l.self.clauses.given l.trail.entries (length l.trail.entries) (record (tending (kept_of l.self)) { units = clauses_of l.line });
+  placed : ArePlaced l.self.clauses.given l.trail.entries l.line;
 }
 
 abbrev pub decreases-loop-waiting : goal.decreases-loop-waiting

@@ -16,10 +16,10 @@ serve_from-requires-clause-served c = (c.requires.served.0, [], rw c.steps.invar
 pub returns-in-Some-clause-closes : goal.returns-in-Some-clause-closes
 returns-in-Some-clause-closes c =
     let i = c.steps.invariant in
-    let s : IsServed c.requires.served.0 c.args.self.now.clauses c.steps.trail.entries (length c.steps.trail.entries) (tending (kept_of c.serve_from.new.self)) =
+    let s : IsServed c.requires.served.0 c.args.self.now.clauses.given c.steps.trail.entries (length c.steps.trail.entries) (tending (kept_of c.serve_from.new.self)) =
     rw (← i.clauses) (c.in_ok-serve_from.ensures.served c.requires.served.0 [] (rw i.clauses (i.served c.requires.served.0 c.requires.served.1))) in
     let ok = distinct-consistent (literals c.steps.trail.entries) c.entries-served.ensures.ordered.distinct in
-    i.leads _ _ (clashes (is-conflict c.requires.served.0 c.args.self.now.clauses c.steps.trail.entries (tending (kept_of c.serve_from.new.self)) ok s c.in-Some.clause c.in-Some.is))
+    i.leads _ _ (clashes (is-conflict c.requires.served.0 c.args.self.now.clauses.given c.steps.trail.entries (tending (kept_of c.serve_from.new.self)) ok s c.in-Some.clause c.in-Some.is))
 
 pub returns-in-Some-clause-served : goal.returns-in-Some-clause-served
 returns-in-Some-clause-served c floor served =
@@ -35,10 +35,10 @@ pub returns-in-None-clause-closes : goal.returns-in-None-clause-closes
 returns-in-None-clause-closes c =
     let i = c.steps.invariant in
     let same = c.in_ok-serve_from.ensures.kept.0 ∙ i.clauses in
-    let s : IsServed c.requires.served.0 c.args.self.now.clauses c.steps.trail.entries (length c.steps.trail.entries) (tending (kept_of c.serve_from.new.self)) =
+    let s : IsServed c.requires.served.0 c.args.self.now.clauses.given c.steps.trail.entries (length c.steps.trail.entries) (tending (kept_of c.serve_from.new.self)) =
     rw (← i.clauses) (c.in_ok-serve_from.ensures.served c.requires.served.0 [] (rw i.clauses (i.served c.requires.served.0 c.requires.served.1))) in
     let ok = distinct-consistent (literals c.steps.trail.entries) c.entries-served.ensures.ordered.distinct in
-    i.leads _ _ (rests (none-false c.requires.served.0 c.args.self.now.clauses c.steps.trail.entries (tending (kept_of c.serve_from.new.self)) ok s c.in_default.is) (rw (← same) c.in-None.ensures.none))
+    i.leads _ _ (rests (none-false c.requires.served.0 c.args.self.now.clauses.given c.steps.trail.entries (tending (kept_of c.serve_from.new.self)) ok s c.in_default.is) (rw (← same) c.in-None.ensures.none))
 
 pub returns-in-None-clause-served : goal.returns-in-None-clause-served
 returns-in-None-clause-served c floor served =
@@ -50,26 +50,26 @@ pub push-requires-clause-is_variable : goal.push-requires-clause-is_variable
 push-requires-clause-is_variable c =
     let i = c.steps.invariant in
     let same = c.in_ok-serve_from.ensures.kept.0 ∙ i.clauses in
-    rw i.vars (unit-over by_number IsRule-by_number c.args.trail.now.vars c.args.self.now.clauses c.steps.trail.entries (c.in-Some-next_unit.unit.clause + 1, c.in-Some-next_unit.unit.lit) c.requires.over (rw (← same) c.in-Some-next_unit.ensures.unit))
+    rw i.vars (unit-over by_number IsRule-by_number c.args.trail.now.vars c.args.self.now.clauses.given c.steps.trail.entries (c.in-Some-next_unit.unit.clause + 1, c.in-Some-next_unit.unit.lit) c.requires.over (rw (← same) c.in-Some-next_unit.ensures.unit))
 
 pub push-requires-clause-is_free : goal.push-requires-clause-is_free
 push-requires-clause-is_free c =
     let same = c.in_ok-serve_from.ensures.kept.0 ∙ c.steps.invariant.clauses in
-    unit-free by_number IsRule-by_number c.args.self.now.clauses c.steps.trail.entries (c.in-Some-next_unit.unit.clause + 1, c.in-Some-next_unit.unit.lit) (rw (← same) c.in-Some-next_unit.ensures.unit)
+    unit-free by_number IsRule-by_number c.args.self.now.clauses.given c.steps.trail.entries (c.in-Some-next_unit.unit.clause + 1, c.in-Some-next_unit.unit.lit) (rw (← same) c.in-Some-next_unit.ensures.unit)
 
 -- the trail after the push
-grew : (c : goal.After-push) → Grew by_number c.args.self.now.clauses c.steps.trail.entries c.push.new.self.entries
+grew : (c : goal.After-push) → Grew by_number c.args.self.now.clauses.given c.steps.trail.entries c.push.new.self.entries
 grew c =
     let i = c.steps.invariant in
     let same = c.in_ok-serve_from.ensures.kept.0 ∙ i.clauses in
-    let s : IsServed c.requires.served.0 c.args.self.now.clauses c.steps.trail.entries (length c.steps.trail.entries) (tending (kept_of c.serve_from.new.self)) =
+    let s : IsServed c.requires.served.0 c.args.self.now.clauses.given c.steps.trail.entries (length c.steps.trail.entries) (tending (kept_of c.serve_from.new.self)) =
     rw (← i.clauses) (c.in_ok-serve_from.ensures.served c.requires.served.0 [] (rw i.clauses (i.served c.requires.served.0 c.requires.served.1))) in
     let ok = distinct-consistent (literals c.steps.trail.entries) c.entries-served.ensures.ordered.distinct in
     record {
       number = c.in-Some-next_unit.unit.clause + 1;
       lit = c.in-Some-next_unit.unit.lit;
       level = c.level-level.result;
-      none_false = none-false c.requires.served.0 c.args.self.now.clauses c.steps.trail.entries (tending (kept_of c.serve_from.new.self)) ok s c.in_default.is;
+      none_false = none-false c.requires.served.0 c.args.self.now.clauses.given c.steps.trail.entries (tending (kept_of c.serve_from.new.self)) ok s c.in_default.is;
       unit = rw (← same) c.in-Some-next_unit.ensures.unit;
       level_is = c.level-level.ensures.level;
       pushed = c.push.ensures.entries;

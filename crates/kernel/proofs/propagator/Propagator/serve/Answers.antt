@@ -46,7 +46,7 @@ returns-clause-served c floor ns served =
     let old = taken-out (λ v. v.items) c.args.self.now.lists.items c.negated-gone.result c.code-at.result c.replace-list.new.dest c.index_mut.result.now c.as_mut_slice.result.now c.code-at.ensures h c.index_mut.ensures.value
     (c.as_mut_slice.ensures.value ∙ ap (λ v. v.items) c.replace-list.ensures.value) in
     let r = c.in_ok-end.ensures.served floor c.args.place ns s.next (rw old served) in
-    rw lists (s.on floor c.args.self.now.clauses _ r.0 r.1)
+    rw lists (s.on floor c.args.self.now.clauses.given _ r.0 r.1)
 
 pub returns-clause-entries : goal.returns-clause-entries
 returns-clause-entries c =

@@ -19,4 +19,4 @@ pub returns-clause-served : goal.returns-clause-served
 returns-clause-served c floor ns s =
     let end : length c.entries-place-end.result.now ≡ length c.args.trail.now.entries = ap length c.entries-place-end.ensures.entries in
     let all : c.loop-place.place ≡ length c.args.trail.now.entries = omega arith in
-    subst (λ n. IsServed floor c.args.self.now.clauses c.args.trail.now.entries n (tending (also ns (kept_of c.loop-place.self)))) all (c.loop-place.invariant.served floor ns s)
+    subst (λ n. IsServed floor c.args.self.now.clauses.given c.args.trail.now.entries n (tending (also ns (kept_of c.loop-place.self)))) all (c.loop-place.invariant.served floor ns s)

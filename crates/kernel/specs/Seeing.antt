@@ -1,0 +1,39 @@
+-- What is seen of a clause one of whose two front literals became false.
+use Rattle.std.specs.Prelude.{◌≡◌, ◌≢◌, ℕ, true, List, Some, if◌then◌else◌, ◌≤◌, ◌⊎◌, length}
+use Rattle.std.specs.List.Sorted.{IsPermutation}
+use Rattle.theory.specs.Literals.{Literal, Clause, same, has, negated}
+use Rattle.theory.specs.Truth.{IsOver}
+use Rattle.trail.specs.Tables.{IsTruth, value_of}
+use Rattle.kernel.specs.declared.watch.Watched.{Watched}
+use Rattle.kernel.specs.declared.sight.Sight.{Sight}
+use Rattle.kernel.specs.declared.sight.Sight.TheVariants.{Satisfied, Moved, Last}
+use Rattle.kernel.specs.Watching.{At}
+use Rattle.kernel.specs.Visiting.{IsLast, Replaces}
+use Rattle.kernel.specs.Arranging.{front}
+
+-- what a clause is like that is looked at: of more than one literal, and g, one of the two front ones, is false
+pub record CanSee (V : ℕ) (P : List Literal) (g : Literal) (c : Clause) : Type 0 where
+  pub over : IsOver V c
+  pub long : 2 ≤ length c
+  pub gone : has P (negated g) ≡ true
+  pub watched : ((front c).first ≡ g) ⊎ ((front c).second ≡ g)
+
+-- z stands at a place of c, and can be watched beside k
+pub record IsFound (P : List Literal) (c : Clause) (k : Literal) (place : ℕ) (z : Literal) : Type 0 where
+  pub at : At c place z
+  pub replaces : Replaces P c k z
+
+-- the literal that stands in front beside g
+abbrev pub other_front : Watched → Literal → Literal
+other_front w g = if same w.first g then w.second else w.first
+
+-- the clause c with w in front is seen, and has u in front then
+abbrev pub IsSight : List Literal → Literal → Clause → Watched → Watched → Sight → Type 0
+IsSight P g c w u (Satisfied k) = (k ≡ other_front w g) × (has P k ≡ true) × (u ≡ w)
+IsSight P g c w u (Last k t) = (k ≡ other_front w g) × IsTruth P k (value_of t) × (value_of t ≢ Some true) × IsLast P c k × (u ≡ w)
+IsSight P g c w u (Moved v) = (v.first ≡ other_front w g) × Replaces P c v.first v.second × (u ≡ v)
+
+-- the literals of the clause c change places
+pub record IsSeen (P : List Literal) (g : Literal) (c d : Clause) (s : Sight) : Type 0 where
+  pub sight : IsSight P g c (front c) (front d) s
+  pub permutes : IsPermutation c d

@@ -1,0 +1,78 @@
+//! What is seen of a clause when one of its two front literals, which it watches, became false. A
+//! visit reads one place of memory, and a literal that is found changes places with the false one.
+//! Source: Een and Sorensson, 'An Extensible SAT-solver' (SAT 2003).
+ghost use Rattle.std.specs.Prelude.{◌≡◌, ◌+◌, ◌<◌, ◌≤◌, ◌⊎◌, length, slice_index_or};
+ghost use Rattle.std.specs.List.Sorted.{IsPermutation};
+ghost use Rattle.theory.specs.Trails.{literals};
+ghost use Rattle.kernel.specs.Arranging.{front};
+ghost use Rattle.kernel.specs.Seeing.{CanSee, IsSeen, other_front};
+
+use crate::replacement::{Starts, replacement};
+use crate::watch::Watched;
+use cnf::Lit;
+use trail::{Trail, Truth};
+
+/// What is seen of a clause.
+#[derive(Clone, Copy)]
+pub enum Sight {
+    /// The other front literal, which is true.
+    Satisfied(Lit),
+    /// The two literals that stand in front now: the other one, and one that isn't false.
+    Moved(Watched),
+    /// The other front literal, which isn't true, and what is said of it. All others are false.
+    Last(Lit, Truth),
+}
+
+/// The front literal beside one. Which of the two it is can't be foretold, so it is read by its
+/// place and not by a branch.
+fn beside(lits: &[Lit], gone: Lit) -> Lit
+    requires { 2 ≤ length lits.now }
+    ensures { result ≡ other_front (front lits.now) gone }
+{
+    let place = usize::from(lits[0].same(&gone));
+    lits[place]
+}
+
+/// Puts the literal at a place behind the two front ones in front, beside `other`. The front
+/// literal `gone` takes its place.
+fn bring(lits: &mut [Lit], gone: Lit, other: Lit, place: usize)
+    requires inside { (2 ≤ place) × (place < length lits.old) }
+    requires front { ((front lits.old).first ≡ gone) ⊎ ((front lits.old).second ≡ gone) }
+    requires other { other ≡ other_front (front lits.old) gone }
+    ensures permutes { IsPermutation lits.old lits.new }
+    ensures front { (front lits.new).first ≡ other }
+    ensures found { (front lits.new).second ≡ slice_index_or lits.old place other }
+{
+    let found = lits[place];
+    lits[0] = other;
+    lits[1] = found;
+    lits[place] = gone;
+}
+
+/// Looks at a clause in which `gone`, one of the two front literals, became false.
+pub fn look_at(
+    trail: &Trail,
+    lits: &mut [Lit],
+    gone: Lit,
+    starts: &mut Starts,
+    number: usize,
+) -> Sight
+    requires { CanSee trail.now.vars (literals trail.now.entries) gone lits.old }
+    ensures { IsSeen (literals trail.now.entries) gone lits.old lits.new result }
+{
+    let other = beside(lits, gone);
+    let status = trail.status(other);
+    if status.is_satisfied() {
+        return Sight::Satisfied(other);
+    }
+    match replacement(trail, &lits[2..], other, starts, number) {
+        None => Sight::Last(other, status),
+        Some(found) => {
+            bring(lits, gone, other, found.0 + 2);
+            Sight::Moved(Watched {
+                first: other,
+                second: found.1,
+            })
+        }
+    }
+}

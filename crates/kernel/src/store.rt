@@ -1,0 +1,185 @@
+//! Clauses as they were given, and the same arranged for propagation. Those that were given are
+//! what analysis reads and what a kernel shows. Propagation never touches them, and changes the
+//! order of the arranged clauses' literals as it likes.
+ghost use Rattle.std.specs.Prelude.{◌≡◌, ◌+◌, ◌<◌, ◌≤◌, ◌⊎◌, [], ◌∷◌, ◌++◌, All, length, take, sum_by, IfOk, OnOk, OnErr, slice_get, slice_set, Some, ℕ, List, false, true};
+ghost use Rattle.theory.specs.Literals.{Clause, has, negated};
+ghost use Rattle.theory.specs.Reading.{max_literals};
+ghost use Rattle.theory.specs.Forgetting.{forget};
+ghost use Rattle.theory.specs.Truth.{IsOver};
+ghost use Rattle.theory.specs.Trails.{literals};
+ghost use Rattle.kernel.specs.declared.watch.Watched.{Watched};
+ghost use Rattle.kernel.specs.Watching.{At, IsPair};
+ghost use Rattle.kernel.specs.Forgetting.{Tells, ArePairsLeft, names};
+ghost use Rattle.kernel.specs.Arranging.{front};
+ghost use Rattle.kernel.specs.Seeing.{IsSight};
+
+use crate::clauses::{Clauses, count_lits};
+use crate::named::Named;
+use crate::replacement::Starts;
+use crate::sight::Sight;
+use crate::watch::Watched;
+use cnf::Lit;
+use std::alloc::{AllocError, Global};
+use std::marker::Model;
+use trail::Trail;
+
+/// Clauses under two watched literals. They are named by their places, from 0 on.
+#[derive(Drop)]
+pub struct Store {
+    given: Clauses,
+    // the same with their literals in another order: the two that are watched stand in front
+    arranged: Clauses,
+}
+
+impl Model for Store {
+    ghost use Rattle.std.specs.Prelude.{map};
+    ghost use Rattle.kernel.specs.Arranging.{Stored, AreArranged, front};
+
+    ghost Value = { Stored };
+
+    ghost view = { λ s. record { given = s.given; pairs = map front s.arranged } };
+
+    ghost invariant = { λ s. AreArranged s.given s.arranged };
+}
+
+impl Store {
+    /// No clauses, with room for these, and for a clause of each of these literals. It fails where
+    /// a request for memory is refused.
+    pub fn with_room(
+        alloc: Global,
+        clauses: &[Vec<Lit>],
+        units: &[Lit],
+    ) -> Result<Store, AllocError>
+        requires { sum_by (λ c. length c.items) clauses.now ≤ max_literals }
+        ensures { IfOk result (λ s. (s.given ≡ []) × (s.pairs ≡ [])) }
+    {
+        let count = clauses.len() + units.len();
+        let lits = count_lits(clauses) + units.len();
+        Ok(Store {
+            given: Clauses::with_room(alloc, count, lits)?,
+            arranged: Clauses::with_room(alloc, count, lits)?,
+        })
+    }
+
+    /// How many clauses there are.
+    pub fn len(&self) -> usize
+        ensures given { result ≡ length self.now.given }
+        ensures pairs { result ≡ length self.now.pairs }
+    {
+        self.given.len()
+    }
+
+    /// The literals of the clause at a place, as they were given.
+    pub fn get(&self, index: usize) -> &[Lit]
+        requires { index < length self.now.given }
+        ensures { slice_get self.now.given index ≡ Some result.now }
+    {
+        self.given.get(index)
+    }
+
+    /// The two literals that the clause at a place watches.
+    pub fn watched(&self, index: usize) -> Watched
+        requires { index < length self.now.pairs }
+        ensures { At self.now.pairs index result }
+    {
+        front_of(self.arranged.get(index))
+    }
+
+    /// Puts a clause at the end that watches two of its literals, or the only one. Where a request
+    /// for memory is refused, nothing has changed.
+    pub fn push(&mut self, clause: &[Lit], watched: Watched) -> Result<(), AllocError>
+        requires { IsPair clause.now watched }
+        ensures given { OnOk result (self.new.given ≡ self.old.given ++ clause.now ∷ []) }
+        ensures pairs { OnOk result (self.new.pairs ≡ self.old.pairs ++ watched ∷ []) }
+        ensures err { OnErr result (self.new ≡ self.old) }
+    {
+        let count = self.given.len();
+        self.given.push(clause)?;
+        match self.arranged.push_led(clause, watched) {
+            Ok(()) => Ok(()),
+            Err(_) => {
+                self.given.truncate(count);
+                Err(AllocError)
+            }
+        }
+    }
+
+    /// Puts an empty clause at the end. Where a request for memory is refused, nothing has changed.
+    pub fn push_empty(&mut self) -> Result<(), AllocError>
+        ensures given { OnOk result (self.new.given ≡ self.old.given ++ [] ∷ []) }
+        ensures pairs { OnOk result (self.new.pairs ≡ self.old.pairs ++ front [] ∷ []) }
+        ensures err { OnErr result (self.new ≡ self.old) }
+    {
+        let count = self.given.len();
+        self.given.push(&[])?;
+        match self.arranged.push(&[]) {
+            Ok(()) => Ok(()),
+            Err(_) => {
+                self.given.truncate(count);
+                Err(AllocError)
+            }
+        }
+    }
+
+    /// Cuts off the clauses from a place on. It takes no memory.
+    pub fn truncate(&mut self, count: usize)
+        requires { count ≤ length self.old.given }
+        ensures given { self.new.given ≡ take count self.old.given }
+        ensures pairs { self.new.pairs ≡ take count self.old.pairs }
+    {
+        self.given.truncate(count);
+        self.arranged.truncate(count);
+    }
+
+    /// Puts `1 -1` in place of the clauses that are named, which are from `first` on. It takes time
+    /// by the literals of all clauses, and memory for them while it goes on; where that is refused,
+    /// nothing has changed.
+    pub fn forget(&mut self, first: usize, named: &Named) -> Result<(), AllocError>
+        requires within { first ≤ length self.old.given }
+        requires learnt { (n : ℕ) → n < first → names named.now n ≡ false }
+        requires told { (numbers : List ℕ) × Tells (names named.now) numbers }
+        ensures given { OnOk result ((numbers : List ℕ) → Tells (names named.now) numbers → self.new.given ≡ forget numbers 1 self.old.given) }
+        ensures pairs { OnOk result ((numbers : List ℕ) → Tells (names named.now) numbers → ArePairsLeft numbers self.old.pairs self.new.pairs) }
+        ensures err { OnErr result (self.new ≡ self.old) }
+    {
+        let arranged = self.arranged.with_forgotten(named)?;
+        self.given.forget(first, named)?;
+        self.arranged = arranged;
+        Ok(())
+    }
+
+    /// Looks at the clause at a place, of more than two literals, in which the watched literal
+    /// `gone` became false.
+    pub fn look(&mut self, trail: &Trail, gone: Lit, index: usize, starts: &mut Starts) -> Sight
+        requires within { index < length self.old.given }
+        requires over { All (IsOver trail.now.vars) self.old.given }
+        requires long { (c : Clause) → At self.old.given index c → 2 < length c }
+        requires gone { has (literals trail.now.entries) (negated gone) ≡ true }
+        requires watched { (w : Watched) → At self.old.pairs index w → (w.first ≡ gone) ⊎ (w.second ≡ gone) }
+        ensures given { self.new.given ≡ self.old.given }
+        ensures seen { (c : Clause) (w : Watched) → At self.old.given index c → At self.old.pairs index w
+            → (u : Watched) × (self.new.pairs ≡ slice_set self.old.pairs index u) × IsSight (literals trail.now.entries) gone c w u result }
+    {
+        self.arranged.look(trail, gone, index, starts)
+    }
+}
+
+/// The two literals in front of a clause.
+fn front_of(lits: &[Lit]) -> Watched
+    ensures { result ≡ front lits.now }
+{
+    match lits.len() {
+        0 => Watched {
+            first: Lit::of(1, true),
+            second: Lit::of(1, true),
+        },
+        1 => Watched {
+            first: lits[0],
+            second: lits[0],
+        },
+        _ => Watched {
+            first: lits[0],
+            second: lits[1],
+        },
+    }
+}

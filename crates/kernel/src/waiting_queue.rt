@@ -1,0 +1,101 @@
+//! Unit clauses that come in the order in which they go, and are taken out in it.
+ghost use Rattle.std.specs.Prelude.{◌≡◌, ◌≤◌, ◌<◌, true, false, [], ◌∷◌, ◌++◌, All, OnOk, IfSome, IfNone};
+ghost use Rattle.std.specs.List.{Contains};
+ghost use Rattle.kernel.specs.Placing.{GoesFirst};
+
+use crate::line::Waiting;
+use std::alloc::{AllocError, Global};
+use std::marker::Model;
+
+/// Clauses that wait, each behind those that go before it. It begins anew at the front of its memory
+/// each time that it becomes empty.
+#[derive(Drop)]
+pub struct WaitingQueue {
+    items: Vec<Waiting>,
+    // how many were taken out
+    head: usize,
+}
+
+impl Model for WaitingQueue {
+    ghost use Rattle.std.specs.Prelude.{List, ◌≤◌, length, drop};
+    ghost use Rattle.kernel.specs.declared.line.Waiting.{Waiting};
+    ghost use Rattle.kernel.specs.Placing.{AreInOrder};
+
+    ghost Value = { List Waiting };
+
+    ghost view = { λ q. drop q.head q.items.items };
+
+    ghost invariant = { λ q. (q.head ≤ length q.items.items) × AreInOrder (drop q.head q.items.items) };
+}
+
+/// Whether a clause goes before another, or with it.
+pub fn goes_first(a: Waiting, b: Waiting) -> bool
+    ensures yes { result ≡ true → GoesFirst a b }
+    ensures no { result ≡ false → GoesFirst b a }
+{
+    a.place < b.place || (a.place == b.place && a.clause <= b.clause)
+}
+
+impl WaitingQueue {
+    /// Nothing waits.
+    pub fn new(alloc: Global) -> WaitingQueue
+        ensures { result ≡ [] }
+    {
+        WaitingQueue {
+            items: Vec::new(alloc),
+            head: 0,
+        }
+    }
+
+    /// Whether a clause goes behind all of these.
+    pub fn takes(&self, waiting: Waiting) -> bool
+        ensures { result ≡ true → All (λ w. GoesFirst w waiting) self.now }
+    {
+        let count = self.items.len();
+        if count == self.head {
+            return true;
+        }
+        let last = self.items[count - 1];
+        goes_first(last, waiting)
+    }
+
+    /// Puts a clause at the end that goes behind the others.
+    pub fn push(&mut self, waiting: Waiting) -> Result<(), AllocError>
+        requires { All (λ w. GoesFirst w waiting) self.old }
+        ensures { OnOk result (self.new ≡ self.old ++ waiting ∷ []) }
+    {
+        self.items.push(waiting)?;
+        Ok(())
+    }
+
+    /// The clause that goes first.
+    pub fn first(&self) -> Option<Waiting>
+        ensures none { IfNone result (self.now ≡ []) }
+        ensures there { IfSome result (λ w. Contains self.now w) }
+        ensures first { IfSome result (λ w. All (λ v. GoesFirst w v) self.now) }
+    {
+        if self.head < self.items.len() {
+            Some(self.items[self.head])
+        } else {
+            None
+        }
+    }
+
+    /// Takes the clause out that goes first.
+    pub fn pop(&mut self) -> Option<Waiting>
+        ensures none { IfNone result ((self.old ≡ []) × (self.new ≡ [])) }
+        ensures taken { IfSome result (λ w. self.old ≡ w ∷ self.new) }
+        ensures first { IfSome result (λ w. All (λ v. GoesFirst w v) self.old) }
+    {
+        if self.head == self.items.len() {
+            return None;
+        }
+        let first = self.items[self.head];
+        self.head += 1;
+        if self.head == self.items.len() {
+            self.items.clear();
+            self.head = 0;
+        }
+        Some(first)
+    }
+}
