@@ -105,10 +105,10 @@ head-keeps (x ∷ hs) es (suc code) h i less past zero on = on
 head-keeps (x ∷ hs) es (suc code) h i less past (suc n) on = head-keeps hs es code h i (omega arith) past n on
 
 -- the link of an entry is set past some
-other-set : (es : List Entry) (at k : ℕ) (e : Entry) → k ≢ at → entry_at (slice_set es at e) k ≡ entry_at es k
+pub other-set : (es : List Entry) (at k : ℕ) (e : Entry) → k ≢ at → entry_at (slice_set es at e) k ≡ entry_at es k
 other-set es at k e apart = get_or-set_other es at k e _ apart
 
-this-set : (es : List Entry) (at : ℕ) (e : Entry) → at < length es → entry_at (slice_set es at e) at ≡ e
+pub this-set : (es : List Entry) (at : ℕ) (e : Entry) → at < length es → entry_at (slice_set es at e) at ≡ e
 this-set es at e less = get_or-set_same es at e _ less
 
 apart-unless : (j at : ℕ) → nat_eq j at ≡ false → j ≢ at

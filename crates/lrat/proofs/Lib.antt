@@ -14,4 +14,6 @@ pub mod FlatLemmas
 pub mod FormulaClauses
 pub mod PackLemmas
 pub mod ChainLemmas
+pub mod SweepLemmas
+pub mod CountLemmas
 pub mod RunningLemmas

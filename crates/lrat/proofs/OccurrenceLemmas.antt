@@ -1,5 +1,5 @@
 -- Slots of clauses that are entered in chains.
-use Rattle.std.proofs.Common.{◌≡◌, ℕ, zero, suc, ◌+◌, ◌*◌, ◌<◌, ◌≤◌, ◌⊎◌, inl, inr, Bool, true, false, List, [], ◌∷◌, ◌||◌, length, take, get_or, ap, Some, cond, nat_eq, eqb-true, eq-eqb, refl, sym, subst, ◌∙◌, slice_get, arith}
+use Rattle.std.proofs.Common.{◌≡◌, ℕ, zero, suc, ◌+◌, ◌*◌, ◌<◌, ◌≤◌, inl, inr, Bool, true, false, List, [], ◌∷◌, ◌||◌, length, take, get_or, ap, Some, cond, nat_eq, eqb-true, eq-eqb, refl, sym, subst, ◌∙◌, slice_get, arith}
 use Rattle.std.specs.List.{list_all}
 use Rattle.theory.specs.Literals.{Literal, Clause, has, same}
 use Rattle.theory.specs.Truth.{IsOver}
@@ -9,11 +9,13 @@ use Rattle.std.proofs.lemmas.List.{take_more, take_all}
 use Rattle.theory.specs.Checking.{Numbered}
 use Rattle.theory.proofs.LiteralSets.{and-true}
 use Rattle.lrat.specs.declared.chains.Chains.{Chains}
+use Rattle.lrat.specs.declared.counts.Counts.{Counts}
 use Rattle.lrat.specs.declared.occurrences.Occurrences.{Occurrences}
 use Rattle.lrat.specs.Chained.{IsIn}
-use Rattle.lrat.specs.Indexed.{IsIndexed}
+use Rattle.lrat.specs.Indexed.{AreCounted, IsIndexed}
 use Rattle.lrat.specs.Slots.{Slot, put, there_before}
 use Rattle.lrat.specs.Occurrences.{code, AreEntered, StayThere}
+use Rattle.lrat.proofs.CountLemmas.{slots-stay}
 
 -- slots that come or go
 AreEntered-stay : (old new : List Slot) (c : Chains) (n : ℕ) → n ≤ length old → StayThere old new → AreEntered old c n → AreEntered new c n
@@ -47,8 +49,15 @@ StayThere-trans a b c h k = record {
   longer = (let n = h.longer in let m = k.longer in omega arith);
 }
 
+AreCounted-stay : (old new : List Slot) (o : Counts) → StayThere old new → AreCounted old o → AreCounted new o
+AreCounted-stay old new o stay h = record {
+  within = (let n = stay.longer in let m = h.within in omega arith);
+  most = λ l. let most = h.most l in let less = slots-stay l o.counted old new stay h.within in omega arith;
+}
+
 pub IsIndexed-stay : (old new : List Slot) (o : Occurrences) → StayThere old new → IsIndexed old o → IsIndexed new o
 IsIndexed-stay old new o stay h = record {
+  counted = AreCounted-stay old new o.counts stay h.counted;
   within = (let n = stay.longer in let m = h.within in omega arith);
   chains = h.chains;
   entered = AreEntered-stay old new o.chains o.entered h.within stay h.entered;

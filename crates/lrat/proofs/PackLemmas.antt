@@ -6,7 +6,7 @@ use Rattle.std.proofs.lemmas.Option.{slice_get-get_or}
 use Rattle.theory.specs.Literals.{Literal}
 use Rattle.theory.specs.Truth.{IsOver}
 use Rattle.theory.specs.Checking.{Numbered}
-use Rattle.lrat.specs.Flat.{slot_in, slots_in, emptied, packed, AreWithin, AreInOrder, AreFlat, AreUpTo}
+use Rattle.lrat.specs.Flat.{slot_in, slots_in, emptied, packed, AreWithin, AreInOrder, AreFlat, AreUpTo, AreEmptied}
 use Rattle.lrat.specs.Slots.{Slot, put, there_before}
 use Rattle.lrat.specs.declared.clauses.Head.{Head}
 use Rattle.lrat.proofs.FlatLemmas.{get-map, SlotsOver, slots-over, over-heads}
@@ -264,3 +264,26 @@ pack-done n place lits heads S whole end left =
 pub read_within : (lits : List Literal) (heads : List Head) (place : ℕ) (none : Head) → AreWithin lits heads → place < length heads
     → let h = get_or heads place none in (h.start ≤ h.end) × (h.end ≤ length lits)
 read_within lits heads place none w less = w place (get_or heads place none) (slice_get-get_or heads place none less)
+
+-- clauses that were taken away leave no literals
+AreEmptied-cons : (s : Slot) (ss : List Slot) → (s.is_there ≡ false → s.clause ≡ []) → AreEmptied ss → AreEmptied (s ∷ ss)
+AreEmptied-cons s ss one h zero t g = subst (λ (x : Slot). x.is_there ≡ false → x.clause ≡ []) (let e : s ≡ t = cc in e) one
+AreEmptied-cons s ss one h (suc i) t g = h i t g
+
+emptied-gone : (s : Slot) → (emptied s).is_there ≡ false → (emptied s).clause ≡ []
+emptied-gone s = go s.is_there refl
+  where
+    go : (b : Bool) → s.is_there ≡ b → (cond b s (record { id = s.id; is_there = s.is_there; clause = [] })).is_there ≡ false
+        → (cond b s (record { id = s.id; is_there = s.is_there; clause = [] })).clause ≡ []
+    go true e gone = absurd (let x : true ≡ false = sym e ∙ gone in cc)
+    go false e gone = refl
+
+pub AreEmptied-packed : (n : ℕ) (ss : List Slot) → AreEmptied (packed n ss)
+AreEmptied-packed zero [] = λ i t g gone. absurd (cc)
+AreEmptied-packed (suc n) [] = λ i t g gone. absurd (cc)
+AreEmptied-packed zero (s ∷ ss) = go s.is_there refl (AreEmptied-packed zero ss)
+  where
+    go : (b : Bool) → s.is_there ≡ b → AreEmptied (packed zero ss) → AreEmptied (cond b (s ∷ packed zero ss) (packed zero ss))
+    go true e r = AreEmptied-cons s (packed zero ss) (λ gone. absurd (let x : true ≡ false = sym e ∙ gone in cc)) r
+    go false e r = r
+AreEmptied-packed (suc n) (s ∷ ss) = AreEmptied-cons (emptied s) (packed n ss) (emptied-gone s) (AreEmptied-packed n ss)

@@ -29,6 +29,15 @@ pub record AreChains (c : Chains) : Type 0 where
   pub down : (j : ℕ) → (entry_at c.entries.items j).next ≤ j
   pub heads : (n : ℕ) → head_at c.heads.items n ≤ length c.entries.items
 
+-- the clause at a place, if there is a slot, is there
+abbrev pub IsThereAt : List Slot → ℕ → Type 0
+IsThereAt slots i = (s : Slot) → slice_get slots i ≡ Some s → s.is_there ≡ true
+
+-- the entry that a link leads to, if it leads to one, has the place of a clause that is there
+abbrev pub LeadsThere : List Slot → List Entry → ℕ → Type 0
+LeadsThere slots es zero = Unit {0}
+LeadsThere slots es (suc j) = IsThereAt slots (entry_at es j).place
+
 -- each chain has each place that it had, but for those of clauses that aren't there
 abbrev pub KeepsThere : List Slot → Chains → Chains → Type 0
 KeepsThere slots old new = (n i : ℕ) (s : Slot) → slice_get slots i ≡ Some s → s.is_there ≡ true → IsIn old n i → IsIn new n i

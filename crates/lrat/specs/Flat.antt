@@ -1,5 +1,5 @@
 -- Clauses whose literals lie one behind the other in one list.
-use Rattle.std.specs.Prelude.{◌≡◌, ℕ, zero, suc, ◌+◌, ◌<◌, ◌≤◌, List, [], ◌∷◌, length, map, Some, slice_get, if◌then◌else◌}
+use Rattle.std.specs.Prelude.{◌≡◌, ℕ, zero, suc, ◌+◌, ◌<◌, ◌≤◌, List, [], ◌∷◌, false, length, map, Some, slice_get, if◌then◌else◌}
 use Rattle.std.specs.List.{slice_range}
 use Rattle.theory.specs.Literals.{Literal}
 use Rattle.theory.specs.Truth.{IsOver}
@@ -38,6 +38,10 @@ abbrev pub packed : ℕ → List Slot → List Slot
 packed n [] = []
 packed zero (s ∷ ss) = if s.is_there then s ∷ packed zero ss else packed zero ss
 packed (suc n) (s ∷ ss) = emptied s ∷ packed n ss
+
+-- clauses that were taken away have no literals
+abbrev pub AreEmptied : List Slot → Type 0
+AreEmptied ss = (i : ℕ) (s : Slot) → slice_get ss i ≡ Some s → s.is_there ≡ false → s.clause ≡ []
 
 -- no slot has a number above n
 abbrev pub AreUpTo : ℕ → List Slot → Type 0

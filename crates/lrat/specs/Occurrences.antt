@@ -1,17 +1,25 @@
 -- Where the clauses are that have a literal.
-use Rattle.std.specs.Prelude.{◌≡◌, ℕ, ◌+◌, ◌*◌, ◌<◌, ◌≤◌, true, List, length, Some, slice_get, if◌then◌else◌}
+use Rattle.std.specs.Prelude.{◌≡◌, ℕ, ◌+◌, ◌*◌, ◌<◌, ◌≤◌, true, List, [], ◌∷◌, length, Some, slice_get, slice_index_or, if◌then◌else◌}
 use Rattle.theory.specs.Literals.{Literal, has}
 use Rattle.lrat.specs.declared.chains.Chains.{Chains}
 use Rattle.lrat.specs.Chained.{IsIn}
 use Rattle.lrat.specs.Slots.{Slot}
 
--- the code of a literal's chain
+-- the code of a literal
 abbrev pub code : Literal → ℕ
 code l = 2 * l.var + (if l.positive then 1 else 0)
 
 -- each slot below the count that is there is in the chain of each literal of its clause
 abbrev pub AreEntered : List Slot → Chains → ℕ → Type 0
 AreEntered slots c count = (i : ℕ) (s : Slot) (l : Literal) → i < count → slice_get slots i ≡ Some s → s.is_there ≡ true → has s.clause l ≡ true → IsIn c (code l) i
+
+abbrev pub count_at : List ℕ → ℕ → ℕ
+count_at counts n = slice_index_or counts n 0
+
+-- how many slots that are there have the literal
+abbrev pub slots_with : Literal → List Slot → ℕ
+slots_with l [] = 0
+slots_with l (s ∷ ss) = (if s.is_there then (if has s.clause l then 1 else 0) else 0) + slots_with l ss
 
 -- the slots that are there were there
 pub record StayThere (old new : List Slot) : Type 0 where

@@ -2,9 +2,9 @@
 //! link is 0 at a chain's end, and else one above an entry's index.
 //!
 //! A place is put to a chain by one push and one write, and a chain without places takes no more than its head: these are the chains of a textbook's hash
-//! table. With a vector for each code, a check of 10,000 RAT lines over 1,000,000 clauses took three times as long.
-ghost use Rattle.std.specs.Prelude.{◌≡◌, ◌≢◌, ◌<◌, ◌≤◌, ℕ, true, Some, IfOk, OnOk, slice_get, vec_len};
-ghost use Rattle.lrat.specs.Chained.{IsOn, IsIn, AreChains, KeepsThere};
+//! table. Vectors for each code took an allocation each, and rows in one array, filled by counts, twice the time.
+ghost use Rattle.std.specs.Prelude.{◌≡◌, ◌≢◌, ◌<◌, ◌≤◌, ◌-◌, ℕ, true, Some, IfOk, OnOk, slice_get, slice_set, vec_len};
+ghost use Rattle.lrat.specs.Chained.{entry_at, IsOn, IsIn, AreChains, IsThereAt, LeadsThere, KeepsThere};
 ghost use Rattle.lrat.specs.Slots.{Slot};
 
 use crate::clauses::Clauses;
@@ -94,6 +94,7 @@ impl Chains {
         requires chains { AreChains self.now }
         requires some { 0 < link }
         requires within { link ≤ vec_len self.now.entries }
+        ensures place { result.0 ≡ (entry_at self.now.entries.items (link - 1)).place }
         ensures down { result.1 < link }
         ensures next { (i : ℕ) → IsOn self.now.entries.items link i → result.0 ≢ i → IsOn self.now.entries.items result.1 i }
     {
@@ -106,6 +107,7 @@ impl Chains {
         requires chains { AreChains self.now }
         requires within { from ≤ vec_len self.now.entries }
         ensures down { result ≤ from }
+        ensures there { LeadsThere clauses.now.slots self.now.entries.items result }
         ensures keeps { (i : ℕ) (s : Slot) → slice_get clauses.now.slots i ≡ Some s → s.is_there ≡ true →
             IsOn self.now.entries.items from i → IsOn self.now.entries.items result i }
     {
@@ -126,6 +128,10 @@ impl Chains {
         requires within { index < vec_len self.old.entries }
         ensures down { result ≤ index }
         ensures chains { AreChains self.new }
+        ensures heads { self.new.heads.items ≡ self.old.heads.items }
+        ensures set { self.new.entries.items
+            ≡ slice_set self.old.entries.items index (record { place = (entry_at self.old.entries.items index).place; next = result }) }
+        ensures there { LeadsThere clauses.now.slots self.old.entries.items result }
         ensures len { vec_len self.new.entries ≡ vec_len self.old.entries }
         ensures keeps { KeepsThere clauses.now.slots self.old self.new }
     {
@@ -142,6 +148,7 @@ impl Chains {
     pub(crate) fn sweep(&mut self, code: usize, clauses: &Clauses)
         requires chains { AreChains self.old }
         ensures chains { AreChains self.new }
+        ensures swept { (i : ℕ) → IsIn self.new code i → IsThereAt clauses.now.slots i }
         ensures keeps { KeepsThere clauses.now.slots self.old self.new }
     {
         if code >= self.heads.len() {

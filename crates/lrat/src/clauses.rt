@@ -6,7 +6,7 @@ ghost use Rattle.theory.specs.Checking.{clause_of, numbered_from, without_number
 ghost use Rattle.lrat.specs.Occurrences.{StayThere};
 ghost use Rattle.lrat.specs.Slots as slots;
 ghost use Rattle.lrat.specs.Slots.{there};
-ghost use Rattle.lrat.specs.Flat.{slots_in, packed, AreWithin, AreInOrder, AreUpTo};
+ghost use Rattle.lrat.specs.Flat.{slots_in, packed, AreWithin, AreEmptied, AreInOrder, AreUpTo};
 ghost use Rattle.lrat.specs.declared.clauses.Head as declared;
 
 use cnf::{Formula, Lit};
@@ -284,6 +284,7 @@ impl Clauses {
     /// Gives the memory of clauses that were taken away free. Places change.
     pub(crate) fn pack(&mut self, alloc: Global) -> Result<(), AllocError>
         ensures same { there self.new ≡ there self.old }
+        ensures emptied { OnOk result (AreEmptied self.new.slots) }
         ensures up_to { (n : ℕ) → AreUpTo n self.old.slots → AreUpTo n self.new.slots }
         ensures vars { self.new.vars ≡ self.old.vars }
         ensures err { OnErr result (self.new ≡ self.old) }

@@ -9,7 +9,7 @@ ghost use Rattle.lrat.specs.CheckFaults.{faults_of};
 ghost use Rattle.lrat.specs.Held.{Extends};
 ghost use Rattle.lrat.specs.Indexed.{IsIndexed};
 ghost use Rattle.lrat.specs.Slots.{Slot, there};
-ghost use Rattle.lrat.specs.Named.{IsNamed, IsDealtWith, LeavesNamed};
+ghost use Rattle.lrat.specs.Named.{IsNamed, HasCandidates, IsDealtWith, LeavesNamed};
 
 use crate::assume::assume;
 use crate::check_fault::Fault;
@@ -103,6 +103,33 @@ fn are_dealt_with(
     Ok(true)
 }
 
+/// Whether each candidate is closed or among those named, which are so many. Where no more clauses have the pivot, these
+/// are all of them, and no others are looked for.
+fn all_are_dealt_with(
+    held: &mut Held,
+    clauses: &Clauses,
+    occurrences: &mut Occurrences,
+    pivot: Lit,
+    named: &HashSet<u64>,
+    count: usize,
+) -> Result<bool, AllocError>
+    requires vars { clauses.now.vars ≡ held.old.vars }
+    requires indexed { IsIndexed clauses.now.slots occurrences.old }
+    requires named { HasCandidates (there clauses.now) pivot (contains nat_eq named.now) count }
+    ensures indexed { IsIndexed clauses.now.slots occurrences.new }
+    ensures dealt_with { (L : List ℕ) → IsNamed (contains nat_eq named.now) L →
+        IfOk result (λ b. b ≡ are_dealt_with (there clauses.now) held.old.literals pivot L) }
+    ensures vars { held.new.vars ≡ held.old.vars }
+{
+    let most = occurrences.count(clauses, pivot)?;
+    if most <= count {
+        return Ok(true);
+    }
+    occurrences.enter_all(clauses)?;
+    occurrences.sweep(pivot, clauses);
+    are_dealt_with(held, clauses, occurrences, pivot, named)
+}
+
 /// The fault of a group, where earlier groups named others. What is held true has its candidate's negations and the
 /// units of its hints then.
 fn group_fault(
@@ -150,6 +177,7 @@ fn first_fault(
     requires vars { clauses.now.vars ≡ held.old.vars }
     requires none { IsNamed (contains nat_eq named.old) [] }
     ensures fault { IfOk result (λ o. LeavesNamed (there clauses.now) held.old.literals pivot groups.now (contains nat_eq named.new) o) }
+    ensures named { IfOk result (λ o. o ≡ None → HasCandidates (there clauses.now) pivot (contains nat_eq named.new) (length groups.now)) }
     ensures kept { IfOk result (λ o. o ≡ None → held.new.literals ≡ held.old.literals) }
     ensures vars { held.new.vars ≡ held.old.vars }
 {
@@ -189,9 +217,7 @@ pub(crate) fn rat_fault(
     if fault.is_some() {
         return Ok(fault);
     }
-    occurrences.enter_all(clauses)?;
-    occurrences.sweep(pivot, clauses);
-    if are_dealt_with(held, clauses, occurrences, pivot, &named)? {
+    if all_are_dealt_with(held, clauses, occurrences, pivot, &named, groups.len())? {
         Ok(None)
     } else {
         Ok(Some(Fault::MissingCandidate))

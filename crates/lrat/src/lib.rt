@@ -6,6 +6,7 @@ mod chains;
 mod check_fault;
 mod checker;
 mod clauses;
+mod counts;
 mod groups;
 mod held;
 mod hints;

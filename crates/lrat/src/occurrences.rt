@@ -1,23 +1,17 @@
 //! Where the clauses are that have a literal: for each literal a chain of places, to which clauses are entered one after
 //! the other.
-ghost use Rattle.std.specs.Prelude.{◌≡◌, ◌≢◌, ◌<◌, ◌≤◌, ◌+◌, ◌*◌, ℕ, true, length, OnOk, vec_len, []};
+ghost use Rattle.std.specs.Prelude.{◌≡◌, ◌≢◌, ◌<◌, ◌≤◌, ◌+◌, ◌*◌, ℕ, true, length, IfOk, OnOk, vec_len, []};
 ghost use Rattle.theory.specs.Literals.{Literal, has};
 ghost use Rattle.theory.specs.Truth.{IsOver};
-ghost use Rattle.lrat.specs.Chained.{IsOn, IsIn, AreChains};
-ghost use Rattle.lrat.specs.Occurrences.{code};
+ghost use Rattle.lrat.specs.Chained.{IsOn, IsIn, AreChains, IsThereAt};
+ghost use Rattle.lrat.specs.Occurrences.{code, slots_with};
 ghost use Rattle.lrat.specs.Indexed.{IsIndexed};
 
 use crate::chains::Chains;
 use crate::clauses::Clauses;
+use crate::counts::{Counts, code};
 use cnf::Lit;
 use std::alloc::{AllocError, Global};
-
-/// The code of a literal's chain.
-pub(crate) fn code(lit: Lit) -> usize
-    ensures { result ≡ code lit }
-{
-    2 * lit.var() as usize + if lit.positive() { 1 } else { 0 }
-}
 
 /// Puts the place of a clause to the chain of each of its literals.
 pub(crate) fn enter(
@@ -41,9 +35,11 @@ pub(crate) fn enter(
 }
 
 /// The places of the clauses that have a literal, for each literal. Clauses are entered when the places are asked for: steps
-/// that don't ask cost nothing. It takes 8 bytes for each literal of a clause that is entered, and 4 for each literal of a variable.
+/// that don't ask cost nothing. It takes 4 bytes for each literal of a variable, and, once clauses are entered, 4 more and 8
+/// for each literal of a clause.
 #[derive(Drop)]
 pub(crate) struct Occurrences {
+    counts: Counts,
     chains: Chains,
     // the clauses in the slots before this place are entered
     entered: usize,
@@ -55,9 +51,21 @@ impl Occurrences {
         ensures { IsIndexed [] result }
     {
         Occurrences {
+            counts: Counts::new(alloc),
             chains: Chains::new(alloc),
             entered: 0,
         }
+    }
+
+    /// How many clauses have a literal, at most: those that were taken away may still count. It takes one walk over the
+    /// literals of those that came since the last time.
+    pub(crate) fn count(&mut self, clauses: &Clauses, lit: Lit) -> Result<usize, AllocError>
+        requires { IsIndexed clauses.now.slots self.old }
+        ensures indexed { IsIndexed clauses.now.slots self.new }
+        ensures most { IfOk result (λ n. slots_with lit clauses.now.slots ≤ n) }
+    {
+        self.counts.count_all(clauses)?;
+        Ok(self.counts.of(lit))
     }
 
     /// Enters the clauses that came since the last time, and are there. More than 4,294,967,295 literals, or clauses, are refused like memory.
@@ -83,6 +91,7 @@ impl Occurrences {
     pub(crate) fn sweep(&mut self, lit: Lit, clauses: &Clauses)
         requires { IsIndexed clauses.now.slots self.old }
         ensures indexed { IsIndexed clauses.now.slots self.new }
+        ensures swept { (i : ℕ) → IsIn self.new.chains (code lit) i → IsThereAt clauses.now.slots i }
         ensures entered { self.new.entered ≡ self.old.entered }
     {
         self.chains.sweep(code(lit), clauses);

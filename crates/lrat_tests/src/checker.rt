@@ -14,7 +14,7 @@ type Row<'a> = (&'a str, &'a [u8], &'a [u8], (u32, u64));
 
 const ACCEPTED: (u32, u64) = (0, 0);
 
-static ROWS: [Row; 28] = [
+static ROWS: [Row; 30] = [
     (
         "a unit and the empty clause",
         FOUR,
@@ -125,6 +125,18 @@ static ROWS: [Row; 28] = [
         FOUR_OVER_FOUR,
         b"5 3 1 0 0\n6 -3 0 0\n7 1 0 1 2 0\n8 0 7 3 4 0\n",
         (27, 2),
+    ),
+    (
+        "one of two candidates named",
+        FOUR_OVER_FOUR,
+        b"5 3 1 0 0\n6 3 2 0 0\n7 -3 -1 0 -5 0\n",
+        (27, 3),
+    ),
+    (
+        "the one candidate named that wasn't deleted",
+        FOUR_OVER_FOUR,
+        b"5 3 1 0 0\n6 3 2 0 0\n6 d 6 0\n7 -3 -1 0 -5 0\n8 1 0 1 2 0\n9 0 8 3 4 0\n",
+        ACCEPTED,
     ),
     // written proofs
     ("an empty clause", b"p cnf 0 1\n0\n", b"2 0 1 0\n", ACCEPTED),

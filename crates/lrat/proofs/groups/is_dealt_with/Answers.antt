@@ -1,4 +1,4 @@
-use Rattle.std.proofs.Common.{◌∙◌, sym, arith, ap, not, ◌||◌, nat_eq}
+use Rattle.std.proofs.Common.{◌∙◌, sym, arith, ap, not, nat_eq}
 use Rattle.lrat.proofs.CandidateLemmas.{if_ok-map, left-open}
 use Rattle.std.specs.List.{list_any}
 use Rattle.std.proofs.lemmas.Option.{slice_get_within}

@@ -22,7 +22,7 @@ returns-then-branch-clause-fault c =
     let P = c.args.held.now.literals in
     let none : c.in_ok-fault.fault ≡ None = no_fault c.in_ok-fault.fault (sym c.is_some.ensures ∙ c.if-is_some.false) in
     groups-passed K P c.negated-pivot.result c.args.groups.now _ c.in_ok-fault.fault true c.in_ok-fault.ensures.fault none
-    (λ L h. sym c.if-branch.true ∙ (rw (c.in_ok-fault.ensures.kept none) at (c.in_ok-are_dealt_with.ensures.dealt_with L h)))
+    (λ L h. sym c.if-branch.true ∙ (rw (c.in_ok-fault.ensures.kept none) at (c.in_ok-all_are_dealt_with.ensures.dealt_with L h)))
     ∙ ap (λ q. groups_fault K P q [] c.args.groups.now) c.negated-pivot.ensures
     ∙ rat-pivot K P c.args.clause.now c.args.groups.now c.index-clause-0.result (sym c.is_empty.ensures ∙ c.if-is_empty.false) c.index-clause-0.is
 
@@ -32,6 +32,6 @@ returns-clause-fault c =
     let P = c.args.held.now.literals in
     let none : c.in_ok-fault.fault ≡ None = no_fault c.in_ok-fault.fault (sym c.is_some.ensures ∙ c.if-is_some.false) in
     groups-passed K P c.negated-pivot.result c.args.groups.now _ c.in_ok-fault.fault false c.in_ok-fault.ensures.fault none
-    (λ L h. sym c.if-branch.false ∙ (rw (c.in_ok-fault.ensures.kept none) at (c.in_ok-are_dealt_with.ensures.dealt_with L h)))
+    (λ L h. sym c.if-branch.false ∙ (rw (c.in_ok-fault.ensures.kept none) at (c.in_ok-all_are_dealt_with.ensures.dealt_with L h)))
     ∙ ap (λ q. groups_fault K P q [] c.args.groups.now) c.negated-pivot.ensures
     ∙ rat-pivot K P c.args.clause.now c.args.groups.now c.index-clause-0.result (sym c.is_empty.ensures ∙ c.if-is_empty.false) c.index-clause-0.is

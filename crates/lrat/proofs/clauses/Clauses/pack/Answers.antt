@@ -1,7 +1,7 @@
 use Rattle.std.proofs.Common.{◌≡◌, ap, subst, sym, ◌∙◌, []}
-use Rattle.lrat.specs.Flat.{slots_in, packed, AreUpTo}
+use Rattle.lrat.specs.Flat.{slots_in, packed, AreUpTo, AreEmptied}
 use Rattle.lrat.specs.Slots.{there_before}
-use Rattle.lrat.proofs.PackLemmas.{there-packed, AreFlat-packed, AreUpTo-packed}
+use Rattle.lrat.proofs.PackLemmas.{there-packed, AreFlat-packed, AreUpTo-packed, AreEmptied-packed}
 use Rattle.lrat.proofs.clauses.Clauses.pack.Goals as goal
 
 pub invariant_of-self : goal.invariant_of-self
@@ -25,3 +25,10 @@ returns-clause-up_to c =
     ∙ ap (λ ks. packed c.self.inside.first (slots_in c.self.inside.lits.items ks)) c.deref.ensures.value in
     rw (← c.self.view_is)
     (λ n h. subst (AreUpTo n) (sym s) (AreUpTo-packed n c.self.inside.first (slots_in c.self.inside.lits.items c.self.inside.heads.items) h))
+
+pub returns-clause-emptied : goal.returns-clause-emptied
+returns-clause-emptied c =
+    let s : slots_in c.in_ok-heads.lits.items c.in_ok-heads.heads.items ≡ packed c.self.inside.first (slots_in c.self.inside.lits.items c.self.inside.heads.items)
+    = c.in_ok-heads.ensures.slots ∙ ap (λ xs. packed c.self.inside.first (slots_in xs c.deref.result.now)) c.deref-2.ensures.value
+    ∙ ap (λ ks. packed c.self.inside.first (slots_in c.self.inside.lits.items ks)) c.deref.ensures.value in
+    subst AreEmptied (sym s) (AreEmptied-packed c.self.inside.first (slots_in c.self.inside.lits.items c.self.inside.heads.items))

@@ -11,6 +11,7 @@ loop-self-preserved c =
     elim c.match-at.branch [
       | in-Some+in_ok-enter w ↦ rw w.self-is (record {
         indexed = record {
+          counted = c.loop-self.invariant.indexed.counted;
           within = (let len = c.len.ensures in let less = c.loop-self-test.true in omega arith);
           chains = w.enter.ensures.chains;
           entered = AreEntered-more slots old w.enter.new.chains c.loop-self.self.entered w.enter.ensures.keeps
@@ -20,6 +21,7 @@ loop-self-preserved c =
       })
       | in_default w ↦ rw w.self-is (record {
         indexed = record {
+          counted = c.loop-self.invariant.indexed.counted;
           within = (let len = c.len.ensures in let less = c.loop-self-test.true in omega arith);
           chains = c.loop-self.invariant.indexed.chains;
           entered = AreEntered-more slots old old c.loop-self.self.entered (λ n i on. on)
