@@ -9,10 +9,16 @@ use kernel::Cube;
 use std::alloc::{AllocError, Global};
 
 /// A cube of a tree, and the splits on the way to it from the tree's first cube.
-#[derive(Drop)]
 pub(crate) struct CubeWalk {
     pub(crate) cube: Cube,
     pub(crate) walk: Walk<()>,
+}
+
+// written out, so that proofs of its owners stay short (docs/CHANGING.md)
+impl Drop for CubeWalk {
+    fn drop(self) {
+        let CubeWalk { cube: _, walk: _ } = self;
+    }
 }
 
 impl CubeWalk {

@@ -1,5 +1,6 @@
 //! What a hand passes as it solves cubes from the pool.
 
+use cdcl::{Counts, Watcher};
 use kernel::Cube;
 
 /// A gate that all hands share. A hand tells it of each cube from the pool that it solves, by the hand's number.
@@ -9,6 +10,10 @@ pub trait Gate {
 
     /// Once it is solved.
     fn after(&self, hand: usize, cube: &Cube);
+
+    /// The hand's solver has done so much in all, since it began. It is told about each thousand
+    /// conflicts and at the end of each cube that it solves, one that it carries on too.
+    fn counted(&self, _hand: usize, _counts: Counts) {}
 }
 
 /// The gate that does nothing.
@@ -19,4 +24,17 @@ impl Gate for OpenGate {
     fn before(&self, _hand: usize, _cube: &Cube) {}
 
     fn after(&self, _hand: usize, _cube: &Cube) {}
+}
+
+/// Tells a gate what the solver of a hand has done.
+#[derive(Drop)]
+pub(crate) struct Watched<'a, G> {
+    pub(crate) gate: &'a G,
+    pub(crate) hand: usize,
+}
+
+impl<G: Gate> Watcher for Watched<'_, G> {
+    fn counted(&self, counts: Counts) {
+        self.gate.counted(self.hand, counts);
+    }
 }

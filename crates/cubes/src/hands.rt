@@ -10,7 +10,7 @@ ghost use Rattle.pool.specs.Hands.{SameHand};
 ghost use Rattle.cubes.specs.Hands.{Gets, IsWorker, EndsIn, Settles, AddsRound, AddsHandOn, AddsHalves, AddsCarried, Worked_as};
 
 use crate::cube_walk::CubeWalk;
-use crate::gate::Gate;
+use crate::gate::{Gate, Watched};
 use crate::pause::Pauses;
 use crate::place::place_of;
 use crate::results::solve;
@@ -85,8 +85,14 @@ fn ending_of(outcome: &Outcome) -> Ending
 }
 
 impl Worker {
-    /// Solves a cube here, and keeps its result.
-    fn settle(&mut self, formula: &Formula, plan: Plan, cube: &Cube) -> Result<Ending, AllocError>
+    /// Solves a cube here, and keeps its result. The gate is told what is done.
+    fn settle<G: Gate>(
+        &mut self,
+        formula: &Formula,
+        plan: Plan,
+        gate: &G,
+        cube: &Cube,
+    ) -> Result<Ending, AllocError>
         requires over { IsOver formula.now.vars cube.now }
         requires worker { IsWorker formula.now plan self.old }
         ensures hand { self.new.hand ≡ self.old.hand }
@@ -96,7 +102,9 @@ impl Worker {
     {
         let alloc = *self.solved.allocator();
         let copy = cube.copied()?;
-        let outcome = solve(alloc, formula, plan, cube, &mut self.solver)?;
+        let hand = self.hand.number();
+        let watched = Watched { gate, hand };
+        let outcome = solve(alloc, formula, plan, cube, &mut self.solver, &watched)?;
         let ending = ending_of(&outcome);
         let what = What::Done(outcome);
         self.solved.push(Solved { cube: copy, what })?;
@@ -106,7 +114,13 @@ impl Worker {
 
 impl Worker {
     /// Hands a half of a cube on: it is put, or where that is refused, or where it is too deep for the pool, carried on here.
-    fn hand_on(&mut self, formula: &Formula, plan: Plan, half: Cube) -> Result<(), AllocError>
+    fn hand_on<G: Gate>(
+        &mut self,
+        formula: &Formula,
+        plan: Plan,
+        gate: &G,
+        half: Cube,
+    ) -> Result<(), AllocError>
         requires over { IsOver formula.now.vars half }
         requires worker { IsWorker formula.now plan self.old }
         ensures same { SameHand self.old.hand self.new.hand }
@@ -114,23 +128,24 @@ impl Worker {
         ensures part { AddsHandOn formula.now plan (is_ok result) half self.old.hand.ledger self.new.hand.ledger self.old.solved.items self.new.solved.items }
     {
         if half.lits().len() > DEEPEST {
-            return self.carry_on(formula, plan, half);
+            return self.carry_on(formula, plan, gate, half);
         }
         self.hand.more();
         match self.hand.put(half) {
             Ok(()) => Ok(()),
             Err(refused) => {
                 self.hand.less();
-                self.carry_on(formula, plan, refused)
+                self.carry_on(formula, plan, gate, refused)
             }
         }
     }
 
     /// Hands both halves of an exhausted cube on, the false one first.
-    fn hand_on_halves(
+    fn hand_on_halves<G: Gate>(
         &mut self,
         formula: &Formula,
         plan: Plan,
+        gate: &G,
         cube: &Cube,
         var: u32,
     ) -> Result<(), AllocError>
@@ -144,12 +159,18 @@ impl Worker {
     {
         let _vars = formula.vars(); // it ensures that there are fewer than 2^31
         let (left, right) = split(cube, var)?;
-        self.hand_on(formula, plan, left)?;
-        self.hand_on(formula, plan, right)
+        self.hand_on(formula, plan, gate, left)?;
+        self.hand_on(formula, plan, gate, right)
     }
 
     /// Carries a half on here: solves the cubes of its tree from left to right, up to the first model.
-    fn carry_on(&mut self, formula: &Formula, plan: Plan, half: Cube) -> Result<(), AllocError>
+    fn carry_on<G: Gate>(
+        &mut self,
+        formula: &Formula,
+        plan: Plan,
+        gate: &G,
+        half: Cube,
+    ) -> Result<(), AllocError>
         requires over { IsOver formula.now.vars half }
         requires worker { IsWorker formula.now plan self.old }
         ensures same { SameHand self.old.hand self.new.hand }
@@ -160,7 +181,7 @@ impl Worker {
         let _lits = half.lits(); // it ensures that their variables are distinct
         let mut at = CubeWalk::from(*self.solved.allocator(), half);
         'cubes: loop {
-            match self.settle(formula, plan, &at.cube)? {
+            match self.settle(formula, plan, gate, &at.cube)? {
                 Ending::Model => {
                     self.hand.offer(place_of(&at.cube));
                     return Ok(());
@@ -200,12 +221,12 @@ impl Worker {
             }
         }
         gate.before(self.hand.number(), &cube);
-        let ending = self.settle(formula, plan, &cube);
+        let ending = self.settle(formula, plan, gate, &cube);
         gate.after(self.hand.number(), &cube);
         match ending? {
             Ending::Model => self.hand.offer(place),
             Ending::Refuted => {}
-            Ending::Exhausted(var) => self.hand_on_halves(formula, plan, &cube, var)?,
+            Ending::Exhausted(var) => self.hand_on_halves(formula, plan, gate, &cube, var)?,
         }
         self.hand.less();
         Ok(())

@@ -14,18 +14,20 @@ use crate::gathering::Gathering;
 use crate::known::Known;
 use crate::solved::Solved;
 use crate::tree::Tree;
-use cdcl::{Outcome, Plan, Solver};
+use cdcl::{Outcome, Plan, Solver, Unwatched, Watcher};
 use cnf::Formula;
 use kernel::Cube;
 use std::alloc::{AllocError, Global};
 
-/// The outcome of a cube, by the solver of the formula and the plan, which is made where there is none yet.
-pub(crate) fn solve(
+/// The outcome of a cube, by the solver of the formula and the plan, which is made where there is
+/// none yet. A watcher is told what it does.
+pub(crate) fn solve<W: Watcher>(
     alloc: Global,
     formula: &Formula,
     plan: Plan,
     cube: &Cube,
     solver: &mut Option<Solver>,
+    watcher: &W,
 ) -> Result<Outcome, AllocError>
     requires over { IsOver formula.now.vars cube.now }
     requires solver { IfSome solver.old (IsSolverOf formula.now plan) }
@@ -37,16 +39,25 @@ pub(crate) fn solve(
         Some(solver) => solver,
         None => Solver::open(alloc, formula, plan)?,
     };
-    let outcome = ready.solve(cube)?;
+    let outcome = ready.solve_watched(cube, watcher)?;
     *solver = Some(ready);
     Ok(outcome)
 }
 
 /// Where the outcomes of cubes come from: those that are known, and a solver, once one was needed.
-#[derive(Drop)]
 pub(crate) struct Source {
     pub(crate) known: Known,
     pub(crate) solver: Option<Solver>,
+}
+
+// written out, so that proofs of its owners stay short (docs/CHANGING.md)
+impl Drop for Source {
+    fn drop(self) {
+        let Source {
+            known: _,
+            solver: _,
+        } = self;
+    }
 }
 
 impl Source {
@@ -65,7 +76,7 @@ impl Source {
     {
         match self.known.take(cube) {
             Some(outcome) => Ok(outcome),
-            None => solve(alloc, formula, plan, cube, &mut self.solver),
+            None => solve(alloc, formula, plan, cube, &mut self.solver, &Unwatched),
         }
     }
 }

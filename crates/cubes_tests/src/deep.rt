@@ -1,9 +1,11 @@
 //! Worked rows: deep trees. Cubes that are too deep for the pool are carried on by their hand.
-use crate::hands::{is_result, worked};
+use crate::hands::{is_result, worked, worked_at};
 use crate::results::Given;
-use cdcl::Outcome;
-use cubes::{Solved, What, Worked};
+use cdcl::{Counts, Outcome};
+use cubes::{Gate, Solved, What, Worked};
+use kernel::Cube;
 use std::alloc::{AllocError, Global};
+use std::sync::atomic::{AtomicU64, Ordering};
 use std::test::Fail;
 
 // each assignment but those with all of the first 39 variables false
@@ -101,5 +103,54 @@ fn carries_deep_cubes_on(rt: HostRuntime) -> Result<(), Fail> {
     let is_right = !worked.short_of_memory && has_hard_model(&worked);
     assert!(rt; is_right);
     assert_eq!(rt; deepest(&worked), 34);
+    Ok(())
+}
+
+/// How often a gate was passed with a cube from the pool, and how often it was told what was done.
+#[derive(Drop)]
+struct Calls {
+    passed: AtomicU64,
+    told: AtomicU64,
+}
+
+impl Gate for Calls {
+    fn before(&self, _hand: usize, _cube: &Cube) {}
+
+    fn after(&self, _hand: usize, _cube: &Cube) {
+        self.passed.fetch_add(1, Ordering::SeqCst);
+    }
+
+    fn counted(&self, _hand: usize, _counts: Counts) {
+        self.told.fetch_add(1, Ordering::SeqCst);
+    }
+}
+
+/// How many cubes of at most so many literals were solved.
+fn solved_up_to(worked: &Worked, depth: usize) -> u64 {
+    let mut count = 0u64;
+    for solved in &worked.solved {
+        let is_done = matches!(solved.what, What::Done(_));
+        if is_done && solved.cube.lits().len() <= depth {
+            count = count.saturating_add(1);
+        }
+    }
+    count
+}
+
+// none of the cubes has a thousand conflicts
+#[test]
+fn a_gate_is_told_at_the_end_of_cubes_that_are_carried_on_too(rt: HostRuntime) -> Result<(), Fail> {
+    let calls = Calls {
+        passed: AtomicU64::new(0),
+        told: AtomicU64::new(0),
+    };
+    let worked = worked_at(&rt, rt.alloc(), &hard_text(rt.alloc())?, &calls)?;
+    let (passed, told) = (
+        calls.passed.load(Ordering::SeqCst),
+        calls.told.load(Ordering::SeqCst),
+    );
+    assert_eq!(rt; passed, solved_up_to(&worked, 32));
+    assert_eq!(rt; told, solved_up_to(&worked, 34));
+    assert!(rt; passed < told);
     Ok(())
 }

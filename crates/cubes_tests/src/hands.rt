@@ -1,7 +1,7 @@
 //! Worked rows: what one hand does alone, with a budget of one conflict for the root.
 use crate::results::{Given, is_given};
 use cnf::{Formula, read_formula};
-use cubes::{OpenGate, Solved, What, Worked, work};
+use cubes::{Gate, OpenGate, Solved, What, Worked, work};
 use kernel::Cube;
 use samples::{EIGHT, SIXTEEN, TWO_MODELS, reads};
 use std::alloc::Global;
@@ -10,24 +10,35 @@ use std::test::Fail;
 use std::time::Clock;
 
 /// What the one hand of a pool leaves behind.
-fn worked_alone<R: Wait + Clock>(
+fn worked_alone<R: Wait + Clock, G: Gate>(
     rt: &R,
     alloc: Global,
     formula: &Formula,
+    gate: &G,
 ) -> Result<Option<Worked>, Fail> {
     let (_pool, mut hands) = pool::open(alloc, 1, formula.vars(), Cube::root(alloc))?;
     match hands.pop() {
         Some(hand) if hand.vars() == formula.vars() => Ok(Some(work(
-            rt, alloc, hand, formula, 1, &OpenGate,
+            rt, alloc, hand, formula, 1, gate,
         ))),
         _ => Ok(None),
     }
 }
 
+/// What the one hand of a pool leaves behind of a text, and tells a gate of.
+pub fn worked_at<R: Wait + Clock, G: Gate>(
+    rt: &R,
+    alloc: Global,
+    text: &[u8],
+    gate: &G,
+) -> Result<Worked, Fail> {
+    let formula = read_formula(alloc, text)?;
+    Ok(worked_alone(rt, alloc, &formula, gate)?.ok_or("no hand")?)
+}
+
 /// What the one hand of a pool leaves behind of a text.
 pub fn worked<R: Wait + Clock>(rt: &R, alloc: Global, text: &[u8]) -> Result<Worked, Fail> {
-    let formula = read_formula(alloc, text)?;
-    Ok(worked_alone(rt, alloc, &formula)?.ok_or("no hand")?)
+    worked_at(rt, alloc, text, &OpenGate)
 }
 
 pub fn is_result(solved: &Solved, numbers: &[i32], given: Given) -> bool {

@@ -5,6 +5,8 @@
 #[cfg(test)]
 mod alone;
 #[cfg(test)]
+mod counted;
+#[cfg(test)]
 mod deep;
 #[cfg(test)]
 mod gates;

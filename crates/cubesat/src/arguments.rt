@@ -22,7 +22,8 @@ static SEARCHES: [&str; 2] = ["ordered", "focused"];
 /// The most hands.
 const MAX_HANDS: u32 = 16;
 
-const STATS: &str = "Print to standard error what the run took: cubes, lines, times, memory";
+const STATS: &str =
+    "Print to standard error what the run took: conflicts, cubes, lines, times, memory";
 
 const SOLVE_PROGRESS: &str = "Print to standard error about once a second how far the run is";
 

@@ -10,7 +10,7 @@ use crate::verdict::Verdict;
 use crate::watched::{Effort, run_counted};
 use cdcl::{Plan, Search};
 use cubes::OpenGate;
-use statistics::{Board, Showing, Stage, print_statistics, show_progress};
+use statistics::{Board, Showing, print_statistics, show_progress};
 use std::alloc::Global;
 use std::fs::{Files, OpenFile};
 use std::io::{Read, Write};
@@ -107,7 +107,7 @@ fn run_shown<
     faults: &mut E,
     showing: Showing,
 ) -> Result<Verdict, RunFault> {
-    let board = Board::new(rt, Stage::Reading);
+    let board = Board::of_search(rt, effort.plan.search());
     let hands = effort.hands;
     let result = if showing.is_any() {
         run_beside(

@@ -15,9 +15,13 @@ mod faults;
 #[cfg(test)]
 mod faulty;
 #[cfg(test)]
+mod figures;
+#[cfg(test)]
 mod focused;
 #[cfg(test)]
 mod gates;
+#[cfg(test)]
+mod hints;
 #[cfg(test)]
 mod long_proofs;
 #[cfg(test)]

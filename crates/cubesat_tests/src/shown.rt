@@ -2,21 +2,19 @@
 use crate::faulty::{Limited, Limits};
 use crate::options::SPLIT;
 use crate::sessions::{Paths, Printed, run};
-use crate::texts::EIGHT;
-use cubesat::{
-    Board, CubeCounts, Figures, Manner, Screen, Showing, Stage, TextSize, command_on, print_line,
-    show_progress,
-};
+use crate::texts::{EIGHT, FOUR};
+use cubesat::{Screen, command_on};
 use std::alloc::Global;
+use std::fs;
 use std::rt::Files;
 use std::sync::Wait;
 use std::test::Fail;
 use std::thread::Threads;
-use std::time::{Clock, Duration};
-use std::{fs, thread};
+use std::time::Clock;
 
-/// Formulas with the words of runs and answers, and the lines of `--stats` up to the times.
-static RUNS: [(&str, &[&str], &str, &str); 4] = [
+/// Formulas with the words of runs and answers, and the lines of `--stats` up to the times. What the
+/// searches do is worked out in the tests of `cubes`.
+static RUNS: [(&str, &[&str], &str, &str); 6] = [
     (
         EIGHT,
         &[
@@ -24,7 +22,7 @@ static RUNS: [(&str, &[&str], &str, &str); 4] = [
             "FORMULA",
         ],
         "s UNSATISFIABLE\n",
-        "c formula: 3 variables, 8 clauses, 24 literals\nc hands: 1\nc cubes: 3 solved, 1 split, 0 skipped\nc learnt: 4 lines in refuted cubes\nc solved by each hand: 3\nc proof: 7 lines, 94 bytes\nc reading: ",
+        "c formula: 3 variables, 8 clauses, 24 literals\nc hands: 1\nc search: 5 conflicts, 4 decisions, 13 propagations, 0 restarts\nc clauses: 2 learnt, 0 forgotten\nc cubes: 3 solved, 1 split, 0 skipped\nc learnt: 4 lines in refuted cubes\nc solved by each hand: 3\nc proof: 7 lines, 94 bytes\nc reading: ",
     ),
     (
         EIGHT,
@@ -33,7 +31,7 @@ static RUNS: [(&str, &[&str], &str, &str); 4] = [
             "FORMULA",
         ],
         "s UNSATISFIABLE\n",
-        "c formula: 3 variables, 8 clauses, 24 literals\nc hands: 1\nc cubes: 1 solved, 0 split, 0 skipped\nc learnt: 4 lines in refuted cubes\nc solved by each hand: 1\nc proof: 4 lines, 62 bytes\nc reading: ",
+        "c formula: 3 variables, 8 clauses, 24 literals\nc hands: 1\nc search: 4 conflicts, 3 decisions, 10 propagations, 0 restarts\nc clauses: 3 learnt, 0 forgotten\nc cubes: 1 solved, 0 split, 0 skipped\nc learnt: 4 lines in refuted cubes\nc solved by each hand: 1\nc proof: 4 lines, 62 bytes\nc reading: ",
     ),
     (
         "p cnf 2 1\n1 2 0\n",
@@ -42,7 +40,7 @@ static RUNS: [(&str, &[&str], &str, &str); 4] = [
             "FORMULA",
         ],
         "s SATISFIABLE\nv -1 2 0\n",
-        "c formula: 2 variables, 1 clauses, 2 literals\nc hands: 1\nc cubes: 1 solved, at least 0 split, skipped unknown\nc solved by each hand: 1\nc proof: 0 lines, 0 bytes\nc reading: ",
+        "c formula: 2 variables, 1 clauses, 2 literals\nc hands: 1\nc search: 0 conflicts, 1 decisions, 2 propagations, 0 restarts\nc clauses: 0 learnt, 0 forgotten\nc cubes: 1 solved, at least 0 split, skipped unknown\nc solved by each hand: 1\nc proof: 0 lines, 0 bytes\nc reading: ",
     ),
     (
         EIGHT,
@@ -51,7 +49,23 @@ static RUNS: [(&str, &[&str], &str, &str); 4] = [
             "FORMULA",
         ],
         "s UNSATISFIABLE\n",
-        "c formula: 3 variables, 8 clauses, 24 literals\nc hands: 16\nc cubes: 3 solved, 1 split, 0 skipped\nc learnt: 4 lines in refuted cubes\nc solved by each hand: ",
+        "c formula: 3 variables, 8 clauses, 24 literals\nc hands: 16\nc search: 5 conflicts, 4 decisions, 13 propagations, 0 restarts\nc clauses: 2 learnt, 0 forgotten\nc cubes: 3 solved, 1 split, 0 skipped\nc learnt: 4 lines in refuted cubes\nc solved by each hand: ",
+    ),
+    (
+        FOUR,
+        &[
+            "cubesat", "solve", "--stats", "--search", "ordered", "--proof", "PROOF", "FORMULA",
+        ],
+        "s UNSATISFIABLE\n",
+        "c formula: 2 variables, 4 clauses, 8 literals\nc hands: 1\nc search: 2 conflicts, 1 decisions, 4 propagations, 0 restarts\nc clauses: 1 learnt, 0 forgotten\nc cubes: 1 solved, 0 split, 0 skipped\nc learnt: 2 lines in refuted cubes\nc solved by each hand: 1\nc proof: 2 lines, 24 bytes\nc reading: ",
+    ),
+    (
+        FOUR,
+        &[
+            "cubesat", "solve", "--stats", "--search", "focused", "--proof", "PROOF", "FORMULA",
+        ],
+        "s UNSATISFIABLE\n",
+        "c formula: 2 variables, 4 clauses, 8 literals\nc hands: 1\nc search: 2 conflicts, 1 decisions, 4 propagations, 0 restarts\nc clauses: 1 learnt, 0 forgotten\nc cubes: 1 solved, 0 split, 0 skipped\nc learnt: 2 lines in refuted cubes\nc solved by each hand: 1\nc proof: 2 lines, 24 bytes\nc reading: ",
     ),
 ];
 
@@ -100,6 +114,35 @@ fn statistics_are_printed(rt: HostRuntime) -> Result<(), Fail> {
         assert_eq!(rt; printed.answer.as_slice(), answer.as_bytes());
         assert!(rt; has_figures(&printed.faults, wanted), "{words:?}");
     }
+    Ok(())
+}
+
+/// A device that takes no bytes.
+const FULL: &str = "/dev/full";
+
+/// The lines of a run on the four clauses whose proof isn't written, up to the times.
+const UNWRITTEN: &str =
+    "c formula: 2 variables, 4 clauses, 8 literals\nc hands: 1\nc search: 2 conflicts, 1 decisions, 4 propagations, 0 restarts\nc clauses: 1 learnt, 0 forgotten\nc cubes: 1 solved, 0 split, 0 skipped\nc learnt: 2 lines in refuted cubes\nc solved by each hand: 1\nc proof: 0 lines, 0 bytes\nc reading: ";
+
+/// Whether this is what such a run prints.
+fn is_unwritten(faults: &[u8]) -> bool {
+    match str::from_utf8(faults) {
+        Ok(text) => {
+            text.starts_with(UNWRITTEN)
+                && text.contains("\nc joining: ")
+                && !text.contains("\nc writing: ")
+                && text.ends_with("\nfault 53\n")
+        }
+        Err(_) => false,
+    }
+}
+
+#[test]
+fn a_run_that_fails_shows_what_it_came_to(rt: HostRuntime) -> Result<(), Fail> {
+    let paths = Paths::of(&rt, "full.cnf")?;
+    let words = ["cubesat", "solve", "--stats", "--proof", FULL, "FORMULA"];
+    let printed = printed(&rt, &paths, FOUR, &words)?;
+    assert!(rt; printed.answer.is_empty() && is_unwritten(&printed.faults));
     Ok(())
 }
 
@@ -160,121 +203,4 @@ fn a_writer_that_fails_changes_nothing_else(rt: HostRuntime) -> Result<(), Fail>
         }
     }
     Ok(())
-}
-
-/// Cubes of a root that was split, and whose true half was split again; the hands are at depth 2.
-fn some_cubes() -> CubeCounts {
-    let mut cubes = CubeCounts::none();
-    let begun = [
-        (0, 0, None),
-        (0, 1, Some(false)),
-        (1, 1, Some(true)),
-        (0, 2, Some(false)),
-        (1, 2, Some(true)),
-    ];
-    for (hand, depth, last) in begun {
-        cubes.begin(hand, depth, last);
-        if depth < 2 {
-            cubes.end(hand, depth);
-        }
-    }
-    cubes
-}
-
-/// The line of each stage, in a list and on a terminal.
-static LINES: [(Stage, &str); 5] = [
-    (Stage::Reading, "c 12 s: reading"),
-    (
-        Stage::Solving,
-        "c 12 s: 3 cubes solved, at most 2 waiting, depth 2, at least 0.00 % of the tree closed",
-    ),
-    (Stage::Joining, "c 12 s: joining"),
-    (
-        Stage::Writing,
-        "c 12 s: 2 lines, 7 bytes of the proof written",
-    ),
-    (
-        Stage::Checking,
-        "c 12 s: 2 lines, 7 bytes of the proof read",
-    ),
-];
-
-/// Whether this is the line of some figures, as a list has it or a terminal.
-fn has_line(alloc: Global, figures: &Figures, manner: Manner, text: &str) -> Result<bool, Fail> {
-    let mut line = Vec::new(alloc);
-    print_line(&mut line, manner, 12, figures);
-    let wanted = match manner {
-        Manner::Listed => format!(in alloc; "{text}\n")?,
-        Manner::Rewritten => format!(in alloc; "\r{text}\x1b[K")?,
-    };
-    Ok(line.as_slice() == wanted.as_bytes())
-}
-
-#[test]
-fn progress_has_a_line_for_each_stage(rt: HostRuntime) -> Result<(), Fail> {
-    for (stage, wanted) in &LINES {
-        let mut figures = Figures::none(*stage);
-        figures.cubes = some_cubes();
-        figures.add_proof(TextSize::of(b"ab\ncd\ne"));
-        for manner in [Manner::Listed, Manner::Rewritten] {
-            assert!(rt; has_line(rt.alloc(), &figures, manner, wanted)?, "{wanted}");
-        }
-    }
-    Ok(())
-}
-
-/// What is printed of a run in this stage that goes on for a while, where the focused search is named
-/// at once.
-fn hinted<R: Threads + Wait + Clock + Sync>(rt: &R, alloc: Global, stage: Stage) -> Vec<u8> {
-    let board = Board::new(rt, stage);
-    let showing = Showing {
-        progress: None,
-        hint: Some(0),
-    };
-    let mut out = Vec::new(alloc);
-    let _ = thread::join(
-        rt,
-        || show_progress(rt, &board, &mut out, showing),
-        || {
-            thread::sleep(rt, Duration::from_millis(200));
-            board.end_progress(rt);
-        },
-    );
-    out
-}
-
-#[test]
-fn the_focused_search_is_named_once_while_cubes_are_solved(rt: HostRuntime) {
-    let wanted =
-        b"c --search focused decides most large formulas sooner, with a model that need not be the first\n";
-    let solving = hinted(&rt, rt.alloc(), Stage::Solving);
-    assert_eq!(rt; solving.as_slice(), wanted.as_slice());
-    assert!(rt; hinted(&rt, rt.alloc(), Stage::Reading).is_empty());
-}
-
-/// How many cubes of the depths 0 to 4 are solved, how many lie in the deques at most, and the part of the tree that is closed at least.
-static TREES: [([usize; 5], u64, u64); 6] = [
-    ([0, 0, 0, 0, 0], 0, 0),
-    ([1, 0, 0, 0, 0], 2, 0),
-    ([1, 2, 0, 0, 0], 4, 0),
-    ([1, 2, 2, 0, 0], 6, 0),
-    ([1, 2, 2, 2, 0], 6, 5_000),
-    ([1, 2, 4, 2, 1], 5, 7_500),
-];
-
-#[test]
-fn what_is_closed_follows_from_the_depths(rt: HostRuntime) {
-    for (solved, waiting, closed) in &TREES {
-        let mut cubes = CubeCounts::none();
-        let mut depth = 0usize;
-        for count in solved {
-            for _ in 0..*count {
-                cubes.begin(0, depth, Some(true));
-                cubes.end(0, depth);
-            }
-            depth = depth.saturating_add(1);
-        }
-        assert_eq!(rt; cubes.waiting(), *waiting);
-        assert_eq!(rt; cubes.closed(), *closed);
-    }
 }

@@ -1,6 +1,7 @@
 //! The figures of a run that is going on. All its threads share them, and one at a time writes them.
 
 use crate::figures::{Figures, Stage};
+use cdcl::Search;
 use std::sync::{Mutex, Wait};
 use std::thread;
 use std::time::{Clock, Duration, Instant};
@@ -18,8 +19,19 @@ pub struct Board {
 impl Board {
     /// A run begins.
     pub fn new<R: Clock>(rt: &R, stage: Stage) -> Board {
+        Board::of(rt, Figures::none(stage))
+    }
+
+    /// A run begins that decides a formula by a search.
+    pub fn of_search<R: Clock>(rt: &R, search: Search) -> Board {
+        let mut figures = Figures::none(Stage::Reading);
+        figures.search = search;
+        Board::of(rt, figures)
+    }
+
+    fn of<R: Clock>(rt: &R, figures: Figures) -> Board {
         Board {
-            figures: Mutex::new(Figures::none(stage)),
+            figures: Mutex::new(figures),
             since: Instant::now(rt).ok(),
         }
     }

@@ -10,7 +10,7 @@ use std::fmt::{Display, Formatter};
 const DEPTHS: usize = 33;
 
 /// The most hands.
-const HANDS: usize = 16;
+pub(crate) const HANDS: usize = 16;
 
 /// What each hand did, and how many cubes of each depth there were.
 #[derive(Clone, Copy)]

@@ -1,6 +1,8 @@
 //! What is counted in a run, as plain numbers; a number that can't grow stays as it is.
 
 use crate::cube_counts::CubeCounts;
+use crate::search_counts::SearchCounts;
+use cdcl::{Counts, Search};
 use cnf::Formula;
 use cubes::{Node, Tree};
 use std::fmt;
@@ -8,14 +10,15 @@ use std::fmt::{Display, Formatter};
 
 /// The size of a formula.
 #[derive(Clone, Copy)]
-pub(crate) struct FormulaSize {
+pub struct FormulaSize {
     pub(crate) vars: u32,
     pub(crate) clauses: usize,
     pub(crate) literals: usize,
 }
 
 impl FormulaSize {
-    pub(crate) fn of(formula: &Formula) -> FormulaSize {
+    /// It takes time by the clauses.
+    pub fn of(formula: &Formula) -> FormulaSize {
         let mut literals = 0usize;
         for clause in formula.clauses() {
             literals = literals.saturating_add(clause.len());
@@ -30,7 +33,7 @@ impl FormulaSize {
 
 /// The size of a tree of splits without a model.
 #[derive(Clone, Copy)]
-pub(crate) struct TreeSize {
+pub struct TreeSize {
     pub(crate) splits: u64,
     pub(crate) leaves: u64,
     /// The lines that were learnt in the refuted cubes.
@@ -57,7 +60,7 @@ impl TreeSize {
     }
 
     /// The size of the tree; of one with a model only the model is known.
-    pub(crate) fn of(tree: &Tree) -> Option<TreeSize> {
+    pub fn of(tree: &Tree) -> Option<TreeSize> {
         match tree {
             Tree::Model(_) => None,
             Tree::Refuted(nodes) => Some(TreeSize::of_nodes(nodes)),
@@ -106,11 +109,11 @@ impl Display for TextSize {
 
 /// How a stage of a run ended.
 #[derive(Clone, Copy)]
-pub(crate) struct StageEnd {
+pub struct StageEnd {
     /// Milliseconds since the run began.
-    pub(crate) at: u64,
+    pub at: u64,
     /// The most memory that the process had by then, in KiB, where the system tells it.
-    pub(crate) peak: Option<u64>,
+    pub peak: Option<u64>,
 }
 
 /// What a run is at.
@@ -128,12 +131,16 @@ pub enum Stage {
 #[derive(Clone, Copy)]
 pub struct Figures {
     pub(crate) stage: Stage,
+    /// By which search the formula is solved.
+    pub search: Search,
     /// Whether no more progress is to be shown.
     pub(crate) is_ended: bool,
     /// Whether a line of progress stands on the terminal.
     pub(crate) is_drawn: bool,
     pub(crate) formula: Option<FormulaSize>,
     pub cubes: CubeCounts,
+    /// What the hands' solvers have done.
+    pub counts: SearchCounts,
     pub(crate) tree: Option<TreeSize>,
     pub(crate) proof: TextSize,
     pub(crate) read: Option<StageEnd>,
@@ -143,14 +150,16 @@ pub struct Figures {
 }
 
 impl Figures {
-    /// Nothing is counted yet.
+    /// Nothing is counted yet, of a run by the ordered search.
     pub fn none(stage: Stage) -> Figures {
         Figures {
             stage,
+            search: Search::Ordered,
             is_ended: false,
             is_drawn: false,
             formula: None,
             cubes: CubeCounts::none(),
+            counts: SearchCounts::none(),
             tree: None,
             proof: TextSize::none(),
             read: None,
@@ -168,29 +177,46 @@ impl Figures {
         self.cubes.end(hand, depth);
     }
 
+    /// A hand's solver has done so much in all.
+    pub(crate) fn count(&mut self, hand: usize, counts: Counts) {
+        self.counts.set(hand, counts);
+    }
+
+    /// When solving began, in milliseconds since the run did.
+    pub(crate) fn began_solving(&self) -> u64 {
+        match self.read {
+            Some(end) => end.at,
+            None => 0,
+        }
+    }
+
     /// A piece of the proof goes by.
     pub fn add_proof(&mut self, piece: TextSize) {
         self.proof.add(piece);
     }
 
-    pub(crate) fn end_reading(&mut self, size: FormulaSize, end: StageEnd) {
+    /// The formula is read.
+    pub fn end_reading(&mut self, size: FormulaSize, end: StageEnd) {
         self.stage = Stage::Solving;
         self.formula = Some(size);
         self.read = Some(end);
     }
 
-    pub(crate) fn end_solving(&mut self, size: Option<TreeSize>, end: StageEnd) {
+    /// It is solved, without a model where the tree has a size.
+    pub fn end_solving(&mut self, size: Option<TreeSize>, end: StageEnd) {
         self.stage = Stage::Joining;
         self.tree = size;
         self.solved = Some(end);
     }
 
-    pub(crate) fn end_joining(&mut self, end: StageEnd) {
+    /// The answer is made, and all that the proof's lines are made of.
+    pub fn end_joining(&mut self, end: StageEnd) {
         self.stage = Stage::Writing;
         self.joined = Some(end);
     }
 
-    pub(crate) fn end_writing(&mut self, end: StageEnd) {
+    /// The proof is written.
+    pub fn end_writing(&mut self, end: StageEnd) {
         self.written = Some(end);
     }
 

@@ -2,6 +2,7 @@
 
 use crate::board::Board;
 use crate::figures::{Figures, Stage};
+use crate::search_line::SearchLine;
 use std::io::Write;
 use std::sync::Wait;
 use std::thread;
@@ -96,14 +97,20 @@ fn print_hint<R: Wait, E: Write>(rt: &R, board: &Board, out: &mut E, progress: O
     board.figures().lock(rt).erase();
 }
 
-/// Prints the line of these figures. A failed write changes nothing.
+/// Prints the line of these figures, so many seconds after the run began. A failed write changes
+/// nothing.
 pub fn print_line<E: Write>(out: &mut E, manner: Manner, seconds: u64, figures: &Figures) {
-    let (start, end) = (manner.start(), manner.end());
+    print_line_at(out, manner, seconds.saturating_mul(1000), figures);
+}
+
+/// `print_line` so many milliseconds after the run began.
+fn print_line_at<E: Write>(out: &mut E, manner: Manner, now: u64, figures: &Figures) {
+    let (start, end, seconds) = (manner.start(), manner.end(), now / 1000);
     let _ = match figures.stage {
         Stage::Reading => write!(out, "{start}c {seconds} s: reading{end}"),
         Stage::Solving => {
-            let cubes = figures.cubes;
-            write!(out, "{start}c {seconds} s: {cubes}{end}")
+            let search = SearchLine::of(figures, now);
+            write!(out, "{start}c {seconds} s: {search}{end}")
         }
         Stage::Joining => write!(out, "{start}c {seconds} s: joining{end}"),
         Stage::Writing => {
@@ -126,11 +133,11 @@ fn show_line<R: Wait, E: Write>(
     board: &Board,
     out: &mut E,
     manner: Manner,
-    seconds: u64,
+    now: u64,
     figures: &Figures,
 ) {
     if manner == Manner::Listed || board.figures().lock(rt).draw() {
-        print_line(out, manner, seconds, figures);
+        print_line_at(out, manner, now, figures);
     }
 }
 
@@ -156,7 +163,7 @@ pub fn show_progress<R: Wait + Clock, E: Write>(
         if let Some(manner) = showing.progress {
             if now >= due {
                 due = now.saturating_add(PAUSE);
-                show_line(rt, board, out, manner, now / 1000, &figures);
+                show_line(rt, board, out, manner, now, &figures);
             }
         }
         thread::sleep(rt, Duration::from_millis(look));

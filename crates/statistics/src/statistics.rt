@@ -1,6 +1,7 @@
 //! What `--stats` prints: lines that begin with `c`, of as much of the run as it came to.
 
 use crate::figures::{Figures, StageEnd};
+use crate::search_counts::a_second;
 use std::io::Write;
 
 /// Prints the end of a stage, with its time from an earlier end on, and answers when it ended.
@@ -58,6 +59,30 @@ fn print_hands<E: Write>(out: &mut E, figures: &Figures, hands: usize) {
     let _ = writeln!(out);
 }
 
+/// Prints what the solvers of all hands have done.
+fn print_counts<E: Write>(out: &mut E, figures: &Figures) {
+    let done = figures.counts.sum();
+    let (conflicts, decisions) = (done.conflicts, done.decisions);
+    let (propagations, restarts) = (done.propagations, done.restarts);
+    let (learnt, forgotten) = (done.learnt, done.forgotten);
+    let _ = writeln!(
+        out,
+        "c search: {conflicts} conflicts, {decisions} decisions, {propagations} propagations, {restarts} restarts\nc clauses: {learnt} learnt, {forgotten} forgotten"
+    );
+}
+
+/// Prints how many conflicts a second there were while the formula was solved, where that ended and
+/// took time.
+fn print_speed<E: Write>(out: &mut E, figures: &Figures) {
+    let Some(end) = figures.solved else {
+        return;
+    };
+    let time = end.at.saturating_sub(figures.began_solving());
+    if let Some(speed) = a_second(figures.counts.sum().conflicts, time) {
+        let _ = writeln!(out, "c conflicts a second: {speed}");
+    }
+}
+
 /// Prints what was counted in a run of so many hands. A failed write changes nothing.
 pub fn print_statistics<E: Write>(out: &mut E, figures: &Figures, hands: usize) {
     let Some(formula) = figures.formula else {
@@ -68,9 +93,11 @@ pub fn print_statistics<E: Write>(out: &mut E, figures: &Figures, hands: usize) 
         out,
         "c formula: {vars} variables, {clauses} clauses, {literals} literals\nc hands: {hands}"
     );
+    print_counts(out, figures);
     print_cubes(out, figures);
     print_hands(out, figures, hands);
     let proof = figures.proof;
     let _ = writeln!(out, "c proof: {proof}");
     print_stages(out, figures);
+    print_speed(out, figures);
 }

@@ -5,6 +5,7 @@ use crate::counted::Counter;
 use crate::figures::{FormulaSize, StageEnd, TextSize, TreeSize};
 use crate::observer::Observer;
 use crate::peak::peak_memory;
+use cdcl::Counts;
 use cnf::Formula;
 use cubes::{Gate, Tree};
 use kernel::Cube;
@@ -55,6 +56,10 @@ impl<R: Wait> Gate for Watch<'_, R> {
     fn after(&self, hand: usize, cube: &Cube) {
         let depth = cube.lits().len();
         self.board.figures().lock(self.rt).end_cube(hand, depth);
+    }
+
+    fn counted(&self, hand: usize, counts: Counts) {
+        self.board.figures().lock(self.rt).count(hand, counts);
     }
 }
 

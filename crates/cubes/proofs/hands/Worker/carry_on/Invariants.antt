@@ -6,11 +6,11 @@ use Rattle.cubes.proofs.hands.Worker.carry_on.Given as goal
 
 -- so far no model was found, and all cubes left of this one are settled
 abbrev pub invariant-cubes : goal.invariant-cubes
-invariant-cubes l = record {
+invariant-cubes g l = record {
   hand : l.self.hand ≡ l.initial.self.hand;
   worker : IsWorker l.formula l.plan l.self;
   carrying : IsCarrying l.formula l.plan l.fn.half l.at l.initial.self.solved.items l.self.solved.items;
 }
 
 abbrev pub decreases-cubes : goal.decreases-cubes
-decreases-cubes l = to_come (l.formula.vars + 1) l.at.walk
+decreases-cubes g l = to_come (l.formula.vars + 1) l.at.walk

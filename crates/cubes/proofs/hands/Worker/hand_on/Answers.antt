@@ -5,12 +5,12 @@ use Rattle.cubes.proofs.RoundParts.{put-part, refused-part}
 use Rattle.cubes.proofs.hands.Worker.hand_on.Goals as goal
 
 pub returns-in-Ok-clause-part : goal.returns-in-Ok-clause-part
-returns-in-Ok-clause-part c =
+returns-in-Ok-clause-part g c =
     put-part c.args.formula.now c.args.plan c.args.half c.args.self.now.hand.ledger c.more.new.self.ledger c.put.new.self.ledger (map solved_of c.args.self.now.solved.items)
     (ap (λ (h : HandView). h.ledger) c.more.ensures.noted) (ap (λ (h : HandView). h.ledger) (rw c.in-Ok.is at c.put.ensures.put))
 
 pub returns-in-Err-clause-part : goal.returns-in-Err-clause-part
-returns-in-Err-clause-part c =
+returns-in-Err-clause-part g c =
     let refused = rw c.in-Err.is at c.put.ensures.put in
     refused-part c.args.formula.now c.args.plan (is_ok c.carry_on-in-Err.result) c.args.half c.in-Err.refused c.args.self.now.hand.ledger c.more.new.self.ledger c.put.new.self.ledger
     c.less.new.self.ledger c.carry_on-in-Err.new.self.hand.ledger (map solved_of c.args.self.now.solved.items) (map solved_of c.carry_on-in-Err.new.self.solved.items)
