@@ -144,8 +144,10 @@ class Said:
         return [it[3] for it in found if not function or inside(it)]
 
     def goals_refused(self, name):
-        """The goals whose answers were refused, other than those that speak of a name that is gone."""
-        folder = re.escape(name.partition("::")[2].replace("::", "/"))
+        """The goals whose answers were refused, other than those that speak of a name that is gone. The folder of
+        a function that calls itself begins with a plus sign."""
+        *above, last = map(re.escape, name.split("::")[1:])
+        folder = "/".join([*above, rf"\+?{last}"])
         errors = [it for it in self.lines if re.match(rf"(?:\./)?proofs/{folder}/\w+\.antt:\d+:\d+: error: ", it) and not OF_NAMES.search(it)]
         found = [re.match(r"`([^`]+)`", it.partition(": error: ")[2]) for it in errors]
         return [it[1] for it in found if it]
