@@ -1,5 +1,5 @@
 //! What is seen of a clause when one of its two front literals, which it watches, became false. A
-//! visit reads one place of memory, and a literal that is found changes places with the false one.
+//! visit reads where it ends, and its literals; one found changes places with the false one.
 //! Source: Een and Sorensson, 'An Extensible SAT-solver' (SAT 2003).
 ghost use Rattle.std.specs.Prelude.{◌≡◌, ◌+◌, ◌<◌, ◌≤◌, ◌⊎◌, length, slice_index_or};
 ghost use Rattle.std.specs.List.Sorted.{IsPermutation};
