@@ -166,21 +166,38 @@ module _ (K A : List Clause) (h : AreArranged K A) where
       go n c a x y (inl e) = subst (λ (z : Clause). IsPermutation z a) (sym (At-forgotten ns K n c e x)) (subst (λ (z : Clause). IsPermutation forgotten z) (sym (At-forgotten ns A n a e y)) (IsPermutation-refl forgotten))
       go n c a x y (inr e) = h.clause n c a (At-unforgotten ns K n c e x) (At-unforgotten ns A n a e y)
 
+  -- an arranged clause is empty only where the one given is
+  pub arranged-some : (first : ℕ) → ((n : ℕ) → first ≤ n → At K n [] → ⊥) → (n : ℕ) → first ≤ n → At A n [] → ⊥
+  arranged-some first some n low at = some n low (inside, none (get_or K n []) (length_permutation (get_or K n []) [] (h.clause n (get_or K n []) [] (At-get K n [] inside) at)))
+    where
+      inside : n < length K
+      inside = omega (arith, h.long, at.0)
+
+      none : (c : Clause) → 0 ≡ length c → c ≡ []
+      none [] e = refl
+      none (l ∷ c) e = absurd (omega (arith, e))
+
   -- what is asked of a clause that is looked at
   pub can-see : (V : ℕ) (P : List Literal) (g : Literal) (n : ℕ) → n < length K → All (IsOver V) K → ((c : Clause) → At K n c → 2 < length c) → has P (negated g) ≡ true
-      → ((w : Watched) → At (map front A) n w → (w.first ≡ g) ⊎ (w.second ≡ g)) → (a : Clause) → At A n a → CanSee V P g a
-  can-see V P g n inside over long gone watched a at = record {
-    over = All-permutation (λ (l : Literal). IsVariable V l.var) (get_or K n []) a same_literals (over n [] inside);
-    long = let b : length a ≡ length (get_or K n []) = length_permutation (get_or K n []) a same_literals in let d = long (get_or K n []) there in omega (arith, b, d);
-    gone = gone;
-    watched = watched (front a) (front-At A n a at);
-  }
+      → ((w : Watched) → At (map front A) n w → (w.first ≡ g) ⊎ (w.second ≡ g)) → (a : Clause) → At A n a → (2 < length a) × CanSee V P g a
+  can-see V P g n inside over long gone watched a at = (
+    more,
+    record {
+      over = All-permutation (λ (l : Literal). IsVariable V l.var) (get_or K n []) a same_literals (over n [] inside);
+      long = omega (arith, more);
+      gone = gone;
+      watched = watched (front a) (front-At A n a at);
+    },
+  )
     where
       there : At K n (get_or K n [])
       there = At-get K n [] inside
 
       same_literals : IsPermutation (get_or K n []) a
       same_literals = h.clause n (get_or K n []) a there at
+
+      more : 2 < length a
+      more = let b : length a ≡ length (get_or K n []) = length_permutation (get_or K n []) a same_literals in let d = long (get_or K n []) there in omega (arith, b, d)
 
 -- the pairs of the clauses that stay, and of those that were forgotten
 pub pairs-forget : (A : List Clause) (ns : List ℕ) → ArePairsLeft ns (map front A) (map front (forget ns 1 A))

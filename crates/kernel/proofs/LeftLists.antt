@@ -67,24 +67,3 @@ pub changed-more : {X : Type 0} (f : X → X) (old now : List X) (i : ℕ) (d : 
 changed-more {X} f old now i d inside e =
     let next : suc i ≡ i + 1 = omega arith in
     ap (λ (xs : List X). set xs i (f (get_or xs i d))) e ∙ (changed f old i d inside ∙ ap (λ n. map f (take n old) ++ drop n old) next)
-
--- one more was written over those from a place on
-written : {X Y : Type 0} (f : Y → X) (old : List X) (news : List Y) (first i k : ℕ) (d : Y) → k ≡ first + i → first + length news ≡ length old → i < length news
-    → set (take first old ++ (map f (take i news) ++ drop k old)) k (f (get_or news i d)) ≡ take first old ++ (map f (take (suc i) news) ++ drop (suc k) old)
-written f [] news first i k d is long inside = absurd (omega (arith, long, inside))
-written f (x ∷ old) news (suc first) i zero d is long inside = absurd (omega (arith, is))
-written {X} f (x ∷ old) news (suc first) i (suc k) d is long inside = ap (λ (ys : List X). x ∷ ys) (written f old news first i k d (omega (arith, is)) (omega (arith, long)) inside)
-written f (x ∷ old) [] zero i k d is long inside = absurd (omega (arith, inside))
-written f (x ∷ old) (y ∷ news) zero zero zero d is long inside = refl
-written f (x ∷ old) (y ∷ news) zero zero (suc k) d is long inside = absurd (omega (arith, is))
-written f (x ∷ old) (y ∷ news) zero (suc i) zero d is long inside = absurd (omega (arith, is))
-written {X} f (x ∷ old) (y ∷ news) zero (suc i) (suc k) d is long inside = ap (λ (ys : List X). f y ∷ ys) (written f old news 0 i k d (omega (arith, is)) (omega (arith, long)) (omega (arith, inside)))
-
-pub written-more : {X Y : Type 0} (f : Y → X) (old now : List X) (news : List Y) (first i : ℕ) (d : Y) → first + length news ≡ length old → i < length news
-    → now ≡ take first old ++ (map f (take i news) ++ drop (first + i) old) → set now (first + i) (f (get_or news i d)) ≡ take first old ++ (map f (take (i + 1) news) ++ drop (first + (i + 1)) old)
-written-more {X} f old now news first i d long inside e =
-    let next : suc i ≡ i + 1 = omega arith in
-    let place : suc (first + i) ≡ first + (i + 1) = omega arith in
-    ap (λ (xs : List X). set xs (first + i) (f (get_or news i d))) e
-    ∙ (written f old news first i (first + i) d refl long inside
-    ∙ (ap (λ n. take first old ++ (map f (take n news) ++ drop (suc (first + i)) old)) next ∙ ap (λ n. take first old ++ (map f (take (i + 1) news) ++ drop n old)) place))

@@ -26,9 +26,11 @@ pub mod Places
 pub mod Popping
 pub mod Restarting
 pub mod Serving
+pub mod Shown
 pub mod Sights
 pub mod Steps
 pub mod TrailFacts
+pub mod Together
 pub mod Turns
 pub mod UnitLemmas
 pub mod Replacements

@@ -1,7 +1,7 @@
 -- Lists that lie one behind the other: one more at the end, the one at a place, and others behind the first ones.
-use Rattle.std.proofs.Common.{◌≡◌, ℕ, zero, suc, ◌+◌, ◌-◌, ◌<◌, ◌≤◌, List, [], ◌∷◌, ◌++◌, length, map, take, drop, get_or, Some, slice_get, refl, ap, sym, subst, ◌∙◌, arith, All, length-append, append_assoc, set}
+use Rattle.std.proofs.Common.{◌≡◌, ℕ, zero, suc, ◌+◌, ◌-◌, ◌<◌, ◌≤◌, List, [], ◌∷◌, ◌++◌, length, take, drop, get_or, Some, slice_get, refl, ap, sym, subst, ◌∙◌, arith, length-append, append_assoc, set}
 use Rattle.std.specs.List.{slice_range}
-use Rattle.std.proofs.lemmas.List.{take-append-le, take-append-drop, drop-append-le, length-drop, length-take-le, get_or_default, drop-drop}
+use Rattle.std.proofs.lemmas.List.{append-nil, take-append-le, take-append-drop, drop-append-le, length-drop, length-take-le, get_or_default, drop-drop}
 use Rattle.std.proofs.Math.Seq.{drop-append_seam}
 use Rattle.std.proofs.lemmas.Option.{get_or_from_slice_get}
 use Rattle.kernel.specs.Pieces.{pieces, AreEnds, start_at}
@@ -101,54 +101,6 @@ pieces-take {X} from xs ends i h less =
 drop-behind : {X : Type 0} (xs ys : List X) (a : ℕ) → drop (length xs + a) (xs ++ ys) ≡ drop a ys
 drop-behind [] ys a = let e : 0 + a ≡ a = omega arith in ap (λ n. drop n ys) e
 drop-behind {X} (x ∷ xs) ys a = let e : suc (length xs) + a ≡ suc (length xs + a) = omega arith in ap (λ n. drop n (x ∷ (xs ++ ys))) e ∙ drop-behind xs ys a
-
-pieces-behind : {X : Type 0} (xs ys : List X) (a from : ℕ) (ends : List ℕ) → from ≡ length xs + a → pieces from (xs ++ ys) (map (λ e. length xs + e) ends) ≡ pieces a ys ends
-pieces-behind xs ys a from [] e = refl
-pieces-behind {X} xs ys a from (end ∷ ends) e =
-    let here : slice_range (xs ++ ys) from (length xs + end) ≡ slice_range ys a end =
-    ap (λ n. take (length xs + end - n) (drop n (xs ++ ys))) e ∙ (ap (take (length xs + end - (length xs + a))) (drop-behind xs ys a) ∙ ap (λ n. take n (drop a ys)) (let z : length xs + end - (length xs + a) ≡ end - a = omega arith in z)) in
-    ap (λ zs. zs ∷ pieces (length xs + end) (xs ++ ys) (map (λ e. length xs + e) ends)) here
-    ∙ ap (λ (k : List (List X)). slice_range ys a end ∷ k) (pieces-behind xs ys end (length xs + end) ends refl)
-
-pieces-join : {X : Type 0} (from : ℕ) (xs ys : List X) (ends more : List ℕ) → AreEnds from ends (length xs) → pieces from (xs ++ ys) (ends ++ map (λ e. length xs + e) more) ≡ pieces from xs ends ++ pieces 0 ys more
-pieces-join from xs ys [] more h = pieces-behind xs ys 0 from more (omega (arith, h))
-pieces-join {X} from xs ys (end ∷ ends) more h =
-    let here : slice_range (xs ++ ys) from end ≡ slice_range xs from end = range-front xs ys from end h.0 (ends-last end ends (length xs) h.1) in
-    ap (λ zs. zs ∷ pieces end (xs ++ ys) (ends ++ map (λ e. length xs + e) more)) here ∙ ap (λ (k : List (List X)). slice_range xs from end ∷ k) (pieces-join end xs ys ends more h.1)
-
-ends-behind : (n a from m : ℕ) (ends : List ℕ) → from ≡ n + a → AreEnds a ends m → AreEnds from (map (λ e. n + e) ends) (n + m)
-ends-behind n a from m [] e h = e ∙ ap (λ k. n + k) h
-ends-behind n a from m (end ∷ ends) e h = (omega (arith, e, h.0), ends-behind n end (n + end) m ends refl h.1)
-
-AreEnds-join : (from n m : ℕ) (ends more : List ℕ) → AreEnds from ends n → AreEnds 0 more m → AreEnds from (ends ++ map (λ e. n + e) more) (n + m)
-AreEnds-join from n m [] more h k = ends-behind n 0 from m more (omega (arith, h)) k
-AreEnds-join from n m (end ∷ ends) more h k = (h.0, AreEnds-join end n m ends more h.1 k)
-
--- the first ones stay, and others stand behind them
-module _ {X : Type 0} (xs ys : List X) (ends more : List ℕ) (i : ℕ) (h : AreEnds 0 ends (length xs)) (k : AreEnds 0 more (length ys)) (less : i ≤ length ends) where
-  abbrev start : ℕ
-  start = start_at 0 ends i
-
-  front-long : length (take start xs) ≡ start
-  front-long = length-take-le start xs (start-within 0 ends (length xs) i h less)
-
-  pub pieces-put : pieces 0 (take start xs ++ ys) (take i ends ++ map (λ e. start + e) more) ≡ take i (pieces 0 xs ends) ++ pieces 0 ys more
-  pieces-put =
-      ap (λ n. pieces 0 (take start xs ++ ys) (take i ends ++ map (λ e. n + e) more)) (sym front-long)
-      ∙ (pieces-join 0 (take start xs) ys (take i ends) more (subst (AreEnds 0 (take i ends)) (sym front-long) (AreEnds-take 0 ends (length xs) i h less))
-      ∙ ap (λ (p : List (List X)). p ++ pieces 0 ys more) (pieces-take 0 xs ends i h less))
-
-  pub AreEnds-put : AreEnds 0 (take i ends ++ map (λ e. start + e) more) (length (take start xs ++ ys))
-  AreEnds-put =
-      let long : start + length ys ≡ length (take start xs ++ ys) = omega (arith, length-append (take start xs) ys, front-long) in
-      subst (AreEnds 0 (take i ends ++ map (λ e. start + e) more)) long (AreEnds-join 0 start (length ys) (take i ends) more (AreEnds-take 0 ends (length xs) i h less) k)
-
-  -- no end comes past what a list can be long
-  pub ends-small : (bound : ℕ) → length (take start xs ++ ys) < bound → All (λ e. start + e < bound) more
-  ends-small bound small j d inside =
-      let high : get_or more j 0 ≤ length ys = end-le 0 more (length ys) j k inside in
-      let same : get_or more j d ≡ get_or more j 0 = get_or_default more j d 0 inside in
-      omega (arith, small, high, same, length-append (take start xs) ys, front-long)
 
 -- where others begin is no earlier than where the first one does
 start-from : (from : ℕ) (ends : List ℕ) (n i : ℕ) → AreEnds from ends n → i ≤ length ends → from ≤ start_at from ends i
@@ -275,3 +227,26 @@ module _ {X : Type 0} (xs read : List X) (ends : List ℕ) (clauses : List (List
       let a = part-high in
       let b : length (drop s read) ≡ length xs - s = length-drop s read ∙ ap (λ (zs : List X). length zs - s) value in
       length-take-le (e - s) (drop s read) (omega (arith, a, b))
+
+-- the last part of a list is written anew
+pub tail-written : {X : Type 0} (lits old part new now : List X) (count : ℕ) → lits ≡ old ++ part → count ≡ length old → length new ≡ length part
+    → now ≡ take count lits ++ (new ++ drop (length lits - count) (drop count lits)) → now ≡ old ++ new
+tail-written {X} lits old part new now count are place same is =
+    is ∙ (ap (λ (xs : List X). take count lits ++ (new ++ xs)) none ∙ (ap (λ (xs : List X). take count lits ++ xs) (append-nil new) ∙ ap (λ (xs : List X). xs ++ new) front))
+  where
+    front : take count lits ≡ old
+    front = (λ i. take (place i) (are i)) ∙ (take-append-le (length old) old part (omega arith) ∙ take-whole (length old) old refl)
+
+    none : drop (length lits - count) (drop count lits) ≡ []
+    none = drop-drop (length lits - count) count lits ∙ drop-all (count + (length lits - count)) lits (omega arith)
+      where
+        drop-all : (n : ℕ) (xs : List X) → length xs ≤ n → drop n xs ≡ []
+        drop-all zero [] h = refl
+        drop-all zero (x ∷ xs) h = absurd (omega (arith, h))
+        drop-all (suc n) [] h = refl
+        drop-all (suc n) (x ∷ xs) h = drop-all n xs (omega (arith, h))
+
+pub tail-read : {X : Type 0} (lits old part : List X) (count : ℕ) → lits ≡ old ++ part → count ≡ length old → take (length lits - count) (drop count lits) ≡ part
+tail-read lits old part count are place =
+    let long : length lits ≡ length old + length part = ap length are ∙ length-append old part in
+    ap (take (length lits - count)) ((λ i. drop (place i) (are i)) ∙ drop-append_seam old part) ∙ take-whole (length lits - count) part (omega (arith, long, place))

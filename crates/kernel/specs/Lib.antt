@@ -5,6 +5,7 @@ pub mod Attaching
 pub mod Cutting
 pub mod Forgetting
 pub mod Pieces
+pub mod Shown
 pub mod Placing
 pub mod Rules
 pub mod Seeing

@@ -4,6 +4,7 @@ ghost use Rattle.std.specs.Prelude.{◌≡◌, ◌<◌, ◌≤◌, [], None, All
 ghost use Rattle.theory.specs.Trails as trails;
 ghost use Rattle.theory.specs.Propagation.{least_false};
 ghost use Rattle.theory.specs.Forgetting.{forget};
+ghost use Rattle.kernel.specs.Watching.{At};
 ghost use Rattle.kernel.specs.Visiting.{kept_of};
 ghost use Rattle.kernel.specs.Attaching.{IsWatching};
 ghost use Rattle.kernel.specs.Forgetting.{entries_left, names};
@@ -35,11 +36,13 @@ impl Propagator {
     }
 
     /// Forgets the clauses of these numbers, which were learnt: `first` clauses were there from the
-    /// beginning. No clause is false. It takes time by all entries of lists and by all clauses'
-    /// literals. Where a request for memory is refused, the clauses are as they were.
+    /// beginning, and none behind them is empty. No clause is false. It takes time by all entries of
+    /// lists and by the learnt clauses' literals. Where a request for memory is refused, the clauses
+    /// are as they were.
     pub fn forget(&mut self, first: usize, numbers: &[u64]) -> Result<(), AllocError>
         requires inside { first ≤ length self.old.clauses.given }
         requires learnt { All (λ n. (first < n) × (n ≤ length self.old.clauses.given)) numbers.now }
+        requires some { (n : ℕ) → first ≤ n → At self.old.clauses.given n [] → ⊥ }
         ensures clauses { OnOk result (self.new.clauses.given ≡ forget numbers.now 1 self.old.clauses.given) }
         ensures watching { OnOk result ((V at floor : ℕ) (T : trails.Trail) (single : List ℕ) (empty : Option ℕ) → least_false (trails.literals T) self.old.clauses.given ≡ None
             → IsWatching V first self.old.clauses.given T at floor (kept_of self.old) single empty
@@ -48,7 +51,7 @@ impl Propagator {
     {
         let alloc = *self.lists.allocator();
         let named = Named::of(alloc, first, self.clauses.len(), numbers)?;
-        self.clauses.forget(first, &named)?;
+        self.clauses.forget(first, &named);
         self.drop_all_entries(&named);
         self.units.drop_named(&named);
         Ok(())

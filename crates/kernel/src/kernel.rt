@@ -359,8 +359,8 @@ impl Kernel {
     /// and becomes `1 -1`, which is never unit and never false. Each number is that of a learnt
     /// clause and no reason on the trail, and no clause is false. It gives the memory of their
     /// literals back to the clauses that are learnt next. It takes time by the entries of all lists
-    /// and by the literals of all clauses, the formula's among them, and memory for the latter while
-    /// it goes on. It fails where a request for memory is refused, and from then on; the clauses and
+    /// and by the literals of the learnt clauses, and memory of a byte for each of these while it
+    /// goes on. It fails where a request for memory is refused, and from then on; the clauses and
     /// the trail are then as they were.
     pub fn forget(&mut self, numbers: &[u64]) -> Result<(), AllocError>
         requires learnt { self.old.short ≡ false → All (λ n. (self.old.first < n) × (n ≤ length self.old.clauses)) numbers.now }

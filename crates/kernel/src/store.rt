@@ -131,21 +131,19 @@ impl Store {
         self.arranged.truncate(count);
     }
 
-    /// Puts `1 -1` in place of the clauses that are named, which are from `first` on. It takes time
-    /// by the literals of all clauses, and memory for them while it goes on; where that is refused,
-    /// nothing has changed.
-    pub fn forget(&mut self, first: usize, named: &Named) -> Result<(), AllocError>
+    /// Puts `1 -1` in place of the clauses that are named, which are from `first` on; no clause from
+    /// there on is empty. It takes no memory, and time by the literals of the clauses from `first`
+    /// on.
+    pub fn forget(&mut self, first: usize, named: &Named)
         requires within { first ≤ length self.old.given }
         requires learnt { (n : ℕ) → n < first → names named.now n ≡ false }
         requires told { (numbers : List ℕ) × Tells (names named.now) numbers }
-        ensures given { OnOk result ((numbers : List ℕ) → Tells (names named.now) numbers → self.new.given ≡ forget numbers 1 self.old.given) }
-        ensures pairs { OnOk result ((numbers : List ℕ) → Tells (names named.now) numbers → ArePairsLeft numbers self.old.pairs self.new.pairs) }
-        ensures err { OnErr result (self.new ≡ self.old) }
+        requires some { (n : ℕ) → first ≤ n → At self.old.given n [] → ⊥ }
+        ensures given { (numbers : List ℕ) → Tells (names named.now) numbers → self.new.given ≡ forget numbers 1 self.old.given }
+        ensures pairs { (numbers : List ℕ) → Tells (names named.now) numbers → ArePairsLeft numbers self.old.pairs self.new.pairs }
     {
-        let arranged = self.arranged.with_forgotten(named)?;
-        self.given.forget(first, named)?;
-        self.arranged = arranged;
-        Ok(())
+        self.given.forget(first, named);
+        self.arranged.forget(first, named);
     }
 
     /// Looks at the clause at a place, of more than two literals, in which the watched literal

@@ -20,8 +20,8 @@ returns-clause-watching c V at floor T single empty none s =
     let old = kept_of c.args.self.now in
     let dropped = c.drop_all_entries.ensures in
     let tells = c.in_ok-named.ensures in
-    let clauses : c.drop_all_entries.new.self.clauses.given ≡ forget numbers 1 c.args.self.now.clauses.given = dropped.kept.0 ∙ c.in_ok-forget.ensures.given numbers tells in
-    let pairs : ArePairsLeft numbers old.pairs c.drop_all_entries.new.self.clauses.pairs = rw dropped.kept.1 (c.in_ok-forget.ensures.pairs numbers tells) in
+    let clauses : c.drop_all_entries.new.self.clauses.given ≡ forget numbers 1 c.args.self.now.clauses.given = dropped.kept.0 ∙ c.forget.ensures.given numbers tells in
+    let pairs : ArePairsLeft numbers old.pairs c.drop_all_entries.new.self.clauses.pairs = rw dropped.kept.1 (c.forget.ensures.pairs numbers tells) in
     rw clauses (forget-watching V c.args.first at floor c.args.self.now.clauses.given T old
     (record (kept_of c.drop_all_entries.new.self) { units = c.drop_named.new.self }) single numbers empty (names c.in_ok-named.named) s tells
     (numbered-from numbers c.args.first (length c.args.self.now.clauses.given) c.requires.learnt) none pairs dropped.lists (rw dropped.kept.2 at c.drop_named.ensures) dropped.kept.3)
