@@ -348,11 +348,11 @@ module _ (floor : ℕ) (K : List Clause) (T : Trail) (n : ℕ) (g : Literal) (k 
     turn-moves-entries v = let r = made v in entries-on r.0 r.1 r.2
 
 -- what the program reads and writes
-pub written : (list : List Watch) (end place : ℕ) (e d : Watch) (b : Literal) → place < end → end ≤ length list → e ≡ get_or list place e
-    → take end (set list place record { clause = (get_or list place d).clause; blocker = b; is_short = (get_or list place d).is_short }) ≡ set (take end list) place (record e { blocker = b })
-written list end place e d b low high read =
-    take-set-lt end list place record { clause = (get_or list place d).clause; blocker = b; is_short = (get_or list place d).is_short } low
-    ∙ (λ i. set (take end list) place record { clause = (one i).clause; blocker = b; is_short = (one i).is_short })
+pub written : (list : List Watch) (end place : ℕ) (e d y : Watch) (b : Literal) → place < end → end ≤ length list → e ≡ get_or list place e → y ≡ record (get_or list place d) { blocker = b }
+    → take end (set list place y) ≡ set (take end list) place (record e { blocker = b })
+written list end place e d y b low high read is =
+    take-set-lt end list place y low
+    ∙ (ap (set (take end list) place) is ∙ (λ i. set (take end list) place record { clause = (one i).clause; blocker = b; is_short = (one i).is_short }))
   where
     one : get_or list place d ≡ e
     one = get_or_default list place d e (omega (arith, low, high)) ∙ sym read

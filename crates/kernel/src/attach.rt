@@ -15,7 +15,7 @@ use crate::propagator::Propagator;
 use crate::replacement::Starts;
 use crate::store::Store;
 use crate::units::Units;
-use crate::watch::{Watch, Watched, code};
+use crate::watch::{MOST_CLAUSES, PackedWatch, Watch, Watched, code};
 use cnf::Lit;
 use std::alloc::{AllocError, Global};
 use trail::Trail;
@@ -107,17 +107,18 @@ pub fn learnt_watched(trail: &Trail, clause: &[Lit]) -> Option<Watched>
 impl Propagator {
     /// Puts an entry into the list of a literal.
     pub fn list(&mut self, lit: Lit, watch: Watch) -> Result<(), AllocError>
-        requires { code lit < length self.old.lists.items }
+        requires lit { code lit < length self.old.lists.items }
+        requires small { watch.clause < 2 ^ 31 }
         ensures lists { OnOk result ((kept_of self.new).lists ≡ with_entry (kept_of self.old).lists lit watch) }
         ensures kept { (self.new.clauses.given ≡ self.old.clauses.given) × (self.new.clauses.pairs ≡ self.old.clauses.pairs) × (self.new.units ≡ self.old.units) × (self.new.conflict ≡ self.old.conflict)
             × (length self.new.lists.items ≡ length self.old.lists.items) }
     {
-        self.lists[code(lit)].push(watch)?;
+        self.lists[code(lit)].push(PackedWatch::of(watch))?;
         Ok(())
     }
 
     /// Puts a clause at the end, in the lists of the literals that it is to watch. Where a request for memory is refused, the clauses
-    /// are as they were. There is room for 2^32 - 1 clauses; one more counts as a request that is refused.
+    /// are as they were. There is room for 2^31 clauses; one more counts as a request that is refused.
     pub fn attach(&mut self, clause: &[Lit], watched: Watched) -> Result<(), AllocError>
         requires first { code watched.first < length self.old.lists.items }
         requires second { code watched.second < length self.old.lists.items }
@@ -130,7 +131,7 @@ impl Propagator {
         ensures refused { OnErr result (self.new.clauses.given ≡ self.old.clauses.given) }
     {
         let number = self.clauses.len();
-        if number >= u32::MAX as usize {
+        if number >= MOST_CLAUSES {
             return Err(AllocError);
         }
         let is_short = clause.len() <= 2;
@@ -163,7 +164,7 @@ impl Propagator {
         ensures kept { (self.new.units ≡ self.old.units) × (self.new.lists ≡ self.old.lists) }
     {
         let number = self.clauses.len();
-        if number >= u32::MAX as usize {
+        if number >= MOST_CLAUSES {
             return Err(AllocError);
         }
         self.clauses.push_empty()?;
@@ -210,7 +211,7 @@ impl Propagator {
     {
         let _entries = trail.entries(); // it ensures what the proof needs of the trail
         let number = self.clauses.len();
-        if number >= u32::MAX as usize {
+        if number >= MOST_CLAUSES {
             return Err(AllocError);
         }
         match learnt_watched(trail, clause) {
@@ -323,7 +324,7 @@ impl Room {
 }
 
 /// Lists without entries, each with room for so many.
-fn no_entries(alloc: Global, counts: &[u32]) -> Result<Vec<Vec<Watch>>, AllocError>
+fn no_entries(alloc: Global, counts: &[u32]) -> Result<Vec<Vec<PackedWatch>>, AllocError>
     ensures { IfOk result (λ ls. (length ls.items ≡ length counts.now) × All (λ v. v.items ≡ []) ls.items) }
 {
     let mut lists = Vec::with_capacity(alloc, counts.len())?;

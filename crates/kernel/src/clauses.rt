@@ -168,14 +168,14 @@ impl Clauses {
         ensures ok { OnOk result ((d : Clause) × (self.new ≡ self.old ++ d ∷ []) × IsPermutation clause.now d × (front d ≡ watched)) }
         ensures err { OnErr result (self.new ≡ self.old) }
     {
-        let count = self.lits.len();
+        let start = self.lits.len();
         self.lits.extend_from_slice(clause)?;
-        lead(&mut self.lits[count..], watched);
+        lead(&mut self.lits[start..], watched);
         let end = self.lits.len();
         match self.ends.push(end) {
             Ok(()) => Ok(()),
             Err(_) => {
-                self.lits.truncate(count);
+                self.lits.truncate(start);
                 Err(AllocError)
             }
         }
@@ -214,7 +214,7 @@ impl Clauses {
         ensures { (numbers : List ℕ) → Tells (names named.now) numbers → self.new ≡ forget numbers 1 self.old }
     {
         self.first = self.first.min(first);
-        let count = move_together(&mut self.lits, &mut self.ends, first, named);
-        self.lits.truncate(count);
+        let left = move_together(&mut self.lits, &mut self.ends, first, named);
+        self.lits.truncate(left);
     }
 }

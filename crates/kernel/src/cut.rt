@@ -13,18 +13,18 @@ ghost use Rattle.kernel.specs.Attaching.{IsWatching};
 ghost use Rattle.kernel.specs.Cutting.{IsKeptBelow, AreKeptBelow, AreCodesOf};
 
 use crate::propagator::Propagator;
-use crate::watch::{Watch, code};
+use crate::watch::{PackedWatch, code};
 use std::alloc::AllocError;
 
 /// Takes the entries of clauses from `first` on out of a list; the answer is how many stay. Their order isn't kept.
-fn keep_below(list: &mut [Watch], first: usize) -> usize
+fn keep_below(list: &mut [PackedWatch], first: usize) -> usize
     ensures within { result ≤ length list.new }
     ensures kept { IsKeptBelow first list.old (take result list.new) }
 {
     let mut end = list.len();
     let mut place = 0;
     while place < end {
-        if (list[place].clause as usize) < first {
+        if (list[place].watch().clause as usize) < first {
             place += 1;
         } else {
             end -= 1;

@@ -21,7 +21,7 @@ impl Propagator {
         ensures long { length self.new.lists.items ≡ length self.old.lists.items }
         ensures list { (kept_of self.new).lists ≡ slice_set (kept_of self.old).lists at (entries_left (names named.now) (slice_index_or (kept_of self.old).lists at [])) }
     {
-        self.lists[at].retain(|watch| !named.has(watch.clause as usize));
+        self.lists[at].retain(|watch| !named.has(watch.watch().clause as usize));
     }
 
     /// Takes the entries of clauses that are named out of all lists.

@@ -3,7 +3,7 @@
 //! A clause can become false or unit only when one of its two watched literals becomes false, so only the clauses in that literal's list are
 //! visited: each finds another literal to watch, or is satisfied, or is unit, or is false. Going back to an earlier level changes nothing
 //! here. Source: Moskewicz et al., 'Chaff' (DAC 2001).
-ghost use Rattle.std.specs.Prelude.{◌≡◌, ◌+◌, ◌<◌, ◌≤◌, ◌*◌, ◌∷◌, [], ◌++◌, All, IfOk, OnOk, IfSome, IfNone, Some, None, length, map, Bool, true, false, slice_set, slice_get, min, take, ℕ, List};
+ghost use Rattle.std.specs.Prelude.{◌^◌, ◌≡◌, ◌+◌, ◌<◌, ◌≤◌, ◌*◌, ◌∷◌, [], ◌++◌, All, IfOk, OnOk, IfSome, IfNone, Some, None, length, map, Bool, true, false, slice_set, slice_get, min, take, ℕ, List};
 ghost use Rattle.std.specs.List.Sorted.{IsPermutation};
 ghost use Rattle.theory.specs.Literals.{Literal, same, has, negated};
 ghost use Rattle.theory.specs.Truth.{IsOver};
@@ -24,7 +24,7 @@ use crate::replacement::Starts;
 use crate::sight::Sight;
 use crate::store::Store;
 use crate::units::Units;
-use crate::watch::{Watch, Watched, code};
+use crate::watch::{PackedWatch, Watch, Watched, code};
 use cnf::Lit;
 use std::alloc::{AllocError, Global};
 use std::mem;
@@ -36,7 +36,7 @@ pub struct Propagator {
     pub clauses: Store,
     /// By literal: the clauses that watch it. They are made with the room that the formula's clauses take, so that opening never moves
     /// one; each visit of a list takes it out and puts it back, so it is a small value.
-    pub lists: Vec<Vec<Watch>>,
+    pub lists: Vec<Vec<PackedWatch>>,
     /// The clauses that were found unit.
     pub units: Units,
     /// The least clause that was found false.
@@ -87,6 +87,7 @@ impl Propagator {
 
     /// Looks at the clause of an entry in the list of a literal that became false.
     fn look(&mut self, trail: &Trail, gone: Lit, watch: Watch) -> Result<Option<Lit>, AllocError>
+        requires small { watch.clause < 2 ^ 31 }
         requires long { watch.is_short ≡ false }
         requires visit { CanVisit self.old.clauses.given (literals trail.now.entries) gone watch (kept_of self.old) }
         requires over { All (IsOver trail.now.vars) self.old.clauses.given }
@@ -122,6 +123,7 @@ impl Propagator {
     /// leaves the list, since another literal is watched. Behind the least false clause nothing is looked for, since only an earlier one
     /// can be the answer, and the literal is taken back before the next propagation.
     fn visit(&mut self, trail: &Trail, gone: Lit, watch: Watch) -> Result<Option<Lit>, AllocError>
+        requires small { watch.clause < 2 ^ 31 }
         requires visit { CanVisit self.old.clauses.given (literals trail.now.entries) gone watch (kept_of self.old) }
         requires over { All (IsOver trail.now.vars) self.old.clauses.given }
         requires lists { length self.old.lists.items ≡ 2 * trail.now.vars + 2 }
@@ -151,7 +153,7 @@ impl Propagator {
         &mut self,
         trail: &Trail,
         gone: Lit,
-        list: &mut [Watch],
+        list: &mut [PackedWatch],
     ) -> Result<usize, AllocError>
         requires ordered { IsOrdered trail.now.vars trail.now.entries }
         requires served { (floor : ℕ) × (n : ℕ) × IsNext trail.now.entries n gone × (elsewhere : List ℕ) × IsServed floor self.old.clauses.given trail.now.entries n (tending (with_list (also elsewhere (kept_of self.old)) gone list.old)) }
@@ -168,9 +170,9 @@ impl Propagator {
         let mut end = list.len();
         let mut place = 0;
         while place < end {
-            match self.visit(trail, gone, list[place])? {
+            match self.visit(trail, gone, list[place].watch())? {
                 Some(blocker) => {
-                    list[place].blocker = blocker;
+                    list[place].set_blocker(blocker);
                     place += 1;
                 }
                 None => {

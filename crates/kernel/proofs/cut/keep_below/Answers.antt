@@ -1,4 +1,4 @@
-use Rattle.std.proofs.Common.{◌≡◌, ◌≤◌, ◌-◌, length, take, set, sym, subst, arith}
+use Rattle.std.proofs.Common.{◌≡◌, ◌∙◌, ◌≤◌, ◌-◌, length, take, set, sym, subst, arith}
 use Rattle.std.proofs.lemmas.List.{take_all, length-set}
 use Rattle.kernel.specs.declared.watch.Watch.{Watch}
 use Rattle.kernel.proofs.Turns.{read-at, left, left-list}
@@ -16,7 +16,7 @@ loop-place-preserved c =
     let at = read-at c.loop-place.list c.loop-place.end c.loop-place.place c.index-list-place.result c.loop-place-test.true i.inside c.index-list-place.is in
     let new : take (c.loop-place.end - 1) (set c.loop-place.list c.loop-place.place c.index-list-end.result) ≡ left c.loop-place.list (c.loop-place.end - 1) c.loop-place.place c.index-list-end.result =
     left-list c.loop-place.list c.loop-place.end c.loop-place.place c.index-list-end.result c.loop-place-test.true i.inside c.index-list-end.is in
-    let out : c.args.first ≤ c.index-list-place.result.clause = subst (λ (e : Watch). c.args.first ≤ e.clause) (sym c.index-list-place.is) c.if-list-place.false in
+    let out : c.args.first ≤ c.index-list-place.result.clause = subst (λ (e : Watch). c.args.first ≤ e.clause) (c.watch.ensures.same ∙ sym c.index-list-place.is) c.if-watch-first.false in
     record {
       keeping = rw new (keeping-drops c.args.first c.args.list.now c.loop-place.list c.loop-place.end c.loop-place.place c.index-list-place.result c.index-list-end.result c.loop-place-test.true i.inside at out i.keeping);
       within = omega (arith, c.loop-place-test.true);

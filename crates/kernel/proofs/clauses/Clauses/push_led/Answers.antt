@@ -15,19 +15,19 @@ some [] l h e = absurd (cc)
 some (k ∷ c) l h e = omega (arith, e)
 
 abbrev now : goal.In-Ok → List Literal
-now c = take c.len-count.result c.deref_mut.result.now ++ (c.lead.new.lits ++ drop (length c.deref_mut.result.now - c.len-count.result) (drop c.len-count.result c.deref_mut.result.now))
+now c = take c.len-start.result c.deref_mut.result.now ++ (c.lead.new.lits ++ drop (length c.deref_mut.result.now - c.len-start.result) (drop c.len-start.result c.deref_mut.result.now))
 
 lits-are : (c : goal.In-Ok) → c.deref_mut.result.now ≡ c.self.inside.lits.items ++ c.args.clause.now
 lits-are c = c.deref_mut.ensures.value ∙ c.in_ok-extend_from_slice.ensures.items
 
-count-is : (c : goal.In-Ok) → c.len-count.result ≡ length c.self.inside.lits.items
-count-is c = c.len-count.ensures ∙ c.self.inside.lits.ok.0
+count-is : (c : goal.In-Ok) → c.len-start.result ≡ length c.self.inside.lits.items
+count-is c = c.len-start.ensures ∙ c.self.inside.lits.ok.0
 
 permutes : (c : goal.In-Ok) → IsPermutation c.args.clause.now c.lead.new.lits
-permutes c = subst (λ (xs : List Literal). IsPermutation xs c.lead.new.lits) (tail-read c.deref_mut.result.now c.self.inside.lits.items c.args.clause.now c.len-count.result (lits-are c) (count-is c)) c.lead.ensures.permutes
+permutes c = subst (λ (xs : List Literal). IsPermutation xs c.lead.new.lits) (tail-read c.deref_mut.result.now c.self.inside.lits.items c.args.clause.now c.len-start.result (lits-are c) (count-is c)) c.lead.ensures.permutes
 
 now-is : (c : goal.In-Ok) → now c ≡ c.self.inside.lits.items ++ c.lead.new.lits
-now-is c = tail-written c.deref_mut.result.now c.self.inside.lits.items c.args.clause.now c.lead.new.lits (now c) c.len-count.result (lits-are c) (count-is c) (length_permutation c.args.clause.now c.lead.new.lits (permutes c)) refl
+now-is c = tail-written c.deref_mut.result.now c.self.inside.lits.items c.args.clause.now c.lead.new.lits (now c) c.len-start.result (lits-are c) (count-is c) (length_permutation c.args.clause.now c.lead.new.lits (permutes c)) refl
 
 same-length : (c : goal.In-Ok) → length (now c) ≡ length c.extend_from_slice.new.self.items
 same-length c =

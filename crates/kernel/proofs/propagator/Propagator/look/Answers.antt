@@ -9,8 +9,8 @@ look-requires-clause-watched c w at =
     let v = c.requires.visit in
     (v.pair (clause _ _ _ _ _ v c.requires.long) w (clause-at _ _ _ _ _ v c.requires.long) at).1
 
-pub list-requires : goal.list-requires
-list-requires c =
+pub list-requires-clause-lit : goal.list-requires-clause-lit
+list-requires-clause-lit c =
     let v = c.requires.visit in
     let long = c.requires.long in
     let d = clause _ _ _ _ _ v long in

@@ -27,7 +27,7 @@ loop-place-init c =
 pub visit-requires-clause-visit : goal.visit-requires-clause-visit
 visit-requires-clause-visit c =
     let i = c.loop-place.invariant in
-    rw i.clauses (CanVisit-also c.requires.served.3 _ _ _ _ _ (can-visit c.requires.served.0 c.args.self.now.clauses.given c.args.trail.now.entries c.requires.served.1 c.args.gone (also c.requires.served.3 (kept_of c.loop-place.self)) (take c.loop-place.end c.loop-place.list) c.loop-place.place c.index-list-place.result
+    rw (i.clauses, c.watch.ensures.same, ← c.index-list-place.is) (CanVisit-also c.requires.served.3 _ _ _ _ _ (can-visit c.requires.served.0 c.args.self.now.clauses.given c.args.trail.now.entries c.requires.served.1 c.args.gone (also c.requires.served.3 (kept_of c.loop-place.self)) (take c.loop-place.end c.loop-place.list) c.loop-place.place c.index-list-place.result
     (code-inside (λ v. v.items) c.loop-place.self.lists.items c.args.trail.now.vars c.args.gone c.args.trail.now.entries c.requires.served.1 (i.lists ∙ c.requires.lists) c.requires.ordered.over c.requires.served.2)
     c.requires.served.2 (i.walks c.requires.served.0 c.requires.served.1 c.requires.served.3 c.requires.served.2 c.requires.served.4) i.entries
     (read-at c.loop-place.list c.loop-place.end c.loop-place.place c.index-list-place.result c.loop-place-test.true i.inside c.index-list-place.is)))
@@ -38,8 +38,8 @@ loop-place-preserved-in-Some c =
     let at : At (take c.loop-place.end c.loop-place.list) c.loop-place.place c.index-list-place.result = read-at c.loop-place.list c.loop-place.end c.loop-place.place c.index-list-place.result c.loop-place-test.true i.inside c.index-list-place.is in
     let inside = code-inside (λ v. v.items) c.loop-place.self.lists.items c.args.trail.now.vars c.args.gone c.args.trail.now.entries c.requires.served.1 (i.lists ∙ c.requires.lists) c.requires.ordered.over c.requires.served.2 in
     let visit : IsVisit c.args.self.now.clauses.given (literals c.args.trail.now.entries) c.args.gone c.index-list-place.result (kept_of c.loop-place.self) (kept_of c.visit.new.self) (Some c.in-Some.blocker) =
-    rw (← i.clauses, ← c.in-Some.is) c.in_ok-blocker.ensures.visit in
-    let new = written c.loop-place.list c.loop-place.end c.loop-place.place c.index-list-place.result c.index-list-place-in-Some.result c.in-Some.blocker c.loop-place-test.true i.inside c.index-list-place.is in
+    rw (← i.clauses, ← c.in-Some.is, c.index-list-place.is, ← c.watch.ensures.same) c.in_ok-blocker.ensures.visit in
+    let new = written c.loop-place.list c.loop-place.end c.loop-place.place c.index-list-place.result c.index-list-place-in-Some.result c.set_blocker.new.self c.in-Some.blocker c.loop-place-test.true i.inside c.index-list-place.is c.set_blocker.ensures in
     record {
       walks = λ floor n ns next served. rw new (turn-stays floor c.args.self.now.clauses.given c.args.trail.now.entries n c.args.gone (also ns (kept_of c.loop-place.self)) (take c.loop-place.end c.loop-place.list) c.loop-place.place c.index-list-place.result inside next
           (i.walks floor n ns next served) i.entries at (also ns (kept_of c.visit.new.self)) c.in-Some.blocker (IsVisit-also ns _ _ _ _ _ _ _ visit));
@@ -56,7 +56,7 @@ loop-place-preserved c =
     let i = c.loop-place.invariant in
     let at : At (take c.loop-place.end c.loop-place.list) c.loop-place.place c.index-list-place.result = read-at c.loop-place.list c.loop-place.end c.loop-place.place c.index-list-place.result c.loop-place-test.true i.inside c.index-list-place.is in
     let inside = code-inside (λ v. v.items) c.loop-place.self.lists.items c.args.trail.now.vars c.args.gone c.args.trail.now.entries c.requires.served.1 (i.lists ∙ c.requires.lists) c.requires.ordered.over c.requires.served.2 in
-    let visit : IsVisit c.args.self.now.clauses.given (literals c.args.trail.now.entries) c.args.gone c.index-list-place.result (kept_of c.loop-place.self) (kept_of c.visit.new.self) None = rw (← i.clauses, ← c.in-None.is) c.in_ok-blocker.ensures.visit in
+    let visit : IsVisit c.args.self.now.clauses.given (literals c.args.trail.now.entries) c.args.gone c.index-list-place.result (kept_of c.loop-place.self) (kept_of c.visit.new.self) None = rw (← i.clauses, ← c.in-None.is, c.index-list-place.is, ← c.watch.ensures.same) c.in_ok-blocker.ensures.visit in
     let ok = distinct-consistent (literals c.args.trail.now.entries) c.requires.ordered.distinct in
     let can = can-visit c.requires.served.0 c.args.self.now.clauses.given c.args.trail.now.entries c.requires.served.1 c.args.gone (also c.requires.served.3 (kept_of c.loop-place.self)) (take c.loop-place.end c.loop-place.list) c.loop-place.place c.index-list-place.result inside
     c.requires.served.2 (i.walks c.requires.served.0 c.requires.served.1 c.requires.served.3 c.requires.served.2 c.requires.served.4) i.entries at in
