@@ -1,7 +1,8 @@
 -- What bytes, numbers and lines behind others say.
 use Rattle.std.proofs.Common.{◌≡◌, ℕ, ◌+◌, ◌-◌, ◌/◌, ◌%◌, ◌^◌, ◌<◌, ◌≤◌, Bool, true, false, List, [], ◌∷◌, ◌++◌, length, refl, ap, sym, ◌∙◌, arith, nat_lt, nat_eq, lt-ltb, le-ltb, length-append}
 use Rattle.theory.specs.Learning.{Line}
-use Rattle.lines.specs.Rows.{Part, whole, with_bits, with_number, with_byte, with_bytes, row, IsBetween}
+use Rattle.std.proofs.lemmas.List.Elements.{All-push}
+use Rattle.lines.specs.Rows.{Part, whole, with_bits, with_number, with_byte, with_bytes, row, AreWithin, IsBetween}
 
 pub length-push : (lines : List Line) (l : Line) → length (lines ++ l ∷ []) ≡ length lines + 1
 length-push lines l = length-append lines (l ∷ [])
@@ -78,3 +79,10 @@ byte-ends p b = go (nat_lt b 128) refl
 pub lines-within : (p : Part) (bs : List ℕ) → length (with_bytes p bs).lines ≤ length p.lines + length bs
 lines-within p [] = omega arith
 lines-within p (b ∷ bs) = omega (arith, lines-within (with_byte p b) bs, byte-ends p b)
+
+-- one line more, where both bounds grow with it
+pub AreWithin-push : (literals hints more_literals more_hints : ℕ) (lines : List Line) (l : Line) → length l.clause ≤ more_literals → length l.hints ≤ more_hints
+    → literals ≤ more_literals → hints ≤ more_hints → AreWithin literals hints lines → AreWithin more_literals more_hints (lines ++ l ∷ [])
+AreWithin-push literals hints more_literals more_hints lines l clause_fits hints_fit more most all =
+    All-push (λ (m : Line). (length m.clause ≤ more_literals) × (length m.hints ≤ more_hints)) lines l
+    (λ i d inside. let old = all i d inside in let a = old.0 in let b = old.1 in (omega arith, omega arith)) (clause_fits, hints_fit)

@@ -1,6 +1,6 @@
 -- What the bytes of a row say: lines, one behind the other. A line is the numbers of its clause and a 0, then those of its hints and a 0.
 -- Source: numbers of seven bits a byte, as in the binary form of DRAT proofs (Wetzler, Heule, Hunt, SAT 2014), here with the highest bits first.
-use Rattle.std.specs.Prelude.{◌≡◌, ℕ, ◌+◌, ◌-◌, ◌*◌, ◌/◌, ◌%◌, ◌^◌, ◌≤◌, max, length, take, Bool, true, false, nat_eq, nat_lt, List, [], ◌∷◌, ◌++◌, if◌then◌else◌}
+use Rattle.std.specs.Prelude.{◌≡◌, ℕ, ◌+◌, ◌-◌, ◌*◌, ◌/◌, ◌%◌, ◌^◌, ◌≤◌, max, length, take, Bool, true, false, nat_eq, nat_lt, List, [], ◌∷◌, ◌++◌, All, if◌then◌else◌}
 use Rattle.theory.specs.Literals.{Literal, Clause}
 use Rattle.theory.specs.Learning.{Line}
 
@@ -69,6 +69,10 @@ IsBetween p = (p.value ≡ 0) × (p.begun ≡ false)
 -- the bytes are whole lines
 abbrev pub IsWhole : List ℕ → Type 0
 IsWhole bytes = row bytes ≡ whole (row bytes).lines
+
+-- no line has more literals, nor more hints
+abbrev pub AreWithin : ℕ → ℕ → List Line → Type 0
+AreWithin literals hints lines = All (λ l. (length l.clause ≤ literals) × (length l.hints ≤ hints)) lines
 
 -- how a literal is coded
 abbrev pub code : Literal → ℕ

@@ -17,6 +17,8 @@ pub struct Reader {
     bytes: Vec<u8>,
     // where the next line begins
     at: usize,
+    // how many lines are left
+    left: usize,
 }
 
 impl Model for Reader {
@@ -28,7 +30,8 @@ impl Model for Reader {
 
     ghost view = { λ a. (row (drop a.at a.bytes.items)).lines };
 
-    ghost invariant = { λ a. (a.at ≤ length a.bytes.items) × IsWhole (drop a.at a.bytes.items) };
+    ghost invariant = { λ a. (a.at ≤ length a.bytes.items) × IsWhole (drop a.at a.bytes.items)
+        × (a.left ≡ length (row (drop a.at a.bytes.items)).lines) };
 }
 
 /// A number, and the place behind its bytes.
@@ -136,10 +139,19 @@ impl Reader {
     pub fn of(row: Row) -> Reader
         ensures { result ≡ row }
     {
+        let left = row.len();
         Reader {
             bytes: row.into_bytes(),
             at: 0,
+            left,
         }
+    }
+
+    /// How many lines are still to be read.
+    pub fn len(&self) -> usize
+        ensures { result ≡ length self.now }
+    {
+        self.left
     }
 
     /// Reads the next line into two lists, which are cleared before; it answers whether there was one. It fails where a request for memory is
@@ -148,10 +160,11 @@ impl Reader {
         ensures line { IfOk result (λ more. IsNextOf self.old self.new (record { clause = clause.new.items; hints = hints.new.items }) more) }
         ensures refused { OnErr result (self.new ≡ self.old) }
     {
-        if self.at == self.bytes.len() {
+        if self.left == 0 {
             return Ok(false);
         }
         self.at = read_line(&self.bytes, self.at, clause, hints)?;
+        self.left -= 1;
         Ok(true)
     }
 }

@@ -1,5 +1,5 @@
 //! A row of lines.
-ghost use Rattle.std.specs.Prelude.{◌≡◌, ◌∷◌, ◌++◌, [], ◌↔◌, IsTrue, length, OnOk, OnErr};
+ghost use Rattle.std.specs.Prelude.{◌≡◌, ◌≤◌, ◌∷◌, ◌++◌, [], ◌↔◌, All, IsTrue, length, IfOk, OnOk, OnErr};
 ghost use Rattle.lines.specs.Rows.{row, IsWhole};
 
 use crate::line::push_line;
@@ -14,18 +14,23 @@ pub struct Row {
     bytes: Vec<u8>,
     // how many lines there are
     count: usize,
+    // the most literals that a line has
+    literals: usize,
+    // the most hints
+    hints: usize,
 }
 
 impl Model for Row {
     ghost use Rattle.std.specs.Prelude.{◌≡◌, List, length};
     ghost use Rattle.theory.specs.Learning.{Line};
-    ghost use Rattle.lines.specs.Rows.{row, IsWhole};
+    ghost use Rattle.lines.specs.Rows.{row, AreWithin, IsWhole};
 
     ghost Value = { List Line };
 
     ghost view = { λ a. (row a.bytes.items).lines };
 
-    ghost invariant = { λ a. IsWhole a.bytes.items × (a.count ≡ length (row a.bytes.items).lines) };
+    ghost invariant = { λ a. IsWhole a.bytes.items × (a.count ≡ length (row a.bytes.items).lines)
+        × AreWithin a.literals a.hints (row a.bytes.items).lines };
 }
 
 impl Row {
@@ -36,7 +41,21 @@ impl Row {
         Row {
             bytes: Vec::new(alloc),
             count: 0,
+            literals: 0,
+            hints: 0,
         }
+    }
+
+    /// The lines once more, in memory of just their size. It fails only where that is refused.
+    pub fn copied(&self) -> Result<Row, AllocError>
+        ensures { IfOk result (λ r. r ≡ self.now) }
+    {
+        Ok(Row {
+            bytes: Vec::from_slice(self.allocator(), &self.bytes)?,
+            count: self.count,
+            literals: self.literals,
+            hints: self.hints,
+        })
     }
 
     /// Puts a line behind the others. It fails where a request for memory is refused, and for a hint above 9,223,372,036,854,775,807, which
@@ -49,6 +68,8 @@ impl Row {
         match push_line(&mut self.bytes, clause, hints) {
             Ok(()) => {
                 self.count += 1;
+                self.literals = self.literals.max(clause.len());
+                self.hints = self.hints.max(hints.len());
                 Ok(())
             }
             Err(error) => {
@@ -56,6 +77,16 @@ impl Row {
                 Err(error)
             }
         }
+    }
+
+    /// Takes all lines out, and keeps the memory for others.
+    pub fn clear(&mut self)
+        ensures { self.new ≡ [] }
+    {
+        self.bytes.clear();
+        self.count = 0;
+        self.literals = 0;
+        self.hints = 0;
     }
 
     /// How many lines there are.
@@ -75,6 +106,25 @@ impl Row {
     /// How many bytes the lines take.
     pub fn size(&self) -> usize {
         self.bytes.len()
+    }
+
+    /// No line has more literals: it is the most that one had as it was pushed.
+    pub fn most_literals(&self) -> usize
+        ensures { All (λ l. length l.clause ≤ result) self.now }
+    {
+        self.literals
+    }
+
+    /// No line has more hints.
+    pub fn most_hints(&self) -> usize
+        ensures { All (λ l. length l.hints ≤ result) self.now }
+    {
+        self.hints
+    }
+
+    /// Where the lines' memory comes from.
+    pub fn allocator(&self) -> Global {
+        *self.bytes.allocator()
     }
 
     /// The bytes.
