@@ -90,7 +90,7 @@ IsBegun-restart order F Q old k ready went lawful over clauses_over = record {
 
 pub Begins-restart : (F : Formula) (Q : List Literal) (old : State) (s : OrderedSearch) → IsReady ByNumber F old → s.kernel ≡ record old { clauses = take old.first old.clauses; trail = cube_trail Q }
     → IsLawful s.kernel.clauses s.kernel.trail → IsOver s.kernel.vars (literals s.kernel.trail) → All (IsOver s.kernel.vars) s.kernel.clauses
-    → s.conflicts ≡ 0 → s.decided ≡ None → s.lines.items ≡ [] → Begins F Q s
+    → s.conflicts ≡ 0 → s.decided ≡ None → s.lines ≡ [] → Begins F Q s
 Begins-restart F Q old s ready went lawful over clauses_over counted decided learnt =
     let b = IsBegun-restart ByNumber F Q old s.kernel ready went lawful over clauses_over in
     record { ready = b.ready; searching = b.searching; begun = rw (b.clauses, b.trail, counted, decided, learnt) refl }

@@ -35,7 +35,7 @@ pub Begins-focused : (F : Formula) (Q : List Literal) (s t : FocusedSearch) (fre
     → t.decisions.scores ≡ record free.scores { scores = first_scores free.scores.constants (vars_of free.scores) } → length t.decisions.saved ≡ length free.saved → ((v : ℕ) → value t.decisions.saved v ≡ false)
     → t.kernel ≡ record s.kernel { clauses = take s.kernel.first s.kernel.clauses; trail = cube_trail Q }
     → IsLawful t.kernel.clauses t.kernel.trail → IsOver t.kernel.vars (literals t.kernel.trail) → All (IsOver t.kernel.vars) t.kernel.clauses
-    → t.conflicts ≡ 0 → t.lines.items ≡ [] → t.glues.items ≡ [] → t.averages ≡ first_averages s.averages.constants → t.schedule ≡ first_schedule s.constants → t.constants ≡ s.constants → t.analysis ≡ s.analysis
+    → t.conflicts ≡ 0 → t.lines ≡ [] → t.glues.items ≡ [] → t.averages ≡ first_averages s.averages.constants → t.schedule ≡ first_schedule s.constants → t.constants ≡ s.constants → t.analysis ≡ s.analysis
     → Begins F s.constants Q t
 Begins-focused F Q s t free e ready waiting kept scores long none went lawful over clauses_over counted lines glues averages schedule constants analysis = record {
   ready = b.ready;

@@ -19,7 +19,7 @@ use Rattle.theory.proofs.BestVariables.{best_outside-some}
 use Rattle.kernel.specs.State.{State}
 use Rattle.kernel.specs.declared.order.Order.TheVariants.{ByPlace}
 use Rattle.cdcl.specs.Outcome.{outcome_of}
-use Rattle.cdcl.specs.declared.outcome.Outcome.{Outcome}
+use Rattle.cdcl.specs.Outcome.{LinesOutcome}
 use Rattle.cdcl.specs.declared.focused.FocusedSearch.{FocusedSearch}
 use Rattle.cdcl.specs.declared.decisions.Decisions.{Decisions}
 use Rattle.cdcl.specs.Saving.{AreWaiting}
@@ -62,7 +62,7 @@ HasSaved-Propagates s k a saved vars closes h v variable free =
     h v (rw vars at variable) (free-before s.kernel.trail more.0 v (subst (λ (U : Trail). has_var (literals U) v ≡ false) more.1 free))
 
 -- a step from what propagation left
-pub step-from : {E : Type 0} (budget : ℕ) (s t : FocusedSearch) (k : State) (a : Closed) (r : Result (Option Outcome) E) → k.vars ≡ s.kernel.vars → k.clauses ≡ s.kernel.clauses
+pub step-from : {E : Type 0} (budget : ℕ) (s t : FocusedSearch) (k : State) (a : Closed) (r : Result (Option LinesOutcome) E) → k.vars ≡ s.kernel.vars → k.clauses ≡ s.kernel.clauses
     → Propagates by_place s.kernel.clauses s.kernel.trail a k.trail
     → IfOk r (λ o. (saved : Assignment) → HasSaved (record s { kernel = k }) saved → Follows budget a (record s { kernel = k }) saved o t)
     → IfOk r (λ o. (saved : Assignment) → HasSaved s saved → IsFocusedSearchStep budget s saved o t)
@@ -79,7 +79,7 @@ step-from budget s t k a (Ok o) vars clauses closes h = λ saved has.
         ap (λ (K : List Clause). definition.after s.constants s.kernel.vars budget (record (state_of (record s { kernel = k }) saved) { clauses = K }) a) (sym clauses)
         ∙ ap (λ V. definition.after s.constants V budget (state_of (record s { kernel = k }) saved) a) (sym vars)
 
-    onward : (o : Option Outcome) (values : Assignment) → Onward budget (record s { kernel = k }) o t values → Onward budget s o t values
+    onward : (o : Option LinesOutcome) (values : Assignment) → Onward budget (record s { kernel = k }) o t values → Onward budget s o t values
     onward (Some o) values i = tt
     onward None values i = record { saves = i.saves; focusing = i.focusing; counted = i.counted; moves = moves i.moves }
       where
@@ -90,13 +90,13 @@ step-from budget s t k a (Ok o) vars clauses closes h = λ saved has.
         moves (inl e) = inl e
         moves (inr m) = inr (m.0, let more = m.1 in let before = longer in omega arith)
 
-pub Continues-from : {E : Type 0} (s t : FocusedSearch) (k : State) (r : Result (Option Outcome) E) → (k.vars ≡ s.kernel.vars) × (k.clauses ≡ s.kernel.clauses) × (k.first ≡ s.kernel.first) × (k.order ≡ s.kernel.order)
+pub Continues-from : {E : Type 0} (s t : FocusedSearch) (k : State) (r : Result (Option LinesOutcome) E) → (k.vars ≡ s.kernel.vars) × (k.clauses ≡ s.kernel.clauses) × (k.first ≡ s.kernel.first) × (k.order ≡ s.kernel.order)
     → OnOk r (Continues (record s { kernel = k }) t) → OnOk r (Continues s t)
 Continues-from s t k (Err e) same h = tt
 Continues-from s t k (Ok o) same h = record { goes_on = rw (same.0, same.1, same.2, same.3) at h.goes_on; constants = h.constants; equipped = h.equipped }
 
 -- the model, where no variable is free
-pub Follows-model : (budget : ℕ) (s t : FocusedSearch) (saved : Assignment) (o : Outcome) → best_outside s.kernel.vars (literals s.kernel.trail) s.decisions.scores.scores ≡ None
+pub Follows-model : (budget : ℕ) (s t : FocusedSearch) (saved : Assignment) (o : LinesOutcome) → best_outside s.kernel.vars (literals s.kernel.trail) s.decisions.scores.scores ≡ None
     → outcome_of o ≡ model (values s.kernel.vars s.kernel.trail) → Follows budget quiet s saved (Some o) t
 Follows-model budget s t saved o none is = record {
   values = saved;
@@ -145,7 +145,7 @@ Follows-decided budget s t saved x f counted calm best has went lawful over clau
       clauses = s.kernel.clauses;
       trail = s.kernel.trail ++ e ∷ [];
       conflicts = u.conflicts;
-      lines = u.lines.items;
+      lines = u.lines;
       glues = u.glues.items;
       scores = s.decisions.scores.scores;
       saved = saved;
@@ -169,8 +169,8 @@ Follows-decided budget s t saved x f counted calm best has went lawful over clau
       equipped = equipped;
       scores = subst (λ (u : FocusedSearch). All (λ y. y ≤ u.conflicts * 2 ^ 40) t.decisions.scores.scores.scores) (sym is) (rw scores f.scores);
       total = subst (λ (u : FocusedSearch). u.averages.glues.total ≤ u.conflicts * 2 ^ 20) (sym is) f.total;
-      learnt = subst (λ (u : FocusedSearch). length t.kernel.clauses ≡ t.kernel.first + length u.lines.items) (sym is) (rw (clauses, ap (λ (k : State). k.first) went) f.learnt);
-      glues = subst (λ (u : FocusedSearch). length u.glues.items ≡ length u.lines.items) (sym is) f.glues;
+      learnt = subst (λ (u : FocusedSearch). length t.kernel.clauses ≡ t.kernel.first + length u.lines) (sym is) (rw (clauses, ap (λ (k : State). k.first) went) f.learnt);
+      glues = subst (λ (u : FocusedSearch). length u.glues.items ≡ length u.lines) (sym is) f.glues;
       plain = rw (vars, clauses, ap (λ (k : State). k.first) went) f.plain;
     }
       where
@@ -184,11 +184,11 @@ Follows-decided budget s t saved x f counted calm best has went lawful over clau
         }
 
 -- a conflict: at level 0, the last one of the budget, and another one
-pub Follows-refuted : (budget n : ℕ) (s t : FocusedSearch) (saved : Assignment) (o : Outcome) → current_level s.kernel.trail ≡ 0
-    → outcome_of o ≡ refuted (s.lines.items ++ learn s.kernel.clauses s.kernel.trail n ∷ []) → Follows budget (conflict n) s saved (Some o) t
+pub Follows-refuted : (budget n : ℕ) (s t : FocusedSearch) (saved : Assignment) (o : LinesOutcome) → current_level s.kernel.trail ≡ 0
+    → outcome_of o ≡ refuted (s.lines ++ learn s.kernel.clauses s.kernel.trail n ∷ []) → Follows budget (conflict n) s saved (Some o) t
 Follows-refuted budget n s t saved o low is = record { values = saved; next = rw low (ap ends (sym is)); onward = tt }
 
-pub Follows-exhausted : (budget n : ℕ) (s t : FocusedSearch) (saved : Assignment) (x : ℕ) (o : Outcome) → nat_eq (current_level s.kernel.trail) 0 ≡ false → s.conflicts + 1 ≡ budget
+pub Follows-exhausted : (budget n : ℕ) (s t : FocusedSearch) (saved : Assignment) (x : ℕ) (o : LinesOutcome) → nat_eq (current_level s.kernel.trail) 0 ≡ false → s.conflicts + 1 ≡ budget
     → x ≡ splits_on s.kernel.vars (state_of s saved) → outcome_of o ≡ exhausted x → Follows budget (conflict n) s saved (Some o) t
 Follows-exhausted budget n s t saved x o above last splits is = record {
   values = saved;
@@ -241,7 +241,7 @@ LeadsTo-step budget s t u constants vars leads step saved h =
     let w = step l.0 l.1 in
     (w.values, w.onward.saves, λ o runs. l.2 o (steps (rw (constants, vars) at w.step) runs))
 
-pub LeadsTo-ends : (budget : ℕ) (s t u : FocusedSearch) (o : Outcome) → t.constants ≡ s.constants → t.kernel.vars ≡ s.kernel.vars → LeadsTo budget s t
+pub LeadsTo-ends : (budget : ℕ) (s t u : FocusedSearch) (o : LinesOutcome) → t.constants ≡ s.constants → t.kernel.vars ≡ s.kernel.vars → LeadsTo budget s t
     → ((saved : Assignment) → HasSaved t saved → IsFocusedSearchStep budget t saved (Some o) u)
     → (saved : Assignment) → HasSaved s saved → RunsFrom (IsFocusedStep s.constants s.kernel.vars budget) (state_of s saved) (outcome_of o)
 LeadsTo-ends budget s t u o constants vars leads step saved h =

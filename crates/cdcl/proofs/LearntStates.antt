@@ -59,7 +59,7 @@ pub record IsLearning (s : FocusedSearch) (n : ℕ) (t : FocusedSearch) : Type 0
   }
   pub scheduled : t.schedule ≡ (if is_due s.schedule (s.conflicts + 1) then rescheduled s.constants (s.conflicts + 1) s.schedule else s.schedule)
   pub counted : t.conflicts ≡ s.conflicts + 1
-  pub lines : t.lines.items ≡ s.lines.items ++ record { clause = clause; hints = hints } ∷ []
+  pub lines : t.lines ≡ s.lines ++ record { clause = clause; hints = hints } ∷ []
   pub glues : t.glues.items ≡ s.glues.items ++ g ∷ []
   pub constants : t.constants ≡ s.constants
   pub bounds : (t.analysis.seen.bound ≡ s.analysis.seen.bound) × (t.analysis.levels.bound ≡ s.analysis.levels.bound)
@@ -99,7 +99,7 @@ module _ (s : FocusedSearch) (n : ℕ) (t : FocusedSearch) (f : IsFocusing s) (l
     clauses = (if is_due s.schedule (s.conflicts + 1) then forget_half s.constants (up_to s.kernel.trail (if r then 0 else level)) s.glues.items s.kernel.clauses else s.kernel.clauses) ++ line.clause ∷ [];
     trail = up_to s.kernel.trail (if r then 0 else level);
     conflicts = s.conflicts + 1;
-    lines = s.lines.items ++ line ∷ [];
+    lines = s.lines ++ line ∷ [];
     glues = s.glues.items ++ g ∷ [];
     scores = scores;
     saved = saved;
@@ -237,8 +237,8 @@ module _ (s : FocusedSearch) (n : ℕ) (t : FocusedSearch) (f : IsFocusing s) (l
     equipped = equipped;
     scores = rw l.kept.scores (subst (λ b. All (λ x. x ≤ b) l.middle.scores.scores.scores) more-scores (l.gained_most (s.conflicts * 2 ^ 40) f.scores));
     total = let a = total-is in let b = f.total in let g = l.few in let v = f.few in let c = l.counted in omega arith;
-    learnt = let a = many in let b = first-is in let c = f.learnt in let d = ap length l.lines in let e = length-append s.lines.items (record { clause = l.clause; hints = l.hints } ∷ []) in omega arith;
-    glues = let a = ap length l.glues in let b = length-append s.glues.items (l.g ∷ []) in let c = f.glues in let d = ap length l.lines in let e = length-append s.lines.items (record { clause = l.clause; hints = l.hints } ∷ []) in omega arith;
+    learnt = let a = many in let b = first-is in let c = f.learnt in let d = ap length l.lines in let e = length-append s.lines (record { clause = l.clause; hints = l.hints } ∷ []) in omega arith;
+    glues = let a = ap length l.glues in let b = length-append s.glues.items (l.g ∷ []) in let c = f.glues in let d = ap length l.lines in let e = length-append s.lines (record { clause = l.clause; hints = l.hints } ∷ []) in omega arith;
     plain = rw (vars-is, first-is) (holds (λ K. All (IsPlain s.kernel.vars) (drop s.kernel.first K)) plain-all (AllPlain-forget s.kernel.vars ns 1 s.kernel.first all plain-all));
   }
 

@@ -9,7 +9,7 @@ use Rattle.theory.specs.Ordered.{IsOrderedStep}
 use Rattle.theory.specs.Focused.{FocusedState, IsFocusedStep}
 use Rattle.theory.specs.Results.{OutcomeSays}
 use Rattle.kernel.specs.declared.order.Order.TheVariants.{ByNumber, ByPlace}
-use Rattle.cdcl.specs.declared.outcome.Outcome.{Outcome}
+use Rattle.cdcl.specs.Outcome.{LinesOutcome}
 use Rattle.cdcl.specs.declared.ordered.OrderedSearch.{OrderedSearch}
 use Rattle.cdcl.specs.declared.focused.FocusedSearch.{FocusedSearch}
 use Rattle.cdcl.specs.declared.searcher.Searcher.TheVariants.{Ordered, Focused}
@@ -22,7 +22,7 @@ use Rattle.cdcl.specs.Solving.{IsReadyBy}
 use Rattle.cdcl.proofs.Beginnings.{Begins-runs, Begins-says, IsBegun-says}
 
 -- by the ordered search
-pub says-ordered : {E : Type 0} (Q : List Literal) (budget : ℕ) (s begun : OrderedSearch) (r : Result Outcome E) → ((F : Formula) → IsReady ByNumber F s.kernel → ordered_search.Begins F Q begun)
+pub says-ordered : {E : Type 0} (Q : List Literal) (budget : ℕ) (s begun : OrderedSearch) (r : Result LinesOutcome E) → ((F : Formula) → IsReady ByNumber F s.kernel → ordered_search.Begins F Q begun)
     → IfOk r (λ o. RunsFrom (IsOrderedStep begun.kernel.vars budget) (search_of begun) (outcome_of o))
     → IfOk r (λ o. (F : Formula) (plan : Plan) → IsReadyBy plan.search F (Ordered s) → budget ≡ budget_of plan.budget Q → IsOver F.vars Q → OutcomeSays plan.search F Q (outcome_of o))
 says-ordered Q budget s begun (Err e) begins runs = tt
@@ -36,7 +36,7 @@ says-ordered Q budget s begun (Ok o) begins runs = λ F plan. go F plan.search p
         (Begins-runs F (record { search = ordered; budget = B }) Q begun (outcome_of o) refl b (subst (λ n. RunsFrom (IsOrderedStep begun.kernel.vars n) (search_of begun) (outcome_of o)) is runs))
 
 -- by the focused search
-pub says-focused : {E : Type 0} (Q : List Literal) (budget : ℕ) (s begun : FocusedSearch) (r : Result Outcome E) → ((F : Formula) → IsReady ByPlace F s.kernel → focused_search.Begins F s.constants Q begun)
+pub says-focused : {E : Type 0} (Q : List Literal) (budget : ℕ) (s begun : FocusedSearch) (r : Result LinesOutcome E) → ((F : Formula) → IsReady ByPlace F s.kernel → focused_search.Begins F s.constants Q begun)
     → IfOk r (λ o. (saved : Assignment) → HasSaved begun saved → RunsFrom (IsFocusedStep begun.constants begun.kernel.vars budget) (state_of begun saved) (outcome_of o))
     → IfOk r (λ o. (F : Formula) (plan : Plan) → IsReadyBy plan.search F (Focused s) → budget ≡ budget_of plan.budget Q → IsOver F.vars Q → OutcomeSays plan.search F Q (outcome_of o))
 says-focused Q budget s begun (Err e) begins runs = tt

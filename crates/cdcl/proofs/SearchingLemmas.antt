@@ -20,7 +20,7 @@ use Rattle.kernel.specs.Rules.{rule_of}
 use Rattle.kernel.specs.declared.order.Order.{Order}
 use Rattle.kernel.specs.declared.order.Order.TheVariants.{ByNumber, ByPlace}
 use Rattle.cdcl.specs.Searching.{IsSearching, IsSearchStep, GoesOn, search_of, next_of}
-use Rattle.cdcl.specs.declared.outcome.Outcome.{Outcome}
+use Rattle.cdcl.specs.Outcome.{LinesOutcome}
 use Rattle.cdcl.specs.declared.ordered.OrderedSearch.{OrderedSearch}
 
 -- propagation keeps it
@@ -55,7 +55,7 @@ may_learn order k l c level n h above clash clause back went =
     (IsOver-learn k.vars k.clauses k.trail n h.lawful h.trail_over clash, IsLearnable-learn k.clauses k.trail n h.lawful h.open_below above clash)
 
 -- a step from what propagation left
-pub IsSearchStep-from : {E : Type 0} (budget : ℕ) (old new middle : OrderedSearch) (a : Closed) (r : Result (Option Outcome) E) → Propagates by_number old.kernel.clauses old.kernel.trail a middle.kernel.trail
+pub IsSearchStep-from : {E : Type 0} (budget : ℕ) (old new middle : OrderedSearch) (a : Closed) (r : Result (Option LinesOutcome) E) → Propagates by_number old.kernel.clauses old.kernel.trail a middle.kernel.trail
     → (middle.kernel.vars ≡ old.kernel.vars) × (middle.kernel.clauses ≡ old.kernel.clauses) × (middle.kernel.first ≡ old.kernel.first) × (middle.kernel.order ≡ old.kernel.order)
     → search_of middle ≡ record (search_of old) { trail = middle.kernel.trail }
     → IfOk r (λ o. after middle.kernel.vars budget (search_of middle) a ≡ next_of o new) → OnOk r (GoesOn middle.kernel new.kernel) → IfOk r (λ o. IsSearchStep budget old o new)

@@ -18,12 +18,12 @@ use Rattle.kernel.specs.State.{State}
 use Rattle.kernel.specs.declared.order.Order.TheVariants.{ByNumber}
 use Rattle.cdcl.specs.Outcome.{outcome_of}
 use Rattle.cdcl.specs.Searching.{IsSearching, IsSearchStep, GoesOn, search_of}
-use Rattle.cdcl.specs.declared.outcome.Outcome.{Outcome}
+use Rattle.cdcl.specs.Outcome.{LinesOutcome}
 use Rattle.cdcl.specs.declared.ordered.OrderedSearch.{OrderedSearch}
 use Rattle.cdcl.proofs.Progress.{Progresses, after-Progresses, length-Propagates, remaining}
 
 -- a step that ends
-pub IsSearchStep-ends : (V budget : ℕ) (s t : OrderedSearch) (o : Outcome) → s.kernel.vars ≡ V → IsSearchStep budget s (Some o) t → RunsFrom (IsOrderedStep V budget) (search_of s) (outcome_of o)
+pub IsSearchStep-ends : (V budget : ℕ) (s t : OrderedSearch) (o : LinesOutcome) → s.kernel.vars ≡ V → IsSearchStep budget s (Some o) t → RunsFrom (IsOrderedStep V budget) (search_of s) (outcome_of o)
 IsSearchStep-ends V budget s t o vars step = stops (rw vars at step.step)
 
 -- a step to the state t

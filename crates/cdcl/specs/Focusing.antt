@@ -12,10 +12,9 @@ use Rattle.theory.specs.Focused as definition
 use Rattle.theory.specs.Focused.{FocusedState, IsFocusedStep, learnt_next, saved_after}
 use Rattle.kernel.specs.State.{State}
 use Rattle.kernel.specs.declared.order.Order.TheVariants.{ByPlace}
-use Rattle.cdcl.specs.declared.outcome.Outcome.{Outcome}
 use Rattle.cdcl.specs.declared.focused.FocusedSearch.{FocusedSearch}
 use Rattle.cdcl.specs.Forgetful.{IsPlain}
-use Rattle.cdcl.specs.Outcome.{outcome_of}
+use Rattle.cdcl.specs.Outcome.{LinesOutcome, outcome_of}
 use Rattle.cdcl.specs.Saving.{AgreeOutside, AreWaiting}
 use Rattle.cdcl.specs.Searching.{IsReady, IsSearching, GoesOn}
 
@@ -25,7 +24,7 @@ state_of s saved = record {
   clauses = s.kernel.clauses;
   trail = s.kernel.trail;
   conflicts = s.conflicts;
-  lines = s.lines.items;
+  lines = s.lines;
   glues = s.glues.items;
   scores = s.decisions.scores.scores;
   saved = saved;
@@ -55,8 +54,8 @@ pub record IsFocusing (s : FocusedSearch) : Type 0 where
   pub scores : All (λ x. x ≤ s.conflicts * 2 ^ 40) s.decisions.scores.scores.scores
   pub total : s.averages.glues.total ≤ s.conflicts * 2 ^ 20
   -- behind the first clauses stand those of the lines, each with its glue
-  pub learnt : length s.kernel.clauses ≡ s.kernel.first + length s.lines.items
-  pub glues : length s.glues.items ≡ length s.lines.items
+  pub learnt : length s.kernel.clauses ≡ s.kernel.first + length s.lines
+  pub glues : length s.glues.items ≡ length s.lines
   pub plain : All (IsPlain s.kernel.vars) (drop s.kernel.first s.kernel.clauses)
 
 -- the clause and the level are those that the conflict with clause n teaches, above level 0
@@ -90,7 +89,7 @@ pub record Learns (old : FocusedSearch) (saved : Assignment) (n : ℕ) (new : Fo
 
 -- what follows where a step ended with an outcome, or with none left the state with these saved
 -- values
-abbrev pub next_of : Option Outcome → FocusedSearch → Assignment → Next FocusedState
+abbrev pub next_of : Option LinesOutcome → FocusedSearch → Assignment → Next FocusedState
 next_of (Some o) s saved = ends (outcome_of o)
 next_of None s saved = goes_on (state_of s saved)
 
@@ -101,18 +100,18 @@ pub record GoesOnward (budget : ℕ) (old new : FocusedSearch) (saved : Assignme
   pub counted : new.conflicts < budget
   pub moves : (new.conflicts ≡ old.conflicts + 1) ⊎ ((new.conflicts ≡ old.conflicts) × (length old.kernel.trail < length new.kernel.trail))
 
-abbrev pub Onward : ℕ → FocusedSearch → Option Outcome → FocusedSearch → Assignment → Type 0
+abbrev pub Onward : ℕ → FocusedSearch → Option LinesOutcome → FocusedSearch → Assignment → Type 0
 Onward budget old (Some o) new saved = Unit {0}
 Onward budget old None new saved = GoesOnward budget old new saved
 
 -- what follows an answer of propagation, where the definition has these saved values
-pub record Follows (budget : ℕ) (a : Closed) (old : FocusedSearch) (saved : Assignment) (r : Option Outcome) (new : FocusedSearch) : Type 0 where
+pub record Follows (budget : ℕ) (a : Closed) (old : FocusedSearch) (saved : Assignment) (r : Option LinesOutcome) (new : FocusedSearch) : Type 0 where
   pub values : Assignment
   pub next : definition.after old.constants old.kernel.vars budget (state_of old saved) a ≡ next_of r new values
   pub onward : Onward budget old r new values
 
 -- a step of the definition
-pub record IsFocusedSearchStep (budget : ℕ) (old : FocusedSearch) (saved : Assignment) (r : Option Outcome) (new : FocusedSearch) : Type 0 where
+pub record IsFocusedSearchStep (budget : ℕ) (old : FocusedSearch) (saved : Assignment) (r : Option LinesOutcome) (new : FocusedSearch) : Type 0 where
   pub values : Assignment
   pub step : IsFocusedStep old.constants old.kernel.vars budget (state_of old saved) (next_of r new values)
   pub onward : Onward budget old r new values

@@ -11,12 +11,11 @@ use Rattle.theory.specs.Ordered.{OrderedState, IsOrderedStep, begin}
 use Rattle.kernel.specs.State.{State}
 use Rattle.kernel.specs.declared.order.Order.{Order}
 use Rattle.kernel.specs.declared.order.Order.TheVariants.{ByNumber}
-use Rattle.cdcl.specs.declared.outcome.Outcome.{Outcome}
 use Rattle.cdcl.specs.declared.ordered.OrderedSearch.{OrderedSearch}
-use Rattle.cdcl.specs.Outcome.{outcome_of}
+use Rattle.cdcl.specs.Outcome.{LinesOutcome, outcome_of}
 
 abbrev pub search_of : OrderedSearch → OrderedState
-search_of s = record { clauses = s.kernel.clauses; trail = s.kernel.trail; conflicts = s.conflicts; decided = s.decided; lines = s.lines.items }
+search_of s = record { clauses = s.kernel.clauses; trail = s.kernel.trail; conflicts = s.conflicts; decided = s.decided; lines = s.lines }
 
 -- the kernel, which propagates in this order, may go over to a cube of the formula
 pub record IsReady (order : Order) (F : Formula) (k : State) : Type 0 where
@@ -51,11 +50,11 @@ pub record Begins (F : Formula) (Q : List Literal) (s : OrderedSearch) : Type 0 
   pub begun : search_of s ≡ begin F Q
 
 -- what follows where a step ended with an outcome, or with none left the state
-abbrev pub next_of : Option Outcome → OrderedSearch → Next OrderedState
+abbrev pub next_of : Option LinesOutcome → OrderedSearch → Next OrderedState
 next_of (Some o) s = ends (outcome_of o)
 next_of None s = goes_on (search_of s)
 
 -- a step of the definition, and the kernel goes on
-pub record IsSearchStep (budget : ℕ) (old : OrderedSearch) (r : Option Outcome) (new : OrderedSearch) : Type 0 where
+pub record IsSearchStep (budget : ℕ) (old : OrderedSearch) (r : Option LinesOutcome) (new : OrderedSearch) : Type 0 where
   pub step : IsOrderedStep old.kernel.vars budget (search_of old) (next_of r new)
   pub goes_on : GoesOn old.kernel new.kernel

@@ -13,7 +13,7 @@ use cnf::Lit;
 use kernel::{Entry, Kernel};
 use std::alloc::{AllocError, Global};
 
-/// What a conflict teaches.
+/// What a conflict teaches. It takes up one conflict after the other, and so keeps its memory.
 #[derive(Drop)]
 pub struct Learnt {
     /// The learnt clause, by rising variable.
@@ -22,6 +22,17 @@ pub struct Learnt {
     pub hints: Vec<u64>,
     /// The level to go back to.
     pub level: u32,
+}
+
+impl Learnt {
+    /// Nothing yet. It takes no memory.
+    pub(crate) fn none(alloc: Global) -> Learnt {
+        Learnt {
+            clause: Vec::new(alloc),
+            hints: Vec::new(alloc),
+            level: 0,
+        }
+    }
 }
 
 /// The set of a conflict's literals.
@@ -111,56 +122,53 @@ fn keep_marked(seen: &mut Vec<u32>, marked: &[bool])
     seen.truncate(kept);
 }
 
-/// The literals of the set without those of the cube. It leaves no mark. Most variables that were seen were resolved away again, so they go before the
+/// The literals of the set without those of the cube, in place of the clause there. It leaves no mark. Most variables that were seen were resolved away again, so they go before the
 /// others are sorted.
-fn take_clause(alloc: Global, kernel: &Kernel, marks: &mut Marks) -> Result<Vec<Lit>, AllocError>
+fn take_clause(kernel: &Kernel, marks: &mut Marks, clause: &mut Vec<Lit>) -> Result<(), AllocError>
     requires long { kernel.now.vars < length marks.old.marked.items }
     requires seen { All (λ v. v ≤ kernel.now.vars) marks.old.seen.items }
     requires done { marks.old.pending ≡ [] }
-    ensures clause { IfOk result (λ c. (S : Clause) → (bound : ℕ) → IsSet kernel.now S bound marks.old
-        → c.items ≡ filter (λ l. not (is_of_cube kernel.now.trail l)) S) }
+    ensures clause { OnOk result ((S : Clause) → (bound : ℕ) → IsSet kernel.now S bound marks.old
+        → clause.new.items ≡ filter (λ l. not (is_of_cube kernel.now.trail l)) S) }
     ensures clear { OnOk result ((S : Clause) → (bound : ℕ) → IsSet kernel.now S bound marks.old → IsClear marks.new) }
 {
     let _trail = kernel.trail(); // it ensures what the proof needs of the trail
     keep_marked(&mut marks.seen, &marks.marked);
     marks.seen.sort_unstable();
-    let mut clause = Vec::new(alloc);
+    clause.clear();
     for at in 0..marks.seen.len() {
         let var = marks.seen[at];
         if marks.marked[var as usize] {
             marks.marked[var as usize] = false;
-            put_negation(kernel, &mut clause, var)?;
+            put_negation(kernel, clause, var)?;
         }
     }
     marks.seen.clear();
     marks.current = 0;
-    Ok(clause)
+    Ok(())
 }
 
-/// What `analyze` answers, in room that is used again.
+/// What `analyze` answers, in room and in lists that are used again.
 pub(crate) fn analyze_in(
-    alloc: Global,
     kernel: &Kernel,
     room: &mut Room,
     conflict: u64,
-) -> Result<Learnt, AllocError>
+    learnt: &mut Learnt,
+) -> Result<(), AllocError>
     requires { least_false (literals kernel.now.trail) kernel.now.clauses ≡ Some conflict }
-    ensures line { IfOk result (λ r. line_of r ≡ learn kernel.now.clauses kernel.now.trail conflict) }
-    ensures level { IfOk result (λ r. r.level ≡ back_level kernel.now.trail (learn kernel.now.clauses kernel.now.trail conflict).clause) }
+    ensures line { OnOk result (line_of learnt.new ≡ learn kernel.now.clauses kernel.now.trail conflict) }
+    ensures level { OnOk result (learnt.new.level ≡ back_level kernel.now.trail (learn kernel.now.clauses kernel.now.trail conflict).clause) }
 {
+    let alloc = *learnt.clause.allocator();
     let mut marks = marks_of(alloc, kernel, room, conflict)?;
-    let mut hints = Vec::new(alloc);
-    hints.push(conflict)?;
-    walk(kernel, &mut marks, &mut hints, conflict)?;
-    hints.reverse();
-    let clause = take_clause(alloc, kernel, &mut marks)?;
+    learnt.hints.clear();
+    learnt.hints.push(conflict)?;
+    walk(kernel, &mut marks, &mut learnt.hints, conflict)?;
+    learnt.hints.reverse();
+    take_clause(kernel, &mut marks, &mut learnt.clause)?;
     room.put_back(marks);
-    let level = back_level(kernel, &clause);
-    Ok(Learnt {
-        clause,
-        hints,
-        level,
-    })
+    learnt.level = back_level(kernel, &learnt.clause);
+    Ok(())
 }
 
 /// The line that the conflict with the clause of this number teaches, and the level to go back to. The last `close` answered this
@@ -172,5 +180,7 @@ pub fn analyze(alloc: Global, kernel: &Kernel, conflict: u64) -> Result<Learnt, 
     ensures line { IfOk result (λ r. line_of r ≡ learn kernel.now.clauses kernel.now.trail conflict) }
     ensures level { IfOk result (λ r. r.level ≡ back_level kernel.now.trail (learn kernel.now.clauses kernel.now.trail conflict).clause) }
 {
-    analyze_in(alloc, kernel, &mut Room::new(), conflict)
+    let mut learnt = Learnt::none(alloc);
+    analyze_in(kernel, &mut Room::new(), conflict, &mut learnt)?;
+    Ok(learnt)
 }

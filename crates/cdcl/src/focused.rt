@@ -20,11 +20,12 @@ use crate::counts::{Counts, Watcher, tell};
 use crate::decisions::{Decisions, count_up_to};
 use crate::forgetting::candidates;
 use crate::lesson::Analysis;
-use crate::outcome::{Line, Outcome};
+use crate::outcome::Outcome;
 use crate::values::{refute, values};
 use cnf::Formula;
 use heuristics::{Constants, Glues, Schedule, last_half};
 use kernel::{Closed, Cube, Kernel, Order};
+use lines::Row;
 use std::alloc::{AllocError, Global};
 
 /// The state of a search.
@@ -34,7 +35,7 @@ pub(crate) struct FocusedSearch {
     /// How many conflicts above level 0 were counted.
     pub(crate) conflicts: u32,
     /// The lines learnt, also those of clauses that were forgotten.
-    pub(crate) lines: Vec<Line>,
+    pub(crate) lines: Row,
     /// The glues of these lines.
     pub(crate) glues: Vec<u32>,
     /// By what variables are decided.
@@ -155,7 +156,7 @@ impl FocusedSearch {
             constants,
             kernel,
             conflicts: 0,
-            lines: Vec::new(alloc),
+            lines: Row::new(alloc),
             glues: Vec::new(alloc),
             decisions,
             averages: Glues::open(alloc, constants)?,
@@ -192,7 +193,7 @@ impl FocusedSearch {
         &mut self,
         budget: u32,
         watcher: &W,
-    ) -> Result<Outcome, AllocError>
+    ) -> Result<Outcome<Row>, AllocError>
         requires focusing { IsFocusing self.old }
         requires counted { (self.old.conflicts < budget) × (budget ≤ max_budget) }
         ensures runs { IfOk result (λ o. (saved : Assignment) → HasSaved self.old saved →
@@ -209,7 +210,7 @@ impl FocusedSearch {
     }
 
     /// Propagation and what follows its answer.
-    fn step(&mut self, budget: u32) -> Result<Option<Outcome>, AllocError>
+    fn step(&mut self, budget: u32) -> Result<Option<Outcome<Row>>, AllocError>
         requires focusing { IsFocusing self.old }
         requires counted { (self.old.conflicts < budget) × (budget ≤ max_budget) }
         ensures step { IfOk result (λ r. (saved : Assignment) → HasSaved self.old saved → IsFocusedSearchStep budget self.old saved r self.new) }
@@ -223,7 +224,7 @@ impl FocusedSearch {
 
     /// Where propagation came to rest: decides the free variable of greatest score, or gives the
     /// model where none is free.
-    fn on_quiet(&mut self) -> Result<Option<Outcome>, AllocError>
+    fn on_quiet(&mut self) -> Result<Option<Outcome<Row>>, AllocError>
         requires focusing { IsFocusing self.old }
         requires quiet { Propagates by_place self.old.kernel.clauses self.old.kernel.trail quiet self.old.kernel.trail }
         ensures next { IfOk result (λ r. (saved : Assignment) (budget : ℕ) → self.old.conflicts < budget → HasSaved self.old saved → Follows budget quiet self.old saved r self.new) }
@@ -231,7 +232,7 @@ impl FocusedSearch {
     {
         match self.decisions.best_free(&self.kernel) {
             None => {
-                let alloc = *self.lines.allocator();
+                let alloc = self.lines.allocator();
                 Ok(Some(Outcome::Model(values(alloc, &self.kernel)?)))
             }
             Some(var) => {
@@ -243,7 +244,7 @@ impl FocusedSearch {
     }
 
     /// A conflict above level 0 is counted; the last one that the budget allows exhausts the cube.
-    fn on_conflict(&mut self, number: u64, budget: u32) -> Result<Option<Outcome>, AllocError>
+    fn on_conflict(&mut self, number: u64, budget: u32) -> Result<Option<Outcome<Row>>, AllocError>
         requires focusing { IsFocusing self.old }
         requires conflict { least_false (literals self.old.kernel.trail) self.old.kernel.clauses ≡ Some number }
         requires counted { (self.old.conflicts < budget) × (budget ≤ max_budget) }
@@ -254,6 +255,7 @@ impl FocusedSearch {
             return Ok(Some(refute(
                 &self.kernel,
                 &mut self.analysis.room,
+                &mut self.analysis.learnt,
                 &mut self.lines,
                 number,
             )?));
@@ -288,22 +290,21 @@ impl FocusedSearch {
         ensures next { OnOk result ((saved : Assignment) → HasSaved self.old saved → Learns self.old saved number self.new) }
         ensures kept { OnOk result (Continues self.old self.new) }
     {
-        let alloc = *self.lines.allocator();
-        let lesson = self.analysis.lesson(alloc, &self.kernel, number)?;
+        let glue = self.analysis.lesson(&self.kernel, number)?;
         self.decisions.scores.learn_from(self.analysis.seen.list())?;
         self.conflicts += 1;
-        let restarts = self.averages.take_glue(lesson.glue, self.conflicts);
+        let restarts = self.averages.take_glue(glue, self.conflicts);
         let last = go_back(
             &mut self.kernel,
             &mut self.decisions,
-            &lesson.learnt,
+            &self.analysis.learnt,
             restarts,
         )?;
         self.forget_where_due(last)?;
         let _trail = self.kernel.trail(); // it ensures what the proof needs of the kernel
-        self.lines
-            .push(Line::new(lesson.learnt.clause, lesson.learnt.hints))?;
-        self.glues.push(lesson.glue)?;
+        let learnt = &self.analysis.learnt;
+        self.lines.push(&learnt.clause, &learnt.hints)?;
+        self.glues.push(glue)?;
         Ok(())
     }
 

@@ -16,16 +16,11 @@ use crate::seen::see_clauses;
 use kernel::Kernel;
 use std::alloc::{AllocError, Global};
 
-/// The line that a conflict teaches, and the glue of its clause.
-#[derive(Drop)]
-pub(crate) struct Lesson {
-    pub(crate) learnt: Learnt,
-    pub(crate) glue: u32,
-}
-
-/// Room for the analysis of conflicts.
+/// Analysis of one conflict after the other, in memory that is used again.
 pub(crate) struct Analysis {
     pub(crate) room: Room,
+    /// What the last conflict teaches.
+    pub(crate) learnt: Learnt,
     /// The variables that the last conflict has seen.
     pub(crate) seen: Numbers,
     /// The levels of the clause that was learnt last.
@@ -37,6 +32,7 @@ impl Drop for Analysis {
     fn drop(self) {
         let Analysis {
             room: _,
+            learnt: _,
             seen: _,
             levels: _,
         } = self;
@@ -52,33 +48,30 @@ impl Analysis {
         let bound = vars as usize + 1;
         Ok(Analysis {
             room: Room::new(),
+            learnt: Learnt::none(alloc),
             seen: Numbers::with_room(alloc, bound)?,
             levels: Numbers::with_room(alloc, bound)?,
         })
     }
 
-    /// What the conflict with the clause of this number teaches, and which variables it has seen.
-    pub(crate) fn lesson(
-        &mut self,
-        alloc: Global,
-        kernel: &Kernel,
-        conflict: u64,
-    ) -> Result<Lesson, AllocError>
+    /// Takes up what the conflict with the clause of this number teaches, and which variables it
+    /// has seen; gives the glue of the learnt clause.
+    pub(crate) fn lesson(&mut self, kernel: &Kernel, conflict: u64) -> Result<u32, AllocError>
         requires conflict { least_false (literals kernel.now.trail) kernel.now.clauses ≡ Some conflict }
         requires seen { kernel.now.vars < self.old.seen.bound }
         requires levels { kernel.now.vars < self.old.levels.bound }
-        ensures line { IfOk result (λ r. line_of r.learnt ≡ learn kernel.now.clauses kernel.now.trail conflict) }
-        ensures level { IfOk result (λ r. r.learnt.level ≡ back_level kernel.now.trail (learn kernel.now.clauses kernel.now.trail conflict).clause) }
-        ensures glue { IfOk result (λ r. r.glue ≡ glue kernel.now.trail (learn kernel.now.clauses kernel.now.trail conflict).clause) }
-        ensures few { IfOk result (λ r. r.glue ≤ kernel.now.vars) }
+        ensures line { OnOk result (line_of self.new.learnt ≡ learn kernel.now.clauses kernel.now.trail conflict) }
+        ensures level { OnOk result (self.new.learnt.level ≡ back_level kernel.now.trail (learn kernel.now.clauses kernel.now.trail conflict).clause) }
+        ensures glue { IfOk result (λ g. g ≡ glue kernel.now.trail (learn kernel.now.clauses kernel.now.trail conflict).clause) }
+        ensures few { IfOk result (λ g. g ≤ kernel.now.vars) }
         ensures seen { OnOk result ((v : ℕ) → is_one_of self.new.seen.numbers v
             ≡ is_seen kernel.now.clauses kernel.now.trail (learn kernel.now.clauses kernel.now.trail conflict).hints v) }
         ensures bounds { (self.new.seen.bound ≡ self.old.seen.bound) × (self.new.levels.bound ≡ self.old.levels.bound) }
     {
         let _trail = kernel.trail(); // it ensures what the proof needs of the hints
-        let learnt = analyze_in(alloc, kernel, &mut self.room, conflict)?;
-        see_clauses(kernel, &mut self.seen, &learnt.hints)?;
-        let glue = glue(kernel, &mut self.levels, &learnt.clause)?;
-        Ok(Lesson { learnt, glue })
+        analyze_in(kernel, &mut self.room, conflict, &mut self.learnt)?;
+        see_clauses(kernel, &mut self.seen, &self.learnt.hints)?;
+        let glue = glue(kernel, &mut self.levels, &self.learnt.clause)?;
+        Ok(glue)
     }
 }

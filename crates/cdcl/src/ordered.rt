@@ -12,13 +12,14 @@ ghost use Rattle.kernel.specs.declared.order.Order.TheVariants.{ByNumber};
 ghost use Rattle.cdcl.specs.Outcome.{outcome_of};
 ghost use Rattle.cdcl.specs.Searching.{IsReady, IsSearching, IsSearchStep, Begins, GoesOn, search_of, next_of};
 
-use crate::analysis::analyze_in;
+use crate::analysis::{Learnt, analyze_in};
 use crate::counts::{Counts, Watcher, tell};
 use crate::marks::Room;
-use crate::outcome::{Line, Outcome};
+use crate::outcome::Outcome;
 use crate::values::{refute, values};
 use cnf::{Formula, Lit};
 use kernel::{Closed, Cube, Kernel};
+use lines::Row;
 use std::alloc::{AllocError, Global};
 
 /// The state of a search.
@@ -29,9 +30,11 @@ pub(crate) struct OrderedSearch {
     /// The first variable that was decided.
     pub(crate) decided: Option<u32>,
     /// The lines learnt.
-    pub(crate) lines: Vec<Line>,
+    pub(crate) lines: Row,
     /// Room for the analysis of conflicts.
     pub(crate) room: Room,
+    /// What the last conflict taught.
+    pub(crate) learnt: Learnt,
 }
 
 // written out, so that proofs of its owners stay short (docs/CHANGING.md)
@@ -43,6 +46,7 @@ impl Drop for OrderedSearch {
             decided: _,
             lines: _,
             room: _,
+            learnt: _,
         } = self;
     }
 }
@@ -57,8 +61,9 @@ impl OrderedSearch {
             kernel: Kernel::open_with(alloc, formula, &units, &Cube::root(alloc))?,
             conflicts: 0,
             decided: None,
-            lines: Vec::new(alloc),
+            lines: Row::new(alloc),
             room: Room::new(),
+            learnt: Learnt::none(alloc),
         })
     }
 
@@ -84,7 +89,7 @@ impl OrderedSearch {
         &mut self,
         budget: u32,
         watcher: &W,
-    ) -> Result<Outcome, AllocError>
+    ) -> Result<Outcome<Row>, AllocError>
         requires searching { IsSearching ByNumber self.old.kernel }
         requires counted { self.old.conflicts < budget }
         ensures runs { IfOk result (λ o. RunsFrom (IsOrderedStep self.old.kernel.vars budget) (search_of self.old) (outcome_of o)) }
@@ -100,7 +105,7 @@ impl OrderedSearch {
     }
 
     /// Propagation and what follows its answer.
-    fn step(&mut self, budget: u32) -> Result<Option<Outcome>, AllocError>
+    fn step(&mut self, budget: u32) -> Result<Option<Outcome<Row>>, AllocError>
         requires searching { IsSearching ByNumber self.old.kernel }
         requires counted { self.old.conflicts < budget }
         ensures { IfOk result (λ r. IsSearchStep budget self.old r self.new) }
@@ -112,7 +117,7 @@ impl OrderedSearch {
     }
 
     /// Where propagation came to rest: decides the least free variable to be false, or gives the model where none is free.
-    fn on_quiet(&mut self) -> Result<Option<Outcome>, AllocError>
+    fn on_quiet(&mut self) -> Result<Option<Outcome<Row>>, AllocError>
         requires searching { IsSearching ByNumber self.old.kernel }
         requires quiet { Propagates by_number self.old.kernel.clauses self.old.kernel.trail quiet self.old.kernel.trail }
         ensures next { IfOk result (λ r. definition.on_quiet self.old.kernel.vars (search_of self.old)
@@ -121,7 +126,7 @@ impl OrderedSearch {
     {
         match self.kernel.least_free() {
             None => {
-                let alloc = *self.lines.allocator();
+                let alloc = self.lines.allocator();
                 Ok(Some(Outcome::Model(values(alloc, &self.kernel)?)))
             }
             Some(var) => {
@@ -135,7 +140,7 @@ impl OrderedSearch {
     }
 
     /// A conflict above level 0 is counted; the last one that the budget allows exhausts the cube.
-    fn on_conflict(&mut self, number: u64, budget: u32) -> Result<Option<Outcome>, AllocError>
+    fn on_conflict(&mut self, number: u64, budget: u32) -> Result<Option<Outcome<Row>>, AllocError>
         requires searching { IsSearching ByNumber self.old.kernel }
         requires conflict { least_false (literals self.old.kernel.trail) self.old.kernel.clauses ≡ Some number }
         requires counted { self.old.conflicts < budget }
@@ -143,7 +148,13 @@ impl OrderedSearch {
         ensures kept { OnOk result (GoesOn self.old.kernel self.new.kernel) }
     {
         if self.kernel.level() == 0 {
-            return Ok(Some(refute(&self.kernel, &mut self.room, &mut self.lines, number)?));
+            return Ok(Some(refute(
+                &self.kernel,
+                &mut self.room,
+                &mut self.learnt,
+                &mut self.lines,
+                number,
+            )?));
         }
         if self.conflicts + 1 == budget {
             return Ok(Some(Outcome::Exhausted(self.decided.unwrap_or(0))));
@@ -162,12 +173,11 @@ impl OrderedSearch {
             ≡ learnt_next (search_of self.old) (learn self.old.kernel.clauses self.old.kernel.trail number)) }
         ensures kept { OnOk result (GoesOn self.old.kernel self.new.kernel) }
     {
-        let alloc = *self.lines.allocator();
-        let learnt = analyze_in(alloc, &self.kernel, &mut self.room, number)?;
-        self.kernel.back_to(learnt.level);
-        self.kernel.learn(&learnt.clause)?;
+        analyze_in(&self.kernel, &mut self.room, number, &mut self.learnt)?;
+        self.kernel.back_to(self.learnt.level);
+        self.kernel.learn(&self.learnt.clause)?;
         self.conflicts += 1;
-        self.lines.push(Line::new(learnt.clause, learnt.hints))?;
+        self.lines.push(&self.learnt.clause, &self.learnt.hints)?;
         Ok(())
     }
 }

@@ -56,14 +56,24 @@ pub struct Refutation {
     pub lines: Vec<Line>,
 }
 
-/// What the search in a cube comes to.
+impl Model for Refutation {
+    ghost use Rattle.std.specs.Prelude.{List};
+    ghost use Rattle.theory.specs.Learning as learning;
+
+    ghost Value = { List learning.Line };
+
+    ghost view = { λ r. r.lines.items };
+}
+
+/// What the search in a cube comes to. A search keeps the lines of a refuted cube as a `Row`; a
+/// `Refutation` has each of them in memory of its own.
 #[derive(Drop)]
-pub enum Outcome {
+pub enum Outcome<L = Refutation> {
     /// The truth values of the variables 1, 2 and so on: an assignment that satisfies the formula and
     /// the cube and has the pure variables false, by the ordered search the first such one.
     Model(Vec<bool>),
     /// No assignment satisfies the formula and the cube and has the pure variables false.
-    Refuted(Refutation),
+    Refuted(L),
     /// The budget of conflicts is used up; the variable, on which the cube is to be split, is the
     /// first one that was decided by the ordered search, and by the focused search the one of
     /// greatest score among those that don't stand at level 0.

@@ -15,6 +15,7 @@ use crate::outcome::Outcome;
 use crate::plan::{Plan, Search};
 use cnf::Formula;
 use kernel::Cube;
+use lines::Row;
 use std::alloc::{AllocError, Global};
 
 /// One of the searches, with all that it keeps from cube to cube.
@@ -52,7 +53,7 @@ impl Searcher {
         cube: &Cube,
         budget: u32,
         watcher: &W,
-    ) -> Result<Outcome, AllocError>
+    ) -> Result<Outcome<Row>, AllocError>
         requires ready { (F : Formula) × (search : plans.Search) × IsReadyBy search F self.old × IsOver F.vars cube.now }
         requires budget { (1 ≤ budget) × (budget ≤ max_budget) }
         ensures runs { IfOk result (λ o. (F : Formula) (plan : plans.Plan) → IsReadyBy plan.search F self.old → budget ≡ budget_of plan.budget cube.now →

@@ -13,6 +13,7 @@ use crate::plan::Plan;
 use crate::searcher::Searcher;
 use cnf::Formula;
 use kernel::Cube;
+use lines::Row;
 use std::alloc::{AllocError, Global};
 use std::marker::Model;
 use std::snapshot::Snapshot;
@@ -68,7 +69,7 @@ impl Solver {
     /// The outcome of a cube over the formula's variables, by the plan's search: whatever cubes came before, it is the same. It takes time by
     /// what the search does, and by the variables for a model alone. An error comes only where an earlier call has met want of memory, or
     /// where a request for memory is refused, and from then on.
-    pub fn solve(&mut self, cube: &Cube) -> Result<Outcome, AllocError>
+    pub fn solve(&mut self, cube: &Cube) -> Result<Outcome<Row>, AllocError>
         requires over { IsOver self.old.formula.vars cube.now }
         ensures runs { IfOk result (λ o. Runs self.old.formula self.old.plan cube.now (outcome_of o)) }
         ensures says { IfOk result (λ o. OutcomeSays self.old.plan.search self.old.formula cube.now (outcome_of o)) }
@@ -91,7 +92,7 @@ impl Solver {
         &mut self,
         cube: &Cube,
         watcher: &W,
-    ) -> Result<Outcome, AllocError>
+    ) -> Result<Outcome<Row>, AllocError>
         requires over { IsOver self.old.formula.vars cube.now }
         ensures runs { IfOk result (λ o. Runs self.old.formula self.old.plan cube.now (outcome_of o)) }
         ensures says { IfOk result (λ o. OutcomeSays self.old.plan.search self.old.formula cube.now (outcome_of o)) }
@@ -119,7 +120,7 @@ pub fn solve_cube_by_plan(
     formula: &Formula,
     cube: &Cube,
     plan: Plan,
-) -> Result<Outcome, AllocError>
+) -> Result<Outcome<Row>, AllocError>
     requires over { IsOver formula.now.vars cube.now }
     ensures runs { IfOk result (λ o. Runs formula.now plan cube.now (outcome_of o)) }
     ensures says { IfOk result (λ o. OutcomeSays plan.search formula.now cube.now (outcome_of o)) }
@@ -128,7 +129,8 @@ pub fn solve_cube_by_plan(
     solver.solve(cube)
 }
 
-/// `solve_cube_by_plan` by the ordered search, where the root has a budget of 1 to 100,000 conflicts, and the cube one by its literals.
+/// `solve_cube_by_plan` by the ordered search, where the root has a budget of 1 to 100,000 conflicts, and the cube one by its literals. The lines
+/// of a refuted cube are unpacked.
 pub fn solve_cube(
     alloc: Global,
     formula: &Formula,
@@ -140,5 +142,6 @@ pub fn solve_cube(
     ensures runs { IfOk result (λ o. Runs formula.now (ordered_within budget) cube.now (outcome_of o)) }
     ensures says { IfOk result (λ o. OutcomeSays ordered formula.now cube.now (outcome_of o)) }
 {
-    solve_cube_by_plan(alloc, formula, cube, Plan::ordered(budget))
+    let outcome = solve_cube_by_plan(alloc, formula, cube, Plan::ordered(budget))?;
+    outcome.unpacked(alloc)
 }

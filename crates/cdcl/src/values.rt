@@ -7,12 +7,12 @@ ghost use Rattle.theory.specs.Learning.{learn};
 ghost use Rattle.theory.specs.Search.{values, refuted};
 ghost use Rattle.cdcl.specs.Outcome.{outcome_of};
 
-use crate::analysis::analyze_in;
+use crate::analysis::{Learnt, analyze_in};
 use crate::marks::Room;
-use crate::outcome::{Line, Outcome, Refutation};
+use crate::outcome::Outcome;
 use kernel::Kernel;
+use lines::Row;
 use std::alloc::{AllocError, Global};
-use std::mem;
 
 /// The truth values on the trail.
 pub(crate) fn values(alloc: Global, kernel: &Kernel) -> Result<Vec<bool>, AllocError>
@@ -27,20 +27,20 @@ pub(crate) fn values(alloc: Global, kernel: &Kernel) -> Result<Vec<bool>, AllocE
     Ok(values)
 }
 
-/// A conflict at level 0 behind these lines: the cube is refuted.
+/// A conflict at level 0 behind these lines: the cube is refuted. Its lines are handed out in memory
+/// of just their size; the row keeps its own for the next cube.
 pub(crate) fn refute(
     kernel: &Kernel,
     room: &mut Room,
-    lines: &mut Vec<Line>,
+    learnt: &mut Learnt,
+    lines: &mut Row,
     number: u64,
-) -> Result<Outcome, AllocError>
+) -> Result<Outcome<Row>, AllocError>
     requires { least_false (literals kernel.now.trail) kernel.now.clauses ≡ Some number }
     ensures { IfOk result (λ o. outcome_of o
-        ≡ refuted (lines.old.items ++ learn kernel.now.clauses kernel.now.trail number ∷ [])) }
+        ≡ refuted (lines.old ++ learn kernel.now.clauses kernel.now.trail number ∷ [])) }
 {
-    let alloc = *lines.allocator();
-    let learnt = analyze_in(alloc, kernel, room, number)?;
-    lines.push(Line::new(learnt.clause, learnt.hints))?;
-    let lines = mem::replace(lines, Vec::new(alloc));
-    Ok(Outcome::Refuted(Refutation { lines }))
+    analyze_in(kernel, room, number, learnt)?;
+    lines.push(&learnt.clause, &learnt.hints)?;
+    Ok(Outcome::Refuted(lines.copied()?))
 }

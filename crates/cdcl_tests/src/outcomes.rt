@@ -29,7 +29,8 @@ pub enum Wanted<'a> {
 pub fn outcome_by(alloc: Global, text: &[u8], plan: Plan) -> Result<Outcome, Fail> {
     let formula = read_formula(alloc, text)?;
     let root = cube_of(alloc, formula.vars(), &[])?;
-    Ok(solve_cube_by_plan(alloc, &formula, &root, plan)?)
+    let outcome = solve_cube_by_plan(alloc, &formula, &root, plan)?;
+    Ok(outcome.unpacked(alloc)?)
 }
 
 /// The outcome of a cube.

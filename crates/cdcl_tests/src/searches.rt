@@ -223,7 +223,7 @@ fn comes_in_turn(
     ensures { solver.new.formula ≡ formula.now }
 {
     let cube = cube_of(alloc, formula.vars(), turn.cube)?;
-    let outcome = solver.solve(&cube)?;
+    let outcome = solver.solve(&cube)?.unpacked(alloc)?;
     Ok(is_wanted(&outcome, turn.wanted))
 }
 

@@ -9,16 +9,15 @@ use Rattle.theory.specs.Runs.{Runs}
 use Rattle.theory.specs.Trees.{false_half}
 use Rattle.theory.specs.Places.{place_of}
 use Rattle.theory.specs.Results as results
+use Rattle.theory.specs.Results.{Solved}
 use Rattle.theory.specs.Ledger.{Ledger, joined, calling, offer}
 use Rattle.theory.proofs.Joining.{joined-empty}
 use Rattle.theory.proofs.RoundEnds.{only_calls}
 use Rattle.cubes.specs.declared.cube_walk.CubeWalk.{CubeWalk}
 use Rattle.cubes.specs.declared.hands.Ending.{Ending}
 use Rattle.cubes.specs.declared.hands.Ending.TheVariants as ending
-use Rattle.cubes.specs.declared.solved.Solved.{Solved}
 use Rattle.cubes.specs.CubeWalks.{IsBelow, Enters, GoesOn}
 use Rattle.cubes.specs.Hands.{Settles, AddsCarried}
-use Rattle.cubes.specs.Solved.{solved_of}
 use Rattle.cubes.specs.Traversal.{path, behind}
 use Rattle.cubes.proofs.Carrying.{IsFair, fair, reached-fair, carried-short, carried-whole, carried-model}
 use Rattle.cubes.proofs.Walks.{to_come, to_come-enter, to_come-behind, IsDone-refuted, IsReached, IsReached-enter, IsReached-behind, IsReached-leads, IsReached-over, IsReached-short, ComesTo}
@@ -28,11 +27,11 @@ pub record IsCarrying (F : Formula) (plan : Plan) (H : List Literal) (w : CubeWa
   pub results : List results.Solved
   pub below : IsBelow H w
   pub reached : IsReached F plan H w.walk results
-  pub is_now : map solved_of now ≡ map solved_of before ++ results
+  pub is_now : now ≡ before ++ results
 
 module _ (F : Formula) (plan : Plan) (H : List Literal) where
   pub carrying-first : (w : CubeWalk) (s : List Solved) → w.cube ≡ H → w.walk ≡ [] → IsCarrying F plan H w s s
-  carrying-first w s cube walk = record { results = []; below = rw walk (cube ∙ sym (append-nil H)); reached = rw walk refl; is_now = sym (append-nil (map solved_of s)) }
+  carrying-first w s cube walk = record { results = []; below = rw walk (cube ∙ sym (append-nil H)); reached = rw walk refl; is_now = sym (append-nil s) }
 
   module _ (w : CubeWalk) (before now : List Solved) (at : IsCarrying F plan H w before now) where
     pub carrying-over : IsCube H → IsOver F.vars H → IsOver F.vars w.cube
@@ -47,7 +46,7 @@ module _ (F : Formula) (plan : Plan) (H : List Literal) where
       piece = only_calls [];
       results = at.results;
       is_new = sym (joined-empty l);
-      is_after = ap (map solved_of) e ∙ at.is_now;
+      is_after = e ∙ at.is_now;
       is_part = (refl, carried-short F plan H ok at.results o (reached-fair F plan H w.walk at.results at.reached));
     }
 
@@ -59,10 +58,10 @@ module _ (F : Formula) (plan : Plan) (H : List Literal) where
       runs : Runs F plan (H ++ path w.walk) o
       runs = rw (is, at.below) at settles.runs
 
-      is_after : map solved_of after ≡ map solved_of before ++ (at.results ++ record { cube = H ++ path w.walk; what = results.done o } ∷ [])
+      is_after : after ≡ before ++ (at.results ++ record { cube = H ++ path w.walk; what = results.done o } ∷ [])
       is_after =
           settles.is_after ∙ ap₂ (λ r p. r ++ record { cube = w.cube; what = results.done p } ∷ []) at.is_now is
-          ∙ ap (λ q. map solved_of before ++ at.results ++ record { cube = q; what = results.done o } ∷ []) at.below ∙ append_assoc (map solved_of before) at.results (last ∷ [])
+          ∙ ap (λ q. before ++ at.results ++ record { cube = q; what = results.done o } ∷ []) at.below ∙ append_assoc before at.results (last ∷ [])
 
       -- memory runs short behind it
       pub short-behind : (ok : Bool) (l : Ledger) → ok ≡ false → ¬ (results.IsModel (results.done o)) → AddsCarried F plan ok H l l before after

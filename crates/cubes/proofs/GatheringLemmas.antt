@@ -2,7 +2,7 @@
 use Rattle.std.proofs.Common.{◌≡◌, ℕ, ◌<◌, ◌^◌, List, [], ◌∷◌, ◌++◌, append_assoc, length, Option, Some, None, refl, sym, ap, ap₂, ◌∙◌, subst, arith}
 use Rattle.theory.specs.Literals.{Literal}
 use Rattle.theory.specs.Truth.{Formula, IsFormula}
-use Rattle.theory.specs.Plans.{Plan}
+use Rattle.theory.specs.Plans.{Plan, Search}
 use Rattle.theory.specs.Learning.{Line}
 use Rattle.theory.specs.Search as search
 use Rattle.theory.specs.Runs.{Runs}
@@ -11,16 +11,14 @@ use Rattle.theory.specs.Trees.{here}
 use Rattle.theory.specs.Results.{Solved, What, done, skipped}
 use Rattle.theory.proofs.OutcomeLemmas.{Runs-exhausted}
 use Rattle.theory.proofs.ResultLemmas.{IsResult-says}
-use Rattle.cdcl.specs.Outcome.{outcome_of}
-use Rattle.cdcl.specs.declared.outcome.Outcome.{Outcome}
+use Rattle.cdcl.specs.Outcome.{LinesOutcome, outcome_of}
 use Rattle.cdcl.specs.declared.outcome.Outcome.TheVariants as outcome
 use Rattle.cubes.specs.declared.gathering.Gathering.{Gathering}
-use Rattle.cubes.specs.declared.tree.Tree.{Tree}
 use Rattle.cubes.specs.declared.tree.Tree.TheVariants as tree
 use Rattle.cubes.specs.CubeWalks.{IsBelow}
 use Rattle.cubes.specs.Traversal.{path, behind}
 use Rattle.cubes.specs.Gathering.{nodes_of, CanSplit, GoesRight, GoesOnWith}
-use Rattle.cubes.specs.Result.{IsResultOf, Says}
+use Rattle.cubes.specs.Result.{LinesTree, IsSameTree, IsResultOf, Says}
 use Rattle.cubes.proofs.Walks.{to_come, to_come-enter, to_come-behind, results_of, IsDone, IsDone-refuted, IsReached, IsReached-enter, IsReached-behind, IsReached-leaf, ComesTo}
 
 -- the node that a cube's result gives
@@ -55,17 +53,17 @@ pub record IsGathered (F : Formula) (plan : Plan) (g : Gathering) : Type 0 where
 pub IsGathered-start : (F : Formula) (plan : Plan) (g : Gathering) → g.at.cube ≡ [] → g.at.walk ≡ [] → nodes_of g ≡ [] → IsGathered F plan g
 IsGathered-start F plan g cube walk nodes = record { results = []; reached = rw walk refl; below = rw walk cube; nodes = nodes }
 
-pub can_go_on : (F : Formula) (plan : Plan) (g : Gathering) (o : Outcome) → F.vars < 2 ^ 31 → Runs F plan g.at.cube (outcome_of o) → CanSplit g o
+pub can_go_on : (F : Formula) (plan : Plan) (g : Gathering) (o : LinesOutcome) → F.vars < 2 ^ 31 → Runs F plan g.at.cube (outcome_of o) → CanSplit g o
 can_go_on F plan g (outcome.Model values) few runs = tt
 can_go_on F plan g (outcome.Refuted found_lines) few runs = tt
 can_go_on F plan g (outcome.Exhausted x) few runs = let free = Runs-exhausted F plan g.at.cube x runs in let high = free.0.1 in (free.0.0, omega arith, free.1)
 
 -- what is reached, or the result
-abbrev pub Gives : Formula → Plan → Option Tree → Gathering → Type 0
+abbrev pub Gives : Formula → Plan → Option LinesTree → Gathering → Type 0
 Gives F plan None h = IsGathered F plan h
 Gives F plan (Some t) h = IsResultOf F plan t
 
-pub gives : (F : Formula) (plan : Plan) (g h : Gathering) (o : Outcome) (found : Option Tree) → IsGathered F plan g → Runs F plan g.at.cube (outcome_of o) → GoesOnWith g o found h → Gives F plan found h
+pub gives : (F : Formula) (plan : Plan) (g h : Gathering) (o : LinesOutcome) (found : Option LinesTree) → IsGathered F plan g → Runs F plan g.at.cube (outcome_of o) → GoesOnWith g o found h → Gives F plan found h
 gives F plan g h (outcome.Model values) found r runs goes =
     subst (λ t. Gives F plan t h) (sym goes) (IsReached-leaf F plan [] g.at.walk r.results values.items r.reached (here (rw r.below at runs)))
 gives F plan g h (outcome.Exhausted x) found r runs goes =
@@ -78,7 +76,7 @@ gives F plan g h (outcome.Exhausted x) found r runs goes =
 gives F plan g h (outcome.Refuted found_lines) found r runs goes = right found goes
   where
     lines : List Line
-    lines = found_lines.lines.items
+    lines = found_lines
 
     all : List Solved
     all = r.results ++ record { cube = path g.at.walk; what = done (search.refuted lines) } ∷ []
@@ -89,7 +87,7 @@ gives F plan g h (outcome.Refuted found_lines) found r runs goes = right found g
     comes : ComesTo F plan [] (behind tt g.at.walk) all
     comes = IsReached-behind F plan [] tt g.at.walk r.results _ r.reached (IsDone-refuted F plan (path g.at.walk) lines (rw r.below at runs))
 
-    right : (found : Option Tree) → GoesRight g (nodes_of g ++ trees.refuted_leaf lines ∷ []) found h → Gives F plan found h
+    right : (found : Option LinesTree) → GoesRight g (nodes_of g ++ trees.refuted_leaf lines ∷ []) found h → Gives F plan found h
     right None k = record {
       results = all;
       reached = subst (λ o. ComesTo F plan [] o all) k.0.0 comes;
@@ -102,12 +100,25 @@ gives F plan g h (outcome.Refuted found_lines) found r runs goes = right found g
     right (Some (tree.Model values)) k = absurd k
 
 -- less is still to come, where no way has more than n splits
-pub fewer : (n : ℕ) (g h : Gathering) (o : Outcome) → length g.at.walk < n → GoesOnWith g o None h → to_come n h.at.walk < to_come n g.at.walk
-fewer n g h (outcome.Model values) short goes = absurd (let e : ◌≡◌ {A = Option Tree} None (Some (tree.Model values)) = goes in cc)
+pub fewer : (n : ℕ) (g h : Gathering) (o : LinesOutcome) → length g.at.walk < n → GoesOnWith g o None h → to_come n h.at.walk < to_come n g.at.walk
+fewer n g h (outcome.Model values) short goes = absurd (let e : ◌≡◌ {A = Option LinesTree} None (Some (tree.Model values)) = goes in cc)
 fewer n g h (outcome.Exhausted x) short goes = rw goes.1.walk (to_come-enter n x g.at.walk short)
 fewer n g h (outcome.Refuted found_lines) short goes = to_come-behind n tt g.at.walk h.at.walk (omega arith) goes.0.0
 
 -- what the result says of a formula
-pub says : (F : Formula) (plan : Plan) (t : Tree) → IsFormula F → IsResultOf F plan t → Says plan.search F t
+pub says : (F : Formula) (plan : Plan) (t : LinesTree) → IsFormula F → IsResultOf F plan t → Says plan.search F t
 says F plan (tree.Model values) formed result = IsResult-says F plan (trees.model_of values.items) formed result
 says F plan (tree.Refuted nodes) formed result = IsResult-says F plan (trees.tree_of result.0) formed result.1
+
+-- the same tree is the same result
+pub IsResultOf-same : (F : Formula) (plan : Plan) (t u : LinesTree) → IsSameTree t u → IsResultOf F plan t → IsResultOf F plan u
+IsResultOf-same F plan (tree.Model values) (tree.Model others) same result = rw same result
+IsResultOf-same F plan (tree.Refuted nodes) (tree.Refuted others) same result = (result.0, result.1, rw same result.2)
+IsResultOf-same F plan (tree.Model values) (tree.Refuted others) same result = absurd same
+IsResultOf-same F plan (tree.Refuted nodes) (tree.Model others) same result = absurd same
+
+pub Says-same : (search : Search) (F : Formula) (t u : LinesTree) → IsSameTree t u → Says search F t → Says search F u
+Says-same search F (tree.Model values) (tree.Model others) same said = rw same said
+Says-same search F (tree.Refuted nodes) (tree.Refuted others) same said = said
+Says-same search F (tree.Model values) (tree.Refuted others) same said = absurd same
+Says-same search F (tree.Refuted nodes) (tree.Model others) same said = absurd same

@@ -5,11 +5,10 @@ use Rattle.theory.specs.Truth.{Formula}
 use Rattle.theory.specs.Plans.{Plan}
 use Rattle.theory.specs.Trees.{false_half, true_half}
 use Rattle.theory.specs.Ledger.{Ledger, joined, empty}
+use Rattle.theory.specs.Results.{Solved}
 use Rattle.theory.specs.Round.{IsHandOn}
 use Rattle.theory.proofs.Joining.{joined-empty}
 use Rattle.theory.proofs.HalvesOn.{IsHandOn-nothing}
-use Rattle.cubes.specs.declared.solved.Solved.{Solved}
-use Rattle.cubes.specs.Solved.{solved_of}
 use Rattle.cubes.specs.Hands.{AddsHandOn, AddsHalves}
 
 -- neither half
@@ -25,7 +24,7 @@ no-halves F plan ok Q x l s o = record {
   right = IsHandOn-nothing F plan (true_half Q x);
   both_done = λ e. absurd (cc);
   is_new = sym (joined-empty (joined l empty) ∙ joined-empty l);
-  is_after = sym (append-nil (map solved_of s ++ []) ∙ append-nil (map solved_of s));
+  is_after = sym (append-nil (s ++ []) ∙ append-nil s);
 }
 
 -- the left one alone
@@ -41,7 +40,7 @@ left-half F plan a ok Q H x l0 l1 s t o h p = record {
   right = IsHandOn-nothing F plan (true_half Q x);
   both_done = λ e. absurd (cc);
   is_new = p.is_new ∙ sym (joined-empty (joined l0 p.piece));
-  is_after = p.is_after ∙ sym (append-nil (map solved_of s ++ p.results));
+  is_after = p.is_after ∙ sym (append-nil (s ++ p.results));
 }
 
 -- both

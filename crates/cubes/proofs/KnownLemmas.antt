@@ -18,8 +18,7 @@ use Rattle.theory.proofs.Membership.{Contains-none}
 use Rattle.cnf.specs.Lits.{literal_of, number_of, signed}
 use Rattle.cnf.specs.contracts.lit.LitPartialEq.TheImpl.{ghosts}
 use Rattle.trail.specs.Cubes.{AreOfVariables}
-use Rattle.cdcl.specs.Outcome.{outcome_of}
-use Rattle.cdcl.specs.declared.outcome.Outcome.{Outcome}
+use Rattle.cdcl.specs.Outcome.{LinesOutcome, outcome_of}
 use Rattle.cubes.specs.declared.known.Known.{Known}
 use Rattle.cubes.specs.Known.{AreKnown, AreOutcomes, known_of}
 
@@ -100,11 +99,11 @@ module _ (rs : List Solved) (k n : Known) (P : List Literal) (known : AreKnown r
       go Q o q h (inr e) = let apart : skipped place ≡ done o = ap (λ (r : Solved). r.what) e in cc
 
   -- one outcome more
-  module _ (o : Outcome) (p : AreOfVariables P) (now : known_of n P ≡ Some o) (others : (Q : List Literal) → AreOfVariables Q → Q ≢ P → known_of n Q ≡ known_of k Q) where
+  module _ (o : LinesOutcome) (p : AreOfVariables P) (now : known_of n P ≡ Some o) (others : (Q : List Literal) → AreOfVariables Q → Q ≢ P → known_of n Q ≡ known_of k Q) where
     pub AreKnown-done : AreKnown (rs ++ record { cube = P; what = done (outcome_of o) } ∷ []) n
     AreKnown-done = record { found = λ Q a q h. find Q a q h (same_or_not P Q p q); missing = λ Q a q h c. lack Q a q h c (same_or_not P Q p q) }
       where
-        find : (Q : List Literal) (a : Outcome) → AreOfVariables Q → known_of n Q ≡ Some a → (Q ≡ P) ⊎ (Q ≢ P)
+        find : (Q : List Literal) (a : LinesOutcome) → AreOfVariables Q → known_of n Q ≡ Some a → (Q ≡ P) ⊎ (Q ≢ P)
             → Contains (rs ++ record { cube = P; what = done (outcome_of o) } ∷ []) (record { cube = Q; what = done (outcome_of a) })
         find Q a q h (inl e) =
             let one : o ≡ a = (let two : known_of n P ≡ Some a = rw e at h in cc) in

@@ -2,10 +2,10 @@
 use Rattle.std.proofs.Common.{◌≡◌, Bool, List, refl, ◌∙◌}
 use Rattle.theory.specs.Truth.{Formula}
 use Rattle.theory.specs.Plans.{Plan}
+use Rattle.theory.specs.Results.{Solved}
 use Rattle.theory.specs.Ledger.{Ledger}
+use Rattle.theory.specs.Round.{HasWorked}
 use Rattle.pool.specs.Hands.{HandView, SameHand}
-use Rattle.cubes.specs.declared.solved.Solved.{Solved}
-use Rattle.cubes.specs.Hands.{Worked_as}
 
 pub SameHand-itself : (h : HandView) → SameHand h h
 SameHand-itself h = (refl, refl, refl, refl, refl, refl)
@@ -14,5 +14,5 @@ pub SameHand-then : (a b c : HandView) → SameHand a b → SameHand b c → Sam
 SameHand-then a b c p q = (q.0 ∙ p.0, q.1 ∙ p.1, q.2 ∙ p.2, q.3 ∙ p.3, q.4 ∙ p.4, q.5 ∙ p.5)
 
 -- what was worked, as it is handed over
-pub worked-as : (F : Formula) (plan : Plan) (is_short told : Bool) (first : Ledger) (h g : HandView) (s t : List Solved) → g ≡ h → t ≡ s → told ≡ is_short → Worked_as F plan is_short first h.ledger s → Worked_as F plan told first g.ledger t
+pub worked-as : (F : Formula) (plan : Plan) (is_short told : Bool) (first : Ledger) (h g : HandView) (s t : List Solved) → g ≡ h → t ≡ s → told ≡ is_short → HasWorked F plan is_short first h.ledger s → HasWorked F plan told first g.ledger t
 worked-as F plan is_short told first h g s t e f o work = rw (o, e, f) work

@@ -13,15 +13,14 @@ use Rattle.theory.specs.Results.{done, Solved, IsWhole}
 use Rattle.theory.proofs.Membership.{Contains-none, Contains-cases}
 use Rattle.theory.proofs.Assemblies.{IsComeTo, IsComeTo-root, IsComeTo-left, IsComeTo-right, IsComeTo-outcome, outcome_in-result}
 use Rattle.trail.specs.Cubes.{AreOfVariables}
-use Rattle.cdcl.specs.Outcome.{outcome_of}
-use Rattle.cdcl.specs.declared.outcome.Outcome.{Outcome}
+use Rattle.cdcl.specs.Outcome.{LinesOutcome, outcome_of}
 use Rattle.cdcl.specs.declared.outcome.Outcome.TheVariants as outcome
 use Rattle.cubes.specs.declared.known.Known.{Known}
-use Rattle.cubes.specs.declared.tree.Tree.{Tree}
 use Rattle.cubes.specs.declared.tree.Tree.TheVariants as tree
 use Rattle.cubes.specs.declared.gathering.Gathering.{Gathering}
 use Rattle.cubes.specs.declared.traversal.Split.{Split}
 use Rattle.cubes.specs.Known.{AreKnown, known_of}
+use Rattle.cubes.specs.Result.{LinesTree}
 use Rattle.cubes.specs.CubeWalks.{IsBelow}
 use Rattle.cubes.specs.Gathering.{GoesOnWith}
 use Rattle.cubes.specs.Traversal.{half, path, beside, behind}
@@ -74,8 +73,8 @@ passed-behind {T} d (s ∷ ss) ts R e h = go s.left e h (λ f p. passed-behind d
       | inr b ↦ inr (positive s.var ∷ b.0, b.1 ∙ append_assoc (path ss) (positive s.var ∷ []) b.0)
     ])
 
-goes_later : (g h : Gathering) (o : Outcome) → GoesOnWith g o None h → (R : List Literal) → IsPassed g.at.walk R ⊎ (R ≡ path g.at.walk) → IsPassed h.at.walk R
-goes_later g h (outcome.Model values) goes R p = absurd (let e : ◌≡◌ {A = Option Tree} None (Some (tree.Model values)) = goes in cc)
+goes_later : (g h : Gathering) (o : LinesOutcome) → GoesOnWith g o None h → (R : List Literal) → IsPassed g.at.walk R ⊎ (R ≡ path g.at.walk) → IsPassed h.at.walk R
+goes_later g h (outcome.Model values) goes R p = absurd (let e : ◌≡◌ {A = Option LinesTree} None (Some (tree.Model values)) = goes in cc)
 goes_later g h (outcome.Exhausted x) goes R (inl p) = rw goes.1.walk (inr (inr p))
 goes_later g h (outcome.Exhausted x) goes R (inr e) = rw goes.1.walk (inl e)
 goes_later g h (outcome.Refuted lines) goes R (inl p) = passed-behind tt g.at.walk h.at.walk R goes.0.0 (inl p)
@@ -99,12 +98,12 @@ reached-in F plan rs g whole r =
 abbrev pub AreStillThere : Known → Known → Gathering → Type 0
 AreStillThere first now g = IsBelow [] g.at × ((R : List Literal) → AreOfVariables R → ¬ (IsPassed g.at.walk R) → known_of now R ≡ known_of first R)
 
-below-on : (g h : Gathering) (o : Outcome) → GoesOnWith g o None h → IsBelow [] g.at → IsBelow [] h.at
-below-on g h (outcome.Model values) goes b = absurd (let e : ◌≡◌ {A = Option Tree} None (Some (tree.Model values)) = goes in cc)
+below-on : (g h : Gathering) (o : LinesOutcome) → GoesOnWith g o None h → IsBelow [] g.at → IsBelow [] h.at
+below-on g h (outcome.Model values) goes b = absurd (let e : ◌≡◌ {A = Option LinesTree} None (Some (tree.Model values)) = goes in cc)
 below-on g h (outcome.Exhausted x) goes b = rw goes.1.walk (goes.1.cube ∙ ap (λ Q. false_half Q x) b)
 below-on g h (outcome.Refuted lines) goes b = goes.0.1 [] b
 
-pub AreStillThere-on : (first now later : Known) (g h : Gathering) (o : Outcome) → GoesOnWith g o None h
+pub AreStillThere-on : (first now later : Known) (g h : Gathering) (o : LinesOutcome) → GoesOnWith g o None h
     → ((R : List Literal) → AreOfVariables R → R ≢ g.at.cube → known_of later R ≡ known_of now R) → AreStillThere first now g → AreStillThere first later h
 AreStillThere-on first now later g h o goes others still = (
   below-on g h o goes still.0,
@@ -122,7 +121,7 @@ is_there F plan rs first now g whole r named known still none =
     known.missing g.at.cube there.0 named (sym (still-here first now g named still) ∙ none) there.1
 
 -- and it is its outcome
-pub is_outcome : (F : Formula) (plan : Plan) (rs : List Solved) (first now : Known) (g : Gathering) (o : Outcome) → IsWhole F plan rs → AreOfVariables g.at.cube → AreKnown rs first → AreStillThere first now g
+pub is_outcome : (F : Formula) (plan : Plan) (rs : List Solved) (first now : Known) (g : Gathering) (o : LinesOutcome) → IsWhole F plan rs → AreOfVariables g.at.cube → AreKnown rs first → AreStillThere first now g
     → known_of now g.at.cube ≡ Some o → Runs F plan g.at.cube (outcome_of o)
 is_outcome F plan rs first now g o whole named known still some =
     AreOutcomes-known F plan rs first whole.true_of known g.at.cube o named (sym (still-here first now g named still) ∙ some)

@@ -10,10 +10,8 @@ use Rattle.theory.specs.Ledger.{Ledger, joined, getting}
 use Rattle.theory.specs.Trees.{false_half, true_half}
 use Rattle.theory.specs.Results as results
 use Rattle.theory.specs.Round.{IsHandOn, IsRound, Adds, HasWorked}
-use Rattle.theory.specs.Work.{IsUnderway}
 use Rattle.cdcl.specs.Solving.{IsSolverOf}
-use Rattle.cubes.specs.Solved.{solved_of}
-use Rattle.cubes.specs.declared.solved.Solved.{Solved}
+use Rattle.cubes.specs.Solved.{LinesSolved, solved_of}
 use Rattle.cubes.specs.declared.hands.Ending.{Ending}
 use Rattle.cubes.specs.declared.hands.Ending.TheVariants as ending
 use Rattle.cubes.specs.declared.hands.Worker.{Worker}
@@ -23,7 +21,7 @@ abbrev pub Gets : Ledger → Ledger → List Literal → Type 0
 Gets old new Q = (d : ℕ) × (new ≡ joined old (getting d Q))
 
 -- the hand's own solver, if there is one yet, is the formula's, by the plan, and the pool is over the formula's variables
-abbrev pub IsWorker : Formula → Plan → Worker → Type 0
+abbrev pub IsWorker : {L : Type 0} → Formula → Plan → Worker L → Type 0
 IsWorker F plan w = IfSome w.solver (IsSolverOf F plan) × (w.hand.vars ≡ F.vars)
 
 -- how a cube's outcome goes on
@@ -33,20 +31,20 @@ EndsIn F Q o ending.Refuted = (lines : List Line) × (o ≡ search.refuted lines
 EndsIn F Q o (ending.Exhausted x) = (o ≡ search.exhausted x) × IsVariable F.vars x × (has_var Q x ≡ false)
 
 -- the cube was solved here, and its result is kept
-pub record Settles (F : Formula) (plan : Plan) (Q : List Literal) (e : Ending) (before after : List Solved) : Type 0 where
+pub record Settles (F : Formula) (plan : Plan) (Q : List Literal) (e : Ending) (before after : List results.Solved) : Type 0 where
   pub outcome : search.Outcome
   pub runs : Runs F plan Q outcome
   pub ends : EndsIn F Q outcome e
-  pub is_after : map solved_of after ≡ map solved_of before ++ record { cube = Q; what = results.done outcome } ∷ []
+  pub is_after : after ≡ before ++ record { cube = Q; what = results.done outcome } ∷ []
 
-abbrev pub AddsRound : Formula → Plan → Bool → List Literal → Ledger → Ledger → List Solved → List Solved → Type 0
-AddsRound F plan is_done Q old new before after = Adds (IsRound F plan is_done Q) old new (map solved_of before) (map solved_of after)
+abbrev pub AddsRound : Formula → Plan → Bool → List Literal → Ledger → Ledger → List results.Solved → List results.Solved → Type 0
+AddsRound F plan is_done Q old new before after = Adds (IsRound F plan is_done Q) old new before after
 
-abbrev pub AddsHandOn : Formula → Plan → Bool → List Literal → Ledger → Ledger → List Solved → List Solved → Type 0
-AddsHandOn F plan is_done H old new before after = Adds (IsHandOn F plan is_done H) old new (map solved_of before) (map solved_of after)
+abbrev pub AddsHandOn : Formula → Plan → Bool → List Literal → Ledger → Ledger → List results.Solved → List results.Solved → Type 0
+AddsHandOn F plan is_done H old new before after = Adds (IsHandOn F plan is_done H) old new before after
 
 -- both halves of the cube Q are handed on, one after the other
-pub record AddsHalves (F : Formula) (plan : Plan) (is_done : Bool) (Q : List Literal) (x : ℕ) (old new : Ledger) (before after : List Solved) : Type 0 where
+pub record AddsHalves (F : Formula) (plan : Plan) (is_done : Bool) (Q : List Literal) (x : ℕ) (old new : Ledger) (before after : List results.Solved) : Type 0 where
   pub left_done : Bool
   pub right_done : Bool
   pub left_piece : Ledger
@@ -57,14 +55,11 @@ pub record AddsHalves (F : Formula) (plan : Plan) (is_done : Bool) (Q : List Lit
   pub right : IsHandOn F plan right_done (true_half Q x) right_piece right_results
   pub both_done : is_done ≡ true → (left_done ≡ true) × (right_done ≡ true)
   pub is_new : new ≡ joined (joined old left_piece) right_piece
-  pub is_after : map solved_of after ≡ map solved_of before ++ left_results ++ right_results
+  pub is_after : after ≡ before ++ left_results ++ right_results
 
 -- a half that is carried on puts no cube
-abbrev pub AddsCarried : Formula → Plan → Bool → List Literal → Ledger → Ledger → List Solved → List Solved → Type 0
-AddsCarried F plan is_done H old new before after = Adds (λ l s. (l.put ≡ []) × IsHandOn F plan is_done H l s) old new (map solved_of before) (map solved_of after)
+abbrev pub AddsCarried : Formula → Plan → Bool → List Literal → Ledger → Ledger → List results.Solved → List results.Solved → Type 0
+AddsCarried F plan is_done H old new before after = Adds (λ l s. (l.put ≡ []) × IsHandOn F plan is_done H l s) old new before after
 
-abbrev pub Underway : Formula → Plan → Ledger → Ledger → List Solved → Type 0
-Underway F plan first now solved = IsUnderway F plan first now (map solved_of solved)
-
-abbrev pub Worked_as : Formula → Plan → Bool → Ledger → Ledger → List Solved → Type 0
+abbrev pub Worked_as : Formula → Plan → Bool → Ledger → Ledger → List LinesSolved → Type 0
 Worked_as F plan is_short first last solved = HasWorked F plan is_short first last (map solved_of solved)

@@ -1,25 +1,39 @@
 -- What the result of a formula is.
-use Rattle.std.specs.Prelude.{◌≡◌, map}
+use Rattle.std.specs.Prelude.{◌≡◌, List, map}
 use Rattle.theory.specs.Truth.{Formula, Satisfiable}
 use Rattle.theory.specs.Plans.{Search, Plan}
 use Rattle.theory.specs.FirstModel.{IsFound}
+use Rattle.theory.specs.Learning.{Line}
 use Rattle.theory.specs.Trees as trees
 use Rattle.cubes.specs.declared.tree.Node.{Node}
 use Rattle.cubes.specs.declared.tree.Node.TheVariants.{Split, Leaf}
 use Rattle.cubes.specs.declared.tree.Tree.{Tree}
 use Rattle.cubes.specs.declared.tree.Tree.TheVariants.{Model, Refuted}
 
-abbrev pub node_of : Node → trees.Node
+-- a row and a refutation are both seen as the lines that they have, and so the nodes and trees with them are of one type
+abbrev pub LinesNode : Type 0
+LinesNode = Node (List Line)
+
+abbrev pub LinesTree : Type 0
+LinesTree = Tree (List Line)
+
+abbrev pub node_of : LinesNode → trees.Node
 node_of (Split var) = trees.split_on var
-node_of (Leaf refutation) = trees.refuted_leaf refutation.lines.items
+node_of (Leaf lines) = trees.refuted_leaf lines
+
+-- the trees have the same model, or the same nodes
+abbrev pub IsSameTree : LinesTree → LinesTree → Type 0
+IsSameTree (Model values) (Model others) = others ≡ values
+IsSameTree (Refuted nodes) (Refuted others) = others.items ≡ nodes.items
+IsSameTree t u = ⊥
 
 -- the tree is the formula's result: its model, or the nodes of its tree
-abbrev pub IsResultOf : Formula → Plan → Tree → Type 0
+abbrev pub IsResultOf : Formula → Plan → LinesTree → Type 0
 IsResultOf F plan (Model values) = trees.IsResult F plan (trees.model_of values.items)
 IsResultOf F plan (Refuted nodes) = (t : trees.Tree) × trees.IsResult F plan (trees.tree_of t) × (map node_of nodes.items ≡ trees.nodes_of t)
 
 -- what a result says of its formula: a model is one of its models, by the ordered search the first one; without a model, the formula isn't
 -- satisfiable
-abbrev pub Says : Search → Formula → Tree → Type 0
+abbrev pub Says : Search → Formula → LinesTree → Type 0
 Says search F (Model values) = IsFound search F values.items
 Says search F (Refuted nodes) = ¬ (Satisfiable F)

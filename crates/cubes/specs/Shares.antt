@@ -8,29 +8,39 @@ use Rattle.theory.specs.Work.{IsWork}
 use Rattle.theory.specs.Results.{IsWhole}
 use Rattle.theory.specs.Harvest.{Share, IsClosed, ledgers_of}
 use Rattle.pool.specs.Hands.{HandView, SameHand}
-use Rattle.cubes.specs.Solved.{solved_of}
+use Rattle.theory.specs.Learning.{Line}
+use Rattle.cubes.specs.Solved.{results_by}
 use Rattle.cubes.specs.Hands.{Worked_as}
 use Rattle.cubes.specs.declared.hands.Worked.{Worked}
 use Rattle.cubes.specs.declared.solved.Solved.{Solved}
 
-abbrev pub share_of : Worked → Share
-share_of w = record { ledger = w.hand.ledger; results = map solved_of w.solved.items }
+-- a row and a refutation are both seen as the lines that they have
+abbrev pub LinesWorked : Type 0
+LinesWorked = Worked (List Line)
+
+-- a hand's share, where refuted cubes keep what has these lines
+abbrev pub share_by : {L : Type 0} → (L → List Line) → Worked L → Share
+share_by lines w = record { ledger = w.hand.ledger; results = results_by lines w.solved.items }
+
+-- and where they keep their lines
+abbrev pub share_of : LinesWorked → Share
+share_of w = share_by (λ lines. lines) w
 
 -- the hands stand in the order of their numbers
-abbrev pub AreNumbered : List Worked → Type 0
-AreNumbered works = (place : ℕ) (w : Worked) → slice_get works place ≡ Some w → w.hand.number ≡ place
+abbrev pub AreNumbered : {L : Type 0} → List (Worked L) → Type 0
+AreNumbered {L} works = (place : ℕ) (w : Worked L) → slice_get works place ≡ Some w → w.hand.number ≡ place
 
 -- the hand has done its work, from the ledger that it had
-abbrev pub HasDone : Formula → Plan → HandView → Worked → Type 0
+abbrev pub HasDone : Formula → Plan → HandView → LinesWorked → Type 0
 HasDone F plan h w = SameHand h w.hand × Worked_as F plan w.short_of_memory h.ledger w.hand.ledger w.solved.items
 
 -- each did its work, by the plan
-abbrev pub HaveWorked : Formula → Plan → List Worked → Type 0
-HaveWorked F plan works = All (λ w. IsWork F plan w.short_of_memory w.hand.ledger (map solved_of w.solved.items)) works
+abbrev pub HaveWorked : {L : Type 0} → (L → List Line) → Formula → Plan → List (Worked L) → Type 0
+HaveWorked lines F plan works = All (λ w. IsWork F plan w.short_of_memory w.hand.ledger (results_by lines w.solved.items)) works
 
 -- once the pool is closed: no cube was left and none to be done, none was got twice, and the results are enough
-pub record AreHarvested (F : Formula) (plan : Plan) (works : List Worked) (results : List Solved) : Type 0 where
+pub record AreHarvested {L : Type 0} (lines : L → List Line) (F : Formula) (plan : Plan) (works : List (Worked L)) (results : List (Solved L)) : Type 0 where
   pub least : Option ℕ
-  pub closed : IsClosed F plan (map share_of works) [] least 0
-  pub once : (Q : List Literal) → times Q (flat_map all_got (ledgers_of (map share_of works))) ≤ 1
-  pub whole : IsWhole F plan (map solved_of results)
+  pub closed : IsClosed F plan (map (share_by lines) works) [] least 0
+  pub once : (Q : List Literal) → times Q (flat_map all_got (ledgers_of (map (share_by lines) works))) ≤ 1
+  pub whole : IsWhole F plan (results_by lines results)

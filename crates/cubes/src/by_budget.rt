@@ -7,7 +7,8 @@ ghost use Rattle.cubes.specs.Result.{IsResultOf, Says};
 ghost use Rattle.cubes.specs.Solved.{AreTrueResults};
 
 use crate::gate::Gate;
-use crate::hands::{Worked, work_by_plan};
+use crate::hands::{Worked, work_in};
+use crate::packing::packed;
 use crate::results::{gather_by_plan, solve_one_by_plan};
 use crate::solved::Solved;
 use crate::threads::solve_by_plan;
@@ -34,7 +35,7 @@ pub fn work<R: Wait + Clock, G: Gate>(
     ensures same { SameHand hand result.hand }
     ensures work { Worked_as formula.now (ordered_within budget) result.short_of_memory hand.ledger result.hand.ledger result.solved.items }
 {
-    work_by_plan(rt, alloc, hand, formula, Plan::ordered(budget), gate)
+    work_in(rt, alloc, hand, formula, Plan::ordered(budget), gate)
 }
 
 /// `gather_by_plan` by the ordered search, with a budget of 1 to 100,000 conflicts for the root.
@@ -49,7 +50,9 @@ pub fn gather(
     ensures result { IfOk result (λ t. IsResultOf formula.now (ordered_within budget) t) }
     ensures says { IfOk result (λ t. Says ordered formula.now t) }
 {
-    gather_by_plan(alloc, formula, Plan::ordered(budget), results)
+    let rows = packed(alloc, results)?;
+    let tree = gather_by_plan(alloc, formula, Plan::ordered(budget), rows)?;
+    tree.unpacked(alloc)
 }
 
 /// `solve_one_by_plan` by the ordered search, with a budget of 1 to 100,000 conflicts for the root.
@@ -58,7 +61,8 @@ pub fn solve_one(alloc: Global, formula: &Formula, budget: u32) -> Result<Tree, 
     ensures result { IfOk result (λ t. IsResultOf formula.now (ordered_within budget) t) }
     ensures says { IfOk result (λ t. Says ordered formula.now t) }
 {
-    solve_one_by_plan(alloc, formula, Plan::ordered(budget))
+    let tree = solve_one_by_plan(alloc, formula, Plan::ordered(budget))?;
+    tree.unpacked(alloc)
 }
 
 /// `solve_by_plan` by the ordered search, with a budget of 1 to 100,000 conflicts for the root.
@@ -75,5 +79,6 @@ pub fn solve_with<R: Threads + Wait + Clock + Sync, G: Gate + Sync>(
     ensures result { IfOk result (λ t. IsResultOf formula.now (ordered_within budget) t) }
     ensures says { IfOk result (λ t. Says ordered formula.now t) }
 {
-    solve_by_plan(rt, alloc, formula, Plan::ordered(budget), hands, gate)
+    let tree = solve_by_plan(rt, alloc, formula, Plan::ordered(budget), hands, gate)?;
+    tree.unpacked(alloc)
 }

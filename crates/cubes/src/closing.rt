@@ -13,12 +13,17 @@ ghost use Rattle.cubes.specs.Shares.{share_of, AreNumbered, HaveWorked, AreHarve
 
 use crate::hands::Worked;
 use crate::solved::Solved;
+use cdcl::KeepsLines;
 use cnf::Formula;
+use lines::Row;
 use pool::{Hand, Pool};
 use std::alloc::{AllocError, Global};
 
 /// The hands, and their results one list after the other.
-fn parted(alloc: Global, works: Vec<Worked>) -> Result<(Vec<Hand>, Vec<Solved>), AllocError>
+fn parted<L: Drop>(
+    alloc: Global,
+    works: Vec<Worked<L>>,
+) -> Result<(Vec<Hand>, Vec<Solved<L>>), AllocError>
     ensures hands { IfOk result (λ r. r.0.items ≡ map (λ w. w.hand) works.items) }
     ensures results { IfOk result (λ r. r.1.items ≡ flat_map (λ w. w.solved.items) works.items) }
 {
@@ -37,19 +42,19 @@ fn parted(alloc: Global, works: Vec<Worked>) -> Result<(Vec<Hand>, Vec<Solved>),
 }
 
 /// The results of these hands of the pool, one list after the other, once it is closed: what holds of them by whatever plan the hands worked.
-fn close_all(
+fn close_all<L: KeepsLines>(
     alloc: Global,
     formula: &Formula,
     pool: Pool,
-    works: Vec<Worked>,
-) -> Result<Vec<Solved>, AllocError>
+    works: Vec<Worked<L>>,
+) -> Result<Vec<Solved<L>>, AllocError>
     requires pool { AreAllOf pool (map (λ w. w.hand) works.items) }
     requires some { 1 ≤ length works.items }
     requires in_order { AreNumbered works.items }
     requires root { pool.root ≡ [] }
     requires long { All (λ w. w.short_of_memory ≡ false) works.items }
     ensures results { IfOk result (λ r. r.items ≡ flat_map (λ w. w.solved.items) works.items) }
-    ensures harvested { IfOk result (λ r. (plan : Plan) → HaveWorked formula.now plan works.items → AreHarvested formula.now plan works.items r.items) }
+    ensures harvested { IfOk result (λ r. (plan : Plan) → HaveWorked L.lines formula.now plan works.items → AreHarvested L.lines formula.now plan works.items r.items) }
 {
     let _vars = formula.vars(); // the formula is there for the contract alone
     let (hands, results) = parted(alloc, works)?;
@@ -65,8 +70,8 @@ pub fn harvest_by_plan(
     formula: &Formula,
     plan: cdcl::Plan,
     pool: Pool,
-    works: Vec<Worked>,
-) -> Result<Vec<Solved>, AllocError>
+    works: Vec<Worked<Row>>,
+) -> Result<Vec<Solved<Row>>, AllocError>
     requires pool { AreAllOf pool (map (λ w. w.hand) works.items) }
     requires some { 1 ≤ length works.items }
     requires in_order { AreNumbered works.items }

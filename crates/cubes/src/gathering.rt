@@ -6,13 +6,14 @@ use crate::cube_walk::CubeWalk;
 use crate::tree::{Node, Tree};
 use cdcl::Outcome;
 use kernel::Cube;
+use lines::Row;
 use std::alloc::{AllocError, Global};
 use std::mem;
 
 /// A cube of the tree, and the nodes before it.
 pub(crate) struct Gathering {
     pub(crate) at: CubeWalk,
-    pub(crate) nodes: Vec<Node>,
+    pub(crate) nodes: Vec<Node<Row>>,
 }
 
 // written out, so that proofs of its owners stay short (docs/CHANGING.md)
@@ -36,7 +37,7 @@ impl Gathering {
     }
 
     /// Goes on from the cube, whose outcome this is, to the next one that is needed; or gives the result, where none is.
-    pub(crate) fn go_on(&mut self, outcome: Outcome) -> Result<Option<Tree>, AllocError>
+    pub(crate) fn go_on(&mut self, outcome: Outcome<Row>) -> Result<Option<Tree<Row>>, AllocError>
         requires { CanSplit self.old outcome }
         ensures { IfOk result (λ found. GoesOnWith self.old outcome found self.new) }
     {
@@ -47,8 +48,8 @@ impl Gathering {
                 self.at.enter(var)?;
                 Ok(None)
             }
-            Outcome::Refuted(refutation) => {
-                self.nodes.push(Node::Leaf(refutation))?;
+            Outcome::Refuted(row) => {
+                self.nodes.push(Node::Leaf(row))?;
                 if self.at.go_on()? {
                     return Ok(None);
                 }

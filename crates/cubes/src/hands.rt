@@ -5,9 +5,11 @@ ghost use Rattle.theory.specs.Truth.{Formula, IsOver};
 ghost use Rattle.theory.specs.Plans as plans;
 ghost use Rattle.theory.specs.Runs.{Runs};
 ghost use Rattle.theory.specs.Ledger.{IsFit};
+ghost use Rattle.theory.specs.Round.{HasWorked};
 ghost use Rattle.cdcl.specs.Outcome.{outcome_of};
 ghost use Rattle.pool.specs.Hands.{SameHand};
 ghost use Rattle.cubes.specs.Hands.{Gets, IsWorker, EndsIn, Settles, AddsRound, AddsHandOn, AddsHalves, AddsCarried, Worked_as};
+ghost use Rattle.cubes.specs.Solved.{results_by};
 
 use crate::cube_walk::CubeWalk;
 use crate::gate::{Gate, Watched};
@@ -15,9 +17,10 @@ use crate::pause::Pauses;
 use crate::place::place_of;
 use crate::results::solve;
 use crate::solved::{Solved, What};
-use cdcl::{Outcome, Plan, Solver, split};
+use cdcl::{KeepsLines, Outcome, Plan, Refutation, Solver, split};
 use cnf::Formula;
 use kernel::Cube;
+use lines::Row;
 use pool::{Hand, Taken};
 use std::alloc::{AllocError, Global};
 use std::sync::Wait;
@@ -28,9 +31,9 @@ const DEEPEST: usize = 32;
 
 /// What a hand leaves behind when it goes home.
 #[derive(Drop)]
-pub struct Worked {
+pub struct Worked<L = Refutation> {
     pub hand: Hand,
-    pub solved: Vec<Solved>,
+    pub solved: Vec<Solved<L>>,
     /// Whether a request for memory was refused, so that not all is done.
     pub short_of_memory: bool,
 }
@@ -46,11 +49,11 @@ pub(crate) enum Ending {
 
 /// A hand at its work.
 #[derive(Drop)]
-pub(crate) struct Worker {
+pub(crate) struct Worker<L> {
     pub(crate) hand: Hand,
     /// Its solver, once it has got a cube.
     pub(crate) solver: Option<Solver>,
-    pub(crate) solved: Vec<Solved>,
+    pub(crate) solved: Vec<Solved<L>>,
 }
 
 /// One cube more, from the hand's own deque or else from another's.
@@ -74,7 +77,7 @@ fn next(hand: &mut Hand) -> Option<Cube>
     None
 }
 
-fn ending_of(outcome: &Outcome) -> Ending
+fn ending_of(outcome: &Outcome<Row>) -> Ending
     ensures { (F : Formula) (plan : plans.Plan) (Q : List Literal) → Runs F plan Q (outcome_of outcome.now) → EndsIn F Q (outcome_of outcome.now) result }
 {
     match outcome {
@@ -84,7 +87,7 @@ fn ending_of(outcome: &Outcome) -> Ending
     }
 }
 
-impl Worker {
+impl<L: KeepsLines> Worker<L> {
     /// Solves a cube here, and keeps its result. The gate is told what is done.
     fn settle<G: Gate>(
         &mut self,
@@ -96,7 +99,7 @@ impl Worker {
         requires over { IsOver formula.now.vars cube.now }
         requires worker { IsWorker formula.now plan self.old }
         ensures hand { self.new.hand ≡ self.old.hand }
-        ensures settles { IfOk result (λ e. Settles formula.now plan cube.now e self.old.solved.items self.new.solved.items) }
+        ensures settles { IfOk result (λ e. Settles formula.now plan cube.now e (results_by L.lines self.old.solved.items) (results_by L.lines self.new.solved.items)) }
         ensures worker { OnOk result (IsWorker formula.now plan self.new) }
         ensures none { OnErr result (self.new.solved.items ≡ self.old.solved.items) }
     {
@@ -106,13 +109,13 @@ impl Worker {
         let watched = Watched { gate, hand };
         let outcome = solve(alloc, formula, plan, cube, &mut self.solver, &watched)?;
         let ending = ending_of(&outcome);
-        let what = What::Done(outcome);
+        let what = What::Done(outcome.kept(alloc)?);
         self.solved.push(Solved { cube: copy, what })?;
         Ok(ending)
     }
 }
 
-impl Worker {
+impl<L: KeepsLines> Worker<L> {
     /// Hands a half of a cube on: it is put, or where that is refused, or where it is too deep for the pool, carried on here.
     fn hand_on<G: Gate>(
         &mut self,
@@ -125,7 +128,7 @@ impl Worker {
         requires worker { IsWorker formula.now plan self.old }
         ensures same { SameHand self.old.hand self.new.hand }
         ensures worker { OnOk result (IsWorker formula.now plan self.new) }
-        ensures part { AddsHandOn formula.now plan (is_ok result) half self.old.hand.ledger self.new.hand.ledger self.old.solved.items self.new.solved.items }
+        ensures part { AddsHandOn formula.now plan (is_ok result) half self.old.hand.ledger self.new.hand.ledger (results_by L.lines self.old.solved.items) (results_by L.lines self.new.solved.items) }
     {
         if half.lits().len() > DEEPEST {
             return self.carry_on(formula, plan, gate, half);
@@ -155,7 +158,7 @@ impl Worker {
         requires worker { IsWorker formula.now plan self.old }
         ensures same { SameHand self.old.hand self.new.hand }
         ensures worker { OnOk result (IsWorker formula.now plan self.new) }
-        ensures part { AddsHalves formula.now plan (is_ok result) cube.now var self.old.hand.ledger self.new.hand.ledger self.old.solved.items self.new.solved.items }
+        ensures part { AddsHalves formula.now plan (is_ok result) cube.now var self.old.hand.ledger self.new.hand.ledger (results_by L.lines self.old.solved.items) (results_by L.lines self.new.solved.items) }
     {
         let _vars = formula.vars(); // it ensures that there are fewer than 2^31
         let (left, right) = split(cube, var)?;
@@ -175,7 +178,7 @@ impl Worker {
         requires worker { IsWorker formula.now plan self.old }
         ensures same { SameHand self.old.hand self.new.hand }
         ensures worker { OnOk result (IsWorker formula.now plan self.new) }
-        ensures part { AddsCarried formula.now plan (is_ok result) half self.old.hand.ledger self.new.hand.ledger self.old.solved.items self.new.solved.items }
+        ensures part { AddsCarried formula.now plan (is_ok result) half self.old.hand.ledger self.new.hand.ledger (results_by L.lines self.old.solved.items) (results_by L.lines self.new.solved.items) }
     {
         let _vars = formula.vars(); // it ensures that there are fewer than 2^31
         let _lits = half.lits(); // it ensures that their variables are distinct
@@ -208,7 +211,7 @@ impl Worker {
         requires worker { IsWorker formula.now plan self.old }
         ensures same { SameHand self.old.hand self.new.hand }
         ensures worker { OnOk result (IsWorker formula.now plan self.new) }
-        ensures part { AddsRound formula.now plan (is_ok result) cube self.old.hand.ledger self.new.hand.ledger self.old.solved.items self.new.solved.items }
+        ensures part { AddsRound formula.now plan (is_ok result) cube self.old.hand.ledger self.new.hand.ledger (results_by L.lines self.old.solved.items) (results_by L.lines self.new.solved.items) }
     {
         let place = place_of(&cube);
         let seen = self.hand.look();
@@ -233,8 +236,8 @@ impl Worker {
     }
 }
 
-impl Worker {
-    fn home(self, short_of_memory: bool) -> Worked
+impl<L: KeepsLines> Worker<L> {
+    fn home(self, short_of_memory: bool) -> Worked<L>
         ensures hand { result.hand ≡ self.hand }
         ensures solved { result.solved.items ≡ self.solved.items }
         ensures short { result.short_of_memory ≡ short_of_memory }
@@ -252,21 +255,18 @@ impl Worker {
     }
 }
 
-/// The work of a hand: it takes cubes from its own deque, or else steals from the others, until nothing is left to be done or a hand
-/// halted. Each cube that it gets is skipped where a model lies left of it, and else solved, and the halves of an exhausted one are put.
-/// It is the caller that waits: until nothing is left to be done by any hand. A hand that finds no cube yields its processor, a hundred
-/// times, and then sleeps between its looks, for 50 microseconds at first and for up to a millisecond, until it gets one.
-pub fn work_by_plan<R: Wait + Clock, G: Gate>(
+/// What `work_by_plan` does, whatever keeps the lines of refuted cubes.
+pub(crate) fn work_in<L: KeepsLines, R: Wait + Clock, G: Gate>(
     rt: &R,
     alloc: Global,
     hand: Hand,
     formula: &Formula,
     plan: Plan,
     gate: &G,
-) -> Worked
+) -> Worked<L>
     requires vars { hand.vars ≡ formula.now.vars }
     ensures same { SameHand hand result.hand }
-    ensures work { Worked_as formula.now plan result.short_of_memory hand.ledger result.hand.ledger result.solved.items }
+    ensures work { HasWorked formula.now plan result.short_of_memory hand.ledger result.hand.ledger (results_by L.lines result.solved.items) }
 {
     let mut worker = Worker {
         hand,
@@ -297,4 +297,23 @@ pub fn work_by_plan<R: Wait + Clock, G: Gate>(
         }
     }
     worker.home(false)
+}
+
+/// The work of a hand: it takes cubes from its own deque, or else steals from the others, until nothing is left to be done or a hand
+/// halted. Each cube that it gets is skipped where a model lies left of it, and else solved, and the halves of an exhausted one are put.
+/// It is the caller that waits: until nothing is left to be done by any hand. A hand that finds no cube yields its processor, a hundred
+/// times, and then sleeps between its looks, for 50 microseconds at first and for up to a millisecond, until it gets one.
+pub fn work_by_plan<R: Wait + Clock, G: Gate>(
+    rt: &R,
+    alloc: Global,
+    hand: Hand,
+    formula: &Formula,
+    plan: Plan,
+    gate: &G,
+) -> Worked<Row>
+    requires vars { hand.vars ≡ formula.now.vars }
+    ensures same { SameHand hand result.hand }
+    ensures work { Worked_as formula.now plan result.short_of_memory hand.ledger result.hand.ledger result.solved.items }
+{
+    work_in(rt, alloc, hand, formula, plan, gate)
 }

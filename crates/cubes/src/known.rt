@@ -9,18 +9,19 @@ use crate::solved::{Solved, What};
 use cdcl::Outcome;
 use cnf::Lit;
 use kernel::Cube;
+use lines::Row;
 use std::alloc::{AllocError, Global};
 use std::collections::HashMap;
 
 /// Outcomes of cubes, by the cubes' literals.
 #[derive(Drop)]
 pub(crate) struct Known {
-    outcomes: HashMap<Vec<Lit>, Outcome>,
+    outcomes: HashMap<Vec<Lit>, Outcome<Row>>,
 }
 
 impl Known {
     /// The outcomes among the results. Of two outcomes of one cube the later one serves.
-    pub(crate) fn new(alloc: Global, results: Vec<Solved>) -> Result<Known, AllocError>
+    pub(crate) fn new(alloc: Global, results: Vec<Solved<Row>>) -> Result<Known, AllocError>
         ensures { IfOk result (λ k. AreKnown (map solved_of results.items) k) }
     {
         let mut known = Known {
@@ -36,7 +37,7 @@ impl Known {
         Ok(known)
     }
 
-    fn put(&mut self, alloc: Global, cube: &Cube, outcome: Outcome) -> Result<(), AllocError>
+    fn put(&mut self, alloc: Global, cube: &Cube, outcome: Outcome<Row>) -> Result<(), AllocError>
         ensures outcome { OnOk result (known_of self.new cube.now ≡ Some outcome) }
         ensures others { OnOk result ((Q : List Literal) → AreOfVariables Q → Q ≢ cube.now → known_of self.new Q ≡ known_of self.old Q) }
         ensures variables { AreOfVariables cube.now }
@@ -47,7 +48,7 @@ impl Known {
     }
 
     /// The outcome of the cube, if it is known; it is handed out once. It costs a look-up.
-    pub(crate) fn take(&mut self, cube: &Cube) -> Option<Outcome>
+    pub(crate) fn take(&mut self, cube: &Cube) -> Option<Outcome<Row>>
         ensures outcome { result ≡ known_of self.old cube.now }
         ensures gone { known_of self.new cube.now ≡ None }
         ensures others { (Q : List Literal) → AreOfVariables Q → Q ≢ cube.now → known_of self.new Q ≡ known_of self.old Q }

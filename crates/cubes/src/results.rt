@@ -17,6 +17,7 @@ use crate::tree::Tree;
 use cdcl::{Outcome, Plan, Solver, Unwatched, Watcher};
 use cnf::Formula;
 use kernel::Cube;
+use lines::Row;
 use std::alloc::{AllocError, Global};
 
 /// The outcome of a cube, by the solver of the formula and the plan, which is made where there is
@@ -28,7 +29,7 @@ pub(crate) fn solve<W: Watcher>(
     cube: &Cube,
     solver: &mut Option<Solver>,
     watcher: &W,
-) -> Result<Outcome, AllocError>
+) -> Result<Outcome<Row>, AllocError>
     requires over { IsOver formula.now.vars cube.now }
     requires solver { IfSome solver.old (IsSolverOf formula.now plan) }
     ensures runs { IfOk result (λ o. Runs formula.now plan cube.now (outcome_of o)) }
@@ -68,7 +69,7 @@ impl Source {
         formula: &Formula,
         plan: Plan,
         cube: &Cube,
-    ) -> Result<Outcome, AllocError>
+    ) -> Result<Outcome<Row>, AllocError>
         requires over { IsOver formula.now.vars cube.now }
         requires source { IsSource formula.now plan self.old }
         ensures runs { IfOk result (λ o. Runs formula.now plan cube.now (outcome_of o)) }
@@ -88,8 +89,8 @@ pub fn gather_by_plan(
     alloc: Global,
     formula: &Formula,
     plan: Plan,
-    results: Vec<Solved>,
-) -> Result<Tree, AllocError>
+    results: Vec<Solved<Row>>,
+) -> Result<Tree<Row>, AllocError>
     requires results { AreTrueResults formula.now plan results.items }
     ensures result { IfOk result (λ t. IsResultOf formula.now plan t) }
     ensures says { IfOk result (λ t. Says plan.search formula.now t) }
@@ -111,7 +112,7 @@ pub fn gather_by_plan(
 /// The result of the formula and the plan of which the results are whole: each cube of their tree has its outcome among them, or lies
 /// right of a model. Neither the formula nor the plan is asked for, and nothing is solved. It fails only where a request for memory is
 /// refused.
-pub fn assemble(alloc: Global, results: Vec<Solved>) -> Result<Tree, AllocError>
+pub fn assemble_rows(alloc: Global, results: Vec<Solved<Row>>) -> Result<Tree<Row>, AllocError>
     requires { (F : Formula) × (plan : plans.Plan) × (F.vars < 2 ^ 31) × IsWhole F plan (map solved_of results.items) }
     ensures { IfOk result (λ t. (F : Formula) (plan : plans.Plan) → IsWhole F plan (map solved_of results.items) → IsResultOf F plan t) }
 {
@@ -129,7 +130,11 @@ pub fn assemble(alloc: Global, results: Vec<Solved>) -> Result<Tree, AllocError>
 }
 
 /// The result of the formula by the plan. It fails only where a request for memory is refused.
-pub fn solve_one_by_plan(alloc: Global, formula: &Formula, plan: Plan) -> Result<Tree, AllocError>
+pub fn solve_one_by_plan(
+    alloc: Global,
+    formula: &Formula,
+    plan: Plan,
+) -> Result<Tree<Row>, AllocError>
     ensures result { IfOk result (λ t. IsResultOf formula.now plan t) }
     ensures says { IfOk result (λ t. Says plan.search formula.now t) }
 {

@@ -3,20 +3,20 @@ ghost use Rattle.std.specs.Prelude.{◌≡◌, ◌≤◌, ◌<◌, ℕ, [], fals
 ghost use Rattle.theory.specs.Results.{IsWhole};
 ghost use Rattle.pool.specs.Hands.{HandView};
 ghost use Rattle.pool.specs.Pools.{AreNew};
-ghost use Rattle.cubes.specs.declared.hands.Worked.{Worked};
 ghost use Rattle.cubes.specs.Result.{IsResultOf, Says};
-ghost use Rattle.cubes.specs.Shares.{HasDone};
+ghost use Rattle.cubes.specs.Shares.{HasDone, LinesWorked};
 ghost use Rattle.cubes.specs.Solved.{solved_of};
 
 use crate::closing::harvest_by_plan;
 use crate::gate::Gate;
 use crate::hands::{Worked, work_by_plan};
-use crate::results::{assemble, solve_one_by_plan};
+use crate::results::{assemble_rows, solve_one_by_plan};
 use crate::solved::Solved;
 use crate::tree::Tree;
 use cdcl::Plan;
 use cnf::Formula;
 use kernel::Cube;
+use lines::Row;
 use pool::{Hand, Pool};
 use std::alloc::{AllocError, Global};
 use std::sync::Wait;
@@ -32,23 +32,23 @@ fn all_work<R: Threads + Wait + Clock + Sync, G: Gate + Sync>(
     plan: Plan,
     gate: &G,
     hands: Vec<Hand>,
-) -> Result<Vec<Worked>, AllocError>
+) -> Result<Vec<Worked<Row>>, AllocError>
     requires vars { All (λ h. h.vars ≡ formula.now.vars) hands.items }
     ensures len { IfOk result (λ v. length v.items ≡ length hands.items) }
-    ensures each { IfOk result (λ v. (i : ℕ) (d : HandView) (e : Worked) → i < length hands.items
+    ensures each { IfOk result (λ v. (i : ℕ) (d : HandView) (e : LinesWorked) → i < length hands.items
         → HasDone formula.now plan (slice_index_or hands.items i d) (slice_index_or v.items i e)) }
 {
     thread::map_vec(
         rt,
         hands,
-        &|hand: Hand| -> Worked
+        &|hand: Hand| -> Worked<Row>
             requires { hand.vars ≡ formula.now.vars }
             ensures { HasDone formula.entry.now plan hand result }
         { work_by_plan(rt, alloc, hand, formula, plan, gate) },
     )
 }
 
-fn is_short(works: &[Worked]) -> bool
+fn is_short(works: &[Worked<Row>]) -> bool
     ensures { result ≡ false → All (λ w. w.short_of_memory ≡ false) works.now }
 {
     for worked in works {
@@ -68,7 +68,7 @@ pub fn results_by_hands<R: Threads + Wait + Clock + Sync, G: Gate + Sync>(
     gate: &G,
     pool: Pool,
     hands: Vec<Hand>,
-) -> Result<Vec<Solved>, AllocError>
+) -> Result<Vec<Solved<Row>>, AllocError>
     requires some { 1 ≤ pool.hands }
     requires root { pool.root ≡ [] }
     requires hands { AreNew pool formula.now.vars hands.items }
@@ -90,7 +90,7 @@ fn solve_by_hands<R: Threads + Wait + Clock + Sync, G: Gate + Sync>(
     gate: &G,
     pool: Pool,
     hands: Vec<Hand>,
-) -> Result<Tree, AllocError>
+) -> Result<Tree<Row>, AllocError>
     requires some { 1 ≤ pool.hands }
     requires root { pool.root ≡ [] }
     requires hands { AreNew pool formula.now.vars hands.items }
@@ -99,7 +99,7 @@ fn solve_by_hands<R: Threads + Wait + Clock + Sync, G: Gate + Sync>(
 {
     let _vars = formula.vars(); // it ensures what the proof needs of the formula
     let results = results_by_hands(rt, alloc, formula, plan, gate, pool, hands)?;
-    assemble(alloc, results)
+    assemble_rows(alloc, results)
 }
 
 /// The result of the formula by the plan, by 1 to 16 hands, each in a thread of its own where one can be started. It is the same for any number of hands, any gate and any schedule. It fails only where a request for memory is refused,
@@ -111,7 +111,7 @@ pub fn solve_by_plan<R: Threads + Wait + Clock + Sync, G: Gate + Sync>(
     plan: Plan,
     hands: usize,
     gate: &G,
-) -> Result<Tree, AllocError>
+) -> Result<Tree<Row>, AllocError>
     requires hands { (1 ≤ hands) × (hands ≤ 16) }
     ensures result { IfOk result (λ t. IsResultOf formula.now plan t) }
     ensures says { IfOk result (λ t. Says plan.search formula.now t) }

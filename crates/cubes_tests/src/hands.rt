@@ -41,7 +41,7 @@ pub fn worked<R: Wait + Clock>(rt: &R, alloc: Global, text: &[u8]) -> Result<Wor
     worked_at(rt, alloc, text, &OpenGate)
 }
 
-pub fn is_result(solved: &Solved, numbers: &[i32], given: Given) -> bool {
+pub fn is_result<L>(solved: &Solved<L>, numbers: &[i32], given: Given) -> bool {
     let is_as_wanted = match &solved.what {
         What::Done(outcome) => is_given(outcome, given),
         What::Skipped(place) => matches!(given, Given::Skipped(wanted) if wanted == *place),

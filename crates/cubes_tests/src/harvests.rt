@@ -9,8 +9,9 @@ use crate::hands::is_result;
 use crate::results::{Given, NODES, NODES_OF_SIXTEEN, WantedTree, is_tree};
 use cdcl::Plan;
 use cnf::{Formula, read_formula};
-use cubes::{OpenGate, Solved, Tree, assemble, results_by_hands};
+use cubes::{OpenGate, Solved, Tree, assemble_rows, results_by_hands};
 use kernel::Cube;
+use lines::Row as LineRow;
 use samples::{EIGHT, SIXTEEN, TWO_MODELS};
 use std::alloc::{AllocError, Global};
 use std::sync::Wait;
@@ -27,7 +28,7 @@ fn harvested<R: Threads + Wait + Clock + Sync>(
     alloc: Global,
     formula: &Formula,
     hands: usize,
-) -> Result<Vec<Solved>, Fail>
+) -> Result<Vec<Solved<LineRow>>, Fail>
     requires { (1 ≤ hands) × (hands ≤ 16) }
     ensures { IfOk result (λ r. IsWhole formula.now (ordered_within 1) (map solved_of r.items)) }
 {
@@ -35,15 +36,19 @@ fn harvested<R: Threads + Wait + Clock + Sync>(
     Ok(results_by_hands(rt, alloc, formula, Plan::ordered(1), &OpenGate, pool, all)?)
 }
 
-fn tree_of(alloc: Global, formula: &Formula, results: Vec<Solved>) -> Result<Tree, AllocError>
+fn tree_of(
+    alloc: Global,
+    formula: &Formula,
+    results: Vec<Solved<LineRow>>,
+) -> Result<Tree, AllocError>
     requires { IsWhole formula.now (ordered_within 1) (map solved_of results.items) }
 {
     let _vars = formula.vars(); // it ensures that there are fewer than 2^31
-    assemble(alloc, results)
+    assemble_rows(alloc, results)?.unpacked(alloc)
 }
 
 /// Whether one of the results is this one, and no more.
-fn is_there_once(results: &[Solved], row: &Row) -> bool {
+fn is_there_once(results: &[Solved<LineRow>], row: &Row) -> bool {
     let mut found = false;
     for solved in results {
         if is_result(solved, row.0, row.1) {
@@ -57,7 +62,7 @@ fn is_there_once(results: &[Solved], row: &Row) -> bool {
 }
 
 /// Whether each of the rows is among the results once, and nothing else is.
-fn are_these(results: &[Solved], rows: &[Row]) -> bool {
+fn are_these(results: &[Solved<LineRow>], rows: &[Row]) -> bool {
     if results.len() != rows.len() {
         return false;
     }

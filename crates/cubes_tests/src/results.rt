@@ -36,7 +36,7 @@ pub enum WantedTree {
 }
 
 /// Whether an outcome is the one that a row names.
-pub fn is_given(outcome: &Outcome, given: Given) -> bool {
+pub fn is_given<L>(outcome: &Outcome<L>, given: Given) -> bool {
     match outcome {
         Outcome::Model(values) =>
             matches!(given, Given::Model(wanted) if values.as_slice() == wanted),

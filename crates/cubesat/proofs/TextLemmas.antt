@@ -5,16 +5,15 @@ use Rattle.theory.specs.Plans.{Plan}
 use Rattle.theory.specs.Steps.{Step}
 use Rattle.theory.specs.Texts.{proof_text}
 use Rattle.theory.specs.Written.{IsUnsatisfiableText}
-use Rattle.cubes.specs.declared.tree.Tree.{Tree}
 use Rattle.cubes.specs.declared.tree.Tree.TheVariants.{Model, Refuted}
-use Rattle.cubes.specs.Result.{IsResultOf, Says}
+use Rattle.cubes.specs.Result.{LinesTree, IsResultOf, Says}
 use Rattle.join.specs.Numbered.{AreStepsOf, AreAccepted, AreWithin}
 use Rattle.lrat_text.proofs.WrittenTexts.{proof_text-ProofReads}
 use Rattle.cubesat.specs.declared.verdict.Verdict.{Verdict}
 use Rattle.cubesat.specs.Run.{AreTexts}
 use Rattle.cubesat.specs.Written.{IsAnswer}
 
-pub result-texts : (F : Formula) (plan : Plan) (tree : Tree) (verdict : Verdict) (steps : List Step) (answer : List ℕ) → IsResultOf F plan tree → Says plan.search F tree → IsAnswer tree verdict answer
+pub result-texts : (F : Formula) (plan : Plan) (tree : LinesTree) (verdict : Verdict) (steps : List Step) (answer : List ℕ) → IsResultOf F plan tree → Says plan.search F tree → IsAnswer tree verdict answer
     → AreStepsOf F tree steps → AreWithin steps → AreAccepted F tree steps → AreTexts F plan verdict (proof_text steps) answer
 result-texts F plan (Model values) verdict steps answer result says is are within accepts =
     rw is.0 (record { model = values.items; found = says; is_result = result; proof_is = ap proof_text are; answer_is = is.1 })

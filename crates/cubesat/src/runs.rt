@@ -17,6 +17,7 @@ use cdcl::Plan;
 use cnf::{Formula, read_from};
 use cubes::{Tree, solve_one_by_plan};
 use join::{Lines, answer_bytes};
+use lines::Row;
 use std::alloc::{AllocError, Global};
 use std::io::{Read, Write};
 
@@ -48,7 +49,7 @@ impl Drop for Output {
 fn answer_of(
     alloc: Global,
     formula: &Formula,
-    tree: &Tree,
+    tree: &Tree<Row>,
 ) -> Result<(Verdict, Vec<u8>), AllocError>
     requires { (search : plans.Search) × Says search formula.now tree.now }
     ensures { IfOk result (λ p. IsAnswer tree.now p.0 p.1.items) }
@@ -70,7 +71,7 @@ pub(crate) fn output_of(
     alloc: Global,
     formula: &Formula,
     plan: Plan,
-    tree: Tree,
+    tree: Tree<Row>,
 ) -> Result<Output, AllocError>
     requires result { IsResultOf formula.now plan tree }
     requires says { Says plan.search formula.now tree }

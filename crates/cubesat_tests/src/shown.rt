@@ -22,7 +22,7 @@ static RUNS: [(&str, &[&str], &str, &str); 6] = [
             "FORMULA",
         ],
         "s UNSATISFIABLE\n",
-        "c formula: 3 variables, 8 clauses, 24 literals\nc hands: 1\nc search: 5 conflicts, 4 decisions, 13 propagations, 0 restarts\nc clauses: 2 learnt, 0 forgotten\nc cubes: 3 solved, 1 split, 0 skipped\nc learnt: 4 lines in refuted cubes\nc solved by each hand: 3\nc proof: 7 lines, 94 bytes\nc reading: ",
+        "c formula: 3 variables, 8 clauses, 24 literals\nc hands: 1\nc search: 5 conflicts, 4 decisions, 13 propagations, 0 restarts\nc clauses: 2 learnt, 0 forgotten\nc cubes: 3 solved, 1 split, 0 skipped\nc learnt: 4 lines in refuted cubes, kept in 20 bytes\nc solved by each hand: 3\nc proof: 7 lines, 94 bytes\nc reading: ",
     ),
     (
         EIGHT,
@@ -31,7 +31,7 @@ static RUNS: [(&str, &[&str], &str, &str); 6] = [
             "FORMULA",
         ],
         "s UNSATISFIABLE\n",
-        "c formula: 3 variables, 8 clauses, 24 literals\nc hands: 1\nc search: 4 conflicts, 3 decisions, 10 propagations, 0 restarts\nc clauses: 3 learnt, 0 forgotten\nc cubes: 1 solved, 0 split, 0 skipped\nc learnt: 4 lines in refuted cubes\nc solved by each hand: 1\nc proof: 4 lines, 62 bytes\nc reading: ",
+        "c formula: 3 variables, 8 clauses, 24 literals\nc hands: 1\nc search: 4 conflicts, 3 decisions, 10 propagations, 0 restarts\nc clauses: 3 learnt, 0 forgotten\nc cubes: 1 solved, 0 split, 0 skipped\nc learnt: 4 lines in refuted cubes, kept in 24 bytes\nc solved by each hand: 1\nc proof: 4 lines, 62 bytes\nc reading: ",
     ),
     (
         "p cnf 2 1\n1 2 0\n",
@@ -49,7 +49,7 @@ static RUNS: [(&str, &[&str], &str, &str); 6] = [
             "FORMULA",
         ],
         "s UNSATISFIABLE\n",
-        "c formula: 3 variables, 8 clauses, 24 literals\nc hands: 16\nc search: 5 conflicts, 4 decisions, 13 propagations, 0 restarts\nc clauses: 2 learnt, 0 forgotten\nc cubes: 3 solved, 1 split, 0 skipped\nc learnt: 4 lines in refuted cubes\nc solved by each hand: ",
+        "c formula: 3 variables, 8 clauses, 24 literals\nc hands: 16\nc search: 5 conflicts, 4 decisions, 13 propagations, 0 restarts\nc clauses: 2 learnt, 0 forgotten\nc cubes: 3 solved, 1 split, 0 skipped\nc learnt: 4 lines in refuted cubes, kept in 20 bytes\nc solved by each hand: ",
     ),
     (
         FOUR,
@@ -57,7 +57,7 @@ static RUNS: [(&str, &[&str], &str, &str); 6] = [
             "cubesat", "solve", "--stats", "--search", "ordered", "--proof", "PROOF", "FORMULA",
         ],
         "s UNSATISFIABLE\n",
-        "c formula: 2 variables, 4 clauses, 8 literals\nc hands: 1\nc search: 2 conflicts, 1 decisions, 4 propagations, 0 restarts\nc clauses: 1 learnt, 0 forgotten\nc cubes: 1 solved, 0 split, 0 skipped\nc learnt: 2 lines in refuted cubes\nc solved by each hand: 1\nc proof: 2 lines, 24 bytes\nc reading: ",
+        "c formula: 2 variables, 4 clauses, 8 literals\nc hands: 1\nc search: 2 conflicts, 1 decisions, 4 propagations, 0 restarts\nc clauses: 1 learnt, 0 forgotten\nc cubes: 1 solved, 0 split, 0 skipped\nc learnt: 2 lines in refuted cubes, kept in 10 bytes\nc solved by each hand: 1\nc proof: 2 lines, 24 bytes\nc reading: ",
     ),
     (
         FOUR,
@@ -65,7 +65,7 @@ static RUNS: [(&str, &[&str], &str, &str); 6] = [
             "cubesat", "solve", "--stats", "--search", "focused", "--proof", "PROOF", "FORMULA",
         ],
         "s UNSATISFIABLE\n",
-        "c formula: 2 variables, 4 clauses, 8 literals\nc hands: 1\nc search: 2 conflicts, 1 decisions, 4 propagations, 0 restarts\nc clauses: 1 learnt, 0 forgotten\nc cubes: 1 solved, 0 split, 0 skipped\nc learnt: 2 lines in refuted cubes\nc solved by each hand: 1\nc proof: 2 lines, 24 bytes\nc reading: ",
+        "c formula: 2 variables, 4 clauses, 8 literals\nc hands: 1\nc search: 2 conflicts, 1 decisions, 4 propagations, 0 restarts\nc clauses: 1 learnt, 0 forgotten\nc cubes: 1 solved, 0 split, 0 skipped\nc learnt: 2 lines in refuted cubes, kept in 10 bytes\nc solved by each hand: 1\nc proof: 2 lines, 24 bytes\nc reading: ",
     ),
 ];
 
@@ -122,7 +122,7 @@ const FULL: &str = "/dev/full";
 
 /// The lines of a run on the four clauses whose proof isn't written, up to the times.
 const UNWRITTEN: &str =
-    "c formula: 2 variables, 4 clauses, 8 literals\nc hands: 1\nc search: 2 conflicts, 1 decisions, 4 propagations, 0 restarts\nc clauses: 1 learnt, 0 forgotten\nc cubes: 1 solved, 0 split, 0 skipped\nc learnt: 2 lines in refuted cubes\nc solved by each hand: 1\nc proof: 0 lines, 0 bytes\nc reading: ";
+    "c formula: 2 variables, 4 clauses, 8 literals\nc hands: 1\nc search: 2 conflicts, 1 decisions, 4 propagations, 0 restarts\nc clauses: 1 learnt, 0 forgotten\nc cubes: 1 solved, 0 split, 0 skipped\nc learnt: 2 lines in refuted cubes, kept in 10 bytes\nc solved by each hand: 1\nc proof: 0 lines, 0 bytes\nc reading: ";
 
 /// Whether this is what such a run prints.
 fn is_unwritten(faults: &[u8]) -> bool {

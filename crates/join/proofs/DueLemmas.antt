@@ -12,7 +12,7 @@ use Rattle.cubes.specs.declared.traversal.Split.{Split}
 use Rattle.join.specs.declared.line.Kind.{Kind}
 use Rattle.join.specs.declared.line.Kind.TheVariants.{Addition, Deletion}
 use Rattle.join.specs.declared.line.ProofLine.{ProofLine}
-use Rattle.join.specs.declared.lines.Lines.{Lines}
+use Rattle.join.specs.declared.proof_lines.Lines.{Lines}
 use Rattle.cubes.specs.Traversal.{half, path}
 use Rattle.join.specs.Numbered.{numbers_due}
 use Rattle.join.specs.Walking.{IsBetweenLines, Makes, line_of, lines_left, step_by, tree_left}

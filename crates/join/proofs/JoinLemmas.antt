@@ -9,6 +9,7 @@ use Rattle.theory.specs.Pure.{pure_literals}
 use Rattle.theory.specs.Reading.{IsWithinLimits, max_vars, max_clauses}
 use Rattle.theory.specs.Search.{first_clauses}
 use Rattle.theory.specs.Trees as trees
+use Rattle.theory.specs.Learning.{Line}
 use Rattle.theory.specs.Steps.{Step}
 use Rattle.theory.specs.Proofs.{unit_steps, proof}
 use Rattle.theory.specs.ProofReading.{IsStep}
@@ -16,12 +17,11 @@ use Rattle.theory.specs.Checking.{checks}
 use Rattle.theory.proofs.AcceptedProofs.{checks-proof}
 use Rattle.theory.proofs.PureVariables.{length-first_clauses, length-pure_literals}
 use Rattle.cubes.specs.declared.tree.Node.{Node}
-use Rattle.cubes.specs.declared.tree.Tree.{Tree}
 use Rattle.cubes.specs.declared.tree.Tree.TheVariants.{Model, Refuted}
-use Rattle.cubes.specs.Result.{node_of, IsResultOf}
+use Rattle.cubes.specs.Result.{LinesTree, node_of, IsResultOf}
 use Rattle.join.specs.declared.line.Due.TheVariants.{Nothing}
 use Rattle.join.specs.Joining.{Joined, lines_below, lines_from}
-use Rattle.join.specs.declared.lines.Lines.{Lines}
+use Rattle.join.specs.declared.proof_lines.Lines.{Lines}
 use Rattle.join.specs.declared.walk.TreeWalk.{TreeWalk}
 use Rattle.join.specs.Numbered.{AreLines, AreNodes, AreNodesOf, AreUnitsOf, AreStepsOf, AreAccepted, AreWithin, IsHalf}
 use Rattle.join.specs.Walking.{IsAt, IsBegun, IsBetweenLines, lines_left}
@@ -31,7 +31,7 @@ use Rattle.join.proofs.WalkLemmas.{lines_from-root}
 use Rattle.join.proofs.StepLemmas.{proof-within}
 
 -- there are as many pure literals as variables at most
-pub few-units : (F : Formula) (tree : Tree) (units : List Literal) → IsWithinLimits F → AreUnitsOf F tree units → length units ≤ max_vars
+pub few-units : (F : Formula) (tree : LinesTree) (units : List Literal) → IsWithinLimits F → AreUnitsOf F tree units → length units ≤ max_vars
 few-units F (Model values) units within are = let none = ap (λ (ls : List Literal). length ls) are in omega arith
 few-units F (Refuted ns) units within are = let all = ap (λ (ls : List Literal). length ls) are in let few = length-pure_literals F in let vars = within.vars in omega arith
 
@@ -40,14 +40,14 @@ first-count : (F : Formula) (units : List Literal) (C N : ℕ) → C ≡ length 
 first-count F units C N clauses count are = let all = ap (λ (ls : List Literal). length ls) are in let first = length-first_clauses F in omega arith
 
 -- the nodes of a formula's result are within their limits
-result-nodes : (F : Formula) (plan : Plan) (C N : ℕ) (tree : Tree) (units : List Literal) (nodes : List Node) → IsWithinLimits F → C ≡ length F.clauses → N ≡ C + length units → AreUnitsOf F tree units → IsResultOf F plan tree → AreNodesOf tree nodes
+result-nodes : (F : Formula) (plan : Plan) (C N : ℕ) (tree : LinesTree) (units : List Literal) (nodes : List (Node (List Line))) → IsWithinLimits F → C ≡ length F.clauses → N ≡ C + length units → AreUnitsOf F tree units → IsResultOf F plan tree → AreNodesOf tree nodes
     → AreNodes N (map node_of nodes)
 result-nodes F plan C N (Model values) units nodes within clauses count are r same = rw same tt
 result-nodes F plan C N (Refuted ns) units nodes within clauses count are r same =
     rw (same, first-count F units C N clauses count are, r.2) (tree-nodes F plan [] r.0 within refl (λ l a. absurd (cc)) r.1.0)
 
 -- the lines from the first one on are the tree's proof
-whole-proof : (F : Formula) (N : ℕ) (t : trees.Tree) (units : List Literal) (nodes : List Node) → units ≡ pure_literals F → N ≡ length (first_clauses F) → trees.first_model t ≡ None → trees.nodes_of t ≡ map node_of nodes
+whole-proof : (F : Formula) (N : ℕ) (t : trees.Tree) (units : List Literal) (nodes : List (Node (List Line))) → units ≡ pure_literals F → N ≡ length (first_clauses F) → trees.first_model t ≡ None → trees.nodes_of t ≡ map node_of nodes
     → unit_steps (length F.clauses + 1) units ++ lines_from N (N + 1) (N + 1) [] [] (map node_of nodes) ≡ proof F t
 whole-proof F N t units nodes pure count none are =
     let first = length (first_clauses F) in
@@ -58,7 +58,7 @@ whole-proof F N t units nodes pure count none are =
     ∙ (ap (λ n. lines_below n (n + 1) [] (trees.nodes_of t)) count
     ∙ ap (λ (s : Joined). s.steps) (on_nodes-tree first t (record { halves = []; next = first + 1; steps = [] }) none))))
 
-pub begun-steps : (l : Lines) (F : Formula) (N : ℕ) (tree : Tree) (units : List Literal) (nodes : List Node) → l.unit ≡ length F.clauses + 1 → into_iter_items l.units ≡ units → l.due ≡ Nothing → IsBegun N nodes l.walk
+pub begun-steps : (l : Lines) (F : Formula) (N : ℕ) (tree : LinesTree) (units : List Literal) (nodes : List (Node (List Line))) → l.unit ≡ length F.clauses + 1 → into_iter_items l.units ≡ units → l.due ≡ Nothing → IsBegun N nodes l.walk
     → N ≡ length F.clauses + length units → AreUnitsOf F tree units → AreNodesOf tree nodes → AreStepsOf F tree (lines_left l)
 begun-steps l F N (Model values) units nodes unit here due begun count are same =
     rw (here, are, due, begun.place, begun.leaf, begun.nodes, same) refl
@@ -67,19 +67,19 @@ begun-steps l F N (Refuted ns) units nodes unit here due begun count are same = 
     (whole-proof F N t units nodes are (first-count F units (length F.clauses) N refl count are) none (of_tree ∙ ap (map node_of) (sym same)))
 
 -- the checker accepts the steps of a result that is no model
-pub accepted-steps : (F : Formula) (plan : Plan) (tree : Tree) (steps : List Step) → IsFormula F → IsResultOf F plan tree → AreStepsOf F tree steps → AreAccepted F tree steps
+pub accepted-steps : (F : Formula) (plan : Plan) (tree : LinesTree) (steps : List Step) → IsFormula F → IsResultOf F plan tree → AreStepsOf F tree steps → AreAccepted F tree steps
 accepted-steps F plan (Model values) steps is_formula result are = record {}
 accepted-steps F plan (Refuted nodes) steps is_formula result are =
     ap (checks F) (are result.0 result.1.1 (sym result.2)) ∙ checks-proof F plan result.0 is_formula result.1.0 result.1.1
 
 -- their numbers are within the limits
-pub within-steps : (F : Formula) (plan : Plan) (tree : Tree) (steps : List Step) → IsWithinLimits F → IsResultOf F plan tree → AreStepsOf F tree steps → AreWithin steps
+pub within-steps : (F : Formula) (plan : Plan) (tree : LinesTree) (steps : List Step) → IsWithinLimits F → IsResultOf F plan tree → AreStepsOf F tree steps → AreWithin steps
 within-steps F plan (Model values) steps within result are = λ short. rw are (All-nil IsStep)
 within-steps F plan (Refuted nodes) steps within result are =
     rw (are result.0 result.1.1 (sym result.2)) (λ short. proof-within F plan result.0 within result.1.0 result.1.1 short)
 
 -- what is kept before the first line
-walk-begun : (w : TreeWalk) (N : ℕ) (nodes : List Node) → IsBegun N nodes w → N ≤ max_clauses + max_vars → AreNodes N (map node_of nodes) → IsAt w w.next
+walk-begun : (w : TreeWalk) (N : ℕ) (nodes : List (Node (List Line))) → IsBegun N nodes w → N ≤ max_clauses + max_vars → AreNodes N (map node_of nodes) → IsAt w w.next
 walk-begun w N nodes begun few are =
     let clauses = begun.clauses in
     let next = begun.next in
@@ -94,7 +94,7 @@ walk-begun w N nodes begun few are =
       nodes = rw (begun.nodes, begun.clauses) are;
     }
 
-pub IsBetweenLines-begun : (l : Lines) (F : Formula) (plan : Plan) (N : ℕ) (tree : Tree) (units : List Literal) (nodes : List Node) → IsWithinLimits F → l.unit ≡ length F.clauses + 1 → into_iter_items l.units ≡ units → l.due ≡ Nothing
+pub IsBetweenLines-begun : (l : Lines) (F : Formula) (plan : Plan) (N : ℕ) (tree : LinesTree) (units : List Literal) (nodes : List (Node (List Line))) → IsWithinLimits F → l.unit ≡ length F.clauses + 1 → into_iter_items l.units ≡ units → l.due ≡ Nothing
     → IsBegun N nodes l.walk → N ≡ length F.clauses + length units → AreUnitsOf F tree units → IsResultOf F plan tree → AreNodesOf tree nodes → IsBetweenLines l
 IsBetweenLines-begun l F plan N tree units nodes within unit here due begun count are result same =
     let few = few-units F tree units within are in

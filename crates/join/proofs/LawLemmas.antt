@@ -9,8 +9,8 @@ use Rattle.join.specs.Walking.{IsAt, IsUnder}
 use Rattle.join.proofs.NumberLemmas.{AreHalves-later}
 
 -- behind a left half, on the way down the right one
-pub IsUnder-right : (l m : TreeWalk) (x : ℕ) (above : List (Split ℕ)) → IsAt l l.next → into_iter_items l.leaf ≡ [] → l.place ≡ record { var = x; left = None } ∷ above → m.place ≡ record { var = x; left = Some (l.next - 1) } ∷ above
-    → m.clauses ≡ l.clauses → m.next ≡ l.next → into_iter_items m.leaf ≡ [] → into_iter_items m.nodes ≡ into_iter_items l.nodes → IsUnder m
+pub IsUnder-right : (l m : TreeWalk) (x : ℕ) (above : List (Split ℕ)) → IsAt l l.next → l.leaf ≡ [] → l.place ≡ record { var = x; left = None } ∷ above → m.place ≡ record { var = x; left = Some (l.next - 1) } ∷ above
+    → m.clauses ≡ l.clauses → m.next ≡ l.next → m.leaf ≡ [] → into_iter_items m.nodes ≡ into_iter_items l.nodes → IsUnder m
 IsUnder-right l m x above keeps over was is clauses next none nodes =
     let low = keeps.first in
     let some : 0 < length l.place = rw was (omega arith) in
@@ -26,7 +26,7 @@ IsUnder-right l m x above keeps over was is clauses next none nodes =
     }
 
 -- at the root
-pub IsUnder-root : (l m : TreeWalk) → IsAt l l.next → m.place ≡ [] → m.clauses ≡ l.clauses → m.next ≡ l.next → into_iter_items m.leaf ≡ [] → into_iter_items m.nodes ≡ into_iter_items l.nodes → IsUnder m
+pub IsUnder-root : (l m : TreeWalk) → IsAt l l.next → m.place ≡ [] → m.clauses ≡ l.clauses → m.next ≡ l.next → m.leaf ≡ [] → into_iter_items m.nodes ≡ into_iter_items l.nodes → IsUnder m
 IsUnder-root l m keeps root clauses next none nodes =
     let low = keeps.first in
     let begun = keeps.begun in
@@ -39,7 +39,7 @@ IsUnder-root l m keeps root clauses next none nodes =
     }
 
 -- behind a split whose halves are both done, once its line is given
-pub IsWithin-split : (l m : TreeWalk) (x left : ℕ) → IsAt l l.next → l.place ≡ record { var = x; left = Some left } ∷ m.place → m.clauses ≡ l.clauses → m.first ≡ l.first → into_iter_items m.leaf ≡ [] → into_iter_items m.nodes ≡ into_iter_items l.nodes
+pub IsWithin-split : (l m : TreeWalk) (x left : ℕ) → IsAt l l.next → l.place ≡ record { var = x; left = Some left } ∷ m.place → m.clauses ≡ l.clauses → m.first ≡ l.first → m.leaf ≡ [] → into_iter_items m.nodes ≡ into_iter_items l.nodes
     → IsAt m (l.next + 1) × (1 ≤ left) × (left < l.next)
 IsWithin-split l m x left keeps was clauses first none nodes =
     let low = keeps.first in

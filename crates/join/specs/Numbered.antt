@@ -11,9 +11,8 @@ use Rattle.theory.specs.Proofs.{proof, numbers_from}
 use Rattle.theory.specs.Checking.{checks, accepted}
 use Rattle.theory.specs.ProofReading.{IsStep, max_proof_bytes}
 use Rattle.theory.specs.Texts.{proof_text}
-use Rattle.cubes.specs.Result.{node_of}
+use Rattle.cubes.specs.Result.{LinesTree, node_of}
 use Rattle.cubes.specs.declared.tree.Node.{Node}
-use Rattle.cubes.specs.declared.tree.Tree.{Tree}
 use Rattle.cubes.specs.declared.tree.Tree.TheVariants.{Model, Refuted}
 use Rattle.cubes.specs.declared.traversal.Split.{Split}
 use Rattle.join.specs.declared.line.Due.{Due}
@@ -64,22 +63,22 @@ IsDue Leaf last = Unit {0}
 IsDue (Halves left) last = (1 ≤ left) × (left < last)
 
 -- the pure literals that the proof of a result begins with: that of a model has none
-abbrev pub AreUnitsOf : Formula → Tree → List Literal → Type 0
+abbrev pub AreUnitsOf : Formula → LinesTree → List Literal → Type 0
 AreUnitsOf F (Model values) units = units ≡ []
 AreUnitsOf F (Refuted nodes) units = units ≡ pure_literals F
 
 -- the nodes of a result: a model has none
-abbrev pub AreNodesOf : Tree → List Node → Type 0
+abbrev pub AreNodesOf : LinesTree → List (Node (List Line)) → Type 0
 AreNodesOf (Model values) nodes = nodes ≡ []
 AreNodesOf (Refuted ns) nodes = nodes ≡ ns.items
 
 -- the steps for a result: none for a model, and else the proof of the tree whose nodes they are
-abbrev pub AreStepsOf : Formula → Tree → List Step → Type 0
+abbrev pub AreStepsOf : Formula → LinesTree → List Step → Type 0
 AreStepsOf F (Model values) steps = steps ≡ []
 AreStepsOf F (Refuted nodes) steps = (t : trees.Tree) → trees.first_model t ≡ None → trees.nodes_of t ≡ map node_of nodes.items → steps ≡ proof F t
 
 -- the checker accepts the steps for a result that is no model
-abbrev pub AreAccepted : Formula → Tree → List Step → Type 0
+abbrev pub AreAccepted : Formula → LinesTree → List Step → Type 0
 AreAccepted F (Model values) steps = Unit {0}
 AreAccepted F (Refuted nodes) steps = checks F steps ≡ accepted
 

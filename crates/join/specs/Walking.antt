@@ -2,6 +2,7 @@
 use Rattle.std.specs.Prelude.{◌≡◌, ℕ, ◌+◌, ◌-◌, ◌<◌, ◌≤◌, Bool, true, false, List, [], ◌∷◌, ◌++◌, map, length, All}
 use Rattle.std.specs.Vec.Iter.{into_iter_items}
 use Rattle.theory.specs.Literals.{Literal}
+use Rattle.theory.specs.Learning.{Line}
 use Rattle.theory.specs.Truth.{IsOver}
 use Rattle.theory.specs.Reading.{max_vars, max_clauses}
 use Rattle.theory.specs.Steps.{Step, add, delete}
@@ -15,7 +16,7 @@ use Rattle.join.specs.declared.line.Due.TheVariants.{Halves}
 use Rattle.join.specs.declared.line.Kind.{Kind}
 use Rattle.join.specs.declared.line.Kind.TheVariants.{Addition, Deletion}
 use Rattle.join.specs.declared.line.ProofLine.{ProofLine}
-use Rattle.join.specs.declared.lines.Lines.{Lines}
+use Rattle.join.specs.declared.proof_lines.Lines.{Lines}
 use Rattle.join.specs.declared.walk.TreeWalk.{TreeWalk}
 use Rattle.join.specs.declared.walk.Source.{Source}
 use Rattle.join.specs.declared.walk.Source.TheVariants.{Learnt, Split, End}
@@ -30,9 +31,13 @@ step_by Deletion n clause numbers = delete (record { id = n; ids = numbers })
 abbrev pub line_of : ProofLine → Step
 line_of l = step_by l.kind l.id l.clause.items l.numbers.items
 
+-- the line of a leaf that was read into it
+abbrev pub learnt_in : ProofLine → Line
+learnt_in l = record { clause = l.clause.items; hints = l.numbers.items }
+
 -- the tree's lines that are still to come, but for a deletion that is due
 abbrev pub tree_left : TreeWalk → List Step
-tree_left w = lines_from w.clauses w.first w.next w.place (into_iter_items w.leaf) (map node_of (into_iter_items w.nodes))
+tree_left w = lines_from w.clauses w.first w.next w.place w.leaf (map node_of (into_iter_items w.nodes))
 
 -- what is deleted behind the line of the number last
 abbrev pub deletion_of : Due → TreeWalk → ℕ → List Step
@@ -41,7 +46,7 @@ deletion_of due w last = deletion (path w.place) last (numbers_due due w.first l
 -- the tree's lines that are still to come, where the next one is given just now and leaves this to be deleted
 abbrev pub tree_behind : Due → TreeWalk → List Step
 tree_behind due w = deletion_of due w w.next
-    ++ lines_from w.clauses w.first (w.next + 1) w.place (into_iter_items w.leaf) (map node_of (into_iter_items w.nodes))
+    ++ lines_from w.clauses w.first (w.next + 1) w.place w.leaf (map node_of (into_iter_items w.nodes))
 
 -- the tree's lines from the next node on
 abbrev pub tree_under : TreeWalk → List Step
@@ -49,7 +54,7 @@ tree_under w = lines_below w.clauses w.next w.place (map node_of (into_iter_item
 
 -- the tree's lines from the leaf on that was looked for
 abbrev pub tree_reached : TreeWalk → List Step
-tree_reached w = lines_entered w.clauses w.first w.next w.place (into_iter_items w.leaf) (map node_of (into_iter_items w.nodes))
+tree_reached w = lines_entered w.clauses w.first w.next w.place w.leaf (map node_of (into_iter_items w.nodes))
 
 -- the lines that are still to come: the pure literals' ones, the deletion that is due, and the tree's
 abbrev pub lines_left : Lines → List Step
@@ -61,8 +66,8 @@ pub record IsAt (w : TreeWalk) (n : ℕ) : Type 0 where
   pub first : w.clauses < w.first
   pub begun : w.first ≤ n
   pub splits : All (IsHalf n) w.place
-  pub started : length (into_iter_items w.leaf) ≡ 0 → 0 < length w.place → w.first < n
-  pub leaf : AreLines (w.clauses + (n - w.first)) (into_iter_items w.leaf)
+  pub started : length w.leaf ≡ 0 → 0 < length w.place → w.first < n
+  pub leaf : AreLines (w.clauses + (n - w.first)) w.leaf
   pub nodes : AreNodes w.clauses (map node_of (into_iter_items w.nodes))
 
 -- what is kept between two lines
@@ -74,12 +79,12 @@ pub record IsBetweenLines (l : Lines) : Type 0 where
   pub units : l.unit + length (into_iter_items l.units) ≤ max_number
 
 -- before a tree's first line
-pub record IsBegun (N : ℕ) (tree : List Node) (w : TreeWalk) : Type 0 where
+pub record IsBegun (N : ℕ) (tree : List (Node (List Line))) (w : TreeWalk) : Type 0 where
   pub clauses : w.clauses ≡ N
   pub next : w.next ≡ N + 1
   pub place : w.place ≡ []
   pub first : w.first ≡ N + 1
-  pub leaf : into_iter_items w.leaf ≡ []
+  pub leaf : w.leaf ≡ []
   pub nodes : into_iter_items w.nodes ≡ tree
 
 -- what is kept on the way down to a leaf
@@ -87,27 +92,27 @@ pub record IsUnder (w : TreeWalk) : Type 0 where
   pub clauses : w.clauses ≤ max_clauses + max_vars
   pub begun : w.clauses < w.next
   pub splits : All (IsHalf w.next) w.place
-  pub leaf : into_iter_items w.leaf ≡ []
+  pub leaf : w.leaf ≡ []
   pub nodes : AreNodes w.clauses (map node_of (into_iter_items w.nodes))
 
 -- where a leaf was looked for, it is there, or there is none
 pub record Reaches (old new : TreeWalk) : Type 0 where
   pub rest : tree_under old ≡ tree_reached new
-  pub lawful : 0 < length (into_iter_items new.leaf) → IsAt new new.next
+  pub lawful : 0 < length new.leaf → IsAt new new.next
   pub clauses : new.clauses ≡ old.clauses
   pub next : new.next ≡ old.next
 
 -- the tree's lines that were to come, by where the first of them comes from
-abbrev pub Gives : TreeWalk → TreeWalk → Source → Type 0
-Gives old new (Learnt line) = tree_left old ≡ learnt_line new.clauses new.first new.next (path new.place) line ∷ tree_behind (due_behind (into_iter_items new.leaf)) new
-Gives old new (Split left) = tree_left old ≡ split_line new.next (path new.place) left (new.next - 1) ∷ tree_behind (Halves left) new
-Gives old new End = tree_left old ≡ []
+abbrev pub Gives : TreeWalk → TreeWalk → Source → Line → Type 0
+Gives old new Learnt line = tree_left old ≡ learnt_line new.clauses new.first new.next (path new.place) line ∷ tree_behind (due_behind new.leaf) new
+Gives old new (Split left) line = tree_left old ≡ split_line new.next (path new.place) left (new.next - 1) ∷ tree_behind (Halves left) new
+Gives old new End line = tree_left old ≡ []
 
 -- that line is within the limits
-abbrev pub IsWithin : TreeWalk → Source → Type 0
-IsWithin w (Learnt line) = IsAt w (w.next + 1) × IsOver max_vars line.clause × AreUpTo (w.clauses + (w.next - w.first)) line.hints × (w.first ≤ w.next)
-IsWithin w (Split left) = IsAt w (w.next + 1) × (1 ≤ left) × (left < w.next)
-IsWithin w End = Unit {0}
+abbrev pub IsWithin : TreeWalk → Source → Line → Type 0
+IsWithin w Learnt line = IsAt w (w.next + 1) × IsOver max_vars line.clause × AreUpTo (w.clauses + (w.next - w.first)) line.hints × (w.first ≤ w.next)
+IsWithin w (Split left) line = IsAt w (w.next + 1) × (1 ≤ left) × (left < w.next)
+IsWithin w End line = Unit {0}
 
 -- whether there was one more line
 abbrev pub HasNextLine : List Step → List Step → Step → Bool → Type 0

@@ -3,7 +3,7 @@
 
 mod answer;
 mod line;
-mod lines;
+mod proof_lines;
 mod proof_text;
 mod room;
 mod steps;
@@ -11,6 +11,6 @@ mod walk;
 
 pub use answer::answer_bytes;
 pub use line::{Kind, ProofLine};
-pub use lines::Lines;
+pub use proof_lines::Lines;
 pub use proof_text::proof_bytes;
 pub use steps::join;

@@ -10,9 +10,8 @@ ghost use Rattle.lrat_text.specs.Steps.{step_of};
 ghost use Rattle.cubes.specs.Traversal.{path};
 ghost use Rattle.join.specs.Joining.{unit_line, learnt_line, split_line};
 ghost use Rattle.join.specs.Numbered.{AreUpTo, IsDue, numbers_due};
-ghost use Rattle.join.specs.Walking.{line_of};
+ghost use Rattle.join.specs.Walking.{line_of, learnt_in};
 
-use cdcl::Line;
 use cnf::Lit;
 use cubes::Walk;
 use lrat::{Addition, Deletion, Step};
@@ -80,20 +79,14 @@ fn renumbered(hint: u64, clauses: u64, first: u64) -> u64
     }
 }
 
-/// Puts a cube's hints behind others, by their numbers in the proof.
-fn put_renumbered(
-    hints: &[u64],
-    clauses: u64,
-    first: u64,
-    out: &mut Vec<u64>,
-) -> Result<(), AllocError>
-    requires { All (λ h. h + first < 2 ^ 64) hints.now }
-    ensures { OnOk result (out.new.items ≡ out.old.items ++ map (renumbered clauses first) hints.now) }
+/// Gives a cube's hints their numbers in the proof.
+fn renumber(hints: &mut Vec<u64>, clauses: u64, first: u64)
+    requires { All (λ h. h + first < 2 ^ 64) hints.old.items }
+    ensures { hints.new.items ≡ map (renumbered clauses first) hints.old.items }
 {
-    for hint in hints {
-        out.push(renumbered(*hint, clauses, first))?;
+    for index in 0..hints.len() {
+        hints[index] = renumbered(hints[index], clauses, first);
     }
-    Ok(())
 }
 
 /// Puts the numbers from the first one on, up to the end, behind others.
@@ -135,11 +128,10 @@ impl ProofLine {
         Ok(())
     }
 
-    /// Becomes the line for a line of a leaf, whose first one has the number `first`.
+    /// Becomes the line for the one that it holds of a leaf, whose first one has the number `first`.
     pub(crate) fn learn(
         &mut self,
         id: u64,
-        learnt: &Line,
         place: &Walk<u64>,
         clauses: u64,
         first: u64,
@@ -147,18 +139,15 @@ impl ProofLine {
         requires id { (first ≤ id) × (id ≤ max_number) }
         requires first { (clauses < first) × (clauses ≤ max_clauses + max_vars) }
         requires splits { All (λ s. IsVariable max_vars s.var) place.now }
-        requires clause { IsOver max_vars learnt.now.clause }
-        requires hints { AreUpTo (clauses + (id - first)) learnt.now.hints }
-        ensures line { OnOk result (line_of self.new ≡ learnt_line clauses first id (path place.now) learnt.now) }
+        requires clause { IsOver max_vars self.old.clause.items }
+        requires hints { AreUpTo (clauses + (id - first)) self.old.numbers.items }
+        ensures line { OnOk result (line_of self.new ≡ learnt_line clauses first id (path place.now) (learnt_in self.old)) }
         ensures within { OnOk result (IsStep (line_of self.new)) }
     {
         self.kind = Kind::Addition;
         self.id = id;
-        self.clause.clear();
-        self.clause.extend_from_slice(learnt.clause())?;
         put_negations(place, &mut self.clause)?;
-        self.numbers.clear();
-        put_renumbered(learnt.hints(), clauses, first, &mut self.numbers)?;
+        renumber(&mut self.numbers, clauses, first);
         Ok(())
     }
 

@@ -1,11 +1,11 @@
 //! How much memory the lines of a proof need at most, by the tree alone.
 
-use cubes::Node;
+use cubes::TreeSize;
 
 /// The most that a line takes up, and the longest way from the root.
 #[derive(Clone, Copy)]
 pub(crate) struct Need {
-    /// Literals of a line, without its cube.
+    /// Literals of a line, with its cube.
     pub(crate) literals: usize,
     /// Hints, or numbers of clauses to be deleted.
     pub(crate) numbers: usize,
@@ -14,36 +14,24 @@ pub(crate) struct Need {
 }
 
 impl Need {
-    /// Takes a node in.
-    fn add(&mut self, node: &Node) {
-        match node {
-            Node::Split(_) => self.splits = self.splits.saturating_add(1),
-            Node::Leaf(refutation) => {
-                // Behind a half's last line the others are deleted; of the root's lines none is.
-                if self.splits > 0 {
-                    let learnt = refutation.lines.len().saturating_sub(1);
-                    self.numbers = self.numbers.max(learnt);
-                }
-                for line in &refutation.lines {
-                    self.literals = self.literals.max(line.clause().len());
-                    self.numbers = self.numbers.max(line.hints().len());
-                }
-            }
+    /// What the lines need of a tree over so many variables: each of them is split on but once on a way. A pure literal's line has one literal, and
+    /// a split's line two hints. Behind a half's last line its others are deleted; of the root's lines none is.
+    pub(crate) fn of(size: TreeSize, vars: usize) -> Need {
+        let splits = size.splits.min(vars as u64) as usize;
+        let deleted = if splits > 0 { size.most_lines } else { 0 };
+        Need {
+            literals: size.most_literals.saturating_add(splits).max(1),
+            numbers: size.most_hints.max(deleted).max(2),
+            splits,
         }
     }
 
-    /// What the lines need of a tree over so many variables: each of them is split on but once on a way. A pure literal's line has one literal, and
-    /// a split's line two hints.
-    pub(crate) fn of(nodes: &[Node], vars: usize) -> Need {
-        let mut need = Need {
-            literals: 1,
-            numbers: 2,
+    /// What no lines need.
+    pub(crate) fn none() -> Need {
+        Need {
+            literals: 0,
+            numbers: 0,
             splits: 0,
-        };
-        for node in nodes {
-            need.add(node);
         }
-        need.splits = need.splits.min(vars);
-        need
     }
 }

@@ -6,7 +6,7 @@ ghost use Rattle.lrat_text.specs.Steps.{step_of};
 ghost use Rattle.cubes.specs.Result.{IsResultOf};
 ghost use Rattle.join.specs.Numbered.{AreStepsOf, AreAccepted};
 
-use crate::lines::Lines;
+use crate::proof_lines::Lines;
 use cnf::Formula;
 use cubes::Tree;
 use lrat::Step;
@@ -20,7 +20,7 @@ pub fn join(alloc: Global, formula: &Formula, tree: Tree) -> Result<Vec<Step>, A
     ensures within { IfOk result (λ steps. All IsStep (map step_of steps.items)) }
     ensures accepted { IfOk result (λ steps. AreAccepted formula.now tree (map step_of steps.items)) }
 {
-    let mut lines = Lines::of(alloc, formula, tree)?;
+    let mut lines = Lines::of(alloc, formula, tree.packed(alloc)?)?;
     let mut steps = Vec::new(alloc);
     while lines.next_line()? {
         steps.push(lines.line().to_step(alloc)?)?;

@@ -3,19 +3,19 @@ ghost use Rattle.std.specs.Prelude.{◌≡◌, ◌+◌, ◌<◌, ◌≤◌, [], 
 ghost use Rattle.std.specs.Vec.Iter.{into_iter_items};
 ghost use Rattle.theory.specs.ProofReading.{max_number};
 ghost use Rattle.join.specs.Numbered.{due_behind};
-ghost use Rattle.join.specs.Walking.{Gives, IsAt, IsBegun, IsUnder, IsWithin, Reaches};
+ghost use Rattle.join.specs.Walking.{Gives, IsAt, IsBegun, IsUnder, IsWithin, Reaches, learnt_in};
 
-use crate::line::Due;
-use cdcl::Line;
+use crate::line::{Due, ProofLine};
 use cubes::{Node, Turn, Walk};
+use lines::{Reader, Row};
 use std::alloc::{AllocError, Global};
 use std::vec::IntoIter;
 
 /// Where a tree's next line comes from.
-#[derive(Drop)]
+#[derive(Clone, Copy)]
 pub(crate) enum Source {
     /// A line of a leaf.
-    Learnt(Line),
+    Learnt,
 
     /// A split of which both halves are done; the number is that of the left half's last line.
     Split(u64),
@@ -40,15 +40,15 @@ pub(crate) struct TreeWalk {
     pub(crate) first: u64,
 
     /// That leaf's lines that are still to come.
-    pub(crate) leaf: IntoIter<Line>,
+    pub(crate) leaf: Reader,
 
     /// The nodes behind that leaf.
-    pub(crate) nodes: IntoIter<Node>,
+    pub(crate) nodes: IntoIter<Node<Row>>,
 }
 
 /// What is due behind a leaf's line: once it was the last one, the lines before it.
-pub(crate) fn due_behind(leaf: &IntoIter<Line>) -> Due
-    ensures { result ≡ due_behind (into_iter_items leaf.now) }
+pub(crate) fn due_behind(leaf: &Reader) -> Due
+    ensures { result ≡ due_behind leaf.now }
 {
     if leaf.len() == 0 {
         Due::Leaf
@@ -63,7 +63,7 @@ impl TreeWalk {
     pub(crate) fn over(
         alloc: Global,
         clauses: u64,
-        nodes: Vec<Node>,
+        nodes: Vec<Node<Row>>,
         splits: usize,
     ) -> Result<TreeWalk, AllocError>
         requires { clauses < max_number }
@@ -74,7 +74,7 @@ impl TreeWalk {
             next: clauses + 1,
             place: Walk::with_room(alloc, splits)?,
             first: clauses + 1,
-            leaf: Vec::new(alloc).into_iter(),
+            leaf: Reader::of(Row::new(alloc)),
             nodes: nodes.into_iter(),
         })
     }
@@ -87,9 +87,9 @@ impl TreeWalk {
         while let Some(node) = self.nodes.next() {
             match node {
                 Node::Split(var) => self.place.enter(var)?,
-                Node::Leaf(refutation) => {
+                Node::Leaf(row) => {
                     self.first = self.next;
-                    self.leaf = refutation.lines.into_iter();
+                    self.leaf = Reader::of(row);
                     return Ok(());
                 }
             }
@@ -98,16 +98,16 @@ impl TreeWalk {
     }
 
     /// Goes on to where the next line comes from: the leaf's next line; behind its last one the split above whose halves are both done, or else the
-    /// first leaf of the half beside it.
-    pub(crate) fn next_source(&mut self) -> Result<Source, AllocError>
+    /// first leaf of the half beside it. A leaf's line is read into the proof's, by the numbers of its cube.
+    pub(crate) fn next_source(&mut self, line: &mut ProofLine) -> Result<Source, AllocError>
         requires lawful { IsAt self.old self.old.next }
         requires fits { self.old.next ≤ max_number }
-        ensures gives { IfOk result (λ s. Gives self.old self.new s) }
-        ensures within { IfOk result (λ s. IsWithin self.new s) }
+        ensures gives { IfOk result (λ s. Gives self.old self.new s (learnt_in line.new)) }
+        ensures within { IfOk result (λ s. IsWithin self.new s (learnt_in line.new)) }
         ensures next { OnOk result (self.new.next ≡ self.old.next) }
     {
-        if let Some(learnt) = self.leaf.next() {
-            return Ok(Source::Learnt(learnt));
+        if self.leaf.next(&mut line.clause, &mut line.numbers)? {
+            return Ok(Source::Learnt);
         }
         match self.place.leave(self.next - 1)? {
             Turn::Both { left, .. } => return Ok(Source::Split(left)),
@@ -115,9 +115,9 @@ impl TreeWalk {
             Turn::End(_) => {}
         }
         self.descend()?;
-        match self.leaf.next() {
-            Some(learnt) => Ok(Source::Learnt(learnt)),
-            None => Ok(Source::End),
+        if self.leaf.next(&mut line.clause, &mut line.numbers)? {
+            return Ok(Source::Learnt);
         }
+        Ok(Source::End)
     }
 }

@@ -1,8 +1,9 @@
 //! Worked rows: the bytes of the one proof that a refuted tree gives, and the room for its lines.
 ghost use Rattle.std.specs.Prelude.{◌≤◌};
 
+use cdcl::Plan;
 use cnf::{Formula, read_formula};
-use cubes::solve_one;
+use cubes::{solve_one, solve_one_by_plan};
 use join::{Lines, join, proof_bytes};
 use lrat::read_proof;
 use samples::{EIGHT, FOUR, FOUR_PURE, FOUR_UNUSED, SIXTEEN};
@@ -130,7 +131,7 @@ fn has_room(alloc: Global, text: &[u8], budget: u32) -> Result<bool, Fail> {
     if budget < 1 || budget > 100_000 {
         return Err("budget".into());
     }
-    let tree = solve_one(alloc, &formula, budget)?;
+    let tree = solve_one_by_plan(alloc, &formula, Plan::ordered(budget))?;
     let mut lines = Lines::of(alloc, &formula, tree)?;
     let size = lines.line_size();
     while lines.next_line()? {

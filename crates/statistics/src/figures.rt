@@ -4,7 +4,7 @@ use crate::cube_counts::CubeCounts;
 use crate::search_counts::SearchCounts;
 use cdcl::{Counts, Search};
 use cnf::Formula;
-use cubes::{Node, Tree};
+pub use cubes::TreeSize;
 use std::fmt;
 use std::fmt::{Display, Formatter};
 
@@ -27,43 +27,6 @@ impl FormulaSize {
             vars: formula.vars(),
             clauses: formula.clauses().len(),
             literals,
-        }
-    }
-}
-
-/// The size of a tree of splits without a model.
-#[derive(Clone, Copy)]
-pub struct TreeSize {
-    pub(crate) splits: u64,
-    pub(crate) leaves: u64,
-    /// The lines that were learnt in the refuted cubes.
-    pub(crate) learnt: usize,
-}
-
-impl TreeSize {
-    fn of_nodes(nodes: &[Node]) -> TreeSize {
-        let mut size = TreeSize {
-            splits: 0,
-            leaves: 0,
-            learnt: 0,
-        };
-        for node in nodes {
-            match node {
-                Node::Split(_) => size.splits = size.splits.saturating_add(1),
-                Node::Leaf(refutation) => {
-                    size.leaves = size.leaves.saturating_add(1);
-                    size.learnt = size.learnt.saturating_add(refutation.lines.len());
-                }
-            }
-        }
-        size
-    }
-
-    /// The size of the tree; of one with a model only the model is known.
-    pub fn of(tree: &Tree) -> Option<TreeSize> {
-        match tree {
-            Tree::Model(_) => None,
-            Tree::Refuted(nodes) => Some(TreeSize::of_nodes(nodes)),
         }
     }
 }

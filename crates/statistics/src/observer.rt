@@ -2,6 +2,7 @@
 
 use cnf::Formula;
 use cubes::Tree;
+use lines::Row;
 
 /// Told of each stage of a run as it ends. What an observer does changes nothing that the run writes.
 pub trait Observer {
@@ -9,7 +10,7 @@ pub trait Observer {
     fn read(&self, formula: &Formula);
 
     /// It is solved.
-    fn solved(&self, tree: &Tree);
+    fn solved(&self, tree: &Tree<Row>);
 
     /// The answer is made, and all that the proof's lines are made of as they are written.
     fn joined(&self);
@@ -25,7 +26,7 @@ pub struct Unobserved;
 impl Observer for Unobserved {
     fn read(&self, _formula: &Formula) {}
 
-    fn solved(&self, _tree: &Tree) {}
+    fn solved(&self, _tree: &Tree<Row>) {}
 
     fn joined(&self) {}
 

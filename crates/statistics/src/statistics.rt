@@ -36,8 +36,8 @@ fn print_cubes<E: Write>(out: &mut E, figures: &Figures) {
             let (splits, solved) = (tree.splits, tree.splits.saturating_add(tree.leaves));
             writeln!(
                 out,
-                "c cubes: {solved} solved, {splits} split, 0 skipped\nc learnt: {} lines in refuted cubes",
-                tree.learnt
+                "c cubes: {solved} solved, {splits} split, 0 skipped\nc learnt: {} lines in refuted cubes, kept in {} bytes",
+                tree.learnt, tree.bytes
             )
         }
         None => {

@@ -9,6 +9,7 @@ use cdcl::Counts;
 use cnf::Formula;
 use cubes::{Gate, Tree};
 use kernel::Cube;
+use lines::Row;
 use std::rt::Files;
 use std::sync::Wait;
 use std::time::Clock;
@@ -70,7 +71,7 @@ impl<R: Files + Wait + Clock> Observer for Watch<'_, R> {
         self.board.figures().lock(self.rt).end_reading(size, end);
     }
 
-    fn solved(&self, tree: &Tree) {
+    fn solved(&self, tree: &Tree<Row>) {
         let size = TreeSize::of(tree);
         let end = self.stage_end();
         self.board.figures().lock(self.rt).end_solving(size, end);

@@ -17,7 +17,7 @@ loop-at-init c = record {
   long = c.requires.long;
   seen = refl;
   pending = refl;
-  taken = λ S bound h. rw c.new-clause.ensures.items (IsTaken-begin _ S _ _ c.trail-trail.ensures.over h.is);
+  taken = λ S bound h. rw c.clear.ensures.items (IsTaken-begin _ S _ _ c.trail-trail.ensures.over h.is);
 }
 
 pub index-requires : goal.index-requires
@@ -104,6 +104,6 @@ pub returns-clause-clear : goal.returns-clause-clear
 returns-clause-clear c S bound h = record {
   none = IsTaken-clear _ S _ c.loop-at.marks.marked.items _ (c.loop-at.invariant.taken S bound (sorted_set c S bound h)) (beyond c S bound h);
   zero = refl;
-  unseen = c.clear.ensures.items;
+  unseen = c.clear-2.ensures.items;
   done = rw c.loop-at.invariant.pending c.requires.done;
 }

@@ -1,4 +1,5 @@
-use Rattle.std.proofs.Common.{◌∙◌, ◌++◌, ◌∷◌, [], ap, sym, refl}
+use Rattle.std.proofs.Common.{◌∙◌, ◌++◌, ◌∷◌, [], ℕ, List, ap, ap₂, sym, refl}
+use Rattle.theory.specs.Literals.{Clause}
 use Rattle.theory.specs.Learning.{Line, learn}
 use Rattle.cdcl.proofs.SeenLemmas.{seen-variable, one-at, AreDistinct-once}
 use Rattle.kernel.specs.State.{State}
@@ -11,7 +12,7 @@ pub learn_from-requires-clause-variables : goal.learn_from-requires-clause-varia
 learn_from-requires-clause-variables c i inside =
     let k = c.args.self.now.kernel in
     let f = c.requires.focusing in
-    let seen = rw (← c.list.ensures.numbers) at c.in_ok-lesson.ensures.seen in
+    let seen = rw (← c.list.ensures.numbers) at c.in_ok-glue.ensures.seen in
     rw f.equipped.waiting.vars (seen-variable k.vars k.clauses k.trail (learn k.clauses k.trail c.args.number).hints _ f.searching.trail_over (sym (seen _) ∙ one-at c.list.result.now i inside))
 
 pub learn_from-requires-clause-distinct : goal.learn_from-requires-clause-distinct
@@ -19,8 +20,8 @@ learn_from-requires-clause-distinct c = AreDistinct-once c.list.result.now c.lis
 
 pub forget_where_due-requires-clause-learnt : goal.forget_where_due-requires-clause-learnt
 forget_where_due-requires-clause-learnt c =
-    CanForget-back c.args.self.now c.args.number c.in_ok-lesson.lesson.learnt.clause.items c.in_ok-lesson.lesson.learnt.level c.take_glue-restarts.result c.go_back.new.kernel c.requires.focusing
-    (record { conflict = c.requires.conflict; above = c.requires.level; learnt = ap (λ (x : Line). x.clause) c.in_ok-lesson.ensures.line; back = c.in_ok-lesson.ensures.level }) c.in_ok-last.ensures.kernel
+    CanForget-back c.args.self.now c.args.number c.lesson.new.self.learnt.clause.items c.lesson.new.self.learnt.level c.take_glue-restarts.result c.go_back.new.kernel c.requires.focusing
+    (record { conflict = c.requires.conflict; above = c.requires.level; learnt = ap (λ (x : Line). x.clause) c.in_ok-glue.ensures.line; back = c.in_ok-glue.ensures.level }) c.in_ok-last.ensures.kernel
 
 -- all that the calls did
 learning : (c : In_ok-push-2) → IsLearning c.args.self.now c.args.number (record {
@@ -35,22 +36,22 @@ learning : (c : In_ok-push-2) → IsLearning c.args.self.now c.args.number (reco
   analysis = c.forget_where_due.new.self.analysis;
 })
 learning c =
-    let learnt = c.in_ok-lesson.lesson.learnt in
+    let learnt = c.lesson.new.self.learnt in
     let whole = c.in_ok-forget_where_due.ensures.forgotten c.args.self.now.kernel.clauses learnt.clause.items (ap (λ (k : State). k.clauses) c.in_ok-last.ensures.kernel) in
     record {
       clause = learnt.clause.items;
       hints = learnt.hints.items;
       level = learnt.level;
-      g = c.in_ok-lesson.lesson.glue;
+      g = c.in_ok-glue.glue;
       seen = c.list.result.now;
       middle = record c.args.self.now.decisions { scores = c.learn_from.new.self };
       back = c.go_back.new.kernel;
       restarts = c.take_glue-restarts.result;
-      taught = record { conflict = c.requires.conflict; above = c.requires.level; learnt = ap (λ (x : Line). x.clause) c.in_ok-lesson.ensures.line; back = c.in_ok-lesson.ensures.level };
-      line = c.in_ok-lesson.ensures.line;
-      glue_is = c.in_ok-lesson.ensures.glue;
-      few = c.in_ok-lesson.ensures.few;
-      sees = rw (← c.list.ensures.numbers) at c.in_ok-lesson.ensures.seen;
+      taught = record { conflict = c.requires.conflict; above = c.requires.level; learnt = ap (λ (x : Line). x.clause) c.in_ok-glue.ensures.line; back = c.in_ok-glue.ensures.level };
+      line = c.in_ok-glue.ensures.line;
+      glue_is = c.in_ok-glue.ensures.glue;
+      few = c.in_ok-glue.ensures.few;
+      sees = rw (← c.list.ensures.numbers) at c.in_ok-glue.ensures.seen;
       gained = c.in_ok-learn_from.ensures.after;
       gained_most = c.in_ok-learn_from.ensures.bound;
       saved_as = refl;
@@ -63,10 +64,11 @@ learning c =
       forgot = ap (λ (s : FocusedSearch). s.kernel) whole;
       scheduled = ap (λ (s : FocusedSearch). s.schedule) whole;
       counted = ap (λ (s : FocusedSearch). s.conflicts) whole;
-      lines = c.in_ok-push.ensures.items ∙ (ap (λ (s : FocusedSearch). s.lines.items ++ c.new.result ∷ []) whole ∙ ap (λ (x : Line). c.args.self.now.lines.items ++ x ∷ []) c.new.ensures);
-      glues = c.in_ok-push-2.ensures.items ∙ ap (λ (s : FocusedSearch). s.glues.items ++ c.in_ok-lesson.lesson.glue ∷ []) whole;
+      lines = c.in_ok-push.ensures.ok ∙ (ap₂ (λ (a : Clause) (b : List ℕ). c.forget_where_due.new.self.lines ++ record { clause = a; hints = b } ∷ []) c.deref.ensures.value c.deref-2.ensures.value
+          ∙ ap (λ (s : FocusedSearch). s.lines ++ record { clause = s.analysis.learnt.clause.items; hints = s.analysis.learnt.hints.items } ∷ []) whole);
+      glues = c.in_ok-push-2.ensures.items ∙ ap (λ (s : FocusedSearch). s.glues.items ++ c.in_ok-glue.glue ∷ []) whole;
       constants = ap (λ (s : FocusedSearch). s.constants) whole;
-      bounds = (ap (λ (s : FocusedSearch). s.analysis.seen.bound) whole ∙ c.in_ok-lesson.ensures.bounds.0, ap (λ (s : FocusedSearch). s.analysis.levels.bound) whole ∙ c.in_ok-lesson.ensures.bounds.1);
+      bounds = (ap (λ (s : FocusedSearch). s.analysis.seen.bound) whole ∙ c.in_ok-glue.ensures.bounds.0, ap (λ (s : FocusedSearch). s.analysis.levels.bound) whole ∙ c.in_ok-glue.ensures.bounds.1);
       lawful = c.trail-trail.ensures.lawful;
       over = c.trail-trail.ensures.over;
       clauses_over = c.trail-trail.ensures.clauses_over;

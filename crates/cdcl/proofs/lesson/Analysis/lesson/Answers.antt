@@ -7,5 +7,5 @@ pub see_clauses-requires-clause-numbered : goal.see_clauses-requires-clause-numb
 see_clauses-requires-clause-numbered c k d l =
     let K = c.args.kernel.now.clauses in
     let T = c.args.kernel.now.trail in
-    let hints = c.deref.ensures.value ∙ ap (λ (x : Line). x.hints) c.in_ok-learnt.ensures.line in
+    let hints = c.deref.ensures.value ∙ ap (λ (x : Line). x.hints) c.in_ok-analyze_in.ensures.line in
     rw hints (hints-numbered K T c.args.conflict c.trail-trail.ensures.lawful c.requires.conflict k d (rw hints at l))

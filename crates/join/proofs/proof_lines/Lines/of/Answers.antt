@@ -2,9 +2,9 @@ use Rattle.std.proofs.Common.{◌≡◌, ◌+◌, List, length, ap, sym, ◌∙�
 use Rattle.std.proofs.lemmas.List.{length-map}
 use Rattle.theory.specs.Literals.{Clause}
 use Rattle.join.specs.declared.line.Due.TheVariants.{Nothing}
-use Rattle.join.specs.declared.lines.Lines.{Lines}
+use Rattle.join.specs.declared.proof_lines.Lines.{Lines}
 use Rattle.join.proofs.JoinLemmas.{begun-steps, accepted-steps, within-steps, IsBetweenLines-begun}
-use Rattle.join.proofs.lines.Lines.of.Goals as goal
+use Rattle.join.proofs.proof_lines.Lines.of.Goals as goal
 
 pub returns-clause-steps : goal.returns-clause-steps
 returns-clause-steps c =

@@ -2,7 +2,7 @@ use Rattle.std.proofs.Common.{length, ap, sym, ◌∙◌, arith}
 use Rattle.std.proofs.lemmas.Bool.{eqb-false}
 use Rattle.std.proofs.lemmas.List.{length-reverse}
 use Rattle.join.proofs.DueLemmas.{made-deletion}
-use Rattle.join.proofs.lines.Lines.next_deletion.Goals as goal
+use Rattle.join.proofs.proof_lines.Lines.next_deletion.Goals as goal
 
 pub returns-clause-made : goal.returns-clause-made
 returns-clause-made c =

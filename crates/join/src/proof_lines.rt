@@ -13,7 +13,8 @@ use crate::line::{Due, ProofLine};
 use crate::room::Need;
 use crate::walk::{Source, TreeWalk, due_behind};
 use cnf::{Formula, Lit};
-use cubes::{Node, Tree};
+use cubes::{Node, Tree, TreeSize};
+use lines::Row;
 use lrat::MAX_NUMBER;
 use std::alloc::{AllocError, Global};
 use std::vec::IntoIter;
@@ -39,7 +40,7 @@ pub struct Lines {
 }
 
 /// The pure literals that a result's proof begins with; that of a model has none.
-fn units_of(alloc: Global, formula: &Formula, tree: &Tree) -> Result<Vec<Lit>, AllocError>
+fn units_of(alloc: Global, formula: &Formula, tree: &Tree<Row>) -> Result<Vec<Lit>, AllocError>
     ensures { IfOk result (λ units. AreUnitsOf formula.now tree.now units.items) }
 {
     match tree {
@@ -52,7 +53,7 @@ fn units_of(alloc: Global, formula: &Formula, tree: &Tree) -> Result<Vec<Lit>, A
 }
 
 /// The nodes of a result; a model has none.
-fn nodes_of(alloc: Global, tree: Tree) -> Vec<Node>
+fn nodes_of(alloc: Global, tree: Tree<Row>) -> Vec<Node<Row>>
     ensures { AreNodesOf tree result.items }
 {
     match tree {
@@ -64,7 +65,7 @@ fn nodes_of(alloc: Global, tree: Tree) -> Vec<Node>
 impl Lines {
     /// The lines for a formula's result: those of its pure literals and of its tree, and none for a model. All memory that they need is asked
     /// for here; it fails only where that is refused.
-    pub fn of(alloc: Global, formula: &Formula, tree: Tree) -> Result<Lines, AllocError>
+    pub fn of(alloc: Global, formula: &Formula, tree: Tree<Row>) -> Result<Lines, AllocError>
         requires { (plan : Plan) × IsResultOf formula.now plan tree }
         ensures steps { IfOk result (λ l. AreStepsOf formula.now tree (lines_left l)) }
         ensures within { IfOk result (λ l. AreWithin (lines_left l)) }
@@ -74,15 +75,17 @@ impl Lines {
         let clauses = formula.clauses().len() as u64;
         let units = units_of(alloc, formula, &tree)?;
         let first_clauses = clauses + units.len() as u64;
+        let need = match TreeSize::of(&tree) {
+            Some(size) => Need::of(size, formula.vars() as usize),
+            None => Need::none(),
+        };
         let nodes = nodes_of(alloc, tree);
-        let need = Need::of(&nodes, formula.vars() as usize);
-        let literals = need.literals.saturating_add(need.splits);
         Ok(Lines {
             units: units.into_iter(),
             unit: clauses + 1,
             walk: TreeWalk::over(alloc, first_clauses, nodes, need.splits)?,
             due: Due::Nothing,
-            line: ProofLine::with_room(alloc, literals, need.numbers)?,
+            line: ProofLine::with_room(alloc, need.literals, need.numbers)?,
         })
     }
 
@@ -145,15 +148,10 @@ impl Lines {
             return Err(AllocError);
         }
         let id = self.walk.next;
-        match self.walk.next_source()? {
-            Source::Learnt(learnt) => {
-                self.line.learn(
-                    id,
-                    &learnt,
-                    &self.walk.place,
-                    self.walk.clauses,
-                    self.walk.first,
-                )?;
+        match self.walk.next_source(&mut self.line)? {
+            Source::Learnt => {
+                let walk = &self.walk;
+                self.line.learn(id, &walk.place, walk.clauses, walk.first)?;
                 self.due = due_behind(&self.walk.leaf);
             }
             Source::Split(left) => {

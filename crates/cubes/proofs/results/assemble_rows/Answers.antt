@@ -2,7 +2,7 @@ use Rattle.std.proofs.Common.{suc, map, length, sum_by, refl, sym, ◌∙◌}
 use Rattle.cubes.specs.Solved.{solved_of}
 use Rattle.cubes.proofs.GatheringLemmas.{IsGathered-start, can_go_on, gives, fewer}
 use Rattle.cubes.proofs.WholeWalks.{AreStillThere-on, is_there, is_outcome, length-there}
-use Rattle.cubes.proofs.results.assemble.Goals as goal
+use Rattle.cubes.proofs.results.assemble_rows.Goals as goal
 
 pub cubes-init : goal.cubes-init
 cubes-init c = record {

@@ -6,7 +6,7 @@ use Rattle.cubes.specs.Solved.{solved_of}
 use Rattle.cubes.proofs.GatheringLemmas.{IsGathered}
 use Rattle.cubes.proofs.Walks.{to_come}
 use Rattle.cubes.proofs.WholeWalks.{AreStillThere}
-use Rattle.cubes.proofs.results.assemble.Given as goal
+use Rattle.cubes.proofs.results.assemble_rows.Given as goal
 
 -- for whatever formula and plan the results are whole, the cube is reached, with the nodes before it; and what is needed from here on
 -- is still there
