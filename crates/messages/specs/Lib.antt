@@ -1,0 +1,2 @@
+-- What is kept of a text around a place.
+pub mod Excerpts

@@ -1,0 +1,52 @@
+//! What is said of files that the system refuses to open, to create, to read or to write, and of
+//! memory.
+
+use crate::cause::Cause;
+use crate::name::Name;
+use std::io;
+use std::io::Write;
+
+/// Says why a file can't be opened or read. A failed write changes nothing, here and below.
+pub fn say_not_read<E: Write>(out: &mut E, file: &str, error: io::Error) {
+    let (name, cause) = (Name::of(file), Cause::of_reading(error));
+    let _ = writeln!(out, "c {name}: {cause}");
+}
+
+/// Says why a file can't be created.
+pub fn say_not_created<E: Write>(out: &mut E, file: &str, error: io::Error) {
+    let (name, cause) = (Name::of(file), Cause::of_writing(Some(error)));
+    let _ = writeln!(out, "c {name}: can't be created: {cause}");
+}
+
+/// Says that the formula's file is the proof's too.
+pub fn say_same_file<E: Write>(out: &mut E, file: &str) {
+    let name = Name::of(file);
+    let _ = writeln!(
+        out,
+        "c {name}: formula and proof are one file; give the proof another name"
+    );
+}
+
+/// Says that memory didn't suffice for a formula or its proof.
+pub fn say_no_memory<E: Write>(out: &mut E, file: &str) {
+    let name = Name::of(file);
+    let _ = writeln!(out, "c {name}: not enough memory; free some and try again");
+}
+
+/// Says why the proof wasn't written whole. Without an error, a write took nothing.
+pub fn say_proof_not_written<E: Write>(out: &mut E, file: &str, error: Option<io::Error>) {
+    let (name, cause) = (Name::of(file), Cause::of_writing(error));
+    let _ = writeln!(
+        out,
+        "c {name}: {cause}\nc the proof isn't whole; make room for all of it, or name another place"
+    );
+}
+
+/// Says why the answer wasn't written whole. Without an error, a write took nothing.
+pub fn say_answer_not_written<E: Write>(out: &mut E, error: Option<io::Error>) {
+    let cause = Cause::of_writing(error);
+    let _ = writeln!(
+        out,
+        "c the answer: {cause}\nc what was printed is only a beginning of it"
+    );
+}

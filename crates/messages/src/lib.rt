@@ -1,0 +1,21 @@
+//! What is said of a fault in words: lines that begin with `c`, from values alone.
+#![tactic(auto)]
+
+mod cause;
+mod excerpt;
+mod files;
+mod format;
+mod formula;
+mod name;
+mod picture;
+mod proof;
+mod refused;
+
+pub use excerpt::Excerpt;
+pub use files::{
+    say_answer_not_written, say_no_memory, say_not_created, say_not_read, say_proof_not_written,
+    say_same_file,
+};
+pub use formula::say_formula_refused;
+pub use proof::say_proof_refused;
+pub use refused::Refused;

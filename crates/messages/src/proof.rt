@@ -1,0 +1,118 @@
+//! What is said of a proof that is refused.
+
+use crate::excerpt::Excerpt;
+use crate::format::{Format, say_format};
+use crate::name::Name;
+use crate::refused::Refused;
+use std::fmt;
+use std::fmt::{Display, Formatter};
+use std::io::Write;
+
+/// What a proof's step adds.
+#[derive(Clone, Copy)]
+enum Added {
+    /// The clause of this number.
+    Clause(u64),
+    /// The clause of the step of this number, whose own isn't known.
+    OfStep(u64),
+}
+
+impl Display for Added {
+    fn fmt<W: fmt::Write>(&self, f: &mut Formatter<W>) -> fmt::Result {
+        match self {
+            Added::Clause(number) => write!(f, "clause {number}"),
+            Added::OfStep(step) => write!(f, "the clause of step {step}"),
+        }
+    }
+}
+
+/// The words before and behind the clause that is wrongly added.
+fn words_around(number: u32) -> Option<(&'static str, &'static str)> {
+    match number {
+        21 => Some(("the number of ", " isn't above all numbers before it")),
+        22 => Some(("", " has a variable in both signs")),
+        23 => Some(("a hint of ", " names a clause that isn't there")),
+        24 => Some(("a hint of ", " is neither false nor unit")),
+        25 => Some(("a hint of ", " stands behind the conflict")),
+        26 => Some(("the hints of ", " end without a conflict")),
+        27 => Some(("", " has no hints for one of its candidates")),
+        28 => Some(("a group of ", " is for no candidate that needs one")),
+        31 => Some(("", " has a variable that the formula doesn't have")),
+        _ => None,
+    }
+}
+
+/// The words for what is wrong with no clause that is added.
+fn words_of(number: u32) -> &'static str {
+    match number {
+        29 => "a deletion names a clause that isn't there",
+        30 => "no step adds the empty clause; the proof may have been cut off",
+        41 => "a word is no number in plain digits, or above its limit",
+        42 => "the last line isn't ended; the proof may have been cut off",
+        43 => "neither an addition `NUMBER LITERALS 0 HINTS 0` nor a deletion `NUMBER d NUMBERS 0`",
+        45 => "longer than the limit, 4,294,967,296 bytes",
+        _ => "refused",
+    }
+}
+
+/// The number that a line of a proof begins with.
+fn number_of_line(line: &[u8]) -> Option<u64> {
+    let text = str::from_utf8(line).ok()?;
+    text.split_whitespace().next()?.parse::<u64>().ok()
+}
+
+/// What is added by the step of this line, whose text may be known.
+fn added_by(line: u64, excerpt: Option<&Excerpt>) -> Added {
+    let number = match excerpt {
+        Some(excerpt) => number_of_line(excerpt.line()),
+        None => None,
+    };
+    match number {
+        Some(number) => Added::Clause(number),
+        None => Added::OfStep(line),
+    }
+}
+
+/// Says what is wrong with the step or the line of this number.
+fn say_refused_at<E: Write>(
+    out: &mut E,
+    name: Name<'_>,
+    number: u32,
+    line: u64,
+    excerpt: Option<&Excerpt>,
+) {
+    let _ = match words_around(number) {
+        Some((before, behind)) => {
+            let added = added_by(line, excerpt);
+            writeln!(out, "c {name}: {before}{added}{behind} (line {line})")
+        }
+        None => {
+            let words = words_of(number);
+            writeln!(out, "c {name}: {words} (line {line})")
+        }
+    };
+}
+
+/// Says why a proof was refused, with the number of the clause at fault where the text at its line
+/// is known; or what the file is, if it begins as no text does. `beginning` has its first bytes. A
+/// failed write changes nothing.
+pub fn say_proof_refused<E: Write>(
+    out: &mut E,
+    file: &str,
+    refused: Refused,
+    beginning: &[u8],
+    excerpt: Option<&Excerpt>,
+) {
+    if let Some(format) = Format::of_proof(beginning) {
+        say_format(out, file, format);
+        return;
+    }
+    let name = Name::of(file);
+    match refused.line {
+        Some(line) => say_refused_at(out, name, refused.number, line, excerpt),
+        None => {
+            let words = words_of(refused.number);
+            let _ = writeln!(out, "c {name}: {words}");
+        }
+    }
+}

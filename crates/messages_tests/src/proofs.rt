@@ -1,0 +1,150 @@
+//! What is said of proofs that are refused.
+
+use cnf::Place;
+use messages::{Excerpt, Refused, say_proof_refused};
+use std::alloc::Global;
+
+/// A proof with steps on three lines.
+const PROOF: &[u8] = b"5 1 0 1 2 0\n5 d 1 2 0\n12 0 5 3 4 0\n";
+
+/// Lines of `check`, with what is said of that proof.
+static REFUSED: [(&str, &str); 15] = [
+    (
+        "refused 21 step 1\n",
+        "c p.lrat: the number of clause 5 isn't above all numbers before it (line 1)\n",
+    ),
+    (
+        "refused 22 step 1\n",
+        "c p.lrat: clause 5 has a variable in both signs (line 1)\n",
+    ),
+    (
+        "refused 23 step 3\n",
+        "c p.lrat: a hint of clause 12 names a clause that isn't there (line 3)\n",
+    ),
+    (
+        "refused 24 step 3\n",
+        "c p.lrat: a hint of clause 12 is neither false nor unit (line 3)\n",
+    ),
+    (
+        "refused 25 step 3\n",
+        "c p.lrat: a hint of clause 12 stands behind the conflict (line 3)\n",
+    ),
+    (
+        "refused 26 step 3\n",
+        "c p.lrat: the hints of clause 12 end without a conflict (line 3)\n",
+    ),
+    (
+        "refused 27 step 1\n",
+        "c p.lrat: clause 5 has no hints for one of its candidates (line 1)\n",
+    ),
+    (
+        "refused 28 step 1\n",
+        "c p.lrat: a group of clause 5 is for no candidate that needs one (line 1)\n",
+    ),
+    (
+        "refused 29 step 2\n",
+        "c p.lrat: a deletion names a clause that isn't there (line 2)\n",
+    ),
+    (
+        "refused 30\n",
+        "c p.lrat: no step adds the empty clause; the proof may have been cut off\n",
+    ),
+    (
+        "refused 31 step 1\n",
+        "c p.lrat: clause 5 has a variable that the formula doesn't have (line 1)\n",
+    ),
+    (
+        "refused 41 line 2\n",
+        "c p.lrat: a word is no number in plain digits, or above its limit (line 2)\n",
+    ),
+    (
+        "refused 42 line 3\n",
+        "c p.lrat: the last line isn't ended; the proof may have been cut off (line 3)\n",
+    ),
+    (
+        "refused 43 line 1\n",
+        "c p.lrat: neither an addition `NUMBER LITERALS 0 HINTS 0` nor a deletion `NUMBER d NUMBERS 0` (line 1)\n",
+    ),
+    (
+        "refused 45\n",
+        "c p.lrat: longer than the limit, 4,294,967,296 bytes\n",
+    ),
+];
+
+/// What is said of a proof that a line refuses; nothing, if it doesn't.
+fn said(alloc: Global, line: &[u8], beginning: &[u8], is_read_again: bool) -> Vec<u8> {
+    let mut out = Vec::new(alloc);
+    let Some(refused) = Refused::of_line(line) else {
+        return out;
+    };
+    let mut excerpt = Excerpt::around(Place {
+        line: refused.line.unwrap_or(1),
+        column: 1,
+    });
+    excerpt.add(PROOF);
+    let again = if is_read_again { Some(&excerpt) } else { None };
+    say_proof_refused(&mut out, "p.lrat", refused, beginning, again);
+    out
+}
+
+#[test]
+fn refusals_are_said(rt: HostRuntime) {
+    for (line, wanted) in &REFUSED {
+        let said = said(rt.alloc(), line.as_bytes(), PROOF, true);
+        assert!(rt; said.as_slice() == wanted.as_bytes(), "{wanted}");
+    }
+}
+
+#[test]
+fn a_refusal_of_what_is_read_once(rt: HostRuntime) {
+    let line = b"refused 24 step 18446744073709551615\n";
+    let wanted =
+        b"c p.lrat: a hint of the clause of step 18446744073709551615 is neither false nor unit (line 18446744073709551615)\n";
+    let said = said(rt.alloc(), line, PROOF, false);
+    assert!(rt; said.as_slice() == wanted.as_slice());
+}
+
+const BINARY: &str = "c p.lrat: a binary proof, and LRAT is read as text
+c cadical --lrat --no-binary FORMULA NEW writes such a text; drat-trim FORMULA FILE -L NEW makes one of DRAT
+";
+
+/// The first bytes of files that are no texts of proofs, or are, with what is said of them.
+static BEGINNINGS: [(&[u8], &str); 6] = [
+    // an addition and a deletion, in which 16 is a blank and 24 a digit
+    (b"a\x20\x30\x00\x0c\x00", BINARY),
+    (b"d\x20\x30\x00", BINARY),
+    (b"a\x81\x01", BINARY),
+    (
+        b"\x1f\x8b\x08\x00",
+        "c p.lrat: compressed by gzip; unpack it first: gzip -dc FILE > NEW\n",
+    ),
+    (
+        b"d 1 2 0\r\n\t1 0\n",
+        "c p.lrat: a word is no number in plain digits, or above its limit (line 1)\n",
+    ),
+    (
+        b"",
+        "c p.lrat: a word is no number in plain digits, or above its limit (line 1)\n",
+    ),
+];
+
+#[test]
+fn files_that_are_no_texts(rt: HostRuntime) {
+    for (beginning, wanted) in &BEGINNINGS {
+        let said = said(rt.alloc(), b"refused 41 line 1\n", beginning, true);
+        assert!(rt; said.as_slice() == wanted.as_bytes(), "{beginning:?}");
+    }
+}
+
+#[test]
+fn other_lines_refuse_nothing(rt: HostRuntime) {
+    for line in [
+        "accepted\n",
+        "refused\n",
+        "refused x\n",
+        "",
+        "s refused 30\n",
+    ] {
+        assert!(rt; Refused::of_line(line.as_bytes()).is_none(), "{line}");
+    }
+}

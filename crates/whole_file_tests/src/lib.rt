@@ -1,0 +1,14 @@
+//! Files that take their places once they are whole: what stands before and behind, where the path
+//! leads through links, and what is left where a call of the system is refused.
+#![tactic(auto)]
+
+#[cfg(test)]
+mod folder;
+#[cfg(test)]
+mod links;
+#[cfg(test)]
+mod places;
+#[cfg(test)]
+mod refusals;
+#[cfg(test)]
+mod refusing;
