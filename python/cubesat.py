@@ -42,11 +42,15 @@ class NoProgram(Error):
 
 
 class Fault(Error):
-    """The program gave no answer, or it refused the proof. `line` is what it printed; `cubesat explain` says what its numbers mean."""
+    """The program gave no answer, or it refused the proof. `line` is what it printed, and `words`, which may be empty, what it said of it in words.
 
-    def __init__(self, line: str):
-        super().__init__(line)
+    `cubesat explain` says what the numbers of the line mean, and what to change.
+    """
+
+    def __init__(self, line: str, words: str = ""):
+        super().__init__("\n".join(filter(None, (line, words))))
         self.line = line
+        self.words = words
 
 
 def solve(
@@ -73,7 +77,8 @@ def solve(
                for "focused". Another budget gives another proof, and by "focused" maybe another model
     hands:     threads, 1 to 16; they change neither the answer nor the proof
     check:     whether the proof is checked
-    proof:     where to keep the proof, which is empty where there is a model
+    proof:     where to keep the proof, which is empty where there is a model; a run that fails leaves
+               what is there
     program:   the path of the program; without it, see `find_program`
 
     Raises BadClauses, NoProgram, or Fault. Formula and proof are written to a temporary folder (TMPDIR says where), but for a proof that is kept.
@@ -86,7 +91,8 @@ def solve(
         with open(formula, "w") as file:
             file.write(text)
         options = ["--search", search, "--hands", str(hands)] + ([] if budget is None else ["--budget", str(budget)])
-        ran = _run(path, "solve", *options, "--proof", written, formula)
+        options += ["--proof", written] if check or proof is not None else []
+        ran = _run(path, "solve", *options, formula)
         if ran.returncode == SATISFIABLE:
             return _model(ran.stdout)
         if ran.returncode != UNSATISFIABLE:
@@ -159,5 +165,9 @@ def _model(answer: str) -> list[int]:
 
 
 def _fault(ran: subprocess.CompletedProcess[str]) -> Fault:
-    said = (ran.stderr or ran.stdout).strip() if ran.returncode >= 0 else ""
-    return Fault(said or f"ended with status {ran.returncode}")
+    if ran.returncode < 0:
+        return Fault(f"ended with status {ran.returncode}")
+    lines = ran.stderr.splitlines()
+    words = "\n".join(line[2:] for line in lines if line.startswith("c "))
+    said = "\n".join(line for line in lines if not line.startswith("c ")).strip() or ran.stdout.strip()
+    return Fault(said or f"ended with status {ran.returncode}", words)

@@ -119,10 +119,19 @@ class Refusals(InFolder):
         with self.assertRaisesRegex(cubesat.BadClauses, "^clause 2: 0 "):
             cubesat.solve([[1], [2, 0]])
 
-    def test_fault_has_the_line(self):
+    def test_proof_is_asked_for_where_it_is_needed(self):
+        program = program_of(self.folder, f'[[ "$*" == *--proof* ]] && exit 3; exec "{cubesat.find_program()}" "$@"')
+        self.assertIsNone(cubesat.solve(PIGEONS, program=program, check=False))
+        with self.assertRaises(cubesat.Fault):
+            cubesat.solve(PIGEONS, program=program)
+
+    def test_fault_has_the_line_and_words(self):
+        proof = os.path.join(self.folder, "absent", "f.lrat")
         with self.assertRaises(cubesat.Fault) as caught:
-            cubesat.solve(ALTERNATING, proof=os.path.join(self.folder, "absent", "f.lrat"))
-        self.assertEqual(caught.exception.line, "fault 56")
+            cubesat.solve(ALTERNATING, proof=proof)
+        words = f"{proof}: can't be created: its folder doesn't exist"
+        self.assertEqual((caught.exception.line, caught.exception.words), ("fault 56", words))
+        self.assertEqual(str(caught.exception), f"fault 56\n{words}")
 
     def test_options_out_of_range_are_a_fault(self):
         for options in ({"hands": 0}, {"hands": 17}, {"budget": 0}, {"budget": 100_001}, {"search": "x"}):
@@ -136,6 +145,7 @@ class Refusals(InFolder):
         with self.assertRaises(cubesat.Fault) as caught:
             cubesat.solve(PIGEONS, program=program)
         self.assertEqual(caught.exception.line, "refused 30")
+        self.assertRegex(caught.exception.words, ": no step adds the empty clause; the proof may have been cut off$")
         self.assertIsNone(cubesat.solve(PIGEONS, program=program, check=False))
 
     def test_killed_program_gives_no_answer(self):

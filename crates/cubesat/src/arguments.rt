@@ -2,6 +2,7 @@
 ghost use Rattle.std.specs.Prelude.{◌≤◌, IfOk};
 ghost use Rattle.cubesat.specs.Arguments.{IsRequest, IsWithin};
 
+use crate::standard_streams::refusal_of;
 use cdcl::Search;
 use clap::error::ErrorKind;
 use clap::{Arg, ArgAction, ArgMatches, Command, Error};
@@ -43,12 +44,12 @@ pub(crate) struct Shown {
 /// What the command line asks for.
 #[derive(Clone, Copy, Debug)]
 pub(crate) enum Request<'a> {
-    /// Decide the formula in `file`, and write its proof to `proof`.
+    /// Decide the formula in `file`, and write its proof to `proof`, if there is to be one.
     Solve {
         search: Search,
         budget: u32,
         hands: usize,
-        proof: &'a str,
+        proof: Option<&'a str>,
         file: &'a str,
         shown: Shown,
     },
@@ -104,11 +105,12 @@ fn solve_command<'a>(alloc: Global) -> Result<Command<'a>, AllocError> {
     let proof = Arg::new(alloc, "proof")
         .long("proof")
         .value_name("PATH")
-        .required(true)
-        .help("Where the LRAT proof is written");
+        .help(
+            "Where the LRAT proof is written, in PATH.part until it is whole; without it none is written",
+        );
     let file = Arg::new(alloc, "FILE")
         .required(true)
-        .help("The formula, in DIMACS CNF");
+        .help("The formula, in DIMACS CNF; - is standard input");
     Command::new(alloc, "solve")
         .about("Decide a formula: status 10 satisfiable, 20 unsatisfiable, 1 on a fault")
         .arg(search_option(alloc))?
@@ -124,10 +126,10 @@ fn solve_command<'a>(alloc: Global) -> Result<Command<'a>, AllocError> {
 fn check_command<'a>(alloc: Global) -> Result<Command<'a>, AllocError> {
     let formula = Arg::new(alloc, "FORMULA")
         .required(true)
-        .help("The formula, in DIMACS CNF");
+        .help("The formula, in DIMACS CNF; - is standard input");
     let proof = Arg::new(alloc, "PROOF")
         .required(true)
-        .help("The proof, in LRAT");
+        .help("The proof, in LRAT; - is standard input");
     Command::new(alloc, "check")
         .about("Check a proof: status 0 accepted, 1 refused or on a fault")
         .arg(flag(alloc, "progress", CHECK_PROGRESS))?
@@ -158,6 +160,7 @@ const EXAMPLES: &str = "Examples:
   cubesat solve --search focused --proof f.lrat f.cnf    mostly sooner, with one of its models
   cubesat solve --hands 4 --proof f.lrat f.cnf           the same bytes as with one, by four threads
   cubesat solve --stats --proof f.lrat f.cnf             and what it took
+  xz -dc f.cnf.xz | cubesat solve -                      standard input, and no proof
   cubesat check f.cnf f.lrat                             check the proof
   cubesat explain 51 5                                   what `fault 51: refusal 5` means";
 
@@ -201,7 +204,7 @@ fn solve_request<'a>(matches: &ArgMatches<'a>) -> Option<Request<'a>>
         None => default_budget(search),
     };
     let hands = matches.get_one::<u32>("hands")?;
-    let proof = matches.get_str("proof")?;
+    let proof = matches.get_str("proof");
     let file = matches.get_str("FILE")?;
     let shown = Shown {
         stats: matches.get_flag("stats"),
@@ -259,7 +262,10 @@ pub(crate) fn request_of<'a>(alloc: Global, words: &'a [&'a str]) -> Result<Requ
             _ => solve_request(matches),
         };
         if let Some(request) = request {
-            return Ok(request);
+            return match refusal_of(&request) {
+                Some(message) => Err(command.error(ErrorKind::ArgumentConflict, message)?),
+                None => Ok(request),
+            };
         }
     }
     Err(command.error(ErrorKind::InvalidValue, "no request")?)

@@ -98,25 +98,25 @@ fn of_text(number: u32) -> Option<&'static str> {
 fn of_run(number: u32) -> Option<&'static str> {
     match number {
         51 => Some(
-            "The formula wasn't read; the refusal behind it says why, with line and column, both counted from 1. Nothing was written; the proof's file is empty. `cubesat explain 51 NUMBER` explains the refusal.",
+            "The formula wasn't read; the refusal behind it says why, with line and column, both counted from 1. Nothing was written: the proof's file is as it was. `cubesat explain 51 NUMBER` explains the refusal.",
         ),
         52 => Some(
-            "Out of memory. Nothing was written; the proof's file is empty. Free some memory, or use fewer hands: each has its own copy of the clauses.",
+            "Out of memory. Nothing was written: the proof's file is as it was. Free some memory, or use fewer hands: each has its own copy of the clauses.",
         ),
         53 => Some(
-            "The proof couldn't be written, most likely because the disk is full. Its file holds a beginning of the proof, which proves nothing; no answer was printed.",
+            "The proof couldn't be written, most likely because the disk is full. Its file is as it was before the run, and no answer was printed. A pipe or a device may have got a beginning of the proof, which proves nothing.",
         ),
         54 => Some(
-            "The answer couldn't be written, though the proof was: the program that reads it has ended, or the disk is full. What was printed is a beginning of the answer.",
+            "The answer couldn't be written, though the proof was, if there was to be one: the program that reads it has ended, or the disk is full. What was printed is a beginning of the answer.",
         ),
         55 => Some(
             "The proof that is to be checked couldn't be read: the system answered an error. Nothing was printed of it.",
         ),
         56 => Some(
-            "A file can't be opened or created. Check the names, and whether you may read the one and write the other.",
+            "A file can't be opened or created. Check the names, and whether you may read the one and write the other. A proof is written beside its file first, in one with `.part` behind its name, so the folder has to be writable too.",
         ),
         57 => Some(
-            "The proof would be written over the formula: both names lead to one file. Nothing was touched; give the proof another name.",
+            "The proof would be written over the formula: its name, or this name with `.part` behind it, leads to the formula's file. Nothing was touched; give the proof another name.",
         ),
         _ => None,
     }

@@ -1,8 +1,13 @@
 //! The lines of faults.
 
 use crate::fault::RunFault;
+use crate::input::shown_name;
 use crate::notes::{note_file, note_files, note_number};
+use crate::worded::{Known, say_fault};
+use messages::{say_no_memory, say_not_created, say_not_read};
 use statistics::Manner;
+use std::fs::Files;
+use std::io;
 use std::io::Write;
 
 /// The status of a fault, of a proof that is refused and of a wrong command line.
@@ -42,30 +47,67 @@ pub(crate) fn print_fault<E: Write>(faults: &mut E, fault: RunFault) {
     };
 }
 
-/// Prints the line of a fault of a run on these files and, where it is to be explained, what it means.
-pub(crate) fn print_fault_of<E: Write>(
+/// Prints the line of a fault of a run, what happened, and, where that is to be explained, what it
+/// means; the status.
+pub(crate) fn print_fault_of<R: Files, E: Write>(
+    rt: &R,
     faults: &mut E,
     fault: RunFault,
-    formula: &str,
-    proof: &str,
+    known: &Known<'_>,
     is_explained: bool,
-) {
+) -> u8 {
     print_fault(faults, fault);
+    say_fault(rt, faults, fault, known);
     if is_explained {
         note_number(faults, fault.number());
         if let RunFault::Read(read) = fault {
             note_number(faults, read.number());
         }
-        note_files(faults, fault.number(), formula, proof);
+        note_files(faults, fault.number(), known.formula, known.proof);
     }
+    FAILED
 }
 
-/// Prints that a file can't be opened or created; the status.
-pub(crate) fn print_no_file<E: Write>(faults: &mut E, file: &str, is_explained: bool) -> u8 {
-    let _ = writeln!(faults, "fault 56");
+/// Prints that memory was refused before a run began, and what that means where it is to be
+/// explained; the status.
+pub(crate) fn print_no_memory<E: Write>(faults: &mut E, formula: &str, is_explained: bool) -> u8 {
+    print_fault(faults, RunFault::NoMemory);
+    say_no_memory(faults, shown_name(formula));
+    if is_explained {
+        note_number(faults, RunFault::NoMemory.number());
+    }
+    FAILED
+}
+
+/// Explains, where that is asked for, that a file can't be opened or created; the status.
+fn explain_no_file<E: Write>(faults: &mut E, file: &str, is_explained: bool) -> u8 {
     if is_explained {
         note_number(faults, 56);
         note_file(faults, file);
     }
     FAILED
+}
+
+/// Prints that a file can't be opened, and why; the status.
+pub(crate) fn print_not_opened<E: Write>(
+    faults: &mut E,
+    file: &str,
+    error: io::Error,
+    is_explained: bool,
+) -> u8 {
+    let _ = writeln!(faults, "fault 56");
+    say_not_read(faults, file, error);
+    explain_no_file(faults, file, is_explained)
+}
+
+/// Prints that a file can't be created, and why; the status.
+pub(crate) fn print_not_created<E: Write>(
+    faults: &mut E,
+    file: &str,
+    error: io::Error,
+    is_explained: bool,
+) -> u8 {
+    let _ = writeln!(faults, "fault 56");
+    say_not_created(faults, file, error);
+    explain_no_file(faults, file, is_explained)
 }

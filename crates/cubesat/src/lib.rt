@@ -1,6 +1,7 @@
 //! The solver: from the bytes of a formula to the bytes of its proof and answer, and the program.
 #![tactic(auto)]
 
+mod anew;
 mod arguments;
 mod check;
 mod checked_line;
@@ -8,17 +9,22 @@ mod checking;
 mod explanations;
 mod fault;
 mod fault_lines;
+mod input;
 mod laws;
 mod notes;
 mod output;
+mod placed_proof;
 mod program;
 mod proof_input;
 mod proof_output;
 mod runs;
+mod same_file;
 mod solving;
+mod standard_streams;
 mod threaded;
 mod verdict;
 mod watched;
+mod worded;
 
 pub use check::check_run;
 pub use checked_line::Checked;
@@ -26,7 +32,7 @@ pub use explanations::explanation;
 pub use fault::RunFault;
 pub use fault_lines::Screen;
 pub use laws::runs_write_the_same;
-pub use program::{command, command_on};
+pub use program::{command, command_on, command_with_input};
 pub use runs::{run_one, run_one_by_plan};
 pub use statistics::{
     Board, CubeCounts, Figures, Manner, Showing, Stage, TextSize, print_line, show_progress,

@@ -1,7 +1,9 @@
 //! What `--verbose` prints: lines that begin with `c`, of what is done, and of what a fault means.
 
 use crate::explanations::explanation;
-use cdcl::{Plan, Search};
+use crate::input::shown_name;
+use crate::watched::Effort;
+use cdcl::Search;
 use std::io::Write;
 
 /// Prints a line. A failed write changes nothing.
@@ -10,24 +12,27 @@ fn note<E: Write>(out: &mut E, said: &str, what: &str) {
 }
 
 /// What `solve` is about to do.
-pub(crate) fn note_solve<E: Write>(out: &mut E, plan: Plan, hands: usize, file: &str, proof: &str) {
-    note(out, "reading the formula from", file);
-    let search = match plan.search() {
+pub(crate) fn note_solve<E: Write>(out: &mut E, effort: &Effort, file: &str, proof: Option<&str>) {
+    note(out, "reading the formula from", shown_name(file));
+    let search = match effort.plan.search() {
         Search::Ordered => "ordered",
         Search::Focused => "focused",
     };
-    let budget = plan.budget();
+    let (hands, budget) = (effort.hands, effort.plan.budget());
     let _ = writeln!(
         out,
         "c solving it by the {search} search, hands {hands}, budget {budget} conflicts"
     );
-    note(out, "writing the proof to", proof);
+    match proof {
+        Some(path) => note(out, "writing the proof to", path),
+        None => note(out, "writing", "no proof"),
+    }
 }
 
 /// What `check` is about to do.
 pub(crate) fn note_check<E: Write>(out: &mut E, formula: &str, proof: &str) {
-    note(out, "reading the formula from", formula);
-    note(out, "checking the proof in", proof);
+    note(out, "reading the formula from", shown_name(formula));
+    note(out, "checking the proof in", shown_name(proof));
 }
 
 /// What a number means.
@@ -40,10 +45,10 @@ pub(crate) fn note_number<E: Write>(out: &mut E, number: u32) {
 /// Which files a fault concerns.
 pub(crate) fn note_files<E: Write>(out: &mut E, number: u32, formula: &str, proof: &str) {
     if number == 51 || number == 57 {
-        note(out, "the formula is", formula);
+        note(out, "the formula is", shown_name(formula));
     }
     if number == 53 || number == 55 || number == 57 {
-        note(out, "the proof is", proof);
+        note(out, "the proof is", shown_name(proof));
     }
 }
 

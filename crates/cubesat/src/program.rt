@@ -7,11 +7,14 @@ use crate::explanations::explanation;
 use crate::fault::RunFault;
 use crate::fault_lines::{FAILED, Screen, print_fault};
 use crate::solving::solve;
+use crate::watched::Effort;
 use cdcl::{Plan, Search};
 use clap::error::ErrorKind;
+use messages::say_no_memory;
 use std::alloc::Global;
 use std::fs::Files;
-use std::io::Write;
+use std::io;
+use std::io::{Read, Write};
 use std::sync::Wait;
 use std::thread::Threads;
 use std::time::Clock;
@@ -60,14 +63,22 @@ fn plan_of(search: Search, budget: u32) -> Plan
     }
 }
 
-/// Does all that the program does for a command line, of which the first word is the program's name: reads and writes its files, writes
-/// the answer to `answer`, faults and what is shown of the run to `faults`, and answers the exit status: 10 satisfiable, 20 unsatisfiable, 0 for
-/// help, for an explanation and for a proof that is accepted, 1 for one that is refused, on a fault or a wrong command line. A failed write to
+/// Does all that the program does for a command line, of which the first word is the program's
+/// name: reads and writes its files, reads `input` where the line has `-` for one, writes the
+/// answer to `answer`, faults and what is shown of the run to `faults`, and answers the exit
+/// status: 10 satisfiable, 20 unsatisfiable, 0 for help, for an explanation and for a proof that is
+/// accepted, 1 for one that is refused, on a fault or a wrong command line. A failed write to
 /// `faults` changes nothing else. `screen` says where `faults` leads.
-pub fn command_on<R: Files + Threads + Wait + Clock + Sync, W: Write, E: Write + Send>(
+pub fn command_with_input<
+    R: Files + Threads + Wait + Clock + Sync,
+    I: Read + Drop,
+    W: Write,
+    E: Write + Send,
+>(
     rt: &R,
     alloc: Global,
     words: &[&str],
+    input: I,
     answer: &mut W,
     faults: &mut E,
     screen: Screen,
@@ -84,8 +95,9 @@ pub fn command_on<R: Files + Threads + Wait + Clock + Sync, W: Write, E: Write +
             },
         ) => {
             let plan = plan_of(search, budget);
+            let effort = Effort { plan, hands };
             solve(
-                rt, alloc, plan, hands, proof, file, shown, answer, faults, screen,
+                rt, alloc, effort, proof, file, input, shown, answer, faults, screen,
             )
         }
         Ok(
@@ -94,10 +106,13 @@ pub fn command_on<R: Files + Threads + Wait + Clock + Sync, W: Write, E: Write +
                 proof,
                 shown,
             },
-        ) => check(rt, alloc, formula, proof, shown, answer, faults, screen),
+        ) => check(
+            rt, alloc, formula, proof, input, shown, answer, faults, screen,
+        ),
         Ok(Request::Explain { number, behind }) => explain(number, behind, answer, faults),
         Err(error) if error.kind() == ErrorKind::OutOfMemory => {
             print_fault(faults, RunFault::NoMemory);
+            say_no_memory(faults, "the command line");
             FAILED
         }
         Err(error) if error.use_stderr() => {
@@ -109,6 +124,18 @@ pub fn command_on<R: Files + Threads + Wait + Clock + Sync, W: Write, E: Write +
             SHOWN
         }
     }
+}
+
+/// What `command_with_input` does where nothing is to be read of the standard input.
+pub fn command_on<R: Files + Threads + Wait + Clock + Sync, W: Write, E: Write + Send>(
+    rt: &R,
+    alloc: Global,
+    words: &[&str],
+    answer: &mut W,
+    faults: &mut E,
+    screen: Screen,
+) -> u8 {
+    command_with_input(rt, alloc, words, io::empty(), answer, faults, screen)
 }
 
 /// What `command_on` does where `faults` leads to no terminal.

@@ -1,24 +1,28 @@
 //! `solve`: its files, and what is printed of the run.
-ghost use Rattle.std.specs.Prelude.{◌≤◌};
-
 use crate::arguments::Shown;
 use crate::fault::RunFault;
-use crate::fault_lines::{FAILED, Screen, print_fault_of, print_no_file};
+use crate::fault_lines::{
+    FAILED, Screen, print_fault_of, print_no_memory, print_not_created, print_not_opened,
+};
+use crate::input::open_input;
 use crate::notes::{note_files, note_number, note_solve};
+use crate::placed_proof::{NotBegun, begin_proof};
 use crate::threaded::run_by_plan;
 use crate::verdict::Verdict;
 use crate::watched::{Effort, run_counted};
+use crate::worded::{Known, Opened};
 use cdcl::{Plan, Search};
 use cubes::OpenGate;
+use messages::say_same_file;
+use noticed::{NoticedReader, NoticedWriter};
 use statistics::{Board, Showing, print_statistics, show_progress};
 use std::alloc::Global;
-use std::fs::{Files, OpenFile};
+use std::fs::Files;
 use std::io::{Read, Write};
-use std::os::unix::fs::MetadataExt;
 use std::sync::Wait;
 use std::thread::Threads;
 use std::time::Clock;
-use std::{fs, thread};
+use std::{io, thread};
 
 /// The status of a satisfiable formula.
 const SATISFIABLE: u8 = 10;
@@ -26,16 +30,8 @@ const SATISFIABLE: u8 = 10;
 /// The status of an unsatisfiable formula.
 const UNSATISFIABLE: u8 = 20;
 
-/// Whether a path leads to the file that is open, however it is spelled, by the file's device and number on it. Only a regular file counts: a
-/// terminal, say, loses nothing by being opened twice.
-fn leads_to<R: Files>(rt: &R, file: &R::File, path: &str) -> bool {
-    match (file.metadata(), fs::metadata(rt, path)) {
-        (Ok(open), Ok(there)) => {
-            open.is_file() && open.dev() == there.dev() && open.ino() == there.ino()
-        }
-        _ => false,
-    }
-}
+/// What stands for the proof's path where no proof is asked for.
+const NO_PATH: &str = "not written";
 
 /// Prints that the proof would be written over the formula; the status.
 fn print_same_file<E: Write>(faults: &mut E, file: &str, proof: &str, is_explained: bool) -> u8 {
@@ -43,6 +39,7 @@ fn print_same_file<E: Write>(faults: &mut E, file: &str, proof: &str, is_explain
         faults,
         "fault 57: the proof would be written over the formula"
     );
+    say_same_file(faults, file);
     if is_explained {
         note_number(faults, 57);
         note_files(faults, 57, file, proof);
@@ -123,56 +120,157 @@ fn run_shown<
     result
 }
 
-/// Decides the formula in the file, with its proof written to the other; the status. The proof isn't written over the formula.
-pub(crate) fn solve<R: Files + Threads + Wait + Clock + Sync, W: Write, E: Write + Send>(
+/// A run whose proof goes to this writer, with what is to be shown of it. It writes what
+/// `run_by_plan` writes.
+fn run_opened<
+    R: Files + Threads + Wait + Clock + Sync,
+    I: Read + Drop,
+    W: Write,
+    P: Write,
+    E: Write + Send,
+>(
     rt: &R,
     alloc: Global,
-    plan: Plan,
-    hands: usize,
-    path: &str,
-    file: &str,
+    effort: Effort,
+    input: I,
+    answer: &mut W,
+    proof: &mut P,
+    shown: Shown,
+    faults: &mut E,
+    screen: Screen,
+) -> Result<Verdict, RunFault> {
+    let showing = showing_of(shown, effort.plan, screen);
+    if shown.stats || showing.is_any() {
+        let stats = shown.stats;
+        return run_shown(
+            rt, alloc, effort, input, answer, proof, stats, faults, showing,
+        );
+    }
+    let (plan, hands) = (effort.plan, effort.hands);
+    run_by_plan(rt, alloc, input, answer, proof, plan, hands, &OpenGate)
+}
+
+/// Decides the formula that is open, with its proof written to what is open, and says what happened
+/// if it comes to no verdict; the status.
+fn solve_opened<
+    R: Files + Threads + Wait + Clock + Sync,
+    I: Read + Drop,
+    P: Write + Drop,
+    W: Write,
+    E: Write + Send,
+>(
+    rt: &R,
+    alloc: Global,
+    effort: Effort,
+    formula: Opened<'_, I>,
+    proof: Opened<'_, P>,
     shown: Shown,
     answer: &mut W,
     faults: &mut E,
     screen: Screen,
-) -> u8
-    requires hands { (1 ≤ hands) × (hands ≤ 16) }
-{
-    if shown.verbose {
-        note_solve(faults, plan, hands, file, path);
-    }
-    let Ok(input) = fs::open(rt, file) else {
-        return print_no_file(faults, file, shown.verbose);
-    };
-    if leads_to(rt, &input, path) {
-        return print_same_file(faults, file, path, shown.verbose);
-    }
-    let Ok(mut proof) = fs::create(rt, path) else {
-        return print_no_file(faults, path, shown.verbose);
-    };
-    let showing = showing_of(shown, plan, screen);
-    let result = if shown.stats || showing.is_any() {
-        let effort = Effort { plan, hands };
-        run_shown(
-            rt,
-            alloc,
-            effort,
-            input,
-            answer,
-            &mut proof,
-            shown.stats,
-            faults,
-            showing,
-        )
-    } else {
-        run_by_plan(rt, alloc, input, answer, &mut proof, plan, hands, &OpenGate)
-    };
+) -> u8 {
+    let mut input = NoticedReader::of(formula.file);
+    let mut output = NoticedWriter::of(proof.file);
+    let mut answer = NoticedWriter::of(answer);
+    let result = run_opened(
+        rt,
+        alloc,
+        effort,
+        &mut input,
+        &mut answer,
+        &mut output,
+        shown,
+        faults,
+        screen,
+    );
     match result {
         Ok(Verdict::Satisfiable) => SATISFIABLE,
         Ok(Verdict::Unsatisfiable) => UNSATISFIABLE,
         Err(fault) => {
-            print_fault_of(faults, fault, file, path, shown.verbose);
-            FAILED
+            let known = Known {
+                formula: formula.path,
+                proof: proof.path,
+                beginning: input.beginning(),
+                formula_error: input.error(),
+                proof_error: output.error(),
+                answer_error: answer.error(),
+            };
+            print_fault_of(rt, faults, fault, &known, shown.verbose)
         }
     }
+}
+
+/// Prints why the proof's file isn't begun; the status.
+fn print_not_begun<E: Write>(
+    faults: &mut E,
+    why: NotBegun,
+    file: &str,
+    path: &str,
+    is_explained: bool,
+) -> u8 {
+    match why {
+        NotBegun::Formula => print_same_file(faults, file, path, is_explained),
+        NotBegun::Answer => {
+            let _ = writeln!(
+                faults,
+                "cubesat: the proof would be written over the answer, which goes to the same file"
+            );
+            FAILED
+        }
+        NotBegun::NoFile(error) => print_not_created(faults, path, error, is_explained),
+        NotBegun::NoMemory => print_no_memory(faults, file, is_explained),
+    }
+}
+
+/// Decides the formula in the file, or in the standard input, with its proof written to the other,
+/// if there is to be one; the status. The proof isn't written over the formula.
+pub(crate) fn solve<
+    R: Files + Threads + Wait + Clock + Sync,
+    I: Read + Drop,
+    W: Write,
+    E: Write + Send,
+>(
+    rt: &R,
+    alloc: Global,
+    effort: Effort,
+    proof: Option<&str>,
+    file: &str,
+    standard: I,
+    shown: Shown,
+    answer: &mut W,
+    faults: &mut E,
+    screen: Screen,
+) -> u8 {
+    if shown.verbose {
+        note_solve(faults, &effort, file, proof);
+    }
+    let input = match open_input(rt, file, &mut Some(standard)) {
+        Ok(input) => input,
+        Err(error) => return print_not_opened(faults, file, error, shown.verbose),
+    };
+    let Some(path) = proof else {
+        let formula = Opened {
+            path: file,
+            file: input,
+        };
+        let proof = Opened {
+            path: NO_PATH,
+            file: io::sink(),
+        };
+        return solve_opened(
+            rt, alloc, effort, formula, proof, shown, answer, faults, screen,
+        );
+    };
+    let placed = match begin_proof(rt, alloc, path, &input) {
+        Ok(placed) => placed,
+        Err(why) => return print_not_begun(faults, why, file, path, shown.verbose),
+    };
+    let formula = Opened {
+        path: file,
+        file: input,
+    };
+    let proof = Opened { path, file: placed };
+    solve_opened(
+        rt, alloc, effort, formula, proof, shown, answer, faults, screen,
+    )
 }

@@ -1,7 +1,7 @@
 //! The program `cubesat`.
 #![tactic(auto)]
 
-use cubesat::{Screen, command_on};
+use cubesat::{Screen, command_with_input};
 use std::alloc::{AllocError, Global};
 use std::io::IsTerminal;
 use std::process::ExitCode;
@@ -18,10 +18,13 @@ fn borrowed<'a>(alloc: Global, words: &'a [String]) -> Result<Vec<&'a str>, Allo
     words.iter().map(|word| word.as_str()).collect(alloc)
 }
 
+/// What is said of a command line for which memory doesn't suffice.
+const NO_MEMORY: &str = "fault 52\nc the command line: not enough memory; free some and try again";
+
 /// What is said of a command line that can't be read: want of memory has its fault also here.
 fn line_of(error: &io::Error) -> &'static str {
     if error.kind() == io::ErrorKind::OutOfMemory {
-        "fault 52"
+        NO_MEMORY
     } else {
         "cubesat: the command line isn't text"
     }
@@ -37,7 +40,7 @@ fn main(rt: HostRuntime) -> ExitCode {
         }
     };
     let Ok(words) = borrowed(alloc, &words) else {
-        let _ = eprintln!(rt; "fault 52");
+        let _ = eprintln!(rt; "{NO_MEMORY}");
         return ExitCode::from(1);
     };
     let mut faults = rt.stderr();
@@ -46,6 +49,8 @@ fn main(rt: HostRuntime) -> ExitCode {
     } else {
         Screen::Stream
     };
-    let status = command_on(&rt, alloc, &words, &mut rt.stdout(), &mut faults, screen);
+    let input = rt.stdin();
+    let mut answer = rt.stdout();
+    let status = command_with_input(&rt, alloc, &words, input, &mut answer, &mut faults, screen);
     ExitCode::from(status)
 }

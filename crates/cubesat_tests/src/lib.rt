@@ -1,7 +1,7 @@
 //! Worked rows: the bytes of the proof and the answer for the bytes of a formula, by both searches,
 //! and the line for those of a proof; what failing readers and writers leave; two hands at a gate;
-//! proofs of many steps, and those with one byte changed; examples from end to end; the program and
-//! its options.
+//! proofs of many steps, and those with one byte changed; examples from end to end; the program,
+//! its options, its files and standard input.
 #![tactic(auto)]
 
 #[cfg(test)]
@@ -23,6 +23,8 @@ mod gates;
 #[cfg(test)]
 mod hints;
 #[cfg(test)]
+mod kept_proof;
+#[cfg(test)]
 mod long_proofs;
 #[cfg(test)]
 mod one_byte;
@@ -43,4 +45,8 @@ mod shown;
 #[cfg(test)]
 mod shown_faults;
 #[cfg(test)]
+mod standard_input;
+#[cfg(test)]
 mod texts;
+#[cfg(test)]
+mod worded;

@@ -77,7 +77,7 @@ const UNREAD: Row = Row {
     wanted: Wanted {
         status: 1,
         answer: "",
-        faults: "fault 55\n",
+        faults: "fault 55\nc .: is a folder\n",
     },
     after: FOUR_PROOF,
 };
@@ -88,7 +88,7 @@ const UNOPENED: Row = Row {
     wanted: Wanted {
         status: 1,
         answer: "",
-        faults: "fault 56\n",
+        faults: "fault 56\nc |MISSING|: no such file\n",
     },
     ..UNREAD
 };
@@ -101,7 +101,7 @@ static UNREADABLE: [Row; 5] = [
         wanted: Wanted {
             status: 1,
             answer: "",
-            faults: "fault 51: refusal 5 at line 2, column 3\n",
+            faults: "fault 51: refusal 5 at line 2, column 3\nc |FORMULA|: a variable above the header's number of variables (line 2, column 3)\nc   1 3 0\nc     ^\n",
         },
         ..UNREAD
     },
@@ -115,7 +115,7 @@ static UNREADABLE: [Row; 5] = [
         wanted: Wanted {
             status: 1,
             answer: "",
-            faults: "fault 51: refusal 10\n",
+            faults: "fault 51: refusal 10\nc .: is a folder\n",
         },
         ..UNREAD
     },

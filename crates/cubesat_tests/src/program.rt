@@ -14,7 +14,7 @@ const CHECK: [&str; 4] = ["cubesat", "check", "FORMULA", "PROOF"];
 const NOT_OPENED: Wanted = Wanted {
     status: 1,
     answer: "",
-    faults: "fault 56\n",
+    faults: "fault 56\nc |MISSING|: no such file\n",
 };
 
 static DECIDED: [Row; 2] = [
@@ -68,7 +68,7 @@ static CHECKED: [Row; 3] = [
         wanted: Wanted {
             status: 1,
             answer: "refused 27 step 2\n",
-            faults: "",
+            faults: "c |PROOF|: clause 6 has no hints for one of its candidates (line 2)\n",
         },
         after: "5 3 1 0 0\n6 -3 0 0\n7 1 0 1 2 0\n8 0 7 3 4 0\n",
     },
@@ -86,7 +86,7 @@ fn a_proof_is_checked(rt: HostRuntime) -> Result<(), Fail> {
     check_rows(&rt, "checked.cnf", &CHECKED)
 }
 
-/// The proof's file is there behind it, and empty.
+/// The proof's file is as it was.
 static UNREADABLE: [Row; 1] = [Row {
     formula: REFUSED,
     before: Some("old"),
@@ -94,9 +94,9 @@ static UNREADABLE: [Row; 1] = [Row {
     wanted: Wanted {
         status: 1,
         answer: "",
-        faults: "fault 51: refusal 5 at line 2, column 3\n",
+        faults: "fault 51: refusal 5 at line 2, column 3\nc |FORMULA|: a variable above the header's number of variables (line 2, column 3)\nc   1 3 0\nc     ^\n",
     },
-    after: "",
+    after: "old",
 }];
 
 #[test]
@@ -116,7 +116,10 @@ static UNOPENED: [Row; 2] = [
         formula: "p cnf 0 0\n",
         before: Some("old"),
         words: &["cubesat", "solve", "--proof", "MISSING", "FORMULA"],
-        wanted: NOT_OPENED,
+        wanted: Wanted {
+            faults: "fault 56\nc |MISSING|: can't be created: its folder doesn't exist\n",
+            ..NOT_OPENED
+        },
         after: "old",
     },
 ];
@@ -129,14 +132,14 @@ fn files_that_cannot_be_opened(rt: HostRuntime) -> Result<(), Fail> {
 /// A folder opens and can't be read.
 static FOLDER: [Row; 1] = [Row {
     formula: "p cnf 0 0\n",
-    before: None,
+    before: Some("old"),
     words: &["cubesat", "solve", "--proof", "PROOF", "."],
     wanted: Wanted {
         status: 1,
         answer: "",
-        faults: "fault 51: refusal 10\n",
+        faults: "fault 51: refusal 10\nc .: is a folder\n",
     },
-    after: "",
+    after: "old",
 }];
 
 #[test]
@@ -144,15 +147,17 @@ fn a_folder_is_no_formula(rt: HostRuntime) -> Result<(), Fail> {
     check_rows(&rt, "folder.cnf", &FOLDER)
 }
 
-static WRONG: [&[&str]; 17] = [
+static WRONG: [&[&str]; 18] = [
     // no subcommand
     &["cubesat"],
     // no words
     &[],
     // another subcommand
     &["cubesat", "guess"],
-    // no proof
-    &["cubesat", "solve", "x.cnf"],
+    // no proof's path
+    &["cubesat", "solve", "x.cnf", "--proof"],
+    // a proof where the answer goes
+    &["cubesat", "solve", "--proof", "-", "x.cnf"],
     // no formula
     &["cubesat", "solve", "--proof", "x.lrat"],
     // budgets that are none

@@ -8,12 +8,6 @@ use std::test::Fail;
 use std::thread::Threads;
 use std::time::Clock;
 
-const REFUSED: Wanted = Wanted {
-    status: 1,
-    answer: "",
-    faults: "fault 57: the proof would be written over the formula\n",
-};
-
 /// Whether `solve` refuses these two names of one file, and leaves its text.
 fn is_refused<R: Files + AllocGlobal + Threads + Wait + Clock + Sync>(
     rt: &R,
@@ -21,7 +15,15 @@ fn is_refused<R: Files + AllocGlobal + Threads + Wait + Clock + Sync>(
     proof: &str,
 ) -> Result<bool, Fail> {
     let words = ["cubesat", "solve", "--proof", proof, formula];
-    let is_printed = prints(rt, &words, &REFUSED);
+    let faults = format!(in rt.alloc();
+        "fault 57: the proof would be written over the formula\nc {formula}: formula and proof are one file; give the proof another name\n"
+    )?;
+    let wanted = Wanted {
+        status: 1,
+        answer: "",
+        faults: faults.as_str(),
+    };
+    let is_printed = prints(rt, &words, &wanted);
     let text = fs::read(rt, formula)?;
     Ok(is_printed && text.as_slice() == FOUR.as_bytes())
 }

@@ -98,10 +98,19 @@ impl Paths {
         }
         Ok(line)
     }
+
+    /// A text in which such words stand between bars.
+    pub fn filled(&self, alloc: Global, text: &str) -> Result<String, AllocError> {
+        let mut filled = String::new(alloc);
+        for piece in text.split('|') {
+            filled.push_str(self.word(piece))?;
+        }
+        Ok(filled)
+    }
 }
 
 /// A command line, with the texts of the formula's file and the proof's file before, and the one of the proof's file behind it. Before a row with
-/// none there is no proof's file.
+/// none there is no proof's file. In the faults that are wanted a file's word stands between bars.
 #[derive(Clone, Copy)]
 pub struct Row<'a> {
     pub formula: &'a str,
@@ -131,7 +140,12 @@ fn holds<R: Files + AllocGlobal + Threads + Wait + Clock + Sync>(
 ) -> Result<bool, Fail> {
     put(rt, paths, row)?;
     let words = paths.words(rt.alloc(), row.words)?;
-    let is_printed = prints(rt, &words, &row.wanted);
+    let faults = paths.filled(rt.alloc(), row.wanted.faults)?;
+    let wanted = Wanted {
+        faults: faults.as_str(),
+        ..row.wanted
+    };
+    let is_printed = prints(rt, &words, &wanted);
     let text = fs::read(rt, paths.proof.as_str())?;
     Ok(is_printed && text.as_slice() == row.after.as_bytes())
 }

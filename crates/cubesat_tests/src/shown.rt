@@ -120,6 +120,10 @@ fn statistics_are_printed(rt: HostRuntime) -> Result<(), Fail> {
 /// A device that takes no bytes.
 const FULL: &str = "/dev/full";
 
+/// What is said of it as a proof's file.
+const FULL_DEVICE: &str =
+    "\nfault 53\nc /dev/full: no room on the device\nc the proof isn't whole; make room for all of it, or name another place\n";
+
 /// The lines of a run on the four clauses whose proof isn't written, up to the times.
 const UNWRITTEN: &str =
     "c formula: 2 variables, 4 clauses, 8 literals\nc hands: 1\nc search: 2 conflicts, 1 decisions, 4 propagations, 0 restarts\nc clauses: 1 learnt, 0 forgotten\nc cubes: 1 solved, 0 split, 0 skipped\nc learnt: 2 lines in refuted cubes, kept in 10 bytes\nc solved by each hand: 1\nc proof: 0 lines, 0 bytes\nc reading: ";
@@ -131,7 +135,7 @@ fn is_unwritten(faults: &[u8]) -> bool {
             text.starts_with(UNWRITTEN)
                 && text.contains("\nc joining: ")
                 && !text.contains("\nc writing: ")
-                && text.ends_with("\nfault 53\n")
+                && text.ends_with(FULL_DEVICE)
         }
         Err(_) => false,
     }

@@ -1,4 +1,4 @@
-//! What `--verbose` prints, and that a fault's line and the answer stay as they are.
+//! What `--verbose` prints, and that a fault's lines and the answer stay as they are.
 use crate::sessions::{Paths, Wanted, prints};
 use crate::texts::{WIDE, WIDE_PROOF};
 use cubesat::explanation;
@@ -17,10 +17,11 @@ const BAD: &str = "p cnf 2 1\n1 3 0\n";
 /// A proof with a candidate that the second line leaves out.
 const CUT: &str = "5 3 1 0 0\n6 -3 0 0\n";
 
-const READ: &str = "fault 51: refusal 5 at line 2, column 3\n";
+const READ: &str =
+    "fault 51: refusal 5 at line 2, column 3\nc |FORMULA|: a variable above the header's number of variables (line 2, column 3)\nc   1 3 0\nc     ^\n";
 
 /// The texts of the formula's and the proof's file, a command line, what it answers, and what is shown: in pieces what comes before a fault, the
-/// fault's line, the numbers that are explained, and in pieces the files that it concerns.
+/// fault's lines, the numbers that are explained, and in pieces the files that it concerns.
 #[derive(Clone, Copy)]
 struct Row<'a> {
     texts: (&'a str, &'a str),
@@ -57,7 +58,7 @@ fn write_numbers(text: &mut String, numbers: &[u32]) -> Result<(), AllocError> {
 fn shown(alloc: Global, paths: &Paths, row: &Row) -> Result<String, AllocError> {
     let mut text = String::new(alloc);
     write_pieces(&mut text, alloc, paths, row.begins)?;
-    text.push_str(row.fault)?;
+    text.push_str(paths.filled(alloc, row.fault)?.as_str())?;
     write_numbers(&mut text, row.numbers)?;
     write_pieces(&mut text, alloc, paths, row.ends)?;
     Ok(text)
@@ -109,6 +110,7 @@ static CHECKS: [Row; 6] = [
         texts: (WIDE, CUT),
         status: 1,
         answer: "refused 27 step 2\n",
+        fault: "c |PROOF|: clause 6 has no hints for one of its candidates (line 2)\n",
         numbers: &[27],
         ..ACCEPTED
     },
@@ -130,7 +132,7 @@ static CHECKS: [Row; 6] = [
             "FORMULA",
             "\nc checking the proof in .\n",
         ],
-        fault: "fault 55\n",
+        fault: "fault 55\nc .: is a folder\n",
         numbers: &[55],
         ends: &["c the proof is .\n"],
         ..ACCEPTED
@@ -146,7 +148,7 @@ static CHECKS: [Row; 6] = [
             "MISSING",
             "\n",
         ],
-        fault: "fault 56\n",
+        fault: "fault 56\nc |MISSING|: no such file\n",
         numbers: &[56],
         ends: &["c the file is ", "MISSING", "\n"],
         ..ACCEPTED
@@ -162,7 +164,7 @@ static CHECKS: [Row; 6] = [
             "PROOF",
             "\n",
         ],
-        fault: "fault 56\n",
+        fault: "fault 56\nc |MISSING|: no such file\n",
         numbers: &[56],
         ends: &["c the file is ", "MISSING", "\n"],
         ..ACCEPTED
@@ -208,8 +210,53 @@ const REFUTED: Row = Row {
     ends: &[],
 };
 
-static RUNS: [Row; 4] = [
+static RUNS: [Row; 7] = [
     REFUTED,
+    Row {
+        words: &["cubesat", "solve", "--verbose", "FORMULA"],
+        begins: &[
+            "c reading the formula from ",
+            "FORMULA",
+            "\nc solving it by the ordered search, hands 1, budget 1000 conflicts\nc writing no proof\n",
+        ],
+        ..REFUTED
+    },
+    Row {
+        words: &["cubesat", "solve", "--verbose", "--proof", "PROOF", "-"],
+        status: 1,
+        answer: "",
+        begins: &[
+            "c reading the formula from standard input\nc solving it by the ordered search, hands 1, budget 1000 conflicts\nc writing the proof to ",
+            "PROOF",
+            "\n",
+        ],
+        fault: "fault 51: refusal 1 at line 1, column 1\nc standard input: the header `p cnf VARIABLES CLAUSES` is missing (line 1, column 1)\n",
+        numbers: &[51, 1],
+        ends: &["c the formula is standard input\n"],
+        ..REFUTED
+    },
+    Row {
+        words: &[
+            "cubesat",
+            "solve",
+            "--verbose",
+            "--search",
+            "focused",
+            "--hands",
+            "3",
+            "--proof",
+            "PROOF",
+            "FORMULA",
+        ],
+        begins: &[
+            "c reading the formula from ",
+            "FORMULA",
+            "\nc solving it by the focused search, hands 3, budget 100000 conflicts\nc writing the proof to ",
+            "PROOF",
+            "\n",
+        ],
+        ..REFUTED
+    },
     Row {
         texts: (BAD, ""),
         status: 1,
@@ -237,7 +284,7 @@ static RUNS: [Row; 4] = [
             "MISSING",
             "\n",
         ],
-        fault: "fault 56\n",
+        fault: "fault 56\nc |MISSING|: can't be created: its folder doesn't exist\n",
         numbers: &[56],
         ends: &["c the file is ", "MISSING", "\n"],
         ..REFUTED
@@ -260,7 +307,7 @@ static RUNS: [Row; 4] = [
             "FORMULA",
             "\n",
         ],
-        fault: "fault 57: the proof would be written over the formula\n",
+        fault: "fault 57: the proof would be written over the formula\nc |FORMULA|: formula and proof are one file; give the proof another name\n",
         numbers: &[57],
         ends: &[
             "c the formula is ",

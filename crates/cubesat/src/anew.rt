@@ -1,0 +1,35 @@
+//! A file that is read once more, for its text around a place.
+
+use crate::input::STANDARD_INPUT;
+use cnf::Place;
+use messages::Excerpt;
+use std::fs;
+use std::fs::Files;
+use std::io::Read;
+
+/// How many bytes a read is given room for.
+const CHUNK: usize = 8192;
+
+/// Adds what one read gives; whether more is to be read. None where the read fails.
+fn add_chunk<I: Read>(input: &mut I, excerpt: &mut Excerpt) -> Option<bool> {
+    let mut chunk = [0u8; CHUNK];
+    let count = input.read(&mut chunk).ok()?;
+    excerpt.add(&chunk[..count]);
+    Some(count > 0 && !excerpt.is_full())
+}
+
+/// The text of a file around a place. There is none where the file can't be read, and none of what
+/// isn't a regular file, or of standard input: a pipe gives its bytes once.
+pub(crate) fn excerpt_of<R: Files>(rt: &R, file: &str, place: Place) -> Option<Excerpt> {
+    if file == STANDARD_INPUT || !fs::metadata(rt, file).ok()?.is_file() {
+        return None;
+    }
+    let mut input = fs::open(rt, file).ok()?;
+    let mut excerpt = Excerpt::around(place);
+    for _ in 0..u64::MAX {
+        if !add_chunk(&mut input, &mut excerpt)? {
+            break;
+        }
+    }
+    Some(excerpt)
+}

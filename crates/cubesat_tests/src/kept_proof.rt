@@ -1,0 +1,199 @@
+//! An old proof stays until a new one is whole, and an answer comes only behind its proof.
+use crate::faulty::{Limited, Limits};
+use crate::sessions::{Paths, Row, Wanted, check_rows, path_of, prints, run};
+use crate::texts::{FOUR, FOUR_PROOF};
+use cubesat::command;
+use std::io::Write;
+use std::rt::{Env, Files};
+use std::test::Fail;
+use std::{fs, io};
+
+const SOLVE: [&str; 7] = [
+    "cubesat", "solve", "--budget", "1", "--proof", "PROOF", "FORMULA",
+];
+
+const REFUTED: Wanted = Wanted {
+    status: 20,
+    answer: "s UNSATISFIABLE\n",
+    faults: "",
+};
+
+/// The formula is refuted, and the old proof's file left as it was.
+const KEPT: Row = Row {
+    formula: FOUR,
+    before: Some("old"),
+    words: &["cubesat", "solve", "--budget", "1", "FORMULA"],
+    wanted: REFUTED,
+    after: "old",
+};
+
+static UNASKED: [Row; 3] = [
+    KEPT,
+    Row {
+        words: &["cubesat", "solve", "--hands", "2", "FORMULA"],
+        ..KEPT
+    },
+    Row {
+        words: &["cubesat", "solve", "--proof", "/dev/null", "FORMULA"],
+        ..KEPT
+    },
+];
+
+#[test]
+fn no_proof_is_asked_for(rt: HostRuntime) -> Result<(), Fail> {
+    check_rows(&rt, "unasked.cnf", &UNASKED)
+}
+
+static FULL: [Row; 1] = [Row {
+    words: &["cubesat", "solve", "--proof", "/dev/full", "FORMULA"],
+    wanted: Wanted {
+        status: 1,
+        answer: "",
+        faults: "fault 53\nc /dev/full: no room on the device\nc the proof isn't whole; make room for all of it, or name another place\n",
+    },
+    ..KEPT
+}];
+
+#[test]
+fn a_proof_that_cannot_be_written(rt: HostRuntime) -> Result<(), Fail> {
+    check_rows(&rt, "full.cnf", &FULL)
+}
+
+/// The files of a test, and the path of the proof's part.
+#[derive(Drop)]
+struct Parts {
+    paths: Paths,
+    part: String,
+}
+
+impl Parts {
+    /// With an old proof.
+    fn of<R: Env + Files + AllocGlobal>(rt: &R, name: &str) -> Result<Parts, Fail> {
+        let paths = Paths::of(rt, name)?;
+        fs::write(rt, paths.formula.as_str(), FOUR)?;
+        fs::write(rt, paths.proof.as_str(), "old")?;
+        let part = format!(in rt.alloc(); "{}.part", paths.proof)?;
+        Ok(Parts { paths, part })
+    }
+
+    /// Whether the proof's file has this text, and there is no part.
+    fn has<R: Files + AllocGlobal>(&self, rt: &R, text: &str) -> bool {
+        match fs::read(rt, self.paths.proof.as_str()) {
+            Ok(proof) => {
+                proof.as_slice() == text.as_bytes()
+                    && rt.symlink_metadata(self.part.as_str()).is_err()
+            }
+            Err(_) => false,
+        }
+    }
+}
+
+#[test]
+fn the_part_of_a_run_that_was_killed(rt: HostRuntime) -> Result<(), Fail> {
+    let parts = Parts::of(&rt, "killed.cnf")?;
+    fs::write(&rt, parts.part.as_str(), "5 1 0 1 2 0\n6 -1 0")?;
+    let words = parts.paths.words(rt.alloc(), &SOLVE)?;
+    assert!(rt; prints(&rt, &words, &REFUTED));
+    assert!(rt; parts.has(&rt, FOUR_PROOF));
+    Ok(())
+}
+
+#[test]
+fn a_folder_in_the_place_of_the_part(rt: HostRuntime) -> Result<(), Fail> {
+    let parts = Parts::of(&rt, "occupied.cnf")?;
+    let _ = fs::remove_dir(&rt, parts.part.as_str());
+    fs::create_dir(&rt, parts.part.as_str())?;
+    let words = parts.paths.words(rt.alloc(), &SOLVE)?;
+    let printed = run(&rt, &words);
+    assert_eq!(rt; printed.status, 1);
+    assert!(rt; printed.answer.is_empty());
+    assert!(rt; printed.faults.starts_with(b"fault 56\nc "));
+    fs::remove_dir(&rt, parts.part.as_str())?;
+    assert!(rt; parts.has(&rt, "old"));
+    Ok(())
+}
+
+/// The new proof is in its place where the answer fails behind it.
+#[test]
+fn an_answer_that_cannot_be_written(rt: HostRuntime) -> Result<(), Fail> {
+    let parts = Parts::of(&rt, "unanswered.cnf")?;
+    let words = parts.paths.words(rt.alloc(), &SOLVE)?;
+    let mut answer = Limited::new(rt.alloc(), Limits::of(3));
+    let mut faults = Vec::new(rt.alloc());
+    let status = command(&rt, rt.alloc(), &words, &mut answer, &mut faults);
+    assert_eq!(rt; status, 1);
+    assert!(rt; faults.starts_with(b"fault 54\nc the answer: "));
+    assert!(rt; parts.has(&rt, FOUR_PROOF));
+    Ok(())
+}
+
+/// A writer of an answer that looks, as each piece comes, whether the proof is in its place.
+struct Looking<'a, R> {
+    rt: &'a R,
+    parts: &'a Parts,
+    pieces: usize,
+    is_in_place: bool,
+}
+
+impl<R: Files + AllocGlobal> Write for Looking<'_, R> {
+    fn write(&mut self, buf: &[u8]) -> io::Result<usize> {
+        self.pieces = self.pieces.saturating_add(1);
+        self.is_in_place = self.is_in_place && self.parts.has(self.rt, FOUR_PROOF);
+        Ok(buf.len())
+    }
+
+    fn flush(&mut self) -> io::Result<()> {
+        Ok(())
+    }
+}
+
+#[test]
+fn an_answer_comes_behind_its_proof(rt: HostRuntime) -> Result<(), Fail> {
+    let parts = Parts::of(&rt, "behind.cnf")?;
+    let words = parts.paths.words(rt.alloc(), &SOLVE)?;
+    let mut faults = Vec::new(rt.alloc());
+    let mut answer = Looking {
+        rt: &rt,
+        parts: &parts,
+        pieces: 0,
+        is_in_place: true,
+    };
+    let status = command(&rt, rt.alloc(), &words, &mut answer, &mut faults);
+    let Looking {
+        rt: _,
+        parts: _,
+        pieces,
+        is_in_place,
+    } = answer;
+    assert_eq!(rt; status, 20);
+    assert!(rt; pieces > 0 && is_in_place);
+    Ok(())
+}
+
+/// The part of the proof is the formula's file.
+#[test]
+fn the_formula_is_no_part(rt: HostRuntime) -> Result<(), Fail> {
+    let proof = path_of(&rt, "whole.lrat")?;
+    let formula = format!(in rt.alloc(); "{proof}.part")?;
+    fs::write(&rt, formula.as_str(), FOUR)?;
+    let words = [
+        "cubesat",
+        "solve",
+        "--proof",
+        proof.as_str(),
+        formula.as_str(),
+    ];
+    let faults = format!(in rt.alloc();
+        "fault 57: the proof would be written over the formula\nc {formula}: formula and proof are one file; give the proof another name\n"
+    )?;
+    let wanted = Wanted {
+        status: 1,
+        answer: "",
+        faults: faults.as_str(),
+    };
+    assert!(rt; prints(&rt, &words, &wanted));
+    let text = fs::read(&rt, formula.as_str())?;
+    assert_eq!(rt; text.as_slice(), FOUR.as_bytes());
+    fs::remove_file(&rt, formula.as_str())?;
+    Ok(())
+}

@@ -1,0 +1,342 @@
+//! What the program says of a fault in words, from the files on.
+use crate::faulty::{Limited, Limits};
+use crate::sessions::{Paths, Wanted, prints};
+use cubesat::command;
+use std::alloc::Global;
+use std::fs;
+use std::rt::Files;
+use std::sync::Wait;
+use std::test::Fail;
+use std::thread::Threads;
+use std::time::Clock;
+
+/// All four clauses over two variables, and over four.
+const FOUR: &[u8] = b"p cnf 2 4\n1 2 0\n1 -2 0\n-1 2 0\n-1 -2 0\n";
+
+const WIDE: &[u8] = b"p cnf 4 4\n1 2 0\n1 -2 0\n-1 2 0\n-1 -2 0\n";
+
+/// The bytes of the formula's file and the proof's, a command line whose status is 1, what it answers, and what it says. There a file's word stands
+/// between bars.
+#[derive(Clone, Copy)]
+struct Row<'a> {
+    formula: &'a [u8],
+    proof: &'a [u8],
+    words: &'a [&'a str],
+    answer: &'a str,
+    faults: &'a str,
+}
+
+/// A formula that is to be solved.
+const SOLVED: Row = Row {
+    formula: FOUR,
+    proof: b"",
+    words: &["cubesat", "solve", "--proof", "PROOF", "FORMULA"],
+    answer: "",
+    faults: "",
+};
+
+/// A proof that is to be checked.
+const CHECKED: Row = Row {
+    words: &["cubesat", "check", "FORMULA", "PROOF"],
+    ..SOLVED
+};
+
+/// Whether a row's command line answers and says what it is to answer and to say.
+fn says<R: Files + AllocGlobal + Threads + Wait + Clock + Sync>(
+    rt: &R,
+    paths: &Paths,
+    row: &Row,
+) -> Result<bool, Fail> {
+    fs::write(rt, paths.formula.as_str(), row.formula)?;
+    fs::write(rt, paths.proof.as_str(), row.proof)?;
+    let words = paths.words(rt.alloc(), row.words)?;
+    let faults = paths.filled(rt.alloc(), row.faults)?;
+    let wanted = Wanted {
+        status: 1,
+        answer: row.answer,
+        faults: faults.as_str(),
+    };
+    Ok(prints(rt, &words, &wanted))
+}
+
+/// The first of the rows that isn't as it is to be.
+fn first_wrong<R: Files + AllocGlobal + Threads + Wait + Clock + Sync>(
+    rt: &R,
+    paths: &Paths,
+    rows: &[Row],
+) -> Result<Option<usize>, Fail> {
+    for (at, row) in rows.iter().enumerate() {
+        if !says(rt, paths, row)? {
+            return Ok(Some(at));
+        }
+    }
+    Ok(None)
+}
+
+static FILES: [Row; 7] = [
+    Row {
+        words: &["cubesat", "solve", "--proof", "PROOF", "MISSING"],
+        faults: "fault 56\nc |MISSING|: no such file\n",
+        ..SOLVED
+    },
+    Row {
+        words: &["cubesat", "solve", "--proof", "PROOF", "."],
+        faults: "fault 51: refusal 10\nc .: is a folder\n",
+        ..SOLVED
+    },
+    Row {
+        words: &["cubesat", "solve", "--proof", "MISSING", "FORMULA"],
+        faults: "fault 56\nc |MISSING|: can't be created: its folder doesn't exist\n",
+        ..SOLVED
+    },
+    Row {
+        words: &["cubesat", "solve", "--proof", ".", "FORMULA"],
+        faults: "fault 56\nc .: can't be created: it is a folder\n",
+        ..SOLVED
+    },
+    Row {
+        words: &["cubesat", "solve", "--proof", "/dev/full", "FORMULA"],
+        faults: "fault 53\nc /dev/full: no room on the device\nc the proof isn't whole; make room for all of it, or name another place\n",
+        ..SOLVED
+    },
+    Row {
+        words: &["cubesat", "check", "FORMULA", "MISSING"],
+        faults: "fault 56\nc |MISSING|: no such file\n",
+        ..SOLVED
+    },
+    Row {
+        words: &["cubesat", "check", "FORMULA", "."],
+        faults: "fault 55\nc .: is a folder\n",
+        ..SOLVED
+    },
+];
+
+#[test]
+fn files_that_the_system_refuses(rt: HostRuntime) -> Result<(), Fail> {
+    let paths = Paths::of(&rt, "worded_files.cnf")?;
+    assert!(rt; first_wrong(&rt, &paths, &FILES)?.is_none());
+    Ok(())
+}
+
+static FORMULAS: [Row; 15] = [
+    Row {
+        formula: b"1 2 0\n",
+        faults: "fault 51: refusal 1 at line 1, column 1\nc |FORMULA|: the header `p cnf VARIABLES CLAUSES` is missing (line 1, column 1)\nc   1 2 0\nc   ^\n",
+        ..SOLVED
+    },
+    Row {
+        formula: b"p cnf 2\n1 0\n",
+        faults: "fault 51: refusal 2 at line 1, column 8\nc |FORMULA|: the header is `p cnf VARIABLES CLAUSES`, both numbers in plain digits (line 1, column 8)\nc   p cnf 2\nc          ^\n",
+        ..SOLVED
+    },
+    Row {
+        formula: b"p cnf 1 1\np cnf 1 1\n",
+        faults: "fault 51: refusal 3 at line 2, column 1\nc |FORMULA|: a second header; a file holds one formula (line 2, column 1)\nc   p cnf 1 1\nc   ^\n",
+        ..SOLVED
+    },
+    Row {
+        formula: b"p cnf 9 2\n1 0\n1 2 007 3 0\n",
+        faults: "fault 51: refusal 4 at line 3, column 5\nc |FORMULA|: a literal can't begin with 0 (line 3, column 5)\nc   1 2 007 3 0\nc       ^\n",
+        ..SOLVED
+    },
+    Row {
+        formula: b"p cnf 2 1\n1 3 0\n",
+        faults: "fault 51: refusal 5 at line 2, column 3\nc |FORMULA|: a variable above the header's number of variables (line 2, column 3)\nc   1 3 0\nc     ^\n",
+        ..SOLVED
+    },
+    Row {
+        formula: b"p cnf 2 1\n1 0 2 0\n",
+        faults: "fault 51: refusal 6 at line 2, column 5\nc |FORMULA|: more clauses than the header counts (line 2, column 5)\nc   1 0 2 0\nc       ^\n",
+        ..SOLVED
+    },
+    Row {
+        formula: b"p cnf 2 2\n1 2 0\n",
+        faults: "fault 51: refusal 7 at line 3, column 1\nc |FORMULA|: the text ends with fewer clauses than the header counts (line 3, column 1)\n",
+        ..SOLVED
+    },
+    Row {
+        formula: b"p cnf 2 1\n1 2",
+        faults: "fault 51: refusal 8 at line 2, column 4\nc |FORMULA|: the text ends inside a clause, without its 0 (line 2, column 4)\nc   1 2\nc      ^\n",
+        ..SOLVED
+    },
+    Row {
+        formula: b"p cnf 262144 1\n1 0\n",
+        faults: "fault 51: refusal 9 at line 1, column 7\nc |FORMULA|: above a limit: 262,143 variables, 1,000,000 clauses, 8,000,000 literals (line 1, column 7)\nc   p cnf 262144 1\nc         ^\n",
+        ..SOLVED
+    },
+    Row {
+        formula: b"\x1f\x8b\x08\x00",
+        faults: "fault 51: refusal 1 at line 1, column 1\nc |FORMULA|: compressed by gzip; unpack it first: gzip -dc FILE > NEW\n",
+        ..SOLVED
+    },
+    Row {
+        formula: b"\xfd7zXZ\x00\x00\x04",
+        faults: "fault 51: refusal 1 at line 1, column 1\nc |FORMULA|: compressed by xz; unpack it first: xz -dc FILE > NEW\n",
+        ..SOLVED
+    },
+    Row {
+        formula: b"BZh91AY&SY",
+        faults: "fault 51: refusal 1 at line 1, column 1\nc |FORMULA|: compressed by bzip2; unpack it first: bzip2 -dc FILE > NEW\n",
+        ..SOLVED
+    },
+    Row {
+        formula: b"\x28\xb5\x2f\xfd\x24",
+        faults: "fault 51: refusal 1 at line 1, column 1\nc |FORMULA|: compressed by zstd; unpack it first: zstd -dc FILE > NEW\n",
+        ..SOLVED
+    },
+    Row {
+        formula: b"p cnf 2 1\n1 2 0\n%\n0\n\n",
+        faults: "fault 51: refusal 4 at line 3, column 1\nc |FORMULA|: it ends in a line `%` and a line `0`, as SATLIB's files do (line 3, column 1); cut both off: sed '/^%/,$d' FILE > NEW\n",
+        ..SOLVED
+    },
+    // what is no regular file isn't read again
+    Row {
+        words: &["cubesat", "solve", "--proof", "PROOF", "/dev/null"],
+        faults: "fault 51: refusal 1 at line 1, column 1\nc /dev/null: the header `p cnf VARIABLES CLAUSES` is missing (line 1, column 1)\n",
+        ..SOLVED
+    },
+];
+
+#[test]
+fn formulas_that_are_refused(rt: HostRuntime) -> Result<(), Fail> {
+    let paths = Paths::of(&rt, "worded_formulas.cnf")?;
+    let wrong = first_wrong(&rt, &paths, &FORMULAS)?;
+    assert!(rt; wrong.is_none(), "{wrong:?}");
+    Ok(())
+}
+
+static PROOFS: [Row; 16] = [
+    Row {
+        proof: b"4 1 0 1 2 0\n",
+        answer: "refused 21 step 1\n",
+        faults: "c |PROOF|: the number of clause 4 isn't above all numbers before it (line 1)\n",
+        ..CHECKED
+    },
+    Row {
+        proof: b"5 1 -1 0 0\n",
+        answer: "refused 22 step 1\n",
+        faults: "c |PROOF|: clause 5 has a variable in both signs (line 1)\n",
+        ..CHECKED
+    },
+    Row {
+        proof: b"5 1 0 9 0\n",
+        answer: "refused 23 step 1\n",
+        faults: "c |PROOF|: a hint of clause 5 names a clause that isn't there (line 1)\n",
+        ..CHECKED
+    },
+    Row {
+        proof: b"5 1 0 1 2 0\n212 0 1 0\n",
+        answer: "refused 24 step 2\n",
+        faults: "c |PROOF|: a hint of clause 212 is neither false nor unit (line 2)\n",
+        ..CHECKED
+    },
+    Row {
+        proof: b"5 1 0 1 2 3 0\n",
+        answer: "refused 25 step 1\n",
+        faults: "c |PROOF|: a hint of clause 5 stands behind the conflict (line 1)\n",
+        ..CHECKED
+    },
+    Row {
+        proof: b"5 0 0\n",
+        answer: "refused 26 step 1\n",
+        faults: "c |PROOF|: the hints of clause 5 end without a conflict (line 1)\n",
+        ..CHECKED
+    },
+    Row {
+        formula: WIDE,
+        proof: b"5 3 1 0 0\n6 -3 0 0\n",
+        answer: "refused 27 step 2\n",
+        faults: "c |PROOF|: clause 6 has no hints for one of its candidates (line 2)\n",
+        ..CHECKED
+    },
+    Row {
+        formula: WIDE,
+        proof: b"5 3 1 0 -1 0\n",
+        answer: "refused 28 step 1\n",
+        faults: "c |PROOF|: a group of clause 5 is for no candidate that needs one (line 1)\n",
+        ..CHECKED
+    },
+    Row {
+        proof: b"5 d 9 0\n",
+        answer: "refused 29 step 1\n",
+        faults: "c |PROOF|: a deletion names a clause that isn't there (line 1)\n",
+        ..CHECKED
+    },
+    Row {
+        answer: "refused 30\n",
+        faults: "c |PROOF|: no step adds the empty clause; the proof may have been cut off\n",
+        ..CHECKED
+    },
+    Row {
+        proof: b"5 3 0 0\n",
+        answer: "refused 31 step 1\n",
+        faults: "c |PROOF|: clause 5 has a variable that the formula doesn't have (line 1)\n",
+        ..CHECKED
+    },
+    Row {
+        proof: b"5 1 0 1 2 0\n6 x 0 0\n",
+        answer: "refused 41 line 2\n",
+        faults: "c |PROOF|: a word is no number in plain digits, or above its limit (line 2)\n",
+        ..CHECKED
+    },
+    Row {
+        proof: b"5 1 0 1 2 0",
+        answer: "refused 42 line 1\n",
+        faults: "c |PROOF|: the last line isn't ended; the proof may have been cut off (line 1)\n",
+        ..CHECKED
+    },
+    Row {
+        proof: b"5 1 0\n",
+        answer: "refused 43 line 1\n",
+        faults: "c |PROOF|: neither an addition `NUMBER LITERALS 0 HINTS 0` nor a deletion `NUMBER d NUMBERS 0` (line 1)\n",
+        ..CHECKED
+    },
+    // an addition in binary, of the clause 5
+    Row {
+        proof: b"a\x0a\x02\x00\x02\x04\x00",
+        answer: "refused 41 line 1\n",
+        faults: "c |PROOF|: a binary proof, and LRAT is read as text\nc cadical --lrat --no-binary FORMULA NEW writes such a text; drat-trim FORMULA FILE -L NEW makes one of DRAT\n",
+        ..CHECKED
+    },
+    Row {
+        proof: b"\x1f\x8b\x08\n",
+        answer: "refused 41 line 1\n",
+        faults: "c |PROOF|: compressed by gzip; unpack it first: gzip -dc FILE > NEW\n",
+        ..CHECKED
+    },
+];
+
+#[test]
+fn proofs_that_are_refused(rt: HostRuntime) -> Result<(), Fail> {
+    let paths = Paths::of(&rt, "worded_proofs.cnf")?;
+    let wrong = first_wrong(&rt, &paths, &PROOFS)?;
+    assert!(rt; wrong.is_none(), "{wrong:?}");
+    Ok(())
+}
+
+/// What a command line says whose answer's writer has room for four bytes.
+fn said_of_unwritten<R: Files + AllocGlobal + Threads + Wait + Clock + Sync>(
+    rt: &R,
+    alloc: Global,
+    words: &[&str],
+) -> Vec<u8> {
+    let mut answer = Limited::new(alloc, Limits::of(4));
+    let mut faults = Vec::new(alloc);
+    let _ = command(rt, alloc, words, &mut answer, &mut faults);
+    faults
+}
+
+#[test]
+fn answers_that_are_not_written(rt: HostRuntime) -> Result<(), Fail> {
+    let paths = Paths::of(&rt, "worded_answers.cnf")?;
+    fs::write(&rt, paths.formula.as_str(), FOUR)?;
+    fs::write(&rt, paths.proof.as_str(), "5 1 0 1 2 0\n6 0 5 3 4 0\n")?;
+    let wanted =
+        b"fault 54\nc the answer: other error\nc what was printed is only a beginning of it\n";
+    for row in [SOLVED, CHECKED] {
+        let words = paths.words(rt.alloc(), row.words)?;
+        let said = said_of_unwritten(&rt, rt.alloc(), &words);
+        assert!(rt; said.as_slice() == wanted.as_slice());
+    }
+    Ok(())
+}
