@@ -1,4 +1,5 @@
--- Sets in marks with the places that wait: a literal comes, the place looked at is taken, another is looked at.
+-- Sets in marks with the places that wait: a literal comes, the place looked at is taken, another
+-- is looked at.
 use Rattle.std.proofs.Common.{◌≡◌, ℕ, ◌+◌, ◌-◌, ◌<◌, ◌≤◌, Bool, true, false, ◌&&◌, ◌||◌, List, [], ◌∷◌, ◌++◌, length, filter, take, Some, slice_get, slice_set, slice_index_or, refl, ap, sym, subst, ◌∙◌, nat_eq, eqb-true, eq-eqb, arith, cond, count_by, IsPermutation}
 use Rattle.std.specs.List.{list_any}
 use Rattle.std.proofs.lemmas.List.Elements.{All-push}

@@ -1,4 +1,5 @@
--- Sets of literals that are false on the trail, as marks of their variables: literals come, and go as they are resolved on.
+-- Sets of literals that are false on the trail, as marks of their variables: literals come, and go
+-- as they are resolved on.
 use Rattle.std.proofs.Common.{◌≡◌, ℕ, ◌+◌, ◌-◌, ◌<◌, ◌≤◌, Bool, true, false, ◌||◌, if◌then◌else◌, nat_le, le-leb, leb-true, ◌&&◌, None, List, [], ◌∷◌, length, Some, refl, ap, sym, subst, ◌∙◌, nat_eq, eqb-true, eq-eqb, cond, inl, inr, ◌⊎◌, slice_index_or, slice_set, get_or, replicate, nat_lt, ltb-true, ltb-false, arith}
 use Rattle.std.proofs.Math.ListN.{get_or-eq_default}
 use Rattle.std.proofs.lemmas.List.{get_or_default, get_or-replicate, length-replicate, get_or-set_same, get_or-set_other, length-set}

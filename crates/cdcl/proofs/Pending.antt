@@ -1,4 +1,5 @@
--- The places of the trail where a set may yet be resolved: one comes, one is looked at, the others stay.
+-- The places of the trail where a set may yet be resolved: one comes, one is looked at, the others
+-- stay.
 use Rattle.std.proofs.Common.{◌≡◌, ◌≢◌, ℕ, suc, max, ◌+◌, ◌<◌, ◌≤◌, Bool, true, false, ◌&&◌, ◌||◌, List, [], ◌∷◌, Option, Some, None, slice_get, refl, ap, sym, subst, ◌∙◌, nat_lt, nat_eq, eqb-true, eq-eqb, ltb-true, ltb-false, inl, inr, arith, cond, count_by, All, IsPermutation}
 use Rattle.std.proofs.lemmas.List.Sums.{sum_by-cons}
 use Rattle.std.proofs.lemmas.List.Sorted.{All-permutation, sum_by_pushed, sum_by_popped}

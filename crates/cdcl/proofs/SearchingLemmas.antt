@@ -1,4 +1,5 @@
--- What a search keeps from step to step, and why it ends: with each step a conflict more is counted, or the trail is longer.
+-- What a search keeps from step to step, and why it ends: with each step a conflict more is
+-- counted, or the trail is longer.
 use Rattle.std.proofs.Common.{◌≡◌, ◌∙◌, ℕ, ◌≤◌, false, Result, Ok, Err, IfOk, OnOk, if◌then◌else◌, List, Option, Some}
 use Rattle.theory.specs.Literals.{Clause, negations}
 use Rattle.theory.specs.Truth.{IsOver}

@@ -1,5 +1,5 @@
--- Sets of literals that are false on the trail, held as marks of their variables, and the places of the trail where one is yet to be
--- looked at.
+-- Sets of literals that are false on the trail, held as marks of their variables, and the places of
+-- the trail where one is yet to be looked at.
 use Rattle.std.specs.Prelude.{◌≡◌, ℕ, ◌<◌, ◌≤◌, ◌^◌, Bool, true, false, ◌&&◌, ◌||◌, nat_eq, nat_lt, List, [], ◌∷◌, length, take, reverse, All, Option, Some, None, if◌then◌else◌, count_by, slice_get, slice_index_or}
 use Rattle.std.specs.List.{list_any}
 use Rattle.theory.specs.Literals.{Literal, Clause, has, has_var, negated}
@@ -50,7 +50,8 @@ pub record IsClear (m : Marks) : Type 0 where
   pub unseen : m.seen.items ≡ []
   pub done : m.pending ≡ []
 
--- the marks stand for some set, whose places from a bound on were looked at, and the literals of c are false below the bound
+-- the marks stand for some set, whose places from a bound on were looked at, and the literals of c
+-- are false below the bound
 pub record CanJoin (k : State) (c : Clause) (m : Marks) : Type 0 where
   pub lawful : IsLawful k.clauses k.trail
   pub over : IsOver k.vars (literals k.trail)
@@ -60,13 +61,15 @@ pub record CanJoin (k : State) (c : Clause) (m : Marks) : Type 0 where
   pub is : IsSet k set bound m
   pub below : is_false (literals (take bound k.trail)) c ≡ true
 
--- the marks stand for some set, whose places from the entry's on were looked at, and the literals of c are false below it
+-- the marks stand for some set, whose places from the entry's on were looked at, and the literals
+-- of c are false below it
 pub record CanResolve (k : State) (e : Entry) (c : Clause) (m : Marks) : Type 0 where
   pub joins : CanJoin k c m
   pub at : slice_get k.trail joins.bound ≡ Some e
   pub is_in : has_var joins.set e.lit.var ≡ true
 
--- the marks stand for some set, whose places from the entry's on were looked at, and which may be resolved on the entry
+-- the marks stand for some set, whose places from the entry's on were looked at, and which may be
+-- resolved on the entry
 pub record CanLookAt (k : State) (e : Entry) (m : Marks) : Type 0 where
   pub joins : CanJoin k [] m
   pub at : slice_get k.trail joins.bound ≡ Some e

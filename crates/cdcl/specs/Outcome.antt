@@ -5,7 +5,8 @@ use Rattle.theory.specs.Search as search
 use Rattle.cdcl.specs.declared.outcome.Outcome.{Outcome}
 use Rattle.cdcl.specs.declared.outcome.Outcome.TheVariants.{Model, Refuted, Exhausted}
 
--- a row and a refutation are both seen as the lines that they have, and so the outcomes with them are of one type
+-- a row and a refutation are both seen as the lines that they have, and so the outcomes with them
+-- are of one type
 abbrev pub LinesOutcome : Type 0
 LinesOutcome = Outcome (List Line)
 

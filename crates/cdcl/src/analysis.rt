@@ -18,7 +18,8 @@ use std::alloc::{AllocError, Global};
 pub struct Learnt {
     /// The learnt clause, by rising variable.
     pub clause: Vec<Lit>,
-    /// The numbers of the clauses that it was resolved from: the reasons in the order of the trail, then the conflict.
+    /// The numbers of the clauses that it was resolved from: the reasons in the order of the trail,
+    /// then the conflict.
     pub hints: Vec<u64>,
     /// The level to go back to.
     pub level: u32,
@@ -52,7 +53,8 @@ fn marks_of(
     Ok(marks)
 }
 
-/// Looks at the entry whose place came last: where the set is resolved on it, resolves with its reason, and puts that behind the hints.
+/// Looks at the entry whose place came last: where the set is resolved on it, resolves with its
+/// reason, and puts that behind the hints.
 fn look_at(
     kernel: &Kernel,
     marks: &mut Marks,
@@ -94,7 +96,8 @@ fn walk(
     Ok(())
 }
 
-/// Puts the negation of a variable's literal on the trail behind the others, unless it is the cube's.
+/// Puts the negation of a variable's literal on the trail behind the others, unless it is the
+/// cube's.
 fn put_negation(kernel: &Kernel, clause: &mut Vec<Lit>, var: u32) -> Result<(), AllocError>
     ensures { OnOk result (clause.new.items ≡ clause.old.items ++ negation_of (entry_of kernel.now.trail var)) }
 {
@@ -122,8 +125,9 @@ fn keep_marked(seen: &mut Vec<u32>, marked: &[bool])
     seen.truncate(kept);
 }
 
-/// The literals of the set without those of the cube, in place of the clause there. It leaves no mark. Most variables that were seen were resolved away again, so they go before the
-/// others are sorted.
+/// The literals of the set without those of the cube, in place of the clause there. It leaves no
+/// mark. Most variables that were seen were resolved away again, so they go before the others are
+/// sorted.
 fn take_clause(kernel: &Kernel, marks: &mut Marks, clause: &mut Vec<Lit>) -> Result<(), AllocError>
     requires long { kernel.now.vars < length marks.old.marked.items }
     requires seen { All (λ v. v ≤ kernel.now.vars) marks.old.seen.items }
@@ -171,10 +175,10 @@ pub(crate) fn analyze_in(
     Ok(())
 }
 
-/// The line that the conflict with the clause of this number teaches, and the level to go back to. The last `close` answered this
-/// conflict, and nothing was changed since. It takes time by the literals of the clauses resolved with, with
-/// a logarithm for the order of their variables and places, and at first by the variables.
-/// An error comes only where memory was refused.
+/// The line that the conflict with the clause of this number teaches, and the level to go back to.
+/// The last `close` answered this conflict, and nothing was changed since. It takes time by the
+/// literals of the clauses resolved with, with a logarithm for the order of their variables and
+/// places, and at first by the variables. An error comes only where memory was refused.
 pub fn analyze(alloc: Global, kernel: &Kernel, conflict: u64) -> Result<Learnt, AllocError>
     requires { least_false (literals kernel.now.trail) kernel.now.clauses ≡ Some conflict }
     ensures line { IfOk result (λ r. line_of r ≡ learn kernel.now.clauses kernel.now.trail conflict) }

@@ -6,8 +6,8 @@ ghost use Rattle.std.specs.List.Sorted.{IsPermutation};
 use std::alloc::{AllocError, Global};
 use std::marker::Model;
 
-/// Numbers, each once. To find the greatest passes over those that aren't in, from the greatest before, a byte each: it is quick where the
-/// numbers lie near one another.
+/// Numbers, each once. To find the greatest passes over those that aren't in, from the greatest
+/// before, a byte each: it is quick where the numbers lie near one another.
 #[derive(Drop)]
 pub(crate) struct Flags {
     // by number: whether it is in

@@ -7,8 +7,8 @@ use cnf::Lit;
 use kernel::Cube;
 use std::alloc::AllocError;
 
-/// The cube with the variable false, and the cube with it true. The variable is from 1 to 2,147,483,647, and not in the cube. An error
-/// comes only where memory was refused.
+/// The cube with the variable false, and the cube with it true. The variable is from 1 to
+/// 2,147,483,647, and not in the cube. An error comes only where memory was refused.
 pub fn split(cube: &Cube, var: u32) -> Result<(Cube, Cube), AllocError>
     requires var { (1 ≤ var) × (var < 2 ^ 31) }
     requires free { has_var cube.now var ≡ false }

@@ -1,5 +1,5 @@
-//! Conflict-driven clause learning inside one cube: analysis of a conflict, the search of a cube up to a budget of conflicts, and
-//! the two halves of a cube.
+//! Conflict-driven clause learning inside one cube: analysis of a conflict, the search of a cube up
+//! to a budget of conflicts, and the two halves of a cube.
 #![tactic(auto)]
 
 mod analysis;

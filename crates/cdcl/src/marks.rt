@@ -1,5 +1,5 @@
-//! Sets of literals that are false on the trail, as marks of their variables: what resolution works on. Each step costs what it
-//! looks at, and a logarithm for each place of level 0 that waits.
+//! Sets of literals that are false on the trail, as marks of their variables: what resolution works
+//! on. Each step costs what it looks at, and a logarithm for each place of level 0 that waits.
 ghost use Rattle.std.specs.Prelude.{◌≡◌, ◌<◌, ◌≤◌, ◌+◌, ◌∷◌, [], ℕ, IfOk, OnOk, length, take, true, false, Some, None, slice_get, slice_index_or};
 ghost use Rattle.theory.specs.Literals.{Clause, has, negated, without};
 ghost use Rattle.theory.specs.Trails.{Entry, literals, entry_of};
@@ -23,7 +23,8 @@ pub(crate) struct Marks {
     pub(crate) current: usize,
     /// The variables of all literals that were put in.
     pub(crate) seen: Vec<u32>,
-    /// The places on the trail that are yet to be looked at: those of the literals of level 0 or of the current one.
+    /// The places on the trail that are yet to be looked at: those of the literals of level 0 or of
+    /// the current one.
     pub(crate) pending: Places,
 }
 
@@ -137,7 +138,8 @@ fn take(kernel: &Kernel, marks: &mut Marks, entry: Entry)
     }
 }
 
-/// Resolves the set with the reason of the entry that was looked at last, the negation of whose literal is in the set.
+/// Resolves the set with the reason of the entry that was looked at last, the negation of whose
+/// literal is in the set.
 pub(crate) fn resolve(
     kernel: &Kernel,
     marks: &mut Marks,
@@ -153,7 +155,8 @@ pub(crate) fn resolve(
     put_others(kernel, marks, reason, entry.lit)
 }
 
-/// The clause with which the set is resolved at an entry of level 0 or of the current one, the negation of whose literal is in the set.
+/// The clause with which the set is resolved at an entry of level 0 or of the current one, the
+/// negation of whose literal is in the set.
 pub(crate) fn reason_used(marks: &Marks, entry: Entry) -> Option<u64>
     ensures { (k : State) → (S : Clause) → IsLawful k.clauses k.trail → IsMarked k S marks.now.marked.items marks.now.current
         → entry_of k.trail entry.lit.var ≡ Some entry → is_open k.trail S (Some entry) ≡ true → result ≡ reason_used k.trail S entry }

@@ -52,7 +52,8 @@ impl Drop for OrderedSearch {
 }
 
 impl OrderedSearch {
-    /// A search of a formula, before its first cube: over its clauses, and behind them a unit clause for each pure literal.
+    /// A search of a formula, before its first cube: over its clauses, and behind them a unit
+    /// clause for each pure literal.
     pub(crate) fn open(alloc: Global, formula: &Formula) -> Result<OrderedSearch, AllocError>
         ensures { IfOk result (λ s. IsReady ByNumber formula.now s.kernel) }
     {
@@ -116,7 +117,8 @@ impl OrderedSearch {
         }
     }
 
-    /// Where propagation came to rest: decides the least free variable to be false, or gives the model where none is free.
+    /// Where propagation came to rest: decides the least free variable to be false, or gives the
+    /// model where none is free.
     fn on_quiet(&mut self) -> Result<Option<Outcome<Row>>, AllocError>
         requires searching { IsSearching ByNumber self.old.kernel }
         requires quiet { Propagates by_number self.old.kernel.clauses self.old.kernel.trail quiet self.old.kernel.trail }

@@ -4,8 +4,9 @@ ghost use Rattle.std.specs.Prelude.{◌≡◌};
 use cnf::Lit;
 use std::marker::Model;
 
-/// A learnt clause without the cube's literals, by rising variable, and the numbers of the clauses that it was resolved from. Behind the
-/// formula's clauses come the unit clauses of its pure literals; the numbers above these count the cube's own lines.
+/// A learnt clause without the cube's literals, by rising variable, and the numbers of the clauses
+/// that it was resolved from. Behind the formula's clauses come the unit clauses of its pure
+/// literals; the numbers above these count the cube's own lines.
 #[derive(Drop)]
 pub struct Line {
     clause: Vec<Lit>,
@@ -50,7 +51,8 @@ impl Line {
     }
 }
 
-/// The lines of a refuted cube, in the order in which they were learnt; the last one's clause is empty.
+/// The lines of a refuted cube, in the order in which they were learnt; the last one's clause is
+/// empty.
 #[derive(Drop)]
 pub struct Refutation {
     pub lines: Vec<Line>,
@@ -69,8 +71,8 @@ impl Model for Refutation {
 /// `Refutation` has each of them in memory of its own.
 #[derive(Drop)]
 pub enum Outcome<L = Refutation> {
-    /// The truth values of the variables 1, 2 and so on: an assignment that satisfies the formula and
-    /// the cube and has the pure variables false, by the ordered search the first such one.
+    /// The truth values of the variables 1, 2 and so on: an assignment that satisfies the formula
+    /// and the cube and has the pure variables false, by the ordered search the first such one.
     Model(Vec<bool>),
     /// No assignment satisfies the formula and the cube and has the pure variables false.
     Refuted(L),

@@ -10,8 +10,9 @@ use std::alloc::{AllocError, Global};
 use std::collections::BinaryHeap;
 use std::marker::Model;
 
-/// Places, each as often as it was put in. Those of the current level lie side by side at the trail's end, so they are flags, which are passed over from
-/// the end. Those of level 0, which are few and may be far apart, are in a heap.
+/// Places, each as often as it was put in. Those of the current level lie side by side at the
+/// trail's end, so they are flags, which are passed over from the end. Those of level 0, which are
+/// few and may be far apart, are in a heap.
 #[derive(Drop)]
 pub(crate) struct Places {
     near: Flags,

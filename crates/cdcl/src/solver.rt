@@ -18,9 +18,11 @@ use std::alloc::{AllocError, Global};
 use std::marker::Model;
 use std::snapshot::Snapshot;
 
-/// Solves cubes of one formula by one plan. The formula's clauses are copied once, with a unit clause for each of its pure literals, and the room for
-/// analysis is made once, so that a cube costs what its search does and not what the formula holds. A cube's budget is the root's times one
-/// more than the cube's literals, and at most 1,000,000. Once a call has met want of memory, each later one answers it.
+/// Solves cubes of one formula by one plan. The formula's clauses are copied once, with a unit
+/// clause for each of its pure literals, and the room for analysis is made once, so that a cube
+/// costs what its search does and not what the formula holds. A cube's budget is the root's times
+/// one more than the cube's literals, and at most 1,000,000. Once a call has met want of memory,
+/// each later one answers it.
 pub struct Solver {
     search: Searcher,
     // which formula it is; it is no data, and takes no room
@@ -54,7 +56,8 @@ impl Model for Solver {
 }
 
 impl Solver {
-    /// A solver of a formula by a plan. It takes time and memory by the formula's literals and variables, and fails where that is refused.
+    /// A solver of a formula by a plan. It takes time and memory by the formula's literals and
+    /// variables, and fails where that is refused.
     pub fn open(alloc: Global, formula: &Formula, plan: Plan) -> Result<Solver, AllocError>
         ensures { IfOk result (λ s. s ≡ record { formula = formula.now; plan = plan; short = false }) }
     {
@@ -66,9 +69,10 @@ impl Solver {
         })
     }
 
-    /// The outcome of a cube over the formula's variables, by the plan's search: whatever cubes came before, it is the same. It takes time by
-    /// what the search does, and by the variables for a model alone. An error comes only where an earlier call has met want of memory, or
-    /// where a request for memory is refused, and from then on.
+    /// The outcome of a cube over the formula's variables, by the plan's search: whatever cubes
+    /// came before, it is the same. It takes time by what the search does, and by the variables for
+    /// a model alone. An error comes only where an earlier call has met want of memory, or where a
+    /// request for memory is refused, and from then on.
     pub fn solve(&mut self, cube: &Cube) -> Result<Outcome<Row>, AllocError>
         requires over { IsOver self.old.formula.vars cube.now }
         ensures runs { IfOk result (λ o. Runs self.old.formula self.old.plan cube.now (outcome_of o)) }
@@ -113,8 +117,9 @@ impl Solver {
     }
 }
 
-/// The outcome of one cube over the formula's variables, by the plan's search. It takes time and memory by the formula too: who has many cubes
-/// keeps a `Solver`. An error comes only where memory was refused.
+/// The outcome of one cube over the formula's variables, by the plan's search. It takes time and
+/// memory by the formula too: who has many cubes keeps a `Solver`. An error comes only where memory
+/// was refused.
 pub fn solve_cube_by_plan(
     alloc: Global,
     formula: &Formula,
@@ -129,8 +134,8 @@ pub fn solve_cube_by_plan(
     solver.solve(cube)
 }
 
-/// `solve_cube_by_plan` by the ordered search, where the root has a budget of 1 to 100,000 conflicts, and the cube one by its literals. The lines
-/// of a refuted cube are unpacked.
+/// `solve_cube_by_plan` by the ordered search, where the root has a budget of 1 to 100,000
+/// conflicts, and the cube one by its literals. The lines of a refuted cube are unpacked.
 pub fn solve_cube(
     alloc: Global,
     formula: &Formula,

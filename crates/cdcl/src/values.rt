@@ -27,8 +27,8 @@ pub(crate) fn values(alloc: Global, kernel: &Kernel) -> Result<Vec<bool>, AllocE
     Ok(values)
 }
 
-/// A conflict at level 0 behind these lines: the cube is refuted. Its lines are handed out in memory
-/// of just their size; the row keeps its own for the next cube.
+/// A conflict at level 0 behind these lines: the cube is refuted. Its lines are handed out in
+/// memory of just their size; the row keeps its own for the next cube.
 pub(crate) fn refute(
     kernel: &Kernel,
     room: &mut Room,

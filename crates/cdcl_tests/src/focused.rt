@@ -1,4 +1,5 @@
-//! Worked searches by the focused search. What they come to is from a program of its own, which goes by the definition.
+//! Worked searches by the focused search. What they come to is from a program of its own, which
+//! goes by the definition.
 ghost use Rattle.std.specs.Prelude.{◌≤◌};
 
 use crate::outcomes::{Wanted, is_wanted, outcome_by};

@@ -1,4 +1,5 @@
-//! Worked searches of formulas with pure variables: their unit clauses stand behind the formula's own, and before what is learnt.
+//! Worked searches of formulas with pure variables: their unit clauses stand behind the formula's
+//! own, and before what is learnt.
 use crate::outcomes::{Row, Wanted, all_come};
 use samples::{FOUR_PURE, FOUR_UNUSED};
 use std::test::Fail;

@@ -227,7 +227,8 @@ fn comes_in_turn(
     Ok(is_wanted(&outcome, turn.wanted))
 }
 
-/// The place of the first cube, of a solver's cubes one after the other, that comes to something else, if there is one.
+/// The place of the first cube, of a solver's cubes one after the other, that comes to something
+/// else, if there is one.
 fn first_failed(
     alloc: Global,
     formula: &Formula,

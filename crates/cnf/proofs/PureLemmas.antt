@@ -25,7 +25,8 @@ negatives-left p V = rw add-one (λ h. negatives-suc p V ∙ ap (λ b. negatives
 pub value-place : (marks : List Bool) (i : ℕ) → value marks (i + 1) ≡ get_or marks i false
 value-place marks i = let e : i + 1 - 1 ≡ i = omega arith in ap (λ k. get_or marks k false) e
 
--- where each variable's mark says whether it stands in a clause without a negation, the negations of the others are the pure literals
+-- where each variable's mark says whether it stands in a clause without a negation, the negations
+-- of the others are the pure literals
 pub negatives-pure : (F : Formula) (marks : List Bool) → length marks ≡ F.vars
     → ((v : ℕ) → IsVariable F.vars v → value marks v ≡ occurs F.clauses (positive v)) → negatives (λ w. not (value marks w)) (length marks) ≡ pure_literals F
 negatives-pure F marks long says =

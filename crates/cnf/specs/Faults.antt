@@ -37,7 +37,8 @@ place_of_fault NoMemory = None
 abbrev pub place_in : Place → tokens.Place
 place_in p = record { line = p.line; column = p.column }
 
--- what holds of a fault's refusal: nothing is said of want of memory, and no text is refused by a reader's error
+-- what holds of a fault's refusal: nothing is said of want of memory, and no text is refused by a
+-- reader's error
 abbrev pub IsRefusal : (Reading → Type 0) → ReadFault → Type 0
 IsRefusal P (NoHeader p) = P (refusal no_header (place_in p))
 IsRefusal P (BadHeader p) = P (refusal bad_header (place_in p))
@@ -55,8 +56,8 @@ IsRefusal P NoMemory = Unit {0}
 abbrev pub IsReadAs : List ℕ → Result truth.Formula ReadFault → Type 0
 IsReadAs bytes answer = MatchResult answer (λ F. Reads bytes (formula F)) (IsRefusal (Reads bytes))
 
--- the answer is what the bytes that were read are read as. Where the reader tells its bytes, these are its first up to one above the
--- limit, and all its bytes are read as that too
+-- the answer is what the bytes that were read are read as. Where the reader tells its bytes, these
+-- are its first up to one above the limit, and all its bytes are read as that too
 pub record IsReadOf (known : Option (List ℕ)) (answer : Result truth.Formula ReadFault) : Type 0 where
   pub bytes : List ℕ
   pub are : IfSome known (λ xs. bytes ≡ take (max_bytes + 1) xs)

@@ -8,7 +8,8 @@ use Rattle.cnf.specs.declared.fault.ReadFault.TheVariants.{ReadFailed, NoMemory}
 abbrev pub IsReadFault : ReadFault → Type 0
 IsReadFault e = (e ≡ ReadFailed) ⊎ (e ≡ NoMemory)
 
--- one read of at most `room` bytes: behind the text stand the bytes that the reader gave, some if there was more
+-- one read of at most `room` bytes: behind the text stand the bytes that the reader gave, some if
+-- there was more
 pub record ReadsOn (old new : Option (List ℕ)) (text longer : List ℕ) (room : ℕ) (more : Bool) : Type 0 where
   pub bytes : List ℕ
   pub are : longer ≡ text ++ bytes

@@ -1,4 +1,5 @@
--- The machine that takes tokens one by one, without the tokens before: its state knows of them what a fault asks.
+-- The machine that takes tokens one by one, without the tokens before: its state knows of them what
+-- a fault asks.
 use Rattle.std.specs.Prelude.{◌≡◌, ℕ, List, [], ◌∷◌, length, Option, Some, None, nat_eq, nat_lt, not, codes, if◌then◌else◌}
 use Rattle.theory.specs.Tokens.{Place, is_text, is_number_text, size_of}
 use Rattle.theory.specs.Reading.{Token, word, header_end, Placed, ReadFault, no_header, bad_header, second_header, bad_number, variable_out_of_range, too_many_clauses, too_few_clauses, clause_not_ended, over_limit, header_number_fault, Reading, formula, refusal, tokens_of, end_of, max_vars, max_clauses}
@@ -52,7 +53,8 @@ reads_from s part bytes i = run s (tokens_left part bytes i) (end_of bytes)
 abbrev pub reading_of : List ℕ → Reading
 reading_of bytes = run at_p (tokens_of bytes) (end_of bytes)
 
--- the header's third word, or the fourth behind the number of variables: its limit, and the states before and behind it
+-- the header's third word, or the fourth behind the number of variables: its limit, and the states
+-- before and behind it
 abbrev pub number_limit : Option ℕ → ℕ
 number_limit None = max_vars
 number_limit (Some V) = max_clauses

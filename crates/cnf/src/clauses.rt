@@ -30,8 +30,8 @@ struct Clauses {
     /// The clauses that are ended.
     whole: Vec<Vec<Lit>>,
 
-    /// The literals behind the last of them. It grows to the longest clause and is emptied at each clause's end, so that each clause takes
-    /// room for its literals alone, and takes it once.
+    /// The literals behind the last of them. It grows to the longest clause and is emptied at each
+    /// clause's end, so that each clause takes room for its literals alone, and takes it once.
     begun: Vec<Lit>,
 
     /// How many literals all these are.
@@ -144,8 +144,8 @@ impl Clauses {
     }
 }
 
-/// The formula of a text, behind its header. The loop stands apart from its callers: inlined, it kept the text's address in memory and
-/// not in a register.
+/// The formula of a text, behind its header. The loop stands apart from its callers: inlined, it
+/// kept the text's address in memory and not in a register.
 #[inline(never)]
 pub fn read_clauses(alloc: Global, bytes: &[u8], header: &Header) -> Result<Formula, ReadFault>
     requires short { length bytes.now ≤ max_bytes }

@@ -20,13 +20,15 @@ impl fmt::Display for Place {
     }
 }
 
-/// Why a text was not read as a formula, and where: the first token that no formula's text has there, or the end.
+/// Why a text was not read as a formula, and where: the first token that no formula's text has
+/// there, or the end.
 #[derive(Clone, Copy, Debug, PartialEq, Eq, Error)]
 pub enum ReadFault {
     /// The first token outside comments isn't `p`, or there is none.
     #[error("no header at {0}")]
     NoHeader(Place),
-    /// A word of the header is wrong, missing or a fifth. A missing one is at the header line's end.
+    /// A word of the header is wrong, missing or a fifth. A missing one is at the header line's
+    /// end.
     #[error("wrong header at {0}")]
     BadHeader(Place),
     /// A token `p` behind the header.
@@ -47,7 +49,8 @@ pub enum ReadFault {
     /// The text ends inside a clause.
     #[error("clause not ended at {0}")]
     ClauseNotEnded(Place),
-    /// A number of variables, clauses or literals above its limit, or a text that is too long (at line 1, column 1).
+    /// A number of variables, clauses or literals above its limit, or a text that is too long (at
+    /// line 1, column 1).
     #[error("over a limit at {0}")]
     OverLimit(Place),
     /// The reader answered an error.

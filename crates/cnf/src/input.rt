@@ -45,8 +45,9 @@ fn read_chunk<R: Read>(
     }
 }
 
-/// The bytes of a reader, `most` of them at most: it reads until a read gives no bytes, until an error, or until so many are there. Any error
-/// of the reader is `ReadFailed`, and no read is tried again; where memory is refused, the answer is `NoMemory`, and what was read is let go. What
+/// The bytes of a reader, `most` of them at most: it reads until a read gives no bytes, until an
+/// error, or until so many are there. Any error of the reader is `ReadFailed`, and no read is tried
+/// again; where memory is refused, the answer is `NoMemory`, and what was read is let go. What
 /// comes behind the bytes is left to the reader.
 pub fn read_bytes<R: Read>(alloc: Global, input: &mut R, most: usize) -> Result<Vec<u8>, ReadFault>
     ensures bytes { MatchResult result
@@ -66,8 +67,9 @@ pub fn read_bytes<R: Read>(alloc: Global, input: &mut R, most: usize) -> Result<
     Ok(text)
 }
 
-/// The formula of a reader's DIMACS text. It reads until a read gives no bytes, until an error, or until 67,108,865 bytes are there. Any
-/// error of the reader is `ReadFailed`, and no read is tried again; otherwise the answer is that of `read_formula` on the bytes read.
+/// The formula of a reader's DIMACS text. It reads until a read gives no bytes, until an error, or
+/// until 67,108,865 bytes are there. Any error of the reader is `ReadFailed`, and no read is tried
+/// again; otherwise the answer is that of `read_formula` on the bytes read.
 pub fn read_from<R: Read + Drop>(alloc: Global, mut input: R) -> Result<Formula, ReadFault>
     ensures { (result ≡ Err ReadFault.ReadFailed) ⊎ IsReadOf (R.remaining input) result }
 {

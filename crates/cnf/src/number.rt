@@ -11,7 +11,8 @@ use crate::scan::{is_word_byte, word_end};
 /// A size above each limit. Greater sizes are read as this one.
 const CAP: u32 = 100_000_000;
 
-/// A word from a byte on: where it ends, whether it is a natural or a negative number, and the number's size.
+/// A word from a byte on: where it ends, whether it is a natural or a negative number, and the
+/// number's size.
 #[derive(Clone, Copy)]
 pub struct Number {
     pub end: usize,
@@ -27,7 +28,8 @@ struct Digits {
     size: u32,
 }
 
-/// Digits from an index on, up to the first size that reaches the cap: so their value needs no cap of its own at each of them.
+/// Digits from an index on, up to the first size that reaches the cap: so their value needs no cap
+/// of its own at each of them.
 #[inline]
 fn read_short(bytes: &[u8], from: usize) -> Digits
     requires { from ≤ length bytes.now }
@@ -98,8 +100,8 @@ fn read_long(bytes: &[u8], from: usize, minus: bool) -> (Digits, bool)
     )
 }
 
-/// The rest of a word from an index on, behind a minus or not: where it ends, whether it is a number's digits, and their value. A
-/// word of few digits and nothing else is looked at once.
+/// The rest of a word from an index on, behind a minus or not: where it ends, whether it is a
+/// number's digits, and their value. A word of few digits and nothing else is looked at once.
 #[inline]
 fn read_plain(bytes: &[u8], from: usize, minus: bool) -> (Digits, bool)
     requires { from ≤ length bytes.now }

@@ -1,4 +1,5 @@
-//! The pure literals of a formula: the negations of the variables that stand in no clause without one.
+//! The pure literals of a formula: the negations of the variables that stand in no clause without
+//! one.
 ghost use Rattle.std.specs.Prelude.{◌≡◌, ℕ, ◌<◌, ◌≤◌, ◌^◌, ◌||◌, not, length, map, All, IfOk};
 ghost use Rattle.theory.specs.Literals.{IsVariable, has, positive};
 ghost use Rattle.theory.specs.Truth.{value, IsOver};
@@ -10,7 +11,8 @@ use crate::formula::Formula;
 use crate::lit::Lit;
 use std::alloc::{AllocError, Global};
 
-/// Marks the variables of a clause's positive literals. A variable's place in `seen` is one below its number.
+/// Marks the variables of a clause's positive literals. A variable's place in `seen` is one below
+/// its number.
 fn mark_clause(seen: &mut [bool], clause: &[Lit])
     requires { IsOver (length seen.old) clause.now }
     ensures { (v : ℕ) → IsVariable (length seen.old) v → value seen.new v ≡ (value seen.old v || has clause.now (positive v)) }
@@ -59,9 +61,9 @@ fn unmarked(alloc: Global, marks: &[bool]) -> Result<Vec<Lit>, AllocError>
 }
 
 impl Formula {
-    /// The negations of the pure variables, which stand in no clause without a negation (unused ones too), by rising variable. A clause with
-    /// both signs of a variable counts as any other. The error comes where memory is refused. It takes time by the literals and the
-    /// variables.
+    /// The negations of the pure variables, which stand in no clause without a negation (unused
+    /// ones too), by rising variable. A clause with both signs of a variable counts as any other.
+    /// The error comes where memory is refused. It takes time by the literals and the variables.
     pub fn pure(&self, alloc: Global) -> Result<Vec<Lit>, AllocError>
         ensures { IfOk result (λ v. v.items ≡ pure_literals self.now) }
     {

@@ -11,8 +11,9 @@ use std::alloc::Global;
 /// The most bytes of a text.
 pub const MAX_BYTES: usize = 67_108_864;
 
-/// The formula of a DIMACS text, in one pass over it. The first token that no formula's text has there is refused, or the end. `NoMemory`
-/// comes where a growth was refused. `ReadFailed` doesn't come.
+/// The formula of a DIMACS text, in one pass over it. The first token that no formula's text has
+/// there is refused, or the end. `NoMemory` comes where a growth was refused. `ReadFailed` doesn't
+/// come.
 pub fn read_formula(alloc: Global, bytes: &[u8]) -> Result<Formula, ReadFault>
     ensures { IsReadAs bytes.now result }
 {

@@ -10,7 +10,8 @@ use crate::fault::Place;
 /// How many bytes are searched for LF at a time.
 const BLOCK: usize = 128;
 
-/// How many of at most 255 bytes are LF. A count that is a byte itself compiles to code that takes 16 bytes at once.
+/// How many of at most 255 bytes are LF. A count that is a byte itself compiles to code that takes
+/// 16 bytes at once.
 fn count_lf(block: &[u8]) -> u8
     requires { length block.now ≤ 255 }
     ensures lines { (p : tokens.Place) → (place_behind p block.now).line ≡ p.line + result }
@@ -25,8 +26,8 @@ fn count_lf(block: &[u8]) -> u8
     count
 }
 
-/// The line of the byte at an index, from 1. Line and column counted together, byte by byte, took a fifth of the time in which a long
-/// text was refused.
+/// The line of the byte at an index, from 1. Line and column counted together, byte by byte, took a
+/// fifth of the time in which a long text was refused.
 fn line_of(bytes: &[u8], index: usize) -> u64
     requires { index ≤ length bytes.now }
     ensures { result ≡ (place_at bytes.now index).line }
@@ -132,7 +133,8 @@ pub fn skip_comment(bytes: &[u8], from: usize) -> usize
     }
 }
 
-/// The index of the next token's first byte from an index within a line on, or the text's length. Comments are passed over.
+/// The index of the next token's first byte from an index within a line on, or the text's length.
+/// Comments are passed over.
 #[inline]
 pub fn skip_to_token(bytes: &[u8], from: usize) -> usize
     requires { from ≤ length bytes.now }
@@ -153,7 +155,8 @@ pub fn skip_to_token(bytes: &[u8], from: usize) -> usize
     at
 }
 
-/// The index of the next token's first byte in the header's line from an index on, or that of the line's end.
+/// The index of the next token's first byte in the header's line from an index on, or that of the
+/// line's end.
 pub fn skip_blanks(bytes: &[u8], from: usize) -> usize
     requires { from ≤ length bytes.now }
     ensures above { from ≤ result }

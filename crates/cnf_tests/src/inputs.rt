@@ -111,7 +111,8 @@ fn bytes_and_calls(alloc: Global, most: usize) -> Result<(Vec<u8>, u32), ReadFau
     Ok((bytes, reader.calls))
 }
 
-/// As many bytes are read as there are, `most` of them at most; behind these the reader isn't asked.
+/// As many bytes are read as there are, `most` of them at most; behind these the reader isn't
+/// asked.
 #[test]
 fn bytes(rt: HostRuntime) -> Result<(), Fail> {
     for (most, wanted, calls) in &BYTES {

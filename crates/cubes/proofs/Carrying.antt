@@ -1,4 +1,5 @@
--- A half that is carried on, from left to right, is settled: each of its cubes has its result, or lies right of a model.
+-- A half that is carried on, from left to right, is settled: each of its cubes has its result, or
+-- lies right of a model.
 use Rattle.std.proofs.Common.{◌≡◌, ◌≢◌, ℕ, Bool, true, false, nat_eq, eq-eqb, List, [], ◌∷◌, ◌++◌, Option, Some, None, Contains, All, refl, sym, ap, ◌∙◌, subst, inl, inr, ◌⊎◌, append_assoc, append-nil, zero-le, IsTrue}
 use Rattle.std.proofs.lemmas.List.Elements.{All-append, All-cons, All-nil, All-push, All-weaker, Contains-append_left, Contains-append_right}
 use Rattle.theory.specs.Literals.{Literal, positive, negative}

@@ -22,7 +22,8 @@ use Rattle.cubes.specs.Traversal.{path, behind}
 use Rattle.cubes.proofs.Carrying.{IsFair, fair, reached-fair, carried-short, carried-whole, carried-model}
 use Rattle.cubes.proofs.Walks.{to_come, to_come-enter, to_come-behind, IsDone-refuted, IsReached, IsReached-enter, IsReached-behind, IsReached-leads, IsReached-over, IsReached-short, ComesTo}
 
--- while the half H is carried on: a place below it is reached, and the results since then are those of the cubes before it
+-- while the half H is carried on: a place below it is reached, and the results since then are those
+-- of the cubes before it
 pub record IsCarrying (F : Formula) (plan : Plan) (H : List Literal) (w : CubeWalk) (before now : List Solved) : Type 0 where
   pub results : List results.Solved
   pub below : IsBelow H w

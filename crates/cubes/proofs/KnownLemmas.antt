@@ -1,4 +1,5 @@
--- Cubes as keys: the comparison of keys, which is that of the literals' numbers, tells cubes apart. So looking up is what it says.
+-- Cubes as keys: the comparison of keys, which is that of the literals' numbers, tells cubes apart.
+-- So looking up is what it says.
 use Rattle.std.proofs.Common.{◌≡◌, ◌≢◌, ℕ, zero, suc, ◌≤◌, Bool, true, false, ◌&&◌, List, [], ◌∷◌, ◌++◌, All, Some, None, Contains, ◌⊎◌, inl, inr, refl, sym, ap, ap₂, ◌∙◌, arith, pos}
 use Rattle.std.specs.Cmp.{IsEquivalence}
 use Rattle.std.specs.Cmp.Lexicographic.{pointwise}

@@ -1,5 +1,5 @@
--- The traversal over a whole list whose outcomes are handed out once: a cube that is reached has its outcome in the list, and it was not yet
--- handed out.
+-- The traversal over a whole list whose outcomes are handed out once: a cube that is reached has
+-- its outcome in the list, and it was not yet handed out.
 use Rattle.std.proofs.Common.{◌≡◌, ◌≢◌, ℕ, suc, ◌<◌, ◌≤◌, true, false, List, [], ◌∷◌, ◌++◌, length, length-append, Option, Some, None, Contains, sum_by, ◌⊎◌, inl, inr, sym, ap, ◌∙◌, subst, append_assoc, append-nil, arith}
 use Rattle.std.proofs.lemmas.List.{append_cancel_left}
 use Rattle.std.proofs.lemmas.List.Sums.{sum_by-cons}

@@ -20,7 +20,8 @@ use Rattle.cubes.specs.declared.hands.Worker.{Worker}
 abbrev pub Gets : Ledger → Ledger → List Literal → Type 0
 Gets old new Q = (d : ℕ) × (new ≡ joined old (getting d Q))
 
--- the hand's own solver, if there is one yet, is the formula's, by the plan, and the pool is over the formula's variables
+-- the hand's own solver, if there is one yet, is the formula's, by the plan, and the pool is over
+-- the formula's variables
 abbrev pub IsWorker : {L : Type 0} → Formula → Plan → Worker L → Type 0
 IsWorker F plan w = IfSome w.solver (IsSolverOf F plan) × (w.hand.vars ≡ F.vars)
 

@@ -10,7 +10,8 @@ use Rattle.cubes.specs.declared.tree.Node.TheVariants.{Split, Leaf}
 use Rattle.cubes.specs.declared.tree.Tree.{Tree}
 use Rattle.cubes.specs.declared.tree.Tree.TheVariants.{Model, Refuted}
 
--- a row and a refutation are both seen as the lines that they have, and so the nodes and trees with them are of one type
+-- a row and a refutation are both seen as the lines that they have, and so the nodes and trees with
+-- them are of one type
 abbrev pub LinesNode : Type 0
 LinesNode = Node (List Line)
 
@@ -32,8 +33,8 @@ abbrev pub IsResultOf : Formula → Plan → LinesTree → Type 0
 IsResultOf F plan (Model values) = trees.IsResult F plan (trees.model_of values.items)
 IsResultOf F plan (Refuted nodes) = (t : trees.Tree) × trees.IsResult F plan (trees.tree_of t) × (map node_of nodes.items ≡ trees.nodes_of t)
 
--- what a result says of its formula: a model is one of its models, by the ordered search the first one; without a model, the formula isn't
--- satisfiable
+-- what a result says of its formula: a model is one of its models, by the ordered search the first
+-- one; without a model, the formula isn't satisfiable
 abbrev pub Says : Search → Formula → LinesTree → Type 0
 Says search F (Model values) = IsFound search F values.items
 Says search F (Refuted nodes) = ¬ (Satisfiable F)

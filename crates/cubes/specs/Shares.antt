@@ -38,7 +38,8 @@ HasDone F plan h w = SameHand h w.hand × Worked_as F plan w.short_of_memory h.l
 abbrev pub HaveWorked : {L : Type 0} → (L → List Line) → Formula → Plan → List (Worked L) → Type 0
 HaveWorked lines F plan works = All (λ w. IsWork F plan w.short_of_memory w.hand.ledger (results_by lines w.solved.items)) works
 
--- once the pool is closed: no cube was left and none to be done, none was got twice, and the results are enough
+-- once the pool is closed: no cube was left and none to be done, none was got twice, and the
+-- results are enough
 pub record AreHarvested {L : Type 0} (lines : L → List Line) (F : Formula) (plan : Plan) (works : List (Worked L)) (results : List (Solved L)) : Type 0 where
   pub least : Option ℕ
   pub closed : IsClosed F plan (map (share_by lines) works) [] least 0

@@ -9,7 +9,8 @@ use Rattle.cubes.specs.declared.solved.What.{What}
 use Rattle.cubes.specs.declared.solved.What.TheVariants.{Done, Skipped}
 use Rattle.cubes.specs.declared.solved.Solved.{Solved}
 
--- a row and a refutation are both seen as the lines that they have, and so the results with them are of one type
+-- a row and a refutation are both seen as the lines that they have, and so the results with them
+-- are of one type
 abbrev pub LinesSolved : Type 0
 LinesSolved = Solved (List Line)
 

@@ -1,4 +1,5 @@
--- The traversal of a tree of splits. A place is the list of the splits on the way to it, of which the last stands first.
+-- The traversal of a tree of splits. A place is the list of the splits on the way to it, of which
+-- the last stands first.
 use Rattle.std.specs.Prelude.{◌≡◌, ℕ, List, [], ◌∷◌, ◌++◌, Option, Some, None}
 use Rattle.theory.specs.Literals.{Literal, positive, negative}
 use Rattle.cubes.specs.declared.traversal.Split.{Split}
@@ -21,7 +22,8 @@ abbrev pub path : {T : Type 0} → List (Split T) → List Literal
 path [] = []
 path (s ∷ above) = path above ++ half s.var s.left ∷ []
 
--- the place that follows one that is done, where each half comes to this value: the right half of the last split in whose left half it lies
+-- the place that follows one that is done, where each half comes to this value: the right half of
+-- the last split in whose left half it lies
 abbrev pub beside : {T : Type 0} → T → ℕ → Option T → List (Split T) → Option (List (Split T)) → Option (List (Split T))
 beside done x None above up = Some (record { var = x; left = Some done } ∷ above)
 beside done x (Some left) above up = up

@@ -1,4 +1,5 @@
-//! The calls by the ordered search, with a budget of 1 to 100,000 conflicts for the root in place of a plan.
+//! The calls by the ordered search, with a budget of 1 to 100,000 conflicts for the root in place
+//! of a plan.
 ghost use Rattle.std.specs.Prelude.{◌≡◌, ◌≤◌, IfOk};
 ghost use Rattle.theory.specs.Plans.{ordered, ordered_within};
 ghost use Rattle.pool.specs.Hands.{SameHand};

@@ -41,7 +41,8 @@ fn parted<L: Drop>(
     Ok((hands, results))
 }
 
-/// The results of these hands of the pool, one list after the other, once it is closed: what holds of them by whatever plan the hands worked.
+/// The results of these hands of the pool, one list after the other, once it is closed: what holds
+/// of them by whatever plan the hands worked.
 fn close_all<L: KeepsLines>(
     alloc: Global,
     formula: &Formula,
@@ -62,9 +63,11 @@ fn close_all<L: KeepsLines>(
     Ok(results)
 }
 
-/// The results of all hands of a pool, one list after the other, once the pool is closed. The hands come in the order of their numbers;
-/// each did its work for this formula and this plan, and none is short of memory. At the close no cube was left and none to be done, and
-/// the results are enough for the whole tree. It waits for nothing, and fails only where a request for memory is refused.
+/// The results of all hands of a pool, one list after the other, once the pool is closed. The hands
+/// come in the order of their numbers; each did its work for this formula and this plan, and none
+/// is short of memory. At the close no cube was left and none to be done, and the results are
+/// enough for the whole tree. It waits for nothing, and fails only where a request for memory is
+/// refused.
 pub fn harvest_by_plan(
     alloc: Global,
     formula: &Formula,

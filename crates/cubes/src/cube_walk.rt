@@ -42,8 +42,8 @@ impl CubeWalk {
         Ok(())
     }
 
-    /// Goes from a cube whose subtree is done to the next one to its right: the half beside the last cube that is a false half. The answer is
-    /// `false` where there is none.
+    /// Goes from a cube whose subtree is done to the next one to its right: the half beside the
+    /// last cube that is a false half. The answer is `false` where there is none.
     pub(crate) fn go_on(&mut self) -> Result<bool, AllocError>
         ensures { IfOk result (λ found. GoesOn self.old found self.new) }
     {

@@ -3,7 +3,8 @@
 use cdcl::{Counts, Watcher};
 use kernel::Cube;
 
-/// A gate that all hands share. A hand tells it of each cube from the pool that it solves, by the hand's number.
+/// A gate that all hands share. A hand tells it of each cube from the pool that it solves, by the
+/// hand's number.
 pub trait Gate {
     /// Before the cube is solved.
     fn before(&self, hand: usize, cube: &Cube);

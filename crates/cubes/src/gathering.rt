@@ -1,4 +1,5 @@
-//! Gathering the tree of a formula, from left to right, wherever the outcomes of its cubes come from.
+//! Gathering the tree of a formula, from left to right, wherever the outcomes of its cubes come
+//! from.
 ghost use Rattle.std.specs.Prelude.{◌≡◌, [], IfOk};
 ghost use Rattle.cubes.specs.Gathering.{CanSplit, GoesOnWith, nodes_of};
 
@@ -36,7 +37,8 @@ impl Gathering {
         }
     }
 
-    /// Goes on from the cube, whose outcome this is, to the next one that is needed; or gives the result, where none is.
+    /// Goes on from the cube, whose outcome this is, to the next one that is needed; or gives the
+    /// result, where none is.
     pub(crate) fn go_on(&mut self, outcome: Outcome<Row>) -> Result<Option<Tree<Row>>, AllocError>
         requires { CanSplit self.old outcome }
         ensures { IfOk result (λ found. GoesOnWith self.old outcome found self.new) }

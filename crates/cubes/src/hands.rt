@@ -1,4 +1,5 @@
-//! The work of a hand: it takes cubes from the pool, solves them, and puts the halves of those that are exhausted.
+//! The work of a hand: it takes cubes from the pool, solves them, and puts the halves of those that
+//! are exhausted.
 ghost use Rattle.std.specs.Prelude.{◌≡◌, ◌≤◌, ℕ, List, false, IfOk, OnOk, OnErr, MatchOption, is_ok};
 ghost use Rattle.theory.specs.Literals.{Literal, IsVariable, has_var};
 ghost use Rattle.theory.specs.Truth.{Formula, IsOver};
@@ -26,7 +27,8 @@ use std::alloc::{AllocError, Global};
 use std::sync::Wait;
 use std::time::Clock;
 
-/// The deepest cubes that lie in the pool: with more literals, places in the tree could not be told apart by 32 bits.
+/// The deepest cubes that lie in the pool: with more literals, places in the tree could not be told
+/// apart by 32 bits.
 const DEEPEST: usize = 32;
 
 /// What a hand leaves behind when it goes home.
@@ -116,7 +118,8 @@ impl<L: KeepsLines> Worker<L> {
 }
 
 impl<L: KeepsLines> Worker<L> {
-    /// Hands a half of a cube on: it is put, or where that is refused, or where it is too deep for the pool, carried on here.
+    /// Hands a half of a cube on: it is put, or where that is refused, or where it is too deep for
+    /// the pool, carried on here.
     fn hand_on<G: Gate>(
         &mut self,
         formula: &Formula,
@@ -166,7 +169,8 @@ impl<L: KeepsLines> Worker<L> {
         self.hand_on(formula, plan, gate, right)
     }
 
-    /// Carries a half on here: solves the cubes of its tree from left to right, up to the first model.
+    /// Carries a half on here: solves the cubes of its tree from left to right, up to the first
+    /// model.
     fn carry_on<G: Gate>(
         &mut self,
         formula: &Formula,
@@ -299,10 +303,12 @@ pub(crate) fn work_in<L: KeepsLines, R: Wait + Clock, G: Gate>(
     worker.home(false)
 }
 
-/// The work of a hand: it takes cubes from its own deque, or else steals from the others, until nothing is left to be done or a hand
-/// halted. Each cube that it gets is skipped where a model lies left of it, and else solved, and the halves of an exhausted one are put.
-/// It is the caller that waits: until nothing is left to be done by any hand. A hand that finds no cube yields its processor, a hundred
-/// times, and then sleeps between its looks, for 50 microseconds at first and for up to a millisecond, until it gets one.
+/// The work of a hand: it takes cubes from its own deque, or else steals from the others, until
+/// nothing is left to be done or a hand halted. Each cube that it gets is skipped where a model
+/// lies left of it, and else solved, and the halves of an exhausted one are put. It is the caller
+/// that waits: until nothing is left to be done by any hand. A hand that finds no cube yields its
+/// processor, a hundred times, and then sleeps between its looks, for 50 microseconds at first and
+/// for up to a millisecond, until it gets one.
 pub fn work_by_plan<R: Wait + Clock, G: Gate>(
     rt: &R,
     alloc: Global,

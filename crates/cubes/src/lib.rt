@@ -1,4 +1,5 @@
-//! The tree of splits over one cube's search: which cubes are solved, and the result that they give together.
+//! The tree of splits over one cube's search: which cubes are solved, and the result that they give
+//! together.
 #![tactic(auto)]
 
 mod by_budget;

@@ -94,8 +94,8 @@ fn unpacked_nodes(alloc: Global, rows: Vec<Node<Row>>) -> Result<Vec<Node>, Allo
 }
 
 impl Tree {
-    /// The tree with the lines of refuted cubes as rows. It fails only where a request for memory is refused, or where a hint is above
-    /// 9,223,372,036,854,775,807, which no proof can name.
+    /// The tree with the lines of refuted cubes as rows. It fails only where a request for memory
+    /// is refused, or where a hint is above 9,223,372,036,854,775,807, which no proof can name.
     pub fn packed(self, alloc: Global) -> Result<Tree<Row>, AllocError>
         ensures { IfOk result (λ t. IsSameTree self t) }
     {
@@ -107,8 +107,8 @@ impl Tree {
 }
 
 impl Tree<Row> {
-    /// The tree with each line of a refuted cube in memory of its own. It takes two requests for memory a line, and fails only where one is
-    /// refused.
+    /// The tree with each line of a refuted cube in memory of its own. It takes two requests for
+    /// memory a line, and fails only where one is refused.
     pub fn unpacked(self, alloc: Global) -> Result<Tree, AllocError>
         ensures { IfOk result (λ t. IsSameTree self t) }
     {

@@ -4,8 +4,8 @@ ghost use Rattle.theory.specs.Places.{place_of};
 
 use kernel::Cube;
 
-/// The place of a cube, below 2^32: the signs of its first 32 literals as bits from bit 31 down, 1 for a positive one; missing ones are 0. It
-/// takes no memory.
+/// The place of a cube, below 2^32: the signs of its first 32 literals as bits from bit 31 down, 1
+/// for a positive one; missing ones are 0. It takes no memory.
 pub fn place_of(cube: &Cube) -> u64
     ensures place { result ≡ place_of cube.now }
     ensures below { result < 2 ^ 32 }

@@ -82,9 +82,10 @@ impl Source {
     }
 }
 
-/// The result of the formula by the plan, from results of cubes that are true: in any order, with cubes missing, skipped, repeated or foreign to
-/// the tree. It goes through the cubes from left to right and solves those on the spot that it needs and that have no outcome among the
-/// results, all by one solver. It fails only where a request for memory is refused.
+/// The result of the formula by the plan, from results of cubes that are true: in any order, with
+/// cubes missing, skipped, repeated or foreign to the tree. It goes through the cubes from left to
+/// right and solves those on the spot that it needs and that have no outcome among the results, all
+/// by one solver. It fails only where a request for memory is refused.
 pub fn gather_by_plan(
     alloc: Global,
     formula: &Formula,
@@ -109,9 +110,9 @@ pub fn gather_by_plan(
     }
 }
 
-/// The result of the formula and the plan of which the results are whole: each cube of their tree has its outcome among them, or lies
-/// right of a model. Neither the formula nor the plan is asked for, and nothing is solved. It fails only where a request for memory is
-/// refused.
+/// The result of the formula and the plan of which the results are whole: each cube of their tree
+/// has its outcome among them, or lies right of a model. Neither the formula nor the plan is asked
+/// for, and nothing is solved. It fails only where a request for memory is refused.
 pub fn assemble_rows(alloc: Global, results: Vec<Solved<Row>>) -> Result<Tree<Row>, AllocError>
     requires { (F : Formula) × (plan : plans.Plan) × (F.vars < 2 ^ 31) × IsWhole F plan (map solved_of results.items) }
     ensures { IfOk result (λ t. (F : Formula) (plan : plans.Plan) → IsWhole F plan (map solved_of results.items) → IsResultOf F plan t) }

@@ -24,7 +24,8 @@ use std::thread;
 use std::thread::Threads;
 use std::time::Clock;
 
-/// What each hand leaves behind, in the order of the hands. Each works in a thread of its own, where one can be started.
+/// What each hand leaves behind, in the order of the hands. Each works in a thread of its own,
+/// where one can be started.
 fn all_work<R: Threads + Wait + Clock + Sync, G: Gate + Sync>(
     rt: &R,
     alloc: Global,
@@ -102,8 +103,10 @@ fn solve_by_hands<R: Threads + Wait + Clock + Sync, G: Gate + Sync>(
     assemble_rows(alloc, results)
 }
 
-/// The result of the formula by the plan, by 1 to 16 hands, each in a thread of its own where one can be started. It is the same for any number of hands, any gate and any schedule. It fails only where a request for memory is refused,
-/// once all hands are home. If the pool isn't opened, all is solved here.
+/// The result of the formula by the plan, by 1 to 16 hands, each in a thread of its own where one
+/// can be started. It is the same for any number of hands, any gate and any schedule. It fails only
+/// where a request for memory is refused, once all hands are home. If the pool isn't opened, all is
+/// solved here.
 pub fn solve_by_plan<R: Threads + Wait + Clock + Sync, G: Gate + Sync>(
     rt: &R,
     alloc: Global,

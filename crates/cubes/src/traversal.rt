@@ -1,12 +1,13 @@
-//! The traversal of a tree of splits, from left to right and without recursion: into a split, away from a leaf or a split. It knows nothing of
-//! what a leaf is, nor of what is made of the halves.
+//! The traversal of a tree of splits, from left to right and without recursion: into a split, away
+//! from a leaf or a split. It knows nothing of what a leaf is, nor of what is made of the halves.
 ghost use Rattle.std.specs.Prelude.{◌≡◌, [], ◌∷◌, reverse, None, IfOk, OnOk};
 ghost use Rattle.cubes.specs.Traversal.{Turns};
 
 use std::alloc::{AllocError, Global};
 use std::marker::Model;
 
-/// A split on the way from the root. The way goes on in its left half, or, once that is done and came to a value, in its right half.
+/// A split on the way from the root. The way goes on in its left half, or, once that is done and
+/// came to a value, in its right half.
 #[derive(Drop)]
 pub struct Split<T> {
     pub var: u32,
@@ -67,8 +68,8 @@ impl<T: Drop> Walk<T> {
         &self.splits
     }
 
-    /// Enters a split on this variable, which stands at this place: the way goes on in its left half. Where a request for memory is refused, the
-    /// place stays.
+    /// Enters a split on this variable, which stands at this place: the way goes on in its left
+    /// half. Where a request for memory is refused, the place stays.
     pub fn enter(&mut self, var: u32) -> Result<(), AllocError>
         ensures { OnOk result (self.new ≡ record { var = var; left = None } ∷ self.old) }
     {

@@ -14,8 +14,10 @@ pub enum Node<L = Refutation> {
 /// What the tree of splits comes to.
 #[derive(Drop)]
 pub enum Tree<L = Refutation> {
-    /// The truth values of the variables 1, 2 and so on: the first assignment that satisfies the formula.
+    /// The truth values of the variables 1, 2 and so on: the first assignment that satisfies the
+    /// formula.
     Model(Vec<bool>),
-    /// No assignment satisfies the formula. The nodes stand in the order node, left subtree, right subtree.
+    /// No assignment satisfies the formula. The nodes stand in the order node, left subtree, right
+    /// subtree.
     Refuted(Vec<Node<L>>),
 }

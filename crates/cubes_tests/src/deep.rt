@@ -19,7 +19,8 @@ const HARD_FRONT: &[u8] = b"p cnf 41 129
 1 2 3 4 5 6 7 8 9 10 11 12 13 14 15 16 17 18 19 20 21 22 23 24 25 26 27 28 29 30 31 32 33 -41 0
 ";
 
-/// Adds a clause over the variables 34 to 40, of which those with a set bit are negated, and the last one.
+/// Adds a clause over the variables 34 to 40, of which those with a set bit are negated, and the
+/// last one.
 fn add_clause(alloc: Global, text: &mut Vec<u8>, signs: u32) -> Result<(), AllocError> {
     for index in 0..7u32 {
         let sign = if (signs >> index) & 1 == 1 { "-" } else { "" };
@@ -28,8 +29,9 @@ fn add_clause(alloc: Global, text: &mut Vec<u8>, signs: u32) -> Result<(), Alloc
     text.extend_from_slice(b"41 0\n")
 }
 
-/// A text: where the first 33 variables are false, so is the last one, and then all 128 clauses over the seven between them are to be
-/// satisfied. That takes 64 conflicts to refute, more than any of the cubes of up to 33 literals has.
+/// A text: where the first 33 variables are false, so is the last one, and then all 128 clauses
+/// over the seven between them are to be satisfied. That takes 64 conflicts to refute, more than
+/// any of the cubes of up to 33 literals has.
 fn hard_text(alloc: Global) -> Result<Vec<u8>, AllocError> {
     let mut text = Vec::from_slice(alloc, HARD_FRONT)?;
     for signs in 0..128u32 {

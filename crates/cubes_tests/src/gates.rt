@@ -24,7 +24,8 @@ static TREES: [(&[u8], Cubes); 2] = [
     ),
 ];
 
-/// How often a gate was passed with each of the cubes of a tree, which are seven at most, and with any other.
+/// How often a gate was passed with each of the cubes of a tree, which are seven at most, and with
+/// any other.
 #[derive(Drop)]
 struct Passed {
     cubes: Cubes,
@@ -86,7 +87,8 @@ impl Gate for Counter {
     }
 }
 
-/// Whether so many hands pass a gate once with each of the cubes of the formula's tree, and with no other, before each and after it.
+/// Whether so many hands pass a gate once with each of the cubes of the formula's tree, and with no
+/// other, before each and after it.
 fn is_solved_once<R: Threads + Wait + Clock + Sync>(
     rt: &R,
     alloc: Global,

@@ -1,5 +1,5 @@
-//! Worked rows: what the hands of a pool bring home together, with a budget of one conflict for the root, and the tree that is
-//! assembled from it.
+//! Worked rows: what the hands of a pool bring home together, with a budget of one conflict for the
+//! root, and the tree that is assembled from it.
 ghost use Rattle.std.specs.Prelude.{◌≤◌, map, IfOk};
 ghost use Rattle.theory.specs.Plans.{ordered_within};
 ghost use Rattle.theory.specs.Results.{IsWhole};

@@ -1,5 +1,5 @@
-//! Worked rows, mostly with a budget of one conflict for the root: places of cubes, trees that are gathered from results, and what hands
-//! do and bring home.
+//! Worked rows, mostly with a budget of one conflict for the root: places of cubes, trees that are
+//! gathered from results, and what hands do and bring home.
 #![tactic(auto)]
 
 #[cfg(test)]

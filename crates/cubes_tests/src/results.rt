@@ -69,7 +69,8 @@ fn put_result(
     Ok(is_as_named)
 }
 
-/// The tree that is gathered from the results of these cubes, if they are the ones that the row names.
+/// The tree that is gathered from the results of these cubes, if they are the ones that the row
+/// names.
 pub fn gathered(
     alloc: Global,
     formula: &Formula,

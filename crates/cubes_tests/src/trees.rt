@@ -1,4 +1,5 @@
-//! Worked rows: trees that are gathered from results, and those that hands solve, with a budget of one conflict for the root.
+//! Worked rows: trees that are gathered from results, and those that hands solve, with a budget of
+//! one conflict for the root.
 ghost use Rattle.std.specs.Prelude.{◌≤◌};
 
 use crate::results::{Given, NODES, WantedTree, gathered, is_tree};
@@ -11,7 +12,8 @@ use std::test::Fail;
 use std::thread::Threads;
 use std::time::Clock;
 
-// cubes below its leaves and beside it, from right to left, behind a result that doesn't serve; then its leaves
+// cubes below its leaves and beside it, from right to left, behind a result that doesn't serve;
+// then its leaves
 static ROWS: [(&[i32], Given); 8] = [
     (&[1], Given::Skipped(0)),
     (&[1, 2], Given::Refuted),
@@ -25,7 +27,8 @@ static ROWS: [(&[i32], Given); 8] = [
 
 static OF_EIGHT: WantedTree = WantedTree::Refuted(&NODES);
 
-/// Whether the tree that is gathered from a text's results, which have to be these, is the one that is wanted.
+/// Whether the tree that is gathered from a text's results, which have to be these, is the one that
+/// is wanted.
 fn gathers(
     alloc: Global,
     text: &[u8],

@@ -1,5 +1,5 @@
--- That the answer of a run is right, without which of a formula's proofs is written. It needs truth, models, texts and their reading, and checking, and
--- nothing of the search but its name.
+-- That the answer of a run is right, without which of a formula's proofs is written. It needs
+-- truth, models, texts and their reading, and checking, and nothing of the search but its name.
 use Rattle.std.specs.Prelude.{◌≡◌, ℕ, ◌+◌, ◌≤◌, List, length, Option, Some, None, take, IfSome}
 use Rattle.std.specs.Io.KnownBytes.{Appends}
 use Rattle.theory.specs.Truth.{Formula, Assignment, Satisfiable}
@@ -13,17 +13,20 @@ use Rattle.theory.specs.Checking.{checks, accepted}
 use Rattle.cubesat.specs.declared.verdict.Verdict.{Verdict}
 use Rattle.cubesat.specs.declared.verdict.Verdict.TheVariants as verdict
 
--- where a proof's text is no longer than such a text may be, it is read as steps that the checker accepts
+-- where a proof's text is no longer than such a text may be, it is read as steps that the checker
+-- accepts
 abbrev pub IsAccepted : Formula → List ℕ → Type 0
 IsAccepted F proof = length proof ≤ max_proof_bytes → (ss : List Step) × ProofReads proof (steps ss) × (checks F ss ≡ accepted)
 
--- the verdict on the formula, with the texts of the proof and the answer: some assignment satisfies it, and such a one is in the answer, by
--- the ordered search the first; or none does, and the proof is accepted
+-- the verdict on the formula, with the texts of the proof and the answer: some assignment satisfies
+-- it, and such a one is in the answer, by the ordered search the first; or none does, and the proof
+-- is accepted
 abbrev pub IsRight : Search → Formula → Verdict → List ℕ → List ℕ → Type 0
 IsRight search F verdict.Satisfiable proof answer = (M : Assignment) × IsFound search F M × (answer ≡ answer_text (Some M))
 IsRight search F verdict.Unsatisfiable proof answer = ¬ (Satisfiable F) × IsAccepted F proof × (answer ≡ answer_text None)
 
--- the right answer to the formula of the bytes that a reader gave, where it tells them, is what the writers got
+-- the right answer to the formula of the bytes that a reader gave, where it tells them, is what the
+-- writers got
 pub record IsRightAnswer (search : Search) (known proof_old proof_new answer_old answer_new : Option (List ℕ)) (verdict : Verdict) : Type 0 where
   pub bytes : List ℕ
   pub are : IfSome known (λ xs. bytes ≡ take (max_bytes + 1) xs)

@@ -81,7 +81,8 @@ pub record StopsInLine (formula_known proof_known answer_old answer_new : Option
   pub count : ℕ
   pub written : Appends answer_old answer_new (take count line)
 
--- nothing is written, as the formula was refused just as the definition of reading says, or the reader failed
+-- nothing is written, as the formula was refused just as the definition of reading says, or the
+-- reader failed
 pub record IsUnchecked (formula_known answer_old answer_new : Option (List ℕ)) (fault : ReadFault) : Type 0 where
   pub refused : (fault ≡ reading.ReadFailed) ⊎ IsReadOf formula_known (Err fault)
   pub not_memory : fault ≢ reading.NoMemory

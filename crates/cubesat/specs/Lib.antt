@@ -1,4 +1,5 @@
--- The numbers of faults, when an answer is right, what a run has read and written, and what the command line asks for.
+-- The numbers of faults, when an answer is right, what a run has read and written, and what the
+-- command line asks for.
 pub mod Faults
 pub mod Answer
 pub mod Run

@@ -55,7 +55,8 @@ pub record StopsInAnswer (known : Option (List ℕ)) (plan : Plan) (proof_old pr
   pub proof_written : Appends proof_old proof_new proof
   pub answer_written : Appends answer_old answer_new (take count answer)
 
--- nothing is written, as the formula was refused just as the definition of reading says, or the reader failed
+-- nothing is written, as the formula was refused just as the definition of reading says, or the
+-- reader failed
 pub record IsUnreadable (known : Option (List ℕ)) (proof_old proof_new answer_old answer_new : Option (List ℕ)) (fault : ReadFault) : Type 0 where
   pub refused : (fault ≡ reading.ReadFailed) ⊎ IsReadOf known (Err fault)
   pub not_memory : fault ≢ reading.NoMemory

@@ -193,8 +193,8 @@ fn default_budget(search: Search) -> u32 {
     }
 }
 
-/// The request of a subcommand's matches. The command has been built so that each value is there and in its range; this is tested again,
-/// since no clause of the parser's says it of a subcommand.
+/// The request of a subcommand's matches. The command has been built so that each value is there
+/// and in its range; this is tested again, since no clause of the parser's says it of a subcommand.
 fn solve_request<'a>(matches: &ArgMatches<'a>) -> Option<Request<'a>>
     ensures { IsWithin result }
 {
@@ -249,7 +249,8 @@ fn explain_request<'a>(matches: &ArgMatches<'a>) -> Option<Request<'a>>
     Some(Request::Explain { number, behind })
 }
 
-/// What the words ask for; the program's name is the first one. An error is the parser's, with its message.
+/// What the words ask for; the program's name is the first one. An error is the parser's, with its
+/// message.
 pub(crate) fn request_of<'a>(alloc: Global, words: &'a [&'a str]) -> Result<Request<'a>, Error>
     ensures { IfOk result IsRequest }
 {

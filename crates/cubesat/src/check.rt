@@ -10,9 +10,11 @@ use lrat::ProofStream;
 use std::alloc::Global;
 use std::io::{Read, Write};
 
-/// Checks a proof against the formula of a DIMACS text, by the checker of `lrat`: reads the formula, then the proof until 4,294,967,297
-/// bytes are there, and writes and flushes one line, `accepted` or why it is refused. Each step is checked as its line ends, so it takes memory
-/// for the clauses that are there, and none for the text. `RunFault` says when each fault comes and what is written then.
+/// Checks a proof against the formula of a DIMACS text, by the checker of `lrat`: reads the
+/// formula, then the proof until 4,294,967,297 bytes are there, and writes and flushes one line,
+/// `accepted` or why it is refused. Each step is checked as its line ends, so it takes memory for
+/// the clauses that are there, and none for the text. `RunFault` says when each fault comes and
+/// what is written then.
 pub fn check_run<R: Read + Drop, P: Read + Drop, W: Write>(
     alloc: Global,
     formula: R,

@@ -17,7 +17,8 @@ pub enum RunFault {
     /// A write or flush of the proof failed. A beginning of the proof is written, and no answer.
     #[error("the proof couldn't be written")]
     ProofWriteFailed,
-    /// A write or flush of the answer failed. The whole proof is written, and a beginning of the answer; of a check a beginning of its line.
+    /// A write or flush of the answer failed. The whole proof is written, and a beginning of the
+    /// answer; of a check a beginning of its line.
     #[error("the answer couldn't be written")]
     AnswerWriteFailed,
     /// The proof that is to be checked wasn't read. Nothing is written.

@@ -5,8 +5,8 @@ ghost use Rattle.std.specs.Io.KnownBytes.{Appends};
 use crate::fault::RunFault;
 use std::io::Write;
 
-/// Writes the text. A write that answers an error, or takes no byte of a text that isn't empty, has failed; then a beginning of the text is
-/// written, and the answer is `fault`.
+/// Writes the text. A write that answers an error, or takes no byte of a text that isn't empty, has
+/// failed; then a beginning of the text is written, and the answer is `fault`.
 pub(crate) fn write_bytes<W: Write>(
     writer: &mut W,
     text: &[u8],
@@ -25,8 +25,8 @@ pub(crate) fn write_bytes<W: Write>(
     Ok(())
 }
 
-/// Writes the text and flushes the writer. A flush that answers an error has failed, as has a write as in `write_bytes`; then a beginning of the
-/// text is written, and the answer is `fault`.
+/// Writes the text and flushes the writer. A flush that answers an error has failed, as has a write
+/// as in `write_bytes`; then a beginning of the text is written, and the answer is `fault`.
 pub(crate) fn write_text<W: Write>(
     writer: &mut W,
     text: &[u8],

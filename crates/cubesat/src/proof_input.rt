@@ -49,8 +49,9 @@ fn feed_chunk<P: Read>(
     }
 }
 
-/// Feeds the check with a reader's bytes, until a read gives none, until an error, or until 4,294,967,297 bytes were given. Any error of the
-/// reader is `ProofReadFailed`, and no read is tried again.
+/// Feeds the check with a reader's bytes, until a read gives none, until an error, or until
+/// 4,294,967,297 bytes were given. Any error of the reader is `ProofReadFailed`, and no read is
+/// tried again.
 pub(crate) fn feed_all<P: Read>(
     alloc: Global,
     proof: &mut P,

@@ -46,8 +46,9 @@ fn put_line(lines: &mut Lines, buffer: &mut Vec<u8>) -> Result<bool, AllocError>
     Ok(true)
 }
 
-/// Writes the text of lines through a buffer, which is their `room`, and flushes the writer. A write or a flush fails as in `write_text`; then a
-/// beginning of the text is written. So it would be where there were no memory for a line.
+/// Writes the text of lines through a buffer, which is their `room`, and flushes the writer. A
+/// write or a flush fails as in `write_text`; then a beginning of the text is written. So it would
+/// be where there were no memory for a line.
 pub(crate) fn write_proof<W: Write>(
     writer: &mut W,
     lines: &mut Lines,

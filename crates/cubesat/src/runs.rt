@@ -66,7 +66,8 @@ fn answer_of(
     }
 }
 
-/// What is to be written for a formula, whose result is the tree. From here on the run takes no more memory.
+/// What is to be written for a formula, whose result is the tree. From here on the run takes no
+/// more memory.
 pub(crate) fn output_of(
     alloc: Global,
     formula: &Formula,
@@ -91,9 +92,10 @@ pub(crate) fn output_of(
     })
 }
 
-/// Decides the formula of a DIMACS text by the plan: writes the proof, flushes it, and then writes and
-/// flushes the answer. The proof of a satisfiable formula is empty. `RunFault` says when each fault comes and what is written then. Of the two
-/// clauses `says` is all of it, with the very bytes; `answer_is_right` says of a run that ends well only that its answer is right.
+/// Decides the formula of a DIMACS text by the plan: writes the proof, flushes it, and then writes
+/// and flushes the answer. The proof of a satisfiable formula is empty. `RunFault` says when each
+/// fault comes and what is written then. Of the two clauses `says` is all of it, with the very
+/// bytes; `answer_is_right` says of a run that ends well only that its answer is right.
 pub fn run_one_by_plan<R: Read + Drop, W: Write, P: Write>(
     alloc: Global,
     input: R,

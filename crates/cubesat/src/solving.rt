@@ -59,8 +59,8 @@ fn showing_of(shown: Shown, plan: Plan, screen: Screen) -> Showing {
     Showing::of(progress, names_focused)
 }
 
-/// A run that is counted, with what is shown of it by a thread beside it. Where that can't be started,
-/// nothing is shown.
+/// A run that is counted, with what is shown of it by a thread beside it. Where that can't be
+/// started, nothing is shown.
 fn run_beside<
     R: Files + Threads + Wait + Clock + Sync,
     I: Read + Drop,

@@ -62,8 +62,8 @@ pub(crate) fn run_observed<
     Ok(output.verdict)
 }
 
-/// What `run_one_by_plan` does, by 1 to 16 hands, each in a thread of its own where one can be started. Whatever the hands, the gate and the
-/// schedule, the same bytes are written.
+/// What `run_one_by_plan` does, by 1 to 16 hands, each in a thread of its own where one can be
+/// started. Whatever the hands, the gate and the schedule, the same bytes are written.
 pub fn run_by_plan<
     T: Threads + Wait + Clock + Sync,
     R: Read + Drop,

@@ -9,13 +9,15 @@ use std::test::Fail;
 
 const ACCEPTED: &str = "accepted\n";
 
-/// How many bytes of a proof its reader gives a call: so that words and lines are cut everywhere, and all at once.
+/// How many bytes of a proof its reader gives a call: so that words and lines are cut everywhere,
+/// and all at once.
 static PIECES: [usize; 5] = [1, 2, 3, 7, 1000];
 
 /// A formula, a proof and its line.
 type Row = (&'static str, &'static str, &'static str);
 
-/// Whether the proof has its line, and the verdict that it says, where it comes in pieces of so many bytes.
+/// Whether the proof has its line, and the verdict that it says, where it comes in pieces of so
+/// many bytes.
 fn has_line(alloc: Global, row: &Row, count: usize) -> Result<bool, Fail> {
     let (formula, proof, line) = *row;
     let mut answer = Vec::new(alloc);

@@ -43,7 +43,8 @@ fn leaves(
         && answer.refusals == left.refusals
 }
 
-/// Whether a check of a proof over the four clauses, whose readers give all bytes in one call, leaves just this.
+/// Whether a check of a proof over the four clauses, whose readers give all bytes in one call,
+/// leaves just this.
 fn leaves_of(alloc: Global, proof: &str, limits: Limits, left: &Left) -> bool {
     let formula = Trickle::at_once(FOUR.as_bytes());
     let proof = Trickle::at_once(proof.as_bytes());

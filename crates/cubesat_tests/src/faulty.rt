@@ -1,4 +1,5 @@
-//! Readers that give a few bytes a call, writers that take one, and failures where a test wants them.
+//! Readers that give a few bytes a call, writers that take one, and failures where a test wants
+//! them.
 use std::alloc::Global;
 use std::io;
 use std::io::{ErrorKind, Read, Write};

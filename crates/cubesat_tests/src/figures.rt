@@ -113,7 +113,8 @@ fn no_speed_is_shown_where_the_clock_stood_still(rt: HostRuntime) {
     assert_eq!(rt; line.as_slice(), wanted.as_slice());
 }
 
-/// How many cubes of the depths 0 to 4 are solved, how many lie in the deques at most, and the part of the tree that is closed at least.
+/// How many cubes of the depths 0 to 4 are solved, how many lie in the deques at most, and the part
+/// of the tree that is closed at least.
 static TREES: [([usize; 5], u64, u64); 6] = [
     ([0, 0, 0, 0, 0], 0, 0),
     ([1, 0, 0, 0, 0], 2, 0),

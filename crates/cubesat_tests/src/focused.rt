@@ -24,7 +24,8 @@ const SPLIT_LATER: &str =
 
 const LEARNT: &str = "9 2 3 0 1 5 0\n10 3 0 9 3 7 0\n11 -2 0 10 4 8 0\n12 0 10 11 2 6 0\n";
 
-/// The greatest of the variables of equal score is decided first, so that models differ from the first ones.
+/// The greatest of the variables of equal score is decided first, so that models differ from the
+/// first ones.
 static DECIDED: [Decided; 13] = [
     ("p cnf 0 1\n0\n", "1", UNSATISFIABLE, "2 0 1 0\n"),
     (
@@ -110,7 +111,8 @@ fn the_budget_is_the_greatest_where_none_is_asked_for(rt: HostRuntime) -> Result
     Ok(())
 }
 
-/// Whether an unsatisfiable formula is refuted by a run without threads, with a proof that is accepted.
+/// Whether an unsatisfiable formula is refuted by a run without threads, with a proof that is
+/// accepted.
 fn is_refuted(alloc: Global, text: &str, budget: u32) -> Result<bool, RunFault>
     requires { (1 ≤ budget) × (budget ≤ 100000) }
 {

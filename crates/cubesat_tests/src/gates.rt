@@ -1,4 +1,5 @@
-//! Runs of two hands at a gate that holds one of them until the other has come to another cube. That shows that both are at work at once.
+//! Runs of two hands at a gate that holds one of them until the other has come to another cube.
+//! That shows that both are at work at once.
 use crate::texts::{FOUR, FOUR_PROOF};
 use cubes::Gate;
 use cubesat::{RunFault, Verdict, run};

@@ -6,8 +6,8 @@ use std::thread;
 use std::thread::Threads;
 use std::time::{Clock, Duration};
 
-/// What is printed of a run in this stage that goes on for a while, where the focused search is named
-/// at once.
+/// What is printed of a run in this stage that goes on for a while, where the focused search is
+/// named at once.
 fn hinted<R: Threads + Wait + Clock + Sync>(rt: &R, alloc: Global, stage: Stage) -> Vec<u8> {
     let board = Board::new(rt, stage);
     let showing = Showing {

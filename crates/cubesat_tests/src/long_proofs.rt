@@ -1,8 +1,9 @@
 //! Proofs of 100,000 steps, checked from their bytes.
 //!
-//! The formula is a chain: its first variable holds, each one gives the next, and the last one doesn't hold. A round of the proof derives the
-//! next variable, and takes away the clause of the one before. In between it defines a fresh variable by two clauses, which are no
-//! consequences, and takes them away too. The last round ends with the empty clause in place of the deletion.
+//! The formula is a chain: its first variable holds, each one gives the next, and the last one
+//! doesn't hold. A round of the proof derives the next variable, and takes away the clause of the
+//! one before. In between it defines a fresh variable by two clauses, which are no consequences,
+//! and takes them away too. The last round ends with the empty clause in place of the deletion.
 ghost use Rattle.std.specs.Prelude.{◌≤◌};
 
 use cubesat::check_run;
@@ -17,7 +18,8 @@ const ROUNDS: u32 = 25_000;
 /// The chain's last clause, which denies its last variable.
 const DENIED: u32 = ROUNDS + 2;
 
-/// The formula's text. Its last `ROUNDS` variables are the fresh ones. The clause with the number `n + 1` goes from the variable `n` to the next.
+/// The formula's text. Its last `ROUNDS` variables are the fresh ones. The clause with the number
+/// `n + 1` goes from the variable `n` to the next.
 fn chain(alloc: Global) -> Result<String, AllocError> {
     let vars = 2 * ROUNDS + 1;
     let last = ROUNDS + 1;
@@ -30,7 +32,8 @@ fn chain(alloc: Global) -> Result<String, AllocError> {
     Ok(text)
 }
 
-/// The number of the clause that a round derives; the round 0 stands for the formula's first clause.
+/// The number of the clause that a round derives; the round 0 stands for the formula's first
+/// clause.
 fn derived(round: u32) -> u32
     requires { round ≤ 25000 }
     ensures { result ≤ 100000 }
@@ -42,8 +45,8 @@ fn derived(round: u32) -> u32
     }
 }
 
-/// The additions of a round: the next variable's clause, and the two clauses of a fresh one. The first of these has no candidate, and the
-/// second has the first as its one.
+/// The additions of a round: the next variable's clause, and the two clauses of a fresh one. The
+/// first of these has no candidate, and the second has the first as its one.
 fn write_additions(text: &mut String, round: u32) -> Result<(), AllocError>
     requires { (1 ≤ round) × (round ≤ 25000) }
 {

@@ -1,4 +1,5 @@
-//! Proofs with one byte changed, added or dropped: in pieces they have the line that their list of steps has.
+//! Proofs with one byte changed, added or dropped: in pieces they have the line that their list of
+//! steps has.
 use crate::faulty::Trickle;
 use crate::texts::{FOUR, WIDE, WIDE_PROOF};
 use cnf::{Formula, read_formula};
@@ -11,8 +12,8 @@ use std::test::Fail;
 /// A step without consequences, a deletion and a conflict.
 const THREE_STEPS: &str = "5 1 0 -3 1 -4 2 0\n5 d 1 2 0\n6 0 5 3 4 0\n";
 
-/// What is put in at a place, and how many bytes are dropped there: one is dropped, or one that changes what a line is read as is put in its place
-/// or before it.
+/// What is put in at a place, and how many bytes are dropped there: one is dropped, or one that
+/// changes what a line is read as is put in its place or before it.
 type Change = (&'static [u8], usize);
 
 static CHANGES: [Change; 9] = [

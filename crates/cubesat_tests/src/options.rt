@@ -127,7 +127,8 @@ fn faults_of_a_check(rt: HostRuntime) -> Result<(), Fail> {
     check_rows(&rt, "check.cnf", &UNREADABLE)
 }
 
-/// Whether a command line whose fault can't be printed has the status of a fault, and prints nothing else.
+/// Whether a command line whose fault can't be printed has the status of a fault, and prints
+/// nothing else.
 fn is_silent<R: Files + AllocGlobal + Threads + Wait + Clock + Sync>(
     rt: &R,
     words: &[&str],

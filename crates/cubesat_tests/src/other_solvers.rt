@@ -51,8 +51,9 @@ const FIVE_PIGEONS: &str = "p cnf 20 45
 -16 -20 0
 ";
 
-/// Written by the solver CaDiCaL 2.1.3 (Debian's package 2.1.3-3), as it is:
-/// `cadical -q --lrat --no-binary examples/pigeonhole_4.cnf pigeonhole_4.lrat`. It has additions by hints and deletions.
+/// Written by the solver CaDiCaL 2.1.3 (Debian's package 2.1.3-3), as it is: `cadical -q --lrat
+/// --no-binary examples/pigeonhole_4.cnf pigeonhole_4.lrat`. It has additions by hints and
+/// deletions.
 const BY_CADICAL: &str = "46 -18 -19 -20 0 35 29 45 39 19 25 1 4 8 0
 47 -13 -19 -20 0 34 29 44 39 8 13 1 3 17 0
 48 -19 -20 0 45 44 39 29 34 35 47 4 18 23 1 3 7 0
@@ -136,9 +137,10 @@ const FOUR_PIGEONS: &str = "p cnf 20 22
 -9 -12 0
 ";
 
-/// Written by drat-trim (Debian's package 0.0~git20240428.effa1dc-2), as it is:
-/// `drat-trim pigeons.cnf pigeons.drat -L pigeons.lrat`, where `pigeons.drat` has the clauses of Cook's refutation: definitions of pigeons
-/// in one hole less, by new variables, until one hole is left. Its groups of hints are for candidates, closed ones and open ones.
+/// Written by drat-trim (Debian's package 0.0~git20240428.effa1dc-2), as it is: `drat-trim
+/// pigeons.cnf pigeons.drat -L pigeons.lrat`, where `pigeons.drat` has the clauses of Cook's
+/// refutation: definitions of pigeons in one hole less, by new variables, until one hole is left.
+/// Its groups of hints are for candidates, closed ones and open ones.
 const BY_DRAT_TRIM: &str = "22 d 0
 23 13 -1 0 0
 24 13 -3 -10 0 9 10 17 18 2 3 13 0

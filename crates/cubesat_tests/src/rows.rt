@@ -286,7 +286,8 @@ fn value_lines_have_78_bytes(rt: HostRuntime) -> Result<(), Fail> {
     check_rows(&rt, rt.alloc(), &VALUE_LINES)
 }
 
-/// At budget 1 the root is exhausted by its first conflict; only the variable 39 is true in the first model.
+/// At budget 1 the root is exhausted by its first conflict; only the variable 39 is true in the
+/// first model.
 #[test]
 fn a_deep_tree(rt: HostRuntime) -> Result<(), Fail> {
     let front =

@@ -28,7 +28,8 @@ fn is_refused<R: Files + AllocGlobal + Threads + Wait + Clock + Sync>(
     Ok(is_printed && text.as_slice() == FOUR.as_bytes())
 }
 
-/// Whether `solve` refuses a name of the formula's file beside the formula, as the proof and as the formula.
+/// Whether `solve` refuses a name of the formula's file beside the formula, as the proof and as the
+/// formula.
 fn are_refused<R: Files + AllocGlobal + Threads + Wait + Clock + Sync>(
     rt: &R,
     formula: &str,

@@ -1,4 +1,5 @@
-//! Command lines as rows: what is put into the files before, the words, what is printed, and the proof's file behind it.
+//! Command lines as rows: what is put into the files before, the words, what is printed, and the
+//! proof's file behind it.
 use cubesat::command;
 use std::alloc::{AllocError, Global};
 use std::process::Abort;
@@ -109,8 +110,9 @@ impl Paths {
     }
 }
 
-/// A command line, with the texts of the formula's file and the proof's file before, and the one of the proof's file behind it. Before a row with
-/// none there is no proof's file. In the faults that are wanted a file's word stands between bars.
+/// A command line, with the texts of the formula's file and the proof's file before, and the one of
+/// the proof's file behind it. Before a row with none there is no proof's file. In the faults that
+/// are wanted a file's word stands between bars.
 #[derive(Clone, Copy)]
 pub struct Row<'a> {
     pub formula: &'a str,

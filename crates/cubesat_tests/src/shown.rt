@@ -12,8 +12,8 @@ use std::test::Fail;
 use std::thread::Threads;
 use std::time::Clock;
 
-/// Formulas with the words of runs and answers, and the lines of `--stats` up to the times. What the
-/// searches do is worked out in the tests of `cubes`.
+/// Formulas with the words of runs and answers, and the lines of `--stats` up to the times. What
+/// the searches do is worked out in the tests of `cubes`.
 static RUNS: [(&str, &[&str], &str, &str); 6] = [
     (
         EIGHT,
@@ -163,7 +163,8 @@ static WITH_ALL: [&str; 10] = [
     "FORMULA",
 ];
 
-/// Whether a run with all three options, whose lines go to this writer, answers and writes the proof as ever.
+/// Whether a run with all three options, whose lines go to this writer, answers and writes the
+/// proof as ever.
 fn is_as_ever<R: Files + AllocGlobal + Threads + Wait + Clock + Sync>(
     rt: &R,
     paths: &Paths,

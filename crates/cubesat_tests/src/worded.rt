@@ -15,8 +15,8 @@ const FOUR: &[u8] = b"p cnf 2 4\n1 2 0\n1 -2 0\n-1 2 0\n-1 -2 0\n";
 
 const WIDE: &[u8] = b"p cnf 4 4\n1 2 0\n1 -2 0\n-1 2 0\n-1 -2 0\n";
 
-/// The bytes of the formula's file and the proof's, a command line whose status is 1, what it answers, and what it says. There a file's word stands
-/// between bars.
+/// The bytes of the formula's file and the proof's, a command line whose status is 1, what it
+/// answers, and what it says. There a file's word stands between bars.
 #[derive(Clone, Copy)]
 struct Row<'a> {
     formula: &'a [u8],

@@ -1,4 +1,5 @@
--- The best of the variables that pass a test: the one of greatest score, of several the greatest variable.
+-- The best of the variables that pass a test: the one of greatest score, of several the greatest
+-- variable.
 use Rattle.std.proofs.Common.{◌≡◌, ℕ, zero, suc, ◌<◌, ◌≤◌, Bool, true, false, not, List, [], ◌∷◌, ◌++◌, filter, refl, ap, sym, ◌∙◌, subst, nat_le, leb-true, leb-false, le-leb, Option, Some, None, inl, inr, append-nil, arith, if◌then◌else◌}
 use Rattle.std.proofs.lemmas.Bool.{cases_eq, lt-leb}
 use Rattle.std.proofs.lemmas.List.Elements.{filter-append}

@@ -1,4 +1,5 @@
--- The order of candidates, the first of which are kept: of two with different numbers one goes before the other.
+-- The order of candidates, the first of which are kept: of two with different numbers one goes
+-- before the other.
 use Rattle.std.proofs.Common.{◌≡◌, ◌≢◌, ◌≤◌, Bool, true, false, ◌&&◌, ◌||◌, nat_eq, nat_lt, eqb-true, eq-eqb, ltb-false, refl, sym, ◌∙◌, inl, inr, arith}
 use Rattle.std.proofs.lemmas.Bool.{cases_eq, cases_lt, le-ltb}
 use Rattle.std.specs.Cmp.{IsStrictWeakOrder}

@@ -1,4 +1,5 @@
--- A tournament of variables: a match is played, a leaf or a score changes, and the root beats all leaves.
+-- A tournament of variables: a match is played, a leaf or a score changes, and the root beats all
+-- leaves.
 use Rattle.std.proofs.Common.{◌≡◌, ◌≢◌, ℕ, zero, suc, ◌+◌, ◌-◌, ◌*◌, ◌/◌, ◌<◌, ◌≤◌, ◌⊎◌, inl, inr, List, length, drop, slice_index, slice_set, refl, ap, sym, ◌∙◌, subst, ⊎_elim, arith}
 use Rattle.std.proofs.lemmas.Bool.{cases_eq, cases_lt}
 use Rattle.std.proofs.lemmas.List.{get_or-set_same, get_or-set_other, length-set, get_or-drop, length-drop, set-set, set-get_or}

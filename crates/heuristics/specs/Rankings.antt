@@ -7,7 +7,8 @@ use Rattle.theory.specs.Trails.{variables}
 use Rattle.theory.specs.Scores.{Scores, first_scores, best_of, gained, divided, scores_after}
 use Rattle.heuristics.specs.Tournaments.{IsPlayedBut}
 
--- the numbers of the search, the scores of the variables 1, 2 and so on, and whether each of them waits to be chosen
+-- the numbers of the search, the scores of the variables 1, 2 and so on, and whether each of them
+-- waits to be chosen
 pub record Ranking : Type 0 where
   pub constants : Constants
   pub scores : Scores
@@ -58,11 +59,13 @@ pub record IsKept (r s : Ranking) : Type 0 where
 abbrev pub AreDistinct : List ℕ → Type 0
 AreDistinct xs = (i j : ℕ) → i < j → j < length xs → slice_index xs i ≢ slice_index xs j
 
--- which variables wait by the leaves of a tournament; the first leaf is that of number 0, which is no variable
+-- which variables wait by the leaves of a tournament; the first leaf is that of number 0, which is
+-- no variable
 abbrev pub waiting_in : List ℕ → List ℕ → List Bool
 waiting_in S W = map (nat_lt 0) (drop 1 (drop (length S) W))
 
--- scores S by variable, number 0 among them, the tournament W by them, and the variables G that gained: others have the score 0
+-- scores S by variable, number 0 among them, the tournament W by them, and the variables G that
+-- gained: others have the score 0
 pub record AreRanked (S W G : List ℕ) : Type 0 where
   pub played : IsPlayedBut S W 0
   pub none : slice_index S 0 ≡ 0

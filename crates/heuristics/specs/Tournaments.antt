@@ -1,5 +1,6 @@
--- A tournament of variables by their scores. Its nodes are numbered from 1 on: node i has the nodes 2 * i and 2 * i + 1 below it, and the
--- last half of the nodes are leaves, one for each variable. Each other node has the winner of the two below it.
+-- A tournament of variables by their scores. Its nodes are numbered from 1 on: node i has the nodes
+-- 2 * i and 2 * i + 1 below it, and the last half of the nodes are leaves, one for each variable.
+-- Each other node has the winner of the two below it.
 use Rattle.std.specs.Prelude.{◌≡◌, ◌≢◌, ℕ, ◌+◌, ◌*◌, ◌<◌, ◌≤◌, ◌⊎◌, List, length, slice_index}
 
 -- by scores S: w has the greater score, or as great a one and is as great

@@ -10,8 +10,8 @@ use crate::candidate::Candidate;
 use std::alloc::{AllocError, Global};
 use std::cmp::Ordering;
 
-/// Which of two candidates goes first: that of less glue, of the same glue the smaller one, and of the same size too the one of greater
-/// number.
+/// Which of two candidates goes first: that of less glue, of the same glue the smaller one, and of
+/// the same size too the one of greater number.
 fn compare(a: &Candidate, b: &Candidate) -> Ordering
     ensures { is_lt result ≡ forgetting.goes_before a.now b.now }
 {
@@ -32,8 +32,8 @@ fn sort(candidates: &mut [Candidate])
     candidates.sort_unstable_by(|a, b| compare(a, b));
 }
 
-/// The numbers of the last half of the candidates, in some order. It takes the time of a sort, and leaves the candidates in another order,
-/// also where memory runs out.
+/// The numbers of the last half of the candidates, in some order. It takes the time of a sort, and
+/// leaves the candidates in another order, also where memory runs out.
 pub fn last_half(alloc: Global, candidates: &mut [Candidate]) -> Result<Vec<u64>, AllocError>
     requires { AreOfDistinctNumbers candidates.old }
     ensures numbers { IfOk result (λ numbers. (n : ℕ) →

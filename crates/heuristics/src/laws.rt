@@ -9,8 +9,8 @@ ghost use Rattle.theory.specs.Forgetting.{candidates, forget};
 ghost use Rattle.heuristics.specs.Rankings.{Ranking, AllWait, vars_of, best_waiting};
 ghost use Rattle.heuristics.specs.Halves.{AreOfDistinctNumbers};
 
-/// Where each variable without a literal in a list waits, the best one that waits is the best one without, if it has none there; and where
-/// none waits, there is none.
+/// Where each variable without a literal in a list waits, the best one that waits is the best one
+/// without, if it has none there; and where none waits, there is none.
 pub fn best_waiting_is_best()
     ensures some { (r : Ranking) (P : List Literal) (x : ℕ) → AllWait r P → best_waiting r ≡ Some x → has_var P x ≡ false →
         best_outside (vars_of r) P r.scores ≡ Some x }
@@ -18,7 +18,8 @@ pub fn best_waiting_is_best()
         best_outside (vars_of r) P r.scores ≡ None }
 {}
 
-/// The candidates of learnt clauses have distinct numbers; and clauses are forgotten by which numbers there are, in any order.
+/// The candidates of learnt clauses have distinct numbers; and clauses are forgotten by which
+/// numbers there are, in any order.
 pub fn numbers_decide()
     ensures distinct { (c : plans.Constants) (T : Trail) (n : ℕ) (learnt : List Clause) (glues : List ℕ) →
         AreOfDistinctNumbers (candidates c T n learnt glues) }

@@ -1,4 +1,5 @@
-//! What the focused search chooses by: the scores of variables, restarts, and which learnt clauses are forgotten.
+//! What the focused search chooses by: the scores of variables, restarts, and which learnt clauses
+//! are forgotten.
 #![tactic(auto)]
 
 mod candidate;

@@ -9,7 +9,8 @@ use circular_buffer::HeapCircularBuffer;
 use std::alloc::{AllocError, Global};
 use std::marker::Model;
 
-/// The glues of a cube's learnt clauses: those since the last restart, at most a window of them, and the sum of all.
+/// The glues of a cube's learnt clauses: those since the last restart, at most a window of them,
+/// and the sum of all.
 #[derive(Drop)]
 pub struct Glues {
     constants: Constants,
@@ -35,7 +36,8 @@ impl Model for Glues {
         × (length a.recent.items ≤ a.recent.capacity) × All (λ g. g ≤ 2 ^ 20) a.recent.items };
 }
 
-/// Puts a glue behind the recent ones, the first of which leaves where they are full; the sum of those that are there then.
+/// Puts a glue behind the recent ones, the first of which leaves where they are full; the sum of
+/// those that are there then.
 fn push(recent: &mut HeapCircularBuffer<u32>, recent_sum: u64, glue: u32) -> u64
     requires sum { (recent_sum ≡ sum recent.old.items) × (recent_sum ≤ 2 ^ 40) }
     requires full { (1 ≤ recent.old.capacity) × (length recent.old.items ≤ recent.old.capacity) }
@@ -72,7 +74,8 @@ impl Glues {
         })
     }
 
-    /// Takes the glue of the clause learnt at a cube's conflict, counted from 1; whether the search restarts. It takes constant time.
+    /// Takes the glue of the clause learnt at a cube's conflict, counted from 1; whether the search
+    /// restarts. It takes constant time.
     pub fn take_glue(&mut self, glue: u32, conflicts: u32) -> bool
         requires glue { glue ≤ 2 ^ 20 }
         requires conflicts { conflicts ≤ 2 ^ 20 }

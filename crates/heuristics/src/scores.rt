@@ -14,7 +14,8 @@ use crate::tournament::{enter, play_all, rescore};
 use std::alloc::{AllocError, Global};
 use std::marker::Model;
 
-/// The scores of the variables 1 to so many, the step that a score gains, and which variables wait to be chosen.
+/// The scores of the variables 1 to so many, the step that a score gains, and which variables wait
+/// to be chosen.
 #[derive(Drop)]
 pub struct Scores {
     constants: Constants,
@@ -76,7 +77,8 @@ fn gain(
     Ok(())
 }
 
-/// Adds a step to the score of each variable of a list. Where memory runs out, only those before gain it.
+/// Adds a step to the score of each variable of a list. Where memory runs out, only those before
+/// gain it.
 fn gain_all(
     scores: &mut [u64],
     winners: &mut [u32],
@@ -130,7 +132,8 @@ fn reset_all(scores: &mut [u64], winners: &mut [u32], gained: &[u32])
 }
 
 impl Scores {
-    /// The scores of the variables 1 to `vars`, all 0, each of which waits. It takes 24 bytes a variable.
+    /// The scores of the variables 1 to `vars`, all 0, each of which waits. It takes 24 bytes a
+    /// variable.
     pub fn open(alloc: Global, vars: u32, constants: Constants) -> Result<Scores, AllocError>
         ensures { IfOk result (λ s. s ≡ first_ranking constants vars) }
     {
@@ -147,7 +150,8 @@ impl Scores {
         })
     }
 
-    /// Of the variables that wait, the one of greatest score, of several the greatest. It takes constant time.
+    /// Of the variables that wait, the one of greatest score, of several the greatest. It takes
+    /// constant time.
     pub fn best(&self) -> Option<u32>
         ensures { result ≡ best_waiting self.now }
     {
@@ -163,7 +167,8 @@ impl Scores {
         enter(&self.scores, &mut self.winners, variable, 0);
     }
 
-    /// Puts a variable among those that wait, unless it is one. It takes logarithmic time at most, mostly a few steps.
+    /// Puts a variable among those that wait, unless it is one. It takes logarithmic time at most,
+    /// mostly a few steps.
     pub fn put_back(&mut self, variable: u32)
         requires { IsVariable (vars_of self.old) variable }
         ensures { self.new ≡ with_waiting self.old variable true }
@@ -171,8 +176,9 @@ impl Scores {
         enter(&self.scores, &mut self.winners, variable, variable);
     }
 
-    /// Takes a conflict that has seen these variables, distinct ones: each one's score gains the step, which then grows; where it comes to
-    /// the greatest one, it and all scores are divided. Where memory runs out, some of them have gained, and which ones wait stays. It takes
+    /// Takes a conflict that has seen these variables, distinct ones: each one's score gains the
+    /// step, which then grows; where it comes to the greatest one, it and all scores are divided.
+    /// Where memory runs out, some of them have gained, and which ones wait stays. It takes
     /// logarithmic time for each of them, and time by all variables where it divides.
     pub fn learn_from(&mut self, seen: &[u32]) -> Result<(), AllocError>
         requires variables { (i : ℕ) → i < length seen.now → IsVariable (vars_of self.old) (slice_index seen.now i) }
@@ -221,7 +227,8 @@ impl Scores {
         self.step = step / constants.divisor;
     }
 
-    /// The scores as another cube begins; which variables wait stays. It takes logarithmic time for each gain since the last time.
+    /// The scores as another cube begins; which variables wait stays. It takes logarithmic time for
+    /// each gain since the last time.
     pub fn begin_again(&mut self)
         ensures { self.new ≡ record self.old { scores = first_scores self.old.constants (vars_of self.old) } }
     {

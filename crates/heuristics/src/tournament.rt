@@ -1,4 +1,5 @@
-//! A tournament of variables by their scores: the best one stands at the root, and each change is played again along one path.
+//! A tournament of variables by their scores: the best one stands at the root, and each change is
+//! played again along one path.
 ghost use Rattle.std.specs.Prelude.{◌≡◌, ◌<◌, ◌≤◌, ◌+◌, ◌*◌, ◌/◌, ◌⊎◌, length, drop, slice_set};
 ghost use Rattle.heuristics.specs.Tournaments.{IsWinner, IsField, IsPlayedBut};
 
@@ -16,7 +17,8 @@ fn better(scores: &[u64], a: u32, b: u32) -> u32
     }
 }
 
-/// Plays the matches from a node up to the root again, where that of the node above it may be wrong. It stops where a winner stays.
+/// Plays the matches from a node up to the root again, where that of the node above it may be
+/// wrong. It stops where a winner stays.
 pub(crate) fn replay(scores: &[u64], winners: &mut [u32], node: usize)
     requires played { IsPlayedBut scores.now winners.old (node / 2) }
     requires inside { node < length winners.old }
@@ -61,7 +63,8 @@ pub(crate) fn enter(scores: &[u64], winners: &mut [u32], variable: u32, entrant:
     replay(scores, winners, leaf);
 }
 
-/// Gives a variable another score. One that takes part leaves for that while, since only those who don't stand at no node.
+/// Gives a variable another score. One that takes part leaves for that while, since only those who
+/// don't stand at no node.
 pub(crate) fn rescore(scores: &mut [u64], winners: &mut [u32], variable: u32, score: u64)
     requires played { IsPlayedBut scores.old winners.old 0 }
     requires inside { (1 ≤ variable) × (variable < length scores.old) }

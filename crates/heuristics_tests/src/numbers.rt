@@ -3,7 +3,8 @@ ghost use Rattle.std.specs.Prelude.{◌≡◌};
 
 use heuristics::Constants;
 
-/// A window of three glues; steps of 8, 9 and then divided by 4; times at the conflicts 2, 5, 9 and so on.
+/// A window of three glues; steps of 8, 9 and then divided by 4; times at the conflicts 2, 5, 9 and
+/// so on.
 pub fn small() -> Constants
     ensures window { result.window ≡ 3 }
     ensures step { result.first_step ≡ 8 }

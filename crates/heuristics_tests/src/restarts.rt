@@ -30,7 +30,8 @@ static EVEN: [(u8, bool); 6] = [
     (3, true),
 ];
 
-/// The first row at which a cube's glues, the first of which come now, restart otherwise than it says.
+/// The first row at which a cube's glues, the first of which come now, restart otherwise than it
+/// says.
 fn first_failed(glues: &mut Glues, rows: &[(u8, bool)]) -> Option<usize>
     requires { length rows.now ≤ 100 }
 {

@@ -18,7 +18,8 @@ enum Act {
     BeginAgain,
 }
 
-/// Acts, and the best variable after each. The steps are 8, 9, then 10, which is divided to 2, and 2 from then on.
+/// Acts, and the best variable after each. The steps are 8, 9, then 10, which is divided to 2, and
+/// 2 from then on.
 static ROWS: [(Act, Option<u32>); 18] = [
     // all scores are 0
     (Act::TakeOut(4), Some(3)),

@@ -1,4 +1,5 @@
--- Joining begins with the pure literals and the nodes of the formula's tree, and ends with its proof.
+-- Joining begins with the pure literals and the nodes of the formula's tree, and ends with its
+-- proof.
 use Rattle.std.proofs.Common.{◌≡◌, ℕ, ◌+◌, ◌-◌, ◌≤◌, List, [], ◌++◌, map, length, None, refl, ap, sym, subst, ◌∙◌, All, arith}
 use Rattle.std.proofs.lemmas.List.Elements.{All-nil}
 use Rattle.std.specs.Vec.Iter.{into_iter_items}

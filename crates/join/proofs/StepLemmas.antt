@@ -1,4 +1,5 @@
--- The numbers in a tree's proof are within their limits, where its text is no longer than a proof may be.
+-- The numbers in a tree's proof are within their limits, where its text is no longer than a proof
+-- may be.
 use Rattle.std.proofs.Common.{◌≡◌, ℕ, suc, ◌+◌, ◌-◌, ◌<◌, ◌≤◌, true, List, [], ◌∷◌, ◌++◌, length, length-append, map, None, refl, ap, sym, subst, ◌∙◌, append_assoc, arith, All}
 use Rattle.std.proofs.lemmas.List.Elements.{All-nil, All-cons, All-push, All-append, All-weaker, All-map}
 use Rattle.std.proofs.lemmas.List.{map-append}

@@ -14,7 +14,8 @@ pub record Joined : Type 0 where
   pub next : ℕ
   pub steps : List Step
 
--- what follows a subtree's last line: on to the half beside it, or, behind that, the line of their split, and so on
+-- what follows a subtree's last line: on to the half beside it, or, behind that, the line of their
+-- split, and so on
 abbrev pub climb : List (Split ℕ) → ℕ → List Step → Joined
 climb [] n steps = record { halves = []; next = n; steps = steps }
 climb (h ∷ hs) n steps = elim h.left [
@@ -47,7 +48,8 @@ split_line n Q left right = add (record { id = n; clause = negations Q; hints = 
 abbrev pub lines_below : ℕ → ℕ → List (Split ℕ) → List trees.Node → List Step
 lines_below N n hs nodes = (on_nodes N (record { halves = hs; next = n; steps = [] }) nodes).steps
 
--- what is left of a leaf's lines, of which the next has the number n, and what they leave to be deleted; behind the last one nothing is left
+-- what is left of a leaf's lines, of which the next has the number n, and what they leave to be
+-- deleted; behind the last one nothing is left
 abbrev pub leaf_left : ℕ → ℕ → ℕ → List Literal → List Line → List Step
 leaf_left N first n Q [] = []
 leaf_left N first n Q (line ∷ lines) = leaf_steps N first n Q (line ∷ lines) ++ deletion Q (n + length lines) (numbers_from first (n + length lines - first))

@@ -1,4 +1,5 @@
--- How a tree's nodes, one after the other, give the lines of its proof, and which numbers stand in them.
+-- How a tree's nodes, one after the other, give the lines of its proof, and which numbers stand in
+-- them.
 pub mod Joining
 pub mod Numbered
 pub mod Walking

@@ -2,7 +2,8 @@
 use Rattle.std.specs.Prelude.{ℕ, ◌+◌, nat_le, List, [], ◌∷◌, ◌++◌, length, codes, if◌then◌else◌}
 use Rattle.theory.specs.Texts.{lf, space}
 
--- what a word adds behind a line of so many bytes: itself behind a space, on a line of its own where the line would have over 78 bytes
+-- what a word adds behind a line of so many bytes: itself behind a space, on a line of its own
+-- where the line would have over 78 bytes
 abbrev pub piece : ℕ → List ℕ → List ℕ
 piece width word = if nat_le (width + 1 + length word) 78 then space ∷ word else lf ∷ codes "v" ++ space ∷ word
 

@@ -45,7 +45,8 @@ pub record IsHalf (n : ℕ) (h : Split ℕ) : Type 0 where
   pub variable : IsVariable max_vars h.var
   pub left : IsBefore n h.left
 
--- the numbers of the clauses that are due behind a cube's last line; first is the number of a leaf's first line
+-- the numbers of the clauses that are due behind a cube's last line; first is the number of a
+-- leaf's first line
 abbrev pub numbers_due : Due → ℕ → ℕ → List ℕ
 numbers_due Nothing first last = []
 numbers_due Leaf first last = numbers_from first (last - first)
@@ -56,7 +57,8 @@ abbrev pub due_behind : List Line → Due
 due_behind [] = Leaf
 due_behind (line ∷ lines) = Nothing
 
--- the left half's last line stands before that of the right one, which stands before that of the split
+-- the left half's last line stands before that of the right one, which stands before that of the
+-- split
 abbrev pub IsDue : Due → ℕ → Type 0
 IsDue Nothing last = Unit {0}
 IsDue Leaf last = Unit {0}

@@ -43,7 +43,8 @@ tree_left w = lines_from w.clauses w.first w.next w.place w.leaf (map node_of (i
 abbrev pub deletion_of : Due → TreeWalk → ℕ → List Step
 deletion_of due w last = deletion (path w.place) last (numbers_due due w.first last)
 
--- the tree's lines that are still to come, where the next one is given just now and leaves this to be deleted
+-- the tree's lines that are still to come, where the next one is given just now and leaves this to
+-- be deleted
 abbrev pub tree_behind : Due → TreeWalk → List Step
 tree_behind due w = deletion_of due w w.next
     ++ lines_from w.clauses w.first (w.next + 1) w.place w.leaf (map node_of (into_iter_items w.nodes))
@@ -56,7 +57,8 @@ tree_under w = lines_below w.clauses w.next w.place (map node_of (into_iter_item
 abbrev pub tree_reached : TreeWalk → List Step
 tree_reached w = lines_entered w.clauses w.first w.next w.place w.leaf (map node_of (into_iter_items w.nodes))
 
--- the lines that are still to come: the pure literals' ones, the deletion that is due, and the tree's
+-- the lines that are still to come: the pure literals' ones, the deletion that is due, and the
+-- tree's
 abbrev pub lines_left : Lines → List Step
 lines_left l = unit_steps l.unit (into_iter_items l.units) ++ (deletion_of l.due l.walk (l.walk.next - 1) ++ tree_left l.walk)
 

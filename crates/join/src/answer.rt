@@ -68,8 +68,9 @@ fn satisfiable(alloc: Global, values: &[bool]) -> Result<Vec<u8>, AllocError>
     Ok(lines.text)
 }
 
-/// The text of the answer: `s SATISFIABLE` and the truth values of the variables 1, 2 and so on, in lines of at most 78 bytes, or
-/// `s UNSATISFIABLE`. It fails only where a request for memory is refused.
+/// The text of the answer: `s SATISFIABLE` and the truth values of the variables 1, 2 and so on, in
+/// lines of at most 78 bytes, or `s UNSATISFIABLE`. It fails only where a request for memory is
+/// refused.
 pub fn answer_bytes(
     alloc: Global,
     formula: &Formula,

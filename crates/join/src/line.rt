@@ -1,4 +1,5 @@
-//! A line of a proof: what a pure literal, a leaf's line or a split gives, and what is deleted behind them.
+//! A line of a proof: what a pure literal, a leaf's line or a split gives, and what is deleted
+//! behind them.
 ghost use Rattle.std.specs.Prelude.{◌≡◌, ℕ, ◌≤◌, ◌<◌, ◌^◌, ◌+◌, ◌-◌, ◌++◌, map, All, IfOk, OnOk};
 ghost use Rattle.theory.specs.Literals.{IsVariable, negations};
 ghost use Rattle.theory.specs.Truth.{IsOver};
@@ -67,7 +68,8 @@ fn put_negations(place: &Walk<u64>, clause: &mut Vec<Lit>) -> Result<(), AllocEr
     Ok(())
 }
 
-/// The number in the proof of a clause or a line of the cube, where the cube's first line has the number `first`.
+/// The number in the proof of a clause or a line of the cube, where the cube's first line has the
+/// number `first`.
 fn renumbered(hint: u64, clauses: u64, first: u64) -> u64
     requires { hint + first < 2 ^ 64 }
     ensures { result ≡ renumbered clauses first hint }
@@ -100,7 +102,8 @@ fn put_numbers(first: u64, end: u64, out: &mut Vec<u64>) -> Result<(), AllocErro
 }
 
 impl ProofLine {
-    /// A line that takes no more memory while clauses have no more literals, and hints or deletions no more numbers.
+    /// A line that takes no more memory while clauses have no more literals, and hints or deletions
+    /// no more numbers.
     pub(crate) fn with_room(
         alloc: Global,
         literals: usize,
@@ -114,7 +117,8 @@ impl ProofLine {
         })
     }
 
-    /// Becomes the line of a pure variable's negation. It has no hints: no clause there has the variable itself, so nothing is to be shown.
+    /// Becomes the line of a pure variable's negation. It has no hints: no clause there has the
+    /// variable itself, so nothing is to be shown.
     pub(crate) fn unit(&mut self, id: u64, literal: Lit) -> Result<(), AllocError>
         requires { (1 ≤ id) × (id ≤ max_number) }
         ensures line { OnOk result (line_of self.new ≡ unit_line id literal) }
@@ -128,7 +132,8 @@ impl ProofLine {
         Ok(())
     }
 
-    /// Becomes the line for the one that it holds of a leaf, whose first one has the number `first`.
+    /// Becomes the line for the one that it holds of a leaf, whose first one has the number
+    /// `first`.
     pub(crate) fn learn(
         &mut self,
         id: u64,
@@ -151,7 +156,8 @@ impl ProofLine {
         Ok(())
     }
 
-    /// Becomes the line of a split, behind the last line of the right half; `left` is the number of the left half's last line.
+    /// Becomes the line of a split, behind the last line of the right half; `left` is the number of
+    /// the left half's last line.
     pub(crate) fn split(&mut self, id: u64, left: u64, place: &Walk<u64>) -> Result<(), AllocError>
         requires id { id ≤ max_number }
         requires left { (1 ≤ left) × (left < id) }
@@ -169,8 +175,8 @@ impl ProofLine {
         Ok(())
     }
 
-    /// Becomes the line that deletes what is due behind a cube's last line, which has the number `last`; where nothing is, it has no numbers.
-    /// `first` is the number of a leaf's first line.
+    /// Becomes the line that deletes what is due behind a cube's last line, which has the number
+    /// `last`; where nothing is, it has no numbers. `first` is the number of a leaf's first line.
     pub(crate) fn delete(&mut self, last: u64, due: Due, first: u64) -> Result<(), AllocError>
         requires first { 1 ≤ first }
         requires due { IsDue due last }

@@ -1,5 +1,6 @@
-//! The lines of a refuted tree's proof, one after the other: those of the pure literals, and then, subtree by subtree, the left half's
-//! lines, the right half's, and that of the split, with what each leaves to be deleted.
+//! The lines of a refuted tree's proof, one after the other: those of the pure literals, and then,
+//! subtree by subtree, the left half's lines, the right half's, and that of the split, with what
+//! each leaves to be deleted.
 ghost use Rattle.std.specs.Prelude.{◌≡◌, ℕ, ◌+◌, ◌≤◌, [], IfOk};
 ghost use Rattle.std.specs.Bool.{OnFalse};
 ghost use Rattle.std.specs.Vec.Iter.{into_iter_items};
@@ -19,8 +20,8 @@ use lrat::MAX_NUMBER;
 use std::alloc::{AllocError, Global};
 use std::vec::IntoIter;
 
-/// The lines of a tree's proof that are still to come. Each is made from the tree as it is asked for, in the memory of the one before; the tree is
-/// let go on the way.
+/// The lines of a tree's proof that are still to come. Each is made from the tree as it is asked
+/// for, in the memory of the one before; the tree is let go on the way.
 #[derive(Drop)]
 pub struct Lines {
     /// The pure literals whose lines are still to come.
@@ -63,8 +64,8 @@ fn nodes_of(alloc: Global, tree: Tree<Row>) -> Vec<Node<Row>>
 }
 
 impl Lines {
-    /// The lines for a formula's result: those of its pure literals and of its tree, and none for a model. All memory that they need is asked
-    /// for here; it fails only where that is refused.
+    /// The lines for a formula's result: those of its pure literals and of its tree, and none for a
+    /// model. All memory that they need is asked for here; it fails only where that is refused.
     pub fn of(alloc: Global, formula: &Formula, tree: Tree<Row>) -> Result<Lines, AllocError>
         requires { (plan : Plan) × IsResultOf formula.now plan tree }
         ensures steps { IfOk result (λ l. AreStepsOf formula.now tree (lines_left l)) }
@@ -96,8 +97,8 @@ impl Lines {
         &self.line
     }
 
-    /// The most bytes that a line's text has: 12 a literal, 21 a hint or a number to be deleted, 25 for the line's own number and the marks.
-    /// A size stops at the greatest one.
+    /// The most bytes that a line's text has: 12 a literal, 21 a hint or a number to be deleted, 25
+    /// for the line's own number and the marks. A size stops at the greatest one.
     pub fn line_size(&self) -> usize {
         let literals = self.line.clause.capacity().saturating_mul(12);
         let numbers = self.line.numbers.capacity().saturating_mul(21);
@@ -118,8 +119,8 @@ impl Lines {
         Ok(true)
     }
 
-    /// Makes the deletion that is due, if there is one. Behind the root's last line nothing is deleted: that is the empty clause, with which
-    /// a proof ends.
+    /// Makes the deletion that is due, if there is one. Behind the root's last line nothing is
+    /// deleted: that is the empty clause, with which a proof ends.
     fn next_deletion(&mut self) -> Result<bool, AllocError>
         requires lawful { IsBetweenLines self.old }
         requires units { into_iter_items self.old.units ≡ [] }
@@ -164,8 +165,9 @@ impl Lines {
         Ok(true)
     }
 
-    /// Makes the next line, which `line` shows then; it answers whether there was one more. It fails only where a request for memory is refused, or
-    /// where a number would be above its limit; then no line can be asked for any more.
+    /// Makes the next line, which `line` shows then; it answers whether there was one more. It
+    /// fails only where a request for memory is refused, or where a number would be above its
+    /// limit; then no line can be asked for any more.
     pub fn next_line(&mut self) -> Result<bool, AllocError>
         requires { IsBetweenLines self.old }
         ensures rest { IfOk result (λ more. HasNextLine (lines_left self.old) (lines_left self.new) (line_of self.new.line) more) }

@@ -15,7 +15,8 @@ fn text_size(steps: &[Step]) -> usize {
     size
 }
 
-/// The text of the steps: a line each. Its memory is asked for once, in a first pass over the steps. It fails only where that is refused.
+/// The text of the steps: a line each. Its memory is asked for once, in a first pass over the
+/// steps. It fails only where that is refused.
 pub fn proof_bytes(alloc: Global, steps: &[Step]) -> Result<Vec<u8>, AllocError>
     ensures { IfOk result (λ v. v.items ≡ proof_text (map step_of steps.now)) }
 {

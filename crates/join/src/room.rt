@@ -14,8 +14,9 @@ pub(crate) struct Need {
 }
 
 impl Need {
-    /// What the lines need of a tree over so many variables: each of them is split on but once on a way. A pure literal's line has one literal, and
-    /// a split's line two hints. Behind a half's last line its others are deleted; of the root's lines none is.
+    /// What the lines need of a tree over so many variables: each of them is split on but once on a
+    /// way. A pure literal's line has one literal, and a split's line two hints. Behind a half's
+    /// last line its others are deleted; of the root's lines none is.
     pub(crate) fn of(size: TreeSize, vars: usize) -> Need {
         let splits = size.splits.min(vars as u64) as usize;
         let deleted = if splits > 0 { size.most_lines } else { 0 };

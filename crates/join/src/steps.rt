@@ -12,8 +12,9 @@ use cubes::Tree;
 use lrat::Step;
 use std::alloc::{AllocError, Global};
 
-/// The proof of a formula's tree of splits that has no satisfied leaf; a model has no proof. It fails only where a request for memory is refused,
-/// or where a number would be above its limit. The checker accepts the steps of a refuted tree.
+/// The proof of a formula's tree of splits that has no satisfied leaf; a model has no proof. It
+/// fails only where a request for memory is refused, or where a number would be above its limit.
+/// The checker accepts the steps of a refuted tree.
 pub fn join(alloc: Global, formula: &Formula, tree: Tree) -> Result<Vec<Step>, AllocError>
     requires { (plan : Plan) × IsResultOf formula.now plan tree }
     ensures steps { IfOk result (λ steps. AreStepsOf formula.now tree (map step_of steps.items)) }

@@ -1,4 +1,5 @@
-//! The way through a refuted tree: its leaves from left to right, and each split behind its right half.
+//! The way through a refuted tree: its leaves from left to right, and each split behind its right
+//! half.
 ghost use Rattle.std.specs.Prelude.{◌≡◌, ◌+◌, ◌<◌, ◌≤◌, [], IfOk, OnOk};
 ghost use Rattle.std.specs.Vec.Iter.{into_iter_items};
 ghost use Rattle.theory.specs.ProofReading.{max_number};
@@ -58,8 +59,8 @@ pub(crate) fn due_behind(leaf: &Reader) -> Due
 }
 
 impl TreeWalk {
-    /// The way through the tree of these nodes, where a search begins with so many clauses. It takes no more memory while a way from the root has
-    /// no more splits.
+    /// The way through the tree of these nodes, where a search begins with so many clauses. It
+    /// takes no more memory while a way from the root has no more splits.
     pub(crate) fn over(
         alloc: Global,
         clauses: u64,
@@ -97,8 +98,9 @@ impl TreeWalk {
         Ok(())
     }
 
-    /// Goes on to where the next line comes from: the leaf's next line; behind its last one the split above whose halves are both done, or else the
-    /// first leaf of the half beside it. A leaf's line is read into the proof's, by the numbers of its cube.
+    /// Goes on to where the next line comes from: the leaf's next line; behind its last one the
+    /// split above whose halves are both done, or else the first leaf of the half beside it. A
+    /// leaf's line is read into the proof's, by the numbers of its cube.
     pub(crate) fn next_source(&mut self, line: &mut ProofLine) -> Result<Source, AllocError>
         requires lawful { IsAt self.old self.old.next }
         requires fits { self.old.next ≤ max_number }

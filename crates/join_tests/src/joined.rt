@@ -125,7 +125,8 @@ fn a_model_has_no_proof(rt: HostRuntime) -> Result<(), Fail> {
     Ok(())
 }
 
-/// Whether the room that is made before the first line holds each line of the proof of a formula's result: no line makes a vector grow.
+/// Whether the room that is made before the first line holds each line of the proof of a formula's
+/// result: no line makes a vector grow.
 fn has_room(alloc: Global, text: &[u8], budget: u32) -> Result<bool, Fail> {
     let formula = read_formula(alloc, text)?;
     if budget < 1 || budget > 100_000 {

@@ -176,7 +176,8 @@ listed_at-exact pairs lists a n h watches new x = record {
         both (inr (b, f)) (inr (d, g)) = b ∙ sym d
     once l m i j (inr e) p q = x.once l m i j (subst (λ (xs : List ℕ). At xs i m) (there l e) p) (subst (λ (xs : List ℕ). At xs j m) (there l e) q)
 
--- what is known of the lists once a clause came to the end, in those of the literals that it watches
+-- what is known of the lists once a clause came to the end, in those of the literals that it
+-- watches
 pub record IsListedMore (K : List Clause) (t : Tending) (w : Watched) (lists : List (List ℕ)) : Type 0 where
   pub kept : (l : Literal) (m : ℕ) → Contains (list_at t.lists l) m → Contains (list_at lists l) m
   pub first_listed : Contains (list_at lists w.first) (length K)

@@ -149,7 +149,8 @@ up_to-up_to (e ∷ T) m k h = go (nat_le e.level m) refl (nat_le e.level k) refl
     go false x true y r = absurd (omega (arith, leb-false e.level m x, leb-true e.level k y, h))
     go false x false y r = r
 
--- a decision where propagation has nothing more to find; what was served until then may be less than the trail
+-- a decision where propagation has nothing more to find; what was served until then may be less
+-- than the trail
 pub decided : (floor low : ℕ) (K : List Clause) (T : Trail) (e : Entry) (served : ℕ) (t : Tending) → IsRisingFrom 0 T → least_false (literals T) K ≡ None → ((n : ℕ) (c : Clause) → At K n c → unit_literal (literals T) c ≡ None) → served ≤ length T → low ≤ floor
     → Includes (literals (take served T)) (literals (take low T)) → e.level ≡ current_level T + 1 → IsServed floor K T served t → IsServed low K (T ++ e ∷ []) served t
 decided floor low K T e served t rising none_false none_unit within less sub level s = record {

@@ -1,4 +1,5 @@
--- Lists that lie one behind the other: one more at the end, the one at a place, and others behind the first ones.
+-- Lists that lie one behind the other: one more at the end, the one at a place, and others behind
+-- the first ones.
 use Rattle.std.proofs.Common.{◌≡◌, ℕ, zero, suc, ◌+◌, ◌-◌, ◌<◌, ◌≤◌, List, [], ◌∷◌, ◌++◌, length, take, drop, get_or, Some, slice_get, refl, ap, sym, subst, ◌∙◌, arith, length-append, append_assoc, set}
 use Rattle.std.specs.List.{slice_range}
 use Rattle.std.proofs.lemmas.List.{append-nil, take-append-le, take-append-drop, drop-append-le, length-drop, length-take-le, get_or_default, drop-drop}

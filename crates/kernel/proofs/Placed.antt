@@ -1,4 +1,5 @@
--- Clauses that wait elsewhere, or in another order; and what waits with the place of its last false literal.
+-- Clauses that wait elsewhere, or in another order; and what waits with the place of its last false
+-- literal.
 use Rattle.std.proofs.Common.{◌≡◌, ℕ, suc, zero, ◌+◌, ◌<◌, Bool, true, false, ◌||◌, List, [], ◌∷◌, ◌++◌, length, get_or, map, take, nat_eq, eq-eqb, Option, Some, None, option_map, refl, ap, sym, subst, ◌∙◌, ◌⊎◌, inl, inr, arith, All, append-nil}
 use Rattle.std.specs.List.{AllByRecursion, Contains}
 use Rattle.std.specs.List.Sorted.{IsPermutation}

@@ -27,7 +27,8 @@ emptied-front gone n zero K none = refl
 emptied-front gone n (suc i) [] none = refl
 emptied-front gone n (suc i) (c ∷ K) none = (λ j. (ap (λ b. if b then [] else c) (none n (omega arith))) j ∷ emptied-front gone (n + 1) i K (λ m less. none m (omega (arith, less))) j)
 
--- the lists before the one at a place have moved: what is left of them ends at `to`, and those from `from` on stand where they did
+-- the lists before the one at a place have moved: what is left of them ends at `to`, and those from
+-- `from` on stand where they did
 pub record IsTogether (gone : ℕ → Bool) (old : List Literal) (old_ends : List ℕ) (lits : List Literal) (ends : List ℕ) (index from to : ℕ) : Type 0 where
   pub start : from ≡ start_at 0 old_ends index
   pub before : to ≤ from

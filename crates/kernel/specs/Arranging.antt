@@ -1,4 +1,5 @@
--- Clauses beside the same with their literals in an order of the kernel's own: the two watched ones stand in front.
+-- Clauses beside the same with their literals in an order of the kernel's own: the two watched ones
+-- stand in front.
 use Rattle.std.specs.Prelude.{◌≡◌, ℕ, List, [], ◌∷◌, length}
 use Rattle.std.specs.List.Sorted.{IsPermutation}
 use Rattle.theory.specs.Literals.{Clause, positive}

@@ -12,7 +12,8 @@ use Rattle.kernel.specs.Visiting.{WatchLists, entries_at, tending, AreEntries}
 abbrev pub with_entry : List (List Watch) → Literal → Watch → List (List Watch)
 with_entry lists l e = slice_set lists (code l) (entries_at lists l ++ e ∷ [])
 
--- the entries of the clause at n in the lists of the two literals that it watches, or of the only one
+-- the entries of the clause at n in the lists of the two literals that it watches, or of the only
+-- one
 abbrev pub attached : List (List Watch) → Watched → ℕ → Bool → List (List Watch)
 attached lists w n short =
     cond (same w.first w.second) (with_entry lists w.first record { clause = n; blocker = w.second; is_short = short })
@@ -34,7 +35,8 @@ pub record IsWatching (V first : ℕ) (K : List Clause) (T : Trail) (at floor : 
   pub within : at ≤ length T
   pub base : IsBase first K single least_empty
 
--- whether a literal other than `free` is of a greater level than the latest one so far, which is `free` before the first
+-- whether a literal other than `free` is of a greater level than the latest one so far, which is
+-- `free` before the first
 abbrev pub IsLater : Trail → Literal → Literal → Literal → Bool → Type 0
 IsLater T free latest l true = (same l free ≡ false) × ((same latest free ≡ true) ⊎ (level_of T latest < level_of T l))
 IsLater T free latest l false = (same l free ≡ true) ⊎ ((same latest free ≡ false) × (level_of T l ≤ level_of T latest))

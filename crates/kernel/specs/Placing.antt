@@ -1,4 +1,5 @@
--- Unit clauses that wait with the place of their last false literal. A clause is named by its place, from 0.
+-- Unit clauses that wait with the place of their last false literal. A clause is named by its
+-- place, from 0.
 use Rattle.std.specs.Prelude.{◌≡◌, ℕ, ◌<◌, ◌≤◌, List, [], ◌∷◌, ◌++◌, All, map, Some, ◌⊎◌}
 use Rattle.std.specs.List.{Contains}
 use Rattle.theory.specs.Literals.{Literal, Clause}

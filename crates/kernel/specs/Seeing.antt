@@ -11,7 +11,8 @@ use Rattle.kernel.specs.Watching.{At}
 use Rattle.kernel.specs.Visiting.{IsLast, Replaces}
 use Rattle.kernel.specs.Arranging.{front}
 
--- what a clause is like that is looked at: of more than one literal, and g, one of the two front ones, is false
+-- what a clause is like that is looked at: of more than one literal, and g, one of the two front
+-- ones, is false
 pub record CanSee (V : ℕ) (P : List Literal) (g : Literal) (c : Clause) : Type 0 where
   pub over : IsOver V c
   pub long : 2 ≤ length c

@@ -4,8 +4,9 @@ use Rattle.theory.specs.Literals.{Clause}
 use Rattle.theory.specs.Trails.{Trail}
 use Rattle.kernel.specs.declared.order.Order.{Order}
 
--- the number of variables, the order in which propagation takes unit clauses, how many of the clauses are the formula's, the clauses in
--- the order of their numbers, the trail, and whether the kernel has met want of memory
+-- the number of variables, the order in which propagation takes unit clauses, how many of the
+-- clauses are the formula's, the clauses in the order of their numbers, the trail, and whether the
+-- kernel has met want of memory
 pub record State : Type 0 where
   pub vars : ℕ
   pub order : Order

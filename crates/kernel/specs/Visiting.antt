@@ -68,7 +68,8 @@ pub record IsStay (K : List Clause) (e : Watch) (b : Literal) : Type 0 where
   pub blocker_in : (c : Clause) → At K e.clause c → has c b ≡ true
   pub short : e.is_short ≡ true → b ≡ e.blocker
 
--- what changed in a visit of an entry of g; the answer is the entry's new blocker, or none where the entry left the list
+-- what changed in a visit of an entry of g; the answer is the entry's new blocker, or none where
+-- the entry left the list
 pub data IsVisit (K : List Clause) (P : List Literal) (g : Literal) (e : Watch) (s u : WatchLists) : Option Literal → Type 0 where
   -- the blocker is true
   satisfied : {b : Literal} → IsStay K e b → has P b ≡ true → u ≡ s → IsVisit K P g e s u (Some b)

@@ -1,6 +1,7 @@
--- Clauses under two watched literals, over plain lists. P is what the trail holds true, S the part of it that was served: the clauses
--- that watch the negation of an entry's literal were visited. A clause is named by its place, from 0.
--- Source: Moskewicz et al., 'Chaff' (DAC 2001); Een and Sorensson, 'An Extensible SAT-solver' (SAT 2003).
+-- Clauses under two watched literals, over plain lists. P is what the trail holds true, S the part
+-- of it that was served: the clauses that watch the negation of an entry's literal were visited. A
+-- clause is named by its place, from 0. Source: Moskewicz et al., 'Chaff' (DAC 2001); Een and
+-- Sorensson, 'An Extensible SAT-solver' (SAT 2003).
 use Rattle.std.specs.Prelude.{◌≡◌, ℕ, ◌+◌, ◌*◌, ◌<◌, ◌≤◌, true, false, List, [], ◌∷◌, ◌++◌, length, Option, Some, None, cond, ◌⊎◌, slice_index_or, slice_set, take, min}
 use Rattle.std.specs.List.{list_all, Contains, swap_remove}
 use Rattle.theory.specs.Literals.{Literal, Clause, same, has, negated, has_both_signs}
@@ -38,8 +39,8 @@ pub record IsPair (c : Clause) (w : Watched) : Type 0 where
 abbrev pub IsBeside : Watched → Literal → Literal → Type 0
 IsBeside w g k = ((w.first ≡ g) × (w.second ≡ k)) ⊎ ((w.second ≡ g) × (w.first ≡ k))
 
--- the watched literals differ and neither is known to be false, or a literal of the clause at n is true, or it has both signs of a
--- variable: it is never unit and never false
+-- the watched literals differ and neither is known to be false, or a literal of the clause at n is
+-- true, or it has both signs of a variable: it is never unit and never false
 pub data IsWatched (K : List Clause) (n : ℕ) (S P : List Literal) (w : Watched) : Type 0 where
   apart : same w.first w.second ≡ false → has S (negated w.first) ≡ false → has S (negated w.second) ≡ false → IsWatched K n S P w
   first_true : has P w.first ≡ true → IsWatched K n S P w
@@ -66,8 +67,8 @@ WasUnit P c = (y : Literal) × (has c y ≡ true) × (others_false P c y ≡ tru
 abbrev pub list_at : List (List ℕ) → Literal → List ℕ
 list_at lists l = slice_index_or lists (code l) []
 
--- what is kept beside the clauses: their watched literals, for each literal the clauses that watch it, the clauses that were
--- found unit, and the least one that was found false
+-- what is kept beside the clauses: their watched literals, for each literal the clauses that watch
+-- it, the clauses that were found unit, and the least one that was found false
 pub record Tending : Type 0 where
   pub pairs : List Watched
   pub lists : List (List ℕ)
@@ -78,7 +79,8 @@ pub record Tending : Type 0 where
 abbrev pub IsFull : List Clause → ℕ → Type 0
 IsFull K n = (n < length K) × (At K n [] → ⊥)
 
--- of each clause that isn't empty two literals are watched; it stands in the lists of both, unless it has both signs of a variable
+-- of each clause that isn't empty two literals are watched; it stands in the lists of both, unless
+-- it has both signs of a variable
 pub record IsListed (K : List Clause) (t : Tending) : Type 0 where
   pub length_pairs : length t.pairs ≡ length K
   pub pairs : (n : ℕ) (c : Clause) (w : Watched) → At K n c → At t.pairs n w → (c ≡ [] → ⊥) → IsPair c w
@@ -96,8 +98,8 @@ pub record IsFound (K : List Clause) (P : List Literal) (t : Tending) : Type 0 w
   pub least : (n : ℕ) → t.least ≡ Some n → (n < length K) × ((c : Clause) → At K n c → is_false P c ≡ true)
   pub empties : (n : ℕ) → At K n [] → Reached t.least n
 
--- in a state of the trail from which a decision was made, each clause is held; Q is what such a state holds true, R the part of it that
--- was served
+-- in a state of the trail from which a decision was made, each clause is held; Q is what such a
+-- state holds true, R the part of it that was served
 abbrev pub AreWatchedIn : List Literal → List Literal → List Clause → List Watched → Type 0
 AreWatchedIn R Q K W = (n : ℕ) (c : Clause) (w : Watched) → At K n c → At W n w → (c ≡ [] → ⊥) × IsWatched K n R Q w
 
@@ -105,12 +107,13 @@ AreWatchedIn R Q K W = (n : ℕ) (c : Clause) (w : Watched) → At K n c → At 
 abbrev pub AllGood : List Clause → List Literal → List Literal → Tending → Type 0
 AllGood K S P t = (n : ℕ) (w : Watched) → At t.pairs n w → Good K S P t.units t.least w n
 
--- each clause is good where l was served too, but for those of a list from the place j on, which are good so far
+-- each clause is good where l was served too, but for those of a list from the place j on, which
+-- are good so far
 abbrev pub GoodBut : List Clause → List Literal → Literal → List Literal → Tending → List ℕ → ℕ → Type 0
 GoodBut K S l P t ns j = (n : ℕ) (w : Watched) → At t.pairs n w → Good K (S ++ l ∷ []) P t.units t.least w n ⊎ (StandsFrom j ns n × Good K S P t.units t.least w n)
 
--- all that holds between the visits of clauses, but for what was served; of each earlier state at most the first `floor` entries may be taken for
--- served
+-- all that holds between the visits of clauses, but for what was served; of each earlier state at
+-- most the first `floor` entries may be taken for served
 pub record Tends (floor : ℕ) (K : List Clause) (T : Trail) (t : Tending) : Type 0 where
   pub listed : IsListed K t
   pub exact : IsExact t.pairs t.lists
@@ -134,8 +137,8 @@ listed_at lists a n = slice_set lists (code a) (list_at lists a ++ n ∷ [])
 abbrev pub listed_both : List (List ℕ) → Watched → ℕ → List (List ℕ)
 listed_both lists w n = cond (same w.first w.second) (listed_at lists w.first n) (listed_at (listed_at lists w.first n) w.second n)
 
--- what holds between two visits of the walk that serves the entry at a place of the trail: g is the negation of its literal,
--- and the clauses before the place j of g's list were visited
+-- what holds between two visits of the walk that serves the entry at a place of the trail: g is the
+-- negation of its literal, and the clauses before the place j of g's list were visited
 pub record Walks (floor : ℕ) (K : List Clause) (T : Trail) (served : ℕ) (g : Literal) (t : Tending) (j : ℕ) : Type 0 where
   pub tends : Tends floor K T t
   pub good : GoodBut K (literals (take served T)) (negated g) (literals T) t (list_at t.lists g) j

@@ -20,7 +20,8 @@ use cnf::Lit;
 use std::alloc::{AllocError, Global};
 use trail::Trail;
 
-/// Two literals of a clause to be watched where no variable has a value: the first, and the first other one if there is one.
+/// Two literals of a clause to be watched where no variable has a value: the first, and the first
+/// other one if there is one.
 pub fn first_two(clause: &[Lit]) -> Option<Watched>
     ensures none { IfNone result (clause.now ≡ []) }
     ensures pair { IfSome result (λ w. IsPair clause.now w) }
@@ -57,7 +58,8 @@ fn free_literal(trail: &Trail, clause: &[Lit]) -> Option<Lit>
     None
 }
 
-/// Whether a literal other than `free` is to take the place of the latest one so far, which is `free` before the first.
+/// Whether a literal other than `free` is to take the place of the latest one so far, which is
+/// `free` before the first.
 fn is_later(trail: &Trail, free: Lit, latest: Lit, lit: Lit) -> bool
     requires latest { latest.var ≤ trail.now.vars }
     requires lit { lit.var ≤ trail.now.vars }
@@ -89,8 +91,9 @@ fn latest_literal(trail: &Trail, clause: &[Lit], free: Lit) -> Lit
     latest
 }
 
-/// The literals of a learnt clause to be watched: the free one, and one that became false at the greatest level. Going back frees the
-/// second no later than any other, so the clause is found each time that it becomes unit or false.
+/// The literals of a learnt clause to be watched: the free one, and one that became false at the
+/// greatest level. Going back frees the second no later than any other, so the clause is found each
+/// time that it becomes unit or false.
 pub fn learnt_watched(trail: &Trail, clause: &[Lit]) -> Option<Watched>
     requires { IsOver trail.now.vars clause.now }
     ensures pair { (l : Literal) → unit_literal (literals trail.now.entries) clause.now ≡ Some l → IfSome result (λ w. (w.first ≡ l) × IsPair clause.now w
@@ -117,8 +120,9 @@ impl Propagator {
         Ok(())
     }
 
-    /// Puts a clause at the end, in the lists of the literals that it is to watch. Where a request for memory is refused, the clauses
-    /// are as they were. There is room for 2^31 clauses; one more counts as a request that is refused.
+    /// Puts a clause at the end, in the lists of the literals that it is to watch. Where a request
+    /// for memory is refused, the clauses are as they were. There is room for 2^31 clauses; one
+    /// more counts as a request that is refused.
     pub fn attach(&mut self, clause: &[Lit], watched: Watched) -> Result<(), AllocError>
         requires first { code watched.first < length self.old.lists.items }
         requires second { code watched.second < length self.old.lists.items }
@@ -175,7 +179,8 @@ impl Propagator {
         Ok(())
     }
 
-    /// Puts a clause of the formula at the end, before anything is decided: it is watched, and noted where it is empty or of one literal.
+    /// Puts a clause of the formula at the end, before anything is decided: it is watched, and
+    /// noted where it is empty or of one literal.
     fn attach_first(&mut self, clause: &[Lit], singles: &mut Vec<u32>) -> Result<(), AllocError>
         requires lists { (V : ℕ) × IsOver V clause.now × (length self.old.lists.items ≡ 2 * V + 2) }
         ensures clauses { OnOk result (self.new.clauses.given ≡ self.old.clauses.given ++ clause.now ∷ []) }
@@ -197,8 +202,9 @@ impl Propagator {
         Ok(())
     }
 
-    /// Puts a learnt clause at the end: one of its literals is free, and the others are false. It waits as a unit from then on. Where a
-    /// request for memory is refused, the clauses are as they were.
+    /// Puts a learnt clause at the end: one of its literals is free, and the others are false. It
+    /// waits as a unit from then on. Where a request for memory is refused, the clauses are as they
+    /// were.
     pub fn attach_learnt(&mut self, trail: &Trail, clause: &[Lit]) -> Result<(), AllocError>
         requires over { IsOver trail.now.vars clause.now }
         requires learnable { IsLearnable trail.now.entries clause.now }
@@ -242,7 +248,8 @@ impl Propagator {
         Ok(())
     }
 
-    /// Attaches a clause of each of these literals, before anything is decided, and notes them as those of one literal.
+    /// Attaches a clause of each of these literals, before anything is decided, and notes them as
+    /// those of one literal.
     pub fn attach_units(&mut self, units: &[Lit], singles: &mut Vec<u32>) -> Result<(), AllocError>
         requires over { (V : ℕ) × IsOver V units.now × (length self.old.lists.items ≡ 2 * V + 2) }
         ensures clauses { OnOk result (self.new.clauses.given ≡ self.old.clauses.given ++ unit_clauses units.now) }
@@ -335,7 +342,8 @@ fn no_entries(alloc: Global, counts: &[u32]) -> Result<Vec<Vec<PackedWatch>>, Al
 }
 
 impl Propagator {
-    /// No clauses, with the room of those of a formula and of a clause of each of these literals. The counts go.
+    /// No clauses, with the room of those of a formula and of a clause of each of these literals.
+    /// The counts go.
     pub fn with_room(
         alloc: Global,
         room: Room,

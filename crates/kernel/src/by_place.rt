@@ -1,9 +1,10 @@
 //! Propagation that takes unit clauses by the place of their last false literal.
 //!
-//! Clauses that are found unit in the visits of lists are put in line before the next one is taken, each with its place as the trail then
-//! is. A place stays right while its clause is unit: what comes onto the trail later makes none of the clause's literals false but the
-//! one that it is unit in. So the line is in order whatever made a clause unit, also where several entries were served at once, as a
-//! cube's, and where a learnt clause became unit by an entry that was served before.
+//! Clauses that are found unit in the visits of lists are put in line before the next one is taken,
+//! each with its place as the trail then is. A place stays right while its clause is unit: what
+//! comes onto the trail later makes none of the clause's literals false but the one that it is unit
+//! in. So the line is in order whatever made a clause unit, also where several entries were served
+//! at once, as a cube's, and where a learnt clause became unit by an entry that was served before.
 ghost use Rattle.std.specs.Prelude.{◌≡◌, ◌+◌, ◌<◌, ◌≤◌, ◌*◌, ◌∷◌, [], ◌++◌, All, IfOk, OnOk, IfSome, IfNone, Some, None, length, ℕ, List};
 ghost use Rattle.std.specs.List.{Contains};
 ghost use Rattle.std.specs.List.Sorted.{IsPermutation};
@@ -31,9 +32,10 @@ use std::alloc::AllocError;
 use trail::{Entry, Trail};
 
 impl Propagator {
-    /// The place of a clause's last false literal. A clause is mostly found unit as the trail's last
-    /// entry is served, which made one of its watched literals false: then that entry's place is the
-    /// answer, and no other literal is looked at. They took a third of the time of some searches.
+    /// The place of a clause's last false literal. A clause is mostly found unit as the trail's
+    /// last entry is served, which made one of its watched literals false: then that entry's place
+    /// is the answer, and no other literal is looked at. They took a third of the time of some
+    /// searches.
     fn place_of(&self, trail: &Trail, clause: u32) -> usize
         requires over { All (IsOver trail.now.vars) self.now.clauses.given }
         requires within { clause < length self.now.clauses.given }
@@ -105,7 +107,8 @@ impl Propagator {
         None
     }
 
-    /// Propagation as `propagate` does it, but for the unit clause that goes first. Nothing is in line before it and behind it.
+    /// Propagation as `propagate` does it, but for the unit clause that goes first. Nothing is in
+    /// line before it and behind it.
     fn propagate_by_place(
         &mut self,
         trail: &mut Trail,

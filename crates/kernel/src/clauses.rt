@@ -1,5 +1,6 @@
-//! The clauses of a kernel, in the order of their numbers. Their literals lie in one list, so that looking at one clause after the
-//! other goes through memory from front to back. A clause that was forgotten keeps its number, and no literal.
+//! The clauses of a kernel, in the order of their numbers. Their literals lie in one list, so that
+//! looking at one clause after the other goes through memory from front to back. A clause that was
+//! forgotten keeps its number, and no literal.
 ghost use Rattle.std.specs.Prelude.{◌≡◌, ◌<◌, ◌≤◌, [], ◌∷◌, ◌++◌, length, take, sum_by, IfOk, OnOk, OnErr, slice_get, slice_set, Some, ℕ, List, false};
 ghost use Rattle.std.specs.List.Sorted.{IsPermutation};
 ghost use Rattle.theory.specs.Literals.{Clause};
@@ -23,8 +24,8 @@ use std::alloc::{AllocError, Global};
 use std::marker::Model;
 use trail::Trail;
 
-/// Clauses, which are named by their places, from 0 on. One that was forgotten is `1 -1`, and takes 8
-/// bytes.
+/// Clauses, which are named by their places, from 0 on. One that was forgotten is `1 -1`, and takes
+/// 8 bytes.
 #[derive(Drop)]
 pub struct Clauses {
     // the literals of the first clause, then those of the second and so on
@@ -140,8 +141,8 @@ impl Clauses {
         }
     }
 
-    /// Puts a clause at the end. Where a request for memory is refused, nothing has changed. An empty
-    /// clause counts as such a request once clauses were forgotten.
+    /// Puts a clause at the end. Where a request for memory is refused, nothing has changed. An
+    /// empty clause counts as such a request once clauses were forgotten.
     pub fn push(&mut self, clause: &[Lit]) -> Result<(), AllocError>
         ensures ok { OnOk result (self.new ≡ self.old ++ clause.now ∷ []) }
         ensures err { OnErr result (self.new ≡ self.old) }
@@ -193,7 +194,8 @@ impl Clauses {
         look_at(trail, &mut self.lits[start..end], gone, starts, index)
     }
 
-    /// Cuts off the clauses from a place on. It takes no memory, and leaves the room of the literals for the next ones.
+    /// Cuts off the clauses from a place on. It takes no memory, and leaves the room of the
+    /// literals for the next ones.
     pub fn truncate(&mut self, count: usize)
         requires { count ≤ length self.old }
         ensures { self.new ≡ take count self.old }
@@ -203,8 +205,8 @@ impl Clauses {
         self.ends.truncate(count);
     }
 
-    /// Puts `1 -1` in place of the clauses that are named, which are from `first` on; no clause from
-    /// there on is empty. The literals of the others move together, so that those of the next
+    /// Puts `1 -1` in place of the clauses that are named, which are from `first` on; no clause
+    /// from there on is empty. The literals of the others move together, so that those of the next
     /// clauses take the room. It takes no memory, and time by the literals of the clauses from
     /// `first` on.
     pub fn forget(&mut self, first: usize, named: &Named)

@@ -16,7 +16,8 @@ use crate::propagator::Propagator;
 use crate::watch::{PackedWatch, code};
 use std::alloc::AllocError;
 
-/// Takes the entries of clauses from `first` on out of a list; the answer is how many stay. Their order isn't kept.
+/// Takes the entries of clauses from `first` on out of a list; the answer is how many stay. Their
+/// order isn't kept.
 fn keep_below(list: &mut [PackedWatch], first: usize) -> usize
     ensures within { result ≤ length list.new }
     ensures kept { IsKeptBelow first list.old (take result list.new) }
@@ -35,7 +36,8 @@ fn keep_below(list: &mut [PackedWatch], first: usize) -> usize
 }
 
 impl Propagator {
-    /// Where the lists stand that have entries of clauses from `first` on, by rising number; some stand here twice.
+    /// Where the lists stand that have entries of clauses from `first` on, by rising number; some
+    /// stand here twice.
     fn lists_from(&self, first: usize) -> Result<Vec<usize>, AllocError>
         requires first { first ≤ length self.now.clauses.pairs }
         requires lists { (n : ℕ) (w : Watched) → first ≤ n → At self.now.clauses.pairs n w → (code w.first < length self.now.lists.items) × (code w.second < length self.now.lists.items) }
@@ -65,7 +67,8 @@ impl Propagator {
         list.truncate(end);
     }
 
-    /// Takes the entries of clauses from `first` on out of some lists. A list that is named twice in a row is gone through once.
+    /// Takes the entries of clauses from `first` on out of some lists. A list that is named twice
+    /// in a row is gone through once.
     fn drop_from(&mut self, codes: &[usize], first: usize)
         requires { All (λ n. n < length self.old.lists.items) codes.now }
         ensures kept { (self.new.clauses.given ≡ self.old.clauses.given) × (self.new.clauses.pairs ≡ self.old.clauses.pairs) × (self.new.units ≡ self.old.units) × (self.new.conflict ≡ self.old.conflict) }
@@ -82,9 +85,10 @@ impl Propagator {
         }
     }
 
-    /// Cuts the clauses from `first` on off, with their entries in the lists, and begins anew with those of one literal before it as
-    /// units, and with the first empty one. It takes time by the clauses cut off, by the lists that they were in, and by those of one
-    /// literal. Where a request for memory is refused, the clauses are as they were or cut.
+    /// Cuts the clauses from `first` on off, with their entries in the lists, and begins anew with
+    /// those of one literal before it as units, and with the first empty one. It takes time by the
+    /// clauses cut off, by the lists that they were in, and by those of one literal. Where a
+    /// request for memory is refused, the clauses are as they were or cut.
     pub fn cut(
         &mut self,
         first: usize,

@@ -36,9 +36,9 @@ impl Propagator {
     }
 
     /// Forgets the clauses of these numbers, which were learnt: `first` clauses were there from the
-    /// beginning, and none behind them is empty. No clause is false. It takes time by all entries of
-    /// lists and by the learnt clauses' literals. Where a request for memory is refused, the clauses
-    /// are as they were.
+    /// beginning, and none behind them is empty. No clause is false. It takes time by all entries
+    /// of lists and by the learnt clauses' literals. Where a request for memory is refused, the
+    /// clauses are as they were.
     pub fn forget(&mut self, first: usize, numbers: &[u64]) -> Result<(), AllocError>
         requires inside { first ≤ length self.old.clauses.given }
         requires learnt { All (λ n. (first < n) × (n ≤ length self.old.clauses.given)) numbers.now }

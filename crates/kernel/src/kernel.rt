@@ -27,9 +27,9 @@ use std::alloc::{AllocError, Global};
 use std::marker::Model;
 use trail::{Cube, Entry, Trail};
 
-/// The clauses and the trail of the search in one cube, or in one cube after the other. Once a call has met want of memory, `close`,
-/// `learn`, `forget` and `restart` answer it from then on, `decide` and `back_to` change nothing, and the other calls answer of the trail
-/// as it stands.
+/// The clauses and the trail of the search in one cube, or in one cube after the other. Once a call
+/// has met want of memory, `close`, `learn`, `forget` and `restart` answer it from then on,
+/// `decide` and `back_to` change nothing, and the other calls answer of the trail as it stands.
 pub struct Kernel {
     // the clauses, and their watches
     propagator: Propagator,
@@ -37,16 +37,19 @@ pub struct Kernel {
     order: Order,
     // those that wait by place, while propagation goes on; empty between two calls
     line: Line,
-    // how many of the clauses were there from the beginning: the formula's, and the units behind them; the others were learnt
+    // how many of the clauses were there from the beginning: the formula's, and the units behind
+    // them; the others were learnt
     first: usize,
     // those of one literal among them, which wait as units when a cube begins
     singles: Vec<u32>,
     // the first empty one among them
     empty: Option<u32>,
     trail: Trail,
-    // how many entries of the trail were served: the clauses that watch the negation of their literal were visited
+    // how many entries of the trail were served: the clauses that watch the negation of their
+    // literal were visited
     served: usize,
-    // how many entries of an earlier level's trail count as served at most; no bound unless a decision was made before all were
+    // how many entries of an earlier level's trail count as served at most; no bound unless a
+    // decision was made before all were
     floor: usize,
     // whether a call has met want of memory
     short: bool,
@@ -116,7 +119,8 @@ fn put_cube(trail: &mut Trail, lits: &[Lit])
     }
 }
 
-/// How many entries of the earlier levels count as served at most, once a decision was made: no fewer than before, where all were.
+/// How many entries of the earlier levels count as served at most, once a decision was made: no
+/// fewer than before, where all were.
 fn floor_of(floor: usize, served: usize, entries: usize) -> usize
     ensures { ((entries ≤ served) × (result ≡ floor)) ⊎ ((result ≤ served) × (result ≤ floor)) }
 {
@@ -128,8 +132,9 @@ fn floor_of(floor: usize, served: usize, entries: usize) -> usize
 }
 
 impl Kernel {
-    /// The kernel of a formula and a cube: the formula's clauses, and the cube's literals on the trail at level 0. It takes time by the
-    /// literals, and memory for them and for one entry of each variable; it fails where that is refused.
+    /// The kernel of a formula and a cube: the formula's clauses, and the cube's literals on the
+    /// trail at level 0. It takes time by the literals, and memory for them and for one entry of
+    /// each variable; it fails where that is refused.
     pub fn open(alloc: Global, formula: &Formula, cube: &Cube) -> Result<Kernel, AllocError>
         requires { IsOver formula.now.vars cube.now }
         ensures opened { IfOk result (λ k. k ≡ record {
@@ -148,8 +153,9 @@ impl Kernel {
         Ok(kernel)
     }
 
-    /// As `open`, with a clause of one literal for each of the units behind the formula's clauses. These are of distinct variables. Their
-    /// clauses stay for each cube, as the formula's do. It takes time and memory for them too, and fails where memory is refused.
+    /// As `open`, with a clause of one literal for each of the units behind the formula's clauses.
+    /// These are of distinct variables. Their clauses stay for each cube, as the formula's do. It
+    /// takes time and memory for them too, and fails where memory is refused.
     pub fn open_with(
         alloc: Global,
         formula: &Formula,
@@ -221,10 +227,11 @@ impl Kernel {
         })
     }
 
-    /// Goes over to another cube of the same formula: takes all entries off the trail, cuts the learnt clauses off, and puts the cube's
-    /// literals on the trail at level 0, as if the kernel were opened anew. It takes time by what the last cube put on the trail and
-    /// learnt, and by the cube's literals, and none by the formula. It fails where an earlier call has met want of memory, or where a
-    /// request for memory is refused, and from then on.
+    /// Goes over to another cube of the same formula: takes all entries off the trail, cuts the
+    /// learnt clauses off, and puts the cube's literals on the trail at level 0, as if the kernel
+    /// were opened anew. It takes time by what the last cube put on the trail and learnt, and by
+    /// the cube's literals, and none by the formula. It fails where an earlier call has met want of
+    /// memory, or where a request for memory is refused, and from then on.
     pub fn restart(&mut self, cube: &Cube) -> Result<(), AllocError>
         requires { self.old.short ≡ false → IsOver self.old.vars cube.now }
         ensures ok { OnOk result (self.new ≡ record self.old {
@@ -254,10 +261,12 @@ impl Kernel {
         Ok(())
     }
 
-    /// Propagation: while no clause is false, the unit clause that goes first in the kernel's order puts its literal on the trail, with
-    /// its number as reason, at the current level. The answer is the false clause of least number, or `Quiet` where none is false or unit. It
-    /// takes time by the clauses that watch a literal which became false. It fails where a request for memory is refused, and from then
-    /// on; the trail then ends on the way: what propagation leads to from it, it leads to from the trail before.
+    /// Propagation: while no clause is false, the unit clause that goes first in the kernel's order
+    /// puts its literal on the trail, with its number as reason, at the current level. The answer
+    /// is the false clause of least number, or `Quiet` where none is false or unit. It takes time
+    /// by the clauses that watch a literal which became false. It fails where a request for memory
+    /// is refused, and from then on; the trail then ends on the way: what propagation leads to from
+    /// it, it leads to from the trail before.
     pub fn close(&mut self) -> Result<Closed, AllocError>
         ensures ok { IfOk result (λ a. Propagates (rule_of self.old.order) self.old.clauses self.old.trail (closed_of a) self.new.trail) }
         ensures kept { (self.new.vars ≡ self.old.vars) × (self.new.clauses ≡ self.old.clauses) × (self.new.first ≡ self.old.first)
@@ -290,7 +299,8 @@ impl Kernel {
         }
     }
 
-    /// Makes a free literal true at the next level, without a reason, after propagation came to rest. It takes no memory.
+    /// Makes a free literal true at the next level, without a reason, after propagation came to
+    /// rest. It takes no memory.
     pub fn decide(&mut self, lit: Lit)
         requires { self.old.short ≡ false →
             IsVariable self.old.vars lit.var × (has_var (literals self.old.trail) lit.var ≡ false)
@@ -313,7 +323,8 @@ impl Kernel {
         self.counts.add_decision();
     }
 
-    /// Takes the entries above a level off, which is below the current one. It takes no memory, and time by the entries taken off.
+    /// Takes the entries above a level off, which is below the current one. It takes no memory, and
+    /// time by the entries taken off.
     pub fn back_to(&mut self, level: u32)
         requires { self.old.short ≡ false → level < current_level self.old.trail }
         ensures { self.new ≡
@@ -327,9 +338,10 @@ impl Kernel {
         self.served = self.floor.min(self.trail.entries().len());
     }
 
-    /// Puts a clause behind the others, and answers its number. Its variables are distinct and of the formula; one of its literals is
-    /// free and the others are false, one of these at the current level unless that is 0. It fails where a request for memory is
-    /// refused, and from then on; the clauses and the trail are then as they were.
+    /// Puts a clause behind the others, and answers its number. Its variables are distinct and of
+    /// the formula; one of its literals is free and the others are false, one of these at the
+    /// current level unless that is 0. It fails where a request for memory is refused, and from
+    /// then on; the clauses and the trail are then as they were.
     pub fn learn(&mut self, clause: &[Lit]) -> Result<u64, AllocError>
         requires { self.old.short ≡ false → IsOver self.old.vars clause.now × IsLearnable self.old.trail clause.now }
         ensures ok { IfOk result (λ n. n ≡ length self.old.clauses + 1) }
@@ -386,7 +398,8 @@ impl Kernel {
         }
     }
 
-    /// The truth value of a variable, in one step: none while it is free, and none for a number that is no variable.
+    /// The truth value of a variable, in one step: none while it is free, and none for a number
+    /// that is no variable.
     pub fn value(&self, var: u32) -> Option<bool>
         ensures { result ≡ option_map (λ e. e.lit.positive) (entry_of self.now.trail var) }
     {
@@ -397,7 +410,8 @@ impl Kernel {
         }
     }
 
-    /// The entry of a variable, in one step: none while it is free, and none for a number that is no variable.
+    /// The entry of a variable, in one step: none while it is free, and none for a number that is
+    /// no variable.
     pub fn entry(&self, var: u32) -> Option<Entry>
         ensures { result ≡ entry_of self.now.trail var }
     {
@@ -408,8 +422,8 @@ impl Kernel {
         }
     }
 
-    /// The place of a variable's entry on the trail, counted from 0, in one step: none while it is free, and none for a number that is
-    /// no variable.
+    /// The place of a variable's entry on the trail, counted from 0, in one step: none while it is
+    /// free, and none for a number that is no variable.
     pub fn place(&self, var: u32) -> Option<usize>
         ensures found { IfSome result (λ p. slice_get self.now.trail p ≡ entry_of self.now.trail var) }
         ensures inside { IfSome result (λ p. p < length self.now.trail) }

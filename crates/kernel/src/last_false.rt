@@ -24,7 +24,8 @@ fn false_place(trail: &Trail, lit: Lit) -> usize
     }
 }
 
-/// The place of a clause's last false literal on the trail, counted from 1, and 0 where none is false.
+/// The place of a clause's last false literal on the trail, counted from 1, and 0 where none is
+/// false.
 pub fn last_place(trail: &Trail, clause: &[Lit]) -> usize
     requires { IsOver trail.now.vars clause.now }
     ensures { result ≡ last_false trail.now.entries clause.now }

@@ -23,10 +23,10 @@ pub struct Waiting {
 }
 
 /// Clauses that wait, of which the one of least place goes first, and of several the one of least
-/// number. One that goes behind those of the queue goes to its end, the others go into a heap. Clauses
-/// that one entry of the trail made unit come with its place, which is the greatest so far, and by
-/// rising number, so the heap is touched only where several entries were served at once. With a heap
-/// alone a quarter of the time of some searches went into it.
+/// number. One that goes behind those of the queue goes to its end, the others go into a heap.
+/// Clauses that one entry of the trail made unit come with its place, which is the greatest so far,
+/// and by rising number, so the heap is touched only where several entries were served at once.
+/// With a heap alone a quarter of the time of some searches went into it.
 #[derive(Drop)]
 pub struct Line {
     queue: WaitingQueue,

@@ -5,6 +5,7 @@
 pub enum Order {
     /// The one of least number first.
     ByNumber,
-    /// The one first whose last false literal stands first on the trail, and of several the one of least number.
+    /// The one first whose last false literal stands first on the trail, and of several the one of
+    /// least number.
     ByPlace,
 }

@@ -1,8 +1,10 @@
-//! Clauses under two watched literals, and the visits of those that watch a literal which became false.
+//! Clauses under two watched literals, and the visits of those that watch a literal which became
+//! false.
 //!
-//! A clause can become false or unit only when one of its two watched literals becomes false, so only the clauses in that literal's list are
-//! visited: each finds another literal to watch, or is satisfied, or is unit, or is false. Going back to an earlier level changes nothing
-//! here. Source: Moskewicz et al., 'Chaff' (DAC 2001).
+//! A clause can become false or unit only when one of its two watched literals becomes false, so
+//! only the clauses in that literal's list are visited: each finds another literal to watch, or is
+//! satisfied, or is unit, or is false. Going back to an earlier level changes nothing here. Source:
+//! Moskewicz et al., 'Chaff' (DAC 2001).
 ghost use Rattle.std.specs.Prelude.{◌^◌, ◌≡◌, ◌+◌, ◌<◌, ◌≤◌, ◌*◌, ◌∷◌, [], ◌++◌, All, IfOk, OnOk, IfSome, IfNone, Some, None, length, map, Bool, true, false, slice_set, slice_get, min, take, ℕ, List};
 ghost use Rattle.std.specs.List.Sorted.{IsPermutation};
 ghost use Rattle.theory.specs.Literals.{Literal, same, has, negated};
@@ -30,12 +32,14 @@ use std::alloc::{AllocError, Global};
 use std::mem;
 use trail::{Entry, Trail, Truth};
 
-/// Clauses with their watches, and what was found of them. Clauses are named by their places, from 0 on.
+/// Clauses with their watches, and what was found of them. Clauses are named by their places, from
+/// 0 on.
 #[derive(Drop)]
 pub struct Propagator {
     pub clauses: Store,
-    /// By literal: the clauses that watch it. They are made with the room that the formula's clauses take, so that opening never moves
-    /// one; each visit of a list takes it out and puts it back, so it is a small value.
+    /// By literal: the clauses that watch it. They are made with the room that the formula's
+    /// clauses take, so that opening never moves one; each visit of a list takes it out and puts it
+    /// back, so it is a small value.
     pub lists: Vec<Vec<PackedWatch>>,
     /// The clauses that were found unit.
     pub units: Units,
@@ -67,7 +71,8 @@ pub fn chosen(trail: &Trail, watched: Watched) -> Lit
 }
 
 impl Propagator {
-    /// Notes a clause all of whose literals but one are false: it is unit where that has no value, and else false.
+    /// Notes a clause all of whose literals but one are false: it is unit where that has no value,
+    /// and else false.
     fn note(&mut self, clause: u32, status: Truth) -> Result<(), AllocError>
         ensures unit { OnOk result (value_of status ≡ None → IsPermutation (clause ∷ self.old.units) self.new.units × (self.new.conflict ≡ self.old.conflict)) }
         ensures clashes { OnOk result ((b : Bool) → value_of status ≡ Some b → (self.new.units ≡ self.old.units) × (self.new.conflict ≡ Some (lesser self.old.conflict clause))) }
@@ -119,9 +124,10 @@ impl Propagator {
         }
     }
 
-    /// Visits a clause in the list of a literal that became false. The answer is the entry's blocker from now on, or none where the entry
-    /// leaves the list, since another literal is watched. Behind the least false clause nothing is looked for, since only an earlier one
-    /// can be the answer, and the literal is taken back before the next propagation.
+    /// Visits a clause in the list of a literal that became false. The answer is the entry's
+    /// blocker from now on, or none where the entry leaves the list, since another literal is
+    /// watched. Behind the least false clause nothing is looked for, since only an earlier one can
+    /// be the answer, and the literal is taken back before the next propagation.
     fn visit(&mut self, trail: &Trail, gone: Lit, watch: Watch) -> Result<Option<Lit>, AllocError>
         requires small { watch.clause < 2 ^ 31 }
         requires visit { CanVisit self.old.clauses.given (literals trail.now.entries) gone watch (kept_of self.old) }
@@ -146,9 +152,10 @@ impl Propagator {
         self.look(trail, gone, watch)
     }
 
-    /// Visits each clause that watches a literal which became false, in a list that was taken out. Entries leave it by the last one
-    /// taking their place, so that those that stay are written to only for a new blocker. The answer is how many entries stay. Other
-    /// clauses may wait elsewhere, also in the next two.
+    /// Visits each clause that watches a literal which became false, in a list that was taken out.
+    /// Entries leave it by the last one taking their place, so that those that stay are written to
+    /// only for a new blocker. The answer is how many entries stay. Other clauses may wait
+    /// elsewhere, also in the next two.
     fn visit_all(
         &mut self,
         trail: &Trail,
@@ -251,8 +258,9 @@ impl Propagator {
         None
     }
 
-    /// Propagation from a trail of which the entries before `served` were served: puts the literals of unit clauses on the trail, the
-    /// clause of least number first, until a clause is false or none is unit.
+    /// Propagation from a trail of which the entries before `served` were served: puts the literals
+    /// of unit clauses on the trail, the clause of least number first, until a clause is false or
+    /// none is unit.
     pub fn propagate(&mut self, trail: &mut Trail, served: usize) -> Result<Closed, AllocError>
         requires inside { served ≤ length trail.old.entries }
         requires entries { AreEntries self.old.clauses.given (kept_of self.old) }

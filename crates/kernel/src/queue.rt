@@ -7,7 +7,8 @@ use crate::named::Named;
 use std::alloc::{AllocError, Global};
 use std::marker::Model;
 
-/// Numbers by rising size. It begins anew at the front of its memory each time that it becomes empty.
+/// Numbers by rising size. It begins anew at the front of its memory each time that it becomes
+/// empty.
 #[derive(Drop)]
 pub struct Queue {
     items: Vec<u32>,

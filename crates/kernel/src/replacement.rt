@@ -1,8 +1,10 @@
 //! Another literal for a clause to watch, in place of one that became false.
 //!
-//! A clause of many literals that become false one after the other would be gone through from its front each time, and so take the square of its length.
-//! So a long clause is gone through from where a literal was found last, and then from its front. Source: Gent, 'Optimal Implementation of Watched
-//! Literals and More General Techniques' (JAIR 2013). On one clause of 262,143 literals it is the difference between a second and a minute.
+//! A clause of many literals that become false one after the other would be gone through from its
+//! front each time, and so take the square of its length. So a long clause is gone through from
+//! where a literal was found last, and then from its front. Source: Gent, 'Optimal Implementation
+//! of Watched Literals and More General Techniques' (JAIR 2013). On one clause of 262,143 literals
+//! it is the difference between a second and a minute.
 ghost use Rattle.std.specs.Prelude.{◌≡◌, ◌<◌, ◌≤◌, ◌⊎◌, true, false, IfSome, IfNone, length, slice_index_or};
 ghost use Rattle.theory.specs.Literals.{same, has, negated};
 ghost use Rattle.theory.specs.Truth.{IsOver};
@@ -26,7 +28,8 @@ pub struct Starts {
 }
 
 impl Starts {
-    /// The front of each of so many clauses. Clauses behind these, which are learnt, have no place of their own.
+    /// The front of each of so many clauses. Clauses behind these, which are learnt, have no place
+    /// of their own.
     pub fn with_room(alloc: Global, count: usize) -> Result<Starts, AllocError> {
         Ok(Starts {
             places: vec![in alloc; 0; count]?,

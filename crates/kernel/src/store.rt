@@ -131,9 +131,9 @@ impl Store {
         self.arranged.truncate(count);
     }
 
-    /// Puts `1 -1` in place of the clauses that are named, which are from `first` on; no clause from
-    /// there on is empty. It takes no memory, and time by the literals of the clauses from `first`
-    /// on.
+    /// Puts `1 -1` in place of the clauses that are named, which are from `first` on; no clause
+    /// from there on is empty. It takes no memory, and time by the literals of the clauses from
+    /// `first` on.
     pub fn forget(&mut self, first: usize, named: &Named)
         requires within { first ≤ length self.old.given }
         requires learnt { (n : ℕ) → n < first → names named.now n ≡ false }

@@ -13,9 +13,10 @@ use std::cmp::Reverse;
 use std::collections::BinaryHeap;
 use std::marker::Model;
 
-/// Places of clauses, each as often as it was put in. One that is no less than those of the queue goes to its end, the others go into a
-/// heap. So the heap is touched only where a smaller one comes while others wait; the clauses of one literal, which come by rising number
-/// when a cube begins, take one step each.
+/// Places of clauses, each as often as it was put in. One that is no less than those of the queue
+/// goes to its end, the others go into a heap. So the heap is touched only where a smaller one
+/// comes while others wait; the clauses of one literal, which come by rising number when a cube
+/// begins, take one step each.
 #[derive(Drop)]
 pub struct Units {
     queue: Queue,
@@ -61,7 +62,8 @@ fn take_least(heap: &mut BinaryHeap<Reverse<u32>>) -> Option<u32>
 }
 
 impl Units {
-    /// No numbers, with room for so many that come by rising size. It fails where a request for memory is refused.
+    /// No numbers, with room for so many that come by rising size. It fails where a request for
+    /// memory is refused.
     pub fn with_room(alloc: Global, count: usize) -> Result<Units, AllocError>
         ensures { IfOk result (λ u. u ≡ []) }
     {

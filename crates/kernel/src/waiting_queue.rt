@@ -7,8 +7,8 @@ use crate::line::Waiting;
 use std::alloc::{AllocError, Global};
 use std::marker::Model;
 
-/// Clauses that wait, each behind those that go before it. It begins anew at the front of its memory
-/// each time that it becomes empty.
+/// Clauses that wait, each behind those that go before it. It begins anew at the front of its
+/// memory each time that it becomes empty.
 #[derive(Drop)]
 pub struct WaitingQueue {
     items: Vec<Waiting>,

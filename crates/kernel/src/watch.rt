@@ -6,17 +6,19 @@ ghost use Rattle.kernel.specs.Watching.{code};
 use cnf::Lit;
 use std::marker::Model;
 
-/// The two watched literals of a clause. They are one only where the clause has no other literal; those of an empty clause mean nothing.
+/// The two watched literals of a clause. They are one only where the clause has no other literal;
+/// those of an empty clause mean nothing.
 #[derive(Clone, Copy)]
 pub struct Watched {
     pub first: Lit,
     pub second: Lit,
 }
 
-/// An entry of a literal's list: a clause that watches it. Where the blocker, some other literal of the clause, is true, the clause need
-/// not be looked at; most visits end there, without a look at the clause's own memory. Of a clause of at most two literals the blocker is
-/// the literal that is left, so it is never looked at.
-/// Source: blocking literals as in MiniSat 2.2, and special watches of binary clauses as in CaDiCaL.
+/// An entry of a literal's list: a clause that watches it. Where the blocker, some other literal of
+/// the clause, is true, the clause need not be looked at; most visits end there, without a look at
+/// the clause's own memory. Of a clause of at most two literals the blocker is the literal that is
+/// left, so it is never looked at. Source: blocking literals as in MiniSat 2.2, and special watches
+/// of binary clauses as in CaDiCaL.
 #[derive(Clone, Copy)]
 pub struct Watch {
     /// The place of the clause.
@@ -37,8 +39,8 @@ pub fn code(lit: Lit) -> usize
 /// So many clauses can be watched.
 pub const MOST_CLAUSES: usize = 1 << 31;
 
-/// An entry as the lists keep it, in 8 bytes: propagation goes through the lists more than through all
-/// else, and in 12 bytes fewer of them stay in the caches.
+/// An entry as the lists keep it, in 8 bytes: propagation goes through the lists more than through
+/// all else, and in 12 bytes fewer of them stay in the caches.
 #[derive(Clone, Copy)]
 pub struct PackedWatch {
     // twice the place of the clause, and one more where it has at most two literals

@@ -1,4 +1,5 @@
-//! Runs of the kernel that tests make: each step asks for what the kernel's contracts want, and tells whether it could be done.
+//! Runs of the kernel that tests make: each step asks for what the kernel's contracts want, and
+//! tells whether it could be done.
 ghost use Rattle.std.specs.Prelude.{◌≡◌, true, false, IfSome, Some};
 ghost use Rattle.theory.specs.Literals.{IsVariable, has_var, negated, same};
 ghost use Rattle.theory.specs.Trails.{literals, entry_of};
@@ -228,11 +229,13 @@ pub fn acts(alloc: Global, kernel: &mut Kernel, act: Act) -> Result<bool, AllocE
     }
 }
 
-/// An act, what propagation then answers, and the entries that it leaves: number, reason or 0, level.
+/// An act, what propagation then answers, and the entries that it leaves: number, reason or 0,
+/// level.
 #[derive(Clone, Copy)]
 pub struct Row<'a>(pub Act<'a>, pub Closed, pub &'a [(i32, u64, u32)]);
 
-/// A formula, the cube or the units that a kernel is opened with, and rows that it is to go through.
+/// A formula, the cube or the units that a kernel is opened with, and rows that it is to go
+/// through.
 #[derive(Clone, Copy)]
 pub struct Case<'a> {
     pub name: &'a str,

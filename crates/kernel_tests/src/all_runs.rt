@@ -1,8 +1,9 @@
-//! All lawful runs of at most six operations over small formulas: after each operation the kernel answers what a scan of all clauses does,
-//! with the same trail.
+//! All lawful runs of at most six operations over small formulas: after each operation the kernel
+//! answers what a scan of all clauses does, with the same trail.
 //!
-//! The runs are gone through like the words of a dictionary. A kernel can't be copied, so each run is replayed from its first operation;
-//! operations that aren't lawful where a run stands change nothing, and are passed over on the same kernel.
+//! The runs are gone through like the words of a dictionary. A kernel can't be copied, so each run
+//! is replayed from its first operation; operations that aren't lawful where a run stands change
+//! nothing, and are passed over on the same kernel.
 use crate::acts::{are_same, back_to, decide, learn_pair, learn_turned_pair, learn_unit, lits_of};
 use crate::scan::Scan;
 use crate::visits::thousand;
@@ -87,7 +88,8 @@ impl Twins {
         })
     }
 
-    /// Works on a cube, up to a clause that is learnt where a conflict comes, and goes over to the whole formula.
+    /// Works on a cube, up to a clause that is learnt where a conflict comes, and goes over to the
+    /// whole formula.
     fn use_for(&mut self, alloc: Global, numbers: &[i32]) -> Result<(), AllocError> {
         let cube = cube_of(alloc, self.kernel.vars(), numbers)?;
         self.kernel.restart(&cube)?;
@@ -189,7 +191,8 @@ impl Twins {
     }
 }
 
-/// What a run begins from: a formula, and units behind it. Where the kernel was used for another cube before, that leaves no trace.
+/// What a run begins from: a formula, and units behind it. Where the kernel was used for another
+/// cube before, that leaves no trace.
 #[derive(Clone, Copy)]
 struct Start<'a> {
     formula: &'a Formula,
@@ -213,7 +216,8 @@ const LONGEST: usize = 6;
 // more than the runs of any formula here
 const MOST: u32 = 1_000_000;
 
-/// The operations of a run so far, by their places, and the place from which on the next one is looked for.
+/// The operations of a run so far, by their places, and the place from which on the next one is
+/// looked for.
 #[derive(Drop)]
 struct Run {
     places: Vec<usize>,
@@ -221,7 +225,8 @@ struct Run {
 }
 
 impl Run {
-    /// Goes over to the next run, behind the operation that came next in this one, if there was one. Whether there is a next run.
+    /// Goes over to the next run, behind the operation that came next in this one, if there was
+    /// one. Whether there is a next run.
     fn go_on(&mut self, found: Option<usize>) -> Result<bool, AllocError> {
         match found {
             Some(place) if self.places.len() + 1 < LONGEST => {
@@ -238,7 +243,8 @@ impl Run {
     }
 }
 
-/// Goes through a run, and does the operation that comes next: its place, if there is one, and whether the kernel and the scan agree.
+/// Goes through a run, and does the operation that comes next: its place, if there is one, and
+/// whether the kernel and the scan agree.
 fn replay(
     twins: &mut Twins,
     alloc: Global,

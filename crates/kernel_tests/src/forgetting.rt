@@ -1,4 +1,5 @@
-//! Forgetting learnt clauses, where the kernel's contract allows it, and what propagation then answers.
+//! Forgetting learnt clauses, where the kernel's contract allows it, and what propagation then
+//! answers.
 ghost use Rattle.std.specs.Prelude.{◌≡◌, ◌<◌, ◌≤◌, true, false, None, All, length};
 ghost use Rattle.theory.specs.Literals.{has, negated};
 ghost use Rattle.theory.specs.Status.{is_false};
@@ -100,7 +101,8 @@ pub fn forget(kernel: &mut Kernel, numbers: &[u64]) -> Result<bool, AllocError> 
 }
 
 static CASES: [Case; 2] = [
-    // A learnt clause propagates until it is forgotten; the next one has the next number, and another cube begins with none.
+    // A learnt clause propagates until it is forgotten; the next one has the next number, and
+    // another cube begins with none.
     Case {
         name: "a clause that is forgotten",
         text: b"p cnf 4 1\n1 2 3 4 0\n",

@@ -5,7 +5,8 @@ use samples::{cube_of, reads};
 use std::alloc::{AllocError, Global};
 use std::test::Fail;
 
-/// What look-ups answer after propagation came to rest: the level, the least free variable, and the values of the numbers from 0 on.
+/// What look-ups answer after propagation came to rest: the level, the least free variable, and the
+/// values of the numbers from 0 on.
 #[derive(Clone, Copy)]
 struct Seen<'a> {
     act: Act<'a>,
@@ -14,7 +15,8 @@ struct Seen<'a> {
     values: &'a [Option<bool>],
 }
 
-/// Whether the variables have these values and, where they have one, an entry of that sign, in its place.
+/// Whether the variables have these values and, where they have one, an entry of that sign, in its
+/// place.
 fn has_values(kernel: &Kernel, wanted: &[Option<bool>]) -> bool {
     let mut var = 0u32;
     for value in wanted {
@@ -58,7 +60,8 @@ fn first_failed(alloc: Global, kernel: &mut Kernel, rows: &[Seen]) -> Result<Opt
     Ok(None)
 }
 
-/// The place of the first row that a kernel which is opened at the root doesn't see, if there is one.
+/// The place of the first row that a kernel which is opened at the root doesn't see, if there is
+/// one.
 fn failed_row(alloc: Global, text: &[u8], rows: &[Seen]) -> Result<Option<usize>, Fail> {
     let mut kernel = opened(alloc, text, &[])?;
     first_failed(alloc, &mut kernel, rows)
@@ -132,7 +135,8 @@ fn looks_up_and_goes_back(rt: HostRuntime) -> Result<(), Fail> {
     Ok(())
 }
 
-/// Decides the least free variable, false, while there is one. The level that this comes to, if it is as it is to be.
+/// Decides the least free variable, false, while there is one. The level that this comes to, if it
+/// is as it is to be.
 fn decide_all(kernel: &mut Kernel) -> Result<Option<u32>, Fail> {
     for var in 1..=kernel.vars() {
         if kernel.least_free() != Some(var) || !decide_least(kernel)? {

@@ -5,7 +5,8 @@ use samples::FOUR;
 use std::test::Fail;
 
 static CASES: [Case; 2] = [
-    // The search of the root, a decision, a conflict, and a clause learnt as the fifth; the two halves; and the root again.
+    // The search of the root, a decision, a conflict, and a clause learnt as the fifth; the two
+    // halves; and the root again.
     Case {
         name: "from cube to cube",
         text: FOUR,

@@ -1,4 +1,5 @@
-//! Runs over many small formulas: after each operation the kernel answers what a scan of all clauses does, with the same trail.
+//! Runs over many small formulas: after each operation the kernel answers what a scan of all
+//! clauses does, with the same trail.
 ghost use Rattle.std.specs.Prelude.{IfOk};
 ghost use Rattle.theory.specs.Truth.{IsOver};
 
@@ -19,7 +20,8 @@ struct Twins {
     scan: Scan,
 }
 
-/// The negation of the last entry's literal, which is false at the current level; 0 where there is no entry.
+/// The negation of the last entry's literal, which is false at the current level; 0 where there is
+/// no entry.
 fn last_negated(kernel: &Kernel) -> i32 {
     match kernel.trail().last() {
         Some(entry) => {

@@ -125,7 +125,8 @@ impl Scan {
         None
     }
 
-    /// The place of the clause's last false literal on the trail, counted from 1; 0 where none is false.
+    /// The place of the clause's last false literal on the trail, counted from 1; 0 where none is
+    /// false.
     fn last_false(&self, clause: &[Lit]) -> u64 {
         let mut last = 0;
         let mut place = 0u64;
@@ -168,7 +169,8 @@ impl Scan {
         }
     }
 
-    /// Each step gives one of the variables a value, so there are at most `vars` steps, and a last one that finds nothing.
+    /// Each step gives one of the variables a value, so there are at most `vars` steps, and a last
+    /// one that finds nothing.
     pub fn close(&mut self, vars: u32) -> Result<Closed, AllocError> {
         for _ in 0..=vars {
             if let Some(number) = self.least_false() {

@@ -4,8 +4,8 @@ use kernel::Closed;
 use std::test::Fail;
 
 static CASES: [Case; 6] = [
-    // A unit has the number behind the last clause, and a learnt clause the next one. Variable 2 is at level 0, so a decision has one level
-    // less than without the unit.
+    // A unit has the number behind the last clause, and a learnt clause the next one. Variable 2 is
+    // at level 0, so a decision has one level less than without the unit.
     Case {
         name: "a level less",
         text: b"p cnf 4 2\n1 3 4 0\n1 3 -4 0\n",
@@ -64,7 +64,8 @@ static CASES: [Case; 6] = [
             Row(Act::Restart(&[]), Closed::Quiet, &[(-3, 5, 0)]),
         ],
     },
-    // Units are numbered in the order in which they are given, and wait together with the formula's clauses of one literal.
+    // Units are numbered in the order in which they are given, and wait together with the formula's
+    // clauses of one literal.
     Case {
         name: "units in their order",
         text: b"p cnf 4 2\n1 2 3 0\n4 4 0\n",

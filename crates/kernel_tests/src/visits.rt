@@ -23,7 +23,8 @@ fn visits_after(kernel: &mut Kernel, number: i32) -> Result<Option<u64>, AllocEr
     Ok(Some(kernel.visits().saturating_sub(before)))
 }
 
-/// The visits before a decision, those after it and after another one, and the clause that gave variable 3 its value.
+/// The visits before a decision, those after it and after another one, and the clause that gave
+/// variable 3 its value.
 type Visits = (u64, Option<u64>, Option<u64>, Option<u64>);
 
 fn visits(kernel: &mut Kernel) -> Result<Visits, Fail> {

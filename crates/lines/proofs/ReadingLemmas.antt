@@ -7,7 +7,8 @@ use Rattle.theory.specs.Learning.{Line}
 use Rattle.lines.specs.Rows.{Part, whole, with_bits, with_number, with_byte, with_bytes, row, IsBetween, IsWhole, literal_at, code_behind, hint_behind, clause_part, hints_part}
 use Rattle.lines.proofs.RowLemmas.{between-again}
 
--- of the number that begins at a place the bytes before the end have this value, and more are to come
+-- of the number that begins at a place the bytes before the end have this value, and more are to
+-- come
 abbrev pub HasRead : List ℕ → ℕ → ℕ → ℕ → Type 0
 HasRead bytes at end value = (p : Part) → IsBetween p → with_bytes p (drop at bytes) ≡ with_bytes (record p { value = value; begun = nat_lt at end }) (drop end bytes)
 

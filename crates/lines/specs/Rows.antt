@@ -1,11 +1,12 @@
--- What the bytes of a row say: lines, one behind the other. A line is the numbers of its clause and a 0, then those of its hints and a 0.
--- Source: numbers of seven bits a byte, as in the binary form of DRAT proofs (Wetzler, Heule, Hunt, SAT 2014), here with the highest bits first.
+-- What the bytes of a row say: lines, one behind the other. A line is the numbers of its clause and
+-- a 0, then those of its hints and a 0. Source: numbers of seven bits a byte, as in the binary form
+-- of DRAT proofs (Wetzler, Heule, Hunt, SAT 2014), here with the highest bits first.
 use Rattle.std.specs.Prelude.{◌≡◌, ℕ, ◌+◌, ◌-◌, ◌*◌, ◌/◌, ◌%◌, ◌^◌, ◌≤◌, max, length, take, Bool, true, false, nat_eq, nat_lt, List, [], ◌∷◌, ◌++◌, All, if◌then◌else◌}
 use Rattle.theory.specs.Literals.{Literal, Clause}
 use Rattle.theory.specs.Learning.{Line}
 
--- what the bytes so far say: the whole lines, the clause and the hints of the one begun, whether its clause is whole, the number before,
--- and of the number begun its value so far
+-- what the bytes so far say: the whole lines, the clause and the hints of the one begun, whether
+-- its clause is whole, the number before, and of the number begun its value so far
 pub record Part : Type 0 where
   pub lines : List Line
   pub clause : Clause

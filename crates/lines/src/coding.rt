@@ -1,4 +1,5 @@
-//! How a literal or a hint is written behind the one before it: by a number from 1 on, small where the two are near.
+//! How a literal or a hint is written behind the one before it: by a number from 1 on, small where
+//! the two are near.
 ghost use Rattle.std.specs.Prelude.{◌≡◌, ◌<◌, ◌≤◌, ◌^◌};
 ghost use Rattle.lines.specs.Rows.{code, code_behind, literal_at, hint_behind};
 

@@ -25,7 +25,8 @@ fn push_clause(bytes: &mut Vec<u8>, clause: &[Lit]) -> Result<(), AllocError>
     Ok(())
 }
 
-/// Puts hints at the end, behind their line's clause. A hint above the greatest number of a clause counts as want of memory.
+/// Puts hints at the end, behind their line's clause. A hint above the greatest number of a clause
+/// counts as want of memory.
 fn push_hints(bytes: &mut Vec<u8>, hints: &[u64]) -> Result<(), AllocError>
     ensures hints { OnOk result ((lines : List Line) → (clause : List Literal) → row bytes.old.items ≡ record (whole lines) { clause = clause; in_hints = true } →
         row bytes.new.items ≡ whole (lines ++ record { clause = clause; hints = hints.now } ∷ [])) }

@@ -71,7 +71,8 @@ fn read_number(bytes: &[u8], at: usize) -> Number
     }
 }
 
-/// The literals of the line that begins at a place, behind those of an empty clause; the place behind them.
+/// The literals of the line that begins at a place, behind those of an empty clause; the place
+/// behind them.
 fn read_clause(bytes: &[u8], at: usize, clause: &mut Vec<Lit>) -> Result<usize, AllocError>
     requires inside { at < length bytes.now }
     requires whole { IsWhole (drop at bytes.now) }
@@ -92,7 +93,8 @@ fn read_clause(bytes: &[u8], at: usize, clause: &mut Vec<Lit>) -> Result<usize, 
     }
 }
 
-/// The hints of a line whose clause ends before a place, behind an empty list; the place behind them.
+/// The hints of a line whose clause ends before a place, behind an empty list; the place behind
+/// them.
 fn read_hints(bytes: &[u8], at: usize, hints: &mut Vec<u64>) -> Result<usize, AllocError>
     requires inside { at < length bytes.now }
     requires whole { (clause : List Literal) × (lines : List Line) × (with_bytes (hints_part [] clause [] 0) (drop at bytes.now) ≡ whole lines) }
@@ -154,8 +156,8 @@ impl Reader {
         self.left
     }
 
-    /// Reads the next line into two lists, which are cleared before; it answers whether there was one. It fails where a request for memory is
-    /// refused: the line is then still to be read.
+    /// Reads the next line into two lists, which are cleared before; it answers whether there was
+    /// one. It fails where a request for memory is refused: the line is then still to be read.
     pub fn next(&mut self, clause: &mut Vec<Lit>, hints: &mut Vec<u64>) -> Result<bool, AllocError>
         ensures line { IfOk result (λ more. IsNextOf self.old self.new (record { clause = clause.new.items; hints = hints.new.items }) more) }
         ensures refused { OnErr result (self.new ≡ self.old) }

@@ -7,8 +7,9 @@ use cnf::Lit;
 use std::alloc::{AllocError, Global};
 use std::marker::Model;
 
-/// Lines of a refuted cube in the order in which they were learnt, one behind the other as bytes: a clause by the distances of its literals,
-/// hints by theirs. It takes about two fifths of what the lines take as text, and no request for memory a line but where it has to grow.
+/// Lines of a refuted cube in the order in which they were learnt, one behind the other as bytes: a
+/// clause by the distances of its literals, hints by theirs. It takes about two fifths of what the
+/// lines take as text, and no request for memory a line but where it has to grow.
 #[derive(Drop)]
 pub struct Row {
     bytes: Vec<u8>,
@@ -58,8 +59,9 @@ impl Row {
         })
     }
 
-    /// Puts a line behind the others. It fails where a request for memory is refused, and for a hint above 9,223,372,036,854,775,807, which
-    /// no proof can name; the lines are then as they were.
+    /// Puts a line behind the others. It fails where a request for memory is refused, and for a
+    /// hint above 9,223,372,036,854,775,807, which no proof can name; the lines are then as they
+    /// were.
     pub fn push(&mut self, clause: &[Lit], hints: &[u64]) -> Result<(), AllocError>
         ensures ok { OnOk result (self.new ≡ self.old ++ record { clause = clause.now; hints = hints.now } ∷ []) }
         ensures err { OnErr result (self.new ≡ self.old) }

@@ -1,4 +1,5 @@
--- Fed with the bytes of a text, the machine comes to what the whole text is read as, and its steps are checked as.
+-- Fed with the bytes of a text, the machine comes to what the whole text is read as, and its steps
+-- are checked as.
 use Rattle.std.proofs.Common.{◌≡◌, ℕ, ◌+◌, ◌<◌, ◌≤◌, Bool, true, false, ◌||◌, List, [], ◌∷◌, ◌++◌, length, nat_eq, eqb-true, nat_lt, Option, Some, None, refl, sym, ap, subst, ◌∙◌, arith, cond, append_assoc}
 use Rattle.theory.specs.Texts.{lf}
 use Rattle.theory.specs.Tokens.{lines_of, is_blank}

@@ -2,8 +2,8 @@
 use Rattle.std.specs.Prelude.{◌≡◌, true, false, List, ◌⊎◌}
 use Rattle.theory.specs.Literals.{Literal, Clause, same, has, negated}
 
--- Q has the literals of P and the negations of the clause's literals other than q, none of which is in Q; of q's variable the clause
--- has q alone
+-- Q has the literals of P and the negations of the clause's literals other than q, none of which is
+-- in Q; of q's variable the clause has q alone
 pub record IsAssumed (P : List Literal) (q : Literal) (c : Clause) (Q : List Literal) : Type 0 where
   pub kept : (k : Literal) → has P k ≡ true → has Q k ≡ true
   pub negations : (k : Literal) → has c k ≡ true → same q k ≡ false → has Q (negated k) ≡ true

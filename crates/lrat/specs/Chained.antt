@@ -7,7 +7,8 @@ use Rattle.lrat.specs.Slots.{Slot}
 abbrev pub entry_at : List Entry → ℕ → Entry
 entry_at es j = slice_index_or es j (record { place = 0; next = 0 })
 
--- a walk over fewer entries than the first number, from the one that a link leads to, meets the place i
+-- a walk over fewer entries than the first number, from the one that a link leads to, meets the
+-- place i
 abbrev pub Meets : ℕ → List Entry → ℕ → ℕ → Type 0
 Meets zero es link i = ⊥
 Meets (suc n) es zero i = ⊥

@@ -16,8 +16,8 @@ slots_in lits heads = map (slot_in lits) heads
 abbrev pub AreWithin : List Literal → List Head → Type 0
 AreWithin lits heads = (i : ℕ) (h : Head) → slice_get heads i ≡ Some h → (h.start ≤ h.end) × (h.end ≤ length lits)
 
--- the formula's clauses come first, by falling numbers from their count to 1, each for good; then the added ones, by rising numbers
--- above that
+-- the formula's clauses come first, by falling numbers from their count to 1, each for good; then
+-- the added ones, by rising numbers above that
 pub record AreInOrder (first : ℕ) (heads : List Head) : Type 0 where
   pub whole : first ≤ length heads
   pub of_formula : (i : ℕ) (h : Head) → slice_get heads i ≡ Some h → i < first → h.id + i ≡ first
@@ -30,7 +30,8 @@ pub record AreFlat (vars first : ℕ) (lits : List Literal) (heads : List Head) 
   pub order : AreInOrder first heads
   pub over : (i : ℕ) (h : Head) → slice_get heads i ≡ Some h → IsOver vars (slice_range lits h.start h.end)
 
--- a formula's clause that was taken away keeps its place without its literals, and an added one leaves none
+-- a formula's clause that was taken away keeps its place without its literals, and an added one
+-- leaves none
 abbrev pub emptied : Slot → Slot
 emptied s = if s.is_there then s else record { id = s.id; is_there = s.is_there; clause = [] }
 

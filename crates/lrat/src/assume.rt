@@ -10,9 +10,9 @@ use crate::held::Held;
 use cnf::Lit;
 use std::alloc::AllocError;
 
-/// Puts the negations of a clause's literals other than `pivot`, which it has, unless the clause is closed: it has both
-/// signs of a variable, or a literal other than `pivot` that is held true. Answers whether it is. It takes one walk over
-/// the literals.
+/// Puts the negations of a clause's literals other than `pivot`, which it has, unless the clause is
+/// closed: it has both signs of a variable, or a literal other than `pivot` that is held true.
+/// Answers whether it is. It takes one walk over the literals.
 pub(crate) fn assume(held: &mut Held, clause: &[Lit], pivot: Lit) -> Result<bool, AllocError>
     requires over { IsOver held.old.vars clause.now }
     requires pivot { has clause.now pivot ≡ true }

@@ -1,8 +1,10 @@
-//! Chains of places, one for each code, in one list of entries: each entry has a place, and a link to the next entry of its chain, which came before it. A
-//! link is 0 at a chain's end, and else one above an entry's index.
+//! Chains of places, one for each code, in one list of entries: each entry has a place, and a link
+//! to the next entry of its chain, which came before it. A link is 0 at a chain's end, and else one
+//! above an entry's index.
 //!
-//! A place is put to a chain by one push and one write, and a chain without places takes no more than its head: these are the chains of a textbook's hash
-//! table. Vectors for each code took an allocation each, and rows in one array, filled by counts, twice the time.
+//! A place is put to a chain by one push and one write, and a chain without places takes no more
+//! than its head: these are the chains of a textbook's hash table. Vectors for each code took an
+//! allocation each, and rows in one array, filled by counts, twice the time.
 ghost use Rattle.std.specs.Prelude.{◌≡◌, ◌≢◌, ◌<◌, ◌≤◌, ◌-◌, ℕ, true, Some, IfOk, OnOk, slice_get, slice_set, vec_len};
 ghost use Rattle.lrat.specs.Chained.{entry_at, IsOn, IsIn, AreChains, IsThereAt, LeadsThere, KeepsThere};
 ghost use Rattle.lrat.specs.Slots.{Slot};
@@ -45,7 +47,8 @@ impl Chains {
         }
     }
 
-    /// Makes a chain for each code below a count, and room for so many entries, where the chains aren't there.
+    /// Makes a chain for each code below a count, and room for so many entries, where the chains
+    /// aren't there.
     pub(crate) fn make_room(&mut self, count: usize, entries: usize) -> Result<(), AllocError>
         requires { AreChains self.old }
         ensures room { OnOk result (count ≤ vec_len self.new.heads) }
@@ -122,7 +125,8 @@ impl Chains {
         link
     }
 
-    /// Takes the places behind an entry, up to the first whose clause is there, out of its chain. Answers the link to that one.
+    /// Takes the places behind an entry, up to the first whose clause is there, out of its chain.
+    /// Answers the link to that one.
     fn shorten(&mut self, index: usize, clauses: &Clauses) -> u32
         requires chains { AreChains self.old }
         requires within { index < vec_len self.old.entries }
@@ -144,7 +148,8 @@ impl Chains {
         next
     }
 
-    /// Takes the places of clauses that aren't there any more out of a chain. It takes one walk along the chain.
+    /// Takes the places of clauses that aren't there any more out of a chain. It takes one walk
+    /// along the chain.
     pub(crate) fn sweep(&mut self, code: usize, clauses: &Clauses)
         requires chains { AreChains self.old }
         ensures chains { AreChains self.new }

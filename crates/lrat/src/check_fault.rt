@@ -35,7 +35,8 @@ pub enum CheckFault {
     #[error("step {0}: a candidate without hints")]
     MissingCandidate(u64),
 
-    /// A group names a clause without the negated pivot, one for the second time, or a closed one with hints.
+    /// A group names a clause without the negated pivot, one for the second time, or a closed one
+    /// with hints.
     #[error("step {0}: a bad candidate")]
     BadCandidate(u64),
 

@@ -26,8 +26,8 @@ use cnf::{Formula, Lit};
 use lrat_text::{Addition, Deletion, Step};
 use std::alloc::{AllocError, Global};
 
-/// The clauses there, the last number given away, and whether an empty clause was added. Nothing is held true between
-/// steps.
+/// The clauses there, the last number given away, and whether an empty clause was added. Nothing is
+/// held true between steps.
 #[derive(Drop)]
 pub(crate) struct Checker {
     clauses: Clauses,
@@ -49,7 +49,8 @@ fn is_over(vars: u32, clause: &[Lit]) -> bool
     true
 }
 
-/// Puts the negations of a clause's literals to none, unless it has both signs of a variable. Answers whether it has.
+/// Puts the negations of a clause's literals to none, unless it has both signs of a variable.
+/// Answers whether it has.
 fn negate(held: &mut Held, clause: &[Lit]) -> Result<bool, AllocError>
     requires none { held.old.literals ≡ [] }
     requires over { IsOver held.old.vars clause.now }
@@ -175,8 +176,9 @@ impl Checker {
         }
     }
 
-    /// Gives the memory of clauses that were taken away free, where they outnumber the others. Then the places change, so that the occurrences are
-    /// gathered anew when they are asked for next: that costs a chain for each literal, and so is what has to be gained.
+    /// Gives the memory of clauses that were taken away free, where they outnumber the others. Then
+    /// the places change, so that the occurrences are gathered anew when they are asked for next:
+    /// that costs a chain for each literal, and so is what has to be gained.
     fn tidy(&mut self, alloc: Global) -> Result<(), AllocError>
         requires { IsReady self.old.held.vars self.old }
         ensures same { OnOk result (checker_of self.new ≡ checker_of self.old) }
@@ -217,9 +219,9 @@ impl Checker {
     }
 }
 
-/// Checks that steps are a proof that a formula isn't satisfiable, one step after the other; the first fault decides.
-/// With none, a step has to add the empty clause. It takes time by the literals of the clauses that the steps name, and
-/// memory by the clauses there.
+/// Checks that steps are a proof that a formula isn't satisfiable, one step after the other; the
+/// first fault decides. With none, a step has to add the empty clause. It takes time by the
+/// literals of the clauses that the steps name, and memory by the clauses there.
 pub fn check(alloc: Global, formula: &Formula, steps: &[Step]) -> Result<(), CheckFault>
     ensures checked { MatchResult result
         (λ _. checks formula.now (map step_of steps.now) ≡ accepted)

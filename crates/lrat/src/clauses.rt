@@ -1,4 +1,5 @@
-//! The clauses that are there, by their numbers: their literals lie one behind the other in one list.
+//! The clauses that are there, by their numbers: their literals lie one behind the other in one
+//! list.
 ghost use Rattle.std.specs.Prelude.{◌≡◌, ◌≢◌, ℕ, ◌+◌, ◌<◌, ◌≤◌, true, false, None, Some, is_some, [], ◌∷◌, ◌++◌, length, IfOk, IfSome, OnOk, OnErr, MatchOption, slice_get};
 ghost use Rattle.std.specs.Option.{option_map};
 ghost use Rattle.theory.specs.Truth.{IsOver};
@@ -22,7 +23,8 @@ pub(crate) struct Head {
     is_there: bool,
 }
 
-/// The place that the clause with a number has, if no number between it and the last clause's was left out.
+/// The place that the clause with a number has, if no number between it and the last clause's was
+/// left out.
 fn place_from_last(heads: &[Head], id: u64) -> Option<usize>
     ensures { IfSome result (λ p. p < length heads.now) }
 {
@@ -31,8 +33,9 @@ fn place_from_last(heads: &[Head], id: u64) -> Option<usize>
     last.checked_sub(behind as usize)
 }
 
-/// The place of the clause with a number, there or not: directly where no number was left out before it or behind it, else by halving. Most hints of
-/// a proof that deletes what is done with are to clauses that were added last, or to the formula's.
+/// The place of the clause with a number, there or not: directly where no number was left out
+/// before it or behind it, else by halving. Most hints of a proof that deletes what is done with
+/// are to clauses that were added last, or to the formula's.
 fn place_of(heads: &[Head], first: usize, id: u64) -> Option<usize>
     requires { AreInOrder first heads.now }
     ensures { MatchOption result
@@ -98,8 +101,8 @@ fn append(
     Ok(())
 }
 
-/// The clauses that are there, with what is there of the formula's, in lists of their own. It takes memory by the literals
-/// of these.
+/// The clauses that are there, with what is there of the formula's, in lists of their own. It takes
+/// memory by the literals of these.
 fn pack(
     alloc: Global,
     heads: &[Head],
@@ -133,7 +136,8 @@ fn literal_count(clauses: &[Vec<Lit>]) -> usize {
     count
 }
 
-/// Clauses over the variables 1 to `vars`, each with a number of its own: a formula's, and then those that were added.
+/// Clauses over the variables 1 to `vars`, each with a number of its own: a formula's, and then
+/// those that were added.
 #[derive(Drop)]
 pub(crate) struct Clauses {
     vars: u32,
@@ -276,7 +280,8 @@ impl Clauses {
         }
     }
 
-    /// Whether it is time to pack: more than half of what is held is of clauses that were taken away, and more than `cost`.
+    /// Whether it is time to pack: more than half of what is held is of clauses that were taken
+    /// away, and more than `cost`.
     pub(crate) fn is_sparse(&self, cost: usize) -> bool {
         self.dead > self.lits.len() / 2 + self.heads.len() / 2 && self.dead > cost
     }

@@ -35,8 +35,8 @@ fn count(counts: &mut Vec<u32>, vars: u32, clause: &[Lit]) -> Result<(), AllocEr
     Ok(())
 }
 
-/// For each literal, by its code, how many of the clauses that were counted have it. Those that were taken away since still
-/// count. It takes 4 bytes a literal.
+/// For each literal, by its code, how many of the clauses that were counted have it. Those that
+/// were taken away since still count. It takes 4 bytes a literal.
 #[derive(Drop)]
 pub(crate) struct Counts {
     counts: Vec<u32>,
@@ -67,8 +67,8 @@ impl Counts {
         Ok(())
     }
 
-    /// Counts the clauses that came since the last time, and are there. It takes one walk over their literals. More than
-    /// 4,294,967,295 of a literal are refused like memory.
+    /// Counts the clauses that came since the last time, and are there. It takes one walk over
+    /// their literals. More than 4,294,967,295 of a literal are refused like memory.
     pub(crate) fn count_all(&mut self, clauses: &Clauses) -> Result<(), AllocError>
         requires { AreCounted clauses.now.slots self.old }
         ensures counted { AreCounted clauses.now.slots self.new }

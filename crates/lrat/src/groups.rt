@@ -1,5 +1,5 @@
-//! Resolution asymmetric tautologies: the candidates of an addition, which are the clauses that have its negated pivot,
-//! and the groups of hints for them.
+//! Resolution asymmetric tautologies: the candidates of an addition, which are the clauses that
+//! have its negated pivot, and the groups of hints for them.
 ghost use Rattle.std.specs.Prelude.{◌≡◌, ℕ, List, [], ◌∷◌, true, false, None, Some, IfOk, OnOk, MatchOption, if◌then◌else◌, length, nat_eq, slice_get};
 ghost use Rattle.std.specs.HashSet.{contains};
 ghost use Rattle.theory.specs.Literals.{has};
@@ -48,7 +48,8 @@ fn is_closed(held: &mut Held, clause: &[Lit], pivot: Lit) -> Result<bool, AllocE
     Ok(closed)
 }
 
-/// Whether the clause in the slot at a place, where it is there and is a candidate, is closed or among those named.
+/// Whether the clause in the slot at a place, where it is there and is a candidate, is closed or
+/// among those named.
 fn is_dealt_with(
     held: &mut Held,
     clauses: &Clauses,
@@ -76,7 +77,8 @@ fn is_dealt_with(
     is_closed(held, clause, pivot)
 }
 
-/// Whether each candidate is closed or among those named. It takes time by the literals of the clauses on the pivot's chain.
+/// Whether each candidate is closed or among those named. It takes time by the literals of the
+/// clauses on the pivot's chain.
 fn are_dealt_with(
     held: &mut Held,
     clauses: &Clauses,
@@ -103,8 +105,8 @@ fn are_dealt_with(
     Ok(true)
 }
 
-/// Whether each candidate is closed or among those named, which are so many. Where no more clauses have the pivot, these
-/// are all of them, and no others are looked for.
+/// Whether each candidate is closed or among those named, which are so many. Where no more clauses
+/// have the pivot, these are all of them, and no others are looked for.
 fn all_are_dealt_with(
     held: &mut Held,
     clauses: &Clauses,
@@ -130,8 +132,8 @@ fn all_are_dealt_with(
     are_dealt_with(held, clauses, occurrences, pivot, named)
 }
 
-/// The fault of a group, where earlier groups named others. What is held true has its candidate's negations and the
-/// units of its hints then.
+/// The fault of a group, where earlier groups named others. What is held true has its candidate's
+/// negations and the units of its hints then.
 fn group_fault(
     held: &mut Held,
     clauses: &Clauses,
@@ -165,8 +167,8 @@ fn group_fault(
     })
 }
 
-/// The fault of the first group at fault, each taken from what is held true before the first. With none, `named` has the
-/// candidates of all.
+/// The fault of the first group at fault, each taken from what is held true before the first. With
+/// none, `named` has the candidates of all.
 fn first_fault(
     held: &mut Held,
     clauses: &Clauses,

@@ -1,5 +1,5 @@
-//! Literals that are held true, with a table by variable, so that each look-up is one step, and a list of them by which
-//! the latest are taken back.
+//! Literals that are held true, with a table by variable, so that each look-up is one step, and a
+//! list of them by which the latest are taken back.
 ghost use Rattle.std.specs.Prelude.{◌≡◌, List, ◌≤◌, ◌<◌, ◌^◌, [], ◌∷◌, true, false, length, IfOk, OnOk, OnErr, MatchOption};
 ghost use Rattle.theory.specs.Literals.{Literal, IsVariable, has_var, are_distinct};
 ghost use Rattle.lrat.specs.Held.{value_in, Extends};
@@ -65,7 +65,8 @@ impl Held {
         self.values[var as usize]
     }
 
-    /// Puts a literal of a free variable. Where a request for memory is refused, nothing has changed.
+    /// Puts a literal of a free variable. Where a request for memory is refused, nothing has
+    /// changed.
     pub(crate) fn push(&mut self, lit: Lit) -> Result<(), AllocError>
         requires is_variable { IsVariable self.old.vars lit.var }
         requires is_free { has_var self.old.literals lit.var ≡ false }

@@ -1,4 +1,5 @@
-//! Hints: what a hinted clause is under the literals held true, and what taking hints in order comes to.
+//! Hints: what a hinted clause is under the literals held true, and what taking hints in order
+//! comes to.
 ghost use Rattle.std.specs.Prelude.{◌≡◌, Some, IfOk};
 ghost use Rattle.theory.specs.Truth.{IsOver};
 ghost use Rattle.theory.specs.Checking.{hint, take_hints};
@@ -56,8 +57,8 @@ fn status_of(held: &Held, clause: &[Lit]) -> Hint
     }
 }
 
-/// Takes hints in order: each but the last is unit, and puts its literal to those held true. It takes time by the
-/// literals of the clauses named.
+/// Takes hints in order: each but the last is unit, and puts its literal to those held true. It
+/// takes time by the literals of the clauses named.
 pub(crate) fn take_hints(
     held: &mut Held,
     clauses: &Clauses,

@@ -1,4 +1,5 @@
-//! The checker of proofs in LRAT, of a list of steps and of a text in pieces; the steps and their text come from `lrat_text`.
+//! The checker of proofs in LRAT, of a list of steps and of a text in pieces; the steps and their
+//! text come from `lrat_text`.
 #![tactic(auto)]
 
 mod assume;

@@ -1,5 +1,5 @@
-//! Where the clauses are that have a literal: for each literal a chain of places, to which clauses are entered one after
-//! the other.
+//! Where the clauses are that have a literal: for each literal a chain of places, to which clauses
+//! are entered one after the other.
 ghost use Rattle.std.specs.Prelude.{◌≡◌, ◌≢◌, ◌<◌, ◌≤◌, ◌+◌, ◌*◌, ℕ, true, length, IfOk, OnOk, vec_len, []};
 ghost use Rattle.theory.specs.Literals.{Literal, has};
 ghost use Rattle.theory.specs.Truth.{IsOver};
@@ -34,9 +34,9 @@ pub(crate) fn enter(
     Ok(())
 }
 
-/// The places of the clauses that have a literal, for each literal. Clauses are entered when the places are asked for: steps
-/// that don't ask cost nothing. It takes 4 bytes for each literal of a variable, and, once clauses are entered, 4 more and 8
-/// for each literal of a clause.
+/// The places of the clauses that have a literal, for each literal. Clauses are entered when the
+/// places are asked for: steps that don't ask cost nothing. It takes 4 bytes for each literal of a
+/// variable, and, once clauses are entered, 4 more and 8 for each literal of a clause.
 #[derive(Drop)]
 pub(crate) struct Occurrences {
     counts: Counts,
@@ -57,8 +57,8 @@ impl Occurrences {
         }
     }
 
-    /// How many clauses have a literal, at most: those that were taken away may still count. It takes one walk over the
-    /// literals of those that came since the last time.
+    /// How many clauses have a literal, at most: those that were taken away may still count. It
+    /// takes one walk over the literals of those that came since the last time.
     pub(crate) fn count(&mut self, clauses: &Clauses, lit: Lit) -> Result<usize, AllocError>
         requires { IsIndexed clauses.now.slots self.old }
         ensures indexed { IsIndexed clauses.now.slots self.new }
@@ -68,7 +68,8 @@ impl Occurrences {
         Ok(self.counts.of(lit))
     }
 
-    /// Enters the clauses that came since the last time, and are there. More than 4,294,967,295 literals, or clauses, are refused like memory.
+    /// Enters the clauses that came since the last time, and are there. More than 4,294,967,295
+    /// literals, or clauses, are refused like memory.
     pub(crate) fn enter_all(&mut self, clauses: &Clauses) -> Result<(), AllocError>
         requires { IsIndexed clauses.now.slots self.old }
         ensures indexed { IsIndexed clauses.now.slots self.new }
@@ -86,8 +87,8 @@ impl Occurrences {
         Ok(())
     }
 
-    /// Drops the places of clauses that aren't there any more from a literal's chain. Each is met once, so that taking many clauses away costs
-    /// later steps nothing.
+    /// Drops the places of clauses that aren't there any more from a literal's chain. Each is met
+    /// once, so that taking many clauses away costs later steps nothing.
     pub(crate) fn sweep(&mut self, lit: Lit, clauses: &Clauses)
         requires { IsIndexed clauses.now.slots self.old }
         ensures indexed { IsIndexed clauses.now.slots self.new }
@@ -97,7 +98,8 @@ impl Occurrences {
         self.chains.sweep(code(lit), clauses);
     }
 
-    /// The link to the first place of the clauses entered that have a literal; some may not be there any more.
+    /// The link to the first place of the clauses entered that have a literal; some may not be
+    /// there any more.
     pub(crate) fn first(&self, lit: Lit) -> u32
         requires { AreChains self.now.chains }
         ensures within { result ≤ vec_len self.now.chains.entries }

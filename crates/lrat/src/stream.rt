@@ -1,4 +1,5 @@
-//! A check of a proof whose text comes in pieces. Each step is checked as its line ends, and then let go.
+//! A check of a proof whose text comes in pieces. Each step is checked as its line ends, and then
+//! let go.
 ghost use Rattle.std.specs.Prelude.{◌≡◌, ◌+◌, ◌<◌, ◌≤◌, ◌^◌, ℕ, None, length, IfOk, OnOk, MatchResult};
 ghost use Rattle.theory.specs.Checking.{accepted};
 ghost use Rattle.lrat_text.specs.Pieces.{IsText, stream_at};
@@ -20,7 +21,8 @@ struct Stop {
     step: u64,
 }
 
-/// A check of which so much of the proof's text came. It holds the clauses that are there and one line's lists, whatever the length of the text.
+/// A check of which so much of the proof's text came. It holds the clauses that are there and one
+/// line's lists, whatever the length of the text.
 #[derive(Drop)]
 pub struct ProofStream {
     alloc: Global,
@@ -58,7 +60,8 @@ fn test(
 }
 
 impl ProofStream {
-    /// The check of a proof that a formula isn't satisfiable, before any of its text. It takes memory by the formula's literals, which it copies.
+    /// The check of a proof that a formula isn't satisfiable, before any of its text. It takes
+    /// memory by the formula's literals, which it copies.
     pub fn new(alloc: Global, formula: &Formula) -> Result<ProofStream, AllocError>
         ensures begin { IfOk result (λ s. stream_of s ≡ begin formula.now) }
         ensures vars { IfOk result (λ s. vars_of s ≡ formula.now.vars) }
@@ -99,8 +102,8 @@ impl ProofStream {
         }
     }
 
-    /// Takes the next piece of the text, at best one of some thousand bytes. All pieces together may have up to 2^63 bytes. Where memory is
-    /// refused, the check can't go on.
+    /// Takes the next piece of the text, at best one of some thousand bytes. All pieces together
+    /// may have up to 2^63 bytes. Where memory is refused, the check can't go on.
     pub fn feed(&mut self, piece: &[u8]) -> Result<(), AllocError>
         requires running { IsRunning self.old }
         requires few { (stream_of self.old).seen + length piece.now < 2 ^ 63 }
@@ -120,8 +123,9 @@ impl ProofStream {
         Ok(())
     }
 
-    /// What the check comes to if the text ends here: a text of more than 4,294,967,296 bytes is too long, then the first line at fault decides,
-    /// then the first step. With none, a step has to have added the empty clause.
+    /// What the check comes to if the text ends here: a text of more than 4,294,967,296 bytes is
+    /// too long, then the first line at fault decides, then the first step. With none, a step has
+    /// to have added the empty clause.
     pub fn verdict(&self) -> Result<(), Refusal>
         ensures { MatchResult result (λ _. finish (stream_of self.now) ≡ checked accepted) (IsSaid (finish (stream_of self.now))) }
     {

@@ -9,7 +9,8 @@ use std::test::Fail;
 /// The four clauses over two variables, where there are four.
 const FOUR_OVER_FOUR: &[u8] = b"p cnf 4 4\n1 2 0\n1 -2 0\n-1 2 0\n-1 -2 0\n";
 
-/// A name, a formula, a proof, and what checking comes to: the number of the fault and its step, or 0 and 0.
+/// A name, a formula, a proof, and what checking comes to: the number of the fault and its step, or
+/// 0 and 0.
 type Row<'a> = (&'a str, &'a [u8], &'a [u8], (u32, u64));
 
 const ACCEPTED: (u32, u64) = (0, 0);
@@ -154,7 +155,8 @@ static ROWS: [Row; 30] = [
     ),
 ];
 
-/// What checking comes to: 0 where the proof is accepted, else the fault's number, and its step, or 0.
+/// What checking comes to: 0 where the proof is accepted, else the fault's number, and its step, or
+/// 0.
 fn checked(alloc: Global, formula: &[u8], proof: &[u8]) -> Result<(u32, u64), Fail> {
     let formula = read_formula(alloc, formula)?;
     let steps = read_proof(alloc, proof)?;

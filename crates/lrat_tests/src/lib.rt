@@ -1,4 +1,5 @@
-//! Worked rows of the checker, of steps and of the text of proofs, and the checker beside a plain one.
+//! Worked rows of the checker, of steps and of the text of proofs, and the checker beside a plain
+//! one.
 #![tactic(auto)]
 
 #[cfg(test)]

@@ -1,5 +1,5 @@
-//! The checker beside a plain one, which searches lists: both answer the same on each proof that comes of a worked one by
-//! another byte at one place.
+//! The checker beside a plain one, which searches lists: both answer the same on each proof that
+//! comes of a worked one by another byte at one place.
 use cnf::{Formula, Lit, read_formula};
 use lrat::{Addition, Group, Step, check, read_proof};
 use samples::FOUR_UNUSED;
@@ -60,7 +60,8 @@ fn negate(held: &mut Vec<Lit>, clause: &[Lit], pivot: Option<Lit>) -> Result<(),
     Ok(())
 }
 
-/// The literal that a hinted clause gives, none where the clause is false; the fault's number where it is neither.
+/// The literal that a hinted clause gives, none where the clause is false; the fault's number where
+/// it is neither.
 fn unit_of(held: &[Lit], clause: &[Lit]) -> Result<Option<Lit>, u32> {
     let mut unit = None;
     for lit in clause {
@@ -228,7 +229,8 @@ fn add<'a>(
     Ok(fault)
 }
 
-/// The number and the step of the fault that the plain checker finds: 30 and 0 without an empty clause, else 0 and 0.
+/// The number and the step of the fault that the plain checker finds: 30 and 0 without an empty
+/// clause, else 0 and 0.
 fn plain(alloc: Global, formula: &Formula, steps: &[Step]) -> Result<(u32, u64), AllocError> {
     let mut there = clauses_of(alloc, formula)?;
     let mut last = there.len() as u64;

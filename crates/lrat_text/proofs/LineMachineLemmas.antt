@@ -278,6 +278,7 @@ word-Follows (at_group a g) next t w i e h = group_hint-Follows a g t next i (ap
 word-Follows (at_ids d) next t w i e h = deleted-Follows d t next i (ap (on_deleted d) e ∙ h)
 word-Follows (ended s) next t w i e h = absurd (cc)
 
--- Where the machine takes a word, the words so far are one more, and each number is within its limit.
+-- Where the machine takes a word, the words so far are one more, and each number is within its
+-- limit.
 pub on-Follows : (s next : LineState) (t : List ℕ) → IsWithin s → on s (word_of t) ≡ Some next → Follows s t next
 on-Follows s next t i h = word-Follows s next t (word_of t) i refl h

@@ -1,4 +1,5 @@
--- What the machine says of a text is what the text is read as, and nothing else is; and the text of steps is read as them.
+-- What the machine says of a text is what the text is read as, and nothing else is; and the text of
+-- steps is read as them.
 use Rattle.std.proofs.Common.{◌≡◌, ℕ, ◌+◌, ◌≤◌, List, [], ◌∷◌, length, refl, sym, ap, subst, ◌∙◌, inl, inr, arith}
 use Rattle.theory.specs.Tokens.{lines_of}
 use Rattle.theory.specs.ProofReading.{ProofReading, steps, line_fault, too_long, words_in, LinesRead, ProofReads, max_proof_bytes}

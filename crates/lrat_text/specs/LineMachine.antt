@@ -1,4 +1,5 @@
--- A machine that takes the words of a line one by one, and says what the line, and a text of lines, is read as.
+-- A machine that takes the words of a line one by one, and says what the line, and a text of lines,
+-- is read as.
 use Rattle.std.specs.Prelude.{ℕ, ◌+◌, Bool, false, ◌||◌, nat_eq, nat_lt, List, [], ◌∷◌, ◌++◌, Option, Some, None, All, if◌then◌else◌}
 use Rattle.theory.specs.Literals.{Clause}
 use Rattle.theory.specs.Texts.{lf}
@@ -9,8 +10,8 @@ use Rattle.lrat_text.specs.declared.word.Word.{Word}
 use Rattle.lrat_text.specs.declared.word.Word.TheVariants.{Zero, Positive, Negative, Mark}
 use Rattle.lrat_text.specs.LineWords.{word_of, number_in, candidate_in, literal_in}
 
--- the parts of the line so far, by what may come next: its number; literals; hints; the hints of a group, behind whole groups;
--- numbers to delete; nothing
+-- the parts of the line so far, by what may come next: its number; literals; hints; the hints of a
+-- group, behind whole groups; numbers to delete; nothing
 pub data LineState : Type 0 where
   at_id : LineState
   at_clause : ℕ → Clause → LineState

@@ -18,7 +18,8 @@ TakesRun bytes s start t end =
 abbrev pub TakesNumbers : (List ℕ → LineState) → Type 0
 TakesNumbers f = (ns : List ℕ) (n : ℕ) → IsNumber n → on (f ns) (words.Positive n) ≡ Some (f (ns ++ n ∷ []))
 
--- the number's digits stand from one place up to another, where a blank is; they may stand behind a minus
+-- the number's digits stand from one place up to another, where a blank is; they may stand behind a
+-- minus
 pub record StandsWhole (bytes : List ℕ) (start n end : ℕ) : Type 0 where
   pub number : IsNumber n
   pub positive : TakesWord bytes begun.Nothing start (begun.Positive n) end

@@ -1,4 +1,5 @@
--- A machine that takes the bytes of a proof's text one by one, and checks each step as its line ends.
+-- A machine that takes the bytes of a proof's text one by one, and checks each step as its line
+-- ends.
 use Rattle.std.specs.Prelude.{ℕ, ◌+◌, ◌-◌, ◌*◌, Bool, false, ◌&&◌, not, nat_eq, nat_lt, List, [], ◌∷◌, length, Some, None, if◌then◌else◌}
 use Rattle.std.specs.Char.{is_ascii_digit}
 use Rattle.theory.specs.Truth.{Formula}
@@ -48,8 +49,8 @@ word_so_far (negative_so_far n) = Negative n
 word_so_far mark_so_far = Mark
 word_so_far w = Other
 
--- the line that is read: no byte came; its whole words led to a state, and one more is begun; a word can't stand, and its fault
--- waits for the line's end; its end came, and it was at fault
+-- the line that is read: no byte came; its whole words led to a state, and one more is begun; a
+-- word can't stand, and its fault waits for the line's end; its end came, and it was at fault
 pub data Part : Type 0 where
   fresh : Part
   in_line : LineState → Begun → Part

@@ -69,7 +69,8 @@ pub(crate) fn with_byte(begun: Begun, byte: u8) -> Begun
     }
 }
 
-/// Takes the digits from `start` on behind a number of this size, and says where the first byte stands that is none.
+/// Takes the digits from `start` on behind a number of this size, and says where the first byte
+/// stands that is none.
 pub(crate) fn take_digits(size: u64, bytes: &[u8], start: usize) -> (u64, usize)
     requires size { (1 ≤ size) × (size ≤ ABOVE_MAX) }
     requires inside { start ≤ length bytes.now }
@@ -89,7 +90,8 @@ pub(crate) fn take_digits(size: u64, bytes: &[u8], start: usize) -> (u64, usize)
     (size, at)
 }
 
-/// Takes the bytes of the word that is begun, from `start` on, and says where the first byte stands that is none of it.
+/// Takes the bytes of the word that is begun, from `start` on, and says where the first byte stands
+/// that is none of it.
 pub(crate) fn take_word(begun: Begun, bytes: &[u8], start: usize) -> (Begun, usize)
     requires begun { IsBegunWord begun }
     requires inside { start ≤ length bytes.now }

@@ -9,7 +9,8 @@ pub fn one_reading()
     ensures { (bytes : List ℕ) (r s : ProofReading) → ProofReads bytes r → ProofReads bytes s → r ≡ s }
 {}
 
-/// The text of steps is read as these steps, and as nothing else, where it is no longer than a text may be.
+/// The text of steps is read as these steps, and as nothing else, where it is no longer than a text
+/// may be.
 pub fn written_is_read()
     ensures read { (ss : List Step) → All IsStep ss → length (proof_text ss) ≤ max_proof_bytes →
         ProofReads (proof_text ss) (steps ss) }

@@ -26,8 +26,8 @@ pub enum Part {
     DeletionEnd,
 }
 
-/// The parts of a line so far. Its lists are used again for each line, so that a step's own are made once, in their
-/// size.
+/// The parts of a line so far. Its lists are used again for each line, so that a step's own are
+/// made once, in their size.
 #[derive(Drop)]
 pub struct Line {
     alloc: Global,
@@ -184,7 +184,8 @@ impl Line {
         Ok(false)
     }
 
-    /// IsTaken the next word, and says whether it can stand there. If it can't, the line stays as it was.
+    /// IsTaken the next word, and says whether it can stand there. If it can't, the line stays as
+    /// it was.
     pub fn take(&mut self, word: Word) -> Result<bool, AllocError>
         requires within { IsWithin (state_of self.old) }
         requires counting { IsCounting word }
@@ -200,8 +201,8 @@ impl Line {
         }
     }
 
-    /// IsTaken the literals, hints or numbers to delete that stand whole among the bytes from `start` on, where such come next, and says where the
-    /// first byte stands that wasn't taken.
+    /// IsTaken the literals, hints or numbers to delete that stand whole among the bytes from
+    /// `start` on, where such come next, and says where the first byte stands that wasn't taken.
     pub(crate) fn take_run(&mut self, bytes: &[u8], start: usize) -> Result<usize, AllocError>
         requires within { IsWithin (state_of self.old) }
         requires inside { start ≤ length bytes.now }

@@ -28,8 +28,8 @@ fn has_line_feed(bytes: &[u8]) -> bool
     false
 }
 
-/// The fault of a word that can't stand next, where `rest` follows it: a line that isn't ended is at fault for that
-/// alone.
+/// The fault of a word that can't stand next, where `rest` follows it: a line that isn't ended is
+/// at fault for that alone.
 fn refusal(line: &Line, word: Word, rest: &[u8], number: u64) -> TextFault
     ensures { let fault = (if has_line_feed rest.now then fault_in (state_of line.now) word else line_not_ended) in
         IsFault result (line_fault fault number) }
@@ -78,9 +78,10 @@ fn read_line(
     Err(TextFault::LineNotEnded(number))
 }
 
-/// Reads the text of a proof, in one pass: its steps, in their order, or the fault of the first line at fault. A text of
-/// more than 4,294,967,296 bytes is too long, whatever it holds. It takes memory for the steps, and for the lists of one
-/// line; where memory is refused, what was read is let go.
+/// Reads the text of a proof, in one pass: its steps, in their order, or the fault of the first
+/// line at fault. A text of more than 4,294,967,296 bytes is too long, whatever it holds. It takes
+/// memory for the steps, and for the lists of one line; where memory is refused, what was read is
+/// let go.
 pub fn read_proof(alloc: Global, bytes: &[u8]) -> Result<Vec<Step>, TextFault>
     ensures { MatchResult result
         (λ v. ProofReads bytes.now (steps (map step_of v.items)))

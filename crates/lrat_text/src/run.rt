@@ -1,5 +1,5 @@
-//! Numbers that stand whole among the bytes of a piece, each with a blank behind it: nearly all of a proof's bytes. What else comes, and what
-//! stands at a piece's edge, is read byte by byte.
+//! Numbers that stand whole among the bytes of a piece, each with a blank behind it: nearly all of
+//! a proof's bytes. What else comes, and what stands at a piece's edge, is read byte by byte.
 ghost use Rattle.std.specs.Prelude.{◌≡◌, ◌≤◌, ◌<◌, ℕ, List, All, IfOk, IfSome, OnOk, length, slice_index};
 ghost use Rattle.theory.specs.ProofReading.{IsNumber, IsLiteral};
 ghost use Rattle.theory.specs.Texts.{minus};
@@ -28,7 +28,8 @@ fn whole_number(bytes: &[u8], start: usize) -> Option<(u64, usize)>
     }
 }
 
-/// The literal without a sign that stands whole from `start` on, and where the blank behind it stands.
+/// The literal without a sign that stands whole from `start` on, and where the blank behind it
+/// stands.
 fn positive_literal(bytes: &[u8], start: usize) -> Option<(Lit, usize)>
     requires inside { start < length bytes.now }
     ensures { IfSome result (λ r. IsLiteralAt bytes.now start r.0 r.1) }
@@ -66,7 +67,8 @@ fn whole_literal(bytes: &[u8], start: usize) -> Option<(Lit, usize)>
     }
 }
 
-/// Puts the numbers that stand whole from `start` on behind others, and says where the first byte stands that wasn't taken.
+/// Puts the numbers that stand whole from `start` on behind others, and says where the first byte
+/// stands that wasn't taken.
 pub(crate) fn take_numbers(
     numbers: &mut Vec<u64>,
     bytes: &[u8],
@@ -88,7 +90,8 @@ pub(crate) fn take_numbers(
     Ok(at)
 }
 
-/// Puts the literals that stand whole from `start` on behind others, and says where the first byte stands that wasn't taken.
+/// Puts the literals that stand whole from `start` on behind others, and says where the first byte
+/// stands that wasn't taken.
 pub(crate) fn take_literals(
     clause: &mut Vec<Lit>,
     bytes: &[u8],

@@ -1,5 +1,5 @@
-//! The steps of a proof. A clause's number lies between 1 and 9,223,372,036,854,775,807, and a literal's size between 1
-//! and 2,147,483,647.
+//! The steps of a proof. A clause's number lies between 1 and 9,223,372,036,854,775,807, and a
+//! literal's size between 1 and 2,147,483,647.
 ghost use Rattle.std.specs.Prelude.{◌≡◌};
 ghost use Rattle.theory.specs.ProofReading.{IsGroup, IsAddition, IsDeletion};
 
@@ -101,7 +101,8 @@ impl Group {
 }
 
 impl Addition {
-    /// The clause with the number `id`, the hints that lead to a conflict, and the hints for each candidate.
+    /// The clause with the number `id`, the hints that lead to a conflict, and the hints for each
+    /// candidate.
     pub fn new(id: u64, clause: Vec<Lit>, hints: Vec<u64>, groups: Vec<Group>) -> Addition
         requires { IsAddition (record { id = id; clause = clause.items; hints = hints.items; groups = groups.items }) }
         ensures { result ≡ record { id = id; clause = clause.items; hints = hints.items; groups = groups.items } }

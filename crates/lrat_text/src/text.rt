@@ -74,8 +74,8 @@ impl Text {
         self.number
     }
 
-    /// Takes the bytes of the word that is begun, from `start` on, and says where the first byte stands that wasn't taken. It takes none
-    /// where no line is begun.
+    /// Takes the bytes of the word that is begun, from `start` on, and says where the first byte
+    /// stands that wasn't taken. It takes none where no line is begun.
     fn take_word(&mut self, bytes: &[u8], start: usize) -> usize
         requires text { IsText self.old }
         requires inside { start ≤ length bytes.now }
@@ -94,8 +94,9 @@ impl Text {
         }
     }
 
-    /// Takes the numbers that stand whole from `start` on, where a line is begun and no word of it, and says where the first byte stands that
-    /// wasn't taken. Most of a proof's bytes are of such numbers, and here each digit is one step of a loop that writes nothing.
+    /// Takes the numbers that stand whole from `start` on, where a line is begun and no word of it,
+    /// and says where the first byte stands that wasn't taken. Most of a proof's bytes are of such
+    /// numbers, and here each digit is one step of a loop that writes nothing.
     fn take_run(&mut self, bytes: &[u8], start: usize) -> Result<usize, AllocError>
         requires text { IsText self.old }
         requires inside { start ≤ length bytes.now }
@@ -110,8 +111,8 @@ impl Text {
         }
     }
 
-    /// Takes the words of the line that is begun, from `start` on, with the blanks behind them, and says where the first byte stands that wasn't
-    /// taken. It takes none where no line is begun.
+    /// Takes the words of the line that is begun, from `start` on, with the blanks behind them, and
+    /// says where the first byte stands that wasn't taken. It takes none where no line is begun.
     pub fn take_words(&mut self, bytes: &[u8], start: usize) -> Result<usize, AllocError>
         requires text { IsText self.old }
         requires inside { start ≤ length bytes.now }

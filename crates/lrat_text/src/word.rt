@@ -30,7 +30,8 @@ pub enum Word {
     Other,
 }
 
-/// A word's bytes from some place on: whether they are digits all, then their value, and where the word ends.
+/// A word's bytes from some place on: whether they are digits all, then their value, and where the
+/// word ends.
 #[derive(Drop)]
 struct Digits {
     all: bool,
@@ -52,8 +53,8 @@ pub(crate) fn ends_word(byte: u8) -> bool
     byte == LINE_FEED || is_blank(byte)
 }
 
-/// A number's size with one digit more, where the size is one at which one digit more can lead above the greatest number. It stands apart, so that
-/// any other digit costs one comparison.
+/// A number's size with one digit more, where the size is one at which one digit more can lead
+/// above the greatest number. It stands apart, so that any other digit costs one comparison.
 #[cold]
 #[inline(never)]
 fn with_late_digit(size: u64, digit: u8) -> u64

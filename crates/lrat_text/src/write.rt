@@ -100,8 +100,9 @@ fn append_clause(
     Ok(())
 }
 
-/// Appends the line of an addition without groups, of which only the parts are there: its words with single spaces, and a line feed. Where a
-/// growth is refused, a beginning of the line may stand. No other memory is taken.
+/// Appends the line of an addition without groups, of which only the parts are there: its words
+/// with single spaces, and a line feed. Where a growth is refused, a beginning of the line may
+/// stand. No other memory is taken.
 pub fn write_clause(
     id: u64,
     clause: &[Lit],
@@ -136,8 +137,9 @@ fn append_ids(id: u64, ids: &[u64], out: &mut Vec<u8>) -> Result<(), AllocError>
     append_end(out)
 }
 
-/// Appends the line of a deletion, of which only the parts are there: the number that it carries, and those of the clauses that it deletes. Where
-/// a growth is refused, a beginning of the line may stand. No other memory is taken.
+/// Appends the line of a deletion, of which only the parts are there: the number that it carries,
+/// and those of the clauses that it deletes. Where a growth is refused, a beginning of the line may
+/// stand. No other memory is taken.
 pub fn write_deletion(id: u64, ids: &[u64], out: &mut Vec<u8>) -> Result<(), AllocError>
     ensures { OnOk result (out.new.items ≡ out.old.items ++ step_text (delete (record { id = id; ids = ids.now }))) }
 {
@@ -153,8 +155,8 @@ fn append_deletion(deletion: &Deletion, out: &mut Vec<u8>) -> Result<(), AllocEr
     append_ids(deletion.id(), deletion.ids(), out)
 }
 
-/// Appends the step's line: its words with single spaces, and a line feed. A refused growth leaves the vector as it was.
-/// No other memory is taken.
+/// Appends the step's line: its words with single spaces, and a line feed. A refused growth leaves
+/// the vector as it was. No other memory is taken.
 pub fn write_step(step: &Step, out: &mut Vec<u8>) -> Result<(), AllocError>
     ensures ok { OnOk result (out.new.items ≡ out.old.items ++ step_text (step_of step.now)) }
     ensures err { OnErr result (out.new.items ≡ out.old.items) }

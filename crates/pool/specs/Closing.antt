@@ -1,4 +1,5 @@
--- How a pool is closed: each deque takes in the notes of all its thieves, and then what is left in it is taken out.
+-- How a pool is closed: each deque takes in the notes of all its thieves, and then what is left in
+-- it is taken out.
 use Rattle.std.specs.Prelude.{◌≡◌, ℕ, zero, suc, ◌<◌, ◌≤◌, List, [], ◌∷◌, ◌++◌, map, length, flat_map, Some, slice_get}
 use Rattle.std.specs.Global.{Vec}
 use Rattle.atomic_table.specs.Seated.{TableId}

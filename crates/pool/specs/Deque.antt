@@ -1,4 +1,5 @@
--- What is kept true of one hand's deque between any two steps: of its tasks, and of what its owner and its thieves know.
+-- What is kept true of one hand's deque between any two steps: of its tasks, and of what its owner
+-- and its thieves know.
 use Rattle.std.specs.Prelude.{◌≡◌, ℕ, ◌<◌, ◌≤◌, true, false, List, [], ◌∷◌, ◌++◌, map}
 use mathlib.Core.Option.{some}
 use lib.ListN.{get_elem?}
@@ -40,8 +41,8 @@ got_of v = v.got
 abbrev pub Knows : DequeNotes → ℕ → DequeNotes → Type 0
 Knows b port v = (v.is_owner ≡ true → (port ≡ 0) × Agree b v) × ((n : ℕ × List Cube) (ns : List (ℕ × List Cube)) → v.got ≡ n ∷ ns → (v.vars ≡ b.vars) × (v.is_owner ≡ false → b.left ≡ []))
 
--- The rule. What the owner knows, some order of what the hands got that keeps each hand's own, and the tasks agree; each task is fit; and
--- the notes of all views are of that order.
+-- The rule. What the owner knows, some order of what the hands got that keeps each hand's own, and
+-- the tasks agree; each task is fit; and the notes of all views are of that order.
 abbrev pub HoldsTasks : List Task → List DequeNotes → Type 0
 HoldsTasks items views = (b : DequeNotes) × (order : List (ℕ × Cube)) × Content b order items × AllFit b.vars items × Tally got_of b.made order views
     × ((port : ℕ) (v : DequeNotes) → get_elem? views port ≡ some v → Knows b port v)

@@ -5,9 +5,10 @@ use Rattle.theory.specs.Literals.{Literal}
 abbrev pub Cube : Type 0
 Cube = List Literal
 
--- What the owner of a deque, or a thief of it, knows. The owner knows how many variables there are, how many hands have a thief, the
--- roots, what it has put, and, once the pool is closed, what was left. The cubes that were got go by the number of the hand: one entry
--- in the notes of a thief, none in those of one that is spent.
+-- What the owner of a deque, or a thief of it, knows. The owner knows how many variables there are,
+-- how many hands have a thief, the roots, what it has put, and, once the pool is closed, what was
+-- left. The cubes that were got go by the number of the hand: one entry in the notes of a thief,
+-- none in those of one that is spent.
 pub record DequeNotes : Type 0 where
   pub is_owner : Bool
   pub vars : ℕ
@@ -17,7 +18,8 @@ pub record DequeNotes : Type 0 where
   pub left : List Cube
   pub got : List (ℕ × List Cube)
 
--- the owner's notes before the deque has a number of variables, with that number, and a thief's at the start
+-- the owner's notes before the deque has a number of variables, with that number, and a thief's at
+-- the start
 abbrev pub owner_notes : ℕ → ℕ → List Cube → DequeNotes
 owner_notes vars made put = record { is_owner = true; vars = vars; made = made; roots = []; put = put; left = []; got = [] }
 

@@ -30,7 +30,8 @@ SameHand a b = (b.number ≡ a.number) × (b.hands ≡ a.hands) × (b.vars ≡ a
 abbrev pub put_by : HandView → List Cube
 put_by h = h.roots ++ h.ledger.put
 
--- at a moment all that had been put into the hand's deque had been taken from it, in some order that keeps what this hand took itself
+-- at a moment all that had been put into the hand's deque had been taken from it, in some order
+-- that keeps what this hand took itself
 pub record IsAllTaken (h : HandView) : Type 0 where
   pub order : List (ℕ × Cube)
   pub is_put : map (λ entry. entry.1) order ≡ put_by h
@@ -45,14 +46,16 @@ pub record IsFront (h : HandView) (Q : Cube) : Type 0 where
   pub of_own : entries_of h.number order ≡ got_from h.number h.ledger
   pub no_other : (hand : ℕ) → h.hands ≤ hand → entries_of hand order ≡ []
 
--- at a moment all that had been put into the deque d had been taken from it. Only what this hand took from it is known here.
+-- at a moment all that had been put into the deque d had been taken from it. Only what this hand
+-- took from it is known here.
 pub record IsAllStolen (h : HandView) (d : ℕ) : Type 0 where
   pub put : List Cube
   pub order : List (ℕ × Cube)
   pub is_put : map (λ entry. entry.1) order ≡ put
   pub of_own : entries_of h.number order ≡ got_from d h.ledger
 
--- what a take answers where there is one hand alone: the front of what it put and hasn't taken yet, or none where there is nothing
+-- what a take answers where there is one hand alone: the front of what it put and hasn't taken yet,
+-- or none where there is nothing
 abbrev pub IsNextOf : HandView → Option Cube → Type 0
 IsNextOf h None = got_from h.number h.ledger ≡ put_by h
 IsNextOf h (Some Q) = (rest : List Cube) × (got_from h.number h.ledger ++ (Q ∷ rest) ≡ put_by h)
@@ -85,8 +88,9 @@ hand_view number vars owner thieves words = record {
 abbrev pub IsOf : ℕ → ℕ → DequeEnd → Type 0
 IsOf number vars e = (e.notes.vars ≡ vars) × (e.notes.left ≡ []) × (e.notes.got ≡ (number, got_at_end e) ∷ [])
 
--- The parts are one hand's: the owner's end of its own deque, a thief's end of each other's, and a seat. At its own number stands a thief
--- that never steals, so that a thief's place is its deque's number.
+-- The parts are one hand's: the owner's end of its own deque, a thief's end of each other's, and a
+-- seat. At its own number stands a thief that never steals, so that a thief's place is its deque's
+-- number.
 abbrev pub IsHand : ℕ → ℕ → DequeEnd → List DequeEnd → SeatView → Type 0
 IsHand number vars owner thieves words = (number < length thieves) × IsOf number vars owner × (owner.notes.made ≡ length thieves)
     × ((t : DequeEnd) → slice_get thieves number ≡ Some t → (t.id ≡ owner.id) × (t.notes.got ≡ []))

@@ -1,4 +1,5 @@
--- What contracts see of a pool: how many hands it has, which words, and the root; and which hands are its own.
+-- What contracts see of a pool: how many hands it has, which words, and the root; and which hands
+-- are its own.
 use Rattle.std.specs.Prelude.{◌≡◌, ℕ, ◌<◌, if◌then◌else◌, nat_eq, List, [], ◌∷◌, length, Some, slice_get, replicate}
 use Rattle.atomic_table.specs.Seated.{TableId}
 use Rattle.theory.specs.Ledger.{Ledger}

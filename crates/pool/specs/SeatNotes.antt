@@ -3,8 +3,9 @@ use Rattle.std.specs.Prelude.{ℕ, Bool, true, false, Option, None, List, [], �
 use Rattle.theory.specs.Ledger.{Call}
 use Rattle.theory.specs.Order.{Words}
 
--- What a seat knows. One seat is the first, and counts the hands that have a seat; once all calls are in its notes it reads with what
--- they end. The others are the hands', each with its hand's number and its calls.
+-- What a seat knows. One seat is the first, and counts the hands that have a seat; once all calls
+-- are in its notes it reads with what they end. The others are the hands', each with its hand's
+-- number and its calls.
 pub record SeatNotes : Type 0 where
   pub is_first : Bool
   pub made : ℕ

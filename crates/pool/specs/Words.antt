@@ -87,7 +87,8 @@ abbrev pub Endings : Option Words → Words → Type 0
 Endings None t = Unit {0}
 Endings (Some u) t = u ≡ t
 
--- the first seat knows how many hands there are, and at the end how the order ends; the others call only before that
+-- the first seat knows how many hands there are, and at the end how the order ends; the others call
+-- only before that
 abbrev pub Speaks : ℕ → Option Words → ℕ → SeatNotes → Type 0
 Speaks made last port v = (v.is_first ≡ true → (port ≡ 0) × (v.made ≡ made) × (v.last ≡ last)) × (v.is_first ≡ false → (n : ℕ × List Call) (ns : List (ℕ × List Call)) → v.calls ≡ n ∷ ns → last ≡ None)
 

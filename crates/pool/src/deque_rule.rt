@@ -4,8 +4,9 @@ use crossbeam_deque::protocol::{Join, Outcome, Protocol, Split};
 use crossbeam_deque::{Pass, Stealer, Worker};
 use std::alloc::Global;
 
-/// The rule: the cubes that the hands got, in some order that keeps each hand's own, then those that are left over, and then those that
-/// lie in the deque, are the cubes that were put into it; and each one that lies in it is fit.
+/// The rule: the cubes that the hands got, in some order that keeps each hand's own, then those
+/// that are left over, and then those that lie in the deque, are the cubes that were put into it;
+/// and each one that lies in it is fit.
 pub struct OnceEach;
 
 impl Protocol<Task, DequeNotes> for OnceEach {

@@ -11,8 +11,8 @@ use crate::taken::Taken;
 use kernel::Cube;
 use std::marker::Model;
 
-/// What one thread works with: its own deque, a thief of each other hand's, and a seat at the three shared words. No call waits for
-/// another thread, and each takes a few steps on shared memory.
+/// What one thread works with: its own deque, a thief of each other hand's, and a seat at the three
+/// shared words. No call waits for another thread, and each takes a few steps on shared memory.
 #[derive(Drop)]
 pub struct Hand {
     number: usize,
@@ -101,9 +101,9 @@ impl Hand {
         self.owner.put_root(self.vars, cube)
     }
 
-    /// Puts a fit cube, one of at most 32 literals over the variables 1 to `vars`, at the back of its own deque. Where a request for
-    /// memory is refused the same cube comes back and nothing changed. It takes constant time, and the length of the deque where that
-    /// grows.
+    /// Puts a fit cube, one of at most 32 literals over the variables 1 to `vars`, at the back of
+    /// its own deque. Where a request for memory is refused the same cube comes back and nothing
+    /// changed. It takes constant time, and the length of the deque where that grows.
     pub fn put(&mut self, cube: Cube) -> Result<(), Cube>
         requires fit { IsFit self.old.vars cube }
         ensures same { SameHand self.old self.new }
@@ -122,8 +122,8 @@ impl Hand {
         self.owner.take()
     }
 
-    /// The front of another hand's deque. It is found empty only where it was so at a moment of the call. Nothing says that a steal ever
-    /// succeeds.
+    /// The front of another hand's deque. It is found empty only where it was so at a moment of the
+    /// call. Nothing says that a steal ever succeeds.
     pub fn steal(&mut self, from: usize) -> Taken
         requires other { from ≢ self.old.number }
         requires hand { from < self.old.hands }
@@ -144,7 +144,8 @@ impl Hand {
         self.words.offer(place);
     }
 
-    /// The least place that any hand offered so far. It is at most each place that this hand has offered or seen.
+    /// The least place that any hand offered so far. It is at most each place that this hand has
+    /// offered or seen.
     pub fn look(&mut self) -> Option<u64>
         ensures same { SameHand self.old self.new }
         ensures noted { self.new ≡ adds self.old (calling (look result)) }
@@ -169,7 +170,8 @@ impl Hand {
         self.words.less();
     }
 
-    /// How many cubes are to be done at one moment: 1, and one for each `more`, less one for each `less`, of all hands, modulo 2^64.
+    /// How many cubes are to be done at one moment: 1, and one for each `more`, less one for each
+    /// `less`, of all hands, modulo 2^64.
     pub fn still_open(&mut self) -> u64
         ensures same { SameHand self.old self.new }
         ensures noted { self.new ≡ adds self.old (calling (still_open result)) }

@@ -1,5 +1,6 @@
-//! The pool: work-stealing deques of cubes, one to each hand, and three words that all hands share. A hand goes into a thread and comes
-//! back with its ledger, what it put, got and called; the pool is closed once all are home. No call waits.
+//! The pool: work-stealing deques of cubes, one to each hand, and three words that all hands share.
+//! A hand goes into a thread and comes back with its ledger, what it put, got and called; the pool
+//! is closed once all are home. No call waits.
 #![tactic(auto)]
 
 mod closing;

@@ -8,8 +8,8 @@ use crate::hand::Hand;
 use crate::seat::WordSeat;
 use std::alloc::{AllocError, Global};
 
-// The thief of the hand h in the deque d. A hand's notes of its own deque stay with the owner, and at its place stands a thief that
-// never steals.
+// The thief of the hand h in the deque d. A hand's notes of its own deque stay with the owner, and
+// at its place stands a thief that never steals.
 fn thief(owner: &mut Owner, vars: u32, h: usize, d: usize) -> Result<Thief, AllocError>
     requires { owner.old.notes ≡ stage vars h d }
     ensures owner { IfOk result (λ _. owner.new ≡ record { id = owner.old.id; notes = stage vars (h + 1) d }) }

@@ -17,13 +17,15 @@ use std::snapshot::Snapshot;
 /// What a pool holds once all its hands are home.
 #[derive(Drop)]
 pub struct Closing {
-    /// The cubes that no hand got, by the number of the hand in whose deque they are, each deque from its front.
+    /// The cubes that no hand got, by the number of the hand in whose deque they are, each deque
+    /// from its front.
     pub left: Vec<Cube>,
 
     /// The least place that was offered.
     pub least: Option<u64>,
 
-    /// How many cubes are still to be done: 1, and one for each `more`, less one for each `less`, modulo 2^64.
+    /// How many cubes are still to be done: 1, and one for each `more`, less one for each `less`,
+    /// modulo 2^64.
     pub undone: u64,
 }
 
@@ -48,9 +50,10 @@ impl Model for Pool {
     ghost invariant = { λ p. p.words.notes ≡ first_notes p.hands };
 }
 
-/// A pool of 1 to 16 hands for cubes over this many variables, and its hands in the order of their numbers, with empty ledgers. The root,
-/// a fit cube, lies in the deque of hand 0. It takes time and memory by the square of the number of hands. `NotOpened` where the table of
-/// the shared words is refused, `NoMemory` where any other request for memory is; all is let go then.
+/// A pool of 1 to 16 hands for cubes over this many variables, and its hands in the order of their
+/// numbers, with empty ledgers. The root, a fit cube, lies in the deque of hand 0. It takes time
+/// and memory by the square of the number of hands. `NotOpened` where the table of the shared words
+/// is refused, `NoMemory` where any other request for memory is; all is let go then.
 pub fn open(
     alloc: Global,
     hands: usize,
@@ -81,10 +84,12 @@ pub fn open(
 }
 
 impl Pool {
-    /// Takes all hands that `open` gave, each once, in any order, and says what is left. Each cube is there once: for each deque, what the
-    /// hands got from it, in some order that keeps each hand's own, and then what is left in it, is what was put into it. All calls on the
-    /// shared words have one order that replays, and `least` and `undone` are what it ends with. It waits for nothing, and takes time by
-    /// the cubes that are left and the square of the number of hands. It fails where a request for memory is refused; all is let go then.
+    /// Takes all hands that `open` gave, each once, in any order, and says what is left. Each cube
+    /// is there once: for each deque, what the hands got from it, in some order that keeps each
+    /// hand's own, and then what is left in it, is what was put into it. All calls on the shared
+    /// words have one order that replays, and `least` and `undone` are what it ends with. It waits
+    /// for nothing, and takes time by the cubes that are left and the square of the number of
+    /// hands. It fails where a request for memory is refused; all is let go then.
     pub fn close(self, hands: Vec<Hand>) -> Result<Closing, AllocError>
         requires { AreAllOf self hands.items }
         ensures once { IfOk result (λ c. (ledgers : List Ledger) → AreLedgersOf hands.items ledgers → IsAllOnce self.root ledgers c.left.items) }

@@ -2,8 +2,8 @@
 use kernel::Cube;
 use std::marker::Model;
 
-/// A cube in a deque, with the number of variables that it is over. A rule of a deque can't speak of a value of the run but by what lies
-/// in the deque: so it learns the number of variables.
+/// A cube in a deque, with the number of variables that it is over. A rule of a deque can't speak
+/// of a value of the run but by what lies in the deque: so it learns the number of variables.
 #[derive(Drop)]
 pub struct Task {
     pub vars: u32,

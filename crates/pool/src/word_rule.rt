@@ -14,7 +14,8 @@ impl Model for SeatNotes {
     ghost view = { λ n. spent_notes };
 }
 
-/// The rule: all calls have an order that keeps each hand's own, replays, and ends with the words as they are.
+/// The rule: all calls have an order that keeps each hand's own, replays, and ends with the words
+/// as they are.
 pub struct InOneOrder;
 
 impl TableRule<(), SeatNotes, ()> for InOneOrder {
@@ -118,8 +119,8 @@ impl Play<(), SeatNotes> for SeesHalt {
     ghost then = { λ s m found n. MakesCall (halted (found == 1)) m n };
 }
 
-/// The load of the least place at the close. It notes with what the order of all calls ends, so that the next load speaks of the
-/// same order.
+/// The load of the least place at the close. It notes with what the order of all calls ends, so
+/// that the next load speaks of the same order.
 pub struct Sealed;
 
 impl Play<(), SeatNotes> for Sealed {
@@ -137,7 +138,8 @@ impl Play<(), SeatNotes> for Rest {
     ghost then = { λ s m found n. ReadsUndone m found n };
 }
 
-/// The words: the least place offered, all bits one where there is none; the number of cubes to be done; 1 once a hand halted.
+/// The words: the least place offered, all bits one where there is none; the number of cubes to be
+/// done; 1 once a hand halted.
 pub type Words = Table<(), SeatNotes, (), InOneOrder, Global>;
 
 /// One hand's right to call, with its notes.

@@ -1,4 +1,5 @@
-//! Four hands, three of them in threads of their own, each with calls in random order. What they bring home is what was put and counted.
+//! Four hands, three of them in threads of their own, each with calls in random order. What they
+//! bring home is what was put and counted.
 ghost use Rattle.std.specs.Prelude.{◌≡◌, ◌≤◌, [], ◌∷◌, length, IfOk};
 ghost use Rattle.theory.specs.Ledger.{IsFit};
 ghost use Rattle.pool.specs.Hands.{SameHand};
@@ -152,7 +153,8 @@ fn last_two_at_once(
     Ok((third.join(rt), last))
 }
 
-/// The last three of four hands make their calls at once, the first two of them in threads of their own.
+/// The last three of four hands make their calls at once, the first two of them in threads of their
+/// own.
 fn last_three_at_once(
     rt: &impl Threads,
     alloc: Global,

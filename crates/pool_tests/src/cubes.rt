@@ -7,7 +7,8 @@ use kernel::Cube;
 use samples::has_var;
 use std::alloc::{AllocError, Global};
 
-/// The cube of these numbers, without those that aren't of a new variable of 1 to `vars`, and of 32 at most.
+/// The cube of these numbers, without those that aren't of a new variable of 1 to `vars`, and of 32
+/// at most.
 pub fn cube_of(alloc: Global, vars: u32, numbers: &[i32]) -> Result<Cube, AllocError>
     ensures { IfOk result (λ q. IsFit vars q) }
 {

@@ -1,4 +1,5 @@
-//! Pools of one to four hands: worked rows, each call once, hands in threads of their own, and a long run of calls in random order.
+//! Pools of one to four hands: worked rows, each call once, hands in threads of their own, and a
+//! long run of calls in random order.
 #![tactic(auto)]
 
 #[cfg(test)]

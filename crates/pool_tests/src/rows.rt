@@ -1,4 +1,5 @@
-//! Calls of hands as rows, each with what it is to answer. Whatever a hand does, it stays the same hand.
+//! Calls of hands as rows, each with what it is to answer. Whatever a hand does, it stays the same
+//! hand.
 ghost use Rattle.pool.specs.Hands.{SameHand};
 
 use crate::cubes::{cube_of, is_cube};
@@ -127,7 +128,8 @@ pub fn all_answer(alloc: Global, hand: &mut Hand, calls: &[Call]) -> Result<bool
     Ok(true)
 }
 
-/// Whether the calls of two hands, each with its hand's number, answer as they are to, in this order.
+/// Whether the calls of two hands, each with its hand's number, answer as they are to, in this
+/// order.
 pub fn both_answer(
     alloc: Global,
     one: &mut Hand,

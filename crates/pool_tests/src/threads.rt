@@ -121,7 +121,8 @@ fn thief_back(rt: &impl Threads, two: Hand, numbers: &[i32]) -> Result<(Hand, bo
     Ok((hand, is_wanted))
 }
 
-/// The first hand puts two cubes, and the second one steals the first of them; and whether all calls answer as they are to.
+/// The first hand puts two cubes, and the second one steals the first of them; and whether all
+/// calls answer as they are to.
 fn theft(
     rt: &impl Threads,
     alloc: Global,
@@ -157,7 +158,8 @@ fn a_cube_is_stolen(rt: HostRuntime) -> Result<(), Fail> {
     Ok(())
 }
 
-/// The first hand counts twice up while the second one counts once down; and what each then says is open.
+/// The first hand counts twice up while the second one counts once down; and what each then says is
+/// open.
 fn both_count(
     rt: &impl Threads,
     one: &mut Hand,

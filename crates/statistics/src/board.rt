@@ -1,4 +1,5 @@
-//! The figures of a run that is going on. All its threads share them, and one at a time writes them.
+//! The figures of a run that is going on. All its threads share them, and one at a time writes
+//! them.
 
 use crate::figures::{Figures, Stage};
 use cdcl::Search;
@@ -59,7 +60,8 @@ impl Board {
         *self.figures.lock(rt)
     }
 
-    /// Ends the showing of progress, and waits until no line of it stands on the terminal. One stands there only where its thread runs.
+    /// Ends the showing of progress, and waits until no line of it stands on the terminal. One
+    /// stands there only where its thread runs.
     pub fn end_progress<R: Wait + Clock>(&self, rt: &R) {
         self.figures.lock(rt).end_progress();
         for _ in rt.forever() {

@@ -1,7 +1,8 @@
 //! What a gate is told of cubes, counted. It is told of no cube with more than 32 literals.
 //!
-//! Each hand takes the cube that was put first, from its own deque or from another's. So the tree is gone through by depth: while each hand is at
-//! a cube of a depth of d or more, all cubes of a lesser depth are done with. All that is known of the tree follows from this.
+//! Each hand takes the cube that was put first, from its own deque or from another's. So the tree
+//! is gone through by depth: while each hand is at a cube of a depth of d or more, all cubes of a
+//! lesser depth are done with. All that is known of the tree follows from this.
 
 use std::fmt;
 use std::fmt::{Display, Formatter};
@@ -115,8 +116,9 @@ impl CubeCounts {
         put.saturating_sub(got)
     }
 
-    /// The part of the tree that is closed at least, in hundredths of a per cent: a cube of d literals is one part in 2^d of it. Where all cubes
-    /// above a depth are done with, what isn't closed above it lies in the cubes of the depth before.
+    /// The part of the tree that is closed at least, in hundredths of a per cent: a cube of d
+    /// literals is one part in 2^d of it. Where all cubes above a depth are done with, what isn't
+    /// closed above it lies in the cubes of the depth before.
     pub fn closed(&self) -> u64 {
         let depth = self.depth();
         let Some(above) = depth.checked_sub(1) else {

@@ -4,7 +4,8 @@ use cnf::Formula;
 use cubes::Tree;
 use lines::Row;
 
-/// Told of each stage of a run as it ends. What an observer does changes nothing that the run writes.
+/// Told of each stage of a run as it ends. What an observer does changes nothing that the run
+/// writes.
 pub trait Observer {
     /// The formula is read.
     fn read(&self, formula: &Formula);

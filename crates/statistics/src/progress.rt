@@ -11,8 +11,8 @@ use std::time::{Clock, Duration};
 /// How many milliseconds pass between two lines.
 const PAUSE: u64 = 1000;
 
-/// How many milliseconds are slept at most between two looks at the figures. A run that has ended is
-/// left after as many.
+/// How many milliseconds are slept at most between two looks at the figures. A run that has ended
+/// is left after as many.
 const LOOK: u64 = 20;
 
 /// How many milliseconds the ordered search goes on before the focused one is named.
@@ -54,8 +54,8 @@ pub struct Showing {
 }
 
 impl Showing {
-    /// Progress in this manner, if in any; and the focused search after ten seconds, where it may be
-    /// named.
+    /// Progress in this manner, if in any; and the focused search after ten seconds, where it may
+    /// be named.
     pub fn of(progress: Option<Manner>, names_focused: bool) -> Showing {
         let hint = if names_focused { Some(PATIENCE) } else { None };
         Showing { progress, hint }
@@ -66,8 +66,8 @@ impl Showing {
         self.progress.is_some() || self.hint.is_some()
     }
 
-    /// Whether the focused search is to be named, in this stage and after so many milliseconds. It is
-    /// named once.
+    /// Whether the focused search is to be named, in this stage and after so many milliseconds. It
+    /// is named once.
     fn takes_hint(&mut self, stage: Stage, now: u64) -> bool {
         match self.hint {
             Some(after) if now >= after && stage == Stage::Solving => {

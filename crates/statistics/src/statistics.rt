@@ -29,7 +29,8 @@ fn print_stages<E: Write>(out: &mut E, figures: &Figures) {
     print_stage(out, "writing", joined, figures.written);
 }
 
-/// Prints what is known of the cubes. Of a tree without a model that is all; of another one a gate isn't told which cubes were split and skipped.
+/// Prints what is known of the cubes. Of a tree without a model that is all; of another one a gate
+/// isn't told which cubes were split and skipped.
 fn print_cubes<E: Write>(out: &mut E, figures: &Figures) {
     let _ = match figures.tree {
         Some(tree) => {

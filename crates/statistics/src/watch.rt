@@ -1,4 +1,5 @@
-//! What watches a run: at a gate, between its stages, and as its proof goes by. It counts on a board; nothing that the run writes depends on it.
+//! What watches a run: at a gate, between its stages, and as its proof goes by. It counts on a
+//! board; nothing that the run writes depends on it.
 
 use crate::board::Board;
 use crate::counted::Counter;

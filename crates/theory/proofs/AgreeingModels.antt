@@ -1,4 +1,5 @@
--- Assignments that satisfy the formula and the cube agree below the variable in which the ordered search exhausts it.
+-- Assignments that satisfy the formula and the cube agree below the variable in which the ordered
+-- search exhausts it.
 use Rattle.std.proofs.Common.{◌≡◌, ℕ, ◌+◌, ◌<◌, ◌≤◌, Bool, true, false, List, [], ◌∷◌, ◌++◌, nat_eq, refl, sym, ap, subst, ◌∙◌, inl, inr, arith, Option, Some, None, eqb-true, eq-eqb, if◌then◌else◌, unwrap_or}
 use Rattle.theory.specs.Literals.{Literal, has_var, IsCube}
 use Rattle.theory.specs.Truth.{Formula, Assignment, Satisfies, AreTrue, value, is_true}
@@ -14,7 +15,8 @@ use Rattle.theory.proofs.FirstModel.{assigned-below}
 use Rattle.theory.proofs.LawfulTrails.{current_level-Propagates}
 use Rattle.theory.proofs.OpenTrails.{current_level-cube_trail}
 
--- two assignments that satisfy the formula and the cube, in a search: they agree below the variable first decided
+-- two assignments that satisfy the formula and the cube, in a search: they agree below the variable
+-- first decided
 record Agreeing (V : ℕ) (m n : ℕ → Bool) (s : OrderedState) : Type 0 where
   first : StateOk V m s
   second : StateOk V n s
@@ -98,7 +100,8 @@ run-agreeing : (V budget : ℕ) (m n : ℕ → Bool) (s : OrderedState) (o : Out
 unfolding AfterAgreeing
 run-agreeing V budget m n s o r f = RunsFrom-says (IsOrderedStep V budget) (AfterAgreeing V m n) (step-agreeing V budget m n) s o r f
 
--- Below the variable in which a cube is exhausted, all that satisfies the formula and the cube agrees.
+-- Below the variable in which a cube is exhausted, all that satisfies the formula and the cube
+-- agrees.
 pub exhausted-agree : (F : Formula) (B : ℕ) (Q : List Literal) (x : ℕ) (M N : Assignment) → IsCube Q → RunsOrdered F B Q (exhausted x) → Satisfies (searched F) M → AreTrue (value M) Q → Satisfies (searched F) N → AreTrue (value N) Q
     → (u : ℕ) → 1 ≤ u → u < x → value M u ≡ value N u
 unfolding AfterAgreeing

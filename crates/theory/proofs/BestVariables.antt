@@ -1,4 +1,5 @@
--- The variable of greatest score: it is one of those that it is chosen from, and there is one wherever there are any.
+-- The variable of greatest score: it is one of those that it is chosen from, and there is one
+-- wherever there are any.
 use Rattle.std.proofs.Common.{◌≡◌, ℕ, zero, suc, Bool, true, false, not, List, [], ◌∷◌, refl, ap, sym, ◌∙◌, nat_eq, nat_le, eqb-true, eq-eqb, filter, find, cond, inl, inr, Option, Some, None, arith, if◌then◌else◌}
 use Rattle.std.specs.List.{list_any}
 use Rattle.std.proofs.lemmas.List.Folds.{list_any-append}

@@ -1,4 +1,5 @@
--- What a clause is under literals held true, by a walk over it that keeps the one free literal met so far.
+-- What a clause is under literals held true, by a walk over it that keeps the one free literal met
+-- so far.
 use Rattle.std.proofs.Common.{◌≡◌, ℕ, zero, suc, ◌+◌, ◌<◌, ◌≤◌, Bool, true, false, not, ◌||◌, List, [], ◌∷◌, ◌++◌, length, take, drop, get_or, Option, Some, None, find, cond, refl, ap, sym, subst, ◌∙◌, inl, inr, ◌⊎◌, arith}
 use Rattle.std.specs.List.{list_all}
 use Rattle.std.proofs.Math.Bool.{beq}

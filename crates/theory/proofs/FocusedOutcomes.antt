@@ -26,7 +26,8 @@ EndsSo-says V K Q (refuted lines) e =
     subst (λ (x : List Line). CubeSays V K Q (refuted x)) (sym e.2) (CubeSays-refuted V K Q e.0.clauses e.0.trail e.0.lines e.0.number e.0.is_false e.1 e.0.keeps)
 EndsSo-says V K Q (exhausted x) e = tt
 
--- A refuted cube's lines replay, forgotten ones too, and the last one's clause is empty; a model makes the first clauses and the cube true.
+-- A refuted cube's lines replay, forgotten ones too, and the last one's clause is empty; a model
+-- makes the first clauses and the cube true.
 pub RunsFocused-says : (c : Constants) (F : Formula) (B : ℕ) (Q : List Literal) (o : Outcome) → IsFormula F → IsCube Q → IsOver F.vars Q → RunsFocused c F B Q o
     → CubeSays F.vars (first_clauses F) Q o
 RunsFocused-says c F B Q o formed cube over runs =

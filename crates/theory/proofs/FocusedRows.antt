@@ -1,4 +1,5 @@
--- Worked rows of the focused search, computed by the definitions. What they must be comes from a program of its own.
+-- Worked rows of the focused search, computed by the definitions. What they must be comes from a
+-- program of its own.
 use Rattle.std.proofs.Common.{◌≡◌, true, false, [], ◌∷◌, Some, refl}
 use Rattle.theory.specs.Literals.{Literal, positive, negative}
 use Rattle.theory.specs.Truth.{Formula}
@@ -95,7 +96,8 @@ four_in_three = record { vars = 12; clauses = (p1 ∷ p2 ∷ p3 ∷ []) ∷ (p4 
 pigeons : run_focused small 120 four_in_three 1000 [] ≡ Some (refuted (line (p1 ∷ p4 ∷ n8 ∷ []) (12 ∷ 14 ∷ 1 ∷ 2 ∷ 17 ∷ []) ∷ line (n10 ∷ []) (7 ∷ 9 ∷ 10 ∷ 23 ∷ 3 ∷ 18 ∷ 20 ∷ 1 ∷ 2 ∷ 11 ∷ []) ∷ line (n5 ∷ p8 ∷ []) (24 ∷ 11 ∷ 15 ∷ 4 ∷ 19 ∷ 22 ∷ 1 ∷ 3 ∷ 6 ∷ []) ∷ line (n1 ∷ p5 ∷ p8 ∷ []) (5 ∷ 6 ∷ 2 ∷ 3 ∷ 20 ∷ []) ∷ line (p1 ∷ n9 ∷ []) (24 ∷ 18 ∷ 22 ∷ 1 ∷ 4 ∷ 13 ∷ []) ∷ line (p8 ∷ []) (24 ∷ 25 ∷ 26 ∷ 27 ∷ 3 ∷ 8 ∷ 2 ∷ 17 ∷ 21 ∷ 1 ∷ 4 ∷ 13 ∷ []) ∷ line [] (24 ∷ 28 ∷ 12 ∷ 14 ∷ 16 ∷ 4 ∷ 19 ∷ 21 ∷ 1 ∷ 2 ∷ 5 ∷ []) ∷ []))
 pigeons = refl
 
--- the search restarts once, forgets twice and divides its scores twice; its model isn't the first one
+-- the search restarts once, forgets twice and divides its scores twice; its model isn't the first
+-- one
 abbrev thirty : Formula
 thirty = record { vars = 7; clauses = (p1 ∷ n4 ∷ n5 ∷ []) ∷ (p1 ∷ p2 ∷ p7 ∷ []) ∷ (n3 ∷ p5 ∷ p7 ∷ []) ∷ (p1 ∷ n3 ∷ p6 ∷ []) ∷ (p1 ∷ p3 ∷ p4 ∷ []) ∷ (p2 ∷ p3 ∷ n5 ∷ []) ∷ (p2 ∷ n4 ∷ n6 ∷ []) ∷ (n1 ∷ n3 ∷ n6 ∷ []) ∷ (n2 ∷ p3 ∷ n5 ∷ []) ∷ (n4 ∷ p5 ∷ p6 ∷ []) ∷ (p1 ∷ n2 ∷ p3 ∷ []) ∷ (n1 ∷ p4 ∷ n5 ∷ []) ∷ (n3 ∷ n5 ∷ n6 ∷ []) ∷ (p2 ∷ p5 ∷ p7 ∷ []) ∷ (n1 ∷ p5 ∷ p7 ∷ []) ∷ (p3 ∷ n5 ∷ p6 ∷ []) ∷ (n1 ∷ p2 ∷ n5 ∷ []) ∷ (n1 ∷ p2 ∷ n6 ∷ []) ∷ (n3 ∷ n4 ∷ p5 ∷ []) ∷ (n4 ∷ n5 ∷ n6 ∷ []) ∷ (p2 ∷ p4 ∷ n5 ∷ []) ∷ (p2 ∷ p4 ∷ n6 ∷ []) ∷ (n3 ∷ p4 ∷ n6 ∷ []) ∷ (p1 ∷ n5 ∷ p7 ∷ []) ∷ (p1 ∷ p2 ∷ p4 ∷ []) ∷ (p2 ∷ n5 ∷ p6 ∷ []) ∷ (p2 ∷ n3 ∷ n7 ∷ []) ∷ (n1 ∷ n2 ∷ n3 ∷ []) ∷ (n1 ∷ n4 ∷ p6 ∷ []) ∷ (n1 ∷ p2 ∷ p6 ∷ []) ∷ [] }
 

@@ -1,4 +1,5 @@
--- Forgetting clauses by their numbers: no clause becomes false, and a trail on which none of them is a reason stays lawful.
+-- Forgetting clauses by their numbers: no clause becomes false, and a trail on which none of them
+-- is a reason stays lawful.
 use Rattle.std.proofs.Common.{◌≡◌, ℕ, zero, suc, ◌+◌, ◌-◌, ◌<◌, ◌≤◌, Bool, true, false, not, ◌&&◌, List, [], ◌∷◌, ◌++◌, map, filter, drop, length, refl, ap, sym, subst, ◌∙◌, nat_eq, nat_lt, eqb-true, eq-eqb, cond, ◌⊎◌, inl, inr, Option, Some, None, slice_get, option_map, arith, unwrap_or, All, if◌then◌else◌}
 use Rattle.std.specs.List.{list_any}
 use Rattle.std.proofs.lemmas.List.{length-drop}

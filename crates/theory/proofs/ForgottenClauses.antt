@@ -1,4 +1,5 @@
--- Clauses of which some are forgotten: a forgotten one is never false and never a reason, so what is learnt is learnt from the others.
+-- Clauses of which some are forgotten: a forgotten one is never false and never a reason, so what
+-- is learnt is learnt from the others.
 use Rattle.std.proofs.Common.{◌≡◌, ℕ, zero, suc, ◌-◌, ◌≤◌, Bool, true, false, List, [], ◌∷◌, ◌++◌, length, refl, ap, sym, subst, ◌∙◌, ◌⊎◌, inl, inr, Option, Some, None, slice_get, unwrap_or, if◌then◌else◌}
 use Rattle.theory.specs.Literals.{Literal, Clause, positive, negative, negated, has, has_var, without}
 use Rattle.theory.specs.Status.{is_false}

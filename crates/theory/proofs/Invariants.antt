@@ -12,8 +12,8 @@ use Rattle.theory.proofs.ForgettingNumbers.{AreNoReasons}
 abbrev pub AreLearnt : List ℕ → List Clause → List Line → Type 0
 AreLearnt ns C lines = (k : ℕ) → list_any (nat_eq k) ns ≡ true → (length C - length lines < k) × (k ≤ length C)
 
--- P is kept by propagation, by decisions, and where a line is learnt, clauses are forgotten and the trail goes back to the line's level or
--- further
+-- P is kept by propagation, by decisions, and where a line is learnt, clauses are forgotten and the
+-- trail goes back to the line's level or further
 pub record IsInvariant (rule : Rule) (V : ℕ) (P : List Clause → Trail → List Line → Type 0) : Type 0 where
   pub propagated : (C : List Clause) (T U : Trail) (lines : List Line) (a : Closed) → Propagates rule C T a U → P C T lines → P C U lines
   pub decided : (C : List Clause) (T : Trail) (lines : List Line) (l : Literal) → least_false (literals T) C ≡ None → IsVariable V l.var → has_var (literals T) l.var ≡ false

@@ -1,4 +1,5 @@
--- What a search keeps: it is so at the beginning, and propagation, decisions, learning, going back and forgetting keep it.
+-- What a search keeps: it is so at the beginning, and propagation, decisions, learning, going back
+-- and forgetting keep it.
 use Rattle.std.proofs.Common.{◌≡◌, ℕ, ◌+◌, ◌-◌, ◌<◌, ◌≤◌, true, false, List, [], ◌∷◌, ◌++◌, map, length, ap, sym, subst, ◌∙◌, nat_eq, None, Some, append_assoc, append-nil, length-append, arith, All}
 use Rattle.std.proofs.lemmas.List.{map-append, length-map}
 use Rattle.std.proofs.lemmas.List.Elements.{All-push}

@@ -24,7 +24,8 @@ is_latest T l = nat_eq (level_of T l) (current_level T)
 abbrev pub AreBefore : Trail → Trail → Clause → Type 0
 AreBefore T before S = (l : Literal) → has S l ≡ true → is_latest T l ≡ true → has_var (literals before) l.var ≡ true
 
--- the state of the walk behind the entries before: one literal of the current level is left, or all that are there are of entries still to come
+-- the state of the walk behind the entries before: one literal of the current level is left, or all
+-- that are there are of entries still to come
 pub record Narrows (T before : Trail) (S : Clause) : Type 0 where
   pub refuted : Refutes (literals T) S
   pub rising : IsRising S

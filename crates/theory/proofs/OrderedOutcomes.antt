@@ -1,5 +1,5 @@
--- What the outcomes of the ordered search say, by what it keeps: the lines of a refuted cube replay, and a model makes the first clauses and
--- the cube true.
+-- What the outcomes of the ordered search say, by what it keeps: the lines of a refuted cube
+-- replay, and a model makes the first clauses and the cube true.
 use Rattle.std.proofs.Common.{◌≡◌, ℕ, ◌+◌, Bool, true, false, List, [], ◌∷◌, ◌++◌, refl, subst, nat_eq, eqb-true, Option, Some, None, unwrap_or, if◌then◌else◌}
 use Rattle.theory.specs.Literals.{Literal, Clause, negative, IsCube}
 use Rattle.theory.specs.Truth.{Formula, IsOver, IsFormula}

@@ -1,5 +1,5 @@
--- Rows of the focused search over random formulas, with constants so small that few conflicts come to all that it does. What they must be
--- comes from a program of its own.
+-- Rows of the focused search over random formulas, with constants so small that few conflicts come
+-- to all that it does. What they must be comes from a program of its own.
 use Rattle.std.proofs.Common.{◌≡◌, true, false, [], ◌∷◌, Some, refl}
 use Rattle.theory.specs.Truth.{Formula}
 use Rattle.theory.specs.Search.{model, refuted, exhausted}

@@ -2,7 +2,8 @@
 use Rattle.std.proofs.Common.{◌≡◌}
 use Rattle.theory.specs.Search.{Outcome, Next, ends, goes_on, RunsFrom, stops, steps}
 
--- what holds of the state that a run begins with, and passes from each state to what a step makes of it, holds of the outcome
+-- what holds of the state that a run begins with, and passes from each state to what a step makes
+-- of it, holds of the outcome
 pub RunsFrom-says : {State : Type 0} (IsStep : State → Next State → Type 0) (Says : Next State → Type 0) → ((s : State) (n : Next State) → Says (goes_on s) → IsStep s n → Says n)
     → (s : State) (o : Outcome) → RunsFrom IsStep s o → Says (goes_on s) → Says (ends o)
 RunsFrom-says IsStep Says kept s o (stops w) h = kept s (ends o) h w

@@ -1,4 +1,5 @@
--- Truth of clauses under literals that are true, and once one more is made true. In the lemmas m gives the variables' truth values.
+-- Truth of clauses under literals that are true, and once one more is made true. In the lemmas m
+-- gives the variables' truth values.
 use Rattle.std.proofs.Common.{◌≡◌, ℕ, Bool, true, false, not, ◌&&◌, ◌||◌, List, [], ◌∷◌, ◌++◌, refl, ap, sym, ◌∙◌, Some, nat_eq, eqb-true, eq-eqb, inl, inr, cond}
 use Rattle.std.specs.List.{list_any, list_all}
 use Rattle.theory.specs.Literals.{Literal, Clause, negated, negations, same, same_sign, has, without}

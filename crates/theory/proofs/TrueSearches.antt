@@ -1,4 +1,5 @@
--- A search of which all clauses are true: what it learns is true, so it refutes no cube that is true.
+-- A search of which all clauses are true: what it learns is true, so it refutes no cube that is
+-- true.
 use Rattle.std.proofs.Common.{◌≡◌, ℕ, ◌+◌, Bool, true, false, not, ◌||◌, List, [], ◌∷◌, length, refl, sym, subst, ◌∙◌, nat_eq, Some, if◌then◌else◌}
 use Rattle.std.specs.List.{list_any}
 use Rattle.theory.specs.Literals.{Literal, Clause, IsCube}

@@ -1,6 +1,6 @@
--- The focused search: it decides the variables that gained most in conflicts, restarts, and forgets learnt clauses.
--- Source: CDCL as in MiniSat (SAT 2003) and Glucose (IJCAI 2009), in natural numbers alone, so that the outcome is fixed by the formula,
--- the plan and the cube.
+-- The focused search: it decides the variables that gained most in conflicts, restarts, and forgets
+-- learnt clauses. Source: CDCL as in MiniSat (SAT 2003) and Glucose (IJCAI 2009), in natural
+-- numbers alone, so that the outcome is fixed by the formula, the plan and the cube.
 use Rattle.std.specs.Prelude.{◌≡◌, ℕ, ◌+◌, nat_eq, false, List, [], ◌∷◌, ◌++◌, map, Option, Some, None, if◌then◌else◌}
 use Rattle.std.specs.Option.{unwrap_or}
 use Rattle.theory.specs.Literals.{Literal, Clause, has, has_var, positive}
@@ -14,7 +14,8 @@ use Rattle.theory.specs.Scores.{Scores, first_scores, best_outside, is_seen, sco
 use Rattle.theory.specs.Restarts.{glue, Glues, no_glues, with_glue, restarts, restarted}
 use Rattle.theory.specs.Forgetting.{Schedule, first_schedule, is_due, rescheduled, forget_half}
 
--- its state: the clauses, the trail, the conflicts counted, the lines learnt with their glues, and what choices are made by
+-- its state: the clauses, the trail, the conflicts counted, the lines learnt with their glues, and
+-- what choices are made by
 pub record FocusedState : Type 0 where
   pub clauses : List Clause
   pub trail : Trail
@@ -56,8 +57,8 @@ on_quiet V s (Some x) = goes_on (decided_next s x)
 abbrev pub saved_after : ℕ → Trail → Assignment → Assignment
 saved_after V T saved = map (λ v. if has_var (literals T) v then has (literals T) (positive v) else value saved v) (variables V)
 
--- the state after a line was learnt: the trail goes back to level 0 where the search restarts, and else to the line's level; clauses
--- that are reasons there aren't forgotten
+-- the state after a line was learnt: the trail goes back to level 0 where the search restarts, and
+-- else to the line's level; clauses that are reasons there aren't forgotten
 abbrev pub learnt_next : Constants → ℕ → FocusedState → Line → FocusedState
 learnt_next c V s line =
     let n = s.conflicts + 1 in
@@ -77,7 +78,8 @@ learnt_next c V s line =
       schedule = if is_due s.schedule n then rescheduled c n s.schedule else s.schedule;
     }
 
--- the variable in which a cube is exhausted: of those that aren't on the trail at level 0, the one of greatest score
+-- the variable in which a cube is exhausted: of those that aren't on the trail at level 0, the one
+-- of greatest score
 abbrev pub splits_on : ℕ → FocusedState → ℕ
 splits_on V s = unwrap_or (best_outside V (literals (up_to s.trail 0)) s.scores) 0
 

@@ -1,6 +1,6 @@
--- Which learnt clauses the focused search forgets, and when. A forgotten clause keeps its number, and becomes one that is never unit and
--- never false.
--- Source: clauses of great glue are forgotten (Audemard and Simon, IJCAI 2009).
+-- Which learnt clauses the focused search forgets, and when. A forgotten clause keeps its number,
+-- and becomes one that is never unit and never false. Source: clauses of great glue are forgotten
+-- (Audemard and Simon, IJCAI 2009).
 use Rattle.std.specs.Prelude.{ℕ, ◌+◌, ◌-◌, ◌/◌, nat_eq, nat_le, nat_lt, Bool, false, not, ◌&&◌, ◌||◌, List, [], ◌∷◌, map, filter, length, drop, Option, Some, None, count_by, if◌then◌else◌}
 use Rattle.std.specs.List.{list_any}
 use Rattle.theory.specs.Literals.{Clause, positive, negative, has_both_signs}
@@ -50,7 +50,8 @@ candidates c T n (clause ∷ learnt) (glue ∷ glues) =
     if may_go c T n clause glue then record { number = n; glue = glue; size = length clause } ∷ more else more
 candidates c T n learnt glues = []
 
--- a goes before b: its glue is less; or of equal glues its size; or of equal sizes its number is greater
+-- a goes before b: its glue is less; or of equal glues its size; or of equal sizes its number is
+-- greater
 abbrev pub goes_before : Candidate → Candidate → Bool
 goes_before a b = nat_lt a.glue b.glue || (nat_eq a.glue b.glue && (nat_lt a.size b.size || (nat_eq a.size b.size && nat_lt b.number a.number)))
 
@@ -66,6 +67,7 @@ abbrev pub forget : List ℕ → ℕ → List Clause → List Clause
 forget numbers n [] = []
 forget numbers n (clause ∷ K) = (if list_any (nat_eq n) numbers then forgotten else clause) ∷ forget numbers (n + 1) K
 
--- the same with half of the learnt clauses that may be forgotten, which are the last ones and have these glues
+-- the same with half of the learnt clauses that may be forgotten, which are the last ones and have
+-- these glues
 abbrev pub forget_half : Constants → Trail → List ℕ → List Clause → List Clause
 forget_half c T glues K = let first = length K - length glues in forget (last_half (candidates c T (first + 1) (drop first K) glues)) 1 K

@@ -1,5 +1,6 @@
--- What a search keeps of its clauses, its trail and its lines, whichever search it is.
--- Source: textbook CDCL (Handbook of Satisfiability): the invariants of the clauses learnt and of the trail.
+-- What a search keeps of its clauses, its trail and its lines, whichever search it is. Source:
+-- textbook CDCL (Handbook of Satisfiability): the invariants of the clauses learnt and of the
+-- trail.
 use Rattle.std.specs.Prelude.{◌≡◌, ℕ, List, [], ◌∷◌, ◌++◌, map, length, ◌⊎◌, All}
 use Rattle.theory.specs.Literals.{Literal, Clause}
 use Rattle.theory.specs.Truth.{IsOver}
@@ -20,14 +21,16 @@ AreLeft [] [] = Unit {0}
 AreLeft (c ∷ all) (d ∷ left) = ((d ≡ c) ⊎ (d ≡ forgotten)) × AreLeft all left
 AreLeft all left = ⊥
 
--- a search of the cube Q, from the first clauses K over the variables 1 to V on, has these clauses, this trail and these lines
+-- a search of the cube Q, from the first clauses K over the variables 1 to V on, has these clauses,
+-- this trail and these lines
 pub record IsSearchOf (V : ℕ) (K : List Clause) (Q : List Literal) (clauses : List Clause) (trail : Trail) (lines : List Line) : Type 0 where
   -- behind the first clauses stands what is left of the lines' clauses
   pub learnt : List Clause
   pub are_clauses : clauses ≡ K ++ learnt
   pub left : AreLeft (clauses_of lines) learnt
   pub over : All (IsOver V) clauses
-  -- the trail is lawful, has the cube and no variable but the formula's, and no clause was false below its level
+  -- the trail is lawful, has the cube and no variable but the formula's, and no clause was false
+  -- below its level
   pub lawful : IsLawful clauses trail
   pub open_below : IsOpenBelow clauses trail
   pub cube : cube_of trail ≡ Q

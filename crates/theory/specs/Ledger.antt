@@ -1,11 +1,13 @@
--- What one hand does to the shared state, as plain data: the cubes that it put into its own deque, the cubes that it got from each
--- deque, and its calls on the three shared words, each with its answer.
--- Source: work-stealing deques (Blumofe and Leiserson, JACM 1999), one to a hand; the three words are this project's own.
+-- What one hand does to the shared state, as plain data: the cubes that it put into its own deque,
+-- the cubes that it got from each deque, and its calls on the three shared words, each with its
+-- answer. Source: work-stealing deques (Blumofe and Leiserson, JACM 1999), one to a hand; the three
+-- words are this project's own.
 use Rattle.std.specs.Prelude.{ℕ, zero, suc, ◌≤◌, ◌&&◌, Bool, true, false, List, [], ◌∷◌, ◌++◌, length, Option, slice_index_or, count_by, flat_map}
 use Rattle.theory.specs.Literals.{Literal, same}
 use Rattle.theory.specs.Truth.{IsOver}
 
--- a cube that may be put into a deque: over these variables, and with no more literals than a place in the tree has bits
+-- a cube that may be put into a deque: over these variables, and with no more literals than a place
+-- in the tree has bits
 abbrev pub IsFit : ℕ → List Literal → Type 0
 IsFit vars Q = IsOver vars Q × (length Q ≤ 32)
 

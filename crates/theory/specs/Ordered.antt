@@ -1,5 +1,6 @@
--- The ordered search: the least free variable is decided false, and nothing is forgotten. So the model that it finds is the first one.
--- Source: textbook CDCL (Handbook of Satisfiability), with a fixed order of decisions and no restarts.
+-- The ordered search: the least free variable is decided false, and nothing is forgotten. So the
+-- model that it finds is the first one. Source: textbook CDCL (Handbook of Satisfiability), with a
+-- fixed order of decisions and no restarts.
 use Rattle.std.specs.Prelude.{◌≡◌, ℕ, ◌+◌, nat_eq, List, [], ◌∷◌, ◌++◌, Option, Some, None, if◌then◌else◌}
 use Rattle.std.specs.Option.{unwrap_or}
 use Rattle.theory.specs.Literals.{Literal, Clause, negative}
@@ -9,7 +10,8 @@ use Rattle.theory.specs.Propagation.{Closed, quiet, conflict, by_number, Propaga
 use Rattle.theory.specs.Learning.{Line, learn, back_level}
 use Rattle.theory.specs.Search.{Outcome, model, refuted, exhausted, first_clauses, budget_of, values, Next, ends, goes_on, RunsFrom}
 
--- its state: the clauses and the trail, the conflicts counted, the first variable decided, and the lines learnt
+-- its state: the clauses and the trail, the conflicts counted, the first variable decided, and the
+-- lines learnt
 pub record OrderedState : Type 0 where
   pub clauses : List Clause
   pub trail : Trail

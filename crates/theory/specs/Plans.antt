@@ -4,14 +4,16 @@ use Rattle.std.specs.Prelude.{ℕ, ◌^◌}
 
 -- the numbers of the focused search
 pub record Constants : Type 0 where
-  -- what a score gains at the first conflict; a step gains its quotient by growth; from greatest_step on, scores and step are divided
+  -- what a score gains at the first conflict; a step gains its quotient by growth; from
+  -- greatest_step on, scores and step are divided
   pub first_step : ℕ
   pub growth : ℕ
   pub greatest_step : ℕ
   pub divisor : ℕ
   -- how many glues count as recent
   pub window : ℕ
-  -- the conflicts up to the first forgetting; how much longer each further time is; the greatest glue that is never forgotten
+  -- the conflicts up to the first forgetting; how much longer each further time is; the greatest
+  -- glue that is never forgotten
   pub first_interval : ℕ
   pub interval_gain : ℕ
   pub kept_glue : ℕ
@@ -28,8 +30,9 @@ default_constants = record {
   kept_glue = 2;
 }
 
--- ordered: the least free variable is decided false, so that the first model is found. focused: the variables of conflicts are decided first,
--- so that hard formulas are solved; its model is one of several.
+-- ordered: the least free variable is decided false, so that the first model is found. focused: the
+-- variables of conflicts are decided first, so that hard formulas are solved; its model is one of
+-- several.
 pub data Search : Type 0 where
   ordered : Search
   focused : Constants → Search

@@ -1,5 +1,6 @@
--- When the focused search restarts: where the clauses learnt of late have greater glues than those of the whole cube.
--- Source: glue, and restarts by its averages (Audemard and Simon, IJCAI 2009 and CP 2012).
+-- When the focused search restarts: where the clauses learnt of late have greater glues than those
+-- of the whole cube. Source: glue, and restarts by its averages (Audemard and Simon, IJCAI 2009 and
+-- CP 2012).
 use Rattle.std.specs.Prelude.{ℕ, ◌+◌, ◌-◌, ◌*◌, nat_eq, nat_lt, Bool, ◌&&◌, List, [], ◌∷◌, ◌++◌, length, drop, sum, count_by}
 use Rattle.std.specs.List.{list_any}
 use Rattle.theory.specs.Literals.{Clause}

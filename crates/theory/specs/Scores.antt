@@ -1,5 +1,6 @@
--- The scores of variables, by which the focused search decides.
--- Source: activities that grow by ever greater steps (VSIDS of Chaff, DAC 2001, in the form of MiniSat, SAT 2003), in natural numbers.
+-- The scores of variables, by which the focused search decides. Source: activities that grow by
+-- ever greater steps (VSIDS of Chaff, DAC 2001, in the form of MiniSat, SAT 2003), in natural
+-- numbers.
 use Rattle.std.specs.Prelude.{ℕ, ◌+◌, ◌-◌, ◌/◌, nat_le, nat_lt, Bool, not, ◌&&◌, List, [], ◌∷◌, map, filter, Option, Some, None, slice_index_or, if◌then◌else◌}
 use Rattle.std.specs.List.{list_any}
 use Rattle.theory.specs.Literals.{Literal, Clause, has_var}
@@ -28,7 +29,8 @@ abbrev pub best_of : Scores → List ℕ → Option ℕ
 best_of s [] = None
 best_of s (v ∷ vs) = better s v (best_of s vs)
 
--- of the variables 1 to V that have no literal in P, the one of greatest score, of several the greatest
+-- of the variables 1 to V that have no literal in P, the one of greatest score, of several the
+-- greatest
 abbrev pub best_outside : ℕ → List Literal → Scores → Option ℕ
 best_outside V P s = best_of s (filter (λ v. not (has_var P v)) (variables V))
 
@@ -40,7 +42,8 @@ is_seen K T numbers v = nat_lt 0 (level_at (entry_of T v)) && list_any (λ n. ha
 abbrev pub gained : Constants → ℕ → (ℕ → Bool) → Scores → Scores
 gained c V seen s = record { scores = map (λ v. score_of s v + (if seen v then s.step else 0)) (variables V); step = s.step + s.step / c.growth }
 
--- scores stay below a bound; of two scores the greater one stays no less, though they may become equal
+-- scores stay below a bound; of two scores the greater one stays no less, though they may become
+-- equal
 abbrev pub divided : Constants → Scores → Scores
 divided c s = if nat_le c.greatest_step s.step then record { scores = map (λ x. x / c.divisor) s.scores; step = s.step / c.divisor } else s
 

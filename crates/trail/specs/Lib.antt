@@ -1,4 +1,5 @@
--- What a cube and a trail with its tables are seen as. Trails themselves are said in the crate `theory`.
+-- What a cube and a trail with its tables are seen as. Trails themselves are said in the crate
+-- `theory`.
 pub mod Cubes
 pub mod Tables
 pub mod TrailOver

@@ -1,4 +1,5 @@
--- A trail together with the number of variables that it is over, and what is kept of it whatever the clauses.
+-- A trail together with the number of variables that it is over, and what is kept of it whatever
+-- the clauses.
 use Rattle.std.specs.Prelude.{◌≡◌, ℕ, ◌≤◌, true, [], ◌∷◌}
 use Rattle.theory.specs.Truth.{IsOver}
 use Rattle.theory.specs.Trails.{Trail, literals}

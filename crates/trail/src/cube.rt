@@ -44,8 +44,8 @@ impl Cube {
         &self.lits
     }
 
-    /// The cube with one literal more at its end, whose variable isn't in it yet. It takes time by the literals. It fails where a
-    /// request for memory is refused.
+    /// The cube with one literal more at its end, whose variable isn't in it yet. It takes time by
+    /// the literals. It fails where a request for memory is refused.
     pub fn with(&self, lit: Lit) -> Result<Cube, AllocError>
         requires { has_var self.now lit.var ≡ false }
         ensures { IfOk result (λ q. q ≡ self.now ++ lit ∷ []) }
@@ -67,8 +67,8 @@ impl Cube {
         })
     }
 
-    /// Puts a literal at the end, whose variable isn't in the cube yet. It fails where a request for memory is refused, and leaves the
-    /// cube as it was then.
+    /// Puts a literal at the end, whose variable isn't in the cube yet. It fails where a request
+    /// for memory is refused, and leaves the cube as it was then.
     pub fn push(&mut self, lit: Lit) -> Result<(), AllocError>
         requires { has_var self.old lit.var ≡ false }
         ensures ok { OnOk result (self.new ≡ self.old ++ lit ∷ []) }

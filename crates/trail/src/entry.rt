@@ -4,7 +4,8 @@ ghost use Rattle.std.specs.Prelude.{◌≡◌};
 use cnf::Lit;
 use std::marker::Model;
 
-/// A literal on the trail; the number of the clause that was unit in it, if that is why it is there; and its level.
+/// A literal on the trail; the number of the clause that was unit in it, if that is why it is
+/// there; and its level.
 #[derive(Clone, Copy)]
 pub struct Entry {
     pub lit: Lit,

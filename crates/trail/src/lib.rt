@@ -1,4 +1,5 @@
-//! Cubes, and the trail of the search in one: what is assigned, at which level, and by which clause.
+//! Cubes, and the trail of the search in one: what is assigned, at which level, and by which
+//! clause.
 #![tactic(auto)]
 
 mod cube;

@@ -12,13 +12,15 @@ use cnf::Lit;
 use std::alloc::{AllocError, Global};
 use std::marker::Model;
 
-/// Entries of distinct variables, each one of 1 to `vars`, by rising level, with room for all of them.
+/// Entries of distinct variables, each one of 1 to `vars`, by rising level, with room for all of
+/// them.
 #[derive(Drop)]
 pub struct Trail {
     vars: u32,
     entries: Vec<Entry>,
-    // by literal, in order of their numbers: what the entries say of it. Propagation asks for literals many times an entry, so one load
-    // and one comparison have to answer; a value by variable, compared with the literal's sign, takes several times the instructions
+    // by literal, in order of their numbers: what the entries say of it. Propagation asks for
+    // literals many times an entry, so one load and one comparison have to answer; a value by
+    // variable, compared with the literal's sign, takes several times the instructions
     truths: Vec<Truth>,
     // by variable: how many entries there are up to its own, and 0 while it is free
     places: Vec<u32>,
@@ -169,8 +171,9 @@ impl Trail {
         self.status(lit).value()
     }
 
-    /// What is said of a literal. Propagation asks for it in place of the truth value: whether it is `Satisfied` is one comparison, and
-    /// one branch that the processor can't foretell, where a truth value takes two.
+    /// What is said of a literal. Propagation asks for it in place of the truth value: whether it
+    /// is `Satisfied` is one comparison, and one branch that the processor can't foretell, where a
+    /// truth value takes two.
     pub fn status(&self, lit: Lit) -> Truth
         requires { lit.var ≤ self.now.vars }
         ensures truth { IsTruth (literals self.now.entries) lit (value_of result) }
@@ -223,7 +226,8 @@ impl Trail {
         }
     }
 
-    /// Puts an entry at the end. It takes no memory, and time by the variables that the least free one moves on by.
+    /// Puts an entry at the end. It takes no memory, and time by the variables that the least free
+    /// one moves on by.
     pub fn push(&mut self, entry: Entry)
         requires is_variable { IsVariable self.old.vars entry.lit.var }
         requires is_free { has_var (literals self.old.entries) entry.lit.var ≡ false }

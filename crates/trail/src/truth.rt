@@ -49,9 +49,10 @@ impl Truth {
     }
 }
 
-/// Where what is said of a literal stands in the table: the negations lie before the middle, and the variables behind it. So a
-/// literal's own number leads there by one sum. A place that takes the number's amount and its sign apart made searches of pigeonhole
-/// and parity formulas 7 and 14 % slower.
+/// Where what is said of a literal stands in the table: the negations lie before the middle, and
+/// the variables behind it. So a literal's own number leads there by one sum. A place that takes
+/// the number's amount and its sign apart made searches of pigeonhole and parity formulas 7 and 14
+/// % slower.
 pub fn spot(vars: u32, lit: Lit) -> usize
     requires { lit.var ≤ vars }
     ensures { result ≡ spot vars lit }

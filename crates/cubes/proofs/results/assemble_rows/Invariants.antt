@@ -8,8 +8,8 @@ use Rattle.cubes.proofs.Walks.{to_come}
 use Rattle.cubes.proofs.WholeWalks.{AreStillThere}
 use Rattle.cubes.proofs.results.assemble_rows.Given as goal
 
--- for whatever formula and plan the results are whole, the cube is reached, with the nodes before it; and what is needed from here on
--- is still there
+-- for whatever formula and plan the results are whole, the cube is reached, with the nodes before
+-- it; and what is needed from here on is still there
 abbrev pub invariant-cubes : goal.invariant-cubes
 invariant-cubes l = record {
   reached : (F : Formula) (plan : Plan) → IsWhole F plan (map solved_of l.fn.results.items) → IsGathered F plan l.gathering;
