@@ -1,42 +1,29 @@
 -- How the search of a cube begins, and what is so whatever it comes to.
-use Rattle.std.proofs.Common.{◌≡◌, ℕ, ◌≤◌, false, List, [], length, take, All, None, ap, sym, ◌∙◌, refl, subst, arith}
+use Rattle.std.proofs.Common.{◌≡◌, ℕ, ◌≤◌, false, List, [], length, take, All, ap, sym, ◌∙◌, subst, arith}
 use Rattle.std.proofs.Math.Seq.{take-length}
 use Rattle.theory.specs.Literals.{Literal, Clause, IsCube}
 use Rattle.theory.specs.Truth.{Formula, IsOver}
 use Rattle.theory.specs.Trails.{literals, cube_trail}
-use Rattle.theory.specs.Reading.{max_vars}
 use Rattle.theory.specs.Lawful.{IsLawful}
 use Rattle.theory.specs.Results.{OutcomeSays}
 use Rattle.theory.specs.Plans.{ordered, Plan}
 use Rattle.theory.specs.Search.{Outcome, RunsFrom, budget_of, first_clauses}
 use Rattle.theory.specs.Ordered.{OrderedState, IsOrderedStep}
 use Rattle.theory.specs.Runs.{Runs}
-use Rattle.theory.proofs.OpenTrails.{IsOpenBelow-cube_trail}
-use Rattle.theory.proofs.OutcomeLemmas.{Runs-says}
-use Rattle.theory.proofs.PureVariables.{IsFormula-searched}
-use Rattle.theory.proofs.TrailLists.{literals-cube}
+use Rattle.theory.proofs.searching.OpenTrails.{IsOpenBelow-cube_trail}
+use Rattle.theory.proofs.searching.OutcomeLemmas.{Runs-says}
+use Rattle.theory.proofs.searching.PureVariables.{IsFormula-searched}
+use Rattle.theory.proofs.trails.TrailLists.{literals-cube}
 use Rattle.kernel.specs.State.{State}
 use Rattle.kernel.specs.declared.order.Order.{Order}
 use Rattle.kernel.specs.declared.order.Order.TheVariants.{ByNumber}
-use Rattle.cdcl.specs.Searching.{IsReady, IsSearching, Begins, GoesOn, search_of}
+use Rattle.cdcl.specs.Searching.{IsReady, IsSearching, Begins, search_of}
 use Rattle.cdcl.specs.declared.ordered.OrderedSearch.{OrderedSearch}
-use Rattle.theory.proofs.CubeLiterals.{IsCube-from}
+use Rattle.theory.proofs.literals.CubeLiterals.{IsCube-from}
 use Rattle.cdcl.proofs.Progress.{IsDistinctFrom-lawful}
 
 take-whole : (n : ℕ) (K : List Clause) → n ≡ length K → take n K ≡ K
 take-whole n K e = ap (λ k. take k K) e ∙ take-length K
-
--- a kernel that was just opened may go over to a cube
-pub IsReady-opened : (order : Order) (F : Formula) (Q : List Literal) (k : State)
-    → k ≡ record { vars = F.vars; order = order; first = length (first_clauses F); clauses = first_clauses F; trail = cube_trail Q; short = false } → k.vars ≤ max_vars → IsReady order F k
-IsReady-opened order F Q k opened few = rw opened (record {
-  has_memory = refl;
-  in_order = refl;
-  vars = refl;
-  few = rw opened at few;
-  first = refl;
-  clauses = take-length (first_clauses F);
-})
 
 -- the kernel goes over to the cube Q
 pub record IsBegun (order : Order) (F : Formula) (Q : List Literal) (k : State) : Type 0 where
@@ -87,24 +74,6 @@ IsBegun-restart order F Q old k ready went lawful over clauses_over = record {
 
     trail : k.trail ≡ cube_trail Q
     trail = ap (λ (k : State). k.trail) went
-
-pub Begins-restart : (F : Formula) (Q : List Literal) (old : State) (s : OrderedSearch) → IsReady ByNumber F old → s.kernel ≡ record old { clauses = take old.first old.clauses; trail = cube_trail Q }
-    → IsLawful s.kernel.clauses s.kernel.trail → IsOver s.kernel.vars (literals s.kernel.trail) → All (IsOver s.kernel.vars) s.kernel.clauses
-    → s.conflicts ≡ 0 → s.decided ≡ None → s.lines ≡ [] → Begins F Q s
-Begins-restart F Q old s ready went lawful over clauses_over counted decided learnt =
-    let b = IsBegun-restart ByNumber F Q old s.kernel ready went lawful over clauses_over in
-    record { ready = b.ready; searching = b.searching; begun = rw (b.clauses, b.trail, counted, decided, learnt) refl }
-
--- the kernel may go over to another cube when the search has come to its end
-pub IsReady-GoesOn : (order : Order) (F : Formula) (k l : State) → IsReady order F k → GoesOn k l → IsReady order F l
-IsReady-GoesOn order F k l ready goes = record {
-  has_memory = goes.3;
-  in_order = goes.4 ∙ ready.in_order;
-  vars = goes.0 ∙ ready.vars;
-  few = ready.few;
-  first = goes.1 ∙ ready.first;
-  clauses = ap (λ n. take n l.clauses) goes.1 ∙ (goes.2 ∙ ready.clauses);
-}
 
 -- what a search that was begun runs to, is the cube's outcome
 pub Begins-runs : (F : Formula) (plan : Plan) (Q : List Literal) (s : OrderedSearch) (o : Outcome) → plan.search ≡ ordered → Begins F Q s

@@ -5,7 +5,7 @@ use Rattle.std.specs.List.Sorted.{IsPermutation}
 use Rattle.std.proofs.lemmas.Bool.{cases_lt}
 use Rattle.std.proofs.lemmas.List.Elements.{All-from_recursion}
 use Rattle.std.proofs.lemmas.List.Sorted.{IsPermutation-refl, IsPermutation-sym, IsPermutation-trans, IsPermutation-cons, IsPermutation-middle, Contains-permutation}
-use Rattle.theory.proofs.LiteralLemmas.{true_or_false}
+use Rattle.theory.proofs.literals.LiteralLemmas.{true_or_false}
 use Rattle.cdcl.specs.Flags.{flagged, AreWithin}
 
 -- the first two exchanged

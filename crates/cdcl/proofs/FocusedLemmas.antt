@@ -10,14 +10,14 @@ use Rattle.theory.specs.Lawful.{IsLawful}
 use Rattle.theory.specs.Learnable.{IsOpenBelow}
 use Rattle.theory.specs.Learning.{learn}
 use Rattle.theory.specs.Forgetting.{forgotten, forget}
-use Rattle.theory.proofs.LawfulTrails.{least_false-at}
-use Rattle.theory.proofs.LearnableLines.{back_level-learn, free-learn, current_level-learn, IsLearnable-learn}
-use Rattle.theory.proofs.LearntLines.{has_both_signs-learn_clause}
-use Rattle.theory.proofs.LiteralSets.{true_false, false_unless, has_var-has, Refutes-from_is_false}
-use Rattle.theory.proofs.DistinctLiterals.{length-distinct}
-use Rattle.theory.proofs.OverVariables.{AreOver-from_IsOver}
+use Rattle.theory.proofs.trails.LawfulTrails.{least_false-at}
+use Rattle.theory.proofs.searching.LearnableLines.{back_level-learn, free-learn, current_level-learn, IsLearnable-learn}
+use Rattle.theory.proofs.searching.LearntLines.{has_both_signs-learn_clause}
+use Rattle.theory.proofs.literals.LiteralSets.{true_false, false_unless, has_var-has, Refutes-from_is_false}
+use Rattle.theory.proofs.literals.DistinctLiterals.{length-distinct}
+use Rattle.theory.proofs.literals.OverVariables.{AreOver-from_IsOver}
 use Rattle.cdcl.proofs.SearchingLemmas.{IsOver-learn}
-use Rattle.theory.proofs.TrailLevels.{up_to-up_to, current_level-up_to}
+use Rattle.theory.proofs.trails.TrailLevels.{up_to-up_to, current_level-up_to}
 use Rattle.theory.specs.Literals.{negated}
 use Rattle.kernel.specs.State.{State}
 use Rattle.kernel.specs.declared.order.Order.TheVariants.{ByPlace}

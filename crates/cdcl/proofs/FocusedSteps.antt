@@ -1,21 +1,21 @@
 -- The steps of the focused search, as the definition has them.
-use Rattle.std.proofs.Common.{◌≡◌, ℕ, ◌+◌, ◌-◌, ◌*◌, ◌^◌, ◌<◌, ◌≤◌, false, List, [], ◌∷◌, ◌++◌, length, length-append, refl, ap, sym, subst, ◌∙◌, nat_eq, eq-eqb, ◌⊎◌, inl, inr, Option, Some, None, Result, Ok, Err, IfOk, OnOk, All, arith}
+use Rattle.std.proofs.Common.{◌≡◌, ℕ, ◌+◌, ◌-◌, ◌*◌, ◌^◌, ◌<◌, ◌≤◌, false, List, [], ◌∷◌, ◌++◌, length, length-append, refl, ap, sym, subst, ◌∙◌, nat_eq, eq-eqb, ◌⊎◌, inl, inr, Option, Some, None, Result, Ok, Err, IfOk, All, arith}
 use Rattle.theory.specs.Literals.{Clause, IsVariable, has_var}
 use Rattle.theory.specs.Truth.{Assignment, IsOver, value}
 use Rattle.theory.specs.Trails.{Trail, Entry, literals, current_level}
 use Rattle.theory.specs.Propagation.{Closed, quiet, conflict, by_place, Propagates, least_false}
 use Rattle.theory.specs.Lawful.{IsLawful}
 use Rattle.theory.specs.Learning.{learn}
-use Rattle.theory.specs.Search.{RunsFrom, stops, steps, Next, ends, goes_on, model, refuted, exhausted, values}
+use Rattle.theory.specs.Search.{RunsFrom, stops, steps, ends, goes_on, exhausted, values}
 use Rattle.theory.specs.Search as search
 use Rattle.theory.specs.Scores.{best_outside}
 use Rattle.theory.specs.Focused as definition
-use Rattle.theory.specs.Focused.{FocusedState, IsFocusedStep, saved_literal, decided_next, learnt_next, splits_on}
-use Rattle.theory.proofs.OpenTrails.{IsOpenBelow-decide}
-use Rattle.theory.proofs.OverVariables.{AreOver-from_IsOver}
-use Rattle.theory.proofs.SplitSoundness.{Propagates-more, has_var-front}
-use Rattle.theory.proofs.TrailLists.{literals-append}
-use Rattle.theory.proofs.BestVariables.{best_outside-some}
+use Rattle.theory.specs.Focused.{IsFocusedStep, saved_literal, decided_next, learnt_next, splits_on}
+use Rattle.theory.proofs.searching.OpenTrails.{IsOpenBelow-decide}
+use Rattle.theory.proofs.literals.OverVariables.{AreOver-from_IsOver}
+use Rattle.theory.proofs.searching.SplitSoundness.{Propagates-more, has_var-front}
+use Rattle.theory.proofs.trails.TrailLists.{literals-append}
+use Rattle.theory.proofs.searching.BestVariables.{best_outside-some}
 use Rattle.kernel.specs.State.{State}
 use Rattle.kernel.specs.declared.order.Order.TheVariants.{ByPlace}
 use Rattle.cdcl.specs.Outcome.{outcome_of}
@@ -23,7 +23,7 @@ use Rattle.cdcl.specs.Outcome.{LinesOutcome}
 use Rattle.cdcl.specs.declared.focused.FocusedSearch.{FocusedSearch}
 use Rattle.cdcl.specs.declared.decisions.Decisions.{Decisions}
 use Rattle.cdcl.specs.Saving.{AreWaiting}
-use Rattle.cdcl.specs.Focusing.{state_of, HasSaved, IsEquipped, IsFocusing, Follows, GoesOnward, Onward, Continues, IsFocusedSearchStep}
+use Rattle.cdcl.specs.Focusing.{state_of, HasSaved, IsEquipped, IsFocusing, Follows, GoesOnward, Onward, IsFocusedSearchStep}
 use Rattle.cdcl.proofs.SearchingLemmas.{IsSearching-Propagates}
 use Rattle.cdcl.proofs.Progress.{remaining, length-lawful, length-Propagates}
 
@@ -89,20 +89,6 @@ step-from budget s t k a (Ok o) vars clauses closes h = λ saved has.
         moves : (t.conflicts ≡ s.conflicts + 1) ⊎ ((t.conflicts ≡ s.conflicts) × (length k.trail < length t.kernel.trail)) → (t.conflicts ≡ s.conflicts + 1) ⊎ ((t.conflicts ≡ s.conflicts) × (length s.kernel.trail < length t.kernel.trail))
         moves (inl e) = inl e
         moves (inr m) = inr (m.0, let more = m.1 in let before = longer in omega arith)
-
-pub Continues-from : {E : Type 0} (s t : FocusedSearch) (k : State) (r : Result (Option LinesOutcome) E) → (k.vars ≡ s.kernel.vars) × (k.clauses ≡ s.kernel.clauses) × (k.first ≡ s.kernel.first) × (k.order ≡ s.kernel.order)
-    → OnOk r (Continues (record s { kernel = k }) t) → OnOk r (Continues s t)
-Continues-from s t k (Err e) same h = tt
-Continues-from s t k (Ok o) same h = record { goes_on = rw (same.0, same.1, same.2, same.3) at h.goes_on; constants = h.constants; equipped = h.equipped }
-
--- the model, where no variable is free
-pub Follows-model : (budget : ℕ) (s t : FocusedSearch) (saved : Assignment) (o : LinesOutcome) → best_outside s.kernel.vars (literals s.kernel.trail) s.decisions.scores.scores ≡ None
-    → outcome_of o ≡ model (values s.kernel.vars s.kernel.trail) → Follows budget quiet s saved (Some o) t
-Follows-model budget s t saved o none is = record {
-  values = saved;
-  next = ap (definition.on_quiet s.kernel.vars (state_of s saved)) none ∙ ap ends (sym is);
-  onward = tt;
-}
 
 -- a decision
 pub Follows-decided : (budget : ℕ) (s t : FocusedSearch) (saved : Assignment) (x : ℕ) → IsFocusing s → s.conflicts < budget → least_false (literals s.kernel.trail) s.kernel.clauses ≡ None
@@ -183,11 +169,6 @@ Follows-decided budget s t saved x f counted calm best has went lawful over clau
           averaged = subst (λ (u : FocusedSearch). u.averages.constants ≡ u.constants) (sym is) f.equipped.averaged;
         }
 
--- a conflict: at level 0, the last one of the budget, and another one
-pub Follows-refuted : (budget n : ℕ) (s t : FocusedSearch) (saved : Assignment) (o : LinesOutcome) → current_level s.kernel.trail ≡ 0
-    → outcome_of o ≡ refuted (s.lines ++ learn s.kernel.clauses s.kernel.trail n ∷ []) → Follows budget (conflict n) s saved (Some o) t
-Follows-refuted budget n s t saved o low is = record { values = saved; next = rw low (ap ends (sym is)); onward = tt }
-
 pub Follows-exhausted : (budget n : ℕ) (s t : FocusedSearch) (saved : Assignment) (x : ℕ) (o : LinesOutcome) → nat_eq (current_level s.kernel.trail) 0 ≡ false → s.conflicts + 1 ≡ budget
     → x ≡ splits_on s.kernel.vars (state_of s saved) → outcome_of o ≡ exhausted x → Follows budget (conflict n) s saved (Some o) t
 Follows-exhausted budget n s t saved x o above last splits is = record {
@@ -230,9 +211,6 @@ abbrev pub LeadsTo : ℕ → FocusedSearch → FocusedSearch → Type 0
 LeadsTo budget s t =
     (saved : Assignment) → HasSaved s saved → (now : Assignment) × HasSaved t now
     × ((o : search.Outcome) → RunsFrom (IsFocusedStep s.constants s.kernel.vars budget) (state_of t now) o → RunsFrom (IsFocusedStep s.constants s.kernel.vars budget) (state_of s saved) o)
-
-pub LeadsTo-refl : (budget : ℕ) (s : FocusedSearch) → LeadsTo budget s s
-LeadsTo-refl budget s saved h = (saved, h, λ o runs. runs)
 
 pub LeadsTo-step : (budget : ℕ) (s t u : FocusedSearch) → t.constants ≡ s.constants → t.kernel.vars ≡ s.kernel.vars → LeadsTo budget s t
     → ((saved : Assignment) → HasSaved t saved → IsFocusedSearchStep budget t saved None u) → LeadsTo budget s u

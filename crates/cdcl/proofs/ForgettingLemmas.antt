@@ -9,7 +9,7 @@ use Rattle.theory.specs.Trails.{Trail}
 use Rattle.theory.specs.Propagation.{clause_at}
 use Rattle.cdcl.specs.Forgetful.{IsPlain}
 use Rattle.theory.specs.Forgetting.{Candidate, candidates, may_go, last_half, forget, forget_half, is_reason}
-use Rattle.theory.proofs.ForgettingNumbers.{forget-push, half_numbers, half-number}
+use Rattle.theory.proofs.searching.ForgettingNumbers.{forget-push, half_numbers, half-number}
 use Rattle.heuristics.proofs.HalfLemmas.{forget-same}
 use Rattle.cdcl.specs.Numbers.{is_one_of}
 use Rattle.cdcl.proofs.SeenLemmas.{All-one_of}

@@ -7,15 +7,15 @@ use Rattle.theory.specs.Literals.{Literal, Clause}
 use Rattle.theory.specs.Trails.{Entry, Trail, current_level, entry_of, level_of, level_at, variables}
 use Rattle.theory.specs.Lawful.{IsLawful}
 use Rattle.theory.specs.Restarts.{glue}
-use Rattle.theory.proofs.LiteralLemmas.{and-right}
+use Rattle.theory.proofs.literals.LiteralLemmas.{and-right}
 use Rattle.theory.specs.Truth.{IsOver}
 use Rattle.theory.specs.Trails.{literals}
-use Rattle.theory.proofs.GlueBounds.{glue-most, current_level-most}
-use Rattle.theory.proofs.OverVariables.{AreOver-from_IsOver}
+use Rattle.theory.proofs.searching.GlueBounds.{glue-most, current_level-most}
+use Rattle.theory.proofs.literals.OverVariables.{AreOver-from_IsOver}
 use Rattle.cdcl.proofs.Progress.{length-lawful}
-use Rattle.theory.proofs.LiteralSets.{true_false, false_unless, or-false_right}
-use Rattle.theory.proofs.TrailLevels.{level_of-most}
-use Rattle.cdcl.specs.Numbers.{is_one_of, StandOnce, AreWith}
+use Rattle.theory.proofs.literals.LiteralSets.{false_unless, or-false_right}
+use Rattle.theory.proofs.trails.TrailLevels.{level_of-most}
+use Rattle.cdcl.specs.Numbers.{is_one_of, StandOnce}
 use Rattle.cdcl.proofs.NumberSets.{count-cons, one-counted, none-counted}
 use Rattle.cdcl.proofs.TrailValues.{entry_of-there}
 
@@ -34,51 +34,6 @@ level-most K T l lawful = go (entry_of T l.var) refl
 -- the levels so far, of the literals so far
 abbrev pub AreLevelsOf : Trail → Clause → List ℕ → Type 0
 AreLevelsOf T c levels = (n : ℕ) → is_one_of levels n ≡ (nat_lt 0 n && list_any (λ l. nat_eq (level_of T l) n) c)
-
-pub AreLevelsOf-none : (T : Trail) → AreLevelsOf T [] []
-AreLevelsOf-none T n = go (nat_lt 0 n)
-  where
-    go : (b : Bool) → false ≡ (b && false)
-    go true = refl
-    go false = refl
-
--- one more literal: of level 0, and of another one
-pub AreLevelsOf-zero : (T : Trail) (c d : Clause) (l : Literal) (levels : List ℕ) → level_of T l ≡ 0 → ((p : Literal → Bool) → list_any p d ≡ (list_any p c || p l)) → AreLevelsOf T c levels → AreLevelsOf T d levels
-AreLevelsOf-zero T c d l levels zero_level more h n = h n ∙ sym (ap (λ b. nat_lt 0 n && b) (more (λ k. nat_eq (level_of T k) n)) ∙ go n (list_any (λ k. nat_eq (level_of T k) n) c))
-  where
-    last : (b : Bool) → (b || false) ≡ b
-    last true = refl
-    last false = refl
-
-    go : (n : ℕ) (b : Bool) → (nat_lt 0 n && (b || nat_eq (level_of T l) n)) ≡ (nat_lt 0 n && b)
-    go zero b = refl
-    go (suc m) b =
-        let other : nat_eq 0 (suc m) ≡ false = false_unless (nat_eq 0 (suc m)) (λ t. let e = eqb-true 0 (suc m) t in absurd (omega arith)) in
-        rw (zero_level, other) (ap (λ x. nat_lt 0 (suc m) && x) (last b))
-
-pub AreLevelsOf-more : (T : Trail) (c d : Clause) (l : Literal) (levels after : List ℕ) → 1 ≤ level_of T l → ((p : Literal → Bool) → list_any p d ≡ (list_any p c || p l)) → AreLevelsOf T c levels
-    → AreWith (level_of T l) levels after → AreLevelsOf T d after
-AreLevelsOf-more T c d l levels after some more h put n =
-    put n ∙ (ap (λ b. nat_eq n (level_of T l) || b) (h n) ∙ (go (nat_eq n (level_of T l)) refl (list_any (λ k. nat_eq (level_of T k) n) c) ∙ sym (ap (λ b. nat_lt 0 n && b) (more (λ k. nat_eq (level_of T k) n)))))
-  where
-    turned : (a b : ℕ) (t : Bool) → nat_eq a b ≡ t → nat_eq b a ≡ t
-    turned a b true q = eq-eqb b a (sym (eqb-true a b q))
-    turned a b false q = false_unless (nat_eq b a) (λ t. true_false (nat_eq a b) (eq-eqb a b (sym (eqb-true b a t))) q)
-
-    go : (t : Bool) → nat_eq n (level_of T l) ≡ t → (b : Bool) → (t || (nat_lt 0 n && b)) ≡ (nat_lt 0 n && (b || nat_eq (level_of T l) n))
-    go true q b =
-        let same : n ≡ level_of T l = eqb-true n (level_of T l) q in
-        let low : nat_lt 0 n ≡ true = lt-ltb 0 n (omega (arith, same, some)) in
-        rw (low, turned n (level_of T l) true q) (last b)
-      where
-        last : (b : Bool) → true ≡ (b || true)
-        last true = refl
-        last false = refl
-    go false q b = rw (turned n (level_of T l) false q) (ap (λ x. nat_lt 0 n && x) (last b))
-      where
-        last : (b : Bool) → b ≡ (b || false)
-        last true = refl
-        last false = refl
 
 -- so many of the numbers 1 to V stand there as numbers up to V
 count-more : (V : ℕ) (xs : List ℕ) → count_by (λ x. nat_le x (suc V)) xs ≡ count_by (λ x. nat_le x V) xs + count_by (nat_eq (suc V)) xs

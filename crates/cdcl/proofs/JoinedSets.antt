@@ -12,8 +12,8 @@ use Rattle.theory.specs.Status.{is_false}
 use Rattle.theory.specs.Truth.{IsOver}
 use Rattle.theory.specs.Lawful.{IsLawful}
 use Rattle.theory.specs.Learning.{with_literal}
-use Rattle.theory.proofs.LiteralSets.{Refutes-from_is_false}
-use Rattle.theory.proofs.OverVariables.{AreOver-from_IsOver}
+use Rattle.theory.proofs.literals.LiteralSets.{Refutes-from_is_false}
+use Rattle.theory.proofs.literals.OverVariables.{AreOver-from_IsOver}
 use Rattle.kernel.specs.State.{State}
 use Rattle.cdcl.specs.declared.marks.Marks.{Marks}
 use Rattle.cdcl.specs.Marks.{AreSeen, IsSet, IsClear, CanJoin, CanResolve, is_resolvable}

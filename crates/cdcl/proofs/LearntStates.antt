@@ -13,8 +13,8 @@ use Rattle.theory.specs.Restarts as restarting
 use Rattle.theory.specs.Restarts.{Glues, glue, with_glue, restarted}
 use Rattle.theory.specs.Forgetting.{is_due, rescheduled, forget, forget_half}
 use Rattle.theory.specs.Focused.{FocusedState, learnt_next, saved_after}
-use Rattle.theory.proofs.ForgettingNumbers.{length-forget, half_numbers, half-number, forget-push, IsOpenBelow-forget}
-use Rattle.theory.proofs.LawfulTrails.{IsLawful-append, IsLawful-up_to}
+use Rattle.theory.proofs.searching.ForgettingNumbers.{length-forget, half_numbers, half-number, forget-push, IsOpenBelow-forget}
+use Rattle.theory.proofs.trails.LawfulTrails.{IsLawful-append, IsLawful-up_to}
 use Rattle.heuristics.specs.Rankings.{Ranking, after_conflict, vars_of}
 use Rattle.heuristics.specs.Averages.{Averages}
 use Rattle.kernel.specs.State.{State}

@@ -1,6 +1,6 @@
 -- Sets of literals that are false on the trail, as marks of their variables: literals come, and go
 -- as they are resolved on.
-use Rattle.std.proofs.Common.{◌≡◌, ℕ, ◌+◌, ◌-◌, ◌<◌, ◌≤◌, Bool, true, false, ◌||◌, if◌then◌else◌, nat_le, le-leb, leb-true, ◌&&◌, None, List, [], ◌∷◌, length, Some, refl, ap, sym, subst, ◌∙◌, nat_eq, eqb-true, eq-eqb, cond, inl, inr, ◌⊎◌, slice_index_or, slice_set, get_or, replicate, nat_lt, ltb-true, ltb-false, arith}
+use Rattle.std.proofs.Common.{◌≡◌, ℕ, ◌+◌, ◌-◌, ◌<◌, ◌≤◌, Bool, true, false, ◌||◌, if◌then◌else◌, nat_le, le-leb, ◌&&◌, None, List, [], ◌∷◌, length, Some, refl, ap, sym, subst, ◌∙◌, nat_eq, eqb-true, eq-eqb, cond, inl, inr, ◌⊎◌, slice_index_or, slice_set, get_or, replicate, nat_lt, ltb-true, ltb-false, arith}
 use Rattle.std.proofs.Math.ListN.{get_or-eq_default}
 use Rattle.std.proofs.lemmas.List.{get_or_default, get_or-replicate, length-replicate, get_or-set_same, get_or-set_other, length-set}
 use Rattle.theory.specs.Literals.{Literal, Clause, negated, has, has_var, without}
@@ -8,16 +8,16 @@ use Rattle.theory.specs.Trails.{Trail, Entry, literals, current_level, level_of,
 use Rattle.theory.specs.Truth.{IsOver}
 use Rattle.theory.specs.Lawful.{IsLawful}
 use Rattle.theory.specs.Learning.{with_literal, at_current_level, reason_used}
-use Rattle.theory.proofs.LiteralLemmas.{true_or_false, and-left, and-right}
-use Rattle.theory.proofs.LiteralSets.{true_false, false_unless, negated-negated, other-same, has-cases, has-from_with_literal, has-from_without, has_var-has, has_var-none, literal_of_var}
-use Rattle.theory.proofs.OverVariables.{AreOver-from_IsOver}
-use Rattle.theory.proofs.RisingSets.{IsOneSigned, IsRising-filter, IsRising-with_literals, are_distinct-rising}
-use Rattle.theory.proofs.DistinctLiterals.{length-distinct}
-use Rattle.theory.proofs.TrailEntries.{literals-distinct}
+use Rattle.theory.proofs.literals.LiteralLemmas.{true_or_false, and-left, and-right}
+use Rattle.theory.proofs.literals.LiteralSets.{true_false, false_unless, negated-negated, other-same, has-cases, has-from_with_literal, has-from_without, has_var-has, has_var-none, literal_of_var}
+use Rattle.theory.proofs.literals.OverVariables.{AreOver-from_IsOver}
+use Rattle.theory.proofs.literals.RisingSets.{IsOneSigned, IsRising-filter, IsRising-with_literals, are_distinct-rising}
+use Rattle.theory.proofs.literals.DistinctLiterals.{length-distinct}
+use Rattle.theory.proofs.trails.TrailEntries.{literals-distinct}
 use Rattle.kernel.specs.State.{State}
 use Rattle.cdcl.specs.Marks.{IsMarked, is_open, is_resolvable}
 use Rattle.cdcl.proofs.TrailValues.{entry_of-there}
-use Rattle.cdcl.proofs.SetLemmas.{has_var-with_literal, with_literal-there, count-length, count-with_literal, count-without, has_var-without}
+use Rattle.cdcl.proofs.SetLemmas.{has_var-with_literal, count-length, count-with_literal, count-without, has_var-without}
 
 -- the mark of a variable, as it was read
 pub mark-read : (marked : List Bool) (v w : ℕ) (r : Bool) → v ≡ w → w < length marked → r ≡ get_or marked v r → get_or marked w false ≡ r
@@ -55,12 +55,6 @@ count-most k S marked n all h =
     let count = count-length (λ l. nat_eq (level_of k.trail l) (current_level k.trail)) S in
     let is = h.counted in
     omega arith
-
--- a literal that is in already
-pub IsMarked-there : (k : State) (S : Clause) (marked : List Bool) (n : ℕ) (l : Literal) → IsLawful k.clauses k.trail → IsMarked k S marked n
-    → has (literals k.trail) (negated l) ≡ true → slice_index_or marked l.var false ≡ true → IsMarked k (with_literal l S) marked n
-IsMarked-there k S marked n l lawful h f e =
-    subst (λ U. IsMarked k U marked n) (sym (with_literal-there l S h.rising (is_in k S marked n l lawful h f e))) h
 
 -- a literal more
 pub IsMarked-more : (k : State) (S : Clause) (marked after : List Bool) (n m : ℕ) (l : Literal) → IsLawful k.clauses k.trail → IsMarked k S marked n
@@ -168,17 +162,6 @@ reason-many k S marked n e lawful h there o two =
     go true b t = refl
     go false true t = refl
     go false false t = absurd (cc)
-
-pub reason-few : (k : State) (S : Clause) (marked : List Bool) (n : ℕ) (e : Entry) → IsMarked k S marked n → ¬ (e.level ≡ 0) → n < 2 → None ≡ reason_used k.trail S e
-reason-few k S marked n e h high few =
-    let one : nat_le 2 (at_current_level k.trail S) ≡ false = false_unless (nat_le 2 (at_current_level k.trail S)) (λ t. (let two = leb-true 2 (at_current_level k.trail S) t in let is = h.counted in absurd (omega arith))) in
-    let above : nat_eq e.level 0 ≡ false = false_unless (nat_eq e.level 0) (λ t. high (eqb-true e.level 0 t)) in
-    rw (one, above) (go (has S (negated e.lit)) (nat_eq e.level (current_level k.trail)))
-  where
-    go : (a b : Bool) → None ≡ (if a && (false || (b && false)) then e.reason else None)
-    go true true = refl
-    go true false = refl
-    go false b = refl
 
 -- room without a mark
 pub none-marked : (m v : ℕ) → get_or (replicate m false) v false ≡ false

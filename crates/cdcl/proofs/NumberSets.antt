@@ -1,10 +1,10 @@
 -- Sets of numbers, kept as flags beside their list.
-use Rattle.std.proofs.Common.{◌≡◌, ℕ, zero, suc, inl, inr, ◌+◌, ◌<◌, ◌≤◌, Bool, true, false, ◌||◌, List, [], ◌∷◌, ◌++◌, length, replicate, count_by, refl, ap, sym, ◌∙◌, cond, nat_eq, eqb-true, eq-eqb, slice_index_or, slice_set, if◌then◌else◌, All, arith}
+use Rattle.std.proofs.Common.{◌≡◌, ℕ, inl, inr, ◌+◌, ◌<◌, ◌≤◌, Bool, true, false, ◌||◌, List, [], ◌∷◌, ◌++◌, length, count_by, refl, ap, sym, ◌∙◌, cond, nat_eq, eqb-true, eq-eqb, slice_index_or, if◌then◌else◌, All, arith}
 use Rattle.std.proofs.lemmas.Bool.{cases_lt}
 use Rattle.std.proofs.lemmas.List.Sums.{sum_by-cons, sum_by_push}
-use Rattle.std.proofs.lemmas.List.{get_or-set_same, get_or-set_other, get_or_past}
+use Rattle.std.proofs.lemmas.List.{get_or_past}
 use Rattle.std.proofs.lemmas.List.Elements.{All-nil, All-cons}
-use Rattle.theory.proofs.LiteralSets.{true_false}
+use Rattle.theory.proofs.literals.LiteralSets.{true_false}
 use Rattle.cdcl.specs.Numbers.{AreFlagged, is_one_of, AreWith, StandOnce}
 
 pub count-cons : {X : Type 0} (p : X → Bool) (x : X) (xs : List X) → count_by p (x ∷ xs) ≡ cond (p x) 1 0 + count_by p xs
@@ -51,38 +51,6 @@ any-push n x (y ∷ xs) = go (nat_eq n y) (any-push n x xs)
         or-right_true true = refl
         or-right_true false = refl
     go false more = more
-
--- a set in new room
-pub AreFlagged-none : (bound : ℕ) → AreFlagged (replicate bound false) []
-AreFlagged-none bound n = go (slice_index_or (replicate bound false) n false) (unset bound n)
-  where
-    unset : (m n : ℕ) → slice_index_or (replicate m false) n false ≡ false
-    unset zero n = refl
-    unset (suc m) zero = refl
-    unset (suc m) (suc n) = unset m n
-
-    go : (b : Bool) → b ≡ false → ◌≡◌ {A = ℕ} 0 (if b then 1 else 0)
-    go true q = absurd (cc)
-    go false q = refl
-
--- one is put in
-pub AreFlagged-insert : (flags after : List Bool) (xs ys : List ℕ) (x : ℕ) → AreFlagged flags xs → x < length flags → slice_index_or flags x false ≡ false
-    → after ≡ slice_set flags x true → ys ≡ xs ++ x ∷ [] → AreFlagged after ys
-AreFlagged-insert flags after xs ys x h inside out set push n = rw (set, push) (count-push n x xs ∙ go (nat_eq n x) refl)
-  where
-    go : (b : Bool) → nat_eq n x ≡ b → count_by (nat_eq n) xs + (if b then 1 else 0) ≡ (if slice_index_or (slice_set flags x true) n false then 1 else 0)
-    go true q =
-        let same : n ≡ x = eqb-true n x q in
-        let before : count_by (nat_eq n) xs ≡ 0 = h n ∙ ap (λ b. if b then 1 else 0) (ap (λ k. slice_index_or flags k false) same ∙ out) in
-        let now : slice_index_or (slice_set flags x true) n false ≡ true = ap (λ k. slice_index_or (slice_set flags x true) k false) same ∙ get_or-set_same flags x true false inside in
-        rw (before, now) refl
-    go false q =
-        let other : slice_index_or (slice_set flags x true) n false ≡ slice_index_or flags n false = get_or-set_other flags x n true false (λ e. true_false (nat_eq n x) (eq-eqb n x e) q) in
-        let before = h n in
-        rw other (omega (arith, before))
-
-pub AreWith-push : (xs ys : List ℕ) (x : ℕ) → ys ≡ xs ++ x ∷ [] → AreWith x xs ys
-AreWith-push xs ys x push n = rw push (any-push n x xs)
 
 -- one that is in stays in
 pub AreWith-there : (flags : List Bool) (xs : List ℕ) (x : ℕ) → AreFlagged flags xs → slice_index_or flags x false ≡ true → AreWith x xs xs

@@ -9,8 +9,8 @@ use Rattle.theory.specs.Literals.{Clause, negated, has_var, without}
 use Rattle.theory.specs.Trails.{Trail, Entry}
 use Rattle.theory.specs.Lawful.{IsLawful}
 use Rattle.theory.specs.Learning.{with_literal}
-use Rattle.theory.proofs.LiteralLemmas.{true_or_false, and-left, and-right}
-use Rattle.theory.proofs.LiteralSets.{true_false, false_unless}
+use Rattle.theory.proofs.literals.LiteralLemmas.{true_or_false, and-left, and-right}
+use Rattle.theory.proofs.literals.LiteralSets.{true_false, false_unless}
 use Rattle.cdcl.specs.Marks.{ArePending, is_open, is_resolvable}
 use Rattle.cdcl.proofs.PlaceLemmas.{places-distinct}
 use Rattle.cdcl.proofs.SetLemmas.{has_var-with_literal, has_var-without}

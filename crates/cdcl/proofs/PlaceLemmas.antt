@@ -5,10 +5,10 @@ use Rattle.theory.specs.Literals.{Literal, Clause, negated, has, has_var}
 use Rattle.theory.specs.Trails.{Trail, Entry, literals, entry_of, current_level}
 use Rattle.theory.specs.Lawful.{IsLawful}
 use Rattle.theory.specs.Learning.{is_resolved_on, reason_used, at_current_level}
-use Rattle.theory.proofs.LiteralLemmas.{and-left, and-right}
-use Rattle.theory.proofs.LiteralSets.{true_false, false_unless, and-true, negated-negated, has-head, has-tail, has-cases, has_var-has}
-use Rattle.theory.proofs.TrailEntries.{entry_of-at}
-use Rattle.theory.proofs.Walks.{at-place, entry-place}
+use Rattle.theory.proofs.literals.LiteralLemmas.{and-left, and-right}
+use Rattle.theory.proofs.literals.LiteralSets.{true_false, false_unless, and-true, negated-negated, has-head, has-tail, has-cases, has_var-has}
+use Rattle.theory.proofs.trails.TrailEntries.{entry_of-at}
+use Rattle.theory.proofs.searching.Walks.{at-place, entry-place}
 use Rattle.cdcl.specs.Marks.{is_open, is_resolvable}
 
 pub placed-inside : (T : Trail) (q : ℕ) (e : Entry) → slice_get T q ≡ Some e → q < length T

@@ -10,12 +10,12 @@ use Rattle.theory.specs.Lawful.{IsLawful, IsLawfulAfter}
 use Rattle.theory.specs.Learning.{learn, back_level}
 use Rattle.theory.specs.Search.{Next, ends, goes_on, refuted, exhausted}
 use Rattle.theory.specs.Ordered.{OrderedState, after, decided_next}
-use Rattle.theory.proofs.SearchSteps.{Answers, after-quiet, after-conflict, conflict_next}
-use Rattle.theory.proofs.OverVariables.{AreOver, AreOver-push, AreOver-from_IsOver}
-use Rattle.theory.proofs.KeptSearches.{AreOver-up_to}
-use Rattle.theory.proofs.LiteralSets.{true_false}
-use Rattle.theory.proofs.CubeLiterals.{IsDistinctFrom, IsCube-from}
-use Rattle.theory.proofs.DistinctLiterals.{length-distinct}
+use Rattle.theory.proofs.searching.SearchSteps.{Answers, after-quiet, after-conflict, conflict_next}
+use Rattle.theory.proofs.literals.OverVariables.{AreOver, AreOver-push, AreOver-from_IsOver}
+use Rattle.theory.proofs.searching.KeptSearches.{AreOver-up_to}
+use Rattle.theory.proofs.literals.LiteralSets.{true_false}
+use Rattle.theory.proofs.literals.CubeLiterals.{IsDistinctFrom, IsCube-from}
+use Rattle.theory.proofs.literals.DistinctLiterals.{length-distinct}
 use Rattle.cdcl.proofs.SearchingLemmas.{IsOver-learn}
 
 -- the conflicts and the variables that are left

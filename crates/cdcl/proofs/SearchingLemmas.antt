@@ -9,13 +9,13 @@ use Rattle.theory.specs.Lawful.{IsLawful, cube_of}
 use Rattle.theory.specs.Learnable.{IsLearnable}
 use Rattle.theory.specs.Learning.{learn, back_level}
 use Rattle.theory.specs.Ordered.{after}
-use Rattle.theory.proofs.LawfulTrails.{IsLawful-Propagates, least_false-at}
-use Rattle.theory.proofs.LearnableLines.{IsLearnable-learn}
-use Rattle.theory.proofs.LearntLines.{IsVariable-learn}
-use Rattle.theory.proofs.OpenTrails.{IsOpenBelow-Propagates}
-use Rattle.theory.proofs.OverVariables.{AreOver-from_IsOver, IsOver-from_AreOver, IsOver-left}
-use Rattle.theory.proofs.KeptSearches.{AreOver-Propagates}
-use Rattle.theory.proofs.Rules.{IsRule-by_number, IsRule-by_place}
+use Rattle.theory.proofs.trails.LawfulTrails.{IsLawful-Propagates, least_false-at}
+use Rattle.theory.proofs.searching.LearnableLines.{IsLearnable-learn}
+use Rattle.theory.proofs.searching.LearntLines.{IsVariable-learn}
+use Rattle.theory.proofs.searching.OpenTrails.{IsOpenBelow-Propagates}
+use Rattle.theory.proofs.literals.OverVariables.{AreOver-from_IsOver, IsOver-from_AreOver, IsOver-left}
+use Rattle.theory.proofs.searching.KeptSearches.{AreOver-Propagates}
+use Rattle.theory.proofs.searching.Rules.{IsRule-by_number, IsRule-by_place}
 use Rattle.kernel.specs.State.{State}
 use Rattle.kernel.specs.Rules.{rule_of}
 use Rattle.kernel.specs.declared.order.Order.{Order}

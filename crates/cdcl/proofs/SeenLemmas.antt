@@ -1,5 +1,5 @@
 -- The variables that a conflict has seen, as a list.
-use Rattle.std.proofs.Common.{◌≡◌, ℕ, suc, zero, ◌<◌, ◌≤◌, Bool, true, false, ◌&&◌, ◌||◌, List, [], ◌∷◌, length, slice_index, count_by, cond, refl, ap, sym, subst, ◌∙◌, nat_eq, nat_lt, eqb-true, eq-eqb, Option, Some, None, All, arith}
+use Rattle.std.proofs.Common.{◌≡◌, ℕ, suc, zero, ◌<◌, ◌≤◌, Bool, true, false, ◌&&◌, ◌||◌, List, [], ◌∷◌, length, slice_index, count_by, cond, refl, ap, sym, subst, ◌∙◌, nat_eq, nat_lt, eq-eqb, Option, Some, None, All, arith}
 use Rattle.std.specs.List.{list_any}
 use Rattle.std.proofs.lemmas.List.Elements.{All-nil, All-cons}
 use Rattle.theory.specs.Literals.{Clause, IsVariable, has_var}
@@ -10,83 +10,14 @@ use Rattle.theory.specs.Propagation.{clause_at, least_false}
 use Rattle.theory.specs.Lawful.{IsLawful}
 use Rattle.theory.specs.Learning.{learn, with_literals}
 use Rattle.theory.specs.Scores.{Scores, is_seen, scores_after}
-use Rattle.theory.proofs.LiteralLemmas.{and-left}
-use Rattle.theory.proofs.LawfulTrails.{least_false-at}
-use Rattle.theory.proofs.OverVariables.{AreOver-from_IsOver}
-use Rattle.theory.proofs.Walks.{walk-all, grounded-place}
+use Rattle.theory.proofs.literals.LiteralLemmas.{and-left}
+use Rattle.theory.proofs.trails.LawfulTrails.{least_false-at}
+use Rattle.theory.proofs.literals.OverVariables.{AreOver-from_IsOver}
+use Rattle.theory.proofs.searching.Walks.{walk-all, grounded-place}
 use Rattle.heuristics.specs.Rankings.{AreDistinct}
-use Rattle.cdcl.specs.Numbers.{is_one_of, AreWith, StandOnce}
+use Rattle.cdcl.specs.Numbers.{is_one_of, StandOnce}
 use Rattle.cdcl.proofs.NumberSets.{count-cons, one-counted}
 use Rattle.cdcl.proofs.TrailValues.{entry_of-there}
-
-or-turned : (a b : Bool) → (a || b) ≡ (b || a)
-or-turned true true = refl
-or-turned true false = refl
-or-turned false true = refl
-or-turned false false = refl
-
--- a variable that is in already, one of level 0, and another one
-pub seen-there : (before : List ℕ) (x : ℕ) (above : ℕ → Bool) → is_one_of before x ≡ true → (v : ℕ) → is_one_of before v ≡ (is_one_of before v || (above v && nat_eq v x))
-seen-there before x above there v = go (nat_eq v x) refl
-  where
-    last : (a b : Bool) → a ≡ true → a ≡ (a || b)
-    last true b h = refl
-    last false b h = absurd (cc)
-
-    none : (a b : Bool) → a ≡ (a || (b && false))
-    none true b = refl
-    none false true = refl
-    none false false = refl
-
-    go : (t : Bool) → nat_eq v x ≡ t → is_one_of before v ≡ (is_one_of before v || (above v && t))
-    go true q = last (is_one_of before v) (above v && true) (ap (is_one_of before) (eqb-true v x q) ∙ there)
-    go false q = none (is_one_of before v) (above v)
-
-pub seen-below : (before : List ℕ) (x : ℕ) (above : ℕ → Bool) → above x ≡ false → (v : ℕ) → is_one_of before v ≡ (is_one_of before v || (above v && nat_eq v x))
-seen-below before x above low v = go (nat_eq v x) refl
-  where
-    none : (a b : Bool) → b ≡ false → a ≡ (a || b)
-    none true b h = refl
-    none false true h = absurd (cc)
-    none false false h = refl
-
-    no_and : (b : Bool) → (b && false) ≡ false
-    no_and true = refl
-    no_and false = refl
-
-    go : (t : Bool) → nat_eq v x ≡ t → is_one_of before v ≡ (is_one_of before v || (above v && t))
-    go true q = none (is_one_of before v) (above v && true) (ap (λ b. b && true) (ap above (eqb-true v x q) ∙ low))
-    go false q = none (is_one_of before v) (above v && false) (no_and (above v))
-
-pub seen-new : (before after : List ℕ) (x : ℕ) (above : ℕ → Bool) → above x ≡ true → AreWith x before after → (v : ℕ) → is_one_of after v ≡ (is_one_of before v || (above v && nat_eq v x))
-seen-new before after x above high put v = put v ∙ (or-turned (nat_eq v x) (is_one_of before v) ∙ go (nat_eq v x) refl)
-  where
-    no_and : (b : Bool) → false ≡ (b && false)
-    no_and true = refl
-    no_and false = refl
-
-    go : (t : Bool) → nat_eq v x ≡ t → (is_one_of before v || t) ≡ (is_one_of before v || (above v && t))
-    go true q = ap (λ b. is_one_of before v || b) (sym (ap (λ b. b && true) (ap above (eqb-true v x q) ∙ high)))
-    go false q = ap (λ b. is_one_of before v || b) (no_and (above v))
-
--- one literal more of a clause, and one clause more
-pub seen-more : (a b c d : Bool) → ((a || (d && b)) || (d && c)) ≡ (a || (d && (b || c)))
-seen-more true b c d = refl
-seen-more false b c true = refl
-seen-more false b c false = refl
-
-pub seen-nothing : (a d : Bool) → a ≡ (a || (d && false))
-seen-nothing true d = refl
-seen-nothing false true = refl
-seen-nothing false false = refl
-
-pub clauses-more : (b c d : Bool) → ((d && b) || (d && c)) ≡ (d && (b || c))
-clauses-more b c true = refl
-clauses-more b c false = refl
-
-pub clauses-none : (d : Bool) → false ≡ (d && false)
-clauses-none true = refl
-clauses-none false = refl
 
 -- each is a variable
 pub seen-variable : (V : ℕ) (K : List Clause) (T : Trail) (numbers : List ℕ) (v : ℕ) → IsOver V (literals T) → is_seen K T numbers v ≡ true → IsVariable V v

@@ -9,8 +9,8 @@ use Rattle.std.proofs.lemmas.Map.Views.{any-filter_same}
 use Rattle.theory.specs.Literals.{Clause, has_var}
 use Rattle.theory.specs.Trails.{entry_of}
 use Rattle.theory.specs.Lawful.{IsLawful}
-use Rattle.theory.proofs.LiteralLemmas.{true_or_false}
-use Rattle.theory.proofs.LiteralSets.{true_false, false_unless}
+use Rattle.theory.proofs.literals.LiteralLemmas.{true_or_false}
+use Rattle.theory.proofs.literals.LiteralSets.{true_false, false_unless}
 use Rattle.kernel.specs.State.{State}
 use Rattle.cdcl.specs.Marks.{IsMarked, AreSeen, negation_of}
 use Rattle.cdcl.proofs.TakenClauses.{IsTaken, IsTaken-more, IsTaken-skip}

@@ -4,8 +4,8 @@ use Rattle.std.proofs.lemmas.List.{drop_more}
 use Rattle.std.proofs.lemmas.List.Sums.{sum_by-cons}
 use Rattle.theory.specs.Literals.{Literal, Clause, same, has, has_var, without}
 use Rattle.theory.specs.Learning.{IsRising, with_literal}
-use Rattle.theory.proofs.LiteralLemmas.{same-eq, true_or_false}
-use Rattle.theory.proofs.LiteralSets.{true_false, false_unless, has-cases, has-equal, has-head, has-tail, other-same, or-false_left, or-false_right}
+use Rattle.theory.proofs.literals.LiteralLemmas.{same-eq, true_or_false}
+use Rattle.theory.proofs.literals.LiteralSets.{true_false, false_unless, has-cases, has-equal, has-head, has-tail, other-same, or-false_left, or-false_right}
 
 or-idem : (a b : Bool) → a || (a || b) ≡ a || b
 or-idem true b = refl

@@ -7,13 +7,13 @@ use Rattle.theory.specs.Search as search
 use Rattle.theory.specs.Ordered.{OrderedState, IsOrderedStep}
 use Rattle.theory.specs.Lawful.{IsLawful}
 use Rattle.theory.specs.Learnable.{IsOpenBelow}
-use Rattle.theory.proofs.SearchSteps.{Propagates-Answers}
-use Rattle.theory.proofs.OverVariables.{AreOver, AreOver-from_IsOver, IsOver-from_AreOver}
-use Rattle.theory.proofs.KeptSearches.{AreOver-Propagates}
-use Rattle.theory.proofs.Rules.{IsRule-by_number}
+use Rattle.theory.proofs.searching.SearchSteps.{Propagates-Answers}
+use Rattle.theory.proofs.literals.OverVariables.{AreOver, AreOver-from_IsOver, IsOver-from_AreOver}
+use Rattle.theory.proofs.searching.KeptSearches.{AreOver-Propagates}
+use Rattle.theory.proofs.searching.Rules.{IsRule-by_number}
 use Rattle.theory.specs.Propagation.{by_number}
-use Rattle.theory.proofs.LawfulTrails.{IsLawful-Propagates}
-use Rattle.theory.proofs.OpenTrails.{kept-step}
+use Rattle.theory.proofs.trails.LawfulTrails.{IsLawful-Propagates}
+use Rattle.theory.proofs.searching.OpenTrails.{kept-step}
 use Rattle.kernel.specs.State.{State}
 use Rattle.kernel.specs.declared.order.Order.TheVariants.{ByNumber}
 use Rattle.cdcl.specs.Outcome.{outcome_of}

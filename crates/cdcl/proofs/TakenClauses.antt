@@ -6,10 +6,10 @@ use Rattle.theory.specs.Truth.{IsOver}
 use Rattle.theory.specs.Trails.{Trail, Entry, literals, entry_of, is_given}
 use Rattle.theory.specs.Lawful.{IsLawful}
 use Rattle.theory.specs.Learning.{is_of_cube}
-use Rattle.theory.proofs.LiteralLemmas.{true_or_false}
-use Rattle.theory.proofs.LiteralSets.{true_false, negated-negated, has_var-has, has_var-none, literal_of_var}
-use Rattle.theory.proofs.OverVariables.{AreOver-from_IsOver}
-use Rattle.theory.proofs.TrailEntries.{entry_of_literal, entry_of-at}
+use Rattle.theory.proofs.literals.LiteralLemmas.{true_or_false}
+use Rattle.theory.proofs.literals.LiteralSets.{true_false, negated-negated, has_var-has, has_var-none, literal_of_var}
+use Rattle.theory.proofs.literals.OverVariables.{AreOver-from_IsOver}
+use Rattle.theory.proofs.trails.TrailEntries.{entry_of_literal, entry_of-at}
 use Rattle.kernel.specs.State.{State}
 use Rattle.cdcl.specs.Marks.{IsMarked, negation_of}
 use Rattle.cdcl.proofs.SetLemmas.{above, above-all, above-none, above-same, above-here}

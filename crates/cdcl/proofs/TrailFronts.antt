@@ -5,9 +5,9 @@ use Rattle.std.proofs.lemmas.List.Folds.{list_any-append}
 use Rattle.theory.specs.Literals.{Literal, Clause, has_var}
 use Rattle.theory.specs.Trails.{Trail, Entry, literals, current_level, up_to}
 use Rattle.theory.specs.Lawful.{IsLawful, IsLawfulAfter}
-use Rattle.theory.proofs.TrailEntries.{IsAt, level-at}
-use Rattle.theory.proofs.TrailLevels.{up_to-push}
-use Rattle.theory.proofs.TrailLists.{current_level-push, literals-append}
+use Rattle.theory.proofs.trails.TrailEntries.{IsAt, level-at}
+use Rattle.theory.proofs.trails.TrailLevels.{up_to-push}
+use Rattle.theory.proofs.trails.TrailLists.{current_level-push, literals-append}
 
 lawful-front : (K : List Clause) (before A B : Trail) → IsLawfulAfter K before (A ++ B) → IsLawfulAfter K before A
 lawful-front K before [] B h = tt

@@ -4,8 +4,8 @@ use Rattle.theory.specs.Literals.{Literal, Clause, has, positive}
 use Rattle.theory.specs.Trails.{Trail, Entry, literals, entry_of, variables}
 use Rattle.theory.specs.Lawful.{IsLawful}
 use Rattle.std.proofs.lemmas.List.{map-append}
-use Rattle.theory.proofs.LiteralSets.{has-head, has-tail, true_false}
-use Rattle.theory.proofs.TrailEntries.{entry_of_literal, entry_of-at}
+use Rattle.theory.proofs.literals.LiteralSets.{has-head, has-tail, true_false}
+use Rattle.theory.proofs.trails.TrailEntries.{entry_of_literal, entry_of-at}
 
 -- the entry of a variable is on the trail
 pub entry_of-there : (T : Trail) (v : ℕ) (e : Entry) → entry_of T v ≡ Some e → (e.lit.var ≡ v) × (has (literals T) e.lit ≡ true)

@@ -4,7 +4,7 @@ use Rattle.std.proofs.Math.Seq.{take-length}
 use Rattle.std.proofs.lemmas.Bool.{cases_eq}
 use Rattle.std.proofs.lemmas.List.Sums.{sum_by-set}
 use Rattle.std.proofs.lemmas.List.Elements.{All-nil, All-cons, All-head, All-tail, All-push, All-weaker}
-use Rattle.theory.proofs.OverVariables.{AreOver-from_IsOver}
+use Rattle.theory.proofs.literals.OverVariables.{AreOver-from_IsOver}
 use Rattle.std.proofs.lemmas.List.{get_or-set_same, get_or-set_other, length-set, map-append}
 use Rattle.theory.specs.Literals.{Literal, Clause, IsVariable, has, has_var, positive}
 use Rattle.theory.specs.Truth.{Assignment, IsOver, value}
@@ -12,8 +12,8 @@ use Rattle.theory.specs.Scores.{Scores, score_of, better, best_of}
 use Rattle.theory.specs.Trails.{Trail, Entry, literals, entry_of, variables}
 use Rattle.theory.specs.Lawful.{IsLawful}
 use Rattle.theory.specs.Focused.{saved_after}
-use Rattle.theory.proofs.LiteralSets.{true_false, false_unless, has_var-has, or-none}
-use Rattle.theory.proofs.ModelLemmas.{length-variables}
+use Rattle.theory.proofs.literals.LiteralSets.{true_false, false_unless, has_var-has, or-none}
+use Rattle.theory.proofs.searching.ModelLemmas.{length-variables}
 use Rattle.heuristics.specs.Rankings.{Ranking, vars_of, waits, with_waiting, best_waiting}
 use Rattle.cdcl.specs.Saving.{AgreeOutside, AreWaiting}
 use Rattle.cdcl.specs.declared.decisions.Decisions.{Decisions}

@@ -1,7 +1,6 @@
 -- The walk of analysis over the places where the set may be resolved, from the end of the trail.
 use Rattle.std.proofs.Common.{◌≡◌, ℕ, zero, suc, true, false, ◌+◌, ◌-◌, ◌<◌, ◌≤◌, ◌^◌, List, [], ◌∷◌, ◌++◌, length, take, drop, get_or, slice_get, Option, Some, None, refl, ap, sym, subst, ◌∙◌, reverse, arith, All, IsPermutation}
 use Rattle.std.proofs.lemmas.List.{take_more, reverse-append}
-use Rattle.std.proofs.Math.Seq.{take-length}
 use Rattle.theory.specs.Literals.{Clause, has_var, without}
 use Rattle.theory.specs.Trails.{Trail, Entry, literals}
 use Rattle.theory.specs.Status.{is_false}
@@ -9,8 +8,8 @@ use Rattle.theory.specs.Propagation.{clause_at}
 use Rattle.theory.specs.Lawful.{IsLawful}
 use Rattle.theory.specs.Truth.{IsOver}
 use Rattle.theory.specs.Learning.{walk, resolved, resolved_by, reason_used, with_literals}
-use Rattle.theory.proofs.LiteralLemmas.{and-left}
-use Rattle.theory.proofs.Walks.{grounded-place}
+use Rattle.theory.proofs.literals.LiteralLemmas.{and-left}
+use Rattle.theory.proofs.searching.Walks.{grounded-place}
 use Rattle.kernel.specs.State.{State}
 use Rattle.cdcl.specs.declared.marks.Marks.{Marks}
 use Rattle.cdcl.specs.Marks.{IsSet, CanResolve, CanLookAt, Resolves, is_open, is_resolvable}
@@ -66,15 +65,6 @@ pub record IsWalked (k : State) (n : ℕ) (m : Marks) (hints : List ℕ) : Type 
   pub within : bound ≤ length k.trail
   pub is : IsSet k set bound m
   pub rest : walk k.clauses k.trail (take bound k.trail) set (reverse hints) ≡ walk k.clauses k.trail k.trail (with_literals (clause_at k.clauses n) []) (n ∷ [])
-
-pub IsWalked-begin : (k : State) (n : ℕ) (m : Marks) (hints : List ℕ) → IsSet k (with_literals (clause_at k.clauses n) []) (length k.trail) m → hints ≡ n ∷ [] → IsWalked k n m hints
-IsWalked-begin k n m hints h is = record {
-  set = with_literals (clause_at k.clauses n) [];
-  bound = length k.trail;
-  within = omega arith;
-  is = h;
-  rest = rw (is, take-length k.trail) refl;
-}
 
 -- the same, where the entry at a place is looked at
 pub record IsLookedAt (k : State) (n place : ℕ) (e : Entry) (m : Marks) (hints : List ℕ) : Type 0 where

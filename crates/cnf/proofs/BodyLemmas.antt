@@ -3,8 +3,8 @@ use Rattle.std.proofs.Common.{◌≡◌, ℕ, ◌<◌, min, Bool, true, false, �
 use Rattle.theory.specs.Literals.{Clause}
 use Rattle.theory.specs.Tokens.{Place, is_zero_text, is_negative_text, is_number_text, size_of}
 use Rattle.theory.specs.Reading.{word}
-use Rattle.theory.proofs.NumberTexts.{number-size}
-use Rattle.theory.proofs.ReadingMachine.{at_body, on_body}
+use Rattle.theory.proofs.reading.NumberTexts.{number-size}
+use Rattle.theory.proofs.reading.ReadingMachine.{at_body, on_body}
 use Rattle.cnf.specs.Words.{IsNumberOf}
 use Rattle.cnf.specs.Machine.{TakesToken}
 

@@ -4,7 +4,7 @@ use Rattle.std.specs.List.{slice_range}
 use Rattle.std.proofs.lemmas.Bool.{cases_lt, cases_eq}
 use Rattle.theory.specs.Tokens.{Place, is_text, is_natural_text, size_of}
 use Rattle.theory.specs.Reading.{word, Placed, tokens_of, end_of, no_header, bad_header, over_limit, header_number_fault, refusal}
-use Rattle.theory.proofs.ReadingMachine.{at_p, at_cnf, at_vars, at_clauses, at_header_end, at_body, on_p, on_cnf, on_vars, on_clauses}
+use Rattle.theory.proofs.reading.ReadingMachine.{at_p, at_cnf, at_vars, at_clauses, at_header_end, at_body, on_p, on_cnf, on_vars, on_clauses}
 use Rattle.cnf.specs.Tokens.{before_header, in_header, behind_header, is_word_byte, place_at, tokens_left}
 use Rattle.cnf.specs.Words.{IsWordAt, word_at}
 use Rattle.cnf.specs.Machine.{run, reads_from, reading_of, number_limit, at_number, behind_number}

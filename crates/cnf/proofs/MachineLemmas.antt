@@ -4,10 +4,10 @@ use Rattle.std.proofs.lemmas.List.Sums.{sum_by-append}
 use Rattle.theory.specs.Literals.{Literal, Clause}
 use Rattle.theory.specs.Tokens.{Place, is_text, is_zero_text, is_natural_text, is_number_text, size_of}
 use Rattle.theory.specs.Reading.{Token, word, header_end, Placed, tokens_of, end_of, max_vars, max_clauses, max_literals, is_zero, ended, number_in, body_fault, fault_at, fault_at_end, ends_inside, ReadFault, clause_not_ended, too_few_clauses, Reading, formula, refusal}
-use Rattle.theory.proofs.NumberTexts.{literal_of_text}
-use Rattle.theory.proofs.ReadingMachine.{ReaderState, at_p, at_cnf, at_vars, at_clauses, at_header_end, at_body, step, on_body, on_literal, at_end, read_on, read}
+use Rattle.theory.proofs.reading.NumberTexts.{literal_of_text}
+use Rattle.theory.proofs.reading.ReadingMachine.{ReaderState, at_p, at_cnf, at_vars, at_clauses, at_header_end, at_body, step, on_body, on_literal, at_end, read_on, read}
 use Rattle.cnf.specs.Machine.{clause_fault, fault_in, ends_in, run, reading_of}
-use Rattle.theory.proofs.ReadingLemmas.{when}
+use Rattle.theory.proofs.reading.ReadingLemmas.{when}
 
 -- whether a clause is begun
 abbrev is_begun : Clause → Bool

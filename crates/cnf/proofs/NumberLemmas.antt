@@ -9,11 +9,11 @@ use Rattle.std.specs.Str.Parse.{digits_value}
 use Rattle.std.proofs.lemmas.Int.Digits.{digits_value_push}
 use Rattle.std.proofs.lemmas.Str.{digit_value_digit}
 use Rattle.theory.specs.Tokens.{is_positive_text, is_zero_text, is_natural_text}
-use Rattle.theory.proofs.LiteralLemmas.{and-left, and-right, or-right}
+use Rattle.theory.proofs.literals.LiteralLemmas.{and-left, and-right, or-right}
 use Rattle.cnf.specs.Tokens.{is_word_byte}
 use Rattle.cnf.specs.Words.{is_plain_text, IsNumberOf}
 use Rattle.cnf.proofs.SliceLemmas.{length-slice, get_or-slice, slice-more, slice-first}
-use Rattle.theory.proofs.NumberTexts.{digit-range}
+use Rattle.theory.proofs.reading.NumberTexts.{digit-range}
 
 -- digits one by one
 digits-push : (w : List ℕ) (b : ℕ) → all_ascii_digits w ≡ true → is_ascii_digit b ≡ true → all_ascii_digits (w ++ b ∷ []) ≡ true

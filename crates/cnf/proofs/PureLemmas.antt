@@ -3,7 +3,7 @@ use Rattle.std.proofs.Common.{◌≡◌, ℕ, zero, suc, ◌-◌, ◌+◌, Bool,
 use Rattle.theory.specs.Literals.{positive, negative, IsVariable}
 use Rattle.theory.specs.Truth.{Formula, value}
 use Rattle.theory.specs.Pure.{occurs, is_pure, pure_literals}
-use Rattle.theory.proofs.PureVariables.{negatives, negatives-suc}
+use Rattle.theory.proofs.searching.PureVariables.{negatives, negatives-suc}
 
 -- two tests that agree on the variables 1 to V have the same negatives
 pub negatives-same : (p q : ℕ → Bool) (V : ℕ) → ((v : ℕ) → IsVariable V v → p v ≡ q v) → negatives p V ≡ negatives q V

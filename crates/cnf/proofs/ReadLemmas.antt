@@ -3,8 +3,8 @@ use Rattle.std.proofs.Common.{◌≡◌, ℕ, ◌<◌, ◌≤◌, true, false, L
 use Rattle.theory.specs.Literals.{Clause}
 use Rattle.theory.specs.Tokens.{Place}
 use Rattle.theory.specs.Reading.{max_bytes, end_of, clause_not_ended, too_few_clauses, Placed, Reading, formula, refusal, Reads}
-use Rattle.theory.proofs.ReadingLemmas.{read-Reads}
-use Rattle.theory.proofs.ReadingMachine.{ReaderState, at_body}
+use Rattle.theory.proofs.reading.ReadingLemmas.{read-Reads}
+use Rattle.theory.proofs.reading.ReadingMachine.{ReaderState, at_body}
 use Rattle.cnf.specs.declared.fault.ReadFault.{ReadFault}
 use Rattle.cnf.specs.Faults.{IsRefusal}
 use Rattle.cnf.specs.Machine.{TakesToken, Refuses, run, ends_in, reads_from, reading_of}

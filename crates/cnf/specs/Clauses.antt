@@ -1,6 +1,6 @@
 -- What the clauses read so far are to the machine.
 use Rattle.std.specs.Prelude.{map}
-use Rattle.theory.proofs.ReadingMachine.{ReaderState, at_body}
+use Rattle.theory.proofs.reading.ReadingMachine.{ReaderState, at_body}
 use Rattle.cnf.specs.declared.clauses.Clauses.{Clauses}
 
 abbrev pub state_of : Clauses → ReaderState

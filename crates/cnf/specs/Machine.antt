@@ -4,7 +4,7 @@ use Rattle.std.specs.Prelude.{◌≡◌, ℕ, List, [], ◌∷◌, length, Optio
 use Rattle.theory.specs.Tokens.{Place, is_text, is_number_text, size_of}
 use Rattle.theory.specs.Reading.{Token, word, header_end, Placed, ReadFault, no_header, bad_header, second_header, bad_number, variable_out_of_range, too_many_clauses, too_few_clauses, clause_not_ended, over_limit, header_number_fault, Reading, formula, refusal, tokens_of, end_of, max_vars, max_clauses}
 use Rattle.cnf.specs.Tokens.{Part, tokens_left}
-use Rattle.theory.proofs.ReadingMachine.{ReaderState, at_p, at_cnf, at_vars, at_clauses, at_header_end, at_body, step}
+use Rattle.theory.proofs.reading.ReadingMachine.{ReaderState, at_p, at_cnf, at_vars, at_clauses, at_header_end, at_body, step}
 
 -- the fault of a token behind the header V C and n clauses
 abbrev pub clause_fault : ℕ → ℕ → ℕ → Token → ReadFault

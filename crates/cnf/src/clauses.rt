@@ -1,7 +1,7 @@
 //! The clauses of a text, token by token.
 ghost use Rattle.std.specs.Prelude.{◌≡◌, ◌+◌, ◌≤◌, ◌<◌, [], ◌∷◌, ◌++◌, map, sum_by, length, slice_range, vec_len, MatchResult};
 ghost use Rattle.theory.specs.Reading.{end_of, max_bytes, max_vars};
-ghost use Rattle.theory.proofs.ReadingMachine.{at_body};
+ghost use Rattle.theory.proofs.reading.ReadingMachine.{at_body};
 ghost use Rattle.cnf.specs.Faults.{IsRefusal, IsReadAs};
 ghost use Rattle.cnf.specs.Tokens.{behind_header};
 ghost use Rattle.cnf.specs.Words.{word_at, IsWordAt, IsNumberOf};

@@ -1,7 +1,7 @@
 //! The header of a text: `p cnf`, the number of variables and the number of clauses.
 ghost use Rattle.std.specs.Prelude.{◌≡◌, ℕ, ◌≤◌, ◌<◌, length, MatchResult, Option, []};
 ghost use Rattle.theory.specs.Reading.{max_vars, max_clauses};
-ghost use Rattle.theory.proofs.ReadingMachine.{at_cnf, at_vars, at_body};
+ghost use Rattle.theory.proofs.reading.ReadingMachine.{at_cnf, at_vars, at_body};
 ghost use Rattle.cnf.specs.Faults.{IsRefusal};
 ghost use Rattle.cnf.specs.Tokens.{in_header, behind_header};
 ghost use Rattle.cnf.specs.Machine.{reads_from, reading_of, number_limit, at_number, behind_number};

@@ -5,7 +5,7 @@ ghost use Rattle.theory.specs.Literals.{IsVariable, has, positive};
 ghost use Rattle.theory.specs.Truth.{value, IsOver};
 ghost use Rattle.theory.specs.Reading.{max_vars};
 ghost use Rattle.theory.specs.Pure.{occurs, pure_literals};
-ghost use Rattle.theory.proofs.PureVariables.{negatives};
+ghost use Rattle.theory.proofs.searching.PureVariables.{negatives};
 
 use crate::formula::Formula;
 use crate::lit::Lit;

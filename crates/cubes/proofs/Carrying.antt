@@ -14,13 +14,13 @@ use Rattle.theory.specs.Results as results
 use Rattle.theory.specs.Ledger.{offer, halt}
 use Rattle.theory.specs.Work.{IsFoundedOn}
 use Rattle.theory.specs.Round.{IsHandOn}
-use Rattle.theory.proofs.AcceptedProofs.{or_else-none}
-use Rattle.theory.proofs.LiteralLemmas.{same-refl, true_or_false}
-use Rattle.theory.proofs.SearchLemmas.{Runs-unique}
-use Rattle.theory.proofs.Membership.{Contains-here, Contains-there, Contains-none, Any-from}
-use Rattle.theory.proofs.CubePlaces.{LeadsOn-append}
-use Rattle.theory.proofs.RoundEnds.{All-one, only_calls, not-halt}
-use Rattle.theory.proofs.WholeLists.{sign_positive, sign_negative}
+use Rattle.theory.proofs.checker.AcceptedProofs.{or_else-none}
+use Rattle.theory.proofs.literals.LiteralLemmas.{same-refl, true_or_false}
+use Rattle.theory.proofs.trees.SearchLemmas.{Runs-unique}
+use Rattle.theory.proofs.literals.Membership.{Contains-here, Contains-there, Contains-none, Any-from}
+use Rattle.theory.proofs.trees.CubePlaces.{LeadsOn-append}
+use Rattle.theory.proofs.hands.RoundEnds.{All-one, only_calls, not-halt}
+use Rattle.theory.proofs.trees.WholeLists.{sign_positive, sign_negative}
 use Rattle.cubes.specs.declared.traversal.Split.{Split}
 use Rattle.cubes.specs.Traversal.{half, path}
 use Rattle.cubes.proofs.Walks.{results_of, IsDone, IsLeftDone, IsReached, IsReached-leads}

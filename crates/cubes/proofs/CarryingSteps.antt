@@ -11,8 +11,8 @@ use Rattle.theory.specs.Places.{place_of}
 use Rattle.theory.specs.Results as results
 use Rattle.theory.specs.Results.{Solved}
 use Rattle.theory.specs.Ledger.{Ledger, joined, calling, offer}
-use Rattle.theory.proofs.Joining.{joined-empty}
-use Rattle.theory.proofs.RoundEnds.{only_calls}
+use Rattle.theory.proofs.hands.Joining.{joined-empty}
+use Rattle.theory.proofs.hands.RoundEnds.{only_calls}
 use Rattle.cubes.specs.declared.cube_walk.CubeWalk.{CubeWalk}
 use Rattle.cubes.specs.declared.hands.Ending.{Ending}
 use Rattle.cubes.specs.declared.hands.Ending.TheVariants as ending

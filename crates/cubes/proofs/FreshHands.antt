@@ -8,8 +8,8 @@ use Rattle.theory.specs.Results as results
 use Rattle.theory.specs.Ledger.{Ledger, all_got, joined, halt}
 use Rattle.theory.specs.Work.{IsHalfOfGot, IsFoundedOn, IsTruthful, IsThorough, IsWork}
 use Rattle.theory.specs.Round.{HasWorked}
-use Rattle.theory.proofs.Membership.{Contains-none, slice_get-map, slice_get-below}
-use Rattle.theory.proofs.Joining.{IsTruthful-joined, IsThorough-joined}
+use Rattle.theory.proofs.literals.Membership.{Contains-none, slice_get-map, slice_get-below}
+use Rattle.theory.proofs.hands.Joining.{IsTruthful-joined, IsThorough-joined}
 use Rattle.pool.specs.Hands.{HandView, SameHand}
 use Rattle.pool.specs.Pools.{PoolView, AreNew, AreAllOf, IsHandOf, new_ledger, new_hand, roots_of}
 use Rattle.cubes.specs.Solved.{solved_of}

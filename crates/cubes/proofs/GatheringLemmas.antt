@@ -2,15 +2,15 @@
 use Rattle.std.proofs.Common.{◌≡◌, ℕ, ◌<◌, ◌^◌, List, [], ◌∷◌, ◌++◌, append_assoc, length, Option, Some, None, refl, sym, ap, ap₂, ◌∙◌, subst, arith}
 use Rattle.theory.specs.Literals.{Literal}
 use Rattle.theory.specs.Truth.{Formula, IsFormula}
-use Rattle.theory.specs.Plans.{Plan, Search}
+use Rattle.theory.specs.Plans.{Plan}
 use Rattle.theory.specs.Learning.{Line}
 use Rattle.theory.specs.Search as search
 use Rattle.theory.specs.Runs.{Runs}
 use Rattle.theory.specs.Trees as trees
 use Rattle.theory.specs.Trees.{here}
 use Rattle.theory.specs.Results.{Solved, What, done, skipped}
-use Rattle.theory.proofs.OutcomeLemmas.{Runs-exhausted}
-use Rattle.theory.proofs.ResultLemmas.{IsResult-says}
+use Rattle.theory.proofs.searching.OutcomeLemmas.{Runs-exhausted}
+use Rattle.theory.proofs.trees.ResultLemmas.{IsResult-says}
 use Rattle.cdcl.specs.Outcome.{LinesOutcome, outcome_of}
 use Rattle.cdcl.specs.declared.outcome.Outcome.TheVariants as outcome
 use Rattle.cubes.specs.declared.gathering.Gathering.{Gathering}
@@ -116,9 +116,3 @@ IsResultOf-same F plan (tree.Model values) (tree.Model others) same result = rw 
 IsResultOf-same F plan (tree.Refuted nodes) (tree.Refuted others) same result = (result.0, result.1, rw same result.2)
 IsResultOf-same F plan (tree.Model values) (tree.Refuted others) same result = absurd same
 IsResultOf-same F plan (tree.Refuted nodes) (tree.Model others) same result = absurd same
-
-pub Says-same : (search : Search) (F : Formula) (t u : LinesTree) → IsSameTree t u → Says search F t → Says search F u
-Says-same search F (tree.Model values) (tree.Model others) same said = rw same said
-Says-same search F (tree.Refuted nodes) (tree.Refuted others) same said = said
-Says-same search F (tree.Model values) (tree.Refuted others) same said = absurd same
-Says-same search F (tree.Refuted nodes) (tree.Model others) same said = absurd same

@@ -1,5 +1,5 @@
 -- Both halves of a cube are handed on, or memory runs short on the way.
-use Rattle.std.proofs.Common.{◌≡◌, ℕ, Bool, true, false, List, [], ◌++◌, map, sym, ap, ◌∙◌, subst, append-nil}
+use Rattle.std.proofs.Common.{◌≡◌, ℕ, Bool, true, false, List, [], ◌++◌, sym, ap, ◌∙◌, subst, append-nil}
 use Rattle.theory.specs.Literals.{Literal}
 use Rattle.theory.specs.Truth.{Formula}
 use Rattle.theory.specs.Plans.{Plan}
@@ -7,8 +7,8 @@ use Rattle.theory.specs.Trees.{false_half, true_half}
 use Rattle.theory.specs.Ledger.{Ledger, joined, empty}
 use Rattle.theory.specs.Results.{Solved}
 use Rattle.theory.specs.Round.{IsHandOn}
-use Rattle.theory.proofs.Joining.{joined-empty}
-use Rattle.theory.proofs.HalvesOn.{IsHandOn-nothing}
+use Rattle.theory.proofs.hands.Joining.{joined-empty}
+use Rattle.theory.proofs.hands.HalvesOn.{IsHandOn-nothing}
 use Rattle.cubes.specs.Hands.{AddsHandOn, AddsHalves}
 
 -- neither half
@@ -41,21 +41,4 @@ left-half F plan a ok Q H x l0 l1 s t o h p = record {
   both_done = λ e. absurd (cc);
   is_new = p.is_new ∙ sym (joined-empty (joined l0 p.piece));
   is_after = p.is_after ∙ sym (append-nil (s ++ p.results));
-}
-
--- both
-pub both-halves : (F : Formula) (plan : Plan) (a b ok : Bool) (Q H K : List Literal) (x : ℕ) (l0 l1 l2 : Ledger) (s t u : List Solved) → (ok ≡ true → (a ≡ true) × (b ≡ true)) → H ≡ false_half Q x → K ≡ true_half Q x
-    → AddsHandOn F plan a H l0 l1 s t → AddsHandOn F plan b K l1 l2 t u → AddsHalves F plan ok Q x l0 l2 s u
-both-halves F plan a b ok Q H K x l0 l1 l2 s t u all h k p q = record {
-  left_done = a;
-  right_done = b;
-  left_piece = p.piece;
-  right_piece = q.piece;
-  left_results = p.results;
-  right_results = q.results;
-  left = subst (λ R. IsHandOn F plan a R p.piece p.results) h p.is_part;
-  right = subst (λ R. IsHandOn F plan b R q.piece q.results) k q.is_part;
-  both_done = all;
-  is_new = q.is_new ∙ ap (λ l. joined l q.piece) p.is_new;
-  is_after = q.is_after ∙ ap (λ r. r ++ q.results) p.is_after;
 }

@@ -10,8 +10,8 @@ use Rattle.theory.specs.Literals.{Literal}
 use Rattle.theory.specs.Learning.{Line}
 use Rattle.theory.specs.Work.{IsWork}
 use Rattle.theory.specs.Harvest.{Share, ledgers_of, results_of, IsClosed, IsHarvest}
-use Rattle.theory.proofs.Membership.{slice_get-map}
-use Rattle.theory.proofs.Harvests.{IsClosed-IsHarvest}
+use Rattle.theory.proofs.literals.Membership.{slice_get-map}
+use Rattle.theory.proofs.hands.Harvests.{IsClosed-IsHarvest}
 use Rattle.pool.specs.Hands.{HandView}
 use Rattle.pool.specs.Pools.{AreLedgersOf}
 use Rattle.cubes.specs.declared.hands.Worked.{Worked}

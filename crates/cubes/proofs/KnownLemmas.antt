@@ -12,10 +12,8 @@ use Rattle.std.proofs.lemmas.List.Elements.{All-head, All-tail, Contains-append_
 use Rattle.theory.specs.Literals.{Literal}
 use Rattle.theory.specs.Truth.{Formula}
 use Rattle.theory.specs.Plans.{Plan}
-use Rattle.theory.specs.Runs.{Runs}
 use Rattle.theory.specs.Search as search
 use Rattle.theory.specs.Results.{done, skipped, Solved, IsTrueOf}
-use Rattle.theory.proofs.Membership.{Contains-none}
 use Rattle.cnf.specs.Lits.{literal_of, number_of, signed}
 use Rattle.cnf.specs.contracts.lit.LitPartialEq.TheImpl.{ghosts}
 use Rattle.trail.specs.Cubes.{AreOfVariables}
@@ -79,13 +77,6 @@ same_or_not P Q p q = go (pointwise ghosts.eq Q P) refl
     go true e = inl (keys-same Q P q p e)
     go false e = inr (λ s. let own : pointwise ghosts.eq P P ≡ true = keys-equiv.refl P in let here : pointwise ghosts.eq P P ≡ false = rw s at e in cc)
 
--- nothing is known at first
-pub AreKnown-none : (k : Known) → k.outcomes.entries ≡ [] → AreKnown [] k
-AreKnown-none k e = record {
-  found = λ Q o q h. absurd (let none : known_of k Q ≡ None = rw e refl in cc);
-  missing = λ Q o q h c. Contains-none _ c;
-}
-
 module _ (rs : List Solved) (k n : Known) (P : List Literal) (known : AreKnown rs k) where
   -- a result without an outcome
   pub AreKnown-skipped : (place : ℕ) → AreKnown (rs ++ record { cube = P; what = skipped place } ∷ []) k
@@ -120,15 +111,6 @@ module _ (rs : List Solved) (k n : Known) (P : List Literal) (known : AreKnown r
             → (Q ≡ P) ⊎ (Q ≢ P) → ⊥
         lack Q a q h c (inl e) = let two : known_of n P ≡ None = rw e at h in cc
         lack Q a q h c (inr other) = old Q a q (sym (others Q q other) ∙ h) other (Contains-push_cases rs _ _ c)
-
--- what is handed out leaves the others as they were
-pub AreOutcomes-taken : (F : Formula) (plan : Plan) (k n : Known) (P : List Literal) → AreOfVariables P → known_of n P ≡ None → ((Q : List Literal) → AreOfVariables Q → Q ≢ P → known_of n Q ≡ known_of k Q)
-    → AreOutcomes F plan k → AreOutcomes F plan n
-AreOutcomes-taken F plan k n P p gone others all Q o q h = go (same_or_not P Q p q)
-  where
-    go : (Q ≡ P) ⊎ (Q ≢ P) → Runs F plan Q (outcome_of o)
-    go (inl e) = absurd (let two : known_of n P ≡ Some o = rw e at h in cc)
-    go (inr other) = all Q o q (sym (others Q q other) ∙ h)
 
 -- of true results, what is known is so
 pub AreOutcomes-known : (F : Formula) (plan : Plan) (rs : List Solved) (k : Known) → All (λ r. IsTrueOf F plan r.cube r.what) rs → AreKnown rs k → AreOutcomes F plan k

@@ -1,6 +1,6 @@
 -- The parts of a round over what a hand's calls have noted.
 use Rattle.std.proofs.lemmas.List.Elements.{All-push}
-use Rattle.std.proofs.Common.{◌≡◌, ℕ, ◌<◌, ◌≤◌, Bool, true, false, Option, Some, None, List, [], ◌∷◌, ◌++◌, refl, sym, ap, ◌∙◌, subst, append-nil, append_assoc}
+use Rattle.std.proofs.Common.{◌≡◌, ℕ, ◌<◌, ◌≤◌, Bool, true, false, Option, Some, None, List, [], ◌∷◌, ◌++◌, sym, ap, ◌∙◌, subst, append-nil, append_assoc}
 use Rattle.theory.specs.Literals.{Literal, IsVariable}
 use Rattle.theory.specs.Truth.{Formula, Assignment, IsOver}
 use Rattle.theory.specs.Plans.{Plan}
@@ -10,19 +10,16 @@ use Rattle.theory.specs.Runs.{Runs}
 use Rattle.theory.specs.Trees.{false_half, true_half}
 use Rattle.theory.specs.Places.{place_of}
 use Rattle.theory.specs.Results.{Solved, done, skipped}
-use Rattle.theory.specs.Ledger.{Ledger, empty, joined, putting, calling, offer, look, more, less}
+use Rattle.theory.specs.Ledger.{Ledger, joined, putting, calling, offer, look, more, less}
 use Rattle.theory.specs.Work.{IsNotBelow}
 use Rattle.theory.specs.Round.{IsHandOn, IsRound, Adds}
-use Rattle.theory.proofs.Joining.{joined-empty, joined-assoc}
-use Rattle.theory.proofs.RoundEnds.{only_calls, IsRound-short, IsRound-skipped, IsRound-refuted, IsRound-model}
-use Rattle.theory.proofs.HalvesOn.{looked_then, IsRound-exhausted, IsRound-right_short, IsRound-left_short, IsHandOn-nothing, IsHandOn-put, IsHandOn-refused}
+use Rattle.theory.proofs.hands.Joining.{joined-assoc}
+use Rattle.theory.proofs.hands.RoundEnds.{only_calls, IsRound-short, IsRound-skipped, IsRound-refuted, IsRound-model}
+use Rattle.theory.proofs.hands.HalvesOn.{looked_then, IsRound-exhausted, IsRound-right_short, IsHandOn-put, IsHandOn-refused}
 
 -- one piece after another
 pub after-two : (l0 l1 l2 a b : Ledger) → l1 ≡ joined l0 a → l2 ≡ joined l1 b → l2 ≡ joined l0 (joined a b)
 after-two l0 l1 l2 a b e f = f ∙ ap (λ l. joined l b) e ∙ joined-assoc l0 a b
-
-pub carry-nothing : (F : Formula) (plan : Plan) (H : List Literal) (l : Ledger) (s : List Solved) → Adds (λ p t. (p.put ≡ []) × IsHandOn F plan false H p t) l l s s
-carry-nothing F plan H l s = record { piece = empty; results = []; is_new = sym (joined-empty l); is_after = sym (append-nil s); is_part = (refl, IsHandOn-nothing F plan H) }
 
 pub put-part : (F : Formula) (plan : Plan) (H : List Literal) (l0 l1 l2 : Ledger) (s : List Solved) → l1 ≡ joined l0 (calling more) → l2 ≡ joined l1 (putting H) → Adds (IsHandOn F plan true H) l0 l2 s s
 put-part F plan H l0 l1 l2 s e f = record {
@@ -81,17 +78,6 @@ model-part F plan Q l0 l1 l2 l3 s t seen M place e b r p f g h = record {
       (after-two l0 l1 l2 (calling (look seen)) (calling (offer (place_of Q))) e (f ∙ ap (λ a. joined l1 (calling (offer a))) p)) g;
   is_after = h;
   is_part = IsRound-model F plan Q seen M b r;
-}
-
-pub left-short : (F : Formula) (plan : Plan) (Q H : List Literal) (x : ℕ) (l0 l1 l2 : Ledger) (s t u : List Solved) (seen : Option ℕ) (a ok : Bool) → ok ≡ false → l1 ≡ joined l0 (calling (look seen))
-    → Runs F plan Q (exhausted x) → H ≡ false_half Q x → t ≡ s ++ record { cube = Q; what = done (exhausted x) } ∷ [] → Adds (IsHandOn F plan a H) l1 l2 t u → Adds (IsRound F plan ok Q) l0 l2 s u
-left-short F plan Q H x l0 l1 l2 s t u seen a ok o e r h f p = record {
-  piece = looked_then seen p.piece;
-  results = record { cube = Q; what = done (exhausted x) } ∷ p.results;
-  is_new = after-two l0 l1 l2 (calling (look seen)) p.piece e p.is_new;
-  is_after = p.is_after ∙ ap (λ v. v ++ p.results) f ∙ append_assoc s (record { cube = Q; what = done (exhausted x) } ∷ []) p.results;
-  is_part = subst (λ b. IsRound F plan b Q (looked_then seen p.piece) (record { cube = Q; what = done (exhausted x) } ∷ p.results)) (sym o)
-      (IsRound-left_short F plan Q x seen a p.piece p.results r (subst (λ R. IsHandOn F plan a R p.piece p.results) h p.is_part));
 }
 
 both-after : (s t u v : List Solved) (x : Solved) (p q : List Solved) → t ≡ s ++ x ∷ [] → u ≡ t ++ p → v ≡ u ++ q → v ≡ s ++ (x ∷ p ++ q)

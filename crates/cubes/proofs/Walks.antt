@@ -8,11 +8,11 @@ use Rattle.theory.specs.Search.{model, refuted, exhausted}
 use Rattle.theory.specs.Runs.{Runs}
 use Rattle.theory.specs.Trees.{Tree, satisfied, refutation, split, IsTree, first_model, IsFirstLeaf, on_left, on_right, LeadsOn, false_half, true_half}
 use Rattle.theory.specs.Results.{Solved, done}
-use Rattle.theory.proofs.CubePlaces.{LeadsOn-append}
-use Rattle.theory.proofs.DistinctLiterals.{length-distinct}
-use Rattle.theory.proofs.OverVariables.{AreOver, AreOver-snoc, AreOver-from_IsOver, IsOver-from_AreOver}
-use Rattle.theory.proofs.OutcomeLemmas.{Runs-exhausted}
-use Rattle.theory.proofs.TrailEntries.{are_distinct-push}
+use Rattle.theory.proofs.trees.CubePlaces.{LeadsOn-append}
+use Rattle.theory.proofs.literals.DistinctLiterals.{length-distinct}
+use Rattle.theory.proofs.literals.OverVariables.{AreOver, AreOver-snoc, AreOver-from_IsOver, IsOver-from_AreOver}
+use Rattle.theory.proofs.searching.OutcomeLemmas.{Runs-exhausted}
+use Rattle.theory.proofs.trails.TrailEntries.{are_distinct-push}
 use Rattle.cubes.specs.declared.traversal.Split.{Split}
 use Rattle.cubes.specs.Traversal.{half, path, beside, behind}
 

@@ -10,8 +10,8 @@ use Rattle.theory.specs.Search as search
 use Rattle.theory.specs.Runs.{Runs}
 use Rattle.theory.specs.Trees.{false_half}
 use Rattle.theory.specs.Results.{done, Solved, IsWhole}
-use Rattle.theory.proofs.Membership.{Contains-none, Contains-cases}
-use Rattle.theory.proofs.Assemblies.{IsComeTo, IsComeTo-root, IsComeTo-left, IsComeTo-right, IsComeTo-outcome, outcome_in-result}
+use Rattle.theory.proofs.literals.Membership.{Contains-none, Contains-cases}
+use Rattle.theory.proofs.trees.Assemblies.{IsComeTo, IsComeTo-root, IsComeTo-left, IsComeTo-right, IsComeTo-outcome, outcome_in-result}
 use Rattle.trail.specs.Cubes.{AreOfVariables}
 use Rattle.cdcl.specs.Outcome.{LinesOutcome, outcome_of}
 use Rattle.cdcl.specs.declared.outcome.Outcome.TheVariants as outcome

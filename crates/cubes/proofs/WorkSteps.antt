@@ -7,7 +7,7 @@ use Rattle.theory.specs.Results.{Solved}
 use Rattle.theory.specs.Ledger.{Ledger, joined, calling, still_open, halt, halted}
 use Rattle.theory.specs.Work.{IsUnderway}
 use Rattle.theory.specs.Round.{IsRound, Adds, HasWorked}
-use Rattle.theory.proofs.Rounds.{IsUnderway-begins, IsUnderway-open, IsUnderway-halted, IsUnderway-round, HasWorked-open, HasWorked-halted, HasWorked-short}
+use Rattle.theory.proofs.hands.Rounds.{IsUnderway-begins, IsUnderway-open, IsUnderway-halted, IsUnderway-round, HasWorked-open, HasWorked-halted, HasWorked-short}
 use Rattle.cubes.specs.Hands.{Gets}
 
 module _ (F : Formula) (plan : Plan) (first : Ledger) where

@@ -3,8 +3,8 @@ use Rattle.std.proofs.Common.{◌≡◌, ℕ, List, Some, refl, sym, subst, ◌�
 use Rattle.theory.specs.Truth.{Formula}
 use Rattle.theory.specs.Plans.{Plan}
 use Rattle.theory.specs.Reading.{Reads, formula}
-use Rattle.theory.proofs.FoundModels.{IsFound-satisfies}
-use Rattle.theory.proofs.OneText.{Reads-one_formula, satisfiable-same, unsatisfiable-same}
+use Rattle.theory.proofs.searching.FoundModels.{IsFound-satisfies}
+use Rattle.theory.proofs.trees.OneText.{Reads-one_formula, satisfiable-same, unsatisfiable-same}
 use Rattle.cubesat.specs.Run.{AreTexts, IsRunOf}
 use Rattle.cubesat.specs.declared.verdict.Verdict.{Verdict}
 use Rattle.cubesat.specs.declared.verdict.Verdict.TheVariants.{Satisfiable, Unsatisfiable}

@@ -1,5 +1,5 @@
 -- What a run says, by what its parts answered.
-use Rattle.std.proofs.Common.{◌≡◌, ℕ, true, false, List, Option, Result, Ok, Err, MatchResult, take, inl, inr, ◌⊎◌}
+use Rattle.std.proofs.Common.{◌≡◌, ℕ, true, List, Option, Result, Ok, Err, MatchResult, take, inl, inr, ◌⊎◌}
 use Rattle.std.specs.Result.{is_err}
 use Rattle.std.specs.Io.KnownBytes.{Appends}
 use Rattle.theory.specs.Truth as truth
@@ -18,10 +18,6 @@ use Rattle.cubesat.proofs.WrittenLemmas.{Keeps-same}
 pub failed : {X E : Type 0} (r : Result X E) (P Q : Type 0) → MatchResult r (λ _. P) (λ _. Q) → is_err r ≡ true → Q
 failed (Ok x) P Q h e = absurd (cc)
 failed (Err x) P Q h e = h
-
-pub went_well : {X E : Type 0} (r : Result X E) (P Q : Type 0) → MatchResult r (λ _. P) (λ _. Q) → is_err r ≡ false → P
-went_well (Ok x) P Q h e = h
-went_well (Err x) P Q h e = absurd (cc)
 
 -- a formula that was read, and the texts for it
 pub IsRunOf-made : (known : Option (List ℕ)) (plan : Plan) (F : truth.Formula) (verdict : Verdict) (proof answer : List ℕ) → ◌≡◌ {A = Result truth.Formula ReadFault} (Ok F) (Err reading.ReadFailed) ⊎ IsReadOf known (Ok F)

@@ -1,5 +1,5 @@
 -- A proof that is checked as a reader gives it.
-use Rattle.std.proofs.Common.{◌≡◌, ℕ, ◌+◌, ◌≤◌, List, [], ◌++◌, length, take, Option, Some, None, IfSome, Result, MatchResult, refl, sym, ap, subst, ◌∙◌, arith, inl, inr, append-nil, length-append, append_assoc}
+use Rattle.std.proofs.Common.{◌≡◌, ℕ, ◌+◌, ◌≤◌, List, [], ◌++◌, length, take, Option, Some, None, IfSome, Result, MatchResult, sym, ap, subst, ◌∙◌, arith, inl, inr, append-nil, length-append, append_assoc}
 use Rattle.std.proofs.lemmas.List.{take_at, take_all}
 use Rattle.std.proofs.lemmas.Bool.{cases_lt}
 use Rattle.std.specs.Io.KnownBytes.{Consumes, IsAtEnd}
@@ -7,10 +7,7 @@ use Rattle.theory.specs.Truth as truth
 use Rattle.theory.specs.ProofReading.{ProofReading, ProofReads, max_proof_bytes, too_long}
 use Rattle.theory.specs.ProofReading as reading
 use Rattle.theory.specs.Checking.{accepted}
-use Rattle.lrat_text.specs.declared.fault.TextFault.{TextFault}
 use Rattle.lrat_text.specs.declared.fault.TextFault.TheVariants as texts
-use Rattle.lrat.specs.declared.refusal.Refusal.TheVariants.{Text}
-use Rattle.lrat_text.specs.Faults.{HasFault}
 use Rattle.lrat.specs.Running.{IsSaid}
 use Rattle.lrat.specs.declared.refusal.Refusal.{Refusal}
 use Rattle.lrat_text.specs.Streams.{Stream, begin, feed, finish, checked, answer_to}
@@ -24,10 +21,6 @@ Consumes-both None b d xs ys h g = tt
 Consumes-both (Some us) None d xs ys h g = absurd h
 Consumes-both (Some us) (Some vs) None xs ys h g = absurd g
 Consumes-both (Some us) (Some vs) (Some ws) xs ys h g = h ∙ ap (λ (r : List ℕ). xs ++ r) g ∙ sym (append_assoc xs ys ws)
-
-pub FeedsOn-none : (a : Option (List ℕ)) (V : ℕ) (m : Stream) → FeedsOn a a V m m 0
-FeedsOn-none None V m = record { bytes = []; taken = tt; fed = refl; many = refl }
-FeedsOn-none (Some us) V m = record { bytes = []; taken = refl; fed = refl; many = refl }
 
 pub FeedsOn-more : (a b d : Option (List ℕ)) (V W : ℕ) (l m r : Stream) (n k room : ℕ) → FeedsOn a b V l m n → W ≡ V → FeedsChunk b d W m r room k → FeedsOn a d V l r (n + k)
 FeedsOn-more a b d V W l m r n k room h same g = record {
@@ -68,24 +61,6 @@ some_reading bytes = elim (cases_lt max_proof_bytes (length bytes)) [
   | inl long ↦ (too_long, long)
   | inr short ↦ (reading_of_text bytes, reading-ProofReads bytes short)
 ]
-
--- what a refusal says of the text
-pub text-said : (F : truth.Formula) (bytes : List ℕ) (r : ProofReading) (e : TextFault) → ProofReads bytes r → IsSaid (answer_to F r) (Text e) → HasFault bytes e
-text-said F bytes (reading.steps ss) (texts.BadNumber n) reads h = absurd (cc)
-text-said F bytes (reading.steps ss) (texts.LineNotEnded n) reads h = absurd (cc)
-text-said F bytes (reading.steps ss) (texts.BadShape n) reads h = absurd (cc)
-text-said F bytes (reading.steps ss) texts.NoMemory reads h = tt
-text-said F bytes (reading.steps ss) texts.TooLong reads h = absurd (cc)
-text-said F bytes (reading.line_fault f k) (texts.BadNumber n) reads h = let a : f ≡ reading.bad_number = cc in let b : k ≡ n = cc in rw (← a, ← b) reads
-text-said F bytes (reading.line_fault f k) (texts.LineNotEnded n) reads h = let a : f ≡ reading.line_not_ended = cc in let b : k ≡ n = cc in rw (← a, ← b) reads
-text-said F bytes (reading.line_fault f k) (texts.BadShape n) reads h = let a : f ≡ reading.bad_shape = cc in let b : k ≡ n = cc in rw (← a, ← b) reads
-text-said F bytes (reading.line_fault f k) texts.NoMemory reads h = tt
-text-said F bytes (reading.line_fault f k) texts.TooLong reads h = absurd (cc)
-text-said F bytes too_long (texts.BadNumber n) reads h = absurd (cc)
-text-said F bytes too_long (texts.LineNotEnded n) reads h = absurd (cc)
-text-said F bytes too_long (texts.BadShape n) reads h = absurd (cc)
-text-said F bytes too_long texts.NoMemory reads h = tt
-text-said F bytes too_long texts.TooLong reads h = reads
 
 -- a check that was fed with a whole text
 pub said-of_text : {X : Type 0} (F : truth.Formula) (V : ℕ) (first m : Stream) (bytes : List ℕ) (r : ProofReading) (v : Result X Refusal) → ProofReads bytes r → V ≡ F.vars → first ≡ begin F → m ≡ feed V first bytes

@@ -6,8 +6,8 @@ use Rattle.std.proofs.lemmas.List.Elements.{filter-append}
 use Rattle.theory.specs.Literals.{Literal, has_var}
 use Rattle.theory.specs.Trails.{variables}
 use Rattle.theory.specs.Scores.{Scores, score_of, better, best_of, best_outside}
-use Rattle.theory.proofs.LiteralSets.{true_false}
-use Rattle.theory.proofs.LiteralLemmas.{not_true}
+use Rattle.theory.proofs.literals.LiteralSets.{true_false}
+use Rattle.theory.proofs.literals.LiteralLemmas.{not_true}
 use Rattle.heuristics.specs.Rankings.{Ranking, vars_of, waits, best_waiting, AllWait}
 
 -- of two, the second where it is no worse

@@ -4,7 +4,7 @@ use Rattle.std.proofs.Common.{◌≡◌, ◌≢◌, ◌≤◌, Bool, true, false
 use Rattle.std.proofs.lemmas.Bool.{cases_eq, cases_lt, le-ltb}
 use Rattle.std.specs.Cmp.{IsStrictWeakOrder}
 use Rattle.theory.specs.Forgetting.{Candidate, goes_before}
-use Rattle.theory.proofs.LiteralSets.{true_false, or-false_left, or-false_right, false_unless}
+use Rattle.theory.proofs.literals.LiteralSets.{true_false, or-false_left, or-false_right, false_unless}
 
 -- a doesn't go before b
 pub record IsNotBefore (a b : Candidate) : Type 0 where

@@ -10,7 +10,7 @@ use Rattle.theory.specs.Literals.{Clause}
 use Rattle.theory.specs.Trails.{Trail}
 use Rattle.theory.specs.Plans.{Constants}
 use Rattle.theory.specs.Forgetting.{Candidate, candidates, may_go, goes_before, is_in_last_half, last_half, forget, forgotten}
-use Rattle.theory.proofs.LiteralSets.{false_unless}
+use Rattle.theory.proofs.literals.LiteralSets.{false_unless}
 use Rattle.heuristics.specs.Halves.{AreOfDistinctNumbers}
 use Rattle.heuristics.proofs.CandidateOrder.{order, goes_before-other}
 

@@ -4,7 +4,7 @@ use Rattle.std.specs.List.{list_any}
 use Rattle.std.proofs.lemmas.Bool.{cases_eq, cases_lt}
 use Rattle.std.proofs.lemmas.List.{get_or-set_same, get_or-set_other, length-set, get_or_past, get_or_push, get_or_append_left, length_push}
 use Rattle.std.proofs.lemmas.List.Folds.{list_any-append, list_any_more}
-use Rattle.theory.proofs.LiteralLemmas.{or-left, or-right}
+use Rattle.theory.proofs.literals.LiteralLemmas.{or-left, or-right}
 use Rattle.heuristics.specs.Tournaments.{IsPlayedBut}
 use Rattle.heuristics.specs.Rankings.{AreRanked, AreDistinct}
 

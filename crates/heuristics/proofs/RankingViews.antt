@@ -1,17 +1,17 @@
 -- What a ranking shows of its tables: scores by variable, and which variables wait.
-use Rattle.std.proofs.Common.{◌^◌, ◌≡◌, ◌≢◌, ℕ, zero, suc, ◌+◌, ◌-◌, ◌*◌, ◌/◌, ◌<◌, ◌≤◌, inl, inr, Bool, true, false, List, [], ◌∷◌, length, drop, map, filter, get_or, slice_index, slice_index_or, slice_set, nat_lt, nat_eq, nat_le, ltb-true, refl, ap, sym, ◌∙◌, ◌^◌, subst, ⊎_elim, Some, None, replicate, All, arith, if◌then◌else◌}
+use Rattle.std.proofs.Common.{◌^◌, ◌≡◌, ◌≢◌, ℕ, zero, suc, ◌+◌, ◌-◌, ◌*◌, ◌/◌, ◌<◌, ◌≤◌, inl, inr, Bool, true, false, List, [], ◌∷◌, length, drop, map, filter, get_or, slice_index, slice_index_or, slice_set, nat_lt, nat_eq, ltb-true, refl, ap, sym, ◌∙◌, ◌^◌, subst, ⊎_elim, Some, None, replicate, All, arith, if◌then◌else◌}
 use Rattle.std.specs.List.{list_any}
-use Rattle.std.proofs.lemmas.Bool.{cases_eq, cases_lt, lt-ltb, lt-leb, le-leb}
+use Rattle.std.proofs.lemmas.Bool.{cases_eq, cases_lt, lt-ltb}
 use Rattle.std.proofs.lemmas.Grind.{get_or_after_one}
-use Rattle.std.proofs.lemmas.List.{get_or-drop, get_or_push, get_or_append_left, ext_get_or, length-drop, length-map, map-set, drop-map, get_or_past, length-replicate}
+use Rattle.std.proofs.lemmas.List.{get_or-drop, get_or_push, get_or_append_left, ext_get_or, length-drop, length-map, map-set, get_or_past, length-replicate}
 use Rattle.std.proofs.lemmas.List.Elements.{All-head, All-tail, All-weaker}
 use Rattle.theory.specs.Plans.{Constants}
 use Rattle.theory.specs.Trails.{variables}
 use Rattle.theory.specs.Scores.{Scores, score_of, best_of, first_scores, gained, scores_after}
-use Rattle.theory.proofs.ScoreBounds.{scores-most}
-use Rattle.theory.proofs.ModelLemmas.{length-variables}
+use Rattle.theory.proofs.searching.ScoreBounds.{scores-most}
+use Rattle.theory.proofs.searching.ModelLemmas.{length-variables}
 use Rattle.heuristics.specs.Tournaments.{Beats, IsField, IsPlayedBut}
-use Rattle.heuristics.specs.Rankings.{Ranking, ranking, waits, waiting_in, first_ranking, with_waiting, with_gains, grown, IsKept}
+use Rattle.heuristics.specs.Rankings.{Ranking, ranking, waits, waiting_in, first_ranking, with_waiting, with_gains}
 use Rattle.heuristics.proofs.TournamentLemmas.{root-beats, node-from-leaf}
 use Rattle.heuristics.proofs.BestOnes.{IsTop, best_of-top, best_of-nobody}
 
@@ -167,29 +167,6 @@ pub gained-view : (c : Constants) (S T Z seen : List ℕ) (step : ℕ) (W X Y : 
 gained-view c S T Z seen step W X Y e f long leaves h =
     same-ranking c c (drop 1 Z) _ step step (waiting_in Z Y) (waiting_in S W) refl (ap (drop 1) e ∙ scores-gained c S T seen step long h) refl
     (ap (λ (t : List ℕ). waiting_in t Y) e ∙ ap (waiting_in T) f ∙ waiting-same S T W X long leaves)
-
-pub kept-view : (c : Constants) (S T Z : List ℕ) (step : ℕ) (W X Y : List ℕ) → Z ≡ T → Y ≡ X → length T ≡ length S → drop (length S) X ≡ drop (length S) W
-    → IsKept (ranking c S step W) (ranking c Z step Y)
-kept-view c S T Z step W X Y e f long leaves = record {
-  waiting = ap (λ (t : List ℕ). waiting_in t Y) e ∙ ap (waiting_in T) f ∙ waiting-same S T W X long leaves;
-  constants = refl;
-  vars = (let a = length-drop 1 Z in let b = length-drop 1 S in let g = ap (λ (t : List ℕ). length t) e in omega arith);
-}
-
--- the step has grown
-pub grown-less : (c : Constants) (S : List ℕ) (step more : ℕ) (W : List ℕ) → more ≡ step + step / c.growth → more < c.greatest_step → ◌≡◌ {A = Ranking} (ranking c S more W) (grown (ranking c S step W))
-grown-less c S step more W e less =
-    let is : nat_le c.greatest_step (step + step / c.growth) ≡ false = lt-leb c.greatest_step (step + step / c.growth) (omega arith) in
-    rw (is, e) refl
-
-pub grown-divided : (c : Constants) (S T Z : List ℕ) (step more : ℕ) (W X Y : List ℕ) → more ≡ step + step / c.growth → c.greatest_step ≤ more → Z ≡ T → Y ≡ X → T ≡ map (λ x. x / c.divisor) S
-    → drop (length S) X ≡ drop (length S) W → ◌≡◌ {A = Ranking} (ranking c Z (more / c.divisor) Y) (grown (ranking c S step W))
-grown-divided c S T Z step more W X Y e most f g h leaves =
-    let is : nat_le c.greatest_step (step + step / c.growth) ≡ true = le-leb c.greatest_step (step + step / c.growth) (omega arith) in
-    let long : length T ≡ length S = ap (λ (t : List ℕ). length t) h ∙ length-map S (λ (x : ℕ). x / c.divisor) in
-    rw is (same-ranking c c (drop 1 Z) (map (λ x. x / c.divisor) (drop 1 S)) (more / c.divisor) ((step + step / c.growth) / c.divisor) (waiting_in Z Y) (waiting_in S W) refl
-    (ap (drop 1) (f ∙ h) ∙ drop-map (λ x. x / c.divisor) 1 S) (ap (λ x. x / c.divisor) e)
-    (ap (λ (t : List ℕ). waiting_in t Y) f ∙ ap (waiting_in T) g ∙ waiting-same S T W X long leaves))
 
 -- another cube begins
 pub reset-view : (c : Constants) (S T Z : List ℕ) (step first : ℕ) (W X Y : List ℕ) → first ≡ c.first_step → Z ≡ T → Y ≡ X → length T ≡ length S → drop (length S) X ≡ drop (length S) W

@@ -66,40 +66,6 @@ IsPlayedBut-played S W p x low inside h w =
       ];
     }
 
--- a match whose winner stays
-pub IsPlayedBut-stays : (S W : List ℕ) (p x : ℕ) → IsPlayedBut S W p → slice_index W p ≡ x → IsWinner S (slice_index W (2 * p)) (slice_index W (2 * p + 1)) x → IsPlayedBut S W 0
-IsPlayedBut-stays S W p x h same w = record {
-  field = h.field;
-  matches = λ i l u ne. elim (cases_eq i p) [
-    | inl e ↦ subst (IsMatch S W) (sym e) (IsWinner-same S _ _ _ _ _ _ refl refl (sym same) w)
-    | inr other ↦ h.matches i l u other
-  ];
-}
-
--- the root has none above it
-pub IsPlayedBut-whole : (S W : List ℕ) (but : ℕ) → but < 1 → IsPlayedBut S W but → IsPlayedBut S W 0
-IsPlayedBut-whole S W but less h = record { field = h.field; matches = λ i l u ne. h.matches i l u (λ e. ne (omega arith)) }
-
--- a leaf changes
-pub IsPlayedBut-leaf : (S W : List ℕ) (v x : ℕ) → v < length S → (x ≡ v) ⊎ (x ≡ 0) → IsPlayedBut S W 0 → IsPlayedBut S (slice_set W (length S + v) x) ((length S + v) / 2)
-IsPlayedBut-leaf S W v x less is h =
-    let long = h.field.long in
-    let some = h.field.some in
-    let inside : length S + v < length W = omega arith in
-    let small : x < length S = elim is [ inl e ↦ omega arith | inr e ↦ omega arith ] in
-    record {
-      field = record {
-        some = some;
-        long = length-set W (length S + v) x ∙ long;
-        within = within-set (length S) W (length S + v) x inside small h.field.within;
-        leaves = λ u l. elim (cases_eq u v) [
-          | inl e ↦ subst (λ (y : ℕ). (y ≡ u) ⊎ (y ≡ 0)) (sym (same-place W (length S + v) (length S + u) x (omega arith) inside)) (elim is [ inl f ↦ inl (f ∙ sym e) | inr f ↦ inr f ])
-          | inr ne ↦ subst (λ (y : ℕ). (y ≡ u) ⊎ (y ≡ 0)) (sym (other-place W (length S + v) (length S + u) x (λ e. ne (omega arith)))) (h.field.leaves u l)
-        ];
-      };
-      matches = λ i l u ne. IsMatch-there S W (length S + v) x i (λ e. omega arith) (λ e. ne (omega arith)) (λ e. ne (omega arith)) (h.matches i l u (λ e. omega arith));
-    }
-
 -- the matches from a node on
 pub matches-played : (S W : List ℕ) (p x : ℕ) → 1 ≤ p → p < length S → IsField S W → IsWinner S (slice_index W (2 * p)) (slice_index W (2 * p + 1)) x
     → ((i : ℕ) → 1 ≤ i → p + 1 ≤ i → i < length S → IsMatch S W i) → (i : ℕ) → 1 ≤ i → p ≤ i → i < length S → IsMatch S (slice_set W p x) i

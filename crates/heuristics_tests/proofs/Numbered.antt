@@ -3,7 +3,7 @@ use Rattle.std.proofs.Common.{◌≡◌, ℕ, ◌+◌, ◌≤◌, Bool, true, fa
 use Rattle.std.specs.List.{count_by}
 use Rattle.std.proofs.lemmas.List.Sums.{sum_by_push}
 use Rattle.theory.specs.Forgetting.{Candidate}
-use Rattle.theory.proofs.LiteralSets.{false_unless}
+use Rattle.theory.proofs.literals.LiteralSets.{false_unless}
 use Rattle.heuristics_tests.specs.Numbered.{AreNumberedBelow}
 
 count-push : (n : ℕ) (all : List Candidate) (a : Candidate) → count_by (λ (b : Candidate). nat_eq n b.number) (all ++ a ∷ []) ≡ count_by (λ (b : Candidate). nat_eq n b.number) all + cond (nat_eq n a.number) 1 0

@@ -6,7 +6,7 @@ use Rattle.theory.specs.Literals.{Literal}
 use Rattle.theory.specs.Steps.{Step, add, delete}
 use Rattle.theory.specs.Proofs.{unit_steps, deletion}
 use Rattle.theory.specs.ProofReading.{IsStep}
-use Rattle.theory.proofs.DeletedNumbers.{deletion-none, deletion-half}
+use Rattle.theory.proofs.checker.DeletedNumbers.{deletion-none, deletion-half}
 use Rattle.join.specs.declared.line.Due.TheVariants.{Nothing}
 use Rattle.cubes.specs.declared.traversal.Split.{Split}
 use Rattle.join.specs.declared.line.Kind.{Kind}

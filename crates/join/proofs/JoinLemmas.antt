@@ -15,8 +15,8 @@ use Rattle.theory.specs.Steps.{Step}
 use Rattle.theory.specs.Proofs.{unit_steps, proof}
 use Rattle.theory.specs.ProofReading.{IsStep}
 use Rattle.theory.specs.Checking.{checks}
-use Rattle.theory.proofs.AcceptedProofs.{checks-proof}
-use Rattle.theory.proofs.PureVariables.{length-first_clauses, length-pure_literals}
+use Rattle.theory.proofs.checker.AcceptedProofs.{checks-proof}
+use Rattle.theory.proofs.searching.PureVariables.{length-first_clauses, length-pure_literals}
 use Rattle.cubes.specs.declared.tree.Node.{Node}
 use Rattle.cubes.specs.declared.tree.Tree.TheVariants.{Model, Refuted}
 use Rattle.cubes.specs.Result.{LinesTree, node_of, IsResultOf}

@@ -4,10 +4,10 @@ use Rattle.std.proofs.lemmas.List.Elements.{All-append, All-cons, All-head, All-
 use Rattle.std.proofs.lemmas.Bool.{leb-true, leb-false}
 use Rattle.theory.specs.Literals.{Literal, IsVariable, negations}
 use Rattle.theory.specs.Truth.{IsOver}
-use Rattle.theory.specs.Reading.{max_vars, max_clauses}
+use Rattle.theory.specs.Reading.{max_vars}
 use Rattle.theory.specs.Learning.{Line}
 use Rattle.theory.specs.Proofs.{renumbered, numbers_from}
-use Rattle.theory.proofs.DeletedNumbers.{numbers_from-All}
+use Rattle.theory.proofs.checker.DeletedNumbers.{numbers_from-All}
 use Rattle.cubes.specs.declared.traversal.Split.{Split}
 use Rattle.cubes.specs.Traversal.{path}
 use Rattle.join.specs.Joining.{learnt_line, split_line}
@@ -51,9 +51,6 @@ IsBefore-later n (Some left) h = let below = h.1 in (h.0, omega arith)
 pub AreHalves-later : (n : ℕ) (hs : List (Split ℕ)) → All (IsHalf n) hs → All (IsHalf (n + 1)) hs
 AreHalves-later n hs h = All-weaker (IsHalf n) (IsHalf (n + 1)) (λ h w. record { variable = w.variable; left = IsBefore-later n h.left w.left }) hs h
 
-pub variables-of : (n : ℕ) (hs : List (Split ℕ)) → All (IsHalf n) hs → All (λ h. IsVariable max_vars h.var) hs
-variables-of n hs h = All-weaker (IsHalf n) (λ h. IsVariable max_vars h.var) (λ x k. k.variable) hs h
-
 -- the line for a leaf's line, and that of a split, are within the limits
 pub IsStep-learnt : (N first n : ℕ) (hs : List (Split ℕ)) (line : Line) → first ≤ n → n ≤ max_number → N < first → All (λ h. IsVariable max_vars h.var) hs → IsOver max_vars line.clause
     → AreUpTo (N + (n - first)) line.hints → IsStep (learnt_line N first n (path hs) line)
@@ -67,10 +64,6 @@ pub IsStep-split : (n left : ℕ) (hs : List (Split ℕ)) → n ≤ max_number �
 IsStep-split n left hs fits low before halves =
     IsAddition-line n (negations (path hs)) (left ∷ (n - 1) ∷ []) (omega arith) fits (IsOver-negations hs halves)
     (All-cons (λ h. (1 ≤ h) × (h ≤ n - 1)) left ((n - 1) ∷ []) (low, omega arith) (All-cons (λ h. (1 ≤ h) × (h ≤ n - 1)) (n - 1) [] (omega arith, omega arith) (All-nil (λ h. (1 ≤ h) × (h ≤ n - 1)))))
-
--- a hint and the number of the first line make a number
-pub fits-renumbered : (N first n : ℕ) (hints : List ℕ) → first ≤ n → n ≤ max_number → N ≤ max_clauses + max_vars → AreUpTo (N + (n - first)) hints → All (λ h. h + first < 2 ^ 64) hints
-fits-renumbered N first n hints begun fits few h = All-weaker (λ h. (1 ≤ h) × (h ≤ N + (n - first))) (λ h. h + first < 2 ^ 64) (λ h w. let most = w.1 in omega arith) hints h
 
 pub within-learnt : (N first n : ℕ) (hs : List (Split ℕ)) (line : Line) (clause : List Literal) (hints : List ℕ) → first ≤ n → n ≤ max_number → N < first → All (λ h. IsVariable max_vars h.var) hs → IsOver max_vars line.clause
     → AreUpTo (N + (n - first)) line.hints → clause ≡ line.clause ++ negations (path hs) → hints ≡ map (renumbered N first) line.hints

@@ -16,14 +16,14 @@ use Rattle.std.specs.List.{join_with_byte}
 use Rattle.theory.specs.Texts.{lf, space, step_words, step_text, proof_text}
 use Rattle.theory.specs.Trees.{Tree, satisfied, refutation, split, IsTree, first_model, false_half, true_half}
 use Rattle.theory.specs.Proofs.{additions, renumbered, leaf_steps, refuted_steps, tree_steps, split_steps, deletion, numbers_from, prelude, proof}
-use Rattle.theory.proofs.PreludeSteps.{IsStep-prelude}
-use Rattle.theory.proofs.PureVariables.{length-first_clauses, length-pure_literals}
-use Rattle.theory.proofs.DeletedNumbers.{numbers_from-All}
+use Rattle.theory.proofs.checker.PreludeSteps.{IsStep-prelude}
+use Rattle.theory.proofs.searching.PureVariables.{length-first_clauses, length-pure_literals}
+use Rattle.theory.proofs.checker.DeletedNumbers.{numbers_from-All}
 use Rattle.theory.specs.ProofReading.{IsStep, IsNumber, max_number, max_proof_bytes}
-use Rattle.theory.proofs.AcceptedProofs.{or_else-none}
-use Rattle.theory.proofs.OutcomeLemmas.{Runs-says}
-use Rattle.theory.proofs.OverVariables.{AreOver, IsOver-from_AreOver, AreOver-snoc}
-use Rattle.theory.proofs.TrailEntries.{are_distinct-push}
+use Rattle.theory.proofs.checker.AcceptedProofs.{or_else-none}
+use Rattle.theory.proofs.searching.OutcomeLemmas.{Runs-says}
+use Rattle.theory.proofs.literals.OverVariables.{AreOver, IsOver-from_AreOver, AreOver-snoc}
+use Rattle.theory.proofs.trails.TrailEntries.{are_distinct-push}
 use Rattle.join.specs.Joining.{split_line, learnt_line}
 use Rattle.join.specs.Numbered.{AreUpTo, AreLines}
 use Rattle.join.proofs.NumberLemmas.{AreUpTo-renumbered, IsAddition-line}

@@ -10,11 +10,11 @@ use Rattle.theory.specs.Search.{refuted, exhausted, first_clauses}
 use Rattle.theory.specs.Trees.{Tree, satisfied, refutation, split, IsTree, Node, nodes_of, false_half, true_half}
 use Rattle.theory.specs.Checking.{clause_of, Hint, missing, false_clause, not_unit, unit_in, hint, conflicts, fails, end_at_conflict, no_such_clause, hint_not_unit, take_hints}
 use Rattle.theory.specs.Replaying.{carrying_from, AreReplayed, AreRefutation}
-use Rattle.theory.proofs.OverVariables.{AreOver, IsOver-from_AreOver, AreOver-snoc, IsOver-left}
-use Rattle.theory.proofs.OutcomeLemmas.{Runs-says}
-use Rattle.theory.proofs.TrailEntries.{are_distinct-push}
+use Rattle.theory.proofs.literals.OverVariables.{AreOver, IsOver-from_AreOver, AreOver-snoc, IsOver-left}
+use Rattle.theory.proofs.searching.OutcomeLemmas.{Runs-says}
+use Rattle.theory.proofs.trails.TrailEntries.{are_distinct-push}
 use Rattle.join.specs.Numbered.{AreUpTo, AreLines, AreNodes}
-use Rattle.theory.proofs.AcceptedSteps.{clause_of-carrying_within}
+use Rattle.theory.proofs.checker.AcceptedSteps.{clause_of-carrying_within}
 
 -- a number that is there is one of those given away
 -- hints that come to a conflict are numbers that are there

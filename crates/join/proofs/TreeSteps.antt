@@ -6,7 +6,7 @@ use Rattle.theory.specs.Proofs.{tree_steps, additions}
 use Rattle.cubes.specs.declared.traversal.Split.{Split}
 use Rattle.join.specs.Joining.{Joined, on_node, on_nodes, climb}
 use Rattle.cubes.specs.Traversal.{path}
-use Rattle.theory.proofs.AcceptedProofs.{or_else-none}
+use Rattle.theory.proofs.checker.AcceptedProofs.{or_else-none}
 
 pub on_nodes-append : (N : ℕ) (s : Joined) (ns ms : List Node) → on_nodes N s (ns ++ ms) ≡ on_nodes N (on_nodes N s ns) ms
 on_nodes-append N s [] ms = refl

@@ -1,13 +1,12 @@
 -- The lines that are still to come: the first of them, and the rest.
 use Rattle.std.proofs.Common.{◌≡◌, ℕ, ◌+◌, ◌-◌, ◌<◌, Option, List, [], ◌∷◌, ◌++◌, length, Some, None, refl, ap, sym, ◌∙◌, append_assoc, append-nil, add-zero, arith}
-use Rattle.theory.specs.Literals.{Literal}
 use Rattle.theory.specs.Steps.{Step}
 use Rattle.theory.specs.Learning.{Line}
 use Rattle.theory.specs.Trees.{Node, split_on, refuted_leaf}
 use Rattle.theory.specs.Proofs.{leaf_steps, refuted_steps, split_steps, deletion, numbers_from}
-use Rattle.theory.proofs.DeletedNumbers.{deletion-none}
+use Rattle.theory.proofs.checker.DeletedNumbers.{deletion-none}
 use Rattle.cubes.specs.declared.traversal.Split.{Split}
-use Rattle.join.specs.Joining.{Joined, climb, on_node, on_nodes, learnt_line, split_line, leaf_left, lines_below, lines_from, lines_entered}
+use Rattle.join.specs.Joining.{Joined, climb, on_node, on_nodes, learnt_line, split_line, leaf_left, lines_below, lines_from}
 use Rattle.cubes.specs.Traversal.{path}
 use Rattle.join.specs.Numbered.{numbers_due, due_behind}
 
@@ -78,21 +77,6 @@ lines_from-left N first n x hs nodes = ap (λ m. (on_nodes N (climb (record { va
 -- at the root come the nodes that are left
 pub lines_from-root : (N first n : ℕ) (nodes : List Node) → lines_from N first n [] [] nodes ≡ lines_below N n [] nodes
 lines_from-root N first n nodes = ap (λ m. (on_nodes N (climb [] m []) nodes).steps) (add-zero n)
-
--- a leaf's lines, from the first one on
-leaf_left-whole : (N n : ℕ) (Q : List Literal) (lines : List Line) → 0 < length lines → refuted_steps N n Q lines ≡ leaf_left N n n Q lines
-leaf_left-whole N n Q [] h = absurd (omega arith)
-leaf_left-whole N n Q (line ∷ lines) h =
-    let last : n + length (line ∷ lines) - 1 ≡ n + length lines = omega arith in
-    let count : length (line ∷ lines) - 1 ≡ n + length lines - n = omega arith in
-    ap (λ k. leaf_steps N n n Q (line ∷ lines) ++ deletion Q k (numbers_from n (length (line ∷ lines) - 1))) last
-    ∙ ap (λ k. leaf_steps N n n Q (line ∷ lines) ++ deletion Q (n + length lines) (numbers_from n k)) count
-
--- the first leaf from a node on has lines
-pub lines_below-leaf : (N n : ℕ) (hs : List (Split ℕ)) (leaf : List Line) (nodes : List Node) → 0 < length leaf → lines_below N n hs (refuted_leaf leaf ∷ nodes) ≡ lines_entered N n n hs leaf nodes
-lines_below-leaf N n hs [] nodes h = absurd (omega arith)
-lines_below-leaf N n hs (line ∷ leaf) nodes h =
-    ap (λ S. (on_nodes N (climb hs (n + length (line ∷ leaf)) S) nodes).steps) (leaf_left-whole N n (path hs) (line ∷ leaf) h)
 
 -- a leaf's line comes first
 pub gives-learnt : (N first n : ℕ) (hs : List (Split ℕ)) (all leaf : List Line) (line : Line) (nodes : List Node) → all ≡ line ∷ leaf

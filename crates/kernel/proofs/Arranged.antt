@@ -1,6 +1,6 @@
 -- Clauses whose literals change places, and clauses beside them.
 use Rattle.std.proofs.Common.{◌≡◌, ◌≢◌, ℕ, suc, zero, ◌+◌, ◌<◌, ◌≤◌, Bool, true, false, ◌||◌, List, [], ◌∷◌, ◌++◌, length, get_or, set, drop, take, map, refl, ap, sym, subst, ◌∙◌, ◌⊎◌, inl, inr, arith, if◌then◌else◌, cond, All}
-use Rattle.std.proofs.lemmas.List.{length-map, length-set, length_push, get_or_default, get_or_push}
+use Rattle.std.proofs.lemmas.List.{length-map, length-set, length_push, get_or_default}
 use Rattle.std.proofs.Math.ListN.{get_or-map}
 use Rattle.std.proofs.lemmas.List.Sorted.{IsPermutation-refl, IsPermutation-trans, IsPermutation-swap, list_any-IsPermutation, length_permutation, All-permutation}
 use Rattle.std.specs.List.{list_any, swap}
@@ -8,8 +8,8 @@ use Rattle.std.specs.List.Sorted.{IsPermutation}
 use Rattle.theory.specs.Literals.{Literal, Clause, same, has, negated, IsVariable}
 use Rattle.theory.specs.Truth.{IsOver}
 use Rattle.theory.specs.Forgetting.{forget, forgotten}
-use Rattle.theory.proofs.ForgettingNumbers.{length-forget}
-use Rattle.theory.proofs.LiteralLemmas.{or-cases, or-left, or-right, true_or_false, same-eq, same-refl}
+use Rattle.theory.proofs.searching.ForgettingNumbers.{length-forget}
+use Rattle.theory.proofs.literals.LiteralLemmas.{or-cases, or-left, or-right, true_or_false, same-eq, same-refl}
 use Rattle.kernel.specs.declared.watch.Watched.{Watched}
 use Rattle.kernel.specs.Watching.{At, IsPair}
 use Rattle.kernel.specs.Forgetting.{is_numbered, ArePairsLeft, watched_forgotten}
@@ -224,16 +224,6 @@ seen-given P g c a d w (Moved v) p is s =
 pub set-last : {X : Type 0} (xs : List X) (x y : X) → set (xs ++ x ∷ []) (length xs) y ≡ xs ++ y ∷ []
 set-last [] x y = refl
 set-last (z ∷ xs) x y = ap (λ zs. z ∷ zs) (set-last xs x y)
-
-pub At-last : {X : Type 0} (xs : List X) (x : X) → At (xs ++ x ∷ []) (length xs) x
-At-last xs x = (let a = length_push xs x in omega (arith, a), get_or_push xs x x (length xs) refl)
-
--- the last clause, once it is arranged
-pub led-last : (K L : List Clause) (c : Clause) (n : ℕ) → L ≡ K ++ c ∷ [] → n ≡ length K → At L n c
-led-last K L c n is e = subst (λ (k : List Clause). At k n c) (sym is) (subst (λ m. At (K ++ c ∷ []) m c) (sym e) (At-last K c))
-
-pub put-last : (K L : List Clause) (c d : Clause) (n : ℕ) → L ≡ K ++ c ∷ [] → n ≡ length K → set L n d ≡ K ++ d ∷ []
-put-last K L c d n is e = (λ i. set (is i) (e i) d) ∙ set-last K c d
 
 -- the front literals are false, but for k
 front-last : (V : ℕ) (P : List Literal) (g : Literal) (c : Clause) (k : Literal) → CanSee V P g c → k ≡ other_front (front c) g → IsLast P (take 2 c) k

@@ -3,7 +3,7 @@ use Rattle.std.proofs.Common.{◌≡◌, ℕ, true, false, ◌||◌, List, Optio
 use Rattle.std.specs.List.{Contains}
 use Rattle.theory.specs.Literals.{Literal, Clause, same, has, has_var, has_both_signs, negated}
 use Rattle.theory.specs.Status.{is_false, others_false}
-use Rattle.theory.proofs.LiteralLemmas.{or-cases, same-eq, same-refl}
+use Rattle.theory.proofs.literals.LiteralLemmas.{or-cases, same-eq, same-refl}
 use Rattle.kernel.specs.Watching.{IsConsistent, IsPair, apart, first_true, second_true, other_true, both_signs, At, Reached, Good, held, waits, reached}
 use Rattle.kernel.specs.declared.watch.Watched.{Watched}
 use Rattle.kernel.proofs.Places.{At-one}

@@ -5,7 +5,7 @@ use Rattle.std.proofs.lemmas.Option.{slice_get-get_or}
 use Rattle.std.specs.List.{Contains}
 use Rattle.theory.specs.Literals.{Literal, Clause, same, has, has_var, negated}
 use Rattle.theory.specs.Trails.{Entry, Trail, literals, current_level, level_at, up_to}
-use Rattle.theory.proofs.LiteralLemmas.{or-cases, or-left, or-right, true_or_false}
+use Rattle.theory.proofs.literals.LiteralLemmas.{or-cases, or-left, or-right, true_or_false}
 use Rattle.kernel.specs.Watching.{At, IsWatched, Reached, Good, held, waits, reached, Tending, Includes, AreWatchedIn, Tends, AllGood, IsServed, other_true, both_signs, apart, first_true, second_true, WasUnit}
 use Rattle.kernel.specs.declared.watch.Watched.{Watched}
 use Rattle.trail.specs.TrailOver.{IsRisingFrom}
@@ -23,7 +23,7 @@ use Rattle.theory.specs.Propagation.{Rule, IsRule, least_false}
 use Rattle.std.proofs.lemmas.List.{take-append-le, take_min}
 use Rattle.std.specs.Option.{unwrap_or}
 use Rattle.theory.specs.Propagation.{clause_at}
-use Rattle.theory.proofs.LawfulTrails.{least_false-none}
+use Rattle.theory.proofs.trails.LawfulTrails.{least_false-none}
 
 pub least_false-each : (P : List Literal) (K : List Clause) (n : ℕ) (c : Clause) → least_false P K ≡ None → At K n c → is_false P c ≡ false
 least_false-each P K n c h a = subst (λ (d : Clause). is_false P d ≡ false) one (least_false-none P K (n + 1) h (omega arith) (omega (arith, a.0)))

@@ -10,7 +10,7 @@ use Rattle.std.specs.List.Sorted.{IsPermutation}
 use Rattle.theory.specs.Literals.{Literal, Clause, same, has, negated}
 use Rattle.theory.specs.Status.{is_false}
 use Rattle.theory.specs.Trails.{Trail, literals, current_level}
-use Rattle.theory.proofs.LiteralLemmas.{or-cases, or-left, same-eq, same-refl}
+use Rattle.theory.proofs.literals.LiteralLemmas.{or-cases, or-left, same-eq, same-refl}
 use Rattle.kernel.specs.declared.watch.Watched.{Watched}
 use Rattle.kernel.specs.declared.watch.Watch.{Watch}
 use Rattle.kernel.specs.Watching.{At, IsPair, apart, Reached, Good, held, waits, reached, Tending, IsServed, WasUnit, code, list_at, listed_both, lesser}

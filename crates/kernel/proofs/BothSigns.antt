@@ -3,8 +3,8 @@ use Rattle.std.proofs.Common.{◌≡◌, Bool, true, false, ◌||◌, List, [], 
 use Rattle.std.specs.List.{list_any}
 use Rattle.theory.specs.Literals.{Literal, Clause, same, has, has_var, has_both_signs, negated}
 use Rattle.theory.specs.Status.{is_false, others_false}
-use Rattle.theory.proofs.LiteralLemmas.{or-cases, or-left, or-right, same-eq, same-refl}
-use Rattle.theory.proofs.LiteralSets.{negated-other}
+use Rattle.theory.proofs.literals.LiteralLemmas.{or-cases, or-left, or-right, same-eq, same-refl}
+use Rattle.theory.proofs.literals.LiteralSets.{negated-other}
 use Rattle.kernel.specs.Watching.{IsConsistent}
 use Rattle.kernel.proofs.LiteralFacts.{all-member, free-not, negated-negated}
 

@@ -1,5 +1,5 @@
 -- Entries and clauses that are cut off.
-use Rattle.std.proofs.Common.{◌≡◌, ◌≢◌, ℕ, ◌+◌, ◌-◌, ◌<◌, ◌≤◌, List, [], ◌∷◌, ◌++◌, length, get_or, set, take, map, refl, ap, sym, subst, ◌∙◌, ◌⊎◌, inl, inr, arith}
+use Rattle.std.proofs.Common.{◌≡◌, ◌≢◌, ℕ, ◌+◌, ◌-◌, ◌<◌, ◌≤◌, List, [], ◌∷◌, ◌++◌, length, get_or, set, take, map, ap, sym, subst, ◌∙◌, ◌⊎◌, inl, inr, arith}
 use Rattle.std.proofs.lemmas.List.{length-map, length-set, length-take-le, get_or-take, take_more, get_or-set_same, get_or-set_other, get_or_default}
 use Rattle.std.proofs.Math.ListN.{get_or-map}
 use Rattle.std.proofs.lemmas.Bool.{cases_eq}
@@ -29,18 +29,6 @@ keeping-begins first old = record {
   stays = λ p x a h. let b = At-places old p x a in (p, b.0, b.1);
   once = λ n h a b. h a b;
 }
-
-pub keeping-passes : (first : ℕ) (old now : List Watch) (place : ℕ) (e : Watch) → At now place e → e.clause < first → IsKeeping first old now place → IsKeeping first old now (place + 1)
-keeping-passes first old now place e at low k = record {
-  below = λ p x h a. go p x a h (cases_eq p place);
-  was = k.was;
-  stays = k.stays;
-  once = k.once;
-}
-  where
-    go : (p : ℕ) (x : Watch) → At now p x → p < place + 1 → (p ≡ place) ⊎ (p ≢ place) → x.clause < first
-    go p x a h (inl e) = subst (λ (y : Watch). y.clause < first) (At-one now place _ x at (subst (λ i. At now i x) e a)) low
-    go p x a h (inr ne) = k.below p x (omega (arith, h, ne)) a
 
 -- the entry at the place is taken out, and the last takes its place
 pub keeping-drops : (first : ℕ) (old list : List Watch) (end place : ℕ) (e last : Watch) → place < end → end ≤ length list → At (take end list) place e → first ≤ e.clause → IsKeeping first old (take end list) place
@@ -78,14 +66,6 @@ keeping-drops first old list end place e last low high at out k = record {
         go (inl (f, _)) = absurd (omega (arith, f, h))
         go (inr (_, b)) = k.below p x h ((omega (arith, h, low, high, length-take-le end list high)), get_or-take end list p x (omega (arith, h, low)) ∙ b.1)
 
-pub keeping-ends : (first : ℕ) (old now : List Watch) (place : ℕ) → length now ≤ place → IsKeeping first old now place → IsKeptBelow first old now
-keeping-ends first old now place end k = record {
-  below = λ p x a. k.below p x (omega (arith, a.0, end)) a;
-  was = k.was;
-  stays = k.stays;
-  once = k.once;
-}
-
 -- what is kept of what was kept
 pub kept-kept : (first : ℕ) (a b c : List Watch) → IsKeptBelow first a b → IsKeptBelow first b c → IsKeptBelow first a c
 kept-kept first a b c r s = record {
@@ -106,9 +86,6 @@ kept-kept first a b c r s = record {
 abbrev pub AreCodesUpTo : ℕ → ℕ → List Watched → List ℕ → Type 0
 AreCodesUpTo first end pairs codes = (n : ℕ) (w : Watched) → first ≤ n → n < end → At pairs n w → Contains codes (code w.first) × Contains codes (code w.second)
 
-pub codes-begin : (first : ℕ) (pairs : List Watched) → AreCodesUpTo first first pairs []
-codes-begin first pairs n w low high a = absurd (omega (arith, low, high))
-
 pub codes-more : (first end : ℕ) (pairs : List Watched) (codes : List ℕ) (v : Watched) (a b : ℕ) → end < length pairs → v ≡ get_or pairs end v → a ≡ code v.first → b ≡ code v.second → AreCodesUpTo first end pairs codes → AreCodesUpTo first (end + 1) pairs ((codes ++ a ∷ []) ++ b ∷ [])
 codes-more first end pairs codes v a b inside read ea eb all n w low high h = go (cases_eq n end)
   where
@@ -125,10 +102,6 @@ pub codes-sorted : (first : ℕ) (pairs : List Watched) (codes sorted : List ℕ
 codes-sorted first pairs codes sorted end whole p all n w low a =
     let r = all n w low (omega (arith, a.0, whole)) a in
     (Contains-permutation codes sorted (code w.first) p r.0, Contains-permutation codes sorted (code w.second) p r.1)
-
--- one list more
-pub below-begins : (first : ℕ) (old : List (List Watch)) → AreKeptBelow first [] old old
-below-begins first old i = inr ((λ c. omega (arith, c.1)), refl)
 
 front-contains : (codes : List ℕ) (at n m : ℕ) → n ≡ get_or codes at n → at < length codes → Contains (take (at + 1) codes) m → (m ≡ n) ⊎ Contains (take at codes) m
 front-contains codes at n m read inside c = go (Contains-push_cases (take at codes) n m (subst (λ (xs : List ℕ). Contains xs m) (take_more codes at n inside ∙ ap (λ y. take at codes ++ y ∷ []) (sym read)) c))

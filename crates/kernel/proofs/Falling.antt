@@ -7,10 +7,10 @@ use Rattle.theory.specs.Status.{is_unit_in, unit_literal}
 use Rattle.theory.specs.Propagation.{Closed, Rule, IsRule, Propagates, grows, least_false, clause_at}
 use Rattle.theory.specs.Trails.{Trail, literals, current_level}
 use Rattle.theory.specs.Lawful.{IsLawful}
-use Rattle.theory.proofs.LawfulTrails.{IsLawful-unit, unit_literal-facts}
-use Rattle.theory.proofs.OverVariables.{clause_at-over}
-use Rattle.theory.proofs.TrailEntries.{literals-at}
-use Rattle.theory.proofs.ClauseLemmas.{unit-fresh}
+use Rattle.theory.proofs.trails.LawfulTrails.{IsLawful-unit, unit_literal-facts}
+use Rattle.theory.proofs.literals.OverVariables.{clause_at-over}
+use Rattle.theory.proofs.trails.TrailEntries.{literals-at}
+use Rattle.theory.proofs.literals.ClauseLemmas.{unit-fresh}
 
 -- 1 for a variable that isn't in P, and 0 for one that is
 abbrev pub weight : List Literal → ℕ → ℕ

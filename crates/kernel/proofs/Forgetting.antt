@@ -10,8 +10,8 @@ use Rattle.theory.specs.Status.{is_false}
 use Rattle.theory.specs.Trails.{Trail, literals, up_to}
 use Rattle.theory.specs.Propagation.{least_false}
 use Rattle.theory.specs.Forgetting.{forgotten, forget}
-use Rattle.theory.proofs.ForgettingNumbers.{length-forget}
-use Rattle.theory.proofs.LiteralLemmas.{true_or_false}
+use Rattle.theory.proofs.searching.ForgettingNumbers.{length-forget}
+use Rattle.theory.proofs.literals.LiteralLemmas.{true_or_false}
 use Rattle.kernel.specs.declared.watch.Watched.{Watched}
 use Rattle.kernel.specs.declared.watch.Watch.{Watch}
 use Rattle.kernel.specs.Watching.{At, IsPair, IsWatched, both_signs, Good, held, waits, reached, IsFull, code, list_at}

@@ -9,12 +9,12 @@ use Rattle.theory.specs.Truth.{IsOver}
 use Rattle.theory.specs.Trails.{Entry, Trail, literals, current_level, up_to, level_of, level_at, entry_of}
 use Rattle.theory.specs.Propagation.{Rule, IsRule, Propagates, quiet, grows, rests, least_false}
 use Rattle.theory.specs.Learnable.{IsLearnable}
-use Rattle.theory.proofs.Rules.{IsRule-by_number, IsRule-by_place}
+use Rattle.theory.proofs.searching.Rules.{IsRule-by_number, IsRule-by_place}
 use Rattle.kernel.specs.declared.order.Order.{Order}
 use Rattle.kernel.specs.declared.order.Order.TheVariants.{ByNumber, ByPlace}
 use Rattle.kernel.specs.Rules.{rule_of}
-use Rattle.theory.proofs.LiteralLemmas.{and-left, and-right, or-cases, true_or_false, not_true, same-eq}
-use Rattle.theory.proofs.LiteralSets.{false_unless}
+use Rattle.theory.proofs.literals.LiteralLemmas.{and-left, and-right, or-cases, true_or_false, not_true, same-eq}
+use Rattle.theory.proofs.literals.LiteralSets.{false_unless}
 use Rattle.kernel.specs.declared.watch.Watched.{Watched}
 use Rattle.trail.specs.TrailOver.{IsOrdered}
 use Rattle.kernel.specs.Watching.{At, IsPair, IsWatched, apart, waits, Includes, WasUnit, code, listed_both}

@@ -6,8 +6,8 @@ use Rattle.std.proofs.lemmas.Bool.{ltb-true, ltb-false}
 use Rattle.theory.specs.Literals.{Literal, Clause, same, has, has_var, negated, are_distinct}
 use Rattle.theory.specs.Trails.{Entry, Trail, literals, entry_of}
 use Rattle.theory.specs.Propagation.{with_first, last_false}
-use Rattle.theory.proofs.LiteralLemmas.{and-left, and-right, or-cases, or-left, not_true, same-eq, same-refl}
-use Rattle.theory.proofs.LiteralSets.{false_unless}
+use Rattle.theory.proofs.literals.LiteralLemmas.{and-left, and-right, or-cases, or-left, not_true, same-eq, same-refl}
+use Rattle.theory.proofs.literals.LiteralSets.{false_unless}
 use Rattle.kernel.proofs.LiteralFacts.{true_false, has-append, free-not_negated, negated-negated, or_false_left, or_false_right}
 
 with_first-more : (b : Bool) (n : ℕ) → 1 ≤ n → with_first b n ≡ n + 1

@@ -4,8 +4,8 @@ use Rattle.std.specs.List.{list_all}
 use Rattle.theory.specs.Literals.{Literal, Clause, same, has, has_var, negated}
 use Rattle.theory.specs.Status.{is_false, others_false, is_unit_in, unit_literal}
 use Rattle.theory.specs.Propagation.{least_false, least_unit}
-use Rattle.theory.proofs.LiteralLemmas.{and-left, and-right, or-cases, or-left, or-right, not_true, same-eq, same-refl}
-use Rattle.theory.proofs.ListLemmas.{find-passes}
+use Rattle.theory.proofs.literals.LiteralLemmas.{and-left, and-right, or-cases, or-left, or-right, not_true, same-eq, same-refl}
+use Rattle.theory.proofs.literals.ListLemmas.{find-passes}
 use Rattle.kernel.specs.Watching.{At}
 use Rattle.kernel.proofs.LiteralFacts.{true_false, all-member, free-not_negated}
 

@@ -6,8 +6,8 @@ use Rattle.theory.specs.Truth.{IsOver}
 use Rattle.theory.specs.Status.{is_false}
 use Rattle.theory.specs.Propagation.{least_false}
 use Rattle.theory.specs.Forgetting.{forget}
-use Rattle.theory.proofs.ForgettingNumbers.{forget-nothing, All-forget}
-use Rattle.theory.proofs.LiteralLemmas.{or-cases}
+use Rattle.theory.proofs.searching.ForgettingNumbers.{forget-nothing, All-forget}
+use Rattle.theory.proofs.literals.LiteralLemmas.{or-cases}
 use Rattle.kernel.proofs.Places.{At-get}
 use Rattle.kernel.proofs.Backtracking.{least_false-each}
 use Rattle.kernel.specs.Forgetting.{is_numbered}

@@ -3,8 +3,8 @@ use Rattle.std.proofs.Common.{◌≡◌, ℕ, ◌+◌, ◌≤◌, false, List, [
 use Rattle.theory.specs.Literals.{Literal, Clause, has_var}
 use Rattle.theory.specs.Trails.{Entry, Trail, literals, current_level}
 use Rattle.theory.specs.Lawful.{IsGrounded, IsLawfulAfter, IsLawful}
-use Rattle.theory.proofs.LawfulTrails.{IsLawful-push}
-use Rattle.theory.proofs.TrailLists.{current_level-push}
+use Rattle.theory.proofs.trails.LawfulTrails.{IsLawful-push}
+use Rattle.theory.proofs.trails.TrailLists.{current_level-push}
 
 -- an entry rises by at most one level
 grounded-level : (K : List Clause) (before : Trail) (e : Entry) (r : Option ℕ) → IsGrounded K before e r → e.level ≤ current_level before + 1

@@ -2,7 +2,7 @@
 use Rattle.std.proofs.Common.{◌≡◌, Bool, true, false, not, ◌&&◌, ◌||◌, List, [], ◌∷◌, ◌++◌, refl, ap, ◌∙◌, nat_eq, ◌⊎◌, inl, inr}
 use Rattle.std.specs.List.{list_all}
 use Rattle.theory.specs.Literals.{Literal, Clause, same, same_sign, has, has_var, negated}
-use Rattle.theory.proofs.LiteralLemmas.{and-left, and-right, or-cases, or-left, or-right, true_or_false, same-eq, same-refl}
+use Rattle.theory.proofs.literals.LiteralLemmas.{and-left, and-right, or-cases, or-left, or-right, true_or_false, same-eq, same-refl}
 
 pub true_false : (b : Bool) → b ≡ true → b ≡ false → ⊥
 true_false b h k = absurd (cc)

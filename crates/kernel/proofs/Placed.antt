@@ -1,6 +1,6 @@
 -- Clauses that wait elsewhere, or in another order; and what waits with the place of its last false
 -- literal.
-use Rattle.std.proofs.Common.{◌≡◌, ℕ, suc, zero, ◌+◌, ◌<◌, Bool, true, false, ◌||◌, List, [], ◌∷◌, ◌++◌, length, get_or, map, take, nat_eq, eq-eqb, Option, Some, None, option_map, refl, ap, sym, subst, ◌∙◌, ◌⊎◌, inl, inr, arith, All, append-nil}
+use Rattle.std.proofs.Common.{◌≡◌, ℕ, suc, zero, ◌+◌, ◌<◌, Bool, true, false, ◌||◌, List, [], ◌∷◌, ◌++◌, length, get_or, map, take, nat_eq, eq-eqb, Option, Some, None, option_map, refl, ap, sym, subst, ◌∙◌, ◌⊎◌, inl, inr, arith, All}
 use Rattle.std.specs.List.{AllByRecursion, Contains}
 use Rattle.std.specs.List.Sorted.{IsPermutation}
 use Rattle.std.specs.Ordering.{is_lt, nat_cmp, ordering_then}
@@ -14,18 +14,17 @@ use Rattle.std.proofs.Math.ListN.{get_or-map}
 use Rattle.std.proofs.lemmas.List.Elements.{All-from_recursion, All-contains}
 use Rattle.std.proofs.lemmas.List.Sorted.{Contains-permutation, IsPermutation-sym, IsPermutation-trans, IsPermutation-middle, IsPermutation-append_right, IsPermutation-append_left}
 use Rattle.theory.specs.Literals.{Literal, Clause, has, has_var, negated}
-use Rattle.theory.specs.Truth.{IsOver}
 use Rattle.theory.specs.Status.{unit_literal, others_false}
 use Rattle.theory.specs.Trails.{Entry, Trail, literals}
 use Rattle.theory.specs.Propagation.{last_false, by_place, Placed}
-use Rattle.theory.proofs.LiteralLemmas.{or-left, or-right}
-use Rattle.theory.proofs.LiteralSets.{false_unless}
+use Rattle.theory.proofs.literals.LiteralLemmas.{or-left, or-right}
+use Rattle.theory.proofs.literals.LiteralSets.{false_unless}
 use Rattle.kernel.specs.declared.watch.Watch.{Watch}
 use Rattle.kernel.specs.declared.line.Waiting.{Waiting}
 use Rattle.kernel.specs.Watching.{At, Tending, IsServed, WasUnit}
 use Rattle.kernel.specs.Visiting.{WatchLists, CanVisit, IsVisit, satisfied, behind, unit, clashes, moves}
 use Rattle.kernel.proofs.LiteralFacts.{true_false, free-not, free-not_negated, negated-negated}
-use Rattle.kernel.proofs.Places.{At-one, At-get}
+use Rattle.kernel.proofs.Places.{At-one}
 use Rattle.kernel.proofs.TrailFacts.{literals-push}
 use Rattle.kernel.proofs.Serving.{Good-more}
 use Rattle.kernel.proofs.AtRest.{other-false}
@@ -188,9 +187,6 @@ given_back all line found shorter more n h k m =
     (IsPermutation-trans (line ++ found) (n ∷ (shorter ++ found)) (shorter ++ more) (IsPermutation-append_left found line (n ∷ shorter) k)
     (IsPermutation-trans (n ∷ (shorter ++ found)) (shorter ++ n ∷ found) (shorter ++ more) (IsPermutation-sym (shorter ++ n ∷ found) (n ∷ (shorter ++ found)) (IsPermutation-middle shorter n found)) (IsPermutation-append_right shorter (n ∷ found) more m)))
 
-pub all-lined : (all line found : List ℕ) → found ≡ [] → IsPermutation all (line ++ found) → IsPermutation all line
-all-lined all line found none h = subst (λ ns. IsPermutation all ns) (ap (λ ns. line ++ ns) none ∙ append-nil line) h
-
 pub taken-there : (ns rest : List ℕ) (n : ℕ) → IsPermutation ns (n ∷ rest) → Contains ns n
 taken-there ns rest n h = Contains-permutation (n ∷ rest) ns n (IsPermutation-sym ns (n ∷ rest) h) (0, (let z : 0 < length (n ∷ rest) = omega arith in z), refl)
 
@@ -199,10 +195,6 @@ rest-there ns rest n m h x = Contains-permutation (n ∷ rest) ns m (IsPermutati
 
 pub in-line : (ws rest : List Waiting) (w : Waiting) → IsPermutation ws (w ∷ rest) → Contains ws w
 in-line ws rest w h = Contains-permutation (w ∷ rest) ws w (IsPermutation-sym ws (w ∷ rest) h) (0, (let z : 0 < length (w ∷ rest) = omega arith in z), refl)
-
--- the clause at a place is over the variables that all are over
-pub At-over : (V : ℕ) (K : List Clause) (n : ℕ) (c : Clause) → All (IsOver V) K → At K n c → IsOver V c
-At-over V K n c over a = subst (λ (d : Clause). IsOver V d) (At-one K n (get_or K n []) c (At-get K n [] a.0) a) (over n [] a.0)
 
 -- a clause that was unit isn't empty
 pub WasUnit-full : (P : List Literal) (c : Clause) → WasUnit P c → c ≡ [] → ⊥

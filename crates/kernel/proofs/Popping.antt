@@ -10,7 +10,7 @@ use Rattle.theory.specs.Literals.{Literal, Clause, same, same_sign, has, has_var
 use Rattle.theory.specs.Status.{is_false, others_false, unit_literal}
 use Rattle.theory.specs.Trails.{Entry, Trail, literals, current_level}
 use Rattle.theory.specs.Propagation.{least_false, least_unit}
-use Rattle.theory.proofs.LiteralLemmas.{and-left, and-right, or-cases, or-left, or-right, true_or_false, same-refl}
+use Rattle.theory.proofs.literals.LiteralLemmas.{and-left, and-right, or-cases, or-left, or-right, true_or_false, same-refl}
 use Rattle.kernel.specs.Watching.{IsConsistent, IsPair, IsWatched, apart, first_true, second_true, other_true, both_signs, Reached, Good, held, waits, reached, At, Tending, Includes, Tends, WasUnit, AllGood, IsServed, chosen}
 use Rattle.kernel.specs.declared.watch.Watched.{Watched}
 use Rattle.kernel.proofs.LiteralFacts.{true_false, has-push, free-not_negated}

@@ -2,7 +2,7 @@
 use Rattle.std.proofs.Common.{◌≡◌, ℕ, ◌+◌, ◌-◌, ◌<◌, ◌≤◌, Bool, true, false, not, List, length, take, drop, get_or, Option, Some, None, IfSome, IfNone, refl, ap, sym, subst, ◌∙◌, ◌⊎◌, inl, inr, arith}
 use Rattle.std.proofs.lemmas.List.{take-append-drop, take_all, length-drop, get_or-drop, get_or-take, length-take-le}
 use Rattle.theory.specs.Literals.{Literal, Clause, has, negated}
-use Rattle.theory.proofs.LiteralSets.{has-append_left, has-append_right, has-append_cases}
+use Rattle.theory.proofs.literals.LiteralSets.{has-append_left, has-append_right, has-append_cases}
 use Rattle.kernel.specs.Visiting.{IsLast, Replaces}
 use Rattle.kernel.specs.Seeing.{IsFound}
 

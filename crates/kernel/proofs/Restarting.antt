@@ -9,7 +9,7 @@ use Rattle.std.specs.List.Sorted.{IsPermutation}
 use Rattle.theory.specs.Literals.{Literal, Clause, same}
 use Rattle.theory.specs.Truth.{IsOver}
 use Rattle.theory.specs.Trails.{Trail}
-use Rattle.theory.proofs.LiteralLemmas.{true_or_false}
+use Rattle.theory.proofs.literals.LiteralLemmas.{true_or_false}
 use Rattle.kernel.specs.declared.watch.Watched.{Watched}
 use Rattle.kernel.specs.declared.watch.Watch.{Watch}
 use Rattle.kernel.specs.Watching.{At, IsPair, apart, Good, held, waits, reached, IsFull, code, list_at}

@@ -3,7 +3,7 @@ use Rattle.std.proofs.Common.{◌≡◌, ◌≢◌, ℕ, ◌+◌, ◌<◌, ◌�
 use Rattle.std.specs.List.{Contains, swap_remove}
 use Rattle.std.proofs.lemmas.Bool.{cases_eq}
 use Rattle.theory.specs.Literals.{Literal, Clause, same, has, has_both_signs, negated}
-use Rattle.theory.proofs.LiteralLemmas.{same-eq}
+use Rattle.theory.proofs.literals.LiteralLemmas.{same-eq}
 use Rattle.kernel.specs.Watching.{apart, first_true, second_true, other_true, both_signs, Reached, Good, held, waits, reached, At, StandsFrom, Tending, GoodBut, AllGood, list_at, IsListed, IsFound}
 use Rattle.kernel.specs.declared.watch.Watched.{Watched}
 use Rattle.kernel.proofs.LiteralFacts.{or_false, has-push, same-negated, negated-negated}

@@ -2,14 +2,12 @@
 use Rattle.std.proofs.Common.{◌≡◌, ℕ, zero, suc, ◌+◌, ◌<◌, ◌≤◌, Bool, true, false, inl, inr, List, [], ◌∷◌, ◌++◌, length, take, get_or, set, min, Some, slice_get, nat_eq, eqb-true, refl, ap, sym, subst, ◌∙◌, arith, if◌then◌else◌}
 use Rattle.std.proofs.lemmas.Bool.{cases_lt}
 use Rattle.std.proofs.lemmas.List.{length-map}
-use Rattle.theory.specs.Literals.{Literal, Clause}
+use Rattle.theory.specs.Literals.{Clause}
 use Rattle.theory.specs.Forgetting.{forgotten, forget}
 use Rattle.kernel.specs.Watching.{At}
 use Rattle.kernel.specs.Forgetting.{Tells}
-use Rattle.kernel.specs.Pieces.{pieces}
 use Rattle.kernel.specs.Shown.{whole, shown, emptied}
 use Rattle.kernel.proofs.LiteralFacts.{true_false}
-use Rattle.kernel.proofs.Pieces.{length-pieces}
 
 -- no clause from a place on is empty
 abbrev pub NoneEmpty : ℕ → List Clause → Type 0
@@ -143,10 +141,6 @@ shown-emptied gone ns first K tells learnt = go 0 first K (λ n low e. let z = l
     go i (suc rest) [] h = refl
     go i zero (c ∷ K) h = (λ j. (last (gone i) c ∙ ap (λ b. if b then forgotten else whole c) (tells i)) j ∷ go (i + 1) 0 K (λ n low e. omega (arith, low)) j)
     go i (suc rest) (c ∷ K) h = (λ j. (here (gone i) c (stays i rest h (gone i) refl) ∙ ap (λ b. if b then forgotten else c) (tells i)) j ∷ go (i + 1) rest K (λ n low e. let z = h n (omega (arith, low)) e in omega (arith, z)) j)
-
--- there are as many ends as clauses are shown
-pub shown-ends : (first n : ℕ) (xs : List Literal) (ends : List ℕ) (clauses : List Clause) → shown first (pieces 0 xs ends) ≡ clauses → n ≡ length clauses → n ≡ length ends
-shown-ends first n xs ends clauses are is = is ∙ (ap length (sym are) ∙ (length-shown first (pieces 0 xs ends) ∙ length-pieces 0 xs ends))
 
 -- the clause at a place, as it is read
 pub shown-read-forgotten : (first n : ℕ) (K clauses : List Clause) (c r : Clause) → shown first K ≡ clauses → slice_get K n ≡ Some c → length c ≡ 0 → first ≤ n → r ≡ forgotten → slice_get clauses n ≡ Some r

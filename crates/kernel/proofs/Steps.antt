@@ -7,7 +7,7 @@ use Rattle.std.specs.List.{Contains, swap_remove}
 use Rattle.theory.specs.Literals.{Literal, Clause, same, has, has_both_signs, negated}
 use Rattle.theory.specs.Status.{is_false}
 use Rattle.theory.specs.Trails.{Trail, literals, current_level, up_to}
-use Rattle.theory.proofs.LiteralLemmas.{true_or_false, same-eq, same-refl}
+use Rattle.theory.proofs.literals.LiteralLemmas.{true_or_false, same-eq, same-refl}
 use Rattle.kernel.specs.Watching.{IsConsistent, IsPair, IsWatched, apart, first_true, second_true, other_true, both_signs, Reached, Good, held, waits, reached, At, Tending, list_at, code, IsExact, Includes, Tends, IsBeside, lesser, WasUnit, moved, IsFull}
 use Rattle.kernel.specs.declared.watch.Watched.{Watched}
 use Rattle.kernel.proofs.LiteralFacts.{true_false, all-member, same-sym, same-sym-false}
@@ -25,11 +25,6 @@ not-in P Q k sub h = go (true_or_false (has Q k))
 pub Good-unit : (K : List Clause) (S P : List Literal) (H : List ℕ) (f : Option ℕ) (w : Watched) (g k : Literal) (n : ℕ) → IsBeside w g k → Includes P S → has P (negated k) ≡ false → Contains H n → Good K S P H f w n
 Good-unit K S P H f w g k n (inl (a, b)) sub free m = waits m (inr (rw b (not-in P S (negated k) sub free)))
 Good-unit K S P H f w g k n (inr (a, b)) sub free m = waits m (inl (rw b (not-in P S (negated k) sub free)))
-
--- the literal beside it is true
-pub Good-true : (K : List Clause) (S P : List Literal) (H : List ℕ) (f : Option ℕ) (w : Watched) (g k : Literal) (n : ℕ) → IsBeside w g k → has P k ≡ true → Good K S P H f w n
-Good-true K S P H f w g k n (inl (a, b)) t = held (second_true (rw b t))
-Good-true K S P H f w g k n (inr (a, b)) t = held (first_true (rw b t))
 
 -- another literal z is watched in place of g
 pub Good-move : (K : List Clause) (R S P : List Literal) (H : List ℕ) (f : Option ℕ) (w : Watched) (g k z : Literal) (n : ℕ) → IsConsistent P → IsBeside w g k → Includes P S → has P (negated g) ≡ true → has P (negated z) ≡ false → same k z ≡ false

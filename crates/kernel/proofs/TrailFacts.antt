@@ -3,7 +3,7 @@ use Rattle.std.proofs.Common.{◌≡◌, ℕ, suc, zero, ◌-◌, ◌<◌, Bool,
 use Rattle.std.proofs.lemmas.List.{length_push}
 use Rattle.theory.specs.Literals.{Literal, same, has, has_var, negated, are_distinct}
 use Rattle.theory.specs.Trails.{Entry, Trail, literals, current_level, up_to}
-use Rattle.theory.proofs.LiteralLemmas.{and-left, and-right, or-cases, or-left, or-right, not_true, same-eq}
+use Rattle.theory.proofs.literals.LiteralLemmas.{and-left, and-right, or-cases, or-left, or-right, not_true, same-eq}
 use Rattle.kernel.specs.Watching.{Includes, IsConsistent}
 use Rattle.kernel.proofs.LiteralFacts.{true_false, has-var}
 

@@ -10,7 +10,7 @@ use Rattle.std.specs.List.{swap_remove}
 use Rattle.theory.specs.Literals.{Literal, Clause, same, has, negated}
 use Rattle.theory.specs.Status.{is_false, others_false}
 use Rattle.theory.specs.Trails.{Trail, literals}
-use Rattle.theory.proofs.LiteralLemmas.{same-eq, same-refl, or-left, or-right, true_or_false}
+use Rattle.theory.proofs.literals.LiteralLemmas.{same-eq, same-refl, or-left, or-right, true_or_false}
 use Rattle.kernel.specs.declared.watch.Watched.{Watched}
 use Rattle.kernel.specs.declared.watch.Watch.{Watch}
 use Rattle.kernel.specs.Watching.{At, IsConsistent, IsBeside, IsFull, code, lesser, list_at, moved, Walks, IsNext, Tending, held, other_true, reached, Reached}

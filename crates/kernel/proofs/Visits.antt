@@ -1,24 +1,23 @@
 -- What is found in the visit of a clause.
-use Rattle.std.proofs.Common.{◌≡◌, ◌≢◌, ℕ, suc, zero, ◌+◌, ◌*◌, ◌<◌, ◌≤◌, Bool, true, false, List, [], ◌∷◌, ◌++◌, length, get_or, set, take, map, Option, Some, None, refl, ap, sym, subst, ◌∙◌, ◌⊎◌, inl, inr, arith, cond, All, slice_get, is_some as has_value}
-use Rattle.std.proofs.lemmas.List.{take_more, map-set, length-map, get_or_default}
+use Rattle.std.proofs.Common.{◌≡◌, ◌≢◌, ℕ, suc, zero, ◌+◌, ◌*◌, ◌<◌, ◌≤◌, Bool, true, false, List, [], ◌∷◌, ◌++◌, length, get_or, set, map, Option, Some, None, refl, ap, sym, subst, ◌∙◌, ◌⊎◌, inl, inr, arith, cond, All, slice_get, is_some as has_value}
+use Rattle.std.proofs.lemmas.List.{map-set, length-map, get_or_default}
 use Rattle.std.proofs.Math.ListN.{get_or-map}
 use Rattle.std.proofs.lemmas.Option.{get_or_from_slice_get}
 use Rattle.theory.specs.Literals.{Literal, Clause, same, has, has_var, negated}
 use Rattle.theory.specs.Truth.{IsOver}
-use Rattle.theory.proofs.LiteralLemmas.{or-cases, or-left, or-right, true_or_false, same-eq, same-refl}
-use Rattle.theory.proofs.LiteralSets.{has-append_cases}
-use Rattle.theory.proofs.OverVariables.{AreOver-from_IsOver}
+use Rattle.theory.proofs.literals.LiteralLemmas.{or-cases, or-left, or-right, true_or_false, same-eq, same-refl}
+use Rattle.theory.proofs.literals.OverVariables.{AreOver-from_IsOver}
 use Rattle.kernel.specs.declared.watch.Watched.{Watched}
 use Rattle.kernel.specs.declared.watch.Watch.{Watch}
 use Rattle.kernel.specs.Watching.{At, IsConsistent, IsPair, IsBeside, code, lesser}
 use Rattle.std.proofs.Math.Bool.{beq}
 use Rattle.std.specs.Option.{option_eq}
 use Rattle.std.specs.List.Sorted.{IsPermutation}
-use Rattle.theory.proofs.ClauseWalks.{beq-same, beq-other}
+use Rattle.theory.proofs.literals.ClauseWalks.{beq-same, beq-other}
 use Rattle.trail.specs.Tables.{IsTruth}
 use Rattle.kernel.specs.Visiting.{IsLast, Replaces, CanVisit, IsStay, IsVisit, unit, clashes, moves, WatchLists, entries_at}
 use Rattle.kernel.proofs.LiteralFacts.{all-member, has-var}
-use Rattle.theory.proofs.LiteralSets.{false_unless}
+use Rattle.theory.proofs.literals.LiteralSets.{false_unless}
 use Rattle.kernel.proofs.LiteralFacts.{true_false, free-not_negated}
 use Rattle.kernel.proofs.Places.{At-one, At-get}
 
@@ -26,25 +25,6 @@ pub has-get : (c : Clause) (k : ℕ) (d : Literal) → k < length c → has c (g
 has-get [] k d h = absurd (omega (arith, h))
 has-get (x ∷ c) zero d h = or-left (same x x) (has c x) (same-refl x)
 has-get (x ∷ c) (suc k) d h = or-right (same (get_or c k d) x) (has c (get_or c k d)) (has-get c k d (let z : k < length c = omega (arith, h) in z))
-
--- a literal more that is false, or is the exception
-pub last-more : (P : List Literal) (c : Clause) (i : ℕ) (l k : Literal) → l ≡ get_or c i l → i < length c → (same l k ≡ true) ⊎ (has P (negated l) ≡ true) → IsLast P (take i c) k → IsLast P (take (i + 1) c) k
-last-more P c i l k read inside found so_far x m ne = go (has-append_cases (take i c) (l ∷ []) x (subst (λ (d : Clause). has d x ≡ true) (take_more c i l inside ∙ ap (λ y. take i c ++ y ∷ []) (sym read)) m))
-  where
-    here : (same l k ≡ true) ⊎ (has P (negated l) ≡ true) → x ≡ l → has P (negated x) ≡ true
-    here (inl e) f = absurd (true_false (same k x) (rw (f, same-eq l k e) (same-refl k)) ne)
-    here (inr e) f = rw f e
-
-    go : (has (take i c) x ≡ true) ⊎ (has (l ∷ []) x ≡ true) → has P (negated x) ≡ true
-    go (inl e) = so_far x e ne
-    go (inr e) = one (or-cases (same x l) false e)
-      where
-        one : (same x l ≡ true) ⊎ (false ≡ true) → has P (negated x) ≡ true
-        one (inl f) = here found (same-eq x l f)
-        one (inr f) = absurd (cc)
-
-pub last-begins : (P : List Literal) (k : Literal) → IsLast P [] k
-last-begins P k l m ne = absurd (cc)
 
 pub over-var : (V : ℕ) (c : Clause) (l : Literal) → IsOver V c → has c l ≡ true → l.var ≤ V
 over-var V c l over m = (AreOver-from_IsOver V c over l m).1

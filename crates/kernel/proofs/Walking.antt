@@ -6,7 +6,7 @@ use Rattle.std.proofs.lemmas.List.Sorted.{Contains-permutation, IsPermutation-sy
 use Rattle.theory.specs.Literals.{Literal, Clause, same, has, negated}
 use Rattle.theory.specs.Status.{is_false, others_false}
 use Rattle.theory.specs.Trails.{Trail, literals}
-use Rattle.theory.proofs.LiteralLemmas.{same-refl, or-left, or-right}
+use Rattle.theory.proofs.literals.LiteralLemmas.{same-refl, or-left, or-right}
 use Rattle.kernel.specs.Watching.{IsConsistent, Good, reached, At, StandsFrom, Tending, list_at, code, IsBeside, lesser, moved, WasUnit, GoodBut, AllGood, Walks, IsNext, IsServed}
 use Rattle.kernel.specs.declared.watch.Watched.{Watched}
 use Rattle.kernel.specs.Visiting.{Replaces}

@@ -4,8 +4,8 @@ use Rattle.std.proofs.lemmas.List.{take_more, take_all}
 use Rattle.theory.specs.Literals.{Literal, Clause, same, has, has_var, negated}
 use Rattle.theory.specs.Status.{unit_literal}
 use Rattle.theory.specs.Trails.{Trail, level_of}
-use Rattle.theory.proofs.LiteralLemmas.{or-cases, same-eq, same-refl}
-use Rattle.theory.proofs.LiteralSets.{has-append_cases}
+use Rattle.theory.proofs.literals.LiteralLemmas.{or-cases, same-eq, same-refl}
+use Rattle.theory.proofs.literals.LiteralSets.{has-append_cases}
 use Rattle.kernel.specs.Watching.{IsPair}
 use Rattle.kernel.specs.Attaching.{IsLater}
 use Rattle.kernel.proofs.LiteralFacts.{true_false, same-sym, same-sym-false, free-not_negated}
@@ -26,18 +26,8 @@ front-cases c i l x read inside h = go (has-append_cases (take i c) (l ∷ []) x
         one (inl f) = inr (same-eq x l f)
         one (inr f) = absurd (cc)
 
-pub all-more_same : (c : Clause) (i : ℕ) (l k : Literal) → l ≡ get_or c i l → i < length c → l ≡ k → ((x : Literal) → has (take i c) x ≡ true → x ≡ k) → (x : Literal) → has (take (i + 1) c) x ≡ true → x ≡ k
-all-more_same c i l k read inside e all x h = go (front-cases c i l x read inside h)
-  where
-    go : (has (take i c) x ≡ true) ⊎ (x ≡ l) → x ≡ k
-    go (inl f) = all x f
-    go (inr f) = f ∙ e
-
 pub in-whole : (c : Clause) (i : ℕ) (l : Literal) → l ≡ get_or c i l → i < length c → has c l ≡ true
 in-whole c i l read inside = subst (λ (x : Literal). has c x ≡ true) (sym read) (has-get c i l inside)
-
-pub pair-two : (c : Clause) (k l : Literal) → has c k ≡ true → has c l ≡ true → same k l ≡ false → IsPair c (record { first = k; second = l })
-pair-two c k l a b apart = record { first_in = a; second_in = b; single = λ h. absurd (true_false (same k l) h apart) }
 
 pub pair-one : (c : Clause) (k : Literal) (i : ℕ) → has c k ≡ true → length c ≤ i → ((x : Literal) → has (take i c) x ≡ true → x ≡ k) → IsPair c (record { first = k; second = k })
 pair-one c k i a end all = record { first_in = a; second_in = a; single = λ h. all-from (same k) c (λ l m. rw (all l (subst (λ (d : Clause). has d l ≡ true) (sym (take_all i c end)) m)) (same-refl k)) }
@@ -67,9 +57,6 @@ pub record IsLatest (T : Trail) (c front : Clause) (free latest : Literal) : Typ
   pub member : has c latest ≡ true
   pub others : same free latest ≡ true → (x : Literal) → has front x ≡ true → x ≡ free
   pub greatest : (x : Literal) → has front x ≡ true → same free x ≡ false → level_of T x ≤ level_of T latest
-
-pub latest-begins : (T : Trail) (c : Clause) (free : Literal) → has c free ≡ true → IsLatest T c [] free free
-latest-begins T c free m = record { member = m; others = λ h x n. absurd (cc); greatest = λ x n. absurd (cc) }
 
 -- the next literal takes its place
 pub latest-taken : (T : Trail) (c : Clause) (i : ℕ) (free latest l : Literal) → l ≡ get_or c i l → i < length c → same l free ≡ false → (same latest free ≡ true) ⊎ (level_of T latest < level_of T l) → IsLatest T c (take i c) free latest → IsLatest T c (take (i + 1) c) free l

@@ -5,8 +5,8 @@ use Rattle.theory.specs.Literals.{Literal, negated, same, has, has_var, IsVariab
 use Rattle.theory.specs.Truth.{IsOver}
 use Rattle.theory.specs.Trails.{Entry, Trail, literals, level_at, current_level, entry_of}
 use Rattle.theory.specs.Learnable.{IsLearnable}
-use Rattle.theory.proofs.LiteralLemmas.{same-eq, same-refl}
-use Rattle.theory.proofs.LiteralSets.{true_false, false_unless, has-head, has-tail, has_var-has}
+use Rattle.theory.proofs.literals.LiteralLemmas.{same-eq, same-refl}
+use Rattle.theory.proofs.literals.LiteralSets.{true_false, false_unless, has-head, has-tail, has_var-has}
 use Rattle.trail.specs.Tables.{value_in}
 use Rattle.trail.proofs.NextFree.{is_some-value_in}
 use Rattle.trail.proofs.Values.{value-literal}

@@ -8,8 +8,8 @@ use Rattle.theory.specs.Status.{is_false}
 use Rattle.theory.specs.Trails.{Trail, literals}
 use Rattle.theory.specs.Propagation.{least_false, clause_at}
 use Rattle.theory.specs.Lawful.{IsLawful}
-use Rattle.theory.proofs.LiteralSets.{true_false, false_unless, has_var-has}
-use Rattle.theory.proofs.TrailEntries.{literals-consistent}
+use Rattle.theory.proofs.literals.LiteralSets.{true_false, false_unless, has_var-has}
+use Rattle.theory.proofs.trails.TrailEntries.{literals-consistent}
 use Rattle.kernel.specs.Watching.{At}
 use Rattle.kernel.proofs.LeastClauses.{least_false-none}
 use Rattle.trail.specs.Tables.{value_in}

@@ -1,10 +1,10 @@
 -- Numbers, clauses and hints that are read.
-use Rattle.std.proofs.Common.{◌≡◌, ℕ, suc, ◌+◌, ◌-◌, ◌<◌, ◌≤◌, Bool, true, false, List, [], ◌∷◌, ◌++◌, length, drop, refl, ap, sym, ◌∙◌, arith, nat_eq, nat_lt, get_or, drop-cons, lt-ltb, le-ltb, ne_eqb, length-append, ◌≢◌, ◌⊎◌, inl, inr}
+use Rattle.std.proofs.Common.{◌≡◌, ℕ, suc, ◌+◌, ◌-◌, ◌<◌, ◌≤◌, Bool, true, false, List, [], ◌∷◌, ◌++◌, length, drop, refl, ap, sym, ◌∙◌, arith, nat_eq, nat_lt, get_or, drop-cons, lt-ltb, ◌≢◌, ◌⊎◌, inl, inr}
 use Rattle.std.proofs.lemmas.List.{drop_all}
 use Rattle.std.proofs.lemmas.Bool.{false≢true, cases_lt}
-use Rattle.theory.specs.Literals.{Literal, Clause}
+use Rattle.theory.specs.Literals.{Clause}
 use Rattle.theory.specs.Learning.{Line}
-use Rattle.lines.specs.Rows.{Part, whole, with_bits, with_number, with_byte, with_bytes, row, IsBetween, IsWhole, literal_at, code_behind, hint_behind, clause_part, hints_part}
+use Rattle.lines.specs.Rows.{Part, whole, with_bits, with_number, with_byte, with_bytes, row, IsBetween, IsWhole, clause_part, hints_part}
 use Rattle.lines.proofs.RowLemmas.{between-again}
 
 -- of the number that begins at a place the bytes before the end have this value, and more are to
@@ -15,22 +15,11 @@ HasRead bytes at end value = (p : Part) → IsBetween p → with_bytes p (drop a
 abbrev set : Part → ℕ → Bool → Part
 set p value begun = record p { value = value; begun = begun }
 
-pub nothing-read : (bytes : List ℕ) (at : ℕ) → HasRead bytes at at 0
-nothing-read bytes at p (v, b) = ap (λ (q : Part). with_bytes q (drop at bytes)) (sym (ap (λ c. set p 0 c) (le-ltb at at (omega arith)) ∙ between-again p (v, b)))
-
 split-at : (bytes : List ℕ) (end : ℕ) → end < length bytes → drop end bytes ≡ get_or bytes end 0 ∷ drop (end + 1) bytes
 split-at bytes end inside = let e : suc end ≡ end + 1 = omega arith in drop-cons bytes end 0 inside ∙ ap (λ n. get_or bytes end 0 ∷ drop n bytes) e
 
 byte-below : (q : Part) (b : ℕ) → b < 128 → with_byte q b ≡ with_number (set q 0 false) (with_bits q.value b)
 byte-below q b low = rw (lt-ltb b 128 low) refl
-
-pub byte-read : (bytes : List ℕ) (at end value more : ℕ) → at ≤ end → end < length bytes → 128 ≤ get_or bytes end 0 → more ≡ with_bits value (get_or bytes end 0 - 128)
-    → HasRead bytes at end value → HasRead bytes at (end + 1) more
-byte-read bytes at end value more low inside high e h p between =
-    h p between ∙ ap (with_bytes (set p value (nat_lt at end))) (split-at bytes end inside) ∙ ap (λ (q : Part). with_bytes q (drop (end + 1) bytes)) step
-  where
-    step : with_byte (set p value (nat_lt at end)) (get_or bytes end 0) ≡ set p more (nat_lt at (end + 1))
-    step = rw (le-ltb (get_or bytes end 0) 128 high, e, lt-ltb at (end + 1) (omega (arith, low))) refl
 
 pub number-read : (bytes : List ℕ) (at end value number : ℕ) → end < length bytes → get_or bytes end 0 < 128 → number ≡ with_bits value (get_or bytes end 0)
     → HasRead bytes at end value → (p : Part) → IsBetween p → with_bytes p (drop at bytes) ≡ with_bytes (with_number p number) (drop (end + 1) bytes)
@@ -39,12 +28,6 @@ number-read bytes at end value number inside low e h p between =
   where
     step : with_byte (set p value (nat_lt at end)) (get_or bytes end 0) ≡ with_number p number
     step = byte-below (set p value (nat_lt at end)) (get_or bytes end 0) low ∙ ap (with_number (set p 0 false)) (sym e) ∙ ap (λ (q : Part). with_number q number) (between-again p between)
-
-pub has-end : (bytes : List ℕ) (at end value : ℕ) → at < end → length bytes ≤ end → HasRead bytes at end value
-    → (p : Part) → IsBetween p → (with_bytes p (drop at bytes)).begun ≡ false → ⊥
-has-end bytes at end value some over h p between f =
-    let all = h p between ∙ ap (with_bytes (set p value (nat_lt at end))) (drop_all end bytes over) in
-    false≢true (sym f ∙ ap (λ (q : Part). q.begun) all ∙ lt-ltb at end some)
 
 -- a line in front of a part's
 abbrev pub behind : Line → Part → Part
@@ -70,17 +53,6 @@ pub lines-behind : (line : Line) (p : Part) (bytes : List ℕ) → with_bytes (b
 lines-behind line p [] = refl
 lines-behind line p (b ∷ bs) = ap (λ (q : Part). with_bytes q bs) (byte-behind line p b) ∙ lines-behind line (with_byte p b) bs
 
--- where the bytes come to whole lines, they don't end in a line
-not-in-clause : (bytes : List ℕ) (at end last : ℕ) (c : Clause) (l : Literal) → end ≤ length bytes → IsWhole (drop at bytes)
-    → row (drop at bytes) ≡ with_bytes (clause_part [] (c ++ l ∷ []) last) (drop end bytes) → end < length bytes
-not-in-clause bytes at end last c l within w e = go (cases_lt end (length bytes))
-  where
-    go : (end < length bytes) ⊎ (length bytes ≤ end) → end < length bytes
-    go (inl h) = h
-    go (inr h) =
-        let none : c ++ l ∷ [] ≡ [] = ap (λ (p : Part). p.clause) (ap (with_bytes (clause_part [] (c ++ l ∷ []) last)) (sym (drop_all end bytes h)) ∙ sym e ∙ w) in
-        absurd (omega (arith, length-append c (l ∷ []), ap (λ (x : Clause). length x) none))
-
 not-in-hints : (bytes : List ℕ) (end last : ℕ) (c : Clause) (hs : List ℕ) (lines : List Line) → end ≤ length bytes
     → with_bytes (hints_part [] c hs last) (drop end bytes) ≡ whole lines → end < length bytes
 not-in-hints bytes end last c hs lines within w = go (cases_lt end (length bytes))
@@ -88,22 +60,6 @@ not-in-hints bytes end last c hs lines within w = go (cases_lt end (length bytes
     go : (end < length bytes) ⊎ (length bytes ≤ end) → end < length bytes
     go (inl h) = h
     go (inr h) = absurd (false≢true (sym (ap (λ (p : Part). p.in_hints) (ap (with_bytes (hints_part [] c hs last)) (sym (drop_all end bytes h)) ∙ w))))
-
-some-number : (n : ℕ) → n ≢ 0 → nat_eq n 0 ≡ false
-some-number n h = ne_eqb n 0 h
-
--- a literal is read
-pub literal-read : (bytes : List ℕ) (at end next last n : ℕ) (c : Clause) → n ≢ 0 → next ≤ length bytes → IsWhole (drop at bytes)
-    → row (drop at bytes) ≡ with_bytes (clause_part [] c last) (drop end bytes)
-    → with_bytes (clause_part [] c last) (drop end bytes) ≡ with_bytes (with_number (clause_part [] c last) n) (drop next bytes)
-    → (next < length bytes) × (row (drop at bytes) ≡ with_bytes (clause_part [] (c ++ literal_at (code_behind last n) ∷ []) (code_behind last n)) (drop next bytes))
-literal-read bytes at end next last n c some within w e step =
-    let all : row (drop at bytes) ≡ with_bytes (clause_part [] (c ++ literal_at (code_behind last n) ∷ []) (code_behind last n)) (drop next bytes) =
-    e ∙ step ∙ ap (λ (p : Part). with_bytes p (drop next bytes)) one in
-    (not-in-clause bytes at next (code_behind last n) c (literal_at (code_behind last n)) within w all, all)
-  where
-    one : with_number (clause_part [] c last) n ≡ clause_part [] (c ++ literal_at (code_behind last n) ∷ []) (code_behind last n)
-    one = rw (some-number n some) refl
 
 -- and the clause's end
 pub clause-read : (bytes : List ℕ) (at end next last n : ℕ) (c : Clause) → n ≡ 0 → next ≤ length bytes → IsWhole (drop at bytes)
@@ -118,25 +74,6 @@ clause-read bytes at end next last n c none within w e step =
 -- what the hints so far leave to be read, whatever the clause
 abbrev pub HintsLeft : List ℕ → ℕ → ℕ → List ℕ → ℕ → Type 0
 HintsLeft bytes at end hs last = (c : Clause) → with_bytes (hints_part [] c [] 0) (drop at bytes) ≡ with_bytes (hints_part [] c hs last) (drop end bytes)
-
-pub hint-read : (bytes : List ℕ) (at end next last n : ℕ) (hs : List ℕ) → n ≢ 0 → HintsLeft bytes at end hs last
-    → ((p : Part) → IsBetween p → with_bytes p (drop end bytes) ≡ with_bytes (with_number p n) (drop next bytes))
-    → HintsLeft bytes at next (hs ++ hint_behind last n ∷ []) (hint_behind last n)
-hint-read bytes at end next last n hs some left step c =
-    left c ∙ step (hints_part [] c hs last) (refl, refl) ∙ ap (λ (p : Part). with_bytes p (drop next bytes)) one
-  where
-    one : with_number (hints_part [] c hs last) n ≡ hints_part [] c (hs ++ hint_behind last n ∷ []) (hint_behind last n)
-    one = rw (some-number n some) refl
-
-pub hints-go-on : (bytes : List ℕ) (at end last : ℕ) (hs : List ℕ) (c : Clause) (lines : List Line) → end ≤ length bytes
-    → with_bytes (hints_part [] c [] 0) (drop at bytes) ≡ whole lines → HintsLeft bytes at end hs last → end < length bytes
-hints-go-on bytes at end last hs c lines within w left = not-in-hints bytes end last c hs lines within (sym (left c) ∙ w)
-
-pub hints-read : (bytes : List ℕ) (at end next last n : ℕ) (hs : List ℕ) (c : Clause) → n ≡ 0 → HintsLeft bytes at end hs last
-    → ((p : Part) → IsBetween p → with_bytes p (drop end bytes) ≡ with_bytes (with_number p n) (drop next bytes))
-    → with_bytes (hints_part [] c [] 0) (drop at bytes) ≡ with_bytes (whole (record { clause = c; hints = hs } ∷ [])) (drop next bytes)
-hints-read bytes at end next last n hs c none left step =
-    left c ∙ step (hints_part [] c hs last) (refl, refl) ∙ ap (λ m. with_bytes (with_number (hints_part [] c hs last) m) (drop next bytes)) none
 
 -- a line is read
 pub line-read : (bytes : List ℕ) (at middle end : ℕ) (c : Clause) (hs : List ℕ) → IsWhole (drop at bytes)

@@ -7,8 +7,8 @@ use Rattle.theory.specs.Truth.{IsOver}
 use Rattle.theory.specs.Steps.{Group, Addition}
 use Rattle.theory.specs.ProofReading.{IsLiteral}
 use Rattle.theory.specs.Checking.{Numbered, Fault, take_hints, is_closed, rup_fault, hints_fault, hint_after_conflict, id_not_rising, literal_out_of_range, both_signs, addition_fault, is_empty}
-use Rattle.theory.proofs.LiteralLemmas.{same-eq}
-use Rattle.theory.proofs.LiteralSets.{false_unless, or-false_left, or-false_right, has-tail, has-cases, has-equal, has_var-none, other-same, negated-negated, has-negations, has-from_negations}
+use Rattle.theory.proofs.literals.LiteralLemmas.{same-eq}
+use Rattle.theory.proofs.literals.LiteralSets.{false_unless, or-false_left, or-false_right, has-tail, has-cases, has-equal, has_var-none, other-same, negated-negated, has-negations, has-from_negations}
 use Rattle.lrat.specs.Assumed.{IsAssumed, AreSame}
 use Rattle.lrat.proofs.SameLiterals.{AreSame-by, take_hints-same, hints_fault-same}
 

@@ -4,18 +4,9 @@ use Rattle.std.specs.List.{list_any}
 use Rattle.std.proofs.lemmas.List.{take_more, take_all}
 use Rattle.theory.specs.Literals.{Literal, Clause, same, has, has_var, has_both_signs, negated, without}
 use Rattle.theory.specs.Checking.{is_closed}
-use Rattle.theory.proofs.LiteralLemmas.{or-left, or-right, same-eq, same-refl}
-use Rattle.theory.proofs.LiteralSets.{true_false, false_unless, or-none, has-head, has-tail, has-cases, has-append_left, has-append_right, has-append_cases, has_var-has, negated-negated, negated-other, same-other, same_variable, has-without, has-from_without, has_both_signs-none, list_any-none}
+use Rattle.theory.proofs.literals.LiteralLemmas.{or-left, or-right, same-eq}
+use Rattle.theory.proofs.literals.LiteralSets.{true_false, false_unless, or-none, has-head, has-tail, has-cases, has-append_left, has-append_right, has-append_cases, has_var-has, negated-negated, negated-other, same-other, has-without, has-from_without, has_both_signs-none, list_any-none}
 use Rattle.lrat.specs.Assumed.{IsAssumed}
-
-pub IsAssumed-none : (P : List Literal) (q : Literal) → IsAssumed P q [] P
-IsAssumed-none P q = record {
-  kept = λ k h. h;
-  negations = λ k h. absurd (cc);
-  no_more = λ k h. inl h;
-  not_held = λ k h. absurd (cc);
-  alone = λ k h. absurd (cc);
-}
 
 one : (k l : Literal) → has (l ∷ []) k ≡ true → k ≡ l
 one k l h = elim (has-cases l k [] h) [ inl e ↦ e | inr e ↦ absurd (cc) ]
@@ -104,13 +95,6 @@ any-has P [] l a b = absurd (cc)
 any-has P (k ∷ d) l a b = elim (has-cases k l d a) [
   | inl e ↦ or-left (has P k) (list_any (has P) d) (ap (has P) (sym e) ∙ b)
   | inr e ↦ or-right (has P k) (list_any (has P) d) (any-has P d l e b)
-]
-
--- the other literal of the pivot's variable
-pub closed-by_pivot : (P : List Literal) (q : Literal) (c : Clause) (l : Literal) → has c q ≡ true → has c l ≡ true → l.var ≡ q.var → same q l ≡ false → is_closed P q c ≡ true
-closed-by_pivot P q c l a b v o = elim (same_variable l q v) [
-  | inl e ↦ true_false (same q l) (ap (same q) e ∙ same-refl q) o
-  | inr e ↦ or-left (has_both_signs c) (list_any (has P) (without c q)) (both-signs c q a (subst (λ x. has c x ≡ true) e b))
 ]
 
 -- a literal that is held true

@@ -4,8 +4,8 @@ use Rattle.std.specs.List.{list_any, list_all}
 use Rattle.theory.specs.Literals.{Literal, Clause, has, negations, without}
 use Rattle.theory.specs.Checking.{Numbered, clause_of, take_hints, is_closed, closed_fault, fault_of, group_fault, bad_candidate, are_dealt_with}
 use Rattle.theory.specs.Steps.{Group}
-use Rattle.theory.proofs.LiteralLemmas.{or-left, or-right}
-use Rattle.theory.proofs.LiteralSets.{and-true}
+use Rattle.theory.proofs.literals.LiteralLemmas.{or-left, or-right}
+use Rattle.theory.proofs.literals.LiteralSets.{and-true}
 use Rattle.lrat.specs.Named.{IsNamed, IsCandidate, AreCandidates}
 use Rattle.lrat.specs.Occurrences.{code, count_at, slots_with, StayThere}
 use Rattle.lrat.specs.Slots.{Slot, put, there_before}

@@ -82,25 +82,6 @@ beyond-more first n m heads k o from at more i h g low = go (nat_eq i m) refl
         let apart : i ≡ m → ⊥ = (λ f. let x : true ≡ false = sym (eq-eqb i m f) ∙ e in cc) in
         let r = o.rising m i k h at g from (omega arith) in omega arith
 
--- no head has the number
-pub none-has : (first n low high : ℕ) (heads : List Head) → AreInOrder first heads → first < n → high ≤ low
-    → ((i : ℕ) (h : Head) → slice_get heads i ≡ Some h → first ≤ i → i < low → h.id < n)
-    → ((i : ℕ) (h : Head) → slice_get heads i ≡ Some h → high ≤ i → n < h.id)
-    → (i : ℕ) (h : Head) → slice_get heads i ≡ Some h → h.id ≡ n → ⊥
-none-has first n low high heads o above met below beyond i h g e = go (nat_lt i first) refl (nat_lt i low) refl
-  where
-    go : (b : Bool) → nat_lt i first ≡ b → (d : Bool) → nat_lt i low ≡ d → ⊥
-    go true f d k = let x = o.of_formula i h g (ltb-true i first f) in omega arith
-    go false f true k = let x = below i h g (ltb-false i first f) (ltb-true i low k) in omega arith
-    go false f false k = let y = ltb-false i low k in let x = beyond i h g (omega arith) in omega arith
-
-pub none-zero : (first : ℕ) (heads : List Head) → AreInOrder first heads → (i : ℕ) (h : Head) → slice_get heads i ≡ Some h → h.id ≡ 0 → ⊥
-none-zero first heads o i h g e = go (nat_lt i first) refl
-  where
-    go : (b : Bool) → nat_lt i first ≡ b → ⊥
-    go true f = let less = ltb-true i first f in let x = o.of_formula i h g less in omega arith
-    go false f = let x = o.added i h g (ltb-false i first f) in omega arith
-
 -- each place has a head
 pub head-at : (heads : List Head) (i : ℕ) → i < length heads → (h : Head) × (slice_get heads i ≡ Some h)
 head-at [] i h = absurd (omega arith)

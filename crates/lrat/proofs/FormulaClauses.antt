@@ -25,15 +25,6 @@ past-end zero (c ∷ cs) h = absurd (omega arith)
 past-end (suc n) [] h = refl
 past-end (suc n) (c ∷ cs) h = past-end n cs (omega arith)
 
-pub AreTaken-none : (V first : ℕ) (cs : List Clause) → length cs ≡ first → AreTaken V first 0 cs [] []
-AreTaken-none V first cs long = record {
-  within = λ i h g. absurd (cc);
-  many = refl;
-  falling = λ i h g. absurd (cc);
-  there = sym (ap (numbered_from (first - 0 + 1)) (past-end (first - 0) cs (omega arith)));
-  over = λ i s g. absurd (cc);
-}
-
 pub AreTaken-more : (V first done index : ℕ) (cs : List Clause) (c : Clause) (lits more : List Literal) (heads all : List Head) → AreTaken V first done cs lits heads
     → length cs ≡ first → index + done + 1 ≡ first → c ≡ get_or cs index c → IsOver V c → AreWithin more all
     → slots_in more all ≡ slots_in lits heads ++ added_slot (index + 1) c ∷ []
@@ -61,10 +52,6 @@ AreFlat-taken V first done cs lits heads past within t = record {
   };
   over = over-heads V lits heads t.over;
 }
-
-pub there-taken : (V first done : ℕ) (cs : List Clause) (lits : List Literal) (heads : List Head) → first ≤ done → AreTaken V first done cs lits heads
-    → there_before [] (slots_in lits heads) ≡ numbered_from 1 cs
-there-taken V first done cs lits heads past t = t.there ∙ (let z : first - done ≡ 0 = omega arith in ap (λ n. numbered_from (n + 1) (drop n cs)) z)
 
 pub AreUpTo-taken : (V first done : ℕ) (cs : List Clause) (lits : List Literal) (heads : List Head) → AreTaken V first done cs lits heads → AreUpTo first (slots_in lits heads)
 AreUpTo-taken V first done cs lits heads t i s g =

@@ -6,7 +6,7 @@ use Rattle.theory.specs.Literals.{Literal, Clause, has, negated, negations, with
 use Rattle.theory.specs.Steps.{Group}
 use Rattle.theory.specs.Checking as theory
 use Rattle.theory.specs.Checking.{Numbered, clause_of, take_hints, is_closed, closed_fault, group_fault, groups_fault, bad_candidate}
-use Rattle.theory.proofs.LiteralSets.{or-none, false_unless, true_false}
+use Rattle.theory.proofs.literals.LiteralSets.{or-none, false_unless, true_false}
 use Rattle.lrat.specs.declared.check_fault.Fault.{Fault}
 use Rattle.lrat.specs.declared.hints.Taken.{Taken}
 use Rattle.lrat.specs.Assumed.{IsAssumed}

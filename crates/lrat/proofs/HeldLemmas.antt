@@ -2,8 +2,8 @@
 use Rattle.std.proofs.Common.{◌≡◌, ℕ, zero, suc, ◌<◌, Bool, true, false, not, List, [], ◌∷◌, ◌++◌, length, get_or, Option, Some, None, cond, nat_eq, eqb-true, eq-eqb, refl, ap, sym, subst, ◌∙◌, slice_set, reverse, arith, get_or-set_other, get_or-set_same, append_assoc, append-nil, MatchOption, ne_eqb}
 use Rattle.std.proofs.lemmas.List.{reverse-append, length-set}
 use Rattle.theory.specs.Literals.{Literal, has_var, are_distinct}
-use Rattle.theory.proofs.LiteralLemmas.{and-left, and-right, not_true}
-use Rattle.theory.proofs.LiteralSets.{true_false, or-false_left, or-false_right}
+use Rattle.theory.proofs.literals.LiteralLemmas.{and-left, and-right, not_true}
+use Rattle.theory.proofs.literals.LiteralSets.{true_false, or-false_left, or-false_right}
 use Rattle.lrat.specs.Held.{value_in, IsTable, Extends}
 
 pub reverse-push : (P : List Literal) (l : Literal) → reverse (P ++ l ∷ []) ≡ l ∷ reverse P
@@ -36,9 +36,6 @@ IsTable-pop V P l values v e t = record {
         let other : u ≡ v → ⊥ = λ k. true_false (nat_eq u v) (eq-eqb u v k) f in
         let skip : nat_eq l.var u ≡ false = ne_eqb l.var u (λ k. other (sym k ∙ sym e)) in
         get_or-set_other values v u None None other ∙ (t.value_at u ∙ ap (λ b. cond b (Some l.positive) (value_in P u)) skip)
-
-pub Extends-refl : (P : List Literal) → Extends P P
-Extends-refl P = record { later = []; whole = refl }
 
 pub Extends-trans : (P Q R : List Literal) → Extends P Q → Extends Q R → Extends P R
 Extends-trans P Q R h k = record { later = k.later ++ h.later; whole = k.whole ∙ (ap (λ x. k.later ++ x) h.whole ∙ sym (append_assoc k.later h.later P)) }

@@ -3,11 +3,11 @@ use Rattle.std.proofs.Common.{◌≡◌, ℕ, zero, suc, ◌+◌, ◌*◌, ◌<�
 use Rattle.std.specs.List.{list_all}
 use Rattle.theory.specs.Literals.{Literal, Clause, has, same}
 use Rattle.theory.specs.Truth.{IsOver}
-use Rattle.theory.proofs.FirstModel.{has-append}
-use Rattle.theory.proofs.LiteralLemmas.{same-eq}
+use Rattle.theory.proofs.trees.FirstModel.{has-append}
+use Rattle.theory.proofs.literals.LiteralLemmas.{same-eq}
 use Rattle.std.proofs.lemmas.List.{take_more, take_all}
 use Rattle.theory.specs.Checking.{Numbered}
-use Rattle.theory.proofs.LiteralSets.{and-true}
+use Rattle.theory.proofs.literals.LiteralSets.{and-true}
 use Rattle.lrat.specs.declared.chains.Chains.{Chains}
 use Rattle.lrat.specs.declared.counts.Counts.{Counts}
 use Rattle.lrat.specs.declared.occurrences.Occurrences.{Occurrences}
@@ -39,15 +39,6 @@ all-slots p (s ∷ ss) K h k = all-slots p ss (put s K) (λ i t g b. h (suc i) t
     go : (b : Bool) → s.is_there ≡ b → list_all p (cond b ((s.id, s.clause) ∷ K) K) ≡ true
     go true e = and-true (p (s.id, s.clause)) (list_all p K) (h zero s refl e) k
     go false e = k
-
-pub StayThere-refl : (ss : List Slot) → StayThere ss ss
-StayThere-refl ss = record { there = λ i s less g t. g; longer = omega arith }
-
-pub StayThere-trans : (a b c : List Slot) → StayThere a b → StayThere b c → StayThere a c
-StayThere-trans a b c h k = record {
-  there = λ i s less g t. h.there i s less (k.there i s (let n = h.longer in omega arith) g t) t;
-  longer = (let n = h.longer in let m = k.longer in omega arith);
-}
 
 AreCounted-stay : (old new : List Slot) (o : Counts) → StayThere old new → AreCounted old o → AreCounted new o
 AreCounted-stay old new o stay h = record {

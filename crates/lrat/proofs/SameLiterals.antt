@@ -5,7 +5,7 @@ use Rattle.theory.specs.Literals.{Literal, Clause, same, has, has_var, has_both_
 use Rattle.theory.specs.Status.{is_false, unit_literal}
 use Rattle.theory.specs.Steps.{Group, Addition}
 use Rattle.theory.specs.Checking.{Numbered, clause_of, Hint, missing, false_clause, not_unit, unit_in, unit_hint, hint, Taken, conflicts, holds, fails, Fault, no_such_clause, hint_not_unit, bad_candidate, missing_candidate, end_at_conflict, take_hints, is_closed, are_dealt_with, fault_of, closed_fault, group_fault, groups_fault, rat_fault, hints_fault}
-use Rattle.theory.proofs.LiteralSets.{literal_of_var, has_var-has, has-append_cases, has-append_left, has-append_right, has-negations, has-from_negations, negated-negated, has-without, has-from_without}
+use Rattle.theory.proofs.literals.LiteralSets.{literal_of_var, has_var-has, has-append_cases, has-append_left, has-append_right, has-negations, has-from_negations, negated-negated, has-without, has-from_without}
 use Rattle.lrat.specs.Assumed.{IsAssumed, AreSame}
 
 pub AreSame-by : (P Q : List Literal) → ((l : Literal) → has P l ≡ true → has Q l ≡ true) → ((l : Literal) → has Q l ≡ true → has P l ≡ true) → AreSame P Q

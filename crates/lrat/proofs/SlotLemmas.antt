@@ -1,13 +1,10 @@
 -- The clauses that are there, by the slots: one more, one found by its number, one taken away.
-use Rattle.std.proofs.Common.{◌≡◌, ℕ, zero, suc, ◌<◌, Bool, true, false, not, List, [], ◌∷◌, ◌++◌, length, get_or, Some, cond, eq-eqb, refl, ap, sym, subst, ◌∙◌, slice_get, slice_set, arith, All, ne_eqb}
+use Rattle.std.proofs.Common.{◌≡◌, ℕ, zero, suc, ◌<◌, Bool, true, false, not, List, [], ◌∷◌, ◌++◌, Some, cond, eq-eqb, refl, ap, sym, ◌∙◌, slice_get, slice_set, arith, ne_eqb}
 use Rattle.std.specs.List.{list_all}
-use Rattle.std.proofs.lemmas.List.Elements.{All-append}
-use Rattle.std.proofs.lemmas.Option.{slice_get_read, get_or_from_slice_get}
 use Rattle.theory.specs.Literals.{Clause}
-use Rattle.theory.specs.Truth.{IsOver}
 use Rattle.theory.specs.Checking.{Numbered, clause_of, without_number}
-use Rattle.theory.proofs.LiteralLemmas.{and-left, and-right}
-use Rattle.theory.proofs.LiteralSets.{true_false, false_unless}
+use Rattle.theory.proofs.literals.LiteralLemmas.{and-left, and-right}
+use Rattle.theory.proofs.literals.LiteralSets.{true_false, false_unless}
 use Rattle.lrat.specs.Slots.{Slot, put, there_before}
 
 -- none of the slots has a clause with the number n
@@ -66,9 +63,6 @@ without-none : (n : ℕ) (ss : List Slot) (K : Numbered) → NoneHas n ss → wi
 without-none n [] K h = refl
 without-none n (s ∷ ss) K h = without-none n ss (put s K) h.1 ∙ ap (λ k. there_before k ss) (without-other s K n h.0)
 
-put-gone : (s : Slot) (K : Numbered) → put (record s { is_there = false }) K ≡ K
-put-gone s K = refl
-
 pub without-slot : (ss : List Slot) (K : Numbered) (i : ℕ) (s : Slot) (n : ℕ) → slice_get ss i ≡ Some s → s.id ≡ n → s.is_there ≡ true → IsOnly ss i n
     → there_before (without_number K n) (slice_set ss i (record s { is_there = false })) ≡ without_number (there_before K ss) n
 without-slot [] K i s n g e t only = absurd (cc)
@@ -84,23 +78,6 @@ without-slot (r ∷ ss) K (suc i) s n g e t only =
 pub there_before-push : (ss : List Slot) (K : Numbered) (s : Slot) → there_before K (ss ++ s ∷ []) ≡ put s (there_before K ss)
 there_before-push [] K s = refl
 there_before-push (r ∷ ss) K s = there_before-push ss (put r K) s
-
--- what is read at a place
-pub get-at : (ss : List Slot) (i : ℕ) (s : Slot) → i < length ss → s ≡ get_or ss i s → slice_get ss i ≡ Some s
-get-at ss i s less e = slice_get_read ss (length ss) i s refl less e
-
-pub slot-at : (ss : List Slot) (i : ℕ) (r s t : Slot) → slice_get ss i ≡ Some r → s ≡ get_or ss i s → t ≡ s → (Q : Slot → Type 0) → Q t → Q r
-slot-at ss i r s t g e same Q h = subst Q (same ∙ (e ∙ get_or_from_slice_get ss i r s g)) h
-
-pub over-push : (V : ℕ) (ss : List Slot) (s : Slot) → All (λ (x : Slot). IsOver V x.clause) ss → IsOver V s.clause → All (λ (x : Slot). IsOver V x.clause) (ss ++ s ∷ [])
-over-push V ss s all one = All-append (λ (x : Slot). IsOver V x.clause) ss (s ∷ []) all single
-  where
-    single : All (λ (x : Slot). IsOver V x.clause) (s ∷ [])
-    single zero d less = one
-    single (suc k) d less = absurd (omega arith)
-
-pub over-at : (V : ℕ) (ss : List Slot) (i : ℕ) (s t : Slot) → i < length ss → s ≡ get_or ss i s → t ≡ s → All (λ (x : Slot). IsOver V x.clause) ss → IsOver V t.clause
-over-at V ss i s t less e same all = subst (λ (x : Slot). IsOver V x.clause) (sym (same ∙ e)) (all i s less)
 
 -- what holds of the clauses there holds of each slot that is there
 pub slot-holds : (p : ℕ × Clause → Bool) (ss : List Slot) (K : Numbered) (i : ℕ) (s : Slot) → list_all p (there_before K ss) ≡ true → slice_get ss i ≡ Some s → s.is_there ≡ true

@@ -1,8 +1,8 @@
 -- What the value of a variable says of its literals.
 use Rattle.std.proofs.Common.{◌≡◌, ℕ, Bool, true, false, not, List, [], ◌∷◌, Some, None, cond, nat_eq, eqb-true, eq-eqb, refl, sym, subst}
 use Rattle.theory.specs.Literals.{Literal, negated, has, has_var, are_distinct}
-use Rattle.theory.proofs.LiteralSets.{true_false, false_unless, or-none, has-equal, has-tail, negated-negated}
-use Rattle.theory.proofs.ClauseWalks.{consistent}
+use Rattle.theory.proofs.literals.LiteralSets.{true_false, false_unless, or-none, has-equal, has-tail, negated-negated}
+use Rattle.theory.proofs.literals.ClauseWalks.{consistent}
 use Rattle.lrat.specs.Held.{value_in}
 
 -- the value of a variable says which of its literals is held true

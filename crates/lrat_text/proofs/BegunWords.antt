@@ -5,9 +5,9 @@ use Rattle.std.specs.Str.Parse.{digits_value, digits_value_after}
 use Rattle.std.specs.Char.{is_ascii_digit}
 use Rattle.theory.specs.Texts.{minus}
 use Rattle.theory.specs.Tokens.{is_text, is_zero_text, is_positive_text, is_negative_text, size_of}
-use Rattle.theory.proofs.LiteralLemmas.{and-left, and-right, not_true}
-use Rattle.theory.proofs.ListLemmas.{is_text-eq}
-use Rattle.theory.proofs.NumberTexts.{digit-range, zero_text-is}
+use Rattle.theory.proofs.literals.LiteralLemmas.{and-left, and-right, not_true}
+use Rattle.theory.proofs.literals.ListLemmas.{is_text-eq}
+use Rattle.theory.proofs.reading.NumberTexts.{digit-range, zero_text-is}
 use Rattle.lrat_text.specs.declared.word.Word.TheVariants.{Positive, Negative, Other}
 use Rattle.lrat_text.specs.LineWords.{capped, word_of}
 use Rattle.lrat_text.specs.LineMachine.{LineState}

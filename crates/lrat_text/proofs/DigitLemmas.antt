@@ -5,7 +5,7 @@ use Rattle.std.specs.Str.Parse.{digits_value_after}
 use Rattle.std.specs.Char.{digit_value, is_ascii_digit}
 use Rattle.std.proofs.lemmas.List.{drop_more}
 use Rattle.lrat_text.specs.LineWords.{ends_word, first_word, after_word, capped}
-use Rattle.theory.proofs.NumberTexts.{digit-range}
+use Rattle.theory.proofs.reading.NumberTexts.{digit-range}
 
 -- the first word has one byte more
 pub first_word-more : (bytes : List ℕ) (i : ℕ) → i < length bytes → ends_word (get_or bytes i 0) ≡ false

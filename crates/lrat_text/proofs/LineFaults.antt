@@ -6,14 +6,14 @@ use Rattle.theory.specs.Steps.{Group, Addition, Step, add, delete}
 use Rattle.theory.specs.Texts.{literal_text, clause_words, group_words, groups_words, step_words, zero_text, minus}
 use Rattle.theory.specs.Tokens.{is_text, is_zero_text, is_positive_text, is_natural_text, is_negative_text, is_number_text, size_of}
 use Rattle.theory.specs.ProofReading.{TextFault, bad_number, bad_shape, max_literal, max_number, IsNumber, IsLiteral, IsGroup, IsAddition, IsStep, word_fault}
-use Rattle.theory.proofs.NumberTexts.{zero_text-is, literal_text-not_zero, literal_text-is_number, decimal-is_positive}
-use Rattle.theory.proofs.LiteralLemmas.{or-left, or-right}
+use Rattle.theory.proofs.reading.NumberTexts.{zero_text-is, literal_text-not_zero, literal_text-is_number, decimal-is_positive}
+use Rattle.theory.proofs.literals.LiteralLemmas.{or-left, or-right}
 use Rattle.lrat_text.specs.LineWords.{word_of, capped}
 use Rattle.lrat_text.specs.LineMachine.{LineState, at_id, at_clause, at_hints, at_group, at_ids, ended, with_group, without_groups, IsWithin, size_fault, number_fault_in, fault_in}
 use Rattle.lrat_text.proofs.WordTexts.{word_cases, not_zero}
 use Rattle.lrat_text.proofs.LineMachineLemmas.{front, so_far}
 use Rattle.std.proofs.lemmas.List.Elements.{All-head, All-tail, All-push}
-use Rattle.theory.proofs.ListLemmas.{is_text-eq}
+use Rattle.theory.proofs.literals.ListLemmas.{is_text-eq}
 
 -- the cap hides no fault
 size_fault-capped : (limit n : ℕ) → limit ≤ max_number → size_fault limit n ≡ size_fault limit (capped n)

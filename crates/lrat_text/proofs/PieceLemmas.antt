@@ -5,22 +5,20 @@ use Rattle.lrat_text.specs.declared.begun.Begun.TheVariants.{Positive, Negative}
 use Rattle.lrat_text.specs.declared.fault.LineFault.{LineFault}
 use Rattle.lrat_text.specs.declared.line.Line.{Line}
 use Rattle.lrat_text.specs.declared.word.Word.{Word}
-use Rattle.lrat_text.specs.declared.step.Step.{Step}
 use Rattle.theory.specs.Texts.{lf}
 use Rattle.theory.specs.Tokens.{is_blank}
-use Rattle.lrat_text.specs.declared.text.Text.{Text}
 use Rattle.lrat_text.specs.declared.text.Stage.{Stage}
 use Rattle.lrat_text.specs.declared.text.Stage.TheVariants.{InLine}
 use Rattle.std.proofs.lemmas.List.{drop_more}
 use Rattle.std.specs.Char.{is_ascii_digit}
-use Rattle.theory.proofs.NumberTexts.{digit-range}
+use Rattle.theory.proofs.reading.NumberTexts.{digit-range}
 use Rattle.lrat_text.proofs.DigitLemmas.{digit-goes_on}
 use Rattle.lrat_text.specs.LineWords.{word_of, ends_word, capped}
-use Rattle.lrat_text.specs.LineMachine.{LineState, on, fault_in, at_end, IsWithin}
-use Rattle.lrat_text.specs.LineStates.{state_of, reading_of, kind_of}
-use Rattle.lrat_text.specs.Streams.{nothing, with_bytes, Ended, goes_to, at_fault, taken, ended, Progress, on_feed, closed_line, LineProgress, held_back, on_blank, with_byte, in_line, kept_after, Part, on_byte, with_kept, feed, positive_so_far, negative_so_far, one_digit_more}
+use Rattle.lrat_text.specs.LineMachine.{LineState, on, fault_in, IsWithin}
+use Rattle.lrat_text.specs.LineStates.{state_of, kind_of}
+use Rattle.lrat_text.specs.Streams.{nothing, with_bytes, Ended, goes_to, at_fault, taken, ended, Progress, on_feed, LineProgress, held_back, on_blank, with_byte, in_line, kept_after, Part, on_byte, with_kept, feed, positive_so_far, negative_so_far, one_digit_more}
 use Rattle.lrat_text.specs.Begun.{begun_of, IsCounted, Ends}
-use Rattle.lrat_text.specs.Pieces.{part_at, IsBegunWord, TakesWord, TakesBytes, stream_at, part_of, in_word, closing}
+use Rattle.lrat_text.specs.Pieces.{part_at, IsBegunWord, TakesWord, in_word, closing}
 use Rattle.lrat_text.proofs.BegunWords.{ended-word, with_bytes-push}
 use Rattle.lrat_text.proofs.LineMachineLemmas.{on-Follows}
 
@@ -55,9 +53,6 @@ word-within s t g i b e = ended-within s t b.1.0 i (ap (ended s) (sym b.1.1) ∙
 
 pub word-more : (g h : declared.Begun) (b : ℕ) → IsBegunWord g → IsCounted h → begun_of h ≡ with_byte (begun_of g) b → IsBegunWord h
 word-more g h b w c e = (c, (w.1.0 ++ b ∷ [], e ∙ ap (λ x. with_byte x b) w.1.1 ∙ sym (with_bytes-push nothing w.1.0 b)))
-
-pub end-step : (V n : ℕ) (p : Progress) (e : Ended) (s : LineState) (o : Option Step) → e ≡ goes_to s → at_end s ≡ reading_of o → on_feed V n p e ≡ closed_line V n p (reading_of o)
-end-step V n p e s o h k = ap (on_feed V n p) h ∙ ap (closed_line V n p) k
 
 -- a blank behind a word
 pub blank-kept : (V n : ℕ) (p : Progress) (stage : Stage) (l : Line) (g : declared.Begun) (b : ℕ) → stage ≡ InLine → (b ≡ lf → ⊥) → is_blank b ≡ true
@@ -115,17 +110,3 @@ negative-more n m b digit e within w = word-more (Negative n) (Negative m) b w w
 -- a blank is no line feed
 pub blank-other : (b : ℕ) → is_blank b ≡ true → b ≡ lf → ⊥
 blank-other b blank e = let h : is_blank lf ≡ true = ap is_blank (sym e) ∙ blank in let x : false ≡ true = h in absurd (cc)
-
--- bytes of a text, one after the other
-pub TakesBytes-none : (bytes : List ℕ) (t : Text) (at : ℕ) → TakesBytes bytes t at t at
-TakesBytes-none bytes t at V k p = refl
-
-pub TakesBytes-then : (bytes : List ℕ) (t u r : Text) (start middle end : ℕ) → TakesBytes bytes t start u middle → TakesBytes bytes u middle r end → TakesBytes bytes t start r end
-TakesBytes-then bytes t u r start middle end h g V k p = h V k p ∙ g V k p
-
-pub TakesBytes-byte : (bytes : List ℕ) (t u : Text) (at : ℕ) → at < length bytes
-    → ((V : ℕ) (p : Progress) → kept_after V t.number p (part_of t) (get_or bytes at 0) ≡ record { line = u.number; part = part_of u; progress = p }) → TakesBytes bytes t at u (at + 1)
-TakesBytes-byte bytes t u at inside kept V k p =
-    ap (feed V (stream_at (k + at) p t)) (drop_more bytes at 0 inside)
-    ∙ ap (λ x. feed V (with_kept (k + at + 1) x) (drop (at + 1) bytes)) (kept V p)
-    ∙ ap (λ m. feed V (stream_at m p u) (drop (at + 1) bytes)) (let e : k + at + 1 ≡ k + (at + 1) = omega arith in e)

@@ -5,12 +5,12 @@ use Rattle.std.proofs.lemmas.Fmt.{digits_value-decimal}
 use Rattle.theory.specs.Texts.{minus, zero_text}
 use Rattle.theory.specs.Tokens.{is_text, is_zero_text, is_positive_text, is_natural_text, is_negative_text, is_number_text, size_of}
 use Rattle.theory.specs.ProofReading.{max_number}
-use Rattle.theory.proofs.NumberTexts.{number-size, zero_text-is, decimal-is_positive, size_of-decimal, positive-decimal, natural-decimal, digits_model}
-use Rattle.theory.proofs.LiteralLemmas.{or-left, or-right, and-left, and-right}
+use Rattle.theory.proofs.reading.NumberTexts.{number-size, zero_text-is, decimal-is_positive, size_of-decimal, positive-decimal, natural-decimal, digits_model}
+use Rattle.theory.proofs.literals.LiteralLemmas.{or-left, or-right, and-left, and-right}
 use Rattle.lrat_text.specs.declared.word.Word.{Word}
 use Rattle.lrat_text.specs.declared.word.Word.TheVariants.{Zero, Positive, Negative, Mark, Other}
 use Rattle.lrat_text.specs.LineWords.{capped, word_of, IsCounting}
-use Rattle.theory.proofs.ListLemmas.{is_text-eq}
+use Rattle.theory.proofs.literals.ListLemmas.{is_text-eq}
 
 -- what the tests of a text make of it
 tested : Bool → Bool → Bool → Bool → ℕ → Word

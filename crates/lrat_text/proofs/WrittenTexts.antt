@@ -9,10 +9,10 @@ use Rattle.theory.specs.Steps.{Group, Step, add, delete}
 use Rattle.theory.specs.Texts.{lf, space, minus, literal_text, clause_words, group_words, groups_words, step_words, proof_text, zero_text}
 use Rattle.theory.specs.Tokens.{lines_of}
 use Rattle.theory.specs.ProofReading.{steps, IsNumber, IsLiteral, IsGroup, IsStep, words_in, LinesRead, ProofReads, max_proof_bytes}
-use Rattle.theory.proofs.LiteralLemmas.{and-left, and-right}
+use Rattle.theory.proofs.literals.LiteralLemmas.{and-left, and-right}
 use Rattle.lrat_text.proofs.DigitLemmas.{digit-goes_on}
 use Rattle.lrat_text.proofs.LineTexts.{lines_of-byte, Lines, lines, onto_first, texts, words_in-texts, texts-word, texts-blank, Solid, no_lf}
-use Rattle.theory.proofs.NumberTexts.{digits_model, digit-range}
+use Rattle.theory.proofs.reading.NumberTexts.{digits_model, digit-range}
 use Rattle.std.proofs.lemmas.List.Elements.{All-head, All-tail}
 
 -- a word has bytes, and none of them ends it

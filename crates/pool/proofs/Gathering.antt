@@ -16,9 +16,6 @@ use Rattle.pool.specs.Hands.{HandView, hand_view, IsHand}
 use Rattle.pool.specs.Closing.{Merged, Merging, AreParts, calls_of, got_at, gots, Gathered, drained, Drained}
 use Rattle.pool.proofs.ListPlaces.{slice_get_snoc, set_here, set_else, at_front, at_end}
 
-pub merging_begins : (owners thieves : List DequeEnd) → Merging owners thieves 0 owners
-merging_begins owners thieves = (refl, (λ k l w lt. absurd (omega arith)), λ k le. refl)
-
 pub merging_more : (old thieves owners : List DequeEnd) (d : ℕ) (l w new : DequeEnd) → slice_get owners d ≡ Some l → slice_get thieves d ≡ Some w → new ≡ record l { notes = merged l.notes w.notes } → Merging old thieves d owners → Merging old thieves (d + 1) (set owners d new)
 merging_more old thieves owners d l w new at there is m = (
   length-set owners d new ∙ m.0,
@@ -37,12 +34,6 @@ merging_more old thieves owners d l w new at there is m = (
 
 pub merging_ends : (old thieves new : List DequeEnd) → Merging old thieves (length old) new → Merged old thieves new
 merging_ends old thieves new m = (m.0, λ d l w at there. m.1 d l w (slice_get_within old d l at) at there)
-
-pub parts_none : AreParts [] [] []
-parts_none = (refl, refl, λ h v e. absurd (no h v e))
-  where
-    no : (h : ℕ) (v : HandView) → slice_get [] h ≡ Some v → ⊥
-    no h v e = cc
 
 pub parts_more : (hands : List HandView) (owners : List DequeEnd) (rows : List (Vec DequeEnd)) (v : HandView) (owner : DequeEnd) (thieves : Vec DequeEnd) (words : SeatView) → IsHand v.number v.vars owner thieves.items words → hand_view v.number v.vars owner thieves.items words ≡ v
     → AreParts hands owners rows → AreParts (hands ++ v ∷ []) (owners ++ owner ∷ []) (rows ++ thieves ∷ [])
@@ -107,12 +98,6 @@ ids_merged old thieves new len m = by_owner old thieves new len m.0 m.1
 flat_more : (cs : List (List Cube)) (c : List Cube) → flat_map (λ cubes. cubes) (cs ++ c ∷ []) ≡ flat_map (λ cubes. cubes) cs ++ c
 flat_more [] c = append-nil c
 flat_more (x ∷ xs) c = ap (λ (l : List Cube). x ++ l) (flat_more xs c) ∙ sym (append_assoc x (flat_map (λ cubes. cubes) xs) c)
-
-pub drained_none : (owners : List DequeEnd) → Drained owners 0 []
-drained_none owners = ([], refl, refl, λ d l cs e f. absurd (no d cs f))
-  where
-    no : (d : ℕ) (cs : List Cube) → slice_get [] d ≡ Some cs → ⊥
-    no d cs f = cc
 
 pub drained_more : (owners : List DequeEnd) (k : ℕ) (left new cs : List Cube) (owner : DequeEnd) → slice_get owners k ≡ Some owner → new ≡ left ++ cs → Emptied (drained owner.notes cs) → Drained owners k left → Drained owners (k + 1) new
 drained_more owners k left new cs owner at is empty h = (

@@ -8,7 +8,7 @@ use mathlib.Core.Option.{some}
 use lib.ListN.{get_elem?}
 use Rattle.theory.specs.Ledger.{Call, Ledger, IsFit, got_from, both, putting, getting, calling, from_deque}
 use Rattle.theory.specs.Order.{entries_of}
-use Rattle.theory.proofs.Joining.{both-nil, both-from_deque}
+use Rattle.theory.proofs.hands.Joining.{both-nil, both-from_deque}
 use Rattle.pool.specs.DequeNotes.{Cube, with_more}
 use Rattle.pool.specs.Deque.{Emptied, EmptyThen, Fronts}
 use Rattle.pool.specs.declared.taken.Taken.{Taken}

@@ -9,8 +9,6 @@ use Rattle.theory.specs.Places.{place_of}
 use Rattle.theory.specs.Results.{Solved, IsModel}
 use Rattle.theory.specs.Ledger.{offer, look, halt, Ledger, all_got, both, times, is_more, is_less, is_look}
 use Rattle.theory.specs.Work.{IsHalfOfGot, IsFoundedOn, IsTruthful, IsPassedOver, IsHandedOn, IsDealtWith, IsThorough, WentHome, IsWork}
-use Rattle.theory.specs.Round.{HasWorked}
-use Rattle.pool.specs.Pools.{new_ledger}
 
 -- two ledgers with the same cubes put and got, and the same calls
 module _ (F : Formula) (plan : Plan) (l m : Ledger) (results : List Solved) (put : m.put ≡ l.put) (got : all_got m ≡ all_got l) (calls : m.calls ≡ l.calls) where
@@ -72,12 +70,3 @@ got_none : (n : ℕ) (got : List (List (List Literal))) → flat_map (λ cubes. 
 got_none zero got = refl
 got_none (suc n) [] = none_got n
 got_none (suc n) (cubes ∷ got) = ap (λ g. cubes ++ g) (got_none n got)
-
--- from the ledger of a new hand on, what was added is the work
-pub HasWorked-new : (F : Formula) (plan : Plan) (is_short : Bool) (hands : ℕ) (last : Ledger) (results : List Solved) → HasWorked F plan is_short (new_ledger hands) last results → IsWork F plan is_short last results
-HasWorked-new F plan is_short hands last results h =
-    work_same F plan h.added last results
-    (ap (λ (l : Ledger). l.put) h.is_last)
-    (ap all_got h.is_last ∙ got_none hands h.added.got)
-    (ap (λ (l : Ledger). l.calls) h.is_last)
-    is_short h.work

@@ -7,7 +7,7 @@ use Rattle.std.proofs.Math.Seq.{map-set_same}
 use Rattle.std.specs.Global.{Vec}
 use Rattle.atomic_table.specs.Seated.{TableId}
 use Rattle.theory.specs.Ledger.{Call}
-use Rattle.pool.specs.DequeNotes.{DequeNotes, Cube, owner_notes, spent, thief_notes}
+use Rattle.pool.specs.DequeNotes.{DequeNotes, Cube, spent, thief_notes}
 use Rattle.pool.specs.Deque.{got_of}
 use Rattle.pool.specs.SeatNotes.{hand_notes}
 use Rattle.pool.specs.Words.{SeatView, own_calls}
@@ -16,15 +16,6 @@ use Rattle.pool.specs.Hands.{HandView, hand_view, first_got, got_at_end, IsHand}
 use Rattle.pool.specs.Pools.{PoolView, roots_of, new_hand, AreNew}
 use Rattle.pool.specs.Opening.{stage, notes_of_thief, ids, Staged, IsRow, AreRows, Halfway, rootless_hand, AreRootless}
 use Rattle.pool.proofs.ListPlaces.{slice_get_set, map_at, slice_get_snoc}
-
-below_none : (d : ℕ) → ltb d 0 ≡ false
-below_none d = grind (arith, nat_tests)
-
-pub staged_snoc : (vars : ℕ) (owners : List DequeEnd) (e : DequeEnd) → e.notes ≡ owner_notes vars 0 [] → Staged vars 0 owners → Staged vars 0 (owners ++ e ∷ [])
-staged_snoc vars owners e is h d l at = ⊎_elim (h d l) (λ (p : (d ≡ length owners) × (e ≡ l)). ap (λ (x : DequeEnd). x.notes) (sym p.1) ∙ is ∙ ap (λ b. record (owner_notes vars 0 []) { got = cond b ((d, []) ∷ []) [] }) (sym (below_none d))) (slice_get_snoc owners e l d at)
-
-pub halfway_begins : (vars h : ℕ) (owners : List DequeEnd) → Staged vars h owners → Halfway vars h 0 owners
-halfway_begins vars h owners s k l at = ((λ lt. absurd (omega arith)), λ _. s k l at)
 
 pub halfway_ends : (vars h d : ℕ) (owners : List DequeEnd) → d ≡ length owners → Halfway vars h d owners → Staged vars (h + 1) owners
 halfway_ends vars h d owners is s k l at = (s k l at).0 (subst (λ (n : ℕ). k < n) (sym is) (within owners k l at))

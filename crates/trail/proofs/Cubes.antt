@@ -1,14 +1,13 @@
 -- Cubes: one literal more, and the trail of a cube's first literals.
 use Rattle.std.proofs.Common.{◌≡◌, ℕ, zero, suc, ◌+◌, ◌<◌, ◌≤◌, false, List, [], ◌∷◌, ◌++◌, length, take, get_or, None, Some, Option, MatchOption, refl, ap, sym, subst, ◌∙◌, append_assoc, append-nil, arith}
 use Rattle.std.specs.Option.{option_to_list}
-use Rattle.std.proofs.lemmas.List.{take_more, map-append}
 use Rattle.std.proofs.lemmas.List.Elements.{All-push, All-take}
 use Rattle.std.proofs.Math.Seq.{take-append_seam}
 use Rattle.theory.specs.Literals.{Literal, has_var, IsCube}
 use Rattle.theory.specs.Trails.{Entry, literals, cube_trail}
-use Rattle.theory.proofs.TrailLists.{literals-cube}
-use Rattle.theory.proofs.TrailEntries.{are_distinct-push}
-use Rattle.theory.proofs.CubeLiterals.{IsDistinctFrom, IsCube-from, IsDistinctFrom-cube}
+use Rattle.theory.proofs.trails.TrailLists.{literals-cube}
+use Rattle.theory.proofs.trails.TrailEntries.{are_distinct-push}
+use Rattle.theory.proofs.literals.CubeLiterals.{IsDistinctFrom, IsCube-from, IsDistinctFrom-cube}
 use Rattle.trail.specs.Cubes.{AreOfVariables}
 
 pub IsCube-push : (Q : List Literal) (l : Literal) → IsCube Q → has_var Q l.var ≡ false → IsCube (Q ++ l ∷ [])
@@ -42,9 +41,6 @@ popped-is_new Q R None h e empty = (empty refl, sym (append-nil R) ∙ (sym e �
 -- the entry of a cube's literal
 abbrev pub given : Literal → Entry
 given l = record { lit = l; reason = None; level = 0 }
-
-pub cube_trail-more : (Q : List Literal) (i : ℕ) (d : Literal) → i < length Q → cube_trail (take (i + 1) Q) ≡ cube_trail (take i Q) ++ given (get_or Q i d) ∷ []
-cube_trail-more Q i d less = ap cube_trail (take_more Q i d less) ∙ map-append given (take i Q) (get_or Q i d ∷ [])
 
 distinct-at : (P Q : List Literal) (i : ℕ) (d : Literal) → IsDistinctFrom P Q → i < length Q → has_var (P ++ take i Q) (get_or Q i d).var ≡ false
 distinct-at P [] i d h less = absurd (omega arith)

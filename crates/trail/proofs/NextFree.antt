@@ -5,9 +5,9 @@ use Rattle.std.proofs.lemmas.Bool.{cases_lt}
 use Rattle.theory.specs.Literals.{has_var, IsVariable}
 use Rattle.theory.specs.Truth.{IsOver}
 use Rattle.theory.specs.Trails.{Entry, Trail, literals, entry_of, least_free}
-use Rattle.theory.proofs.LiteralLemmas.{or-cases, or-left, or-right}
-use Rattle.theory.proofs.LiteralSets.{false_unless, has_var-append_left, literal_of_var}
-use Rattle.theory.proofs.OverVariables.{AreOver-from_IsOver}
+use Rattle.theory.proofs.literals.LiteralLemmas.{or-cases, or-left, or-right}
+use Rattle.theory.proofs.literals.LiteralSets.{false_unless, has_var-append_left, literal_of_var}
+use Rattle.theory.proofs.literals.OverVariables.{AreOver-from_IsOver}
 use Rattle.trail.specs.TrailOver.{IsOrdered}
 use Rattle.trail.specs.declared.truth.Truth.{Truth}
 use Rattle.trail.specs.Tables.{value_in, AreTables, IsNextFree}

@@ -4,13 +4,13 @@ use Rattle.std.proofs.lemmas.List.{take_more, length-map, map-append, take-appen
 use Rattle.theory.specs.Literals.{Literal, has_var, IsVariable, are_distinct}
 use Rattle.theory.specs.Truth.{IsOver}
 use Rattle.theory.specs.Trails.{Entry, Trail, literals, level_at, current_level, up_to}
-use Rattle.theory.proofs.LiteralLemmas.{and-left, and-right, not_true}
-use Rattle.theory.proofs.LiteralSets.{and-true, has_var-append_left}
-use Rattle.theory.proofs.TrailEntries.{literals-at, are_distinct-push}
-use Rattle.theory.proofs.OverVariables.{AreOver-from_IsOver, IsOver-from_AreOver, AreOver-push, IsOver-left}
-use Rattle.theory.proofs.TrailLevels.{up_to-push}
+use Rattle.theory.proofs.literals.LiteralLemmas.{and-left, and-right, not_true}
+use Rattle.theory.proofs.literals.LiteralSets.{and-true, has_var-append_left}
+use Rattle.theory.proofs.trails.TrailEntries.{literals-at, are_distinct-push}
+use Rattle.theory.proofs.literals.OverVariables.{AreOver-from_IsOver, IsOver-from_AreOver, AreOver-push, IsOver-left}
+use Rattle.theory.proofs.trails.TrailLevels.{up_to-push}
 use Rattle.trail.specs.TrailOver.{IsRisingFrom, IsOrdered}
-use Rattle.theory.proofs.DistinctLiterals.{length-distinct}
+use Rattle.theory.proofs.literals.DistinctLiterals.{length-distinct}
 
 -- the last level, or the given one
 abbrev last_level : ℕ → Trail → ℕ

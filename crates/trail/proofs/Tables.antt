@@ -5,8 +5,8 @@ use Rattle.std.proofs.lemmas.Grind.{get_or_default_zero}
 use Rattle.std.proofs.lemmas.Option.{slice_get-get_or}
 use Rattle.theory.specs.Literals.{Literal, same_sign, has_var, negated, IsVariable, are_distinct}
 use Rattle.theory.specs.Trails.{Entry, Trail, literals, entry_of}
-use Rattle.theory.proofs.LiteralLemmas.{and-left, and-right, not_true, or-right, true_or_false}
-use Rattle.theory.proofs.LiteralSets.{true_false, false_unless, or-false_left, or-false_right, or-none, has_var-append_right}
+use Rattle.theory.proofs.literals.LiteralLemmas.{and-left, and-right, not_true, or-right, true_or_false}
+use Rattle.theory.proofs.literals.LiteralSets.{true_false, false_unless, or-false_left, or-false_right, or-none, has_var-append_right}
 use Rattle.trail.specs.declared.truth.Truth.{Truth}
 use Rattle.trail.specs.declared.truth.Truth.TheVariants.{Unassigned, Satisfied, Falsified}
 use Rattle.trail.specs.Tables.{value_in, one_more, place_in, truth_of, spot, with_truths, AreTables}

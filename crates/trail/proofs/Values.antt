@@ -2,8 +2,8 @@
 use Rattle.std.proofs.Common.{◌≡◌, ℕ, Bool, true, false, not, [], ◌∷◌, Option, Some, None, option_map, cond, nat_eq, eqb-true, is_some, refl, ap, sym, subst, ◌∙◌}
 use Rattle.theory.specs.Literals.{Literal, same_sign, negated, has, has_var}
 use Rattle.theory.specs.Trails.{Entry, Trail, literals, entry_of}
-use Rattle.theory.proofs.LiteralSets.{has-equal, has-tail}
-use Rattle.theory.proofs.LiteralSets.{true_false}
+use Rattle.theory.proofs.literals.LiteralSets.{has-equal, has-tail}
+use Rattle.theory.proofs.literals.LiteralSets.{true_false}
 use Rattle.trail.specs.declared.truth.Truth.{Truth}
 use Rattle.trail.specs.declared.truth.Truth.TheVariants.{Satisfied, Falsified}
 use Rattle.trail.specs.Tables.{IsTruth, value_in, value_of, truth_of}

@@ -1,4 +1,4 @@
-use Rattle.theory.proofs.GlueBounds.{glue-most, current_level-most, recent-few, recent-most}
+use Rattle.theory.proofs.searching.GlueBounds.{glue-most, current_level-most, recent-few, recent-most}
 use Rattle.theory.proofs.glues_stay_within.Goals as goal
 
 pub returns : goal.returns

@@ -1,4 +1,4 @@
-use Rattle.theory.proofs.OneText.{Reads-one_formula}
+use Rattle.theory.proofs.trees.OneText.{Reads-one_formula}
 use Rattle.theory.proofs.one_formula.Goals as goal
 
 pub returns : goal.returns

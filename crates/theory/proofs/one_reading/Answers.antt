@@ -1,4 +1,4 @@
-use Rattle.theory.proofs.OneReading.{Reads-one}
+use Rattle.theory.proofs.reading.OneReading.{Reads-one}
 use Rattle.theory.proofs.one_reading.Goals as goal
 
 pub returns : goal.returns

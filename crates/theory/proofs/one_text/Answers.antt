@@ -1,4 +1,4 @@
-use Rattle.theory.proofs.OneText.{IsWritten-one}
+use Rattle.theory.proofs.trees.OneText.{IsWritten-one}
 use Rattle.theory.proofs.one_text.Goals as goal
 
 pub returns : goal.returns

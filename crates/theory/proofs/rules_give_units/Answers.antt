@@ -1,4 +1,4 @@
-use Rattle.theory.proofs.Rules.{IsRule-by_number, IsRule-by_place}
+use Rattle.theory.proofs.searching.Rules.{IsRule-by_number, IsRule-by_place}
 use Rattle.theory.proofs.rules_give_units.Goals as goal
 
 pub returns : goal.returns

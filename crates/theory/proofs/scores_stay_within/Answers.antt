@@ -1,4 +1,4 @@
-use Rattle.theory.proofs.ScoreBounds.{gained-most, scores-most, step-gained, step-after}
+use Rattle.theory.proofs.searching.ScoreBounds.{gained-most, scores-most, step-gained, step-after}
 use Rattle.theory.proofs.scores_stay_within.Goals as goal
 
 pub returns : goal.returns

@@ -1,6 +1,6 @@
-use Rattle.theory.proofs.KeptSearches.{IsSearchOf-begin, IsSearchOf-Propagates, IsSearchOf-decide, IsSearchOf-up_to, IsSearchOf-learn, IsSearchOf-forget, IsReplayed-learn}
-use Rattle.theory.proofs.OrderedOutcomes.{IsSearchOf-ordered_step}
-use Rattle.theory.proofs.FocusedOutcomes.{IsSearchOf-focused_step}
+use Rattle.theory.proofs.searching.KeptSearches.{IsSearchOf-begin, IsSearchOf-Propagates, IsSearchOf-decide, IsSearchOf-up_to, IsSearchOf-learn, IsSearchOf-forget, IsReplayed-learn}
+use Rattle.theory.proofs.searching.OrderedOutcomes.{IsSearchOf-ordered_step}
+use Rattle.theory.proofs.searching.FocusedOutcomes.{IsSearchOf-focused_step}
 use Rattle.theory.proofs.searches_keep.Goals as goal
 
 pub returns : goal.returns

@@ -1,5 +1,5 @@
 use Rattle.std.proofs.Common.{arith, [], length}
-use Rattle.theory.proofs.LawfulTrails.{least_false-at}
+use Rattle.theory.proofs.trails.LawfulTrails.{least_false-at}
 use Rattle.cdcl.proofs.JoinedSets.{IsSet-clear, false-whole}
 use Rattle.cdcl.proofs.analysis.marks_of.Goals as goal
 

@@ -2,7 +2,7 @@ use Rattle.std.proofs.Common.{◌≡◌, ◌∙◌, ◌+◌, ◌-◌, ◌++◌, 
 use Rattle.theory.specs.Literals.{Clause}
 use Rattle.theory.specs.Plans.{Constants, default_constants}
 use Rattle.theory.specs.Forgetting.{forget}
-use Rattle.theory.proofs.ForgettingNumbers.{half_numbers}
+use Rattle.theory.proofs.searching.ForgettingNumbers.{half_numbers}
 use Rattle.heuristics.proofs.HalfLemmas.{candidates-distinct}
 use Rattle.cdcl.specs.Numbers.{is_one_of}
 use Rattle.cdcl.proofs.ForgettingLemmas.{snoc, half-found, forgotten-half, half-learnt, half-no_reasons}

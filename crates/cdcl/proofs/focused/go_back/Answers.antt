@@ -1,7 +1,7 @@
 use Rattle.std.proofs.Common.{◌≡◌, ◌∙◌, ap, arith, ◌++◌, ◌∷◌, [], if◌then◌else◌}
 use Rattle.theory.specs.Literals.{Clause}
 use Rattle.theory.specs.Trails.{Trail, up_to, current_level}
-use Rattle.theory.proofs.TrailLevels.{up_to-up_to}
+use Rattle.theory.proofs.trails.TrailLevels.{up_to-up_to}
 use Rattle.kernel.specs.State.{State}
 use Rattle.kernel.specs.declared.order.Order.TheVariants.{ByPlace}
 use Rattle.cdcl.proofs.SearchingLemmas.{may_learn}

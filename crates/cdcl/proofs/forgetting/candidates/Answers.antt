@@ -2,7 +2,7 @@ use Rattle.std.proofs.Common.{◌≡◌, ◌∙◌, ◌+◌, ◌-◌, ◌<◌, �
 use Rattle.theory.specs.Literals.{has_both_signs}
 use Rattle.theory.specs.Forgetting as forgetting
 use Rattle.theory.specs.Forgetting.{Candidate, is_reason}
-use Rattle.theory.proofs.LiteralLemmas.{and-left, not_true}
+use Rattle.theory.proofs.literals.LiteralLemmas.{and-left, not_true}
 use Rattle.cdcl.proofs.MarkedSets.{mark-read}
 use Rattle.cdcl.proofs.ForgettingLemmas.{candidates-next, candidates-end, plain-at, length-plain}
 use Rattle.cdcl.proofs.forgetting.candidates.Goals as goal

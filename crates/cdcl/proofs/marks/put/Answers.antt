@@ -3,7 +3,7 @@ use Rattle.std.proofs.lemmas.Result.{on_ok_weaker}
 use Rattle.theory.specs.Literals.{Literal}
 use Rattle.theory.specs.Trails.{Entry, entry_of}
 use Rattle.theory.specs.Learning.{with_literal}
-use Rattle.theory.proofs.LiteralLemmas.{and-left}
+use Rattle.theory.proofs.literals.LiteralLemmas.{and-left}
 use Rattle.cdcl.specs.Marks.{IsSet}
 use Rattle.cdcl.proofs.PlaceLemmas.{place-found, false-below, entry_of-false}
 use Rattle.cdcl.proofs.MarkedSets.{inside, mark-read}

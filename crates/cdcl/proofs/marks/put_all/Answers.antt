@@ -1,7 +1,7 @@
 use Rattle.std.proofs.Common.{◌≡◌, arith, ◌-◌, ℕ, take, drop, length, subst, sym}
 use Rattle.theory.specs.Trails.{literals}
 use Rattle.theory.specs.Learning.{with_literals}
-use Rattle.theory.proofs.LiteralSets.{Refutes-from_is_false}
+use Rattle.theory.proofs.literals.LiteralSets.{Refutes-from_is_false}
 use Rattle.cdcl.specs.Marks.{IsSet}
 use Rattle.cdcl.proofs.SetLemmas.{drop-before, has-at}
 use Rattle.cdcl.proofs.JoinedSets.{CanJoin-one}

@@ -1,6 +1,6 @@
 use Rattle.std.proofs.Common.{◌≡◌, ◌∙◌, true, false, slice_set, ap, sym, nat_eq, eq-eqb, eqb-true, ◌++◌, ◌∷◌, [], arith}
 use Rattle.theory.specs.Trails.{Entry, current_level}
-use Rattle.theory.proofs.LiteralSets.{false_unless}
+use Rattle.theory.proofs.literals.LiteralSets.{false_unless}
 use Rattle.cdcl.proofs.PlaceLemmas.{placed-there, entry-read, entry_of-placed}
 use Rattle.cdcl.proofs.Pending.{pending-pushed, pending-kept}
 use Rattle.cdcl.proofs.MarkedSets.{entry-inside, count-most, resolvable-current, resolvable-zero, resolvable-neither}

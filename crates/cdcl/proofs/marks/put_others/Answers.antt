@@ -2,7 +2,7 @@ use Rattle.std.proofs.Common.{◌≡◌, arith, ◌-◌, ◌∙◌, ℕ, take, d
 use Rattle.theory.specs.Literals.{Clause, without}
 use Rattle.theory.specs.Trails.{literals}
 use Rattle.theory.specs.Learning.{with_literals}
-use Rattle.theory.proofs.LiteralSets.{Refutes-from_is_false, has-without}
+use Rattle.theory.proofs.literals.LiteralSets.{Refutes-from_is_false, has-without}
 use Rattle.cdcl.specs.Marks.{IsSet}
 use Rattle.cdcl.proofs.SetLemmas.{drop-before, has-at, without-same, without-other}
 use Rattle.cdcl.proofs.JoinedSets.{CanJoin-one}

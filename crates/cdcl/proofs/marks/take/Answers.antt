@@ -1,7 +1,7 @@
 use Rattle.std.proofs.Common.{◌≡◌, ◌∙◌, true, false, slice_set, refl, ap, sym, nat_eq, eq-eqb, eqb-true, arith}
 use Rattle.theory.specs.Literals.{negated}
 use Rattle.theory.specs.Trails.{Entry, level_at, current_level}
-use Rattle.theory.proofs.LiteralSets.{false_unless}
+use Rattle.theory.proofs.literals.LiteralSets.{false_unless}
 use Rattle.cdcl.proofs.PlaceLemmas.{entry_of-placed}
 use Rattle.cdcl.proofs.MarkedSets.{entry-inside, entry-false, is_in, count-some}
 use Rattle.cdcl.proofs.JoinedSets.{IsSet-less}

@@ -1,4 +1,4 @@
-use Rattle.theory.proofs.PropagationLemmas.{Propagates-rests}
+use Rattle.theory.proofs.searching.PropagationLemmas.{Propagates-rests}
 use Rattle.cdcl_tests.proofs.kernels.decide.Goals as goal
 
 pub decide-requires : goal.decide-requires

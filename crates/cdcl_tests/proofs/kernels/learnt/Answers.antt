@@ -1,4 +1,4 @@
-use Rattle.theory.proofs.LawfulTrails.{Propagates-conflict}
+use Rattle.theory.proofs.trails.LawfulTrails.{Propagates-conflict}
 use Rattle.cdcl_tests.proofs.kernels.learnt.Goals as goal
 
 pub analyze-requires : goal.analyze-requires

@@ -1,5 +1,5 @@
 use Rattle.std.proofs.Common.{sym}
-use Rattle.theory.proofs.SearchSteps.{least_free-variable}
+use Rattle.theory.proofs.searching.SearchSteps.{least_free-variable}
 use Rattle.cdcl_tests.proofs.kernels.next_literal.Goals as goal
 
 pub of-requires-clause-some : goal.of-requires-clause-some

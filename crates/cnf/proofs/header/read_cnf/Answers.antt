@@ -1,7 +1,7 @@
 use Rattle.std.proofs.Common.{◌∙◌, List, sym, ap}
 use Rattle.theory.specs.Tokens.{Place}
 use Rattle.theory.specs.Reading.{Placed, refusal, bad_header, end_of}
-use Rattle.theory.proofs.ReadingMachine.{at_cnf}
+use Rattle.theory.proofs.reading.ReadingMachine.{at_cnf}
 use Rattle.cnf.specs.Machine.{run}
 use Rattle.cnf.proofs.HeaderLemmas.{cnf-read, cnf-refused}
 use Rattle.cnf.proofs.header.read_cnf.Goals as goal

@@ -2,7 +2,7 @@ use Rattle.std.proofs.Common.{◌≡◌, ◌∙◌, List, Some, None, sym, ap, r
 use Rattle.std.proofs.lemmas.Result.{err_from_is_err_and}
 use Rattle.theory.specs.Tokens.{Place}
 use Rattle.theory.specs.Reading.{Placed, refusal, bad_header, end_of}
-use Rattle.theory.proofs.ReadingMachine.{at_vars, at_clauses, at_header_end}
+use Rattle.theory.proofs.reading.ReadingMachine.{at_vars, at_clauses, at_header_end}
 use Rattle.cnf.specs.Tokens.{in_header}
 use Rattle.cnf.specs.Machine.{run, reads_from, reading_of}
 use Rattle.cnf.proofs.FaultLemmas.{IsRefusal-same}

@@ -3,7 +3,7 @@ use Rattle.theory.specs.Tokens.{Place}
 use Rattle.theory.specs.Reading.{Placed, refusal, bad_header, over_limit, end_of}
 use Rattle.cnf.specs.Machine.{run, at_number}
 use Rattle.cnf.proofs.HeaderLemmas.{number-missing, number-other, number-above, number-read, not-false}
-use Rattle.theory.proofs.LiteralLemmas.{not_true}
+use Rattle.theory.proofs.literals.LiteralLemmas.{not_true}
 use Rattle.cnf.proofs.header.read_limited.Goals as goal
 use Rattle.cnf.proofs.header.read_limited.Goals.{then-start-bytes-via-then-start-bytes, then-start-bytes-via-else-start-bytes+then-bytes-start-eq10}
 

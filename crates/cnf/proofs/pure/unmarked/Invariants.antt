@@ -1,6 +1,6 @@
 use Rattle.std.proofs.Common.{◌≡◌, not}
 use Rattle.theory.specs.Truth.{value}
-use Rattle.theory.proofs.PureVariables.{negatives}
+use Rattle.theory.proofs.searching.PureVariables.{negatives}
 use Rattle.cnf.proofs.pure.unmarked.Given as goal
 
 -- the negations of the variables looked at

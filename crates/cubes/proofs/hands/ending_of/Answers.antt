@@ -1,5 +1,5 @@
 use Rattle.std.proofs.Common.{ap}
-use Rattle.theory.proofs.OutcomeLemmas.{Runs-exhausted}
+use Rattle.theory.proofs.searching.OutcomeLemmas.{Runs-exhausted}
 use Rattle.cdcl.specs.Outcome.{outcome_of}
 use Rattle.cubes.proofs.hands.ending_of.Goals as goal
 

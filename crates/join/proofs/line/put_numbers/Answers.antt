@@ -1,6 +1,6 @@
 use Rattle.std.proofs.Common.{◌+◌, ◌-◌, [], ◌∷◌, ◌++◌, ap, sym, ◌∙◌, append_assoc}
 use Rattle.theory.specs.Proofs.{numbers_from}
-use Rattle.theory.proofs.DeletedNumbers.{numbers_from-next}
+use Rattle.theory.proofs.checker.DeletedNumbers.{numbers_from-next}
 use Rattle.join.proofs.line.put_numbers.Goals as goal
 
 pub loop-number-preserved : goal.loop-number-preserved

@@ -1,6 +1,6 @@
 use Rattle.std.proofs.Common.{◌≡◌, ap, ◌∙◌, take, arith}
 use Rattle.theory.specs.Trails.{current_level}
-use Rattle.theory.proofs.OpenTrails.{current_level-cube_trail}
+use Rattle.theory.proofs.searching.OpenTrails.{current_level-cube_trail}
 use Rattle.trail.proofs.Cubes.{cube_trail-free}
 use Rattle.kernel.proofs.kernel.put_cube.Goals as goal
 

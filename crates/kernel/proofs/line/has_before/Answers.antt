@@ -1,7 +1,7 @@
 use Rattle.std.proofs.Common.{◌≡◌, Bool, true, false, not, sym, length, refl}
 use Rattle.std.proofs.lemmas.Bool.{ltb-true}
 use Rattle.std.specs.BinaryHeap.{heap_items}
-use Rattle.theory.proofs.LiteralLemmas.{not_true}
+use Rattle.theory.proofs.literals.LiteralLemmas.{not_true}
 use Rattle.kernel.proofs.UnitLemmas.{top-there}
 use Rattle.kernel.proofs.InOrder.{All-behind}
 use Rattle.kernel.proofs.Placed.{All-goes_first}

@@ -1,4 +1,4 @@
-use Rattle.theory.proofs.PropagationLemmas.{Propagates-rests}
+use Rattle.theory.proofs.searching.PropagationLemmas.{Propagates-rests}
 use Rattle.kernel_tests.proofs.acts.decide.Goals as goal
 
 pub decide-requires : goal.decide-requires

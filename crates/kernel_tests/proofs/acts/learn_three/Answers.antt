@@ -1,6 +1,6 @@
 use Rattle.std.proofs.Common.{◌≡◌, ap, sym, ◌∙◌, nat_eq, eqb-true, arith}
 use Rattle.theory.specs.Trails.{Entry}
-use Rattle.theory.proofs.LiteralSets.{false_unless}
+use Rattle.theory.proofs.literals.LiteralSets.{false_unless}
 use Rattle.kernel_tests.proofs.Learning.{IsOver-three, IsLearnable-three}
 use Rattle.kernel_tests.proofs.acts.learn_three.Goals as goal
 

@@ -1,5 +1,5 @@
 use Rattle.std.proofs.Common.{◌≡◌, sym, ◌∙◌}
-use Rattle.theory.proofs.ClauseWalks.{beq-same, beq-other, at-place, has-before}
+use Rattle.theory.proofs.literals.ClauseWalks.{beq-same, beq-other, at-place, has-before}
 use Rattle.lrat.proofs.Values.{value-none, value-held, value-other}
 use Rattle.lrat.proofs.Assumptions.{IsAssumed-pivot, IsAssumed-push, IsAssumed-held, closed-by_held, not_closed, next, whole}
 use Rattle.lrat.proofs.HeldLemmas.{Extends-push}

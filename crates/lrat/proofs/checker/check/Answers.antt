@@ -1,6 +1,6 @@
 use Rattle.std.proofs.Common.{◌≡◌, ◌+◌, ◌∙◌, length, map, sym, arith}
 use Rattle.std.proofs.lemmas.List.{length-map}
-use Rattle.theory.proofs.Soundness.{accepted-unsatisfiable}
+use Rattle.theory.proofs.checker.Soundness.{accepted-unsatisfiable}
 use Rattle.lrat_text.specs.Steps.{step_of}
 use Rattle.lrat.specs.Tested.{checker_of}
 use Rattle.lrat.proofs.CheckLemmas.{check-leaves, check-faulty, check-ends, refused-at, map-next}

@@ -1,7 +1,7 @@
 use Rattle.std.proofs.Common.{◌∙◌, ap, sym}
 use Rattle.theory.specs.Checking.{is_closed}
 use Rattle.lrat.proofs.AdditionLemmas.{closed-nothing, pivot-free, negations-put, some-length}
-use Rattle.theory.proofs.ClauseWalks.{at-place}
+use Rattle.theory.proofs.literals.ClauseWalks.{at-place}
 use Rattle.lrat.proofs.checker.negate.Goals as goal
 
 pub returns-then-branch-clause-both : goal.returns-then-branch-clause-both

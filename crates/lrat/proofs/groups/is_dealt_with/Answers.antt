@@ -4,7 +4,7 @@ use Rattle.std.specs.List.{list_any}
 use Rattle.std.proofs.lemmas.Option.{slice_get_within}
 use Rattle.theory.specs.Literals.{has}
 use Rattle.theory.specs.Checking.{is_closed}
-use Rattle.theory.proofs.LiteralLemmas.{or-left, or-right}
+use Rattle.theory.proofs.literals.LiteralLemmas.{or-left, or-right}
 use Rattle.lrat.proofs.groups.is_dealt_with.Goals.{then-not-has-via-then-not-has, then-not-has-via-else-not-has+then-contains}
 use Rattle.lrat.proofs.groups.is_dealt_with.Goals as goal
 

@@ -1,5 +1,5 @@
 use Rattle.std.proofs.Common.{◌∙◌, sym, Some}
-use Rattle.theory.proofs.ClauseWalks.{beq-same, beq-other, IsMet-end, unit_literal-met, step-false, step-free, step-same, ends-satisfied, ends-two}
+use Rattle.theory.proofs.literals.ClauseWalks.{beq-same, beq-other, IsMet-end, unit_literal-met, step-false, step-free, step-same, ends-satisfied, ends-two}
 use Rattle.lrat.proofs.HintLemmas.{hint-open, hint-unit}
 use Rattle.lrat.proofs.Values.{value-held, value-false, value-none}
 use Rattle.lrat.proofs.hints.status_of.Goals as goal

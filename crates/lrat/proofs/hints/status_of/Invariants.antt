@@ -1,5 +1,5 @@
 use Rattle.std.proofs.Common.{take}
-use Rattle.theory.proofs.ClauseWalks.{IsMet}
+use Rattle.theory.proofs.literals.ClauseWalks.{IsMet}
 use Rattle.lrat.proofs.hints.status_of.Given as goal
 
 -- the literals so far are false but for the free one

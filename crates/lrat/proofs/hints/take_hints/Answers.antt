@@ -1,9 +1,9 @@
 use Rattle.std.proofs.Common.{◌∙◌, sym, subst}
 use Rattle.theory.specs.Truth.{IsOver}
-use Rattle.theory.proofs.ClauseLemmas.{unit-fresh}
-use Rattle.theory.proofs.OverVariables.{AreOver-from_IsOver}
+use Rattle.theory.proofs.literals.ClauseLemmas.{unit-fresh}
+use Rattle.theory.proofs.literals.OverVariables.{AreOver-from_IsOver}
 use Rattle.lrat.specs.Slots.{there}
-use Rattle.theory.proofs.ClauseWalks.{unit-has}
+use Rattle.theory.proofs.literals.ClauseWalks.{unit-has}
 use Rattle.lrat.proofs.HintLemmas.{unit-hinted, take_hints-unit}
 use Rattle.lrat.proofs.HeldLemmas.{Extends-push}
 use Rattle.lrat.proofs.hints.take_hints.Goals as goal

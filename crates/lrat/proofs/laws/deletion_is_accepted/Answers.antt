@@ -1,4 +1,4 @@
-use Rattle.theory.proofs.DeletionsPutIn.{checks-deletion}
+use Rattle.theory.proofs.checker.DeletionsPutIn.{checks-deletion}
 use Rattle.lrat.proofs.laws.deletion_is_accepted.Goals as goal
 
 pub returns : goal.returns

@@ -1,6 +1,6 @@
 use Rattle.std.proofs.Common.{◌≡◌, ◌≤◌, true, get_or, sym, ◌∙◌, ap, arith}
 use Rattle.std.specs.Char.{is_ascii_digit}
-use Rattle.theory.proofs.NumberTexts.{digit-range}
+use Rattle.theory.proofs.reading.NumberTexts.{digit-range}
 use Rattle.lrat_text.specs.Streams.{positive_so_far, negative_so_far}
 use Rattle.lrat_text.specs.declared.begun.Begun.TheVariants.{Positive, Negative}
 use Rattle.lrat_text.proofs.PieceLemmas.{TakesWord-more, digit-word, positive-digit, negative-digit, positive-more, negative-more}

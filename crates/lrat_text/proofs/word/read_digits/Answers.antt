@@ -2,7 +2,7 @@ use Rattle.std.proofs.Common.{◌≡◌, true, false, ◌∙◌, sym, get_or, ar
 use Rattle.std.specs.Char.{is_ascii_digit}
 use Rattle.lrat_text.specs.LineWords.{ends_word}
 use Rattle.lrat_text.proofs.DigitLemmas.{digit-goes_on, place-more, rest-more, all-digit, all-other, size-digit}
-use Rattle.theory.proofs.NumberTexts.{digit-range}
+use Rattle.theory.proofs.reading.NumberTexts.{digit-range}
 use Rattle.lrat_text.proofs.word.read_digits.Goals as goal
 use Rattle.lrat_text.proofs.word.read_digits.Goals.{then-is_ascii_digit, else-is_ascii_digit+else-ends_word}
 

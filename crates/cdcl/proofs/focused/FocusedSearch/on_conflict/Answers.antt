@@ -1,7 +1,7 @@
 use Rattle.std.proofs.Common.{◌≡◌, ◌+◌, ◌<◌, false, nat_eq, eqb-true, ap, refl, arith}
 use Rattle.theory.specs.Trails.{current_level}
 use Rattle.theory.specs.Focused.{FocusedState, saved_after}
-use Rattle.theory.proofs.LiteralSets.{false_unless}
+use Rattle.theory.proofs.literals.LiteralSets.{false_unless}
 use Rattle.cdcl.proofs.FocusedSteps.{Follows-exhausted, Follows-learns}
 use Rattle.cdcl.proofs.focused.FocusedSearch.on_conflict.Goals as goal
 

@@ -1,8 +1,8 @@
 use Rattle.std.proofs.Common.{◌≡◌, ◌∙◌, ◌+◌, ◌++◌, ◌∷◌, [], None, sym, refl, arith}
 use Rattle.theory.specs.Propagation.{by_place, quiet}
 use Rattle.theory.specs.Focused.{saved_literal}
-use Rattle.theory.proofs.SearchSoundness.{Propagates-says}
-use Rattle.theory.proofs.BestVariables.{best_outside-some}
+use Rattle.theory.proofs.searching.SearchSoundness.{Propagates-says}
+use Rattle.theory.proofs.searching.BestVariables.{best_outside-some}
 use Rattle.theory.specs.Trails.{literals, current_level}
 use Rattle.cdcl.proofs.FocusedLemmas.{if-false}
 use Rattle.cdcl.proofs.FocusedSteps.{Follows-decided}

@@ -1,4 +1,4 @@
-use Rattle.theory.proofs.PureVariables.{IsCube-pure_literals, IsOver-pure_literals}
+use Rattle.theory.proofs.searching.PureVariables.{IsCube-pure_literals, IsOver-pure_literals}
 use Rattle.cdcl.proofs.focused.FocusedSearch.open.Goals as goal
 
 pub open_in_order-requires-clause-units : goal.open_in_order-requires-clause-units

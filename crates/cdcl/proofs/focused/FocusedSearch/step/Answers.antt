@@ -1,6 +1,6 @@
 use Rattle.theory.specs.Propagation.{by_place, Propagates, quiet, conflict}
-use Rattle.theory.proofs.LawfulTrails.{Propagates-conflict}
-use Rattle.theory.proofs.PropagationLemmas.{Propagates-rests}
+use Rattle.theory.proofs.trails.LawfulTrails.{Propagates-conflict}
+use Rattle.theory.proofs.searching.PropagationLemmas.{Propagates-rests}
 use Rattle.cdcl.proofs.FocusedSteps.{IsFocusing-Propagates, step-from, if_ok-map}
 use Rattle.cdcl.proofs.focused.FocusedSearch.step.Goals as goal
 

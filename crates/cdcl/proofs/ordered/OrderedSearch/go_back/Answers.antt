@@ -1,6 +1,6 @@
 use Rattle.std.proofs.Common.{◌∙◌, ap}
 use Rattle.theory.specs.Learning.{Line}
-use Rattle.theory.proofs.LearnableLines.{back_level-learn}
+use Rattle.theory.proofs.searching.LearnableLines.{back_level-learn}
 use Rattle.kernel.specs.declared.order.Order.TheVariants.{ByNumber}
 use Rattle.cdcl.proofs.SearchingLemmas.{may_learn}
 use Rattle.cdcl.proofs.ordered.OrderedSearch.go_back.Goals as goal

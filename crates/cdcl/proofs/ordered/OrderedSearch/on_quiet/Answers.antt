@@ -1,5 +1,5 @@
 use Rattle.std.proofs.Common.{arith, sym}
-use Rattle.theory.proofs.SearchSteps.{least_free-variable}
+use Rattle.theory.proofs.searching.SearchSteps.{least_free-variable}
 use Rattle.cdcl.proofs.ordered.OrderedSearch.on_quiet.Goals as goal
 
 pub of-requires : goal.of-requires

@@ -1,4 +1,4 @@
-use Rattle.theory.proofs.PureVariables.{IsCube-pure_literals, IsOver-pure_literals}
+use Rattle.theory.proofs.searching.PureVariables.{IsCube-pure_literals, IsOver-pure_literals}
 use Rattle.cdcl.proofs.ordered.OrderedSearch.open.Goals as goal
 
 pub open_with-requires-clause-units : goal.open_with-requires-clause-units

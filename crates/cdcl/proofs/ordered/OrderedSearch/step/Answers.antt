@@ -1,9 +1,9 @@
 use Rattle.std.proofs.Common.{refl}
 use Rattle.theory.specs.Propagation.{by_number, Propagates, quiet, conflict}
-use Rattle.theory.proofs.LawfulTrails.{Propagates-conflict}
+use Rattle.theory.proofs.trails.LawfulTrails.{Propagates-conflict}
 use Rattle.kernel.specs.declared.order.Order.TheVariants.{ByNumber}
 use Rattle.cdcl.proofs.SearchingLemmas.{IsSearching-Propagates, IsSearchStep-from}
-use Rattle.theory.proofs.PropagationLemmas.{Propagates-rests}
+use Rattle.theory.proofs.searching.PropagationLemmas.{Propagates-rests}
 use Rattle.cdcl.proofs.ordered.OrderedSearch.step.Goals as goal
 
 came_to_rest : (c : goal.After-on_quiet-arg-1) → Propagates by_number c.args.self.now.kernel.clauses c.args.self.now.kernel.trail quiet c.close.new.self.trail

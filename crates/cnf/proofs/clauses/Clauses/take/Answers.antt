@@ -2,7 +2,7 @@ use Rattle.std.proofs.Common.{◌≡◌, ◌<◌, ◌⊎◌, inl, inr, true, map
 use Rattle.std.specs.List.{slice_range}
 use Rattle.std.proofs.lemmas.List.{length-map}
 use Rattle.std.proofs.lemmas.Result.{MatchResult-weaker}
-use Rattle.theory.proofs.ReadingMachine.{ReaderState}
+use Rattle.theory.proofs.reading.ReadingMachine.{ReaderState}
 use Rattle.cnf.specs.Clauses.{state_of}
 use Rattle.cnf.specs.Tokens.{place_at}
 use Rattle.cnf.specs.Words.{word_at}

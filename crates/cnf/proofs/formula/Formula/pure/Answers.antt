@@ -2,7 +2,7 @@ use Rattle.std.proofs.Common.{◌≡◌, ◌∙◌, length, not}
 use Rattle.std.proofs.lemmas.Result.{MatchResult-weaker}
 use Rattle.theory.specs.Truth.{value}
 use Rattle.theory.specs.Pure.{pure_literals}
-use Rattle.theory.proofs.PureVariables.{negatives}
+use Rattle.theory.proofs.searching.PureVariables.{negatives}
 use Rattle.cnf.proofs.PureLemmas.{negatives-pure}
 use Rattle.cnf.proofs.formula.Formula.pure.Goals as goal
 

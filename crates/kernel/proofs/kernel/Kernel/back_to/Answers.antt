@@ -1,5 +1,5 @@
 use Rattle.std.proofs.Common.{ap, map}
-use Rattle.theory.proofs.LawfulTrails.{IsLawful-up_to}
+use Rattle.theory.proofs.trails.LawfulTrails.{IsLawful-up_to}
 use Rattle.kernel.specs.Visiting.{kept_of}
 use Rattle.kernel.proofs.KernelSteps.{back-watching}
 use Rattle.kernel.proofs.kernel.Kernel.back_to.Goals as goal

@@ -1,7 +1,7 @@
 use Rattle.std.proofs.Common.{◌≡◌, false}
 use Rattle.theory.specs.Trails.{literals}
 use Rattle.theory.specs.Forgetting.{is_reason}
-use Rattle.theory.proofs.ForgettingNumbers.{length-forget, IsLawful-forget}
+use Rattle.theory.proofs.searching.ForgettingNumbers.{length-forget, IsLawful-forget}
 use Rattle.kernel.proofs.LeftClauses.{among-all, over-forgotten}
 use Rattle.kernel.proofs.kernel.Kernel.forget.Goals as goal
 

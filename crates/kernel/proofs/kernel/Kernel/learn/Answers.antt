@@ -1,7 +1,7 @@
 use Rattle.std.proofs.Common.{length-append, arith}
 use Rattle.std.proofs.lemmas.List.Elements.{All-push}
 use Rattle.theory.specs.Truth.{IsOver}
-use Rattle.theory.proofs.LawfulTrails.{IsLawful-append}
+use Rattle.theory.proofs.trails.LawfulTrails.{IsLawful-append}
 use Rattle.kernel.proofs.kernel.Kernel.learn.Goals as goal
 
 pub invariant_of-self : goal.invariant_of-self

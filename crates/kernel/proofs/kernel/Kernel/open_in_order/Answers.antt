@@ -2,15 +2,15 @@ use Rattle.std.proofs.Common.{◌≡◌, ap, ◌∙◌, ◌++◌, arith, refl, A
 use Rattle.std.proofs.lemmas.List.Elements.{All-append}
 use Rattle.theory.specs.Truth.{IsOver}
 use Rattle.theory.specs.Pure.{unit_clauses}
-use Rattle.theory.proofs.PureVariables.{IsOver-unit_clauses}
-use Rattle.theory.proofs.OpenTrails.{current_level-cube_trail}
+use Rattle.theory.proofs.searching.PureVariables.{IsOver-unit_clauses}
+use Rattle.theory.proofs.searching.OpenTrails.{current_level-cube_trail}
 use Rattle.kernel.specs.Visiting.{kept_of}
 use Rattle.kernel.specs.Attaching.{IsWatching}
 use Rattle.kernel.proofs.Beginning.{begun, over-items}
 use Rattle.theory.specs.Trails.{cube_trail}
-use Rattle.theory.proofs.TrailEntries.{IsLawful-cube}
+use Rattle.theory.proofs.trails.TrailEntries.{IsLawful-cube}
 use Rattle.trail.specs.TrailOver.{TrailOver}
-use Rattle.theory.proofs.TrailLists.{literals-cube}
+use Rattle.theory.proofs.trails.TrailLists.{literals-cube}
 use Rattle.kernel.proofs.kernel.Kernel.open_in_order.Goals as goal
 
 -- the parts of the kernel, as the calls have told them

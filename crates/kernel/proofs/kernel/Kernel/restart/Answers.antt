@@ -4,9 +4,9 @@ use Rattle.std.proofs.lemmas.List.Elements.{All-take}
 use Rattle.theory.specs.Literals.{Clause}
 use Rattle.theory.specs.Truth.{IsOver}
 use Rattle.theory.specs.Trails.{cube_trail}
-use Rattle.theory.proofs.TrailEntries.{IsLawful-cube}
-use Rattle.theory.proofs.TrailLists.{literals-cube}
-use Rattle.theory.proofs.OpenTrails.{current_level-cube_trail}
+use Rattle.theory.proofs.trails.TrailEntries.{IsLawful-cube}
+use Rattle.theory.proofs.trails.TrailLists.{literals-cube}
+use Rattle.theory.proofs.searching.OpenTrails.{current_level-cube_trail}
 use Rattle.kernel.specs.Visiting.{kept_of}
 use Rattle.kernel.specs.Attaching.{IsWatching}
 use Rattle.kernel.proofs.Beginning.{begun}

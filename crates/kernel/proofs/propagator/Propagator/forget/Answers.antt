@@ -1,6 +1,6 @@
 use Rattle.std.proofs.Common.{◌≡◌, ◌∙◌, true, false, ◌⊎◌, inl, inr, arith, length, ◌≤◌}
 use Rattle.theory.specs.Forgetting.{forget}
-use Rattle.theory.proofs.LiteralLemmas.{true_or_false}
+use Rattle.theory.proofs.literals.LiteralLemmas.{true_or_false}
 use Rattle.kernel.specs.Visiting.{kept_of}
 use Rattle.kernel.specs.Forgetting.{names, is_numbered, ArePairsLeft}
 use Rattle.kernel.proofs.LeftClauses.{numbered-from}

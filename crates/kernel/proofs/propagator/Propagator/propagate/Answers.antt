@@ -2,7 +2,7 @@ use Rattle.std.proofs.Common.{◌≡◌, ◌+◌, ◌∙◌, length, ap, arith, 
 use Rattle.std.proofs.lemmas.List.{length_push}
 use Rattle.theory.specs.Trails.{Entry, literals}
 use Rattle.theory.specs.Propagation.{by_number, clashes, rests}
-use Rattle.theory.proofs.Rules.{IsRule-by_number}
+use Rattle.theory.proofs.searching.Rules.{IsRule-by_number}
 use Rattle.kernel.specs.Watching.{IsServed}
 use Rattle.kernel.specs.Visiting.{kept_of, tending}
 use Rattle.kernel.proofs.TrailFacts.{distinct-consistent}

@@ -3,7 +3,7 @@ use Rattle.std.proofs.lemmas.List.{length_push}
 use Rattle.std.proofs.lemmas.List.Elements.{Contains-append_right}
 use Rattle.theory.specs.Trails.{Entry, literals}
 use Rattle.theory.specs.Propagation.{by_place, clashes, rests}
-use Rattle.theory.proofs.Rules.{IsRule-by_place}
+use Rattle.theory.proofs.searching.Rules.{IsRule-by_place}
 use Rattle.kernel.specs.Watching.{IsServed}
 use Rattle.kernel.specs.Visiting.{kept_of, tending, places}
 use Rattle.kernel.specs.Placing.{clauses_of, also}

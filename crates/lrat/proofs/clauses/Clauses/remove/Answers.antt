@@ -1,6 +1,6 @@
 use Rattle.std.proofs.Common.{ap, sym, arith, is_some}
 use Rattle.std.proofs.lemmas.Option.{slice_get_within}
-use Rattle.theory.proofs.LiteralLemmas.{not_true}
+use Rattle.theory.proofs.literals.LiteralLemmas.{not_true}
 use Rattle.lrat.proofs.FlatLemmas.{not_false, found, clause-there, clause-gone, clause-none, there-removed, AreFlat-removed, StayThere-removed, AreUpTo-removed}
 use Rattle.lrat.proofs.clauses.Clauses.remove.Goals as goal
 

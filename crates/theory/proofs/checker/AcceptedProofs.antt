@@ -1,0 +1,266 @@
+-- The checker accepts the proof of a refuted tree.
+use Rattle.std.proofs.Common.{◌≡◌, ℕ, ◌+◌, ◌-◌, ◌<◌, ◌≤◌, Bool, true, false, not, List, [], ◌∷◌, ◌++◌, map, length, refl, ap, sym, subst, ◌∙◌, nat_eq, nat_le, eqb-true, le-leb, ◌⊎◌, inl, inr, Option, Some, None, append_assoc, append-nil, length-append, arith, if◌then◌else◌, ◌&&◌, ◌||◌, is_some}
+use Rattle.std.proofs.lemmas.List.{length-map}
+use Rattle.theory.specs.Literals.{Literal, Clause, negated, negations, positive, negative, same, has, has_var, has_both_signs, are_distinct}
+use Rattle.theory.specs.Truth.{Formula, Assignment, IsFormula, IsOver}
+use Rattle.theory.specs.Plans.{Plan}
+use Rattle.theory.specs.Propagation.{clause_at}
+use Rattle.theory.specs.Learning.{Line}
+use Rattle.theory.specs.Search.{first_clauses}
+use Rattle.theory.specs.Trees.{Tree, satisfied, refutation, split, IsTree, false_half, true_half, first_model, or_else}
+use Rattle.theory.specs.Steps.{Addition, Step, add}
+use Rattle.theory.specs.Checking.{Numbered, clause_of, hint, take_hints, conflicts, Checker, accepted, no_empty_clause, check_from, checks}
+use Rattle.theory.specs.Replaying.{IsReplayed, AreReplayed, AreRefutation}
+use Rattle.theory.specs.Proofs.{additions, renumbered, leaf_steps, tree_steps, prelude, proof, numbers_from, deletion, refuted_steps}
+use Rattle.theory.proofs.literals.LiteralLemmas.{and-left, and-right, not_true, or-cases}
+use Rattle.theory.specs.Deletions.{is_among}
+use Rattle.theory.proofs.literals.LiteralSets.{Refutes, true_false, false_unless, negated-negated, other-same, has-head, has-tail, has-equal, has-cases, has-append_right, has-append_cases, has_var-has, has_var-none, has-negations, has-from_negations, Refutes-negations, has_both_signs-none}
+use Rattle.theory.proofs.trails.TrailEntries.{are_distinct-push}
+use Rattle.theory.proofs.checker.Hints.{hint-false, hint-unit, take_hints-false, take_hints-unit}
+use Rattle.theory.proofs.literals.OverVariables.{AreOver, AreOver-negations, AreOver-from_IsOver}
+use Rattle.theory.proofs.trees.TreeSoundness.{push-over}
+use Rattle.theory.proofs.checker.AcceptedPrelude.{AreInput, start, prelude-leads}
+use Rattle.theory.proofs.searching.OutcomeLemmas.{Runs-AreRefutation, Runs-exhausted}
+use Rattle.theory.proofs.checker.AcceptedSteps.{Leads, Leads-then, renumbered-high, AreMoved, Passes-moved, LinesLead, LinesLead-from_AreReplayed}
+use Rattle.theory.proofs.checker.DeletedNumbers.{numbers_from-within, are_different-numbers_from}
+use Rattle.theory.proofs.checker.AcceptedCubes.{CubeLeads, ending, AreOwn, CubeLeads-end}
+
+-- The line of a split cube is accepted, given the last lines of its halves.
+pub take_hints-split : (there : Numbered) (Q : List Literal) (x left right : ℕ) → has_var Q x ≡ false → clause_of there left ≡ Some (negations (false_half Q x))
+    → clause_of there right ≡ Some (negations (true_half Q x)) → take_hints there (negations (negations Q)) (left ∷ right ∷ []) ≡ conflicts
+take_hints-split there Q x left right free l r =
+    take_hints-unit there P left (right ∷ []) (positive x) conflicts (ap (hint P) l ∙ hint-unit P (negations (false_half Q x)) (positive x) holds open_yet others)
+    (take_hints-false there (positive x ∷ P) right (ap (hint (positive x ∷ P)) r ∙ hint-false (positive x ∷ P) (negations (true_half Q x)) all))
+  where
+    P : List Literal
+    P = negations (negations Q)
+
+    -- the negation of a literal of Q is false under P
+    of_cube : (k : Literal) → has Q (negated k) ≡ true → has P (negated k) ≡ true
+    of_cube k a = Refutes-negations (negations Q) k (subst (λ y. has (negations Q) y ≡ true) (negated-negated k) (has-negations Q (negated k) a))
+
+    holds : has (negations (false_half Q x)) (positive x) ≡ true
+    holds = has-negations (false_half Q x) (negative x) (has-append_right Q (negative x ∷ []) (negative x) (has-head (negative x) []))
+
+    open_yet : has_var P x ≡ false
+    open_yet = has_var-none P x (λ k a e. true_false (has_var Q x)
+        (subst (λ v. has_var Q v ≡ true) e (has_var-has Q (negated (negated k)) (has-from_negations Q (negated k) (has-from_negations (negations Q) k a)))) free)
+
+    others : (k : Literal) → has (negations (false_half Q x)) k ≡ true → same (positive x) k ≡ false → has P (negated k) ≡ true
+    others k a s = elim (has-append_cases Q (negative x ∷ []) (negated k) (has-from_negations (false_half Q x) k a)) [
+      | inl i ↦ of_cube k i
+      | inr i ↦ elim (has-cases (negative x) (negated k) [] i) [
+        | inl e ↦ absurd (other-same (positive x) k s (sym (ap negated e) ∙ negated-negated k))
+        | inr none ↦ absurd (cc)
+      ]
+    ]
+
+    all : Refutes (positive x ∷ P) (negations (true_half Q x))
+    all k a = elim (has-append_cases Q (positive x ∷ []) (negated k) (has-from_negations (true_half Q x) k a)) [
+      | inl i ↦ has-tail (positive x) (negated k) P (of_cube k i)
+      | inr i ↦ elim (has-cases (positive x) (negated k) [] i) [
+        | inl e ↦ has-equal (positive x) (negated k) P e
+        | inr none ↦ absurd (cc)
+      ]
+    ]
+
+-- where no variable stands twice, no literal stands with its negation
+distinct-consistent : (Q : List Literal) (l : Literal) → are_distinct Q ≡ true → has Q l ≡ true → has Q (negated l) ≡ true → ⊥
+distinct-consistent [] l d a b = cc
+distinct-consistent (q ∷ Q) l d a b = go (has-cases q l Q a) (has-cases q (negated l) Q b) (distinct-consistent Q l (and-right (not (has_var Q q.var)) (are_distinct Q) d))
+  where
+    alone : has_var Q q.var ≡ false
+    alone = not_true (has_var Q q.var) (and-left (not (has_var Q q.var)) (are_distinct Q) d)
+
+    go : (l ≡ q) ⊎ (has Q l ≡ true) → (negated l ≡ q) ⊎ (has Q (negated l) ≡ true) → (has Q l ≡ true → has Q (negated l) ≡ true → ⊥) → ⊥
+    go (inl i) (inl j) more = apart l.positive (ap (λ (x : Literal). x.positive) (i ∙ sym j))
+      where
+        apart : (b : Bool) → b ≡ not b → ⊥
+        apart true e = cc
+        apart false e = cc
+    go (inl i) (inr j) more = true_false (has_var Q q.var) (subst (λ v. has_var Q v ≡ true) (ap (λ (x : Literal). x.var) i) (has_var-has Q (negated l) j)) alone
+    go (inr i) (inl j) more = true_false (has_var Q q.var) (subst (λ v. has_var Q v ≡ true) (ap (λ (x : Literal). x.var) j) (has_var-has Q l i)) alone
+    go (inr i) (inr j) more = more i j
+
+has_both_signs-negations : (Q : List Literal) → are_distinct Q ≡ true → has_both_signs (negations Q) ≡ false
+has_both_signs-negations Q d =
+    has_both_signs-none (negations Q) (λ l a b. distinct-consistent Q (negated l) d (has-from_negations Q l a) (has-from_negations Q (negated l) b))
+
+-- the lines of a refuted cube in two parts
+leaf_steps-append : (N first n : ℕ) (Q : List Literal) (xs ys : List Line) → leaf_steps N first n Q (xs ++ ys) ≡ leaf_steps N first n Q xs ++ leaf_steps N first (n + length xs) Q ys
+leaf_steps-append N first n Q [] ys = let number : n ≡ n + 0 = omega arith in ap (λ k. leaf_steps N first k Q ys) number
+leaf_steps-append N first n Q (x ∷ xs) ys =
+    let number : n + 1 + length xs ≡ n + length (x ∷ xs) = omega arith in
+    ap (λ rest. add (record { id = n; clause = x.clause ++ negations Q; hints = map (renumbered N first) x.hints; groups = [] }) ∷ rest)
+    (leaf_steps-append N first (n + 1) Q xs ys ∙ ap (λ k. leaf_steps N first (n + 1) Q xs ++ leaf_steps N first k Q ys) number)
+
+AreReplayed-parts : (V N : ℕ) (Q : List Literal) (K : List Clause) (lines : List Line) (line : Line) → AreReplayed V N Q K (lines ++ line ∷ [])
+    → AreReplayed V N Q K lines × IsReplayed V N Q (K ++ map (λ (x : Line). x.clause) lines) line
+AreReplayed-parts V N Q K [] line h = (tt, rw (append-nil K) h.0)
+AreReplayed-parts V N Q K (l ∷ lines) line h =
+    let more = AreReplayed-parts V N Q (K ++ l.clause ∷ []) lines line h.1 in
+    ((h.0, more.0), rw (append_assoc K (l.clause ∷ []) (map (λ (x : Line). x.clause) lines)) at more.1)
+
+AreMoved-input : (n : ℕ) (Q : List Literal) (K : List Clause) (here : Numbered) → AreInput K here → AreMoved (length K) (renumbered (length K) n) Q K here
+AreMoved-input n Q K here h m one end =
+    let low : nat_le m (length K) ≡ true = le-leb m (length K) end in
+    let left : clause_of here (renumbered (length K) n m) ≡ clause_of here m = ap (λ b. clause_of here (if b then m else n + (m - length K - 1))) low in
+    left ∙ (h m one end ∙ sym (ap (λ b. Some (if b then clause_at K m else clause_at K m ++ negations Q)) low))
+
+-- The lines of a refuted cube are accepted, and so is the deletion behind them.
+pub CubeLeads-leaf : (V n : ℕ) (Q : List Literal) (K : List Clause) (s : Checker) (lines : List Line) → length K < n → s.last < n → AreInput K s.clauses → are_distinct Q ≡ true → AreOver V Q
+    → AreRefutation V (length K) Q K lines → CubeLeads V n (length lines) Q s (refuted_steps (length K) n Q lines)
+unfolding ending
+CubeLeads-leaf V n Q K s lines low rises input distinct over r =
+    subst (λ ls. CubeLeads V n (length ls) Q s (refuted_steps N n Q ls)) (sym r.ends) (subst (CubeLeads V n (length (r.before ++ r.last ∷ [])) Q s) (sym parted) whole)
+  where
+    N : ℕ
+    N = length K
+
+    parts : AreReplayed V N Q K r.before × IsReplayed V N Q (K ++ map (λ (x : Line). x.clause) r.before) r.last
+    parts = AreReplayed-parts V N Q K r.before r.last (subst (AreReplayed V N Q K) r.ends r.replayed)
+
+    first : LinesLead V N n n Q K s r.before
+    first = LinesLead-from_AreReplayed V N n n Q K s r.before (omega arith) low (omega arith) rises (AreMoved-input n Q K s.clauses input) parts.0
+
+    hints : List ℕ
+    hints = map (renumbered N n) r.last.hints
+
+    conflict_last : take_hints first.state.clauses (negations (negations Q)) hints ≡ conflicts
+    conflict_last = subst (λ c. take_hints first.state.clauses (negations (c ++ negations Q)) hints ≡ conflicts) r.empty
+        (Passes-moved N (renumbered N n) Q (K ++ map (λ (x : Line). x.clause) r.before) first.state.clauses r.last first.moved parts.1.passes)
+
+    count : length (r.before ++ r.last ∷ []) ≡ length r.before + 1
+    count = length-append r.before (r.last ∷ [])
+
+    learnt : List ℕ
+    learnt = numbers_from n (length r.before)
+
+    own : AreOwn n (n + length r.before) first.state.clauses learnt
+    own = record {
+      distinct = are_different-numbers_from n (length r.before);
+      first = λ k a. (numbers_from-within n (length r.before) k a).0;
+      before = λ k a. (numbers_from-within n (length r.before) k a).1;
+      there = λ k a. there_at k (numbers_from-within n (length r.before) k a);
+    }
+      where
+        there_at : (k : ℕ) → (n ≤ k) × (k < n + length r.before) → is_some (clause_of first.state.clauses k) ≡ true
+        there_at k w =
+            let low_end = w.0 in
+            let high_end = w.1 in
+            let longer : length (K ++ map (λ (x : Line). x.clause) r.before) ≡ N + length r.before = length-append K (map (λ (x : Line). x.clause) r.before) ∙ ap (λ i. N + i) (length-map r.before (λ (x : Line). x.clause)) in
+            let place : ℕ = N + 1 + (k - n) in
+            let number : renumbered N n place ≡ n + (place - N - 1) = renumbered-high N n place (omega arith) in
+            let same : renumbered N n place ≡ k = number ∙ omega arith in
+            ap (λ i. is_some (clause_of first.state.clauses i)) (sym same) ∙ ap is_some (first.moved place (omega arith) (omega arith))
+
+    parted : refuted_steps N n Q (r.before ++ r.last ∷ []) ≡ leaf_steps N n n Q r.before ++ add (ending (n + length r.before) Q hints) ∷ deletion Q (n + length r.before) learnt
+    parted =
+        let last : n + length (r.before ++ r.last ∷ []) - 1 ≡ n + length r.before = omega (arith, count) in
+        let others : length (r.before ++ r.last ∷ []) - 1 ≡ length r.before = omega (arith, count) in
+        ap (λ A. A ++ deletion Q (n + length (r.before ++ r.last ∷ []) - 1) (numbers_from n (length (r.before ++ r.last ∷ []) - 1))) lines_parted
+        ∙ (ap (λ i. (leaf_steps N n n Q r.before ++ add (ending (n + length r.before) Q hints) ∷ []) ++ deletion Q i (numbers_from n (length (r.before ++ r.last ∷ []) - 1))) last
+        ∙ (ap (λ i. (leaf_steps N n n Q r.before ++ add (ending (n + length r.before) Q hints) ∷ []) ++ deletion Q (n + length r.before) (numbers_from n i)) others
+        ∙ append_assoc (leaf_steps N n n Q r.before) (add (ending (n + length r.before) Q hints) ∷ []) (deletion Q (n + length r.before) learnt)))
+      where
+        lines_parted : leaf_steps N n n Q (r.before ++ r.last ∷ []) ≡ leaf_steps N n n Q r.before ++ add (ending (n + length r.before) Q hints) ∷ []
+        lines_parted = leaf_steps-append N n n Q r.before (r.last ∷ [])
+            ∙ ap (λ c. leaf_steps N n n Q r.before ++ add (record { id = n + length r.before; clause = c ++ negations Q; hints = hints; groups = [] }) ∷ []) r.empty
+
+    whole : CubeLeads V n (length (r.before ++ r.last ∷ [])) Q s (leaf_steps N n n Q r.before ++ add (ending (n + length r.before) Q hints) ∷ deletion Q (n + length r.before) learnt)
+    whole = CubeLeads-end V n (n + length r.before) (length (r.before ++ r.last ∷ [])) Q s first.state (leaf_steps N n n Q r.before) hints learnt first.leads (omega arith)
+        (omega (arith, count)) first.last first.kept (AreOver-negations V Q over) (has_both_signs-negations Q distinct) conflict_last own
+
+-- The lines of a split cube's halves and then its own are accepted, and so is the deletion behind
+-- them.
+pub CubeLeads-split : (V N n : ℕ) (Q : List Literal) (x : ℕ) (l r : Tree) (s : Checker) → are_distinct Q ≡ true → AreOver V Q → has_var Q x ≡ false
+    → (left : CubeLeads V n (additions l) (false_half Q x) s (tree_steps N n (false_half Q x) l))
+    → CubeLeads V (n + additions l) (additions r) (true_half Q x) left.state (tree_steps N (n + additions l) (true_half Q x) r)
+    → CubeLeads V n (additions (split x l r)) Q s (tree_steps N n Q (split x l r))
+unfolding ending
+CubeLeads-split V N n Q x l r s distinct over free left right =
+    CubeLeads-end V n last (additions l + additions r + 1) Q s right.state (tree_steps N n (false_half Q x) l ++ tree_steps N middle (true_half Q x) r) ((middle - 1) ∷ (last - 1) ∷ []) ((middle - 1) ∷ (last - 1) ∷ [])
+    (Leads-then V s left.state right.state (tree_steps N n (false_half Q x) l) (tree_steps N middle (true_half Q x) r) left.leads right.leads)
+    (omega arith) (omega arith) (let e = right.last in omega arith)
+    (λ k h. right.kept k (omega arith) ∙ left.kept k h)
+    (AreOver-negations V Q over) (has_both_signs-negations Q distinct)
+    (take_hints-split right.state.clauses Q x (middle - 1) (last - 1) free clause_left clause_right) own
+  where
+    middle : ℕ
+    middle = n + additions l
+
+    last : ℕ
+    last = middle + additions r
+
+    clause_left : clause_of right.state.clauses (middle - 1) ≡ Some (negations (false_half Q x))
+    clause_left =
+        let e = left.last in
+        let number : left.state.last ≡ middle - 1 = omega arith in
+        right.kept (middle - 1) (omega arith) ∙ subst (λ k. clause_of left.state.clauses k ≡ Some (negations (false_half Q x))) number left.final
+
+    clause_right : clause_of right.state.clauses (last - 1) ≡ Some (negations (true_half Q x))
+    clause_right =
+        let e = right.last in
+        let number : right.state.last ≡ last - 1 = omega arith in
+        subst (λ k. clause_of right.state.clauses k ≡ Some (negations (true_half Q x))) number right.final
+
+    both : (P : ℕ → Type 0) → P (middle - 1) → P (last - 1) → (k : ℕ) → is_among k ((middle - 1) ∷ (last - 1) ∷ []) ≡ true → P k
+    both P f g k a = elim (or-cases (nat_eq k (middle - 1)) (is_among k ((last - 1) ∷ [])) a) [
+      | inl e ↦ subst P (sym (eqb-true k (middle - 1) e)) f
+      | inr r ↦ elim (or-cases (nat_eq k (last - 1)) false r) [ inl e ↦ subst P (sym (eqb-true k (last - 1) e)) g | inr none ↦ absurd (cc) ]
+    ]
+
+    own : AreOwn n last right.state.clauses ((middle - 1) ∷ (last - 1) ∷ [])
+    own =
+        let some_left = left.some in
+        let some_right = right.some in
+        let apart : nat_eq (middle - 1) (last - 1) ≡ false = false_unless (nat_eq (middle - 1) (last - 1)) (λ t. let q : middle - 1 ≡ last - 1 = eqb-true (middle - 1) (last - 1) t in omega arith) in
+        record {
+          distinct = ap (λ b. not (b || false) && true) apart;
+          first = both (λ k. n ≤ k) (omega arith) (omega arith);
+          before = both (λ k. k < last) (omega arith) (omega arith);
+          there = both (λ k. is_some (clause_of right.state.clauses k) ≡ true) (ap is_some clause_left) (ap is_some clause_right);
+        }
+
+pub or_else-none : (o p : Option Assignment) → or_else o p ≡ None → (o ≡ None) × (p ≡ None)
+or_else-none (Some M) p h = absurd (cc)
+or_else-none None p h = (refl, h)
+
+-- The lines of a tree without a satisfied leaf are accepted.
+pub CubeLeads-tree : (F : Formula) (plan : Plan) (n : ℕ) (Q : List Literal) (t : Tree) (s : Checker) → IsFormula F → are_distinct Q ≡ true → IsOver F.vars Q → IsTree F plan Q t → first_model t ≡ None
+    → length (first_clauses F) < n → s.last < n → AreInput (first_clauses F) s.clauses → CubeLeads F.vars n (additions t) Q s (tree_steps (length (first_clauses F)) n Q t)
+CubeLeads-tree F plan n Q (satisfied M) s formed distinct over h none low rises input = absurd (cc)
+CubeLeads-tree F plan n Q (refutation lines) s formed distinct over h none low rises input =
+    CubeLeads-leaf F.vars n Q (first_clauses F) s lines low rises input distinct (AreOver-from_IsOver F.vars Q over) (Runs-AreRefutation F plan Q lines formed distinct over h)
+CubeLeads-tree F plan n Q (split x l r) s formed distinct over h none low rises input =
+    let both = or_else-none (first_model l) (first_model r) none in
+    let free = Runs-exhausted F plan Q x h.0 in
+    let left = CubeLeads-tree F plan n (false_half Q x) l s formed (are_distinct-push Q (negative x) distinct free.1) (push-over F.vars Q (negative x) over free.0) h.1 both.0 low rises input in
+    let e = left.last in
+    let right = CubeLeads-tree F plan (n + additions l) (true_half Q x) r left.state formed (are_distinct-push Q (positive x) distinct free.1) (push-over F.vars Q (positive x) over free.0) h.2 both.1
+    (omega arith) (omega arith) (λ m one end. left.kept m (omega arith) ∙ input m one end) in
+    CubeLeads-split F.vars (length (first_clauses F)) n Q x l r s distinct (AreOver-from_IsOver F.vars Q over) free.1 left right
+
+-- The checker accepts the proof of a tree without a satisfied leaf: the prelude, and then the lines
+-- of the tree.
+tree-leads : (F : Formula) (plan : Plan) (t : Tree) → IsFormula F → IsTree F plan [] t → first_model t ≡ None
+    → CubeLeads F.vars (length (first_clauses F) + 1) (additions t) [] (prelude-leads F).state (tree_steps (length (first_clauses F)) (length (first_clauses F) + 1) [] t)
+tree-leads F plan t formed h none =
+    let begun = prelude-leads F in
+    let last = begun.last in
+    CubeLeads-tree F plan (length (first_clauses F) + 1) [] t begun.state formed refl (λ k d j. absurd (omega arith)) h none (omega arith) (omega arith) begun.input
+
+pub checks-proof : (F : Formula) (plan : Plan) (t : Tree) → IsFormula F → IsTree F plan [] t → first_model t ≡ None → checks F (proof F t) ≡ accepted
+checks-proof F plan t formed h none =
+    let begun = prelude-leads F in
+    let tree = tree-leads F plan t formed h none in
+    let whole : Leads F.vars (start F) (proof F t) tree.state
+    = Leads-then F.vars (start F) begun.state tree.state (prelude F) (tree_steps (length (first_clauses F)) (length (first_clauses F) + 1) [] t) begun.leads tree.leads in
+    ap (check_from F.vars 1 (start F)) (sym (append-nil (proof F t))) ∙ (whole 1 [] ∙ ap (λ b. if b then accepted else no_empty_clause) (tree.empty refl))
+
+-- Its last line is the empty clause.
+pub proof-ends_empty : (F : Formula) (plan : Plan) (t : Tree) → IsFormula F → IsTree F plan [] t → first_model t ≡ None
+    → (before : List Step) × (line : Addition) × (proof F t ≡ before ++ add line ∷ []) × (line.clause ≡ [])
+proof-ends_empty F plan t formed h none =
+    let e = (tree-leads F plan t formed h none).ends refl in
+    (prelude F ++ e.0, e.1, ap (λ steps. prelude F ++ steps) e.2 ∙ sym (append_assoc (prelude F) e.0 (add e.1 ∷ [])), e.3)

@@ -1,0 +1,201 @@
+-- Steps that the checker accepts one after the other.
+use Rattle.std.proofs.Common.{◌≡◌, ℕ, ◌+◌, ◌-◌, ◌<◌, ◌≤◌, Bool, true, false, not, List, [], ◌∷◌, ◌++◌, map, length, refl, ap, sym, ◌∙◌, nat_eq, nat_le, eqb-true, eq-eqb, le-leb, leb-true, leb-false, Option, Some, None, get_or, append_assoc, append-nil, length-append, arith, if◌then◌else◌}
+use Rattle.std.specs.List.{list_any}
+use Rattle.std.proofs.lemmas.List.{get_or_at}
+use Rattle.std.proofs.lemmas.Option.{unwrap_or-slice_get}
+use Rattle.theory.specs.Literals.{Literal, Clause, negations, has_both_signs}
+use Rattle.theory.specs.Propagation.{clause_at}
+use Rattle.theory.specs.Learning.{Line}
+use Rattle.theory.specs.Steps.{Addition, Step, add}
+use Rattle.theory.specs.Checking.{id_not_rising, literal_out_of_range, both_signs, Numbered, clause_of, take_hints, conflicts, hints_fault, addition_fault, addition_test, Checker, added, Tested, leaves, faulty, test, Checked, refused, check_from}
+use Rattle.theory.specs.Replaying.{carrying_from, Passes, IsReplayed, AreReplayed}
+use Rattle.theory.specs.Proofs.{renumbered, leaf_steps}
+use Rattle.theory.proofs.literals.LiteralSets.{false_unless, list_any-none}
+use Rattle.theory.proofs.trails.LawfulTrails.{clause_at-append}
+use Rattle.theory.proofs.checker.Hints.{take_hints-moved}
+use Rattle.theory.proofs.searching.LearntLines.{clause_of-carrying_at}
+use Rattle.theory.proofs.literals.OverVariables.{AreOver, AreOver-from_IsOver}
+
+-- from the state s on the steps are accepted, and leave the state t
+abbrev pub Leads : ℕ → Checker → List Step → Checker → Type 0
+Leads V s steps t = (n : ℕ) (rest : List Step) → check_from V n s (steps ++ rest) ≡ check_from V (n + length steps) t rest
+
+pub Leads-none : (V : ℕ) (s : Checker) → Leads V s [] s
+Leads-none V s n rest = let number : n ≡ n + 0 = omega arith in ap (λ k. check_from V k s rest) number
+
+on_test : ℕ → ℕ → List Step → Tested → Checked
+on_test V n rest r = elim r [ leaves t ↦ check_from V (n + 1) t rest | faulty f ↦ refused f n ]
+
+pub Leads-one : (V : ℕ) (s t : Checker) (step : Step) → test V s step ≡ leaves t → Leads V s (step ∷ []) t
+unfolding on_test
+Leads-one V s t step h n rest = ap (on_test V n rest) h
+
+pub Leads-then : (V : ℕ) (s t u : Checker) (xs ys : List Step) → Leads V s xs t → Leads V t ys u → Leads V s (xs ++ ys) u
+Leads-then V s t u xs ys h k n rest =
+    let joined : check_from V n s ((xs ++ ys) ++ rest) ≡ check_from V n s (xs ++ (ys ++ rest)) = ap (check_from V n s) (append_assoc xs ys rest) in
+    let lengths : length (xs ++ ys) ≡ length xs + length ys = length-append xs ys in
+    let number : n + length xs + length ys ≡ n + length (xs ++ ys) = omega arith in
+    joined ∙ (h n (ys ++ rest) ∙ (k (n + length xs) rest ∙ ap (λ m. check_from V m u rest) number))
+
+-- an addition whose hints alone lead to a conflict
+pub addition_fault-none : (V last : ℕ) (there : Numbered) (id : ℕ) (c : Clause) (hints : List ℕ) → last < id → AreOver V c → has_both_signs c ≡ false
+    → take_hints there (negations c) hints ≡ conflicts → addition_fault V last there (record { id = id; clause = c; hints = hints; groups = [] }) ≡ None
+addition_fault-none V last there id c hints rises over sign h =
+    let new : nat_le id last ≡ false = false_unless (nat_le id last) (λ t. let l : id ≤ last = leb-true id last t in omega arith) in
+    let within : list_any (λ l. not (nat_le l.var V)) c ≡ false = list_any-none (λ l. not (nat_le l.var V)) c (λ l a. ap not (le-leb l.var V (over l a).1)) in
+    first (nat_le id last) (list_any (λ l. not (nat_le l.var V)) c) (has_both_signs c) new within sign
+  where
+    a : Addition
+    a = record { id = id; clause = c; hints = hints; groups = [] }
+
+    first : (x y z : Bool) → x ≡ false → y ≡ false → z ≡ false
+        → (if x then Some id_not_rising else if y then Some literal_out_of_range else if z then Some both_signs else hints_fault there a (take_hints there (negations c) hints)) ≡ None
+    first false false false p q r = ap (hints_fault there a) h
+    first true y z p q r = absurd (cc)
+    first false true z p q r = absurd (cc)
+    first false false true p q r = absurd (cc)
+
+-- and one without a fault has a number above all given away
+pub addition-rises : (V last : ℕ) (there : Numbered) (a : Addition) → addition_fault V last there a ≡ None → last < a.id
+addition-rises V last there a h = go (nat_le a.id last) refl h
+  where
+    go : (b : Bool) → nat_le a.id last ≡ b
+        → (if b then Some id_not_rising else if list_any (λ l. not (nat_le l.var V)) a.clause then Some literal_out_of_range else if has_both_signs a.clause then Some both_signs
+        else hints_fault there a (take_hints there (negations a.clause) a.hints)) ≡ None → last < a.id
+    go true e k = absurd (cc)
+    go false e k = leb-false a.id last e
+
+pub Leads-add : (V : ℕ) (s : Checker) (a : Addition) → addition_fault V s.last s.clauses a ≡ None → Leads V s (add a ∷ []) (added s a)
+Leads-add V s a h = Leads-one V s (added s a) (add a) (ap (addition_test s a) h)
+
+-- which numbers the clauses have
+pub clause_of-carrying_within : (n N : ℕ) (Q : List Literal) (K : List Clause) (m : ℕ) (d : Clause) → clause_of (carrying_from n N Q K) m ≡ Some d → (n ≤ m) × (m < n + length K)
+clause_of-carrying_within n N Q [] m d h = absurd (cc)
+clause_of-carrying_within n N Q (c ∷ K) m d h = go (nat_eq n m) refl h (clause_of-carrying_within (n + 1) N Q K m d)
+  where
+    go : (b : Bool) → nat_eq n m ≡ b → (if b then Some (if nat_le n N then c else c ++ negations Q) else clause_of (carrying_from (n + 1) N Q K) m) ≡ Some d
+        → (clause_of (carrying_from (n + 1) N Q K) m ≡ Some d → (n + 1 ≤ m) × (m < n + 1 + length K)) → (n ≤ m) × (m < n + length (c ∷ K))
+    go true e k more = let number : n ≡ m = eqb-true n m e in (omega arith, omega arith)
+    go false e k more = let low = (more k).0 in let high = (more k).1 in (omega arith, omega arith)
+
+-- each clause of K stands in the checker, under the number that f gives it
+abbrev pub AreMoved : ℕ → (ℕ → ℕ) → List Literal → List Clause → Numbered → Type 0
+AreMoved N f Q K here = (n : ℕ) → 1 ≤ n → n ≤ length K → clause_of here (f n) ≡ Some (if nat_le n N then clause_at K n else clause_at K n ++ negations Q)
+
+pub Passes-moved : (N : ℕ) (f : ℕ → ℕ) (Q : List Literal) (K : List Clause) (here : Numbered) (line : Line) → AreMoved N f Q K here → Passes N Q K line
+    → take_hints here (negations (line.clause ++ negations Q)) (map f line.hints) ≡ conflicts
+Passes-moved N f Q K here line moved h = take_hints-moved (carrying_from 1 N Q K) here f (negations (line.clause ++ negations Q)) line.hints at h
+  where
+    at : (n : ℕ) (d : Clause) → clause_of (carrying_from 1 N Q K) n ≡ Some d → clause_of here (f n) ≡ Some d
+    at n d e =
+        let low = (clause_of-carrying_within 1 N Q K n d e).0 in
+        let high = (clause_of-carrying_within 1 N Q K n d e).1 in
+        let end : n ≤ length K = omega arith in
+        moved n low end ∙ (sym (clause_of-carrying_at N Q K n low end) ∙ e)
+
+-- renumbering
+renumbered-low : (N first m : ℕ) → m ≤ N → renumbered N first m ≡ m
+renumbered-low N first m h = let low : nat_le m N ≡ true = le-leb m N h in rw low refl
+
+pub renumbered-high : (N first m : ℕ) → N < m → renumbered N first m ≡ first + (m - N - 1)
+renumbered-high N first m h = let high : nat_le m N ≡ false = false_unless (nat_le m N) (λ t. let l : m ≤ N = leb-true m N t in omega arith) in rw high refl
+
+renumbered-below : (N first m n k : ℕ) → m ≤ k → N ≤ k → N < first → first + k ≡ n + N → renumbered N first m < n
+renumbered-below N first m n k end long low e = go (nat_le m N) refl
+  where
+    go : (b : Bool) → nat_le m N ≡ b → renumbered N first m < n
+    go true t = let l : m ≤ N = leb-true m N t in let r = renumbered-low N first m l in omega arith
+    go false t = let l : N < m = leb-false m N t in let r = renumbered-high N first m l in omega arith
+
+pub clause_at-push : (K : List Clause) (c : Clause) → clause_at (K ++ c ∷ []) (length K + 1) ≡ c
+clause_at-push K c =
+    let place : length K + 1 - 1 ≡ length K = omega arith in
+    unwrap_or-slice_get (K ++ c ∷ []) (length K + 1 - 1) [] ∙ (ap (λ i. get_or (K ++ c ∷ []) i []) place ∙ get_or_at K c [] [] (length K) refl)
+
+-- one more line
+AreMoved-push : (N first n : ℕ) (Q : List Literal) (K : List Clause) (c : Clause) (here : Numbered) → N ≤ length K → N < first → first + length K ≡ n + N
+    → AreMoved N (renumbered N first) Q K here → AreMoved N (renumbered N first) Q (K ++ c ∷ []) ((n, c ++ negations Q) ∷ here)
+AreMoved-push N first n Q K c here long low e moved m one end = go (nat_le m (length K)) refl
+  where
+    longer : length (K ++ c ∷ []) ≡ length K + 1
+    longer = length-append K (c ∷ [])
+
+    wanted : Clause → Option Clause
+    wanted d = Some (if nat_le m N then d else d ++ negations Q)
+
+    old : m ≤ length K → clause_of ((n, c ++ negations Q) ∷ here) (renumbered N first m) ≡ wanted (clause_at (K ++ c ∷ []) m)
+    old h =
+        let below : renumbered N first m < n = renumbered-below N first m n (length K) h long low e in
+        let other : nat_eq n (renumbered N first m) ≡ false = false_unless (nat_eq n (renumbered N first m)) (λ t. let q : n ≡ renumbered N first m = eqb-true n (renumbered N first m) t in omega arith) in
+        let here_too : clause_of ((n, c ++ negations Q) ∷ here) (renumbered N first m) ≡ clause_of here (renumbered N first m)
+        = ap (λ b. if b then Some (c ++ negations Q) else clause_of here (renumbered N first m)) other in
+        here_too ∙ (moved m one h ∙ ap wanted (sym (clause_at-append K (c ∷ []) m one h)))
+
+    new : length K < m → clause_of ((n, c ++ negations Q) ∷ here) (renumbered N first m) ≡ wanted (clause_at (K ++ c ∷ []) m)
+    new h =
+        let number : m ≡ length K + 1 = omega (arith, longer) in
+        let r : renumbered N first m ≡ first + (m - N - 1) = renumbered-high N first m (omega arith) in
+        let it : nat_eq n (renumbered N first m) ≡ true = eq-eqb n (renumbered N first m) (omega arith) in
+        let high : nat_le m N ≡ false = false_unless (nat_le m N) (λ t. let l : m ≤ N = leb-true m N t in omega arith) in
+        let left : clause_of ((n, c ++ negations Q) ∷ here) (renumbered N first m) ≡ Some (c ++ negations Q)
+        = ap (λ b. if b then Some (c ++ negations Q) else clause_of here (renumbered N first m)) it in
+        let last : clause_at (K ++ c ∷ []) m ≡ c = ap (clause_at (K ++ c ∷ [])) number ∙ clause_at-push K c in
+        let right : wanted (clause_at (K ++ c ∷ []) m) ≡ Some (c ++ negations Q) = ap wanted last ∙ ap (λ b. Some (if b then c else c ++ negations Q)) high in
+        left ∙ sym right
+
+    go : (b : Bool) → nat_le m (length K) ≡ b → clause_of ((n, c ++ negations Q) ∷ here) (renumbered N first m) ≡ wanted (clause_at (K ++ c ∷ []) m)
+    go true t = old (leb-true m (length K) t)
+    go false t = new (leb-false m (length K) t)
+
+-- what lines leave: all that was there, and the lines' clauses
+pub record LinesLead (V N first n : ℕ) (Q : List Literal) (K : List Clause) (s : Checker) (lines : List Line) : Type 0 where
+  pub state : Checker
+  pub leads : Leads V s (leaf_steps N first n Q lines) state
+  pub last : state.last < n + length lines
+  pub kept : (m : ℕ) → m < n → clause_of state.clauses m ≡ clause_of s.clauses m
+  pub moved : AreMoved N (renumbered N first) Q (K ++ map (λ (x : Line). x.clause) lines) state.clauses
+
+line_addition : ℕ → ℕ → ℕ → List Literal → Line → Addition
+line_addition N first n Q line = record { id = n; clause = line.clause ++ negations Q; hints = map (renumbered N first) line.hints; groups = [] }
+
+-- a line that replays is accepted
+Leads-line : (V N first n : ℕ) (Q : List Literal) (K : List Clause) (s : Checker) (line : Line) → s.last < n → AreMoved N (renumbered N first) Q K s.clauses → IsReplayed V N Q K line
+    → Leads V s (add (line_addition N first n Q line) ∷ []) (added s (line_addition N first n Q line))
+unfolding line_addition
+Leads-line V N first n Q K s line rises moved h =
+    Leads-add V s (line_addition N first n Q line)
+    (addition_fault-none V s.last s.clauses n (line.clause ++ negations Q) (map (renumbered N first) line.hints) rises
+    (AreOver-from_IsOver V (line.clause ++ negations Q) h.over) h.one_sign (Passes-moved N (renumbered N first) Q K s.clauses line moved h.passes))
+
+kept-added : (s : Checker) (a : Addition) (n m : ℕ) → a.id ≡ n → m < n → clause_of (added s a).clauses m ≡ clause_of s.clauses m
+kept-added s a n m e h =
+    let other : nat_eq a.id m ≡ false = false_unless (nat_eq a.id m) (λ t. let q : a.id ≡ m = eqb-true a.id m t in omega arith) in
+    ap (λ b. if b then Some a.clause else clause_of s.clauses m) other
+
+pub LinesLead-from_AreReplayed : (V N first n : ℕ) (Q : List Literal) (K : List Clause) (s : Checker) (lines : List Line) → N ≤ length K → N < first → first + length K ≡ n + N → s.last < n
+    → AreMoved N (renumbered N first) Q K s.clauses → AreReplayed V N Q K lines → LinesLead V N first n Q K s lines
+unfolding line_addition
+LinesLead-from_AreReplayed V N first n Q K s [] long low e rises moved h = record {
+  state = s;
+  leads = Leads-none V s;
+  last = omega arith;
+  kept = λ m l. refl;
+  moved = rw (append-nil K) moved;
+}
+LinesLead-from_AreReplayed V N first n Q K s (line ∷ lines) long low e rises moved h = finish (LinesLead-from_AreReplayed V N first (n + 1) Q (K ++ line.clause ∷ []) after lines longer low (omega (arith, length-append K (line.clause ∷ []))) (omega arith)
+    (AreMoved-push N first n Q K line.clause s.clauses long low e moved) h.1)
+  where
+    after : Checker
+    after = added s (line_addition N first n Q line)
+
+    longer : N ≤ length (K ++ line.clause ∷ [])
+    longer = let l = length-append K (line.clause ∷ []) in omega arith
+
+    finish : LinesLead V N first (n + 1) Q (K ++ line.clause ∷ []) after lines → LinesLead V N first n Q K s (line ∷ lines)
+    finish more = record {
+      state = more.state;
+      leads = Leads-then V s after more.state (add (line_addition N first n Q line) ∷ []) (leaf_steps N first (n + 1) Q lines) (Leads-line V N first n Q K s line rises moved h.0) more.leads;
+      last = let l = more.last in omega arith;
+      kept = λ m l. more.kept m (omega arith) ∙ kept-added s (line_addition N first n Q line) n m refl l;
+      moved = rw (← append_assoc K (line.clause ∷ []) (map (λ (x : Line). x.clause) lines)) more.moved;
+    }

@@ -1,0 +1,8 @@
+-- Texts of formulas and proofs, and how they are read.
+pub mod ReadingMachine
+pub mod ReadingRows
+pub mod PrintedTokens
+pub mod ReadingLemmas
+pub mod NumberTexts
+pub mod TextRows
+pub mod OneReading

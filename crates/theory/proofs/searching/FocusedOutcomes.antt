@@ -1,0 +1,61 @@
+-- What the outcomes of the focused search say.
+use Rattle.std.proofs.Common.{◌≡◌, ℕ, List, length, ap, sym, subst, ◌∙◌, None}
+use Rattle.theory.specs.Literals.{Literal, Clause, IsCube}
+use Rattle.theory.specs.Truth.{Formula, Assignment, IsOver, IsFormula, Satisfies, AreTrue, value, are_true}
+use Rattle.theory.specs.Plans.{Constants}
+use Rattle.theory.specs.Trails.{literals, cube_trail}
+use Rattle.theory.specs.Propagation.{by_place, least_false}
+use Rattle.theory.specs.Learning.{Line}
+use Rattle.theory.specs.Search.{Outcome, model, refuted, exhausted, goes_on, first_clauses, searched}
+use Rattle.theory.specs.Focused.{FocusedState, IsFocusedStep, RunsFocused}
+use Rattle.theory.specs.Kept.{IsSearchOf}
+use Rattle.theory.proofs.searching.Rules.{IsRule-by_place}
+use Rattle.theory.proofs.searching.PureVariables.{IsOver-first_clauses}
+use Rattle.theory.proofs.searching.KeptSearches.{IsSearchOf-begin, IsInvariant-IsSearchOf}
+use Rattle.theory.proofs.searching.CubeOutcomes.{CubeSays, CubeSays-model, CubeSays-refuted}
+use Rattle.theory.proofs.searching.TrueSearches.{IsTrueSearch, IsTrueSearch-begin, IsTrueSearch-conflict, IsInvariant-IsTrueSearch}
+use Rattle.theory.proofs.searching.FirstClauses.{BeginsWith, BeginsWith-begin, IsInvariant-BeginsWith}
+use Rattle.theory.proofs.trees.FirstModel.{front-none}
+use Rattle.theory.proofs.searching.ModelLemmas.{quiet-true, length-values}
+use Rattle.theory.proofs.searching.FocusedRuns.{Keeps, EndsSo, step-goes, RunsFocused-ends}
+
+EndsSo-says : (V : ℕ) (K : List Clause) (Q : List Literal) (o : Outcome) → EndsSo V (IsSearchOf V K Q) o → CubeSays V K Q o
+EndsSo-says V K Q (model M) e =
+    subst (λ (x : Assignment). CubeSays V K Q (model x)) (sym e.is_values) (CubeSays-model V K Q e.clauses e.trail e.lines e.none_free e.none_false e.keeps)
+EndsSo-says V K Q (refuted lines) e =
+    subst (λ (x : List Line). CubeSays V K Q (refuted x)) (sym e.2) (CubeSays-refuted V K Q e.0.clauses e.0.trail e.0.lines e.0.number e.0.is_false e.1 e.0.keeps)
+EndsSo-says V K Q (exhausted x) e = tt
+
+-- A refuted cube's lines replay, forgotten ones too, and the last one's clause is empty; a model
+-- makes the first clauses and the cube true.
+pub RunsFocused-says : (c : Constants) (F : Formula) (B : ℕ) (Q : List Literal) (o : Outcome) → IsFormula F → IsCube Q → IsOver F.vars Q → RunsFocused c F B Q o
+    → CubeSays F.vars (first_clauses F) Q o
+RunsFocused-says c F B Q o formed cube over runs =
+    EndsSo-says F.vars (first_clauses F) Q o (RunsFocused-ends c F B Q o (IsSearchOf F.vars (first_clauses F) Q) (IsInvariant-IsSearchOf by_place IsRule-by_place F.vars (first_clauses F) Q)
+    (IsSearchOf-begin F.vars (first_clauses F) Q (IsOver-first_clauses F formed) cube over) runs)
+
+-- what is kept by a step that goes on
+pub IsSearchOf-focused_step : (c : Constants) (V budget : ℕ) (K : List Clause) (Q : List Literal) (s t : FocusedState) → IsFocusedStep c V budget s (goes_on t) → length s.glues ≡ length s.lines
+    → IsSearchOf V K Q s.clauses s.trail s.lines → IsSearchOf V K Q t.clauses t.trail t.lines × (length t.glues ≡ length t.lines)
+IsSearchOf-focused_step c V budget K Q s t step many i =
+    let k : Keeps (IsSearchOf V K Q) t = step-goes c V (IsSearchOf V K Q) (IsInvariant-IsSearchOf by_place IsRule-by_place V K Q) budget s (goes_on t) (record { kept = i; glues = many }) step in
+    (k.kept, k.glues)
+
+-- a refuted cube has no model
+pub RunsFocused-refuted : (c : Constants) (F : Formula) (B : ℕ) (Q : List Literal) (lines : List Line) → IsCube Q → RunsFocused c F B Q (refuted lines)
+    → (M : Assignment) → Satisfies (searched F) M → AreTrue (value M) Q → ⊥
+RunsFocused-refuted c F B Q lines cube runs M s q =
+    let m = value M in
+    let e = RunsFocused-ends c F B Q (refuted lines) (IsTrueSearch m Q) (IsInvariant-IsTrueSearch by_place IsRule-by_place F.vars m Q q) (IsTrueSearch-begin m (first_clauses F) Q s.clauses cube) runs in
+    IsTrueSearch-conflict m Q e.0.clauses e.0.trail e.0.lines e.0.number q e.0.is_false e.1 e.0.keeps
+
+-- a model satisfies the formula, and the clauses of the pure variables
+pub RunsFocused-satisfies : (c : Constants) (F : Formula) (B : ℕ) (Q : List Literal) (M : Assignment) → IsFormula F → RunsFocused c F B Q (model M) → Satisfies (searched F) M
+RunsFocused-satisfies c F B Q M formed runs =
+    let e = RunsFocused-ends c F B Q (model M) (BeginsWith (first_clauses F)) (IsInvariant-BeginsWith by_place F.vars (first_clauses F)) (BeginsWith-begin (first_clauses F) (cube_trail Q)) runs in
+    let calm : least_false (literals e.trail) (first_clauses F) ≡ None
+    = front-none (literals e.trail) (first_clauses F) e.keeps.learnt (subst (λ (C : List Clause). least_false (literals e.trail) C ≡ None) e.keeps.are_clauses e.none_false) in
+    record {
+      values = ap length e.is_values ∙ length-values F.vars e.trail;
+      clauses = ap (λ (x : Assignment). are_true (value x) (first_clauses F)) e.is_values ∙ quiet-true F.vars e.trail (first_clauses F) e.none_free (IsOver-first_clauses F formed) calm;
+    }

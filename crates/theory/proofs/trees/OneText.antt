@@ -1,0 +1,47 @@
+-- The bytes and the plan fix the proof and the answer.
+use Rattle.std.proofs.Common.{◌≡◌, ℕ, List, [], ◌⊎◌, inl, inr, sym, ap, ◌∙◌, subst, Option, Some}
+use Rattle.theory.specs.Truth.{Formula}
+use Rattle.theory.specs.Plans.{Plan}
+use Rattle.theory.specs.Proofs.{proof}
+use Rattle.theory.specs.Texts.{proof_text, answer_text}
+use Rattle.theory.specs.Reading.{Token, IsReadable, Reads, formula, tokens_in, tokens_of}
+use Rattle.theory.specs.Written.{IsSatisfiableText, IsUnsatisfiableText, IsWritten}
+use Rattle.theory.proofs.reading.ReadingMachine.{ReaderState, at_p, at_body}
+use Rattle.theory.proofs.searching.FoundModels.{IsFound-satisfies}
+use Rattle.theory.proofs.trees.OneResult.{IsFirstLeaf-unique}
+use Rattle.theory.proofs.trees.SearchLemmas.{IsTree-unique}
+use Rattle.theory.proofs.reading.PrintedTokens.{states, formula-states}
+
+formula_in : Option ReaderState → Formula
+formula_in (Some (at_body V C cs part)) = record { vars = V; clauses = cs }
+formula_in o = record { vars = 0; clauses = [] }
+
+IsReadable-unique : (ts : List Token) (F G : Formula) → IsReadable ts F → IsReadable ts G → F ≡ G
+unfolding formula_in
+IsReadable-unique ts F G f g = ap formula_in (sym (formula-states F f.within) ∙ ap (states (Some at_p)) (sym f.tokens ∙ g.tokens) ∙ formula-states G g.within)
+
+pub Reads-one_formula : (bytes : List ℕ) (F G : Formula) → Reads bytes (formula F) → Reads bytes (formula G) → F ≡ G
+Reads-one_formula bytes F G f g = IsReadable-unique (tokens_in (tokens_of bytes)) F G f.1 g.1
+
+-- two proofs and two answers are the same
+abbrev pub Same : (p a q b : List ℕ) → Type 0
+Same p a q b = (p ≡ q) × (a ≡ b)
+
+pub satisfiable-same : (F : Formula) (plan : Plan) (p a q b : List ℕ) → IsSatisfiableText F plan p a → IsSatisfiableText F plan q b → Same p a q b
+satisfiable-same F plan p a q b s t =
+    (s.proof_is ∙ sym t.proof_is, s.answer_is ∙ ap (λ m. answer_text (Some m)) (IsFirstLeaf-unique F plan [] s.model t.model s.is_result t.is_result) ∙ sym t.answer_is)
+
+pub unsatisfiable-same : (F : Formula) (plan : Plan) (p a q b : List ℕ) → IsUnsatisfiableText F plan p a → IsUnsatisfiableText F plan q b → Same p a q b
+unsatisfiable-same F plan p a q b s t =
+    (s.proof_is ∙ ap (λ u. proof_text (proof F u)) (IsTree-unique F plan [] s.tree t.tree s.is_tree t.is_tree) ∙ sym t.proof_is, s.answer_is ∙ sym t.answer_is)
+
+texts-same : (F : Formula) (plan : Plan) (p a q b : List ℕ) → IsSatisfiableText F plan p a ⊎ IsUnsatisfiableText F plan p a
+    → IsSatisfiableText F plan q b ⊎ IsUnsatisfiableText F plan q b → Same p a q b
+texts-same F plan p a q b (inl s) (inl t) = satisfiable-same F plan p a q b s t
+texts-same F plan p a q b (inl s) (inr t) = absurd (t.unsatisfiable (s.model, IsFound-satisfies plan.search F s.model s.found))
+texts-same F plan p a q b (inr s) (inl t) = absurd (s.unsatisfiable (t.model, IsFound-satisfies plan.search F t.model t.found))
+texts-same F plan p a q b (inr s) (inr t) = unsatisfiable-same F plan p a q b s t
+
+pub IsWritten-one : (bytes : List ℕ) (plan : Plan) (p a q b : List ℕ) → IsWritten bytes plan p a → IsWritten bytes plan q b → Same p a q b
+IsWritten-one bytes plan p a q b s t =
+    texts-same t.value plan p a q b (subst (λ F. IsSatisfiableText F plan p a ⊎ IsUnsatisfiableText F plan p a) (Reads-one_formula bytes s.value t.value s.reads t.reads) s.texts) t.texts
