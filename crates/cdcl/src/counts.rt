@@ -1,5 +1,7 @@
 //! How much a search has done, and who is told of it while it goes on.
 
+use std::alloc::AllocError;
+
 /// How much a solver has done since it was opened, in all its cubes. Each number stays once it has
 /// come to the greatest one.
 #[derive(Clone, Copy, Debug, PartialEq, Eq)]
@@ -54,11 +56,18 @@ impl Counts {
     }
 }
 
-/// Who is told what a solver has done: about each thousand conflicts while it is in a cube, and at
-/// the cube's end. What the solver answers doesn't depend on it.
+/// Who is told what a solver has done: about each thousand conflicts or 100,000 entries of the trail
+/// while it is in a cube, and at the cube's end. What the solver answers doesn't depend on it, but
+/// that a watcher may stop it.
 pub trait Watcher {
     /// The solver has done so much since it was opened.
     fn counted(&self, counts: Counts);
+
+    /// Whether the solver is to stop before it has an answer. It is asked before each cube, and
+    /// each time that it was told what is done inside one.
+    fn stops(&self) -> bool {
+        false
+    }
 }
 
 /// The watcher that does nothing.
@@ -69,14 +78,27 @@ impl Watcher for Unwatched {
     fn counted(&self, _counts: Counts) {}
 }
 
-/// So many conflicts pass before a watcher is told again.
-const BETWEEN: u64 = 1000;
+/// So many conflicts pass before a watcher is told again,
+const CONFLICTS: u64 = 1000;
 
-/// Tells a watcher what was done, where it was told so many conflicts before; how many it was told.
-pub(crate) fn tell<W: Watcher>(watcher: &W, counts: Counts, told: u64) -> u64 {
-    if counts.conflicts.saturating_sub(told) < BETWEEN {
-        return told;
+/// or so many entries of the trail: a search of many variables may go for long without a conflict.
+const ENTRIES: u64 = 100_000;
+
+/// Tells a watcher what was done, where that is enough since the last time; what it was told then.
+/// Where the watcher stops the search, that ends as if memory were refused: it has no outcome.
+pub(crate) fn tell<W: Watcher>(
+    watcher: &W,
+    counts: Counts,
+    told: Counts,
+) -> Result<Counts, AllocError> {
+    let conflicts = counts.conflicts.saturating_sub(told.conflicts);
+    let entries = counts.propagations.saturating_sub(told.propagations);
+    if conflicts < CONFLICTS && entries < ENTRIES {
+        return Ok(told);
     }
     watcher.counted(counts);
-    counts.conflicts
+    if watcher.stops() {
+        return Err(AllocError);
+    }
+    Ok(counts)
 }

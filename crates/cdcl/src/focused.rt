@@ -200,12 +200,12 @@ impl FocusedSearch {
             RunsFrom (IsFocusedStep self.old.constants self.old.kernel.vars budget) (state_of self.old saved) (outcome_of o)) }
         ensures kept { OnOk result (Continues self.old self.new) }
     {
-        let mut told = self.counts().conflicts;
+        let mut told = self.counts();
         'steps: loop {
             if let Some(outcome) = self.step(budget)? {
                 return Ok(outcome);
             }
-            told = tell(watcher, self.counts(), told);
+            told = tell(watcher, self.counts(), told)?;
         }
     }
 

@@ -96,12 +96,12 @@ impl OrderedSearch {
         ensures runs { IfOk result (λ o. RunsFrom (IsOrderedStep self.old.kernel.vars budget) (search_of self.old) (outcome_of o)) }
         ensures kept { OnOk result (GoesOn self.old.kernel self.new.kernel) }
     {
-        let mut told = self.counts().conflicts;
+        let mut told = self.counts();
         'steps: loop {
             if let Some(outcome) = self.step(budget)? {
                 return Ok(outcome);
             }
-            told = tell(watcher, self.counts(), told);
+            told = tell(watcher, self.counts(), told)?;
         }
     }
 

@@ -91,7 +91,8 @@ impl Solver {
         self.search.counts()
     }
 
-    /// As `solve`, and tells a watcher what is done.
+    /// As `solve`, and tells a watcher what is done. Where the watcher stops it, the answer is an
+    /// error, and from then on, as where memory is refused.
     pub fn solve_watched<W: Watcher>(
         &mut self,
         cube: &Cube,
@@ -109,6 +110,9 @@ impl Solver {
             return Err(AllocError);
         }
         self.short = true; // so it stays where one of the next calls fails
+        if watcher.stops() {
+            return Err(AllocError);
+        }
         let conflicts = budget_of(self.plan.budget(), cube.lits().len());
         let outcome = self.search.solve(cube, conflicts, watcher)?;
         watcher.counted(self.search.counts());

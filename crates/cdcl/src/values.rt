@@ -27,8 +27,7 @@ pub(crate) fn values(alloc: Global, kernel: &Kernel) -> Result<Vec<bool>, AllocE
     Ok(values)
 }
 
-/// A conflict at level 0 behind these lines: the cube is refuted. Its lines are handed out in
-/// memory of just their size; the row keeps its own for the next cube.
+/// A conflict at level 0 behind these lines: the cube is refuted, and its lines are handed out.
 pub(crate) fn refute(
     kernel: &Kernel,
     room: &mut Room,
@@ -42,5 +41,5 @@ pub(crate) fn refute(
 {
     analyze_in(kernel, room, number, learnt)?;
     lines.push(&learnt.clause, &learnt.hints)?;
-    Ok(Outcome::Refuted(lines.copied()?))
+    Ok(Outcome::Refuted(lines.hand_out()?))
 }

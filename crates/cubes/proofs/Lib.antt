@@ -13,3 +13,4 @@ pub mod HalvesParts
 pub mod RoundEndings
 pub mod SameHands
 pub mod FreshHands
+pub mod GoingOn

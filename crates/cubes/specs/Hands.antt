@@ -1,12 +1,12 @@
 -- The parts of a hand's work, over the crate's own types.
-use Rattle.std.specs.Prelude.{◌≡◌, ℕ, Bool, true, false, List, [], ◌∷◌, ◌++◌, map, IfSome}
+use Rattle.std.specs.Prelude.{◌≡◌, ℕ, zero, Bool, true, false, List, [], ◌∷◌, ◌++◌, map, IfSome, All}
 use Rattle.theory.specs.Literals.{Literal, IsVariable, has_var}
 use Rattle.theory.specs.Truth.{Formula, Assignment}
 use Rattle.theory.specs.Plans.{Plan}
 use Rattle.theory.specs.Learning.{Line}
 use Rattle.theory.specs.Search as search
 use Rattle.theory.specs.Runs.{Runs}
-use Rattle.theory.specs.Ledger.{Ledger, joined, getting}
+use Rattle.theory.specs.Ledger.{Call, still_open, halt, halted, Ledger, joined, getting}
 use Rattle.theory.specs.Trees.{false_half, true_half}
 use Rattle.theory.specs.Results as results
 use Rattle.theory.specs.Round.{IsHandOn, IsRound, Adds, HasWorked}
@@ -64,3 +64,33 @@ AddsCarried F plan is_done H old new before after = Adds (λ l s. (l.put ≡ [])
 
 abbrev pub Worked_as : Formula → Plan → Bool → Ledger → Ledger → List LinesSolved → Type 0
 Worked_as F plan is_short first last solved = HasWorked F plan is_short first last (map solved_of solved)
+
+-- a call behind which a hand goes on: it tells nobody to go home, and it read neither that nothing
+-- is left to be done nor that a hand was told to
+abbrev pub IsOnward : Call → Type 0
+IsOnward (still_open zero) = ⊥
+IsOnward halt = ⊥
+IsOnward (halted true) = ⊥
+IsOnward call = Unit {0}
+
+-- all calls between these two ledgers are such
+pub record GoesOn (old new : Ledger) : Type 0 where
+  pub between : List Call
+  pub is_new : new.calls ≡ old.calls ++ between
+  pub onward : All IsOnward between
+
+-- the call behind which a hand goes home: where it is short of memory it has told the others, and
+-- else it read one of the two
+abbrev pub IsFarewell : Bool → Call → Type 0
+IsFarewell true halt = Unit {0}
+IsFarewell false (still_open zero) = Unit {0}
+IsFarewell false (halted true) = Unit {0}
+IsFarewell is_short call = ⊥
+
+-- a hand goes home at the first such call, and not later
+pub record GoesHome (is_short : Bool) (old new : Ledger) : Type 0 where
+  pub until : Ledger
+  pub last : Call
+  pub goes_on : GoesOn old until
+  pub is_new : new.calls ≡ until.calls ++ last ∷ []
+  pub is_farewell : IsFarewell is_short last

@@ -3,7 +3,7 @@
 ghost use Rattle.std.specs.Prelude.{◌≡◌, ◌≤◌, IfOk};
 ghost use Rattle.theory.specs.Plans.{ordered, ordered_within};
 ghost use Rattle.pool.specs.Hands.{SameHand};
-ghost use Rattle.cubes.specs.Hands.{Worked_as};
+ghost use Rattle.cubes.specs.Hands.{Worked_as, GoesHome};
 ghost use Rattle.cubes.specs.Result.{IsResultOf, Says};
 ghost use Rattle.cubes.specs.Solved.{AreTrueResults};
 
@@ -35,6 +35,7 @@ pub fn work<R: Wait + Clock, G: Gate>(
     requires vars { hand.vars ≡ formula.now.vars }
     ensures same { SameHand hand result.hand }
     ensures work { Worked_as formula.now (ordered_within budget) result.short_of_memory hand.ledger result.hand.ledger result.solved.items }
+    ensures home { GoesHome result.short_of_memory hand.ledger result.hand.ledger }
 {
     work_in(rt, alloc, hand, formula, Plan::ordered(budget), gate)
 }

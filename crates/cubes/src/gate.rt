@@ -13,8 +13,15 @@ pub trait Gate {
     fn after(&self, hand: usize, cube: &Cube);
 
     /// The hand's solver has done so much in all, since it began. It is told about each thousand
-    /// conflicts and at the end of each cube that it solves, one that it carries on too.
+    /// conflicts or 100,000 entries of the trail, and at the end of each cube that it solves, one
+    /// that it carries on too.
     fn counted(&self, _hand: usize, _counts: Counts) {}
+
+    /// Whether the hands are to stop before all is solved. A solver asks before each cube, and
+    /// inside one each time that the gate was told what is done.
+    fn stops(&self) -> bool {
+        false
+    }
 }
 
 /// The gate that does nothing.
@@ -37,5 +44,9 @@ pub(crate) struct Watched<'a, G> {
 impl<G: Gate> Watcher for Watched<'_, G> {
     fn counted(&self, counts: Counts) {
         self.gate.counted(self.hand, counts);
+    }
+
+    fn stops(&self) -> bool {
+        self.gate.stops()
     }
 }

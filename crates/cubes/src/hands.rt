@@ -1,6 +1,6 @@
 //! The work of a hand: it takes cubes from the pool, solves them, and puts the halves of those that
 //! are exhausted.
-ghost use Rattle.std.specs.Prelude.{◌≡◌, ◌≤◌, ℕ, List, false, IfOk, OnOk, OnErr, MatchOption, is_ok};
+ghost use Rattle.std.specs.Prelude.{◌≡◌, ◌≤◌, ℕ, List, false, IfOk, OnOk, OnErr, IfNone, MatchOption, is_ok};
 ghost use Rattle.theory.specs.Literals.{Literal, IsVariable, has_var};
 ghost use Rattle.theory.specs.Truth.{Formula, IsOver};
 ghost use Rattle.theory.specs.Plans as plans;
@@ -8,8 +8,8 @@ ghost use Rattle.theory.specs.Runs.{Runs};
 ghost use Rattle.theory.specs.Ledger.{IsFit};
 ghost use Rattle.theory.specs.Round.{HasWorked};
 ghost use Rattle.cdcl.specs.Outcome.{outcome_of};
-ghost use Rattle.pool.specs.Hands.{SameHand};
-ghost use Rattle.cubes.specs.Hands.{Gets, IsWorker, EndsIn, Settles, AddsRound, AddsHandOn, AddsHalves, AddsCarried, Worked_as};
+ghost use Rattle.pool.specs.Hands.{SameHand, IsAllTaken};
+ghost use Rattle.cubes.specs.Hands.{Gets, IsWorker, EndsIn, Settles, AddsRound, AddsHandOn, AddsHalves, AddsCarried, Worked_as, GoesOn, GoesHome};
 ghost use Rattle.cubes.specs.Solved.{results_by};
 
 use crate::cube_walk::CubeWalk;
@@ -18,11 +18,12 @@ use crate::pause::Pauses;
 use crate::place::place_of;
 use crate::results::solve;
 use crate::solved::{Solved, What};
+use crate::tries::Tries;
 use cdcl::{KeepsLines, Outcome, Plan, Refutation, Solver, split};
 use cnf::Formula;
 use kernel::Cube;
 use lines::Row;
-use pool::{Hand, Taken};
+use pool::Hand;
 use std::alloc::{AllocError, Global};
 use std::sync::Wait;
 use std::time::Clock;
@@ -58,22 +59,19 @@ pub(crate) struct Worker<L> {
     pub(crate) solved: Vec<Solved<L>>,
 }
 
-/// One cube more, from the hand's own deque or else from another's.
-fn next(hand: &mut Hand) -> Option<Cube>
+/// One cube more, from the hand's own deque or else from another's. None comes only where each
+/// deque was tried.
+fn next(hand: &mut Hand, tries: &mut Tries) -> Option<Cube>
+    requires none { tries.old ≡ 0 }
     ensures same { SameHand hand.old hand.new }
     ensures got { MatchOption result (hand.new ≡ hand.old)
         (λ c. IsFit hand.old.vars c × Gets hand.old.ledger hand.new.ledger c) }
+    ensures tried { IfNone result (IsAllTaken hand.old × (tries.new ≡ hand.old.hands)) }
 {
-    if let Some(cube) = hand.take() {
-        return Some(cube);
-    }
-    let own = hand.number();
-    let count = hand.hands();
-    'others: for from in 0..count {
-        if from != own {
-            if let Taken::Got(cube) = hand.steal(from) {
-                return Some(cube);
-            }
+    let _own = hand.number(); // it ensures that there is a hand
+    'deques: while tries.count() < hand.hands() {
+        if let Some(cube) = tries.try_next(hand) {
+            return Some(cube);
         }
     }
     None
@@ -131,6 +129,7 @@ impl<L: KeepsLines> Worker<L> {
         requires worker { IsWorker formula.now plan self.old }
         ensures same { SameHand self.old.hand self.new.hand }
         ensures worker { OnOk result (IsWorker formula.now plan self.new) }
+        ensures calls { GoesOn self.old.hand.ledger self.new.hand.ledger }
         ensures part { AddsHandOn formula.now plan (is_ok result) half self.old.hand.ledger self.new.hand.ledger (results_by L.lines self.old.solved.items) (results_by L.lines self.new.solved.items) }
     {
         if half.lits().len() > DEEPEST {
@@ -161,6 +160,7 @@ impl<L: KeepsLines> Worker<L> {
         requires worker { IsWorker formula.now plan self.old }
         ensures same { SameHand self.old.hand self.new.hand }
         ensures worker { OnOk result (IsWorker formula.now plan self.new) }
+        ensures calls { GoesOn self.old.hand.ledger self.new.hand.ledger }
         ensures part { AddsHalves formula.now plan (is_ok result) cube.now var self.old.hand.ledger self.new.hand.ledger (results_by L.lines self.old.solved.items) (results_by L.lines self.new.solved.items) }
     {
         let _vars = formula.vars(); // it ensures that there are fewer than 2^31
@@ -182,6 +182,7 @@ impl<L: KeepsLines> Worker<L> {
         requires worker { IsWorker formula.now plan self.old }
         ensures same { SameHand self.old.hand self.new.hand }
         ensures worker { OnOk result (IsWorker formula.now plan self.new) }
+        ensures calls { GoesOn self.old.hand.ledger self.new.hand.ledger }
         ensures part { AddsCarried formula.now plan (is_ok result) half self.old.hand.ledger self.new.hand.ledger (results_by L.lines self.old.solved.items) (results_by L.lines self.new.solved.items) }
     {
         let _vars = formula.vars(); // it ensures that there are fewer than 2^31
@@ -215,6 +216,7 @@ impl<L: KeepsLines> Worker<L> {
         requires worker { IsWorker formula.now plan self.old }
         ensures same { SameHand self.old.hand self.new.hand }
         ensures worker { OnOk result (IsWorker formula.now plan self.new) }
+        ensures calls { GoesOn self.old.hand.ledger self.new.hand.ledger }
         ensures part { AddsRound formula.now plan (is_ok result) cube self.old.hand.ledger self.new.hand.ledger (results_by L.lines self.old.solved.items) (results_by L.lines self.new.solved.items) }
     {
         let place = place_of(&cube);
@@ -271,6 +273,7 @@ pub(crate) fn work_in<L: KeepsLines, R: Wait + Clock, G: Gate>(
     requires vars { hand.vars ≡ formula.now.vars }
     ensures same { SameHand hand result.hand }
     ensures work { HasWorked formula.now plan result.short_of_memory hand.ledger result.hand.ledger (results_by L.lines result.solved.items) }
+    ensures home { GoesHome result.short_of_memory hand.ledger result.hand.ledger }
 {
     let mut worker = Worker {
         hand,
@@ -283,7 +286,8 @@ pub(crate) fn work_in<L: KeepsLines, R: Wait + Clock, G: Gate>(
         if is_halted {
             break;
         }
-        match next(&mut worker.hand) {
+        let mut tries = Tries::none();
+        match next(&mut worker.hand, &mut tries) {
             Some(cube) => {
                 pauses = Pauses::none();
                 if worker.round(formula, plan, gate, cube).is_err() {
@@ -320,6 +324,7 @@ pub fn work_by_plan<R: Wait + Clock, G: Gate>(
     requires vars { hand.vars ≡ formula.now.vars }
     ensures same { SameHand hand result.hand }
     ensures work { Worked_as formula.now plan result.short_of_memory hand.ledger result.hand.ledger result.solved.items }
+    ensures home { GoesHome result.short_of_memory hand.ledger result.hand.ledger }
 {
     work_in(rt, alloc, hand, formula, plan, gate)
 }

@@ -18,6 +18,7 @@ mod solved;
 mod threads;
 mod traversal;
 mod tree;
+mod tries;
 
 pub use by_budget::{gather, solve_one, solve_with, work};
 pub use closing::{harvest, harvest_by_plan};

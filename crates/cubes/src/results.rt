@@ -63,12 +63,13 @@ impl Drop for Source {
 
 impl Source {
     /// The outcome of a cube: the one that is known, or what solving it on the spot gives.
-    fn outcome(
+    fn outcome<W: Watcher>(
         &mut self,
         alloc: Global,
         formula: &Formula,
         plan: Plan,
         cube: &Cube,
+        watcher: &W,
     ) -> Result<Outcome<Row>, AllocError>
         requires over { IsOver formula.now.vars cube.now }
         requires source { IsSource formula.now plan self.old }
@@ -77,7 +78,34 @@ impl Source {
     {
         match self.known.take(cube) {
             Some(outcome) => Ok(outcome),
-            None => solve(alloc, formula, plan, cube, &mut self.solver, &Unwatched),
+            None => solve(alloc, formula, plan, cube, &mut self.solver, watcher),
+        }
+    }
+}
+
+/// What `gather_by_plan` does, and tells a watcher of what is solved. It fails also where the
+/// watcher stops it.
+pub(crate) fn gather_watched<W: Watcher>(
+    alloc: Global,
+    formula: &Formula,
+    plan: Plan,
+    results: Vec<Solved<Row>>,
+    watcher: &W,
+) -> Result<Tree<Row>, AllocError>
+    requires results { AreTrueResults formula.now plan results.items }
+    ensures result { IfOk result (λ t. IsResultOf formula.now plan t) }
+    ensures says { IfOk result (λ t. Says plan.search formula.now t) }
+{
+    let _vars = formula.vars(); // it ensures what the proof needs of the formula
+    let mut source = Source {
+        known: Known::new(alloc, results)?,
+        solver: None,
+    };
+    let mut gathering = Gathering::start(alloc);
+    'cubes: loop {
+        let outcome = source.outcome(alloc, formula, plan, &gathering.at.cube, watcher)?;
+        if let Some(tree) = gathering.go_on(outcome)? {
+            return Ok(tree);
         }
     }
 }
@@ -96,18 +124,7 @@ pub fn gather_by_plan(
     ensures result { IfOk result (λ t. IsResultOf formula.now plan t) }
     ensures says { IfOk result (λ t. Says plan.search formula.now t) }
 {
-    let _vars = formula.vars(); // it ensures what the proof needs of the formula
-    let mut source = Source {
-        known: Known::new(alloc, results)?,
-        solver: None,
-    };
-    let mut gathering = Gathering::start(alloc);
-    'cubes: loop {
-        let outcome = source.outcome(alloc, formula, plan, &gathering.at.cube)?;
-        if let Some(tree) = gathering.go_on(outcome)? {
-            return Ok(tree);
-        }
-    }
+    gather_watched(alloc, formula, plan, results, &Unwatched)
 }
 
 /// The result of the formula and the plan of which the results are whole: each cube of their tree

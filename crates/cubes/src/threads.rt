@@ -8,9 +8,9 @@ ghost use Rattle.cubes.specs.Shares.{HasDone, LinesWorked};
 ghost use Rattle.cubes.specs.Solved.{solved_of};
 
 use crate::closing::harvest_by_plan;
-use crate::gate::Gate;
+use crate::gate::{Gate, Watched};
 use crate::hands::{Worked, work_by_plan};
-use crate::results::{assemble_rows, solve_one_by_plan};
+use crate::results::{assemble_rows, gather_watched};
 use crate::solved::Solved;
 use crate::tree::Tree;
 use cdcl::Plan;
@@ -103,10 +103,24 @@ fn solve_by_hands<R: Threads + Wait + Clock + Sync, G: Gate + Sync>(
     assemble_rows(alloc, results)
 }
 
+/// The result, by this thread alone. The gate is told what its solver does, as of the hand 0.
+fn solve_here<G: Gate>(
+    alloc: Global,
+    formula: &Formula,
+    plan: Plan,
+    gate: &G,
+) -> Result<Tree<Row>, AllocError>
+    ensures result { IfOk result (λ t. IsResultOf formula.now plan t) }
+    ensures says { IfOk result (λ t. Says plan.search formula.now t) }
+{
+    let watched = Watched { gate, hand: 0 };
+    gather_watched(alloc, formula, plan, Vec::new(alloc), &watched)
+}
+
 /// The result of the formula by the plan, by 1 to 16 hands, each in a thread of its own where one
 /// can be started. It is the same for any number of hands, any gate and any schedule. It fails only
-/// where a request for memory is refused, once all hands are home. If the pool isn't opened, all is
-/// solved here.
+/// where a request for memory is refused or the gate stops the hands, once all hands are home. If
+/// the pool isn't opened, all is solved here.
 pub fn solve_by_plan<R: Threads + Wait + Clock + Sync, G: Gate + Sync>(
     rt: &R,
     alloc: Global,
@@ -121,6 +135,6 @@ pub fn solve_by_plan<R: Threads + Wait + Clock + Sync, G: Gate + Sync>(
 {
     match pool::open(alloc, hands, formula.vars(), Cube::root(alloc)) {
         Ok((pool, all)) => solve_by_hands(rt, alloc, formula, plan, gate, pool, all),
-        Err(_) => solve_one_by_plan(alloc, formula, plan),
+        Err(_) => solve_here(alloc, formula, plan, gate),
     }
 }

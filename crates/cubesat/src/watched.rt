@@ -1,5 +1,8 @@
-//! Runs that are watched: they write what `run` and `check_run` write.
-ghost use Rattle.std.specs.Prelude.{◌≤◌};
+//! Runs that are watched: they write what `run_by_plan` and `check_run` write.
+ghost use Rattle.std.specs.Prelude.{◌≤◌, IfOk};
+ghost use Rattle.cubesat.specs.Answer.{IsRightAnswer};
+ghost use Rattle.cubesat.specs.Check.{CheckSays};
+ghost use Rattle.cubesat.specs.Run.{RunSays};
 
 use crate::check::check_run;
 use crate::checked_line::Checked;
@@ -37,7 +40,10 @@ pub(crate) fn run_counted<
     input: I,
     answer: &mut W,
     proof: &mut P,
-) -> Result<Verdict, RunFault> {
+) -> Result<Verdict, RunFault>
+    ensures says { RunSays (I.remaining input) effort.plan (P.contents proof.old) (P.contents proof.new) (W.contents answer.old) (W.contents answer.new) result }
+    ensures answer_is_right { IfOk result (IsRightAnswer effort.plan.search (I.remaining input) (P.contents proof.old) (P.contents proof.new) (W.contents answer.old) (W.contents answer.new)) }
+{
     let watch = Watch { rt, board };
     let mut counted = CountedWriter {
         inner: proof,
@@ -70,7 +76,9 @@ pub(crate) fn check_counted<R: Wait + Clock, F: Read + Drop, P: Read + Drop, W: 
     formula: F,
     proof: P,
     answer: &mut W,
-) -> Result<Checked, RunFault> {
+) -> Result<Checked, RunFault>
+    ensures { CheckSays (F.remaining formula) (P.remaining proof) (W.contents answer.old) (W.contents answer.new) result }
+{
     let watch = Watch { rt, board };
     let counted = CountedReader {
         inner: proof,

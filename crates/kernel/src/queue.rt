@@ -8,7 +8,7 @@ use std::alloc::{AllocError, Global};
 use std::marker::Model;
 
 /// Numbers by rising size. It begins anew at the front of its memory each time that it becomes
-/// empty.
+/// empty: `head` is inside, or 0. So it keeps no number that was taken out behind the last one.
 #[derive(Drop)]
 pub struct Queue {
     items: Vec<u32>,
@@ -17,14 +17,14 @@ pub struct Queue {
 }
 
 impl Model for Queue {
-    ghost use Rattle.std.specs.Prelude.{List, ℕ, ◌≤◌, length, drop};
+    ghost use Rattle.std.specs.Prelude.{List, ℕ, ◌≤◌, ◌-◌, length, drop};
     ghost use Rattle.kernel.specs.Waiting.{NeverFallsFrom};
 
     ghost Value = { List ℕ };
 
     ghost view = { λ q. drop q.head q.items.items };
 
-    ghost invariant = { λ q. (q.head ≤ length q.items.items) × NeverFallsFrom q.head q.items.items };
+    ghost invariant = { λ q. (q.head ≤ length q.items.items - 1) × NeverFallsFrom q.head q.items.items };
 }
 
 impl Queue {
@@ -78,9 +78,10 @@ impl Queue {
             return None;
         }
         let least = self.items[self.head];
-        self.head += 1;
-        if self.head == self.items.len() {
+        if self.head + 1 == self.items.len() {
             self.clear();
+        } else {
+            self.head += 1;
         }
         Some(least)
     }

@@ -8,7 +8,7 @@ use std::alloc::{AllocError, Global};
 use std::marker::Model;
 
 /// Clauses that wait, each behind those that go before it. It begins anew at the front of its
-/// memory each time that it becomes empty.
+/// memory each time that it becomes empty: `head` is inside, or 0.
 #[derive(Drop)]
 pub struct WaitingQueue {
     items: Vec<Waiting>,
@@ -17,7 +17,7 @@ pub struct WaitingQueue {
 }
 
 impl Model for WaitingQueue {
-    ghost use Rattle.std.specs.Prelude.{List, ◌≤◌, length, drop};
+    ghost use Rattle.std.specs.Prelude.{List, ◌≤◌, ◌-◌, length, drop};
     ghost use Rattle.kernel.specs.declared.line.Waiting.{Waiting};
     ghost use Rattle.kernel.specs.Placing.{AreInOrder};
 
@@ -25,7 +25,7 @@ impl Model for WaitingQueue {
 
     ghost view = { λ q. drop q.head q.items.items };
 
-    ghost invariant = { λ q. (q.head ≤ length q.items.items) × AreInOrder (drop q.head q.items.items) };
+    ghost invariant = { λ q. (q.head ≤ length q.items.items - 1) × AreInOrder (drop q.head q.items.items) };
 }
 
 /// Whether a clause goes before another, or with it.

@@ -6,6 +6,11 @@ use crate::line::push_line;
 use cnf::Lit;
 use std::alloc::{AllocError, Global};
 use std::marker::Model;
+use std::mem;
+
+/// So many bytes of lines are copied where they are handed out. Growing anew to as many takes about
+/// a dozen requests for memory.
+const COPIED: usize = 1 << 16;
 
 /// Lines of a refuted cube in the order in which they were learnt, one behind the other as bytes: a
 /// clause by the distances of its literals, hints by theirs. It takes about two fifths of what the
@@ -48,7 +53,7 @@ impl Row {
     }
 
     /// The lines once more, in memory of just their size. It fails only where that is refused.
-    pub fn copied(&self) -> Result<Row, AllocError>
+    fn copied(&self) -> Result<Row, AllocError>
         ensures { IfOk result (λ r. r ≡ self.now) }
     {
         Ok(Row {
@@ -57,6 +62,19 @@ impl Row {
             literals: self.literals,
             hints: self.hints,
         })
+    }
+
+    /// Hands all lines out. Up to 64 KiB of them are copied, so that this row keeps its memory for
+    /// other lines; more are handed out as they lie, and none is left, since a copy would take as
+    /// much memory once more. It fails only where a request for memory is refused.
+    pub fn hand_out(&mut self) -> Result<Row, AllocError>
+        ensures { IfOk result (λ r. r ≡ self.old) }
+    {
+        if self.bytes.len() <= COPIED {
+            return self.copied();
+        }
+        let alloc = self.allocator();
+        Ok(mem::replace(self, Row::new(alloc)))
     }
 
     /// Puts a line behind the others. It fails where a request for memory is refused, and for a

@@ -64,3 +64,34 @@ fn lines_are_read_as_pushed(rt: HostRuntime) -> Result<(), Fail> {
     assert_eq!(rt; first_other(rt.alloc(), &mut reader)?, None);
     Ok(())
 }
+
+/// Pushes so many lines without a literal and a hint, of which each takes two bytes.
+fn push_empty(row: &mut Row, count: usize) -> Result<(), AllocError> {
+    for _ in 0..count {
+        row.push(&[], &[])?;
+    }
+    Ok(())
+}
+
+#[test]
+fn a_few_lines_are_copied_out(rt: HostRuntime) -> Result<(), Fail> {
+    let mut row = Row::new(rt.alloc());
+    assert_eq!(rt; push_all(rt.alloc(), &mut row)?, None);
+    let mut reader = Reader::of(row.hand_out()?);
+    assert_eq!(rt; first_other(rt.alloc(), &mut reader)?, None);
+    assert_eq!(rt; row.len(), 5);
+    row.clear();
+    assert_eq!(rt; row.size(), 0);
+    Ok(())
+}
+
+#[test]
+fn many_lines_are_handed_out_as_they_lie(rt: HostRuntime) -> Result<(), Fail> {
+    let mut row = Row::new(rt.alloc());
+    push_empty(&mut row, 32_769)?;
+    assert_eq!(rt; row.size(), 65_538);
+    let lines = row.hand_out()?;
+    assert_eq!(rt; lines.len(), 32_769);
+    assert!(rt; row.is_empty());
+    Ok(())
+}

@@ -3,6 +3,9 @@ use Rattle.pool.specs.Hands.{HandView}
 use Rattle.cubes.specs.declared.hands.Worker.{Worker}
 use Rattle.cubes.specs.Solved.{results_by}
 use Rattle.theory.specs.Round.{HasWorked}
+use Rattle.theory.specs.Ledger.{halt}
+use Rattle.cubes.specs.Hands.{GoesHome}
+use Rattle.cubes.proofs.GoingOn.{GoesOn-itself, GoesOn-then, GoesOn-same, GoesOn-got, GoesOn-halted, GoesOn-open, GoesHome-at, GoesHome-halted, GoesHome-open, home-as}
 use Rattle.cubes.proofs.SameHands.{SameHand-itself, SameHand-then, worked-as}
 use Rattle.cubes.proofs.WorkSteps.{loop-begins, loop-round, loop-idle, end-open, end-halted, end-short}
 use Rattle.cubes.proofs.hands.work_in.Goals.{in-None, in-Some+then-is_halted, in-Some+else-is_halted+in-None-next+then-open-eq0}
@@ -13,6 +16,7 @@ turns-init g c = record {
   same = SameHand-itself c.args.hand;
   worker = (tt, c.requires.vars);
   underway = loop-begins c.args.formula.now c.args.plan c.args.hand.ledger (results_by g.L.KeepsLines.lines c.new.result.items) (ap (results_by g.L.KeepsLines.lines) c.new.ensures.items);
+  onward = GoesOn-itself c.args.hand.ledger;
 }
 
 pub returns-then-is_err-clause-work : goal.returns-then-is_err-clause-work
@@ -33,6 +37,11 @@ turns-preserved-else-is_err g c =
       underway = loop-round c.args.formula.now c.args.plan c.args.hand.ledger c.turns.worker.hand.ledger c.halted-is_halted.new.self.ledger c.next-in-turns.new.hand.ledger
           c.round.new.self.hand.ledger c.halted-is_halted.result (is_ok c.round.result) c.in-Some-next.cube (results_by g.L.KeepsLines.lines c.turns.worker.solved.items) (results_by g.L.KeepsLines.lines c.round.new.self.solved.items)
           c.turns.invariant.underway (ap (λ (h : HandView). h.ledger) c.halted-is_halted.ensures.noted) got c.round.ensures.part ok;
+      onward =
+          let first = c.args.hand.ledger in
+          let unhalted = GoesOn-halted first c.turns.worker.hand c.halted-is_halted.new.self c.turns.invariant.onward c.halted-is_halted.result c.if-is_halted.false c.halted-is_halted.ensures.noted in
+          let taken = GoesOn-got first c.halted-is_halted.new.self c.next-in-turns.new.hand unhalted c.in-Some-next.cube got in
+          GoesOn-then first c.next-in-turns.new.hand.ledger c.round.new.self.hand.ledger taken c.round.ensures.calls;
     }
 
 pub turns-preserved : goal.turns-preserved
@@ -42,6 +51,11 @@ turns-preserved g c = record {
   underway = loop-idle c.args.formula.now c.args.plan c.args.hand.ledger c.turns.worker.hand.ledger c.halted-is_halted.new.self.ledger c.next-in-turns.new.hand.ledger
       c.still_open-open.new.self.ledger c.halted-is_halted.result c.still_open-open.result (results_by g.L.KeepsLines.lines c.turns.worker.solved.items)
       c.turns.invariant.underway (ap (λ (h : HandView). h.ledger) c.halted-is_halted.ensures.noted) (ap (λ (h : HandView). h.ledger) (rw c.in-None-next.is at c.next-in-turns.ensures.got)) (ap (λ (h : HandView). h.ledger) c.still_open-open.ensures.noted);
+  onward =
+      let first = c.args.hand.ledger in
+      let unhalted = GoesOn-halted first c.turns.worker.hand c.halted-is_halted.new.self c.turns.invariant.onward c.halted-is_halted.result c.if-is_halted.false c.halted-is_halted.ensures.noted in
+      let none = GoesOn-same first c.halted-is_halted.new.self c.next-in-turns.new.hand unhalted (rw c.in-None-next.is at c.next-in-turns.ensures.got) in
+      GoesOn-open first c.next-in-turns.new.hand c.still_open-open.new.self none c.still_open-open.result c.if-open-eq0.false c.still_open-open.ensures.noted;
 }
 
 pub returns-clause-work : goal.returns-clause-work
@@ -74,3 +88,27 @@ returns-clause-same g c = elim c.match-next.branch [
   | in-Some+else-is_halted+in-None-next+then-open-eq0 w ↦
       rw (c.home-2.ensures.hand, w.worker-is) (SameHand-then c.args.hand w.next-in-turns.new.hand w.still_open-open.new.self (SameHand-then c.args.hand w.halted-is_halted.new.self w.next-in-turns.new.hand (SameHand-then c.args.hand c.turns.worker.hand w.halted-is_halted.new.self c.turns.invariant.same w.halted-is_halted.ensures.same) w.next-in-turns.ensures.same) w.still_open-open.ensures.same)
 ]
+
+pub returns-then-is_err-clause-home : goal.returns-then-is_err-clause-home
+returns-then-is_err-clause-home g c =
+    let first = c.args.hand.ledger in
+    let got = (rw c.in-Some-next.is at c.next-in-turns.ensures.got).1 in
+    let unhalted = GoesOn-halted first c.turns.worker.hand c.halted-is_halted.new.self c.turns.invariant.onward c.halted-is_halted.result c.if-is_halted.false c.halted-is_halted.ensures.noted in
+    let taken = GoesOn-got first c.halted-is_halted.new.self c.next-in-turns.new.hand unhalted c.in-Some-next.cube got in
+    let worked = GoesOn-then first c.next-in-turns.new.hand.ledger c.round.new.self.hand.ledger taken c.round.ensures.calls in
+    home-as true c.home.result.short_of_memory first c.halt.new.self c.home.result.hand c.home.ensures.hand c.home.ensures.short
+    (GoesHome-at first c.round.new.self.hand c.halt.new.self worked true halt c.halt.ensures.noted tt)
+
+pub returns-clause-home : goal.returns-clause-home
+returns-clause-home g c =
+    let first = c.args.hand.ledger in
+    home-as false c.home-2.result.short_of_memory first c.match-next.worker.hand c.home-2.result.hand c.home-2.ensures.hand c.home-2.ensures.short
+    (elim c.match-next.branch [
+      | in-None w ↦ absurd (search rules)
+      | in-Some+then-is_halted w ↦ subst (λ (v : Worker _). GoesHome false first v.hand.ledger) (sym w.worker-is)
+          (GoesHome-halted first c.turns.worker.hand w.halted-is_halted.new.self c.turns.invariant.onward w.halted-is_halted.result w.if-is_halted.true w.halted-is_halted.ensures.noted)
+      | in-Some+else-is_halted+in-None-next+then-open-eq0 w ↦ subst (λ (v : Worker _). GoesHome false first v.hand.ledger) (sym w.worker-is)
+          (let unhalted = GoesOn-halted first c.turns.worker.hand w.halted-is_halted.new.self c.turns.invariant.onward w.halted-is_halted.result w.if-is_halted.false w.halted-is_halted.ensures.noted in
+          let none = GoesOn-same first w.halted-is_halted.new.self w.next-in-turns.new.hand unhalted (rw w.in-None-next.is at w.next-in-turns.ensures.got) in
+          GoesHome-open first w.next-in-turns.new.hand w.still_open-open.new.self none w.still_open-open.result w.if-open-eq0.true w.still_open-open.ensures.noted)
+    ])

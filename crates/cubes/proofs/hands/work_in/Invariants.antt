@@ -1,7 +1,7 @@
 use Rattle.pool.specs.Hands.{SameHand}
 use Rattle.cubes.specs.Solved.{results_by}
 use Rattle.theory.specs.Work.{IsUnderway}
-use Rattle.cubes.specs.Hands.{IsWorker}
+use Rattle.cubes.specs.Hands.{IsWorker, GoesOn}
 use Rattle.cubes.proofs.hands.work_in.Given as goal
 
 -- between two cubes
@@ -10,4 +10,5 @@ invariant-turns g l = record {
   same : SameHand l.initial.worker.hand l.worker.hand;
   worker : IsWorker l.formula l.plan l.worker;
   underway : IsUnderway l.formula l.plan l.initial.worker.hand.ledger l.worker.hand.ledger (results_by g.L.KeepsLines.lines l.worker.solved.items);
+  onward : GoesOn l.initial.worker.hand.ledger l.worker.hand.ledger;
 }

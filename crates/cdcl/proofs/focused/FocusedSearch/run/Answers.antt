@@ -5,20 +5,20 @@ use Rattle.cdcl.proofs.Steps.{GoesOn-trans}
 use Rattle.cdcl.proofs.FocusedSteps.{LeadsTo-step, LeadsTo-ends, GoesOnward-less}
 use Rattle.cdcl.proofs.focused.FocusedSearch.run.Given.{Over}
 use Rattle.cdcl.proofs.focused.FocusedSearch.run.Goals as goal
-use Rattle.cdcl.proofs.focused.FocusedSearch.run.Goals.{After-tell-told}
+use Rattle.cdcl.proofs.focused.FocusedSearch.run.Goals.{In_ok-told}
 
 pub returns-in-Some-clause-runs : goal.returns-in-Some-clause-runs
 returns-in-Some-clause-runs g c =
     LeadsTo-ends c.args.budget c.args.self.now c.steps.self c.step.new.self c.in-Some.outcome c.steps.invariant.constants c.steps.invariant.goes_on.0 c.steps.invariant.leads (rw c.in-Some.is at c.in_ok-outcome.ensures.step)
 
-went_on : (g : Over) (c : After-tell-told g) → (saved : Assignment) → HasSaved c.steps.self saved → IsFocusedSearchStep c.args.budget c.steps.self saved None c.step.new.self
+went_on : (g : Over) (c : In_ok-told g) → (saved : Assignment) → HasSaved c.steps.self saved → IsFocusedSearchStep c.args.budget c.steps.self saved None c.step.new.self
 went_on g c = rw c.in_default.is at c.in_ok-outcome.ensures.step
 
 -- with the values that the search has saved itself
-values : (g : Over) → After-tell-told g → Assignment
+values : (g : Over) → In_ok-told g → Assignment
 values g c = (went_on g c c.steps.self.decisions.saved (λ v k f. refl)).values
 
-onward : (g : Over) (c : After-tell-told g) → GoesOnward c.args.budget c.steps.self c.step.new.self (values g c)
+onward : (g : Over) (c : In_ok-told g) → GoesOnward c.args.budget c.steps.self c.step.new.self (values g c)
 unfolding values
 onward g c = (went_on g c c.steps.self.decisions.saved (λ v k f. refl)).onward
 

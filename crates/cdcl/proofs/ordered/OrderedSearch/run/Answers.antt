@@ -5,16 +5,16 @@ use Rattle.cdcl.proofs.Progress.{remaining}
 use Rattle.cdcl.proofs.Steps.{IsSearchStep-ends, IsSearchStep-leads, IsSearchStep-keeps, GoesOn-trans}
 use Rattle.cdcl.proofs.ordered.OrderedSearch.run.Given.{Over}
 use Rattle.cdcl.proofs.ordered.OrderedSearch.run.Goals as goal
-use Rattle.cdcl.proofs.ordered.OrderedSearch.run.Goals.{After-tell-told}
+use Rattle.cdcl.proofs.ordered.OrderedSearch.run.Goals.{In_ok-told}
 
 pub returns-in-Some-clause-runs : goal.returns-in-Some-clause-runs
 returns-in-Some-clause-runs g c =
     c.steps.invariant.leads _ (IsSearchStep-ends c.args.self.now.kernel.vars c.args.budget c.steps.self c.step.new.self c.in-Some.outcome c.steps.invariant.goes_on.0 (rw c.in-Some.is at c.in_ok-outcome.ensures))
 
-went_on : (g : Over) (c : After-tell-told g) → IsSearchStep c.args.budget c.steps.self None c.step.new.self
+went_on : (g : Over) (c : In_ok-told g) → IsSearchStep c.args.budget c.steps.self None c.step.new.self
 went_on g c = rw c.in_default.is at c.in_ok-outcome.ensures
 
-kept : (g : Over) (c : After-tell-told g) → IsSearching ByNumber c.step.new.self.kernel × (c.step.new.self.conflicts < c.args.budget)
+kept : (g : Over) (c : In_ok-told g) → IsSearching ByNumber c.step.new.self.kernel × (c.step.new.self.conflicts < c.args.budget)
     × (remaining c.steps.self.kernel.vars c.args.budget c.step.new.self.conflicts c.step.new.self.kernel.trail
     < remaining c.steps.self.kernel.vars c.args.budget c.steps.self.conflicts c.steps.self.kernel.trail)
 kept g c = IsSearchStep-keeps c.args.budget c.steps.self c.step.new.self c.steps.invariant.searching c.steps.invariant.counted (went_on g c)

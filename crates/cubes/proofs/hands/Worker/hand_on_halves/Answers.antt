@@ -1,6 +1,7 @@
 use Rattle.std.proofs.Common.{is_ok, rules}
 use Rattle.theory.specs.Literals.{positive, negative}
 use Rattle.cubes.specs.Solved.{results_by}
+use Rattle.cubes.proofs.GoingOn.{GoesOn-then}
 use Rattle.cubes.proofs.HalvesParts.{no-halves, left-half}
 use Rattle.cubes.proofs.RoundParts.{over-half}
 use Rattle.cubes.proofs.hands.Worker.hand_on_halves.Goals as goal
@@ -18,3 +19,6 @@ pub returns-in_err-hand_on-clause-part : goal.returns-in_err-hand_on-clause-part
 returns-in_err-hand_on-clause-part g c =
     left-half c.args.formula.now c.args.plan (is_ok c.hand_on.result) (is_ok c.from_residual-in_err-hand_on.result) c.args.cube.now c.in_ok-left.left c.args.var c.args.self.now.hand.ledger c.hand_on.new.self.hand.ledger
     (results_by g.L.KeepsLines.lines c.args.self.now.solved.items) (results_by g.L.KeepsLines.lines c.hand_on.new.self.solved.items) (search rules) c.in_ok-left.ensures.left c.hand_on.ensures.part
+
+pub returns-clause-calls : goal.returns-clause-calls
+returns-clause-calls g c = GoesOn-then c.args.self.now.hand.ledger c.hand_on.new.self.hand.ledger c.hand_on-2.new.self.hand.ledger c.hand_on.ensures.calls c.hand_on-2.ensures.calls

@@ -1,13 +1,14 @@
 use Rattle.std.proofs.Common.{◌≡◌, ◌++◌, ◌∷◌, [], map, is_ok, true, sym, ap, ◌∙◌, subst, rules, arith}
 use Rattle.std.proofs.lemmas.List.{map-append}
-use Rattle.theory.specs.Ledger.{joined, calling, offer, less}
+use Rattle.theory.specs.Ledger.{joined, calling, offer, look, less}
 use Rattle.theory.specs.Places.{place_of}
 use Rattle.theory.specs.Work.{IsNotBelow}
 use Rattle.pool.specs.Hands.{HandView}
 use Rattle.cubes.specs.declared.solved.What.TheVariants.{Skipped}
 use Rattle.cubes.specs.declared.hands.Worker.{Worker}
 use Rattle.cubes.specs.Solved.{solved_by, results_by}
-use Rattle.cubes.specs.Hands.{AddsRound}
+use Rattle.cubes.specs.Hands.{AddsRound, GoesOn}
+use Rattle.cubes.proofs.GoingOn.{GoesOn-itself, GoesOn-then, GoesOn-call, GoesOn-same}
 use Rattle.cubes.proofs.RoundParts.{look-part, skip-part, not-below-some, not-below-none}
 use Rattle.cubes.proofs.RoundEndings.{ends-refuted, ends-model, ends-exhausted, ends-short}
 use Rattle.cubes.proofs.hands.Worker.round.Goals.{in-Some+else-least-place, in_default, in-Model, in-Refuted, in-Exhausted+in_ok-hand_on_halves-in-Exhausted}
@@ -60,3 +61,17 @@ returns-clause-part g c = elim c.match-branch-3.branch [
       | in-Some+else-least-place w ↦ not-below-some c.look-seen.result w.in-Some.least c.place_of-place.result (place_of c.args.cube) w.in-Some.is (let l = w.if-least-place.false in omega arith) c.place_of-place.ensures.place
       | in_default w ↦ not-below-none c.look-seen.result (place_of c.args.cube) w.in_default.is
     ]
+
+pub returns-clause-calls : goal.returns-clause-calls
+returns-clause-calls g c =
+    let first = c.args.self.now.hand.ledger in
+    let looked = GoesOn-call first c.args.self.now.hand c.look-seen.new.self (GoesOn-itself first) (look c.look-seen.result) c.look-seen.ensures.noted tt in
+    let settled = GoesOn-same first c.look-seen.new.self c.settle-ending.new.self.hand looked c.settle-ending.ensures.hand in
+    let ended : GoesOn first c.match-branch-3.self.hand.ledger = elim c.match-branch-3.branch [
+      | in-Model w ↦ subst (λ (v : Worker _). GoesOn first v.hand.ledger) (sym w.self-is)
+          (GoesOn-call first c.settle-ending.new.self.hand w.offer.new.self settled (offer c.place_of-place.result) w.offer.ensures.noted tt)
+      | in-Refuted w ↦ subst (λ (v : Worker _). GoesOn first v.hand.ledger) (sym w.self-is) settled
+      | in-Exhausted+in_ok-hand_on_halves-in-Exhausted w ↦ subst (λ (v : Worker _). GoesOn first v.hand.ledger) (sym w.self-is)
+          (GoesOn-then first c.settle-ending.new.self.hand.ledger w.hand_on_halves.new.self.hand.ledger settled w.hand_on_halves.ensures.calls)
+    ] in
+    GoesOn-call first c.match-branch-3.self.hand c.less-2.new.self ended less c.less-2.ensures.noted tt

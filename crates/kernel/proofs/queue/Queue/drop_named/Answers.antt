@@ -10,7 +10,7 @@ kept c =
     let front : c.truncate.new.self.items ≡ drop c.self.inside.head c.self.inside.items.items =
     c.truncate.ensures.items ∙ (ap (take (c.len.result - c.self.inside.head)) c.rotate_left.ensures.items
     ∙ (ap (λ n. take (n - c.self.inside.head) (drop c.self.inside.head c.self.inside.items.items ++ take c.self.inside.head c.self.inside.items.items)) whole
-    ∙ turned-front c.self.inside.head c.self.inside.items.items c.self.invariant.0)) in
+    ∙ turned-front c.self.inside.head c.self.inside.items.items (let within = c.self.invariant.0 in omega (arith, within)))) in
     filter_same _ (λ n. not (names c.args.named.now n)) _ (λ x b f' k. search rules) c.truncate.new.self.items c.retain.new.self.items c.retain.ensures.filtered ∙ ap (places_left (names c.args.named.now)) front
 
 pub invariant_of-self : goal.invariant_of-self

@@ -2,14 +2,14 @@ use Rattle.std.proofs.Common.{◌+◌}
 use Rattle.cubes.specs.Source.{IsSource}
 use Rattle.cubes.proofs.GatheringLemmas.{IsGathered}
 use Rattle.cubes.proofs.Walks.{to_come}
-use Rattle.cubes.proofs.results.gather_by_plan.Given as goal
+use Rattle.cubes.proofs.results.gather_watched.Given as goal
 
 -- what is known is so, and the cube is reached, with the nodes before it
 abbrev pub invariant-cubes : goal.invariant-cubes
-invariant-cubes l = record {
+invariant-cubes g l = record {
   source : IsSource l.formula l.plan l.source;
   reached : IsGathered l.formula l.plan l.gathering;
 }
 
 abbrev pub decreases-cubes : goal.decreases-cubes
-decreases-cubes l = to_come (l.formula.vars + 1) l.gathering.at.walk
+decreases-cubes g l = to_come (l.formula.vars + 1) l.gathering.at.walk
