@@ -6,7 +6,8 @@ import re
 Function = collections.namedtuple("Function", "file owner name is_const first body last")
 Verdict = collections.namedtuple("Verdict", "word told")
 REFUSED, PASSED, NAME_ONLY, ERROR = "refused", "LET THROUGH", "NAME ONLY", "ERROR"
-# How the prover's line on a function begins that fails by itself, and not for a function that it calls.
+# How the prover's line on a function begins that fails by itself, and not for a function that it
+# calls.
 FAILED = ("not proved", "no proof: expected")
 CONTRACT = "its contract"
 HEAD = re.compile(r"( *)(?:pub(?:\([^)]*\))? )?(const )?(?:unsafe )?fn (\w+)")
@@ -23,7 +24,8 @@ def functions_in(file, text):
         head = HEAD.match(line)
         if head:
             indent, is_const, name = head.groups()
-            # (what is written at the function's own indentation is its head's end, its body's braces, or past it)
+            # (what is written at the function's own indentation is its head's end, its body's
+            # braces, or past it)
             own = (at for at in range(first, len(lines)) if lines[at][: len(indent) + 1].strip() and lines[at].startswith(indent))
             body = next((at for at in own if lines[at].endswith(("{", "}", ";"))), first)
             last = next(at for at in range(body, len(lines)) if lines[at].startswith(indent) and lines[at].endswith(("}", ";")) and lines[at][len(indent)] != " ")

@@ -16,17 +16,19 @@ from collections.abc import Iterable
 from pathlib import Path
 from typing import Union
 
-__all__ = ["BadClauses", "Error", "Fault", "NoProgram", "dimacs", "find_program", "solve"]
+__all__ = ["BadClauses", "Error", "Fault", "NoProgram", "OutOfTime", "dimacs", "find_program", "solve"]
 
 StrPath = Union[str, "os.PathLike[str]"]
 
-# What the program reads at most. It has a limit of 67,108,864 bytes, too, which no text of ours reaches that keeps these.
+# What the program reads at most. It has a limit of 67,108,864 bytes, too, which no text of ours
+# reaches that keeps these.
 MOST_VARIABLES = 262_143
 MOST_CLAUSES = 1_000_000
 MOST_LITERALS = 8_000_000
 
 SATISFIABLE = 10
 UNSATISFIABLE = 20
+UNKNOWN = 0
 
 
 class Error(Exception):
@@ -53,6 +55,10 @@ class Fault(Error):
         self.words = words
 
 
+class OutOfTime(Error, TimeoutError):
+    """The formula wasn't decided in the seconds that it was given."""
+
+
 def solve(
     clauses: Iterable[Iterable[int]],
     *,
@@ -60,6 +66,7 @@ def solve(
     search: str = "ordered",
     budget: int | None = None,
     hands: int = 1,
+    seconds: int | None = None,
     check: bool = True,
     proof: StrPath | None = None,
     program: StrPath | None = None,
@@ -76,12 +83,13 @@ def solve(
     budget:    conflicts of the first cube, 1 to 100,000; without it 1000 for "ordered", and 100,000
                for "focused". Another budget gives another proof, and by "focused" maybe another model
     hands:     threads, 1 to 16; they change neither the answer nor the proof
+    seconds:   after how many the search is given up, with OutOfTime; without it, never
     check:     whether the proof is checked
     proof:     where to keep the proof, which is empty where there is a model; a run that fails leaves
                what is there
     program:   the path of the program; without it, see `find_program`
 
-    Raises BadClauses, NoProgram, or Fault. Formula and proof are written to a temporary folder (TMPDIR says where), but for a proof that is kept.
+    Raises BadClauses, NoProgram, OutOfTime, or Fault. Formula and proof are written to a temporary folder (TMPDIR says where), but for a proof that is kept.
     """
     text = dimacs(clauses, variables)
     path = find_program(program)
@@ -91,10 +99,13 @@ def solve(
         with open(formula, "w") as file:
             file.write(text)
         options = ["--search", search, "--hands", str(hands)] + ([] if budget is None else ["--budget", str(budget)])
+        options += [] if seconds is None else ["--seconds", str(seconds)]
         options += ["--proof", written] if check or proof is not None else []
         ran = _run(path, "solve", *options, formula)
         if ran.returncode == SATISFIABLE:
             return _model(ran.stdout)
+        if (ran.returncode, ran.stdout) == (UNKNOWN, "s UNKNOWN\n"):
+            raise OutOfTime(f"not decided in {seconds} seconds")
         if ran.returncode != UNSATISFIABLE:
             raise _fault(ran)
         if check:

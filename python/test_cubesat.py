@@ -12,8 +12,16 @@ from unittest import mock
 
 import cubesat
 
-# Three pigeons in two holes: pigeon p is in hole h where 2p + h + 1 is true.
-PIGEONS = [[1, 2], [3, 4], [5, 6], *([-a, -b] for hole in (1, 2) for a, b in itertools.combinations(range(hole, 7, 2), 2))]
+
+def pigeons(count):
+    """So many pigeons, and a hole less. Of n holes, pigeon p is in hole h where n * p + h is true."""
+    holes = count - 1
+    some = [[holes * pigeon + hole for hole in range(1, count)] for pigeon in range(count)]
+    pairs = itertools.combinations(range(count), 2)
+    return some + [[-holes * a - hole, -holes * b - hole] for a, b in pairs for hole in range(1, count)]
+
+
+PIGEONS = pigeons(3)
 # Its models are those in which 1 differs from 2 and 2 from 3.
 ALTERNATING = [[1, 2], [-1, -2], [2, 3], [-2, -3]]
 
@@ -84,6 +92,10 @@ class Answers(InFolder):
             with self.subTest(f"budget {budget}, hands {hands}"):
                 self.assertIsNone(cubesat.solve(PIGEONS, search="focused", budget=budget, hands=hands))
 
+    def test_a_limit_that_isnt_reached_changes_nothing(self):
+        self.assertEqual(cubesat.solve(ALTERNATING, seconds=1000), [-1, 2, -3])
+        self.assertIsNone(cubesat.solve(PIGEONS, seconds=1000))
+
     def test_kept_proof_is_accepted(self):
         formula, proof = os.path.join(self.folder, "f.cnf"), os.path.join(self.folder, "f.lrat")
         with open(formula, "w") as file:
@@ -133,8 +145,21 @@ class Refusals(InFolder):
         self.assertEqual((caught.exception.line, caught.exception.words), ("fault 56", words))
         self.assertEqual(str(caught.exception), f"fault 56\n{words}")
 
+    def test_out_of_time(self):
+        """Thirteen pigeons in twelve holes take hours, by either search. The proof that was there stays."""
+        hard = pigeons(13)
+        proof = os.path.join(self.folder, "f.lrat")
+        with open(proof, "w") as file:
+            file.write("old\n")
+        for options in ({}, {"search": "focused"}, {"hands": 4, "budget": 10}):
+            with self.subTest(options), self.assertRaises(cubesat.OutOfTime):
+                cubesat.solve(hard, seconds=1, proof=proof, **options)
+            self.assertEqual(os.listdir(self.folder), ["f.lrat"])
+            with open(proof) as file:
+                self.assertEqual(file.read(), "old\n")
+
     def test_options_out_of_range_are_a_fault(self):
-        for options in ({"hands": 0}, {"hands": 17}, {"budget": 0}, {"budget": 100_001}, {"search": "x"}):
+        for options in ({"seconds": 0}, {"hands": 0}, {"hands": 17}, {"budget": 0}, {"budget": 100_001}, {"search": "x"}):
             with self.subTest(options), self.assertRaises(cubesat.Fault):
                 cubesat.solve(ALTERNATING, **options)
 

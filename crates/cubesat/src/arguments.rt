@@ -23,8 +23,11 @@ static SEARCHES: [&str; 2] = ["ordered", "focused"];
 /// The most hands.
 const MAX_HANDS: u32 = 16;
 
-const STATS: &str =
+const SOLVE_STATS: &str =
     "Print to standard error what the run took: conflicts, cubes, lines, times, memory";
+
+const CHECK_STATS: &str =
+    "Print to standard error what the run took: lines and bytes that were read, time, memory";
 
 const SOLVE_PROGRESS: &str = "Print to standard error about once a second how far the run is";
 
@@ -32,6 +35,8 @@ const CHECK_PROGRESS: &str =
     "Print to standard error about once a second how much of the proof is read";
 
 const VERBOSE: &str = "Print to standard error what is done, and what a fault or refusal means";
+
+const DISTINCT_STATUS: &str = "Exit with status 2 on a fault, and with 1 for a refused proof alone";
 
 /// What is shown of a run, beside its answer and its faults.
 #[derive(Clone, Copy, Debug)]
@@ -49,6 +54,7 @@ pub(crate) enum Request<'a> {
         search: Search,
         budget: u32,
         hands: usize,
+        seconds: Option<u32>,
         proof: Option<&'a str>,
         file: &'a str,
         shown: Shown,
@@ -57,6 +63,8 @@ pub(crate) enum Request<'a> {
     Check {
         formula: &'a str,
         proof: &'a str,
+        /// Whether a fault and a refused proof are to have two exit statuses.
+        distinct_status: bool,
         shown: Shown,
     },
     /// Say what a number that the program printed means, and the one behind it.
@@ -102,6 +110,11 @@ fn solve_command<'a>(alloc: Global) -> Result<Command<'a>, AllocError> {
         .value_parser(clap::value_parser!(u32).range(1..=16))
         .default_value("1")
         .help("Hands that solve cubes side by side, 1 to 16");
+    let seconds = Arg::new(alloc, "seconds")
+        .long("seconds")
+        .value_name("N")
+        .value_parser(clap::value_parser!(u32).range(1..=1_000_000_000))
+        .help("Answer `s UNKNOWN`, status 0, unless the formula is decided in so many seconds");
     let proof = Arg::new(alloc, "proof")
         .long("proof")
         .value_name("PATH")
@@ -112,12 +125,13 @@ fn solve_command<'a>(alloc: Global) -> Result<Command<'a>, AllocError> {
         .required(true)
         .help("The formula, in DIMACS CNF; - is standard input");
     Command::new(alloc, "solve")
-        .about("Decide a formula: status 10 satisfiable, 20 unsatisfiable, 1 on a fault")
+        .about("Decide a formula: status 10 satisfiable, 20 unsatisfiable, 0 unknown, 1 on a fault")
         .arg(search_option(alloc))?
         .arg(budget_option(alloc))?
         .arg(hands)?
+        .arg(seconds)?
         .arg(proof)?
-        .arg(flag(alloc, "stats", STATS))?
+        .arg(flag(alloc, "stats", SOLVE_STATS))?
         .arg(flag(alloc, "progress", SOLVE_PROGRESS))?
         .arg(flag(alloc, "verbose", VERBOSE))?
         .arg(file)
@@ -132,6 +146,8 @@ fn check_command<'a>(alloc: Global) -> Result<Command<'a>, AllocError> {
         .help("The proof, in LRAT; - is standard input");
     Command::new(alloc, "check")
         .about("Check a proof: status 0 accepted, 1 refused or on a fault")
+        .arg(flag(alloc, "distinct-status", DISTINCT_STATUS))?
+        .arg(flag(alloc, "stats", CHECK_STATS))?
         .arg(flag(alloc, "progress", CHECK_PROGRESS))?
         .arg(flag(alloc, "verbose", VERBOSE))?
         .arg(formula)?
@@ -204,6 +220,7 @@ fn solve_request<'a>(matches: &ArgMatches<'a>) -> Option<Request<'a>>
         None => default_budget(search),
     };
     let hands = matches.get_one::<u32>("hands")?;
+    let seconds = matches.get_one::<u32>("seconds");
     let proof = matches.get_str("proof");
     let file = matches.get_str("FILE")?;
     let shown = Shown {
@@ -218,6 +235,7 @@ fn solve_request<'a>(matches: &ArgMatches<'a>) -> Option<Request<'a>>
         search,
         budget,
         hands: hands as usize,
+        seconds,
         proof,
         file,
         shown,
@@ -230,13 +248,14 @@ fn check_request<'a>(matches: &ArgMatches<'a>) -> Option<Request<'a>>
     let formula = matches.get_str("FORMULA")?;
     let proof = matches.get_str("PROOF")?;
     let shown = Shown {
-        stats: false,
+        stats: matches.get_flag("stats"),
         progress: matches.get_flag("progress"),
         verbose: matches.get_flag("verbose"),
     };
     Some(Request::Check {
         formula,
         proof,
+        distinct_status: matches.get_flag("distinct-status"),
         shown,
     })
 }

@@ -5,13 +5,13 @@ use crate::check::check_run;
 use crate::checked_line::Checked;
 use crate::fault::RunFault;
 use crate::fault_lines::{FAILED, Screen, print_fault_of, print_not_opened};
-use crate::input::open_input;
+use crate::input::{open_input, size_of};
 use crate::notes::{note_check, note_number};
 use crate::watched::check_counted;
 use crate::worded::{Known, Opened, say_refused};
 use messages::Refused;
 use noticed::{NoticedReader, NoticedWriter};
-use statistics::{Board, Showing, Stage, show_progress};
+use statistics::{Board, Showing, print_check_statistics, show_progress};
 use std::alloc::Global;
 use std::fs::Files;
 use std::io::{Read, Write};
@@ -23,9 +23,32 @@ use std::time::Clock;
 /// The status of a proof that is accepted.
 const ACCEPTED: u8 = 0;
 
-/// A check with its progress shown. It writes what `check_run` writes.
-fn check_shown<
-    R: Threads + Wait + Clock + Sync,
+/// The status of a fault, where a refused proof is to have another one.
+const DISTINCT_FAULT: u8 = 2;
+
+/// How a check ended.
+#[derive(Clone, Copy, Debug, PartialEq, Eq)]
+pub(crate) enum CheckEnd {
+    Accepted,
+    Refused,
+    Fault,
+}
+
+impl CheckEnd {
+    /// The exit status. A fault has that of a refused proof, unless the two are to be distinct.
+    pub(crate) fn status(self, are_distinct: bool) -> u8 {
+        match self {
+            CheckEnd::Accepted => ACCEPTED,
+            CheckEnd::Fault if are_distinct => DISTINCT_FAULT,
+            CheckEnd::Refused | CheckEnd::Fault => FAILED,
+        }
+    }
+}
+
+/// A check that is counted, with its progress shown by a thread beside it. Where that can't be
+/// started, nothing is shown.
+fn check_beside<
+    R: Files + Threads + Wait + Clock + Sync,
     F: Read + Drop,
     P: Read + Drop,
     W: Write,
@@ -33,25 +56,26 @@ fn check_shown<
 >(
     rt: &R,
     alloc: Global,
+    board: &Board,
     formula: F,
     proof: P,
     answer: &mut W,
     faults: &mut E,
     screen: Screen,
 ) -> Result<Checked, RunFault> {
-    let board = Board::new(rt, Stage::Checking);
     let showing = Showing::of(Some(screen.manner()), false);
     let (_, result) = thread::join(
         rt,
-        || show_progress(rt, &board, faults, showing),
-        || check_counted(rt, alloc, &board, formula, proof, answer),
+        || show_progress(rt, board, faults, showing),
+        || check_counted(rt, alloc, board, formula, proof, answer),
     );
     result
 }
 
-/// Runs the check of what is opened, with its progress shown where that is asked for.
+/// Runs the check of what is opened, with what is to be shown of it. It writes what `check_run`
+/// writes. The proof has so many bytes, if that is known.
 fn check_opened<
-    R: Threads + Wait + Clock + Sync,
+    R: Files + Threads + Wait + Clock + Sync,
     F: Read + Drop,
     P: Read + Drop,
     W: Write,
@@ -61,20 +85,29 @@ fn check_opened<
     alloc: Global,
     formula: F,
     proof: P,
-    progress: bool,
+    size: Option<u64>,
+    shown: Shown,
     answer: &mut W,
     faults: &mut E,
     screen: Screen,
 ) -> Result<Checked, RunFault> {
-    if progress {
-        check_shown(rt, alloc, formula, proof, answer, faults, screen)
-    } else {
-        check_run(alloc, formula, proof, answer)
+    if !shown.progress && !shown.stats {
+        return check_run(alloc, formula, proof, answer);
     }
+    let board = Board::of_proof(rt, size);
+    let result = if shown.progress {
+        check_beside(rt, alloc, &board, formula, proof, answer, faults, screen)
+    } else {
+        check_counted(rt, alloc, &board, formula, proof, answer)
+    };
+    if shown.stats {
+        print_check_statistics(faults, &board.look(rt));
+    }
+    result
 }
 
 /// Says why the proof in a file, which begins with the first of these bytes, was refused, by the
-/// line that was printed, and what that means where it is to be explained; the status.
+/// line that was printed, and what that means where it is to be explained.
 fn print_refused<R: Files, E: Write>(
     rt: &R,
     faults: &mut E,
@@ -82,18 +115,17 @@ fn print_refused<R: Files, E: Write>(
     beginning: &[u8],
     line: &[u8],
     is_explained: bool,
-) -> u8 {
+) {
     if let Some(refused) = Refused::of_line(line) {
         say_refused(rt, faults, path, refused, beginning);
         if is_explained {
             note_number(faults, refused.number);
         }
     }
-    FAILED
 }
 
-/// Checks the open proof against the open formula, and says what happened unless it accepts; the
-/// status.
+/// Checks the open proof, of so many bytes, if that is known, against the open formula, and says
+/// what happened unless it accepts.
 fn check_files<
     R: Files + Threads + Wait + Clock + Sync,
     F: Read + Drop,
@@ -105,11 +137,12 @@ fn check_files<
     alloc: Global,
     formula: Opened<'_, F>,
     proof: Opened<'_, P>,
+    size: Option<u64>,
     shown: Shown,
     answer: &mut W,
     faults: &mut E,
     screen: Screen,
-) -> u8 {
+) -> CheckEnd {
     let mut text = NoticedReader::of(formula.file);
     let mut steps = NoticedReader::of(proof.file);
     let mut answer = NoticedWriter::of(answer);
@@ -118,16 +151,18 @@ fn check_files<
         alloc,
         &mut text,
         &mut steps,
-        shown.progress,
+        size,
+        shown,
         &mut answer,
         faults,
         screen,
     );
     match result {
-        Ok(Checked::Accepted) => ACCEPTED,
+        Ok(Checked::Accepted) => CheckEnd::Accepted,
         Ok(Checked::Refused) => {
             let (beginning, line) = (steps.beginning(), answer.beginning());
-            print_refused(rt, faults, proof.path, beginning, line, shown.verbose)
+            print_refused(rt, faults, proof.path, beginning, line, shown.verbose);
+            CheckEnd::Refused
         }
         Err(fault) => {
             let known = Known {
@@ -138,13 +173,14 @@ fn check_files<
                 proof_error: steps.error(),
                 answer_error: answer.error(),
             };
-            print_fault_of(rt, faults, fault, &known, shown.verbose)
+            print_fault_of(rt, faults, fault, &known, shown.verbose);
+            CheckEnd::Fault
         }
     }
 }
 
 /// Checks the proof in the file against the formula in the other, one of which may be the standard
-/// input; the status.
+/// input.
 pub(crate) fn check<
     R: Files + Threads + Wait + Clock + Sync,
     I: Read + Drop,
@@ -160,23 +196,32 @@ pub(crate) fn check<
     answer: &mut W,
     faults: &mut E,
     screen: Screen,
-) -> u8 {
+) -> CheckEnd {
     if shown.verbose {
         note_check(faults, file, path);
     }
     let mut standard = Some(standard);
     let formula = match open_input(rt, file, &mut standard) {
         Ok(formula) => formula,
-        Err(error) => return print_not_opened(faults, file, error, shown.verbose),
+        Err(error) => {
+            print_not_opened(faults, file, error, shown.verbose);
+            return CheckEnd::Fault;
+        }
     };
     let proof = match open_input(rt, path, &mut standard) {
         Ok(proof) => proof,
-        Err(error) => return print_not_opened(faults, path, error, shown.verbose),
+        Err(error) => {
+            print_not_opened(faults, path, error, shown.verbose);
+            return CheckEnd::Fault;
+        }
     };
     let formula = Opened {
         path: file,
         file: formula,
     };
+    let size = size_of(&proof);
     let proof = Opened { path, file: proof };
-    check_files(rt, alloc, formula, proof, shown, answer, faults, screen)
+    check_files(
+        rt, alloc, formula, proof, size, shown, answer, faults, screen,
+    )
 }

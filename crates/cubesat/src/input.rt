@@ -1,7 +1,7 @@
 //! What a command reads: a file, or standard input.
 ghost use Rattle.cubesat.specs.Inputs.{input_remaining};
 
-use std::fs::Files;
+use std::fs::{Files, OpenFile};
 use std::io::Read;
 use std::{fs, io};
 
@@ -38,6 +38,17 @@ pub(crate) fn open_input<R: Files, I>(
         }
     }
     Ok(Input::File(fs::open(rt, name)?))
+}
+
+/// How many bytes an input has, where that is known: of a regular file.
+pub(crate) fn size_of<F: OpenFile, I>(input: &Input<F, I>) -> Option<u64> {
+    match input {
+        Input::File(file) => match file.metadata() {
+            Ok(there) if there.is_file() => Some(there.len()),
+            _ => None,
+        },
+        Input::Standard(_) => None,
+    }
 }
 
 /// What a file is called in a note.

@@ -11,6 +11,8 @@ mod fault;
 mod fault_lines;
 mod input;
 mod laws;
+mod limit;
+mod limited;
 mod notes;
 mod output;
 mod placed_proof;
@@ -32,6 +34,8 @@ pub use explanations::explanation;
 pub use fault::RunFault;
 pub use fault_lines::Screen;
 pub use laws::runs_write_the_same;
+pub use limit::Limit;
+pub use limited::run_limited;
 pub use program::{command, command_on, command_with_input};
 pub use runs::{run_one, run_one_by_plan};
 pub use statistics::{

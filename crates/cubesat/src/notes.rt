@@ -23,6 +23,9 @@ pub(crate) fn note_solve<E: Write>(out: &mut E, effort: &Effort, file: &str, pro
         out,
         "c solving it by the {search} search, hands {hands}, budget {budget} conflicts"
     );
+    if let Some(seconds) = effort.seconds {
+        let _ = writeln!(out, "c for {seconds} seconds at most");
+    }
     match proof {
         Some(path) => note(out, "writing the proof to", path),
         None => note(out, "writing", "no proof"),

@@ -66,8 +66,9 @@ fn plan_of(search: Search, budget: u32) -> Plan
 /// Does all that the program does for a command line, of which the first word is the program's
 /// name: reads and writes its files, reads `input` where the line has `-` for one, writes the
 /// answer to `answer`, faults and what is shown of the run to `faults`, and answers the exit
-/// status: 10 satisfiable, 20 unsatisfiable, 0 for help, for an explanation and for a proof that is
-/// accepted, 1 for one that is refused, on a fault or a wrong command line. A failed write to
+/// status: 10 satisfiable, 20 unsatisfiable, 0 for a formula that isn't decided in time, for a
+/// proof that is accepted, for help and for an explanation, 1 for a proof that is refused, on a
+/// fault or a wrong command line. A failed write to
 /// `faults` changes nothing else. `screen` says where `faults` leads.
 pub fn command_with_input<
     R: Files + Threads + Wait + Clock + Sync,
@@ -89,13 +90,18 @@ pub fn command_with_input<
                 search,
                 budget,
                 hands,
+                seconds,
                 proof,
                 file,
                 shown,
             },
         ) => {
             let plan = plan_of(search, budget);
-            let effort = Effort { plan, hands };
+            let effort = Effort {
+                plan,
+                hands,
+                seconds,
+            };
             solve(
                 rt, alloc, effort, proof, file, input, shown, answer, faults, screen,
             )
@@ -104,11 +110,15 @@ pub fn command_with_input<
             Request::Check {
                 formula,
                 proof,
+                distinct_status,
                 shown,
             },
-        ) => check(
-            rt, alloc, formula, proof, input, shown, answer, faults, screen,
-        ),
+        ) => {
+            let end = check(
+                rt, alloc, formula, proof, input, shown, answer, faults, screen,
+            );
+            end.status(distinct_status)
+        }
         Ok(Request::Explain { number, behind }) => explain(number, behind, answer, faults),
         Err(error) if error.kind() == ErrorKind::OutOfMemory => {
             print_fault(faults, RunFault::NoMemory);

@@ -5,9 +5,10 @@ use crate::fault_lines::{
     FAILED, Screen, print_fault_of, print_no_memory, print_not_created, print_not_opened,
 };
 use crate::input::open_input;
+use crate::limit::TimeLimit;
+use crate::limited::run_limited;
 use crate::notes::{note_files, note_number, note_solve};
 use crate::placed_proof::{NotBegun, begin_proof};
-use crate::threaded::run_by_plan;
 use crate::verdict::Verdict;
 use crate::watched::{Effort, run_counted};
 use crate::worded::{Known, Opened};
@@ -29,6 +30,9 @@ const SATISFIABLE: u8 = 10;
 
 /// The status of an unsatisfiable formula.
 const UNSATISFIABLE: u8 = 20;
+
+/// The status of a formula that isn't decided within the limit of time.
+const UNKNOWN: u8 = 0;
 
 /// What stands for the proof's path where no proof is asked for.
 const NO_PATH: &str = "not written";
@@ -77,7 +81,7 @@ fn run_beside<
     proof: &mut P,
     faults: &mut E,
     showing: Showing,
-) -> Result<Verdict, RunFault> {
+) -> Result<Option<Verdict>, RunFault> {
     let (_, result) = thread::join(
         rt,
         || show_progress(rt, board, faults, showing),
@@ -86,7 +90,7 @@ fn run_beside<
     result
 }
 
-/// A run with what is shown of it. It writes what `run_by_plan` writes.
+/// A run with what is shown of it. It writes what `run_limited` writes.
 fn run_shown<
     R: Files + Threads + Wait + Clock + Sync,
     I: Read + Drop,
@@ -103,7 +107,7 @@ fn run_shown<
     stats: bool,
     faults: &mut E,
     showing: Showing,
-) -> Result<Verdict, RunFault> {
+) -> Result<Option<Verdict>, RunFault> {
     let board = Board::of_search(rt, effort.plan.search());
     let hands = effort.hands;
     let result = if showing.is_any() {
@@ -121,7 +125,7 @@ fn run_shown<
 }
 
 /// A run whose proof goes to this writer, with what is to be shown of it. It writes what
-/// `run_by_plan` writes.
+/// `run_limited` writes.
 fn run_opened<
     R: Files + Threads + Wait + Clock + Sync,
     I: Read + Drop,
@@ -138,7 +142,7 @@ fn run_opened<
     shown: Shown,
     faults: &mut E,
     screen: Screen,
-) -> Result<Verdict, RunFault> {
+) -> Result<Option<Verdict>, RunFault> {
     let showing = showing_of(shown, effort.plan, screen);
     if shown.stats || showing.is_any() {
         let stats = shown.stats;
@@ -147,7 +151,10 @@ fn run_opened<
         );
     }
     let (plan, hands) = (effort.plan, effort.hands);
-    run_by_plan(rt, alloc, input, answer, proof, plan, hands, &OpenGate)
+    let limit = TimeLimit::begin(rt, effort.seconds);
+    run_limited(
+        rt, alloc, input, answer, proof, plan, hands, &OpenGate, &limit,
+    )
 }
 
 /// Decides the formula that is open, with its proof written to what is open, and says what happened
@@ -184,8 +191,9 @@ fn solve_opened<
         screen,
     );
     match result {
-        Ok(Verdict::Satisfiable) => SATISFIABLE,
-        Ok(Verdict::Unsatisfiable) => UNSATISFIABLE,
+        Ok(Some(Verdict::Satisfiable)) => SATISFIABLE,
+        Ok(Some(Verdict::Unsatisfiable)) => UNSATISFIABLE,
+        Ok(None) => UNKNOWN,
         Err(fault) => {
             let known = Known {
                 formula: formula.path,

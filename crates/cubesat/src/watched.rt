@@ -1,16 +1,14 @@
-//! Runs that are watched: they write what `run_by_plan` and `check_run` write.
-ghost use Rattle.std.specs.Prelude.{◌≤◌, IfOk};
-ghost use Rattle.cubesat.specs.Answer.{IsRightAnswer};
-ghost use Rattle.cubesat.specs.Check.{CheckSays};
-ghost use Rattle.cubesat.specs.Run.{RunSays};
+//! Runs that are watched: they write what `run_limited` and `check_run` write.
+ghost use Rattle.std.specs.Prelude.{◌≤◌};
 
 use crate::check::check_run;
 use crate::checked_line::Checked;
 use crate::fault::RunFault;
-use crate::threaded::run_observed;
+use crate::limit::TimeLimit;
+use crate::limited::run_limited_observed;
 use crate::verdict::Verdict;
 use cdcl::Plan;
-use statistics::{AnswerWriter, Board, CountedReader, CountedWriter, Watch};
+use statistics::{AnswerWriter, Board, CountedReader, CountedWriter, TextWatch, Watch};
 use std::alloc::Global;
 use std::fs::Files;
 use std::io::{Read, Write};
@@ -23,6 +21,8 @@ use std::time::Clock;
 pub(crate) struct Effort {
     pub(crate) plan: Plan,
     pub(crate) hands: usize,
+    /// After how many seconds a run ends without a verdict, if it isn't solved by then.
+    pub(crate) seconds: Option<u32>,
     ghost hands_fit: { (1 ≤ hands) × (hands ≤ 16) },
 }
 
@@ -40,10 +40,8 @@ pub(crate) fn run_counted<
     input: I,
     answer: &mut W,
     proof: &mut P,
-) -> Result<Verdict, RunFault>
-    ensures says { RunSays (I.remaining input) effort.plan (P.contents proof.old) (P.contents proof.new) (W.contents answer.old) (W.contents answer.new) result }
-    ensures answer_is_right { IfOk result (IsRightAnswer effort.plan.search (I.remaining input) (P.contents proof.old) (P.contents proof.new) (W.contents answer.old) (W.contents answer.new)) }
-{
+) -> Result<Option<Verdict>, RunFault> {
+    let limit = TimeLimit::begin(rt, effort.seconds);
     let watch = Watch { rt, board };
     let mut counted = CountedWriter {
         inner: proof,
@@ -53,7 +51,7 @@ pub(crate) fn run_counted<
         inner: answer,
         counter: &watch,
     };
-    let result = run_observed(
+    let result = run_limited_observed(
         rt,
         alloc,
         input,
@@ -62,6 +60,7 @@ pub(crate) fn run_counted<
         effort.plan,
         effort.hands,
         &watch,
+        &limit,
         &watch,
     );
     board.end_progress(rt);
@@ -69,17 +68,20 @@ pub(crate) fn run_counted<
 }
 
 /// A check that is counted on a board, and then ends the showing of progress.
-pub(crate) fn check_counted<R: Wait + Clock, F: Read + Drop, P: Read + Drop, W: Write>(
+pub(crate) fn check_counted<R: Files + Wait + Clock, F: Read + Drop, P: Read + Drop, W: Write>(
     rt: &R,
     alloc: Global,
     board: &Board,
     formula: F,
     proof: P,
     answer: &mut W,
-) -> Result<Checked, RunFault>
-    ensures { CheckSays (F.remaining formula) (P.remaining proof) (W.contents answer.old) (W.contents answer.new) result }
-{
+) -> Result<Checked, RunFault> {
     let watch = Watch { rt, board };
+    let text_watch = TextWatch { rt, board };
+    let text = CountedReader {
+        inner: formula,
+        counter: &text_watch,
+    };
     let counted = CountedReader {
         inner: proof,
         counter: &watch,
@@ -88,7 +90,8 @@ pub(crate) fn check_counted<R: Wait + Clock, F: Read + Drop, P: Read + Drop, W: 
         inner: answer,
         counter: &watch,
     };
-    let result = check_run(alloc, formula, counted, &mut answering);
+    let result = check_run(alloc, text, counted, &mut answering);
+    watch.checked();
     board.end_progress(rt);
     result
 }

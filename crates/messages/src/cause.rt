@@ -37,12 +37,17 @@ fn words_of_reading(kind: ErrorKind) -> Option<&'static str> {
     }
 }
 
+/// Only the part in which a proof is written is made anew, and a file there would be replaced.
+const TAKEN_PART: &str =
+    "the name of its part, with .part behind, is taken by something other than a file";
+
 /// The words for a file that is created or written.
 fn words_of_writing(kind: ErrorKind) -> Option<&'static str> {
     match kind {
         ErrorKind::NotFound => Some("its folder doesn't exist"),
         ErrorKind::PermissionDenied => Some("no permission to write it"),
         ErrorKind::IsADirectory => Some("it is a folder"),
+        ErrorKind::AlreadyExists => Some(TAKEN_PART),
         _ => words_of_any(kind),
     }
 }

@@ -35,7 +35,11 @@ static READ: [(ErrorKind, &str); 8] = [
 ];
 
 /// The same of a file that is created.
-static CREATED: [(ErrorKind, &str); 7] = [
+static CREATED: [(ErrorKind, &str); 8] = [
+    (
+        ErrorKind::AlreadyExists,
+        "c p.lrat: can't be created: the name of its part, with .part behind, is taken by something other than a file\n",
+    ),
     (
         ErrorKind::NotFound,
         "c p.lrat: can't be created: its folder doesn't exist\n",

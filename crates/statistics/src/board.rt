@@ -30,6 +30,13 @@ impl Board {
         Board::of(rt, figures)
     }
 
+    /// A check begins, of a proof of so many bytes, if that is known.
+    pub fn of_proof<R: Clock>(rt: &R, size: Option<u64>) -> Board {
+        let mut figures = Figures::none(Stage::Checking);
+        figures.whole = size;
+        Board::of(rt, figures)
+    }
+
     fn of<R: Clock>(rt: &R, figures: Figures) -> Board {
         Board {
             figures: Mutex::new(figures),

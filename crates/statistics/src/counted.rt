@@ -5,14 +5,14 @@ use std::io::{Read, Write};
 
 /// Told of what a reader gave or a writer took.
 pub trait Counter {
-    /// A piece of the proof was read or written.
+    /// A piece of a text was read or written.
     fn went_by(&self, piece: &[u8]);
 
     /// A piece of the answer is about to be written.
     fn answer_begins(&self);
 }
 
-/// Reads a proof from another reader.
+/// Reads a text from another reader.
 #[derive(Drop)]
 pub struct CountedReader<'a, I, C> {
     pub inner: I,

@@ -105,11 +105,16 @@ pub struct Figures {
     /// What the hands' solvers have done.
     pub counts: SearchCounts,
     pub(crate) tree: Option<TreeSize>,
+    /// The formula's text, as far as `check` has read it.
+    pub(crate) text: TextSize,
     pub(crate) proof: TextSize,
+    /// How many bytes the proof that is checked has, if that is known.
+    pub whole: Option<u64>,
     pub(crate) read: Option<StageEnd>,
     pub(crate) solved: Option<StageEnd>,
     pub(crate) joined: Option<StageEnd>,
     pub(crate) written: Option<StageEnd>,
+    pub(crate) checked: Option<StageEnd>,
 }
 
 impl Figures {
@@ -124,11 +129,14 @@ impl Figures {
             cubes: CubeCounts::none(),
             counts: SearchCounts::none(),
             tree: None,
+            text: TextSize::none(),
             proof: TextSize::none(),
+            whole: None,
             read: None,
             solved: None,
             joined: None,
             written: None,
+            checked: None,
         }
     }
 
@@ -151,6 +159,11 @@ impl Figures {
             Some(end) => end.at,
             None => 0,
         }
+    }
+
+    /// A piece of the formula's text goes by.
+    pub(crate) fn add_text(&mut self, piece: TextSize) {
+        self.text.add(piece);
     }
 
     /// A piece of the proof goes by.
@@ -181,6 +194,18 @@ impl Figures {
     /// The proof is written.
     pub fn end_writing(&mut self, end: StageEnd) {
         self.written = Some(end);
+    }
+
+    /// The proof is checked.
+    pub(crate) fn end_checking(&mut self, end: StageEnd) {
+        self.checked = Some(end);
+    }
+
+    /// How much of the proof has gone by, in hundredths, where its size is known.
+    pub(crate) fn proof_share(&self) -> Option<u64> {
+        let whole = self.whole?;
+        let read = (self.proof.bytes as u64).saturating_mul(100);
+        Some(read.checked_div(whole)?.min(100))
     }
 
     pub(crate) fn end_progress(&mut self) {

@@ -20,5 +20,5 @@ pub use figures::{Figures, FormulaSize, Stage, StageEnd, TextSize, TreeSize};
 pub use observer::{Observer, Unobserved};
 pub use progress::{Manner, Showing, print_line, show_progress};
 pub use search_counts::SearchCounts;
-pub use statistics::print_statistics;
-pub use watch::Watch;
+pub use statistics::{print_check_statistics, print_statistics};
+pub use watch::{TextWatch, Watch};

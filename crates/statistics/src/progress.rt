@@ -122,7 +122,13 @@ fn print_line_at<E: Write>(out: &mut E, manner: Manner, now: u64, figures: &Figu
         }
         Stage::Checking => {
             let proof = figures.proof;
-            write!(out, "{start}c {seconds} s: {proof} of the proof read{end}")
+            match figures.proof_share() {
+                Some(share) => write!(
+                    out,
+                    "{start}c {seconds} s: {proof} of the proof read, {share} %{end}"
+                ),
+                None => write!(out, "{start}c {seconds} s: {proof} of the proof read{end}"),
+            }
         }
     };
 }

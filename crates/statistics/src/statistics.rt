@@ -102,3 +102,10 @@ pub fn print_statistics<E: Write>(out: &mut E, figures: &Figures, hands: usize) 
     print_stages(out, figures);
     print_speed(out, figures);
 }
+
+/// Prints what was counted in a check. A failed write changes nothing.
+pub fn print_check_statistics<E: Write>(out: &mut E, figures: &Figures) {
+    let (text, proof) = (figures.text, figures.proof);
+    let _ = writeln!(out, "c formula: {text}\nc proof: {proof}");
+    print_stage(out, "checking", 0, figures.checked);
+}

@@ -42,6 +42,30 @@ impl<R: Wait + Clock> Counter for Watch<'_, R> {
     }
 }
 
+impl<R: Files + Wait + Clock> Watch<'_, R> {
+    /// A check has ended.
+    pub fn checked(&self) {
+        let end = self.stage_end();
+        self.board.figures().lock(self.rt).end_checking(end);
+    }
+}
+
+/// Counts the text of a formula that goes by on a board.
+#[derive(Drop)]
+pub struct TextWatch<'a, R> {
+    pub rt: &'a R,
+    pub board: &'a Board,
+}
+
+impl<R: Wait> Counter for TextWatch<'_, R> {
+    fn went_by(&self, piece: &[u8]) {
+        let size = TextSize::of(piece);
+        self.board.figures().lock(self.rt).add_text(size);
+    }
+
+    fn answer_begins(&self) {}
+}
+
 impl<R: Wait> Gate for Watch<'_, R> {
     fn before(&self, hand: usize, cube: &Cube) {
         let depth = cube.lits().len();

@@ -1,0 +1,31 @@
+-- What a run with a limit has read and written.
+use Rattle.std.specs.Prelude.{◌≡◌, ℕ, List, Option, Some, None, take, codes, Result, Ok, Err, ◌⊎◌}
+use Rattle.std.specs.Io.KnownBytes.{Appends, Keeps}
+use Rattle.theory.specs.Plans.{Plan}
+use Rattle.cubesat.specs.Run.{RunSays}
+use Rattle.cubesat.specs.declared.fault.RunFault.{RunFault}
+use Rattle.cubesat.specs.declared.fault.RunFault.TheVariants.{Read, NoMemory, ProofWriteFailed, AnswerWriteFailed, ProofReadFailed}
+use Rattle.cubesat.specs.declared.verdict.Verdict.{Verdict}
+
+-- the answer without a verdict
+abbrev pub unknown_text : List ℕ
+unknown_text = codes "s UNKNOWN\n"
+
+-- a beginning of it is written
+abbrev pub BeginsUnknown : Option (List ℕ) → Option (List ℕ) → Type 0
+BeginsUnknown a b = (count : ℕ) × Appends a b (take count unknown_text)
+
+-- what a run that wasn't solved answers, and leaves in the answer's writer
+abbrev pub EndsUnsolved : Type 0 → Option (List ℕ) → Option (List ℕ) → Result (Option Verdict) RunFault → Type 0
+EndsUnsolved reached a b (Ok None) = reached × Appends a b unknown_text
+EndsUnsolved reached a b (Err NoMemory) = Keeps a b
+EndsUnsolved reached a b (Err AnswerWriteFailed) = reached × BeginsUnknown a b
+EndsUnsolved reached a b r = ⊥
+
+-- what a run with a limit answers: what a run does, or, where the limit is reached and nothing is
+-- written, that the answer is unknown
+abbrev pub LimitedRunSays : Type 0 → Option (List ℕ) → Plan → Option (List ℕ) → Option (List ℕ) → Option (List ℕ) → Option (List ℕ) → Result (Option Verdict) RunFault → Type 0
+LimitedRunSays reached known plan p q a b (Ok (Some verdict)) = RunSays known plan p q a b (Ok verdict)
+LimitedRunSays reached known plan p q a b (Ok None) = reached × Keeps p q × Appends a b unknown_text
+LimitedRunSays reached known plan p q a b (Err AnswerWriteFailed) = RunSays known plan p q a b (Err AnswerWriteFailed) ⊎ (reached × Keeps p q × BeginsUnknown a b)
+LimitedRunSays reached known plan p q a b (Err fault) = RunSays known plan p q a b (Err fault)

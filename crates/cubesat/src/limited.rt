@@ -1,0 +1,104 @@
+//! A run that ends where a limit is reached.
+ghost use Rattle.std.specs.Prelude.{◌≡◌, ◌≤◌, IfOk, IfSome};
+ghost use Rattle.cubesat.specs.Answer.{IsRightAnswer};
+ghost use Rattle.cubesat.specs.Limited.{EndsUnsolved, LimitedRunSays};
+
+use crate::fault::RunFault;
+use crate::limit::{Limit, LimitedGate};
+use crate::output::write_text;
+use crate::threaded::run_observed;
+use crate::verdict::Verdict;
+use cdcl::Plan;
+use cubes::Gate;
+use statistics::{Observer, Unobserved};
+use std::alloc::Global;
+use std::io::{Read, Write};
+use std::sync::Wait;
+use std::thread::Threads;
+use std::time::Clock;
+
+/// What a run answers that wasn't solved: where the limit is reached, it writes that the answer is
+/// unknown, and else memory was refused.
+fn end_unsolved<W: Write, L: Limit>(answer: &mut W, limit: &L) -> Result<Option<Verdict>, RunFault>
+    ensures { EndsUnsolved (L.is_reached limit.now) (W.contents answer.old) (W.contents answer.new) result }
+{
+    if !limit.reached() {
+        return Err(RunFault::NoMemory);
+    }
+    write_text(answer, b"s UNKNOWN\n", RunFault::AnswerWriteFailed)?;
+    Ok(None)
+}
+
+/// `run_limited`, whose stages an observer is told of.
+pub(crate) fn run_limited_observed<
+    T: Threads + Wait + Clock + Sync,
+    R: Read + Drop,
+    W: Write,
+    P: Write,
+    G: Gate + Sync,
+    L: Limit + Sync,
+    O: Observer,
+>(
+    rt: &T,
+    alloc: Global,
+    input: R,
+    answer: &mut W,
+    proof: &mut P,
+    plan: Plan,
+    hands: usize,
+    gate: &G,
+    limit: &L,
+    observer: &O,
+) -> Result<Option<Verdict>, RunFault>
+    requires hands { (1 ≤ hands) × (hands ≤ 16) }
+    ensures says { LimitedRunSays (L.is_reached limit.now) (R.remaining input) plan (P.contents proof.old) (P.contents proof.new) (W.contents answer.old) (W.contents answer.new) result }
+    ensures answer_is_right { IfOk result (λ v. IfSome v (IsRightAnswer plan.search (R.remaining input) (P.contents proof.old) (P.contents proof.new) (W.contents answer.old) (W.contents answer.new))) }
+{
+    let gate = LimitedGate { gate, limit };
+    match run_observed(
+        rt, alloc, input, answer, proof, plan, hands, &gate, observer,
+    ) {
+        Ok(verdict) => Ok(Some(verdict)),
+        Err(RunFault::NoMemory) => end_unsolved(answer, limit),
+        Err(fault) => Err(fault),
+    }
+}
+
+/// What `run_by_plan` does, unless the limit is reached before the formula is solved: then it
+/// writes `s UNKNOWN` as the answer and no proof, and there is no verdict. Where the limit isn't
+/// reached, it writes the same bytes as without one.
+pub fn run_limited<
+    T: Threads + Wait + Clock + Sync,
+    R: Read + Drop,
+    W: Write,
+    P: Write,
+    G: Gate + Sync,
+    L: Limit + Sync,
+>(
+    rt: &T,
+    alloc: Global,
+    input: R,
+    answer: &mut W,
+    proof: &mut P,
+    plan: Plan,
+    hands: usize,
+    gate: &G,
+    limit: &L,
+) -> Result<Option<Verdict>, RunFault>
+    requires hands { (1 ≤ hands) × (hands ≤ 16) }
+    ensures says { LimitedRunSays (L.is_reached limit.now) (R.remaining input) plan (P.contents proof.old) (P.contents proof.new) (W.contents answer.old) (W.contents answer.new) result }
+    ensures answer_is_right { IfOk result (λ v. IfSome v (IsRightAnswer plan.search (R.remaining input) (P.contents proof.old) (P.contents proof.new) (W.contents answer.old) (W.contents answer.new))) }
+{
+    run_limited_observed(
+        rt,
+        alloc,
+        input,
+        answer,
+        proof,
+        plan,
+        hands,
+        gate,
+        limit,
+        &Unobserved,
+    )
+}
