@@ -24,6 +24,7 @@ mod saved;
 mod searcher;
 mod seen;
 mod solver;
+mod unkept;
 mod values;
 
 pub use analysis::{Learnt, analyze};
@@ -34,3 +35,4 @@ pub use outcome::{Line, Outcome, Refutation};
 pub use packing::KeepsLines;
 pub use plan::{Plan, Search};
 pub use solver::{Solver, solve_cube, solve_cube_by_plan};
+pub use unkept::Unkept;

@@ -12,8 +12,10 @@ use Rattle.theory.proofs.literals.Membership.{Contains-none, slice_get-map, slic
 use Rattle.theory.proofs.hands.Joining.{IsTruthful-joined, IsThorough-joined}
 use Rattle.pool.specs.Hands.{HandView, SameHand}
 use Rattle.pool.specs.Pools.{PoolView, AreNew, AreAllOf, IsHandOf, new_ledger, new_hand, roots_of}
-use Rattle.cubes.specs.Solved.{solved_of}
-use Rattle.cubes.specs.Shares.{LinesWorked, AreNumbered, HasDone}
+use Rattle.theory.specs.Learning.{Line}
+use Rattle.cubes.specs.declared.hands.Worked.{Worked}
+use Rattle.cubes.specs.Solved.{results_by}
+use Rattle.cubes.specs.Shares.{AreNumbered, HasDone, HaveDone}
 
 none-got : (n : ℕ) → all_got (new_ledger n) ≡ []
 none-got zero = refl
@@ -56,16 +58,22 @@ get-mapped f [] k x h = absurd (cc)
 get-mapped f (y ∷ xs) zero x h = let e : y ≡ x = cc in ap (λ a. Some (f a)) e
 get-mapped f (y ∷ xs) (suc k) x h = get-mapped f xs k x h
 
-module _ (F : Formula) (plan : Plan) (pool : PoolView) (hands : List HandView) (works : List LinesWorked) (new : AreNew pool F.vars hands) (long : length works ≡ length hands)
-    (each : (i : ℕ) (d : HandView) (e : LinesWorked) → i < length hands → HasDone F plan (slice_index_or hands i d) (slice_index_or works i e)) where
+-- new hands are over the pool's variables
+pub new-vars : (vars : ℕ) (pool : PoolView) (hands : List HandView) → AreNew pool vars hands → All (λ h. h.vars ≡ vars) hands
+new-vars vars pool hands new k d less =
+    let there = slice_get-below hands k less in
+    ap (λ (h : HandView). h.vars) ((get-some hands k there.0 there.1).1 d ∙ new.each k there.0 there.1)
+
+-- where refuted cubes keep what has these lines
+module _ {L : Type 0} (lines : L → List Line) (F : Formula) (plan : Plan) (pool : PoolView) (hands : List HandView) (works : List (Worked L)) (new : AreNew pool F.vars hands) (long : length works ≡ length hands) (each : HaveDone lines F plan hands works) where
   -- the hand at a place did its work, from what it was as the pool was opened
-  at_place : (place : ℕ) (d : HandView) (e : LinesWorked) → place < length works → (slice_index_or hands place d ≡ new_hand pool F.vars new.deques place) × HasDone F plan (slice_index_or hands place d) (slice_index_or works place e)
+  at_place : (place : ℕ) (d : HandView) (e : Worked L) → place < length works → (slice_index_or hands place d ≡ new_hand pool F.vars new.deques place) × HasDone lines F plan (slice_index_or hands place d) (slice_index_or works place e)
   at_place place d e less =
       let within : place < length hands = omega arith in
       let there = slice_get-below hands place within in
       ((get-some hands place there.0 there.1).1 d ∙ new.each place there.0 there.1, each place d e within)
 
-  at_work : (place : ℕ) (w : LinesWorked) → slice_get works place ≡ Some w → SameHand (new_hand pool F.vars new.deques place) w.hand
+  at_work : (place : ℕ) (w : Worked L) → slice_get works place ≡ Some w → SameHand (new_hand pool F.vars new.deques place) w.hand
   at_work place w h =
       let here = get-some works place w h in
       let at = at_place place w.hand w here.0 in
@@ -74,25 +82,25 @@ module _ (F : Formula) (plan : Plan) (pool : PoolView) (hands : List HandView) (
   pub home-in_order : AreNumbered works
   home-in_order place w h = (at_work place w h).0
 
-  pub home-all : AreAllOf pool (map (λ (w : LinesWorked). w.hand) works)
+  pub home-all : AreAllOf pool (map (λ (w : Worked L). w.hand) works)
   home-all = record {
     deques = new.deques;
-    of_pool = λ place h e. of place h (slice_get-map (λ (w : LinesWorked). w.hand) works place h e);
-    as_many = length-map works (λ (w : LinesWorked). w.hand) ∙ (long ∙ new.as_many);
+    of_pool = λ place h e. of place h (slice_get-map (λ (w : Worked L). w.hand) works place h e);
+    as_many = length-map works (λ (w : Worked L). w.hand) ∙ (long ∙ new.as_many);
     each_number = λ number less. named number (slice_get-below works number (let many = new.as_many in omega arith));
   }
     where
-      of : (place : ℕ) (h : HandView) → (w : LinesWorked) × (slice_get works place ≡ Some w) × (w.hand ≡ h) → IsHandOf pool new.deques h
+      of : (place : ℕ) (h : HandView) → (w : Worked L) × (slice_get works place ≡ Some w) × (w.hand ≡ h) → IsHandOf pool new.deques h
       of place h w =
           let same = at_work place w.0 w.1 in
           subst (IsHandOf pool new.deques) w.2 (same.1, same.4, same.3, same.5 ∙ ap (roots_of pool.root) (sym same.0))
 
-      named : (number : ℕ) → (w : LinesWorked) × (slice_get works number ≡ Some w)
-          → (place : ℕ) × (h : HandView) × (slice_get (map (λ (v : LinesWorked). v.hand) works) place ≡ Some h) × (h.number ≡ number)
-      named number w = (number, w.0.hand, get-mapped (λ (v : LinesWorked). v.hand) works number w.0 w.1, (at_work number w.0 w.1).0)
+      named : (number : ℕ) → (w : Worked L) × (slice_get works number ≡ Some w)
+          → (place : ℕ) × (h : HandView) × (slice_get (map (λ (v : Worked L). v.hand) works) place ≡ Some h) × (h.number ≡ number)
+      named number w = (number, w.0.hand, get-mapped (λ (v : Worked L). v.hand) works number w.0 w.1, (at_work number w.0 w.1).0)
 
-  pub home-works : All (λ w. IsWork F plan w.short_of_memory w.hand.ledger (map solved_of w.solved.items)) works
+  pub home-works : All (λ w. IsWork F plan w.short_of_memory w.hand.ledger (results_by lines w.solved.items)) works
   home-works k d less =
       let at = at_place k (slice_index_or works k d).hand d less in
       fresh-work F plan pool.hands (slice_index_or works k d).short_of_memory (slice_index_or hands k (slice_index_or works k d).hand).ledger (slice_index_or works k d).hand.ledger
-      (map solved_of (slice_index_or works k d).solved.items) (ap (λ (h : HandView). h.ledger) at.0) at.1.1
+      (results_by lines (slice_index_or works k d).solved.items) (ap (λ (h : HandView). h.ledger) at.0) at.1.1

@@ -12,12 +12,14 @@ use Rattle.std.proofs.lemmas.List.Elements.{All-head, All-tail, Contains-append_
 use Rattle.theory.specs.Literals.{Literal}
 use Rattle.theory.specs.Truth.{Formula}
 use Rattle.theory.specs.Plans.{Plan}
+use Rattle.theory.specs.Learning.{Line}
 use Rattle.theory.specs.Search as search
 use Rattle.theory.specs.Results.{done, skipped, Solved, IsTrueOf}
 use Rattle.cnf.specs.Lits.{literal_of, number_of, signed}
 use Rattle.cnf.specs.contracts.lit.LitPartialEq.TheImpl.{ghosts}
 use Rattle.trail.specs.Cubes.{AreOfVariables}
-use Rattle.cdcl.specs.Outcome.{LinesOutcome, outcome_of}
+use Rattle.cdcl.specs.Outcome.{outcome_by}
+use Rattle.cdcl.specs.declared.outcome.Outcome.{Outcome}
 use Rattle.cubes.specs.declared.known.Known.{Known}
 use Rattle.cubes.specs.Known.{AreKnown, AreOutcomes, known_of}
 
@@ -61,10 +63,10 @@ keys-same (k ∷ P) (l ∷ Q) p q h =
     ap₂ (λ x xs. x ∷ xs) (eq-same k l (All-head (λ (x : Literal). 1 ≤ x.var) k P p) (All-head (λ (x : Literal). 1 ≤ x.var) l Q q) (first _ _ h)) (keys-same P Q (All-tail (λ (x : Literal). 1 ≤ x.var) k P p) (All-tail (λ (x : Literal). 1 ≤ x.var) l Q q) (second (ghosts.eq k l) (pointwise ghosts.eq P Q) h))
 
 -- what changes at one cube leaves the others
-pub known-others : (P Q : List Literal) (k n : Known) → AreOfVariables P → AreOfVariables Q → Q ≢ P
+pub known-others : {L : Type 0} (P Q : List Literal) (k n : Known L) → AreOfVariables P → AreOfVariables Q → Q ≢ P
     → KeepsOthers (λ x y. pointwise ghosts.eq x.items y.items) (λ key. pointwise ghosts.eq P key.items) k.outcomes.entries n.outcomes.entries → known_of n Q ≡ known_of k Q
 unfolding KeepsOthers
-known-others P Q k n p q other keeps = keeps (λ key. pointwise ghosts.eq Q key.items) (λ x y h. keys-equiv.congr Q x.items y.items h) (λ key h. go key.items (pointwise ghosts.eq Q key.items) refl h)
+known-others {L} P Q k n p q other keeps = keeps (λ key. pointwise ghosts.eq Q key.items) (λ x y h. keys-equiv.congr Q x.items y.items h) (λ key h. go key.items (pointwise ghosts.eq Q key.items) refl h)
   where
     go : (R : List Literal) (b : Bool) → pointwise ghosts.eq Q R ≡ b → pointwise ghosts.eq P R ≡ true → pointwise ghosts.eq Q R ≡ false
     go R true e h = absurd (other (keys-same Q P q p (keys-equiv.congr Q R P e ∙ (keys-equiv.symm R P ∙ h))))
@@ -77,9 +79,9 @@ same_or_not P Q p q = go (pointwise ghosts.eq Q P) refl
     go true e = inl (keys-same Q P q p e)
     go false e = inr (λ s. let own : pointwise ghosts.eq P P ≡ true = keys-equiv.refl P in let here : pointwise ghosts.eq P P ≡ false = rw s at e in cc)
 
-module _ (rs : List Solved) (k n : Known) (P : List Literal) (known : AreKnown rs k) where
+module _ {L : Type 0} (lines : L → List Line) (rs : List Solved) (k n : Known L) (P : List Literal) (known : AreKnown lines rs k) where
   -- a result without an outcome
-  pub AreKnown-skipped : (place : ℕ) → AreKnown (rs ++ record { cube = P; what = skipped place } ∷ []) k
+  pub AreKnown-skipped : (place : ℕ) → AreKnown lines (rs ++ record { cube = P; what = skipped place } ∷ []) k
   AreKnown-skipped place = record {
     found = λ Q o q h. Contains-append_left rs _ _ (known.found Q o q h);
     missing = λ Q o q h c. go Q o q h (Contains-push_cases rs _ _ c);
@@ -91,27 +93,27 @@ module _ (rs : List Solved) (k n : Known) (P : List Literal) (known : AreKnown r
       go Q o q h (inr e) = let apart : skipped place ≡ done o = ap (λ (r : Solved). r.what) e in cc
 
   -- one outcome more
-  module _ (o : LinesOutcome) (p : AreOfVariables P) (now : known_of n P ≡ Some o) (others : (Q : List Literal) → AreOfVariables Q → Q ≢ P → known_of n Q ≡ known_of k Q) where
-    pub AreKnown-done : AreKnown (rs ++ record { cube = P; what = done (outcome_of o) } ∷ []) n
+  module _ (o : Outcome L) (p : AreOfVariables P) (now : known_of n P ≡ Some o) (others : (Q : List Literal) → AreOfVariables Q → Q ≢ P → known_of n Q ≡ known_of k Q) where
+    pub AreKnown-done : AreKnown lines (rs ++ record { cube = P; what = done (outcome_by lines o) } ∷ []) n
     AreKnown-done = record { found = λ Q a q h. find Q a q h (same_or_not P Q p q); missing = λ Q a q h c. lack Q a q h c (same_or_not P Q p q) }
       where
-        find : (Q : List Literal) (a : LinesOutcome) → AreOfVariables Q → known_of n Q ≡ Some a → (Q ≡ P) ⊎ (Q ≢ P)
-            → Contains (rs ++ record { cube = P; what = done (outcome_of o) } ∷ []) (record { cube = Q; what = done (outcome_of a) })
+        find : (Q : List Literal) (a : Outcome L) → AreOfVariables Q → known_of n Q ≡ Some a → (Q ≡ P) ⊎ (Q ≢ P)
+            → Contains (rs ++ record { cube = P; what = done (outcome_by lines o) } ∷ []) (record { cube = Q; what = done (outcome_by lines a) })
         find Q a q h (inl e) =
             let one : o ≡ a = (let two : known_of n P ≡ Some a = rw e at h in cc) in
-            rw (e, ← one) (Contains-push rs (record { cube = P; what = done (outcome_of o) }))
+            rw (e, ← one) (Contains-push rs (record { cube = P; what = done (outcome_by lines o) }))
         find Q a q h (inr other) = Contains-append_left rs _ _ (known.found Q a q (sym (others Q q other) ∙ h))
 
         old : (Q : List Literal) (a : search.Outcome) → AreOfVariables Q → known_of k Q ≡ None → (Q ≢ P)
-            → Contains rs (record { cube = Q; what = done a }) ⊎ ◌≡◌ {A = Solved} (record { cube = P; what = done (outcome_of o) }) (record { cube = Q; what = done a }) → ⊥
+            → Contains rs (record { cube = Q; what = done a }) ⊎ ◌≡◌ {A = Solved} (record { cube = P; what = done (outcome_by lines o) }) (record { cube = Q; what = done a }) → ⊥
         old Q a q h other (inl c) = known.missing Q a q h c
         old Q a q h other (inr e) = other (sym (ap (λ (r : Solved). r.cube) e))
 
-        lack : (Q : List Literal) (a : search.Outcome) → AreOfVariables Q → known_of n Q ≡ None → Contains (rs ++ record { cube = P; what = done (outcome_of o) } ∷ []) (record { cube = Q; what = done a })
+        lack : (Q : List Literal) (a : search.Outcome) → AreOfVariables Q → known_of n Q ≡ None → Contains (rs ++ record { cube = P; what = done (outcome_by lines o) } ∷ []) (record { cube = Q; what = done a })
             → (Q ≡ P) ⊎ (Q ≢ P) → ⊥
         lack Q a q h c (inl e) = let two : known_of n P ≡ None = rw e at h in cc
         lack Q a q h c (inr other) = old Q a q (sym (others Q q other) ∙ h) other (Contains-push_cases rs _ _ c)
 
 -- of true results, what is known is so
-pub AreOutcomes-known : (F : Formula) (plan : Plan) (rs : List Solved) (k : Known) → All (λ r. IsTrueOf F plan r.cube r.what) rs → AreKnown rs k → AreOutcomes F plan k
-AreOutcomes-known F plan rs k all known Q o q h = All-contains (λ (r : Solved). IsTrueOf F plan r.cube r.what) rs (record { cube = Q; what = done (outcome_of o) }) all (known.found Q o q h)
+pub AreOutcomes-known : {L : Type 0} (lines : L → List Line) (F : Formula) (plan : Plan) (rs : List Solved) (k : Known L) → All (λ r. IsTrueOf F plan r.cube r.what) rs → AreKnown lines rs k → AreOutcomes lines F plan k
+AreOutcomes-known lines F plan rs k all known Q o q h = All-contains (λ (r : Solved). IsTrueOf F plan r.cube r.what) rs (record { cube = Q; what = done (outcome_by lines o) }) all (known.found Q o q h)

@@ -6,6 +6,7 @@ use Rattle.std.proofs.lemmas.List.Sums.{sum_by-cons}
 use Rattle.theory.specs.Literals.{Literal, positive, negative}
 use Rattle.theory.specs.Truth.{Formula}
 use Rattle.theory.specs.Plans.{Plan}
+use Rattle.theory.specs.Learning.{Line}
 use Rattle.theory.specs.Search as search
 use Rattle.theory.specs.Runs.{Runs}
 use Rattle.theory.specs.Trees.{false_half}
@@ -13,14 +14,15 @@ use Rattle.theory.specs.Results.{done, Solved, IsWhole}
 use Rattle.theory.proofs.literals.Membership.{Contains-none, Contains-cases}
 use Rattle.theory.proofs.trees.Assemblies.{IsComeTo, IsComeTo-root, IsComeTo-left, IsComeTo-right, IsComeTo-outcome, outcome_in-result}
 use Rattle.trail.specs.Cubes.{AreOfVariables}
-use Rattle.cdcl.specs.Outcome.{LinesOutcome, outcome_of}
+use Rattle.cdcl.specs.Outcome.{outcome_by}
+use Rattle.cdcl.specs.declared.outcome.Outcome.{Outcome}
 use Rattle.cdcl.specs.declared.outcome.Outcome.TheVariants as outcome
 use Rattle.cubes.specs.declared.known.Known.{Known}
+use Rattle.cubes.specs.declared.tree.Tree.{Tree}
 use Rattle.cubes.specs.declared.tree.Tree.TheVariants as tree
 use Rattle.cubes.specs.declared.gathering.Gathering.{Gathering}
 use Rattle.cubes.specs.declared.traversal.Split.{Split}
 use Rattle.cubes.specs.Known.{AreKnown, known_of}
-use Rattle.cubes.specs.Result.{LinesTree}
 use Rattle.cubes.specs.CubeWalks.{IsBelow}
 use Rattle.cubes.specs.Gathering.{GoesOnWith}
 use Rattle.cubes.specs.Traversal.{half, path, beside, behind}
@@ -73,12 +75,12 @@ passed-behind {T} d (s ∷ ss) ts R e h = go s.left e h (λ f p. passed-behind d
       | inr b ↦ inr (positive s.var ∷ b.0, b.1 ∙ append_assoc (path ss) (positive s.var ∷ []) b.0)
     ])
 
-goes_later : (g h : Gathering) (o : LinesOutcome) → GoesOnWith g o None h → (R : List Literal) → IsPassed g.at.walk R ⊎ (R ≡ path g.at.walk) → IsPassed h.at.walk R
-goes_later g h (outcome.Model values) goes R p = absurd (let e : ◌≡◌ {A = Option LinesTree} None (Some (tree.Model values)) = goes in cc)
-goes_later g h (outcome.Exhausted x) goes R (inl p) = rw goes.1.walk (inr (inr p))
-goes_later g h (outcome.Exhausted x) goes R (inr e) = rw goes.1.walk (inl e)
-goes_later g h (outcome.Refuted lines) goes R (inl p) = passed-behind tt g.at.walk h.at.walk R goes.0.0 (inl p)
-goes_later g h (outcome.Refuted lines) goes R (inr e) = passed-behind tt g.at.walk h.at.walk R goes.0.0 (inr ([], e ∙ sym (append-nil (path g.at.walk))))
+goes_later : {L : Type 0} (lines : L → List Line) (g h : Gathering L) (o : Outcome L) → GoesOnWith lines g o None h → (R : List Literal) → IsPassed g.at.walk R ⊎ (R ≡ path g.at.walk) → IsPassed h.at.walk R
+goes_later {L} lines g h (outcome.Model values) goes R p = absurd (let e : ◌≡◌ {A = Option (Tree L)} None (Some (tree.Model values)) = goes in cc)
+goes_later lines g h (outcome.Exhausted x) goes R (inl p) = rw goes.1.walk (inr (inr p))
+goes_later lines g h (outcome.Exhausted x) goes R (inr e) = rw goes.1.walk (inl e)
+goes_later lines g h (outcome.Refuted kept) goes R (inl p) = passed-behind tt g.at.walk h.at.walk R goes.0.0 (inl p)
+goes_later lines g h (outcome.Refuted kept) goes R (inr e) = passed-behind tt g.at.walk h.at.walk R goes.0.0 (inr ([], e ∙ sym (append-nil (path g.at.walk))))
 
 -- a reached cube is one that an assembly comes to
 reached-come : {T : Type 0} (F : Formula) (plan : Plan) (ss : List (Split T)) (rs : List Solved) → IsReached F plan [] ss rs → IsComeTo F plan (path ss)
@@ -89,42 +91,42 @@ reached-come {T} F plan (s ∷ ss) rs h = go s.left h.2.is_left (reached-come F 
     go None l c = IsComeTo-left F plan (path ss) s.var c h.2.runs
     go (Some t) l c = IsComeTo-right F plan (path ss) s.var l.tree c h.2.runs l.of_cube l.none
 
-reached-in : (F : Formula) (plan : Plan) (rs : List Solved) (g : Gathering) → IsWhole F plan rs → IsGathered F plan g → (o : search.Outcome) × Contains rs (record { cube = g.at.cube; what = done o })
-reached-in F plan rs g whole r =
+reached-in : {L : Type 0} (lines : L → List Line) (F : Formula) (plan : Plan) (rs : List Solved) (g : Gathering L) → IsWhole F plan rs → IsGathered lines F plan g → (o : search.Outcome) × Contains rs (record { cube = g.at.cube; what = done o })
+reached-in lines F plan rs g whole r =
     let o = IsComeTo-outcome F plan rs g.at.cube whole (rw r.below (reached-come F plan g.at.walk r.results r.reached)) in
     (o.0, outcome_in-result rs g.at.cube o.0 o.1)
 
 -- the outcomes of the cubes that aren't before this place are still there
-abbrev pub AreStillThere : Known → Known → Gathering → Type 0
+abbrev pub AreStillThere : {L : Type 0} → Known L → Known L → Gathering L → Type 0
 AreStillThere first now g = IsBelow [] g.at × ((R : List Literal) → AreOfVariables R → ¬ (IsPassed g.at.walk R) → known_of now R ≡ known_of first R)
 
-below-on : (g h : Gathering) (o : LinesOutcome) → GoesOnWith g o None h → IsBelow [] g.at → IsBelow [] h.at
-below-on g h (outcome.Model values) goes b = absurd (let e : ◌≡◌ {A = Option LinesTree} None (Some (tree.Model values)) = goes in cc)
-below-on g h (outcome.Exhausted x) goes b = rw goes.1.walk (goes.1.cube ∙ ap (λ Q. false_half Q x) b)
-below-on g h (outcome.Refuted lines) goes b = goes.0.1 [] b
+below-on : {L : Type 0} (lines : L → List Line) (g h : Gathering L) (o : Outcome L) → GoesOnWith lines g o None h → IsBelow [] g.at → IsBelow [] h.at
+below-on {L} lines g h (outcome.Model values) goes b = absurd (let e : ◌≡◌ {A = Option (Tree L)} None (Some (tree.Model values)) = goes in cc)
+below-on lines g h (outcome.Exhausted x) goes b = rw goes.1.walk (goes.1.cube ∙ ap (λ Q. false_half Q x) b)
+below-on lines g h (outcome.Refuted kept) goes b = goes.0.1 [] b
 
-pub AreStillThere-on : (first now later : Known) (g h : Gathering) (o : LinesOutcome) → GoesOnWith g o None h
+pub AreStillThere-on : {L : Type 0} (lines : L → List Line) (first now later : Known L) (g h : Gathering L) (o : Outcome L) → GoesOnWith lines g o None h
     → ((R : List Literal) → AreOfVariables R → R ≢ g.at.cube → known_of later R ≡ known_of now R) → AreStillThere first now g → AreStillThere first later h
-AreStillThere-on first now later g h o goes others still = (
-  below-on g h o goes still.0,
-  λ R named n. others R named (λ e. n (goes_later g h o goes R (inr (e ∙ still.0)))) ∙ still.1 R named (λ p. n (goes_later g h o goes R (inl p))),
+AreStillThere-on lines first now later g h o goes others still = (
+  below-on lines g h o goes still.0,
+  λ R named n. others R named (λ e. n (goes_later lines g h o goes R (inr (e ∙ still.0)))) ∙ still.1 R named (λ p. n (goes_later lines g h o goes R (inl p))),
 )
 
-still-here : (first now : Known) (g : Gathering) → AreOfVariables g.at.cube → AreStillThere first now g → known_of now g.at.cube ≡ known_of first g.at.cube
+still-here : {L : Type 0} (first now : Known L) (g : Gathering L) → AreOfVariables g.at.cube → AreStillThere first now g → known_of now g.at.cube ≡ known_of first g.at.cube
 still-here first now g named still = still.1 g.at.cube named (λ p. not_passed g.at.walk [] (subst (IsPassed g.at.walk) (still.0 ∙ sym (append-nil (path g.at.walk))) p))
 
 -- a cube that is reached is handed out
-pub is_there : (F : Formula) (plan : Plan) (rs : List Solved) (first now : Known) (g : Gathering) → IsWhole F plan rs → IsGathered F plan g → AreOfVariables g.at.cube → AreKnown rs first → AreStillThere first now g
+pub is_there : {L : Type 0} (lines : L → List Line) (F : Formula) (plan : Plan) (rs : List Solved) (first now : Known L) (g : Gathering L) → IsWhole F plan rs → IsGathered lines F plan g → AreOfVariables g.at.cube → AreKnown lines rs first → AreStillThere first now g
     → known_of now g.at.cube ≢ None
-is_there F plan rs first now g whole r named known still none =
-    let there = reached-in F plan rs g whole r in
+is_there lines F plan rs first now g whole r named known still none =
+    let there = reached-in lines F plan rs g whole r in
     known.missing g.at.cube there.0 named (sym (still-here first now g named still) ∙ none) there.1
 
 -- and it is its outcome
-pub is_outcome : (F : Formula) (plan : Plan) (rs : List Solved) (first now : Known) (g : Gathering) (o : LinesOutcome) → IsWhole F plan rs → AreOfVariables g.at.cube → AreKnown rs first → AreStillThere first now g
-    → known_of now g.at.cube ≡ Some o → Runs F plan g.at.cube (outcome_of o)
-is_outcome F plan rs first now g o whole named known still some =
-    AreOutcomes-known F plan rs first whole.true_of known g.at.cube o named (sym (still-here first now g named still) ∙ some)
+pub is_outcome : {L : Type 0} (lines : L → List Line) (F : Formula) (plan : Plan) (rs : List Solved) (first now : Known L) (g : Gathering L) (o : Outcome L) → IsWhole F plan rs → AreOfVariables g.at.cube → AreKnown lines rs first → AreStillThere first now g
+    → known_of now g.at.cube ≡ Some o → Runs F plan g.at.cube (outcome_by lines o)
+is_outcome lines F plan rs first now g o whole named known still some =
+    AreOutcomes-known lines F plan rs first whole.true_of known g.at.cube o named (sym (still-here first now g named still) ∙ some)
 
 length-among : (rs : List Solved) (r : Solved) → Contains rs r → length r.cube ≤ sum_by (λ r. length r.cube) rs
 length-among [] r h = absurd (Contains-none r h)
@@ -135,9 +137,9 @@ length-among (y ∷ rs) r h = go (Contains-cases y rs r h) (length-among rs r)
     go (inr there) more = let all = sum_by-cons (λ (r : Solved). length r.cube) y rs in let less = more there in omega arith
 
 -- the way to a reached cube is no longer than all cubes of the list together
-pub length-there : (F : Formula) (plan : Plan) (rs : List Solved) (g : Gathering) → IsWhole F plan rs → IsGathered F plan g → length g.at.walk < suc (sum_by (λ r. length r.cube) rs)
-length-there F plan rs g whole r =
-    let there = reached-in F plan rs g whole r in
+pub length-there : {L : Type 0} (lines : L → List Line) (F : Formula) (plan : Plan) (rs : List Solved) (g : Gathering L) → IsWhole F plan rs → IsGathered lines F plan g → length g.at.walk < suc (sum_by (λ r. length r.cube) rs)
+length-there lines F plan rs g whole r =
+    let there = reached-in lines F plan rs g whole r in
     let less = length-among rs (record { cube = g.at.cube; what = done there.0 }) there.1 in
     let same = ap length r.below in
     let long = length-path g.at.walk in

@@ -18,9 +18,14 @@ LinesNode = Node (List Line)
 abbrev pub LinesTree : Type 0
 LinesTree = Tree (List Line)
 
+-- the node where a leaf keeps what has these lines
+abbrev pub node_by : {L : Type 0} → (L → List Line) → Node L → trees.Node
+node_by lines (Split var) = trees.split_on var
+node_by lines (Leaf kept) = trees.refuted_leaf (lines kept)
+
+-- and where it keeps its lines
 abbrev pub node_of : LinesNode → trees.Node
-node_of (Split var) = trees.split_on var
-node_of (Leaf lines) = trees.refuted_leaf lines
+node_of n = node_by (λ lines. lines) n
 
 -- the trees have the same model, or the same nodes
 abbrev pub IsSameTree : LinesTree → LinesTree → Type 0
@@ -28,13 +33,18 @@ IsSameTree (Model values) (Model others) = others ≡ values
 IsSameTree (Refuted nodes) (Refuted others) = others.items ≡ nodes.items
 IsSameTree t u = ⊥
 
--- the tree is the formula's result: its model, or the nodes of its tree
+-- the tree is the formula's result: its model, or the nodes of its tree, where a leaf keeps what
+-- has these lines
+abbrev pub IsResultBy : {L : Type 0} → (L → List Line) → Formula → Plan → Tree L → Type 0
+IsResultBy lines F plan (Model values) = trees.IsResult F plan (trees.model_of values.items)
+IsResultBy lines F plan (Refuted nodes) = (t : trees.Tree) × trees.IsResult F plan (trees.tree_of t) × (map (node_by lines) nodes.items ≡ trees.nodes_of t)
+
+-- and where it keeps its lines
 abbrev pub IsResultOf : Formula → Plan → LinesTree → Type 0
-IsResultOf F plan (Model values) = trees.IsResult F plan (trees.model_of values.items)
-IsResultOf F plan (Refuted nodes) = (t : trees.Tree) × trees.IsResult F plan (trees.tree_of t) × (map node_of nodes.items ≡ trees.nodes_of t)
+IsResultOf F plan t = IsResultBy (λ lines. lines) F plan t
 
 -- what a result says of its formula: a model is one of its models, by the ordered search the first
 -- one; without a model, the formula isn't satisfiable
-abbrev pub Says : Search → Formula → LinesTree → Type 0
+abbrev pub Says : {L : Type 0} → Search → Formula → Tree L → Type 0
 Says search F (Model values) = IsFound search F values.items
 Says search F (Refuted nodes) = ¬ (Satisfiable F)

@@ -1,16 +1,16 @@
 -- What each hand has in the harvest.
-use Rattle.std.specs.Prelude.{◌≡◌, ◌≤◌, ℕ, List, [], map, flat_map, All, Option, Some, slice_get}
+use Rattle.std.specs.Prelude.{◌≡◌, ◌<◌, ◌≤◌, ℕ, List, [], map, flat_map, length, All, Option, Some, slice_get, slice_index_or}
 use Rattle.theory.specs.Literals.{Literal}
 use Rattle.theory.specs.Truth.{Formula}
 use Rattle.theory.specs.Plans.{Plan}
 use Rattle.theory.specs.Ledger.{times, all_got}
 use Rattle.theory.specs.Work.{IsWork}
+use Rattle.theory.specs.Round.{HasWorked}
 use Rattle.theory.specs.Results.{IsWhole}
 use Rattle.theory.specs.Harvest.{Share, IsClosed, ledgers_of}
 use Rattle.pool.specs.Hands.{HandView, SameHand}
 use Rattle.theory.specs.Learning.{Line}
 use Rattle.cubes.specs.Solved.{results_by}
-use Rattle.cubes.specs.Hands.{Worked_as}
 use Rattle.cubes.specs.declared.hands.Worked.{Worked}
 use Rattle.cubes.specs.declared.solved.Solved.{Solved}
 
@@ -31,8 +31,12 @@ abbrev pub AreNumbered : {L : Type 0} → List (Worked L) → Type 0
 AreNumbered {L} works = (place : ℕ) (w : Worked L) → slice_get works place ≡ Some w → w.hand.number ≡ place
 
 -- the hand has done its work, from the ledger that it had
-abbrev pub HasDone : Formula → Plan → HandView → LinesWorked → Type 0
-HasDone F plan h w = SameHand h w.hand × Worked_as F plan w.short_of_memory h.ledger w.hand.ledger w.solved.items
+abbrev pub HasDone : {L : Type 0} → (L → List Line) → Formula → Plan → HandView → Worked L → Type 0
+HasDone lines F plan h w = SameHand h w.hand × HasWorked F plan w.short_of_memory h.ledger w.hand.ledger (results_by lines w.solved.items)
+
+-- and so have all of these hands
+abbrev pub HaveDone : {L : Type 0} → (L → List Line) → Formula → Plan → List HandView → List (Worked L) → Type 0
+HaveDone {L} lines F plan hands works = (i : ℕ) (d : HandView) (e : Worked L) → i < length hands → HasDone lines F plan (slice_index_or hands i d) (slice_index_or works i e)
 
 -- each did its work, by the plan
 abbrev pub HaveWorked : {L : Type 0} → (L → List Line) → Formula → Plan → List (Worked L) → Type 0

@@ -30,5 +30,8 @@ abbrev pub solved_of : LinesSolved → results.Solved
 solved_of s = solved_by (λ lines. lines) s
 
 -- each result is true: an outcome is its cube's, and of a cube that was skipped nothing is said
+abbrev pub AreTrueBy : {L : Type 0} → (L → List Line) → truth.Formula → Plan → List (Solved L) → Type 0
+AreTrueBy lines F plan rs = All (λ s. results.IsTrueOf F plan s.cube (what_by lines s.what)) rs
+
 abbrev pub AreTrueResults : truth.Formula → Plan → List LinesSolved → Type 0
-AreTrueResults F plan rs = All (λ s. results.IsTrueOf F plan s.cube (what_by (λ lines. lines) s.what)) rs
+AreTrueResults F plan rs = AreTrueBy (λ lines. lines) F plan rs

@@ -43,7 +43,7 @@ fn parted<L: Drop>(
 
 /// The results of these hands of the pool, one list after the other, once it is closed: what holds
 /// of them by whatever plan the hands worked.
-fn close_all<L: KeepsLines>(
+pub(crate) fn close_all<L: KeepsLines>(
     alloc: Global,
     formula: &Formula,
     pool: Pool,

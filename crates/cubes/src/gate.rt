@@ -9,7 +9,8 @@ pub trait Gate {
     /// Before the cube is solved.
     fn before(&self, hand: usize, cube: &Cube);
 
-    /// Once it is solved.
+    /// Once it is solved, or given up: where memory is refused, or where the hands are to stop. So
+    /// a gate that holds one hand until another one is done with its cube holds it no longer.
     fn after(&self, hand: usize, cube: &Cube);
 
     /// The hand's solver has done so much in all, since it began. It is told about each thousand

@@ -5,31 +5,30 @@ ghost use Rattle.cubes.specs.Gathering.{CanSplit, GoesOnWith, nodes_of};
 
 use crate::cube_walk::CubeWalk;
 use crate::tree::{Node, Tree};
-use cdcl::Outcome;
+use cdcl::{KeepsLines, Outcome};
 use kernel::Cube;
-use lines::Row;
 use std::alloc::{AllocError, Global};
 use std::mem;
 
 /// A cube of the tree, and the nodes before it.
-pub(crate) struct Gathering {
+pub(crate) struct Gathering<L> {
     pub(crate) at: CubeWalk,
-    pub(crate) nodes: Vec<Node<Row>>,
+    pub(crate) nodes: Vec<Node<L>>,
 }
 
 // written out, so that proofs of its owners stay short (docs/CHANGING.md)
-impl Drop for Gathering {
+impl<L: Drop> Drop for Gathering<L> {
     fn drop(self) {
         let Gathering { at: _, nodes: _ } = self;
     }
 }
 
-impl Gathering {
+impl<L: KeepsLines> Gathering<L> {
     /// At the root. It takes no memory.
-    pub(crate) fn start(alloc: Global) -> Gathering
+    pub(crate) fn start(alloc: Global) -> Gathering<L>
         ensures cube { result.at.cube ≡ [] }
         ensures walk { result.at.walk ≡ [] }
-        ensures nodes { nodes_of result ≡ [] }
+        ensures nodes { nodes_of L.lines result ≡ [] }
     {
         Gathering {
             at: CubeWalk::from(alloc, Cube::root(alloc)),
@@ -39,9 +38,9 @@ impl Gathering {
 
     /// Goes on from the cube, whose outcome this is, to the next one that is needed; or gives the
     /// result, where none is.
-    pub(crate) fn go_on(&mut self, outcome: Outcome<Row>) -> Result<Option<Tree<Row>>, AllocError>
+    pub(crate) fn go_on(&mut self, outcome: Outcome<L>) -> Result<Option<Tree<L>>, AllocError>
         requires { CanSplit self.old outcome }
-        ensures { IfOk result (λ found. GoesOnWith self.old outcome found self.new) }
+        ensures { IfOk result (λ found. GoesOnWith L.lines self.old outcome found self.new) }
     {
         match outcome {
             Outcome::Model(values) => Ok(Some(Tree::Model(values))),
@@ -50,8 +49,8 @@ impl Gathering {
                 self.at.enter(var)?;
                 Ok(None)
             }
-            Outcome::Refuted(row) => {
-                self.nodes.push(Node::Leaf(row))?;
+            Outcome::Refuted(kept) => {
+                self.nodes.push(Node::Leaf(kept))?;
                 if self.at.go_on()? {
                     return Ok(None);
                 }

@@ -5,6 +5,7 @@
 mod by_budget;
 mod closing;
 mod cube_walk;
+mod decided;
 mod gate;
 mod gathering;
 mod hands;
@@ -22,6 +23,7 @@ mod tries;
 
 pub use by_budget::{gather, solve_one, solve_with, work};
 pub use closing::{harvest, harvest_by_plan};
+pub use decided::decide_by_plan;
 pub use gate::{Gate, OpenGate};
 pub use hands::{Worked, work_by_plan};
 pub use packing::assemble;

@@ -4,17 +4,17 @@ ghost use Rattle.theory.specs.Truth.{Formula, IsOver};
 ghost use Rattle.theory.specs.Plans as plans;
 ghost use Rattle.theory.specs.Runs.{Runs};
 ghost use Rattle.theory.specs.Results.{OutcomeSays, IsWhole};
-ghost use Rattle.cdcl.specs.Outcome.{outcome_of};
+ghost use Rattle.cdcl.specs.Outcome.{outcome_of, outcome_by};
 ghost use Rattle.cdcl.specs.Solving.{IsSolverOf};
-ghost use Rattle.cubes.specs.Solved.{AreTrueResults, solved_of};
+ghost use Rattle.cubes.specs.Solved.{AreTrueBy, AreTrueResults, results_by, solved_of};
 ghost use Rattle.cubes.specs.Source.{IsSource};
-ghost use Rattle.cubes.specs.Result.{IsResultOf, Says};
+ghost use Rattle.cubes.specs.Result.{IsResultBy, IsResultOf, Says};
 
 use crate::gathering::Gathering;
 use crate::known::Known;
 use crate::solved::Solved;
 use crate::tree::Tree;
-use cdcl::{Outcome, Plan, Solver, Unwatched, Watcher};
+use cdcl::{KeepsLines, Outcome, Plan, Solver, Unwatched, Watcher};
 use cnf::Formula;
 use kernel::Cube;
 use lines::Row;
@@ -46,13 +46,13 @@ pub(crate) fn solve<W: Watcher>(
 }
 
 /// Where the outcomes of cubes come from: those that are known, and a solver, once one was needed.
-pub(crate) struct Source {
-    pub(crate) known: Known,
+pub(crate) struct Source<L> {
+    pub(crate) known: Known<L>,
     pub(crate) solver: Option<Solver>,
 }
 
 // written out, so that proofs of its owners stay short (docs/CHANGING.md)
-impl Drop for Source {
+impl<L: Drop> Drop for Source<L> {
     fn drop(self) {
         let Source {
             known: _,
@@ -61,7 +61,7 @@ impl Drop for Source {
     }
 }
 
-impl Source {
+impl<L: KeepsLines> Source<L> {
     /// The outcome of a cube: the one that is known, or what solving it on the spot gives.
     fn outcome<W: Watcher>(
         &mut self,
@@ -70,30 +70,33 @@ impl Source {
         plan: Plan,
         cube: &Cube,
         watcher: &W,
-    ) -> Result<Outcome<Row>, AllocError>
+    ) -> Result<Outcome<L>, AllocError>
         requires over { IsOver formula.now.vars cube.now }
-        requires source { IsSource formula.now plan self.old }
-        ensures runs { IfOk result (λ o. Runs formula.now plan cube.now (outcome_of o)) }
-        ensures kept { OnOk result (IsSource formula.now plan self.new) }
+        requires source { IsSource L.lines formula.now plan self.old }
+        ensures runs { IfOk result (λ o. Runs formula.now plan cube.now (outcome_by L.lines o)) }
+        ensures kept { OnOk result (IsSource L.lines formula.now plan self.new) }
     {
         match self.known.take(cube) {
             Some(outcome) => Ok(outcome),
-            None => solve(alloc, formula, plan, cube, &mut self.solver, watcher),
+            None => {
+                let outcome = solve(alloc, formula, plan, cube, &mut self.solver, watcher)?;
+                Ok(outcome.kept(alloc)?)
+            }
         }
     }
 }
 
-/// What `gather_by_plan` does, and tells a watcher of what is solved. It fails also where the
-/// watcher stops it.
-pub(crate) fn gather_watched<W: Watcher>(
+/// What `gather_by_plan` does, whatever keeps the lines of refuted cubes, and tells a watcher of
+/// what is solved. It fails also where the watcher stops it.
+pub(crate) fn gather_watched<L: KeepsLines, W: Watcher>(
     alloc: Global,
     formula: &Formula,
     plan: Plan,
-    results: Vec<Solved<Row>>,
+    results: Vec<Solved<L>>,
     watcher: &W,
-) -> Result<Tree<Row>, AllocError>
-    requires results { AreTrueResults formula.now plan results.items }
-    ensures result { IfOk result (λ t. IsResultOf formula.now plan t) }
+) -> Result<Tree<L>, AllocError>
+    requires results { AreTrueBy L.lines formula.now plan results.items }
+    ensures result { IfOk result (λ t. IsResultBy L.lines formula.now plan t) }
     ensures says { IfOk result (λ t. Says plan.search formula.now t) }
 {
     let _vars = formula.vars(); // it ensures what the proof needs of the formula
@@ -127,12 +130,13 @@ pub fn gather_by_plan(
     gather_watched(alloc, formula, plan, results, &Unwatched)
 }
 
-/// The result of the formula and the plan of which the results are whole: each cube of their tree
-/// has its outcome among them, or lies right of a model. Neither the formula nor the plan is asked
-/// for, and nothing is solved. It fails only where a request for memory is refused.
-pub fn assemble_rows(alloc: Global, results: Vec<Solved<Row>>) -> Result<Tree<Row>, AllocError>
-    requires { (F : Formula) × (plan : plans.Plan) × (F.vars < 2 ^ 31) × IsWhole F plan (map solved_of results.items) }
-    ensures { IfOk result (λ t. (F : Formula) (plan : plans.Plan) → IsWhole F plan (map solved_of results.items) → IsResultOf F plan t) }
+/// What `assemble_rows` does, whatever keeps the lines of refuted cubes.
+pub(crate) fn assemble_in<L: KeepsLines>(
+    alloc: Global,
+    results: Vec<Solved<L>>,
+) -> Result<Tree<L>, AllocError>
+    requires { (F : Formula) × (plan : plans.Plan) × (F.vars < 2 ^ 31) × IsWhole F plan (results_by L.lines results.items) }
+    ensures { IfOk result (λ t. (F : Formula) (plan : plans.Plan) → IsWhole F plan (results_by L.lines results.items) → IsResultBy L.lines F plan t) }
 {
     let mut known = Known::new(alloc, results)?;
     let mut gathering = Gathering::start(alloc);
@@ -145,6 +149,16 @@ pub fn assemble_rows(alloc: Global, results: Vec<Solved<Row>>) -> Result<Tree<Ro
             return Ok(tree);
         }
     }
+}
+
+/// The result of the formula and the plan of which the results are whole: each cube of their tree
+/// has its outcome among them, or lies right of a model. Neither the formula nor the plan is asked
+/// for, and nothing is solved. It fails only where a request for memory is refused.
+pub fn assemble_rows(alloc: Global, results: Vec<Solved<Row>>) -> Result<Tree<Row>, AllocError>
+    requires { (F : Formula) × (plan : plans.Plan) × (F.vars < 2 ^ 31) × IsWhole F plan (map solved_of results.items) }
+    ensures { IfOk result (λ t. (F : Formula) (plan : plans.Plan) → IsWhole F plan (map solved_of results.items) → IsResultOf F plan t) }
+{
+    assemble_in(alloc, results)
 }
 
 /// The result of the formula by the plan. It fails only where a request for memory is refused.

@@ -1,19 +1,18 @@
 //! The result of a formula, by several hands in threads of their own.
-ghost use Rattle.std.specs.Prelude.{◌≡◌, ◌≤◌, ◌<◌, ℕ, [], false, map, length, All, IfOk, slice_index_or};
+ghost use Rattle.std.specs.Prelude.{◌≡◌, ◌≤◌, [], false, map, length, All, IfOk};
 ghost use Rattle.theory.specs.Results.{IsWhole};
-ghost use Rattle.pool.specs.Hands.{HandView};
 ghost use Rattle.pool.specs.Pools.{AreNew};
-ghost use Rattle.cubes.specs.Result.{IsResultOf, Says};
-ghost use Rattle.cubes.specs.Shares.{HasDone, LinesWorked};
-ghost use Rattle.cubes.specs.Solved.{solved_of};
+ghost use Rattle.cubes.specs.Result.{IsResultBy, IsResultOf, Says};
+ghost use Rattle.cubes.specs.Shares.{HasDone, HaveDone};
+ghost use Rattle.cubes.specs.Solved.{results_by, solved_of};
 
-use crate::closing::harvest_by_plan;
+use crate::closing::close_all;
 use crate::gate::{Gate, Watched};
-use crate::hands::{Worked, work_by_plan};
-use crate::results::{assemble_rows, gather_watched};
+use crate::hands::{Worked, work_in};
+use crate::results::{assemble_in, gather_watched};
 use crate::solved::Solved;
 use crate::tree::Tree;
-use cdcl::Plan;
+use cdcl::{KeepsLines, Plan};
 use cnf::Formula;
 use kernel::Cube;
 use lines::Row;
@@ -26,30 +25,29 @@ use std::time::Clock;
 
 /// What each hand leaves behind, in the order of the hands. Each works in a thread of its own,
 /// where one can be started.
-fn all_work<R: Threads + Wait + Clock + Sync, G: Gate + Sync>(
+fn all_work<L: KeepsLines + Send, R: Threads + Wait + Clock + Sync, G: Gate + Sync>(
     rt: &R,
     alloc: Global,
     formula: &Formula,
     plan: Plan,
     gate: &G,
     hands: Vec<Hand>,
-) -> Result<Vec<Worked<Row>>, AllocError>
+) -> Result<Vec<Worked<L>>, AllocError>
     requires vars { All (λ h. h.vars ≡ formula.now.vars) hands.items }
     ensures len { IfOk result (λ v. length v.items ≡ length hands.items) }
-    ensures each { IfOk result (λ v. (i : ℕ) (d : HandView) (e : LinesWorked) → i < length hands.items
-        → HasDone formula.now plan (slice_index_or hands.items i d) (slice_index_or v.items i e)) }
+    ensures each { IfOk result (λ v. HaveDone L.lines formula.now plan hands.items v.items) }
 {
     thread::map_vec(
         rt,
         hands,
-        &|hand: Hand| -> Worked<Row>
+        &|hand: Hand| -> Worked<L>
             requires { hand.vars ≡ formula.now.vars }
-            ensures { HasDone formula.entry.now plan hand result }
-        { work_by_plan(rt, alloc, hand, formula, plan, gate) },
+            ensures { HasDone L.lines formula.entry.now plan hand result }
+        { work_in(rt, alloc, hand, formula, plan, gate) },
     )
 }
 
-fn is_short(works: &[Worked<Row>]) -> bool
+fn is_short<L>(works: &[Worked<L>]) -> bool
     ensures { result ≡ false → All (λ w. w.short_of_memory ≡ false) works.now }
 {
     for worked in works {
@@ -58,6 +56,28 @@ fn is_short(works: &[Worked<Row>]) -> bool
         }
     }
     false
+}
+
+/// What `results_by_hands` does, whatever keeps the lines of refuted cubes.
+fn results_in<L: KeepsLines + Send, R: Threads + Wait + Clock + Sync, G: Gate + Sync>(
+    rt: &R,
+    alloc: Global,
+    formula: &Formula,
+    plan: Plan,
+    gate: &G,
+    pool: Pool,
+    hands: Vec<Hand>,
+) -> Result<Vec<Solved<L>>, AllocError>
+    requires some { 1 ≤ pool.hands }
+    requires root { pool.root ≡ [] }
+    requires hands { AreNew pool formula.now.vars hands.items }
+    ensures { IfOk result (λ r. IsWhole formula.now plan (results_by L.lines r.items)) }
+{
+    let works = all_work(rt, alloc, formula, plan, gate, hands)?;
+    if is_short(&works) {
+        return Err(AllocError);
+    }
+    close_all(alloc, formula, pool, works)
 }
 
 /// The results of these hands of the pool, once all are home. They are enough for the whole tree.
@@ -75,15 +95,11 @@ pub fn results_by_hands<R: Threads + Wait + Clock + Sync, G: Gate + Sync>(
     requires hands { AreNew pool formula.now.vars hands.items }
     ensures { IfOk result (λ r. IsWhole formula.now plan (map solved_of r.items)) }
 {
-    let works = all_work(rt, alloc, formula, plan, gate, hands)?;
-    if is_short(&works) {
-        return Err(AllocError);
-    }
-    harvest_by_plan(alloc, formula, plan, pool, works)
+    results_in(rt, alloc, formula, plan, gate, pool, hands)
 }
 
 /// The result, by these hands of the pool.
-fn solve_by_hands<R: Threads + Wait + Clock + Sync, G: Gate + Sync>(
+fn solve_by_hands<L: KeepsLines + Send, R: Threads + Wait + Clock + Sync, G: Gate + Sync>(
     rt: &R,
     alloc: Global,
     formula: &Formula,
@@ -91,30 +107,49 @@ fn solve_by_hands<R: Threads + Wait + Clock + Sync, G: Gate + Sync>(
     gate: &G,
     pool: Pool,
     hands: Vec<Hand>,
-) -> Result<Tree<Row>, AllocError>
+) -> Result<Tree<L>, AllocError>
     requires some { 1 ≤ pool.hands }
     requires root { pool.root ≡ [] }
     requires hands { AreNew pool formula.now.vars hands.items }
-    ensures result { IfOk result (λ t. IsResultOf formula.now plan t) }
+    ensures result { IfOk result (λ t. IsResultBy L.lines formula.now plan t) }
     ensures says { IfOk result (λ t. Says plan.search formula.now t) }
 {
     let _vars = formula.vars(); // it ensures what the proof needs of the formula
-    let results = results_by_hands(rt, alloc, formula, plan, gate, pool, hands)?;
-    assemble_rows(alloc, results)
+    let results = results_in(rt, alloc, formula, plan, gate, pool, hands)?;
+    assemble_in(alloc, results)
 }
 
 /// The result, by this thread alone. The gate is told what its solver does, as of the hand 0.
-fn solve_here<G: Gate>(
+fn solve_here<L: KeepsLines, G: Gate>(
     alloc: Global,
     formula: &Formula,
     plan: Plan,
     gate: &G,
-) -> Result<Tree<Row>, AllocError>
-    ensures result { IfOk result (λ t. IsResultOf formula.now plan t) }
+) -> Result<Tree<L>, AllocError>
+    ensures result { IfOk result (λ t. IsResultBy L.lines formula.now plan t) }
     ensures says { IfOk result (λ t. Says plan.search formula.now t) }
 {
     let watched = Watched { gate, hand: 0 };
     gather_watched(alloc, formula, plan, Vec::new(alloc), &watched)
+}
+
+/// What `solve_by_plan` does, whatever keeps the lines of refuted cubes.
+pub(crate) fn solve_in<L: KeepsLines + Send, R: Threads + Wait + Clock + Sync, G: Gate + Sync>(
+    rt: &R,
+    alloc: Global,
+    formula: &Formula,
+    plan: Plan,
+    hands: usize,
+    gate: &G,
+) -> Result<Tree<L>, AllocError>
+    requires hands { (1 ≤ hands) × (hands ≤ 16) }
+    ensures result { IfOk result (λ t. IsResultBy L.lines formula.now plan t) }
+    ensures says { IfOk result (λ t. Says plan.search formula.now t) }
+{
+    match pool::open(alloc, hands, formula.vars(), Cube::root(alloc)) {
+        Ok((pool, all)) => solve_by_hands(rt, alloc, formula, plan, gate, pool, all),
+        Err(_) => solve_here(alloc, formula, plan, gate),
+    }
 }
 
 /// The result of the formula by the plan, by 1 to 16 hands, each in a thread of its own where one
@@ -133,8 +168,5 @@ pub fn solve_by_plan<R: Threads + Wait + Clock + Sync, G: Gate + Sync>(
     ensures result { IfOk result (λ t. IsResultOf formula.now plan t) }
     ensures says { IfOk result (λ t. Says plan.search formula.now t) }
 {
-    match pool::open(alloc, hands, formula.vars(), Cube::root(alloc)) {
-        Ok((pool, all)) => solve_by_hands(rt, alloc, formula, plan, gate, pool, all),
-        Err(_) => solve_here(alloc, formula, plan, gate),
-    }
+    solve_in(rt, alloc, formula, plan, hands, gate)
 }

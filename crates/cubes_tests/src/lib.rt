@@ -7,6 +7,8 @@ mod alone;
 #[cfg(test)]
 mod counted;
 #[cfg(test)]
+mod decided;
+#[cfg(test)]
 mod deep;
 #[cfg(test)]
 mod gates;

@@ -3,6 +3,7 @@ pub mod TextLemmas
 pub mod RunLemmas
 pub mod OneRun
 pub mod RightAnswers
+pub mod AnsweredLemmas
 pub mod CheckLemmas
 pub mod SaidLines
 pub mod CheckRuns

@@ -8,7 +8,7 @@ use Rattle.cubesat.specs.declared.fault.RunFault.{RunFault}
 use Rattle.cubesat.specs.declared.verdict.Verdict.{Verdict}
 use Rattle.cubesat.specs.declared.verdict.Verdict.TheVariants.{Satisfiable, Unsatisfiable}
 
-texts-right : (F : Formula) (plan : Plan) (verdict : Verdict) (proof answer : List ℕ) → AreTexts F plan verdict proof answer → IsRight plan.search F verdict proof answer
+pub texts-right : (F : Formula) (plan : Plan) (verdict : Verdict) (proof answer : List ℕ) → AreTexts F plan verdict proof answer → IsRight plan.search F verdict proof answer
 texts-right F plan Satisfiable proof answer t = (t.model, t.found, t.answer_is)
 texts-right F plan Unsatisfiable proof answer t = (t.0.unsatisfiable, t.1, t.0.answer_is)
 

@@ -3,6 +3,7 @@
 pub mod Faults
 pub mod Answer
 pub mod Run
+pub mod Answered
 pub mod Limited
 pub mod Arguments
 pub mod Inputs

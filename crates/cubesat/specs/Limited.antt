@@ -3,6 +3,7 @@ use Rattle.std.specs.Prelude.{◌≡◌, ℕ, List, Option, Some, None, take, co
 use Rattle.std.specs.Io.KnownBytes.{Appends, Keeps}
 use Rattle.theory.specs.Plans.{Plan}
 use Rattle.cubesat.specs.Run.{RunSays}
+use Rattle.cubesat.specs.Answered.{AnswerSays}
 use Rattle.cubesat.specs.declared.fault.RunFault.{RunFault}
 use Rattle.cubesat.specs.declared.fault.RunFault.TheVariants.{Read, NoMemory, ProofWriteFailed, AnswerWriteFailed, ProofReadFailed}
 use Rattle.cubesat.specs.declared.verdict.Verdict.{Verdict}
@@ -29,3 +30,10 @@ LimitedRunSays reached known plan p q a b (Ok (Some verdict)) = RunSays known pl
 LimitedRunSays reached known plan p q a b (Ok None) = reached × Keeps p q × Appends a b unknown_text
 LimitedRunSays reached known plan p q a b (Err AnswerWriteFailed) = RunSays known plan p q a b (Err AnswerWriteFailed) ⊎ (reached × Keeps p q × BeginsUnknown a b)
 LimitedRunSays reached known plan p q a b (Err fault) = RunSays known plan p q a b (Err fault)
+
+-- the same of a run without a proof
+abbrev pub LimitedAnswerSays : Type 0 → Option (List ℕ) → Plan → Option (List ℕ) → Option (List ℕ) → Result (Option Verdict) RunFault → Type 0
+LimitedAnswerSays reached known plan a b (Ok (Some verdict)) = AnswerSays known plan a b (Ok verdict)
+LimitedAnswerSays reached known plan a b (Ok None) = reached × Appends a b unknown_text
+LimitedAnswerSays reached known plan a b (Err AnswerWriteFailed) = AnswerSays known plan a b (Err AnswerWriteFailed) ⊎ (reached × BeginsUnknown a b)
+LimitedAnswerSays reached known plan a b (Err fault) = AnswerSays known plan a b (Err fault)

@@ -2,6 +2,7 @@
 #![tactic(auto)]
 
 mod anew;
+mod answered;
 mod arguments;
 mod check;
 mod checked_line;
@@ -28,6 +29,7 @@ mod verdict;
 mod watched;
 mod worded;
 
+pub use answered::answer_by_plan;
 pub use check::check_run;
 pub use checked_line::Checked;
 pub use explanations::explanation;
@@ -35,7 +37,7 @@ pub use fault::RunFault;
 pub use fault_lines::Screen;
 pub use laws::runs_write_the_same;
 pub use limit::Limit;
-pub use limited::run_limited;
+pub use limited::{answer_limited, run_limited};
 pub use program::{command, command_on, command_with_input};
 pub use runs::{run_one, run_one_by_plan};
 pub use statistics::{

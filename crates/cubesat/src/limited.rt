@@ -1,8 +1,9 @@
 //! A run that ends where a limit is reached.
 ghost use Rattle.std.specs.Prelude.{◌≡◌, ◌≤◌, IfOk, IfSome};
 ghost use Rattle.cubesat.specs.Answer.{IsRightAnswer};
-ghost use Rattle.cubesat.specs.Limited.{EndsUnsolved, LimitedRunSays};
+ghost use Rattle.cubesat.specs.Limited.{EndsUnsolved, LimitedAnswerSays, LimitedRunSays};
 
+use crate::answered::answer_observed;
 use crate::fault::RunFault;
 use crate::limit::{Limit, LimitedGate};
 use crate::output::write_text;
@@ -62,6 +63,70 @@ pub(crate) fn run_limited_observed<
         Err(RunFault::NoMemory) => end_unsolved(answer, limit),
         Err(fault) => Err(fault),
     }
+}
+
+/// `answer_limited`, whose stages an observer is told of.
+pub(crate) fn answer_limited_observed<
+    T: Threads + Wait + Clock + Sync,
+    R: Read + Drop,
+    W: Write,
+    G: Gate + Sync,
+    L: Limit + Sync,
+    O: Observer,
+>(
+    rt: &T,
+    alloc: Global,
+    input: R,
+    answer: &mut W,
+    plan: Plan,
+    hands: usize,
+    gate: &G,
+    limit: &L,
+    observer: &O,
+) -> Result<Option<Verdict>, RunFault>
+    requires { (1 ≤ hands) × (hands ≤ 16) }
+    ensures { LimitedAnswerSays (L.is_reached limit.now) (R.remaining input) plan (W.contents answer.old) (W.contents answer.new) result }
+{
+    let gate = LimitedGate { gate, limit };
+    match answer_observed(rt, alloc, input, answer, plan, hands, &gate, observer) {
+        Ok(verdict) => Ok(Some(verdict)),
+        Err(RunFault::NoMemory) => end_unsolved(answer, limit),
+        Err(fault) => Err(fault),
+    }
+}
+
+/// What `answer_by_plan` does, unless the limit is reached before the formula is decided: then it
+/// writes `s UNKNOWN` as the answer, and there is no verdict.
+pub fn answer_limited<
+    T: Threads + Wait + Clock + Sync,
+    R: Read + Drop,
+    W: Write,
+    G: Gate + Sync,
+    L: Limit + Sync,
+>(
+    rt: &T,
+    alloc: Global,
+    input: R,
+    answer: &mut W,
+    plan: Plan,
+    hands: usize,
+    gate: &G,
+    limit: &L,
+) -> Result<Option<Verdict>, RunFault>
+    requires { (1 ≤ hands) × (hands ≤ 16) }
+    ensures { LimitedAnswerSays (L.is_reached limit.now) (R.remaining input) plan (W.contents answer.old) (W.contents answer.new) result }
+{
+    answer_limited_observed(
+        rt,
+        alloc,
+        input,
+        answer,
+        plan,
+        hands,
+        gate,
+        limit,
+        &Unobserved,
+    )
 }
 
 /// What `run_by_plan` does, unless the limit is reached before the formula is solved: then it

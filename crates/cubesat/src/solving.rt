@@ -6,7 +6,7 @@ use crate::fault_lines::{
 };
 use crate::input::open_input;
 use crate::limit::TimeLimit;
-use crate::limited::run_limited;
+use crate::limited::{answer_limited, run_limited};
 use crate::notes::{note_files, note_number, note_solve};
 use crate::placed_proof::{NotBegun, begin_proof};
 use crate::verdict::Verdict;
@@ -21,9 +21,9 @@ use std::alloc::Global;
 use std::fs::Files;
 use std::io::{Read, Write};
 use std::sync::Wait;
+use std::thread;
 use std::thread::Threads;
 use std::time::Clock;
-use std::{io, thread};
 
 /// The status of a satisfiable formula.
 const SATISFIABLE: u8 = 10;
@@ -69,7 +69,7 @@ fn run_beside<
     R: Files + Threads + Wait + Clock + Sync,
     I: Read + Drop,
     W: Write,
-    P: Write,
+    P: Write + Drop,
     E: Write + Send,
 >(
     rt: &R,
@@ -78,7 +78,7 @@ fn run_beside<
     effort: Effort,
     input: I,
     answer: &mut W,
-    proof: &mut P,
+    proof: Option<P>,
     faults: &mut E,
     showing: Showing,
 ) -> Result<Option<Verdict>, RunFault> {
@@ -90,12 +90,12 @@ fn run_beside<
     result
 }
 
-/// A run with what is shown of it. It writes what `run_limited` writes.
+/// A run with what is shown of it. It writes what `run_plain` writes.
 fn run_shown<
     R: Files + Threads + Wait + Clock + Sync,
     I: Read + Drop,
     W: Write,
-    P: Write,
+    P: Write + Drop,
     E: Write + Send,
 >(
     rt: &R,
@@ -103,7 +103,7 @@ fn run_shown<
     effort: Effort,
     input: I,
     answer: &mut W,
-    proof: &mut P,
+    proof: Option<P>,
     stats: bool,
     faults: &mut E,
     showing: Showing,
@@ -124,13 +124,32 @@ fn run_shown<
     result
 }
 
-/// A run whose proof goes to this writer, with what is to be shown of it. It writes what
-/// `run_limited` writes.
+/// A run of which nothing is shown. Its proof goes to this writer; without one, none is made.
+fn run_plain<R: Files + Threads + Wait + Clock + Sync, I: Read + Drop, W: Write, P: Write + Drop>(
+    rt: &R,
+    alloc: Global,
+    effort: Effort,
+    input: I,
+    answer: &mut W,
+    proof: Option<P>,
+) -> Result<Option<Verdict>, RunFault> {
+    let (plan, hands, gate) = (effort.plan, effort.hands, OpenGate);
+    let limit = TimeLimit::begin(rt, effort.seconds);
+    match proof {
+        Some(mut proof) => {
+            let proof = &mut proof;
+            run_limited(rt, alloc, input, answer, proof, plan, hands, &gate, &limit)
+        }
+        None => answer_limited(rt, alloc, input, answer, plan, hands, &gate, &limit),
+    }
+}
+
+/// A run with what is to be shown of it. It writes what `run_plain` writes.
 fn run_opened<
     R: Files + Threads + Wait + Clock + Sync,
     I: Read + Drop,
     W: Write,
-    P: Write,
+    P: Write + Drop,
     E: Write + Send,
 >(
     rt: &R,
@@ -138,7 +157,7 @@ fn run_opened<
     effort: Effort,
     input: I,
     answer: &mut W,
-    proof: &mut P,
+    proof: Option<P>,
     shown: Shown,
     faults: &mut E,
     screen: Screen,
@@ -150,15 +169,11 @@ fn run_opened<
             rt, alloc, effort, input, answer, proof, stats, faults, showing,
         );
     }
-    let (plan, hands) = (effort.plan, effort.hands);
-    let limit = TimeLimit::begin(rt, effort.seconds);
-    run_limited(
-        rt, alloc, input, answer, proof, plan, hands, &OpenGate, &limit,
-    )
+    run_plain(rt, alloc, effort, input, answer, proof)
 }
 
-/// Decides the formula that is open, with its proof written to what is open, and says what happened
-/// if it comes to no verdict; the status.
+/// Decides the formula that is open, with its proof written to what is open, if there is to be one,
+/// and says what happened if it comes to no verdict; the status.
 fn solve_opened<
     R: Files + Threads + Wait + Clock + Sync,
     I: Read + Drop,
@@ -170,14 +185,17 @@ fn solve_opened<
     alloc: Global,
     effort: Effort,
     formula: Opened<'_, I>,
-    proof: Opened<'_, P>,
+    proof: Option<Opened<'_, P>>,
     shown: Shown,
     answer: &mut W,
     faults: &mut E,
     screen: Screen,
 ) -> u8 {
     let mut input = NoticedReader::of(formula.file);
-    let mut output = NoticedWriter::of(proof.file);
+    let (path, mut output) = match proof {
+        Some(proof) => (proof.path, Some(NoticedWriter::of(proof.file))),
+        None => (NO_PATH, None),
+    };
     let mut answer = NoticedWriter::of(answer);
     let result = run_opened(
         rt,
@@ -185,7 +203,7 @@ fn solve_opened<
         effort,
         &mut input,
         &mut answer,
-        &mut output,
+        output.as_mut(),
         shown,
         faults,
         screen,
@@ -197,10 +215,10 @@ fn solve_opened<
         Err(fault) => {
             let known = Known {
                 formula: formula.path,
-                proof: proof.path,
+                proof: path,
                 beginning: input.beginning(),
                 formula_error: input.error(),
-                proof_error: output.error(),
+                proof_error: output.as_ref().and_then(|output| output.error()),
                 answer_error: answer.error(),
             };
             print_fault_of(rt, faults, fault, &known, shown.verbose)
@@ -256,28 +274,17 @@ pub(crate) fn solve<
         Ok(input) => input,
         Err(error) => return print_not_opened(faults, file, error, shown.verbose),
     };
-    let Some(path) = proof else {
-        let formula = Opened {
-            path: file,
-            file: input,
-        };
-        let proof = Opened {
-            path: NO_PATH,
-            file: io::sink(),
-        };
-        return solve_opened(
-            rt, alloc, effort, formula, proof, shown, answer, faults, screen,
-        );
-    };
-    let placed = match begin_proof(rt, alloc, path, &input) {
-        Ok(placed) => placed,
-        Err(why) => return print_not_begun(faults, why, file, path, shown.verbose),
+    let proof = match proof {
+        Some(path) => match begin_proof(rt, alloc, path, &input) {
+            Ok(placed) => Some(Opened { path, file: placed }),
+            Err(why) => return print_not_begun(faults, why, file, path, shown.verbose),
+        },
+        None => None,
     };
     let formula = Opened {
         path: file,
         file: input,
     };
-    let proof = Opened { path, file: placed };
     solve_opened(
         rt, alloc, effort, formula, proof, shown, answer, faults, screen,
     )

@@ -5,7 +5,7 @@ use crate::check::check_run;
 use crate::checked_line::Checked;
 use crate::fault::RunFault;
 use crate::limit::TimeLimit;
-use crate::limited::run_limited_observed;
+use crate::limited::{answer_limited_observed, run_limited_observed};
 use crate::verdict::Verdict;
 use cdcl::Plan;
 use statistics::{AnswerWriter, Board, CountedReader, CountedWriter, TextWatch, Watch};
@@ -26,12 +26,13 @@ pub(crate) struct Effort {
     ghost hands_fit: { (1 ≤ hands) × (hands ≤ 16) },
 }
 
-/// A run that is counted on a board, and then ends the showing of progress.
+/// A run that is counted on a board, and then ends the showing of progress. Without a writer for the
+/// proof, none is made.
 pub(crate) fn run_counted<
     R: Files + Threads + Wait + Clock + Sync,
     I: Read + Drop,
     W: Write,
-    P: Write,
+    P: Write + Drop,
 >(
     rt: &R,
     alloc: Global,
@@ -39,30 +40,31 @@ pub(crate) fn run_counted<
     effort: Effort,
     input: I,
     answer: &mut W,
-    proof: &mut P,
+    proof: Option<P>,
 ) -> Result<Option<Verdict>, RunFault> {
-    let limit = TimeLimit::begin(rt, effort.seconds);
     let watch = Watch { rt, board };
-    let mut counted = CountedWriter {
-        inner: proof,
-        counter: &watch,
-    };
+    let limit = TimeLimit::begin(rt, effort.seconds);
+    let (plan, hands) = (effort.plan, effort.hands);
     let mut answering = AnswerWriter {
         inner: answer,
         counter: &watch,
     };
-    let result = run_limited_observed(
-        rt,
-        alloc,
-        input,
-        &mut answering,
-        &mut counted,
-        effort.plan,
-        effort.hands,
-        &watch,
-        &limit,
-        &watch,
-    );
+    let answer = &mut answering;
+    let result = match proof {
+        Some(proof) => {
+            let mut counted = CountedWriter {
+                inner: proof,
+                counter: &watch,
+            };
+            let proof = &mut counted;
+            run_limited_observed(
+                rt, alloc, input, answer, proof, plan, hands, &watch, &limit, &watch,
+            )
+        }
+        None => answer_limited_observed(
+            rt, alloc, input, answer, plan, hands, &watch, &limit, &watch,
+        ),
+    };
     board.end_progress(rt);
     result
 }

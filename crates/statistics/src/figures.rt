@@ -108,6 +108,8 @@ pub struct Figures {
     /// The formula's text, as far as `check` has read it.
     pub(crate) text: TextSize,
     pub(crate) proof: TextSize,
+    /// Whether it is known that no proof is written.
+    pub(crate) has_no_proof: bool,
     /// How many bytes the proof that is checked has, if that is known.
     pub whole: Option<u64>,
     pub(crate) read: Option<StageEnd>,
@@ -131,6 +133,7 @@ impl Figures {
             tree: None,
             text: TextSize::none(),
             proof: TextSize::none(),
+            has_no_proof: false,
             whole: None,
             read: None,
             solved: None,
@@ -183,6 +186,12 @@ impl Figures {
         self.stage = Stage::Joining;
         self.tree = size;
         self.solved = Some(end);
+    }
+
+    /// It is decided, and there is no proof to be written.
+    pub fn end_deciding(&mut self, end: StageEnd) {
+        self.end_solving(None, end);
+        self.has_no_proof = true;
     }
 
     /// The answer is made, and all that the proof's lines are made of.

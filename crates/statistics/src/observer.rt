@@ -13,6 +13,9 @@ pub trait Observer {
     /// It is solved.
     fn solved(&self, tree: &Tree<Row>);
 
+    /// It is decided, and no tree was kept.
+    fn decided(&self);
+
     /// The answer is made, and all that the proof's lines are made of as they are written.
     fn joined(&self);
 
@@ -28,6 +31,8 @@ impl Observer for Unobserved {
     fn read(&self, _formula: &Formula) {}
 
     fn solved(&self, _tree: &Tree<Row>) {}
+
+    fn decided(&self) {}
 
     fn joined(&self) {}
 

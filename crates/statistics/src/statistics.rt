@@ -97,8 +97,10 @@ pub fn print_statistics<E: Write>(out: &mut E, figures: &Figures, hands: usize) 
     print_counts(out, figures);
     print_cubes(out, figures);
     print_hands(out, figures, hands);
-    let proof = figures.proof;
-    let _ = writeln!(out, "c proof: {proof}");
+    if !figures.has_no_proof {
+        let proof = figures.proof;
+        let _ = writeln!(out, "c proof: {proof}");
+    }
     print_stages(out, figures);
     print_speed(out, figures);
 }

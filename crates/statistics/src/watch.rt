@@ -102,6 +102,11 @@ impl<R: Files + Wait + Clock> Observer for Watch<'_, R> {
         self.board.figures().lock(self.rt).end_solving(size, end);
     }
 
+    fn decided(&self) {
+        let end = self.stage_end();
+        self.board.figures().lock(self.rt).end_deciding(end);
+    }
+
     fn joined(&self) {
         let end = self.stage_end();
         self.board.figures().lock(self.rt).end_joining(end);

@@ -1,7 +1,7 @@
-use Rattle.std.proofs.Common.{◌+◌, [], map, refl, arith}
+use Rattle.std.proofs.Common.{◌+◌, [], refl, arith}
 use Rattle.std.proofs.lemmas.List.Elements.{All-map, All-nil}
 use Rattle.theory.specs.Results.{IsTrueOf}
-use Rattle.cubes.specs.Solved.{solved_of}
+use Rattle.cubes.specs.Solved.{results_by, solved_by}
 use Rattle.cubes.proofs.Walks.{IsReached-over, IsReached-short}
 use Rattle.cubes.proofs.KnownLemmas.{AreOutcomes-known}
 use Rattle.cubes.proofs.GatheringLemmas.{IsGathered-start, can_go_on, gives, fewer, says}
@@ -9,32 +9,32 @@ use Rattle.cubes.proofs.results.gather_watched.Goals as goal
 
 pub cubes-init : goal.cubes-init
 cubes-init g c = record {
-  source = (AreOutcomes-known c.args.formula.now c.args.plan (map solved_of c.args.results.items) c.in_ok-new.field-0 (All-map (λ r. IsTrueOf c.args.formula.now c.args.plan r.cube r.what) solved_of c.args.results.items c.requires.results) c.in_ok-new.ensures, tt);
-  reached = IsGathered-start c.args.formula.now c.args.plan c.start-gathering.result c.start-gathering.ensures.cube c.start-gathering.ensures.walk c.start-gathering.ensures.nodes;
+  source = (AreOutcomes-known g.L.KeepsLines.lines c.args.formula.now c.args.plan (results_by g.L.KeepsLines.lines c.args.results.items) c.in_ok-new.field-0 (All-map (λ r. IsTrueOf c.args.formula.now c.args.plan r.cube r.what) (solved_by g.L.KeepsLines.lines) c.args.results.items c.requires.results) c.in_ok-new.ensures, tt);
+  reached = IsGathered-start g.L.KeepsLines.lines c.args.formula.now c.args.plan c.start-gathering.result c.start-gathering.ensures.cube c.start-gathering.ensures.walk c.start-gathering.ensures.nodes;
 }
 
 pub outcome-requires-clause-over : goal.outcome-requires-clause-over
 outcome-requires-clause-over g c = let r = c.cubes.invariant.reached in IsReached-over c.args.formula.now c.args.plan [] c.cubes.gathering.at.walk r.results c.cubes.gathering.at.cube r.below refl (All-nil _) r.reached
 
 pub go_on-requires : goal.go_on-requires
-go_on-requires g c = can_go_on c.args.formula.now c.args.plan c.cubes.gathering c.in_ok-outcome.outcome (let few = c.vars-vars.ensures.within.vars in omega arith) c.in_ok-outcome.ensures.runs
+go_on-requires g c = can_go_on g.L.KeepsLines.lines c.args.formula.now c.args.plan c.cubes.gathering c.in_ok-outcome.outcome (let few = c.vars-vars.ensures.within.vars in omega arith) c.in_ok-outcome.ensures.runs
 
 pub returns-in-Some-clause-result : goal.returns-in-Some-clause-result
 returns-in-Some-clause-result g c =
-    gives c.args.formula.now c.args.plan c.cubes.gathering c.go_on.new.self c.in_ok-outcome.outcome _ c.cubes.invariant.reached c.in_ok-outcome.ensures.runs (rw c.in-Some.is at c.in_ok-tree.ensures)
+    gives g.L.KeepsLines.lines c.args.formula.now c.args.plan c.cubes.gathering c.go_on.new.self c.in_ok-outcome.outcome _ c.cubes.invariant.reached c.in_ok-outcome.ensures.runs (rw c.in-Some.is at c.in_ok-tree.ensures)
 
 pub returns-in-Some-clause-says : goal.returns-in-Some-clause-says
 returns-in-Some-clause-says g c =
-    says c.args.formula.now c.args.plan c.in-Some.tree c.vars-vars.ensures.within.formula
-    (gives c.args.formula.now c.args.plan c.cubes.gathering c.go_on.new.self c.in_ok-outcome.outcome _ c.cubes.invariant.reached c.in_ok-outcome.ensures.runs (rw c.in-Some.is at c.in_ok-tree.ensures))
+    says g.L.KeepsLines.lines c.args.formula.now c.args.plan c.in-Some.tree c.vars-vars.ensures.within.formula
+    (gives g.L.KeepsLines.lines c.args.formula.now c.args.plan c.cubes.gathering c.go_on.new.self c.in_ok-outcome.outcome _ c.cubes.invariant.reached c.in_ok-outcome.ensures.runs (rw c.in-Some.is at c.in_ok-tree.ensures))
 
 pub cubes-smaller : goal.cubes-smaller
 cubes-smaller g c =
-    fewer (c.args.formula.now.vars + 1) c.cubes.gathering c.go_on.new.self c.in_ok-outcome.outcome
+    fewer g.L.KeepsLines.lines (c.args.formula.now.vars + 1) c.cubes.gathering c.go_on.new.self c.in_ok-outcome.outcome
     (let r = c.cubes.invariant.reached in let short = IsReached-short c.args.formula.now c.args.plan [] c.cubes.gathering.at.walk r.results c.cubes.gathering.at.cube r.below refl (All-nil _) r.reached in omega arith) (rw c.in_default.is at c.in_ok-tree.ensures)
 
 pub cubes-preserved : goal.cubes-preserved
 cubes-preserved g c = record {
   source = c.in_ok-outcome.ensures.kept;
-  reached = gives c.args.formula.now c.args.plan c.cubes.gathering c.go_on.new.self c.in_ok-outcome.outcome _ c.cubes.invariant.reached c.in_ok-outcome.ensures.runs (rw c.in_default.is at c.in_ok-tree.ensures);
+  reached = gives g.L.KeepsLines.lines c.args.formula.now c.args.plan c.cubes.gathering c.go_on.new.self c.in_ok-outcome.outcome _ c.cubes.invariant.reached c.in_ok-outcome.ensures.runs (rw c.in_default.is at c.in_ok-tree.ensures);
 }

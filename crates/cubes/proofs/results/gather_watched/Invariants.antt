@@ -7,8 +7,8 @@ use Rattle.cubes.proofs.results.gather_watched.Given as goal
 -- what is known is so, and the cube is reached, with the nodes before it
 abbrev pub invariant-cubes : goal.invariant-cubes
 invariant-cubes g l = record {
-  source : IsSource l.formula l.plan l.source;
-  reached : IsGathered l.formula l.plan l.gathering;
+  source : IsSource g.L.KeepsLines.lines l.formula l.plan l.source;
+  reached : IsGathered g.L.KeepsLines.lines l.formula l.plan l.gathering;
 }
 
 abbrev pub decreases-cubes : goal.decreases-cubes

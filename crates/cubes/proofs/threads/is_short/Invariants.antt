@@ -3,4 +3,4 @@ use Rattle.cubes.proofs.threads.is_short.Given as goal
 
 -- none so far
 abbrev pub invariant-loop-worked : goal.invariant-loop-worked
-invariant-loop-worked l = All (λ w. w.short_of_memory ≡ false) (take l.worked-index l.works)
+invariant-loop-worked g l = All (λ w. w.short_of_memory ≡ false) (take l.worked-index l.works)

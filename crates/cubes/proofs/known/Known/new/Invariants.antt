@@ -1,8 +1,8 @@
 use Rattle.std.proofs.Common.{map}
 use Rattle.cubes.specs.Known.{AreKnown}
-use Rattle.cubes.specs.Solved.{solved_of}
+use Rattle.cubes.specs.Solved.{solved_by}
 use Rattle.cubes.proofs.known.Known.new.Given as goal
 
 -- the outcomes so far
 abbrev pub invariant-loop-solved : goal.invariant-loop-solved
-invariant-loop-solved l = AreKnown (map solved_of l.yielded) l.known
+invariant-loop-solved g l = AreKnown g.L.KeepsLines.lines (map (solved_by g.L.KeepsLines.lines) l.yielded) l.known

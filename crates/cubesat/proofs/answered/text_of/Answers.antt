@@ -1,0 +1,6 @@
+use Rattle.cubesat.proofs.AnsweredLemmas.{refuted-answer}
+use Rattle.cubesat.proofs.answered.text_of.Goals as goal
+
+pub returns-in_ok-answer-in-None : goal.returns-in_ok-answer-in-None
+returns-in_ok-answer-in-None c =
+    refuted-answer c.args.formula.now c.args.plan c.in_ok-answer-in-None.answer.items c.vars-vars.ensures.within (rw c.in-None.is at c.requires) c.in_ok-answer-in-None.ensures
