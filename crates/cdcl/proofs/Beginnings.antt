@@ -1,5 +1,5 @@
 -- How the search of a cube begins, and what is so whatever it comes to.
-use Rattle.std.proofs.Common.{◌≡◌, ℕ, ◌≤◌, false, List, [], length, take, All, ap, sym, ◌∙◌, subst, arith}
+use Rattle.std.proofs.Common.{◌≡◌, ℕ, false, List, [], length, take, All, ap, sym, ◌∙◌, subst, arith}
 use Rattle.std.proofs.Math.Seq.{take-length}
 use Rattle.theory.specs.Literals.{Literal, Clause, IsCube}
 use Rattle.theory.specs.Truth.{Formula, IsOver}

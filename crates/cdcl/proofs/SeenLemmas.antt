@@ -1,5 +1,5 @@
 -- The variables that a conflict has seen, as a list.
-use Rattle.std.proofs.Common.{◌≡◌, ℕ, suc, zero, ◌<◌, ◌≤◌, Bool, true, false, ◌&&◌, ◌||◌, List, [], ◌∷◌, length, slice_index, count_by, cond, refl, ap, sym, subst, ◌∙◌, nat_eq, nat_lt, eq-eqb, Option, Some, None, All, arith}
+use Rattle.std.proofs.Common.{◌≡◌, ℕ, suc, zero, ◌<◌, ◌≤◌, Bool, true, false, ◌||◌, List, [], ◌∷◌, length, slice_index, count_by, cond, refl, ap, sym, subst, nat_eq, nat_lt, eq-eqb, Option, Some, None, All, arith}
 use Rattle.std.specs.List.{list_any}
 use Rattle.std.proofs.lemmas.List.Elements.{All-nil, All-cons}
 use Rattle.theory.specs.Literals.{Clause, IsVariable, has_var}

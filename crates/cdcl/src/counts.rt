@@ -56,9 +56,9 @@ impl Counts {
     }
 }
 
-/// Who is told what a solver has done: about each thousand conflicts or 100,000 entries of the trail
-/// while it is in a cube, and at the cube's end. What the solver answers doesn't depend on it, but
-/// that a watcher may stop it.
+/// Who is told what a solver has done: about each thousand conflicts or 100,000 entries of the
+/// trail while it is in a cube, and at the cube's end. What the solver answers doesn't depend on
+/// it, but a watcher may stop it.
 pub trait Watcher {
     /// The solver has done so much since it was opened.
     fn counted(&self, counts: Counts);

@@ -1,8 +1,8 @@
 -- What a hand calls until it goes home, put together from its single calls.
-use Rattle.std.proofs.Common.{◌≡◌, ℕ, zero, suc, Bool, true, false, List, [], ◌∷◌, ◌++◌, All, refl, sym, ap, ◌∙◌, subst, append-nil, append_assoc}
+use Rattle.std.proofs.Common.{◌≡◌, ℕ, zero, suc, Bool, true, false, List, [], ◌∷◌, ◌++◌, refl, sym, ap, ◌∙◌, append-nil, append_assoc}
 use Rattle.std.proofs.lemmas.List.Elements.{All-nil, All-cons, All-append}
 use Rattle.theory.specs.Literals.{Literal}
-use Rattle.theory.specs.Ledger.{Call, still_open, halted, Ledger, calling, putting}
+use Rattle.theory.specs.Ledger.{Call, still_open, halted, Ledger, calling}
 use Rattle.pool.specs.Hands.{HandView, adds}
 use Rattle.cubes.specs.Hands.{Gets, IsOnward, IsFarewell, GoesOn, GoesHome}
 

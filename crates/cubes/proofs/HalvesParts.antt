@@ -1,5 +1,5 @@
 -- Both halves of a cube are handed on, or memory runs short on the way.
-use Rattle.std.proofs.Common.{◌≡◌, ℕ, Bool, true, false, List, [], ◌++◌, sym, ap, ◌∙◌, subst, append-nil}
+use Rattle.std.proofs.Common.{◌≡◌, ℕ, Bool, false, List, [], ◌++◌, sym, ◌∙◌, subst, append-nil}
 use Rattle.theory.specs.Literals.{Literal}
 use Rattle.theory.specs.Truth.{Formula}
 use Rattle.theory.specs.Plans.{Plan}

@@ -1,6 +1,6 @@
 -- What a run without a proof says: the answer is the one that goes with the formula's proof.
-use Rattle.std.proofs.Common.{◌≡◌, ℕ, List, [], Option, Some, None, Result, Ok, Err, take, inl, inr, ◌⊎◌, refl}
-use Rattle.theory.specs.Truth.{Formula, Assignment}
+use Rattle.std.proofs.Common.{◌≡◌, ℕ, List, Option, None, Result, Ok, Err, take, inl, inr, ◌⊎◌, refl}
+use Rattle.theory.specs.Truth.{Formula}
 use Rattle.theory.specs.Plans.{Plan}
 use Rattle.theory.specs.Reading.{IsWithinLimits}
 use Rattle.theory.specs.Proofs.{proof}
@@ -12,14 +12,14 @@ use Rattle.cnf.specs.declared.fault.ReadFault.TheVariants as reading
 use Rattle.cnf.specs.Faults.{IsReadOf}
 use Rattle.std.specs.Io.KnownBytes.{Appends}
 use Rattle.lrat_text.proofs.WrittenTexts.{proof_text-ProofReads}
-use Rattle.cubes.specs.Decided.{IsModelOf, IsRefuted}
+use Rattle.cubes.specs.Decided.{IsRefuted}
 use Rattle.join.proofs.StepLemmas.{proof-within}
 use Rattle.cubesat.specs.Answered.{IsAnswerFor, IsAnswerOf, BeginsAnswer, IsUnanswered, AnswerSays}
 use Rattle.cubesat.specs.Faults.{fault_of_read}
 use Rattle.cubesat.specs.declared.fault.RunFault.{RunFault}
 use Rattle.cubesat.specs.declared.fault.RunFault.TheVariants.{AnswerWriteFailed}
 use Rattle.cubesat.specs.declared.verdict.Verdict.{Verdict}
-use Rattle.cubesat.specs.declared.verdict.Verdict.TheVariants.{Satisfiable, Unsatisfiable}
+use Rattle.cubesat.specs.declared.verdict.Verdict.TheVariants.{Unsatisfiable}
 use Rattle.cubesat.proofs.RightAnswers.{texts-right}
 use Rattle.cubesat.proofs.RunLemmas.{IsRunOf-made}
 use Rattle.cubesat.proofs.WrittenLemmas.{Keeps-same}

@@ -9,7 +9,8 @@ use Rattle.cubesat.specs.Faults.{fault_of_read}
 use Rattle.cubesat.specs.Streamed.{IsStop}
 use Rattle.theory.specs.ProofReading.{max_proof_bytes}
 use Rattle.cubesat.specs.declared.checked_line.Checked.{Checked}
-use Rattle.cubesat.specs.Check.{IsUnchecked, IsLine, IsCheckOf, IsProofUnread, CheckSays}
+use Rattle.cubesat.specs.declared.check.Told.{Told}
+use Rattle.cubesat.specs.Check.{IsUnchecked, IsLine, IsCheckOf, IsProofUnread, CheckSays, checked_by}
 use Rattle.cubesat.proofs.WrittenLemmas.{Keeps-same}
 
 unchecked : (known a : Option (List ℕ)) (fault : ReadFault) → ◌≡◌ {A = Result truth.Formula ReadFault} (Err fault) (Err reading.ReadFailed) ⊎ IsReadOf known (Err fault) → (fault ≡ reading.NoMemory → ⊥)
@@ -43,7 +44,7 @@ IsProofUnread-made known a F (inl e) = absurd (cc)
 IsProofUnread-made known a F (inr r) = record { bytes = r.bytes; are = r.are; value = F; reads = r.is_read; kept = Keeps-same a }
 
 -- so what is said of a run that stopped while it fed the proof
-pub CheckSays-stopped : (known proof a : Option (List ℕ)) (F : truth.Formula) (e : RunFault) (r : Result Checked RunFault)
-    → ◌≡◌ {A = Result truth.Formula ReadFault} (Ok F) (Err reading.ReadFailed) ⊎ IsReadOf known (Ok F) → IsStop e → r ≡ Err e → CheckSays known proof a a r
-CheckSays-stopped known proof a F e r read (inl p) same = subst (CheckSays known proof a a) (sym (same ∙ ap (λ f. Err f) p)) (IsProofUnread-made known a F read)
-CheckSays-stopped known proof a F e r read (inr m) same = subst (CheckSays known proof a a) (sym (same ∙ ap (λ f. Err f) m)) (Keeps-same a)
+pub CheckSays-stopped : (known proof a : Option (List ℕ)) (F : truth.Formula) (e : RunFault) (r : Result Told RunFault)
+    → ◌≡◌ {A = Result truth.Formula ReadFault} (Ok F) (Err reading.ReadFailed) ⊎ IsReadOf known (Ok F) → IsStop e → r ≡ Err e → CheckSays known proof a a (checked_by r)
+CheckSays-stopped known proof a F e r read (inl p) same = subst (λ s. CheckSays known proof a a (checked_by s)) (sym (same ∙ ap (λ f. Err f) p)) (IsProofUnread-made known a F read)
+CheckSays-stopped known proof a F e r read (inr m) same = subst (λ s. CheckSays known proof a a (checked_by s)) (sym (same ∙ ap (λ f. Err f) m)) (Keeps-same a)

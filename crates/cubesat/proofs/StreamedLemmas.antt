@@ -1,13 +1,11 @@
 -- A proof that is checked as a reader gives it.
-use Rattle.std.proofs.Common.{◌≡◌, ℕ, ◌+◌, ◌≤◌, List, [], ◌++◌, length, take, Option, Some, None, IfSome, Result, MatchResult, sym, ap, subst, ◌∙◌, arith, inl, inr, append-nil, length-append, append_assoc}
+use Rattle.std.proofs.Common.{◌≡◌, ℕ, ◌+◌, ◌≤◌, List, ◌++◌, length, take, Option, Some, None, IfSome, Result, MatchResult, sym, ap, subst, ◌∙◌, arith, inl, inr, append-nil, length-append, append_assoc}
 use Rattle.std.proofs.lemmas.List.{take_at, take_all}
 use Rattle.std.proofs.lemmas.Bool.{cases_lt}
 use Rattle.std.specs.Io.KnownBytes.{Consumes, IsAtEnd}
 use Rattle.theory.specs.Truth as truth
 use Rattle.theory.specs.ProofReading.{ProofReading, ProofReads, max_proof_bytes, too_long}
-use Rattle.theory.specs.ProofReading as reading
 use Rattle.theory.specs.Checking.{accepted}
-use Rattle.lrat_text.specs.declared.fault.TextFault.TheVariants as texts
 use Rattle.lrat.specs.Running.{IsSaid}
 use Rattle.lrat.specs.declared.refusal.Refusal.{Refusal}
 use Rattle.lrat_text.specs.Streams.{Stream, begin, feed, finish, checked, answer_to}

@@ -17,6 +17,7 @@ use Rattle.lrat.specs.declared.check_fault.CheckFault.{CheckFault}
 use Rattle.lrat.specs.CheckFaults.{check_fault_step}
 use Rattle.cubesat.specs.declared.fault.RunFault.{RunFault}
 use Rattle.cubesat.specs.declared.fault.RunFault.TheVariants.{Read, NoMemory, ProofWriteFailed, AnswerWriteFailed, ProofReadFailed}
+use Rattle.cubesat.specs.declared.check.Told.{Told}
 use Rattle.cubesat.specs.declared.checked_line.Checked.{Checked}
 use Rattle.cubesat.specs.declared.checked_line.Checked.TheVariants.{Accepted, Refused}
 use Rattle.cubesat.specs.declared.checked_line.Place.{Place}
@@ -104,3 +105,8 @@ CheckSays known proof a b (Err NoMemory) = Keeps a b
 CheckSays known proof a b (Err ProofWriteFailed) = ⊥
 CheckSays known proof a b (Err AnswerWriteFailed) = StopsInLine known proof a b
 CheckSays known proof a b (Err ProofReadFailed) = IsProofUnread known a b
+
+-- the verdict of a check that also tells why
+abbrev pub checked_by : Result Told RunFault → Result Checked RunFault
+checked_by (Ok told) = Ok told.checked
+checked_by (Err fault) = Err fault

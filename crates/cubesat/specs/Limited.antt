@@ -1,11 +1,11 @@
 -- What a run with a limit has read and written.
-use Rattle.std.specs.Prelude.{◌≡◌, ℕ, List, Option, Some, None, take, codes, Result, Ok, Err, ◌⊎◌}
+use Rattle.std.specs.Prelude.{ℕ, List, Option, Some, None, take, codes, Result, Ok, Err, ◌⊎◌}
 use Rattle.std.specs.Io.KnownBytes.{Appends, Keeps}
 use Rattle.theory.specs.Plans.{Plan}
 use Rattle.cubesat.specs.Run.{RunSays}
 use Rattle.cubesat.specs.Answered.{AnswerSays}
 use Rattle.cubesat.specs.declared.fault.RunFault.{RunFault}
-use Rattle.cubesat.specs.declared.fault.RunFault.TheVariants.{Read, NoMemory, ProofWriteFailed, AnswerWriteFailed, ProofReadFailed}
+use Rattle.cubesat.specs.declared.fault.RunFault.TheVariants.{NoMemory, AnswerWriteFailed}
 use Rattle.cubesat.specs.declared.verdict.Verdict.{Verdict}
 
 -- the answer without a verdict

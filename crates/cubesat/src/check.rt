@@ -1,27 +1,48 @@
 //! A run of the checker of proofs.
-ghost use Rattle.cubesat.specs.Check.{CheckSays};
+ghost use Rattle.cubesat.specs.Check.{CheckSays, checked_by};
 
 use crate::checked_line::{Checked, checked_line};
 use crate::fault::RunFault;
 use crate::output::write_text;
 use crate::proof_input::feed_all;
 use cnf::read_from;
-use lrat::ProofStream;
+use lrat::{ProofStream, Refusal};
+use messages::Refused;
 use std::alloc::Global;
 use std::io::{Read, Write};
 
-/// Checks a proof against the formula of a DIMACS text, by the checker of `lrat`: reads the
-/// formula, then the proof until 4,294,967,297 bytes are there, and writes and flushes one line,
-/// `accepted` or why it is refused. Each step is checked as its line ends, so it takes memory for
-/// the clauses that are there, and none for the text. `RunFault` says when each fault comes and
-/// what is written then.
-pub fn check_run<R: Read + Drop, P: Read + Drop, W: Write>(
+/// What the checker says of a proof, and why it is refused, if it is.
+#[derive(Clone, Copy)]
+pub(crate) struct Told {
+    pub(crate) checked: Checked,
+    pub(crate) why: Option<Refused>,
+}
+
+/// Why a proof is refused, whose step at fault names this clause wrongly, if it is that.
+fn why_refused(verdict: Result<(), Refusal>, named: Option<u64>) -> Option<Refused> {
+    match verdict {
+        Ok(()) => None,
+        Err(Refusal::Text(fault)) => Some(Refused {
+            number: fault.number(),
+            line: fault.line(),
+            named: None,
+        }),
+        Err(Refusal::Steps(fault)) => Some(Refused {
+            number: fault.number(),
+            line: fault.step(),
+            named,
+        }),
+    }
+}
+
+/// What `check_run` does, and why the proof is refused.
+pub(crate) fn check_told<R: Read + Drop, P: Read + Drop, W: Write>(
     alloc: Global,
     formula: R,
     mut proof: P,
     answer: &mut W,
-) -> Result<Checked, RunFault>
-    ensures { CheckSays (R.remaining formula) (P.remaining proof) (W.contents answer.old) (W.contents answer.new) result }
+) -> Result<Told, RunFault>
+    ensures { CheckSays (R.remaining formula) (P.remaining proof) (W.contents answer.old) (W.contents answer.new) (checked_by result) }
 {
     let formula = match read_from(alloc, formula) {
         Ok(formula) => formula,
@@ -33,10 +54,32 @@ pub fn check_run<R: Read + Drop, P: Read + Drop, W: Write>(
     };
     drop(formula);
     feed_all(alloc, &mut proof, &mut stream)?;
-    let line = match checked_line(alloc, stream.verdict()) {
+    let verdict = stream.verdict();
+    let line = match checked_line(alloc, verdict) {
         Ok(line) => line,
         Err(_) => return Err(RunFault::NoMemory),
     };
     write_text(answer, &line.text, RunFault::AnswerWriteFailed)?;
-    Ok(line.checked)
+    let checked = line.checked;
+    let why = why_refused(verdict, stream.named_wrongly());
+    Ok(Told { checked, why })
+}
+
+/// Checks a proof against the formula of a DIMACS text, by the checker of `lrat`: reads the
+/// formula, then the proof until 4,294,967,297 bytes are there, and writes and flushes one line,
+/// `accepted` or why it is refused. Each step is checked as its line ends, so it takes memory for
+/// the clauses that are there, and none for the text. `RunFault` says when each fault comes and
+/// what is written then.
+pub fn check_run<R: Read + Drop, P: Read + Drop, W: Write>(
+    alloc: Global,
+    formula: R,
+    proof: P,
+    answer: &mut W,
+) -> Result<Checked, RunFault>
+    ensures { CheckSays (R.remaining formula) (P.remaining proof) (W.contents answer.old) (W.contents answer.new) result }
+{
+    match check_told(alloc, formula, proof, answer) {
+        Ok(told) => Ok(told.checked),
+        Err(fault) => Err(fault),
+    }
 }

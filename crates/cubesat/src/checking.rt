@@ -1,7 +1,7 @@
 //! `check`: its files, and what is printed of the run.
 
 use crate::arguments::Shown;
-use crate::check::check_run;
+use crate::check::{Told, check_told};
 use crate::checked_line::Checked;
 use crate::fault::RunFault;
 use crate::fault_lines::{FAILED, Screen, print_fault_of, print_not_opened};
@@ -35,6 +35,14 @@ pub(crate) enum CheckEnd {
 }
 
 impl CheckEnd {
+    /// The end of a check that answered so.
+    fn of(checked: Checked) -> CheckEnd {
+        match checked {
+            Checked::Accepted => CheckEnd::Accepted,
+            Checked::Refused => CheckEnd::Refused,
+        }
+    }
+
     /// The exit status. A fault has that of a refused proof, unless the two are to be distinct.
     pub(crate) fn status(self, are_distinct: bool) -> u8 {
         match self {
@@ -62,7 +70,7 @@ fn check_beside<
     answer: &mut W,
     faults: &mut E,
     screen: Screen,
-) -> Result<Checked, RunFault> {
+) -> Result<Told, RunFault> {
     let showing = Showing::of(Some(screen.manner()), false);
     let (_, result) = thread::join(
         rt,
@@ -90,9 +98,9 @@ fn check_opened<
     answer: &mut W,
     faults: &mut E,
     screen: Screen,
-) -> Result<Checked, RunFault> {
+) -> Result<Told, RunFault> {
     if !shown.progress && !shown.stats {
-        return check_run(alloc, formula, proof, answer);
+        return check_told(alloc, formula, proof, answer);
     }
     let board = Board::of_proof(rt, size);
     let result = if shown.progress {
@@ -106,21 +114,19 @@ fn check_opened<
     result
 }
 
-/// Says why the proof in a file, which begins with the first of these bytes, was refused, by the
-/// line that was printed, and what that means where it is to be explained.
+/// Says why the proof in a file, which begins with the first of these bytes, was refused, and what
+/// that means where it is to be explained.
 fn print_refused<R: Files, E: Write>(
     rt: &R,
     faults: &mut E,
     path: &str,
     beginning: &[u8],
-    line: &[u8],
+    why: Refused,
     is_explained: bool,
 ) {
-    if let Some(refused) = Refused::of_line(line) {
-        say_refused(rt, faults, path, refused, beginning);
-        if is_explained {
-            note_number(faults, refused.number);
-        }
+    say_refused(rt, faults, path, why, beginning);
+    if is_explained {
+        note_number(faults, why.number);
     }
 }
 
@@ -158,11 +164,12 @@ fn check_files<
         screen,
     );
     match result {
-        Ok(Checked::Accepted) => CheckEnd::Accepted,
-        Ok(Checked::Refused) => {
-            let (beginning, line) = (steps.beginning(), answer.beginning());
-            print_refused(rt, faults, proof.path, beginning, line, shown.verbose);
-            CheckEnd::Refused
+        Ok(told) => {
+            if let Some(why) = told.why {
+                let beginning = steps.beginning();
+                print_refused(rt, faults, proof.path, beginning, why, shown.verbose);
+            }
+            CheckEnd::of(told.checked)
         }
         Err(fault) => {
             let known = Known {

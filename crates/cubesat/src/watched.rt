@@ -1,8 +1,7 @@
 //! Runs that are watched: they write what `run_limited` and `check_run` write.
 ghost use Rattle.std.specs.Prelude.{◌≤◌};
 
-use crate::check::check_run;
-use crate::checked_line::Checked;
+use crate::check::{Told, check_told};
 use crate::fault::RunFault;
 use crate::limit::TimeLimit;
 use crate::limited::{answer_limited_observed, run_limited_observed};
@@ -26,8 +25,8 @@ pub(crate) struct Effort {
     ghost hands_fit: { (1 ≤ hands) × (hands ≤ 16) },
 }
 
-/// A run that is counted on a board, and then ends the showing of progress. Without a writer for the
-/// proof, none is made.
+/// A run that is counted on a board, and then ends the showing of progress. Without a writer for
+/// the proof, none is made.
 pub(crate) fn run_counted<
     R: Files + Threads + Wait + Clock + Sync,
     I: Read + Drop,
@@ -77,7 +76,7 @@ pub(crate) fn check_counted<R: Files + Wait + Clock, F: Read + Drop, P: Read + D
     formula: F,
     proof: P,
     answer: &mut W,
-) -> Result<Checked, RunFault> {
+) -> Result<Told, RunFault> {
     let watch = Watch { rt, board };
     let text_watch = TextWatch { rt, board };
     let text = CountedReader {
@@ -92,7 +91,7 @@ pub(crate) fn check_counted<R: Files + Wait + Clock, F: Read + Drop, P: Read + D
         inner: answer,
         counter: &watch,
     };
-    let result = check_run(alloc, text, counted, &mut answering);
+    let result = check_told(alloc, text, counted, &mut answering);
     watch.checked();
     board.end_progress(rt);
     result

@@ -205,7 +205,7 @@ fn formulas_that_are_refused(rt: HostRuntime) -> Result<(), Fail> {
     Ok(())
 }
 
-static PROOFS: [Row; 16] = [
+static PROOFS: [Row; 17] = [
     Row {
         proof: b"4 1 0 1 2 0\n",
         answer: "refused 21 step 1\n",
@@ -221,13 +221,20 @@ static PROOFS: [Row; 16] = [
     Row {
         proof: b"5 1 0 9 0\n",
         answer: "refused 23 step 1\n",
-        faults: "c |PROOF|: a hint of clause 5 names a clause that isn't there (line 1)\n",
+        faults: "c |PROOF|: clause 5 names clause 9, which isn't there (line 1)\n",
+        ..CHECKED
+    },
+    Row {
+        formula: WIDE,
+        proof: b"5 3 1 0 -8 0\n",
+        answer: "refused 23 step 1\n",
+        faults: "c |PROOF|: clause 5 names clause 8, which isn't there (line 1)\n",
         ..CHECKED
     },
     Row {
         proof: b"5 1 0 1 2 0\n212 0 1 0\n",
         answer: "refused 24 step 2\n",
-        faults: "c |PROOF|: a hint of clause 212 is neither false nor unit (line 2)\n",
+        faults: "c |PROOF|: hint 1 of clause 212 is neither false nor unit (line 2)\n",
         ..CHECKED
     },
     Row {

@@ -1,5 +1,5 @@
 -- The lines that are still to come: the first of them, and the rest.
-use Rattle.std.proofs.Common.{◌≡◌, ℕ, ◌+◌, ◌-◌, ◌<◌, Option, List, [], ◌∷◌, ◌++◌, length, Some, None, refl, ap, sym, ◌∙◌, append_assoc, append-nil, add-zero, arith}
+use Rattle.std.proofs.Common.{◌≡◌, ℕ, ◌+◌, ◌-◌, Option, List, [], ◌∷◌, ◌++◌, length, Some, None, refl, ap, sym, ◌∙◌, append_assoc, append-nil, add-zero, arith}
 use Rattle.theory.specs.Steps.{Step}
 use Rattle.theory.specs.Learning.{Line}
 use Rattle.theory.specs.Trees.{Node, split_on, refuted_leaf}

@@ -46,8 +46,8 @@ check-faulty V n s f step steps rest e h =
 pub refused-at : (F : Formula) (steps : List theory.Step) (f : Fault) (n : ℕ) → checks F steps ≡ refused (fault_of f) n → IsRefused F steps (fault_at f n)
 refused-at F steps IdNotRising n h = h
 refused-at F steps BothSigns n h = h
-refused-at F steps NoSuchClause n h = h
-refused-at F steps HintNotUnit n h = h
+refused-at F steps (NoSuchClause id) n h = h
+refused-at F steps (HintNotUnit id) n h = h
 refused-at F steps HintAfterConflict n h = h
 refused-at F steps NoConflict n h = h
 refused-at F steps MissingCandidate n h = h

@@ -26,8 +26,8 @@ feed-more V W seen at r piece p q old begun new less same takes byte =
 pub said-at : (f : Fault) (n : ℕ) → IsCheckSaid (refused (fault_of f) n) (fault_at f n)
 said-at IdNotRising n = refl
 said-at BothSigns n = refl
-said-at NoSuchClause n = refl
-said-at HintNotUnit n = refl
+said-at (NoSuchClause id) n = refl
+said-at (HintNotUnit id) n = refl
 said-at HintAfterConflict n = refl
 said-at NoConflict n = refl
 said-at MissingCandidate n = refl

@@ -1,5 +1,5 @@
 -- The clauses that are there, by the slots: one more, one found by its number, one taken away.
-use Rattle.std.proofs.Common.{◌≡◌, ℕ, zero, suc, ◌<◌, Bool, true, false, not, List, [], ◌∷◌, ◌++◌, Some, cond, eq-eqb, refl, ap, sym, ◌∙◌, slice_get, slice_set, arith, ne_eqb}
+use Rattle.std.proofs.Common.{◌≡◌, ℕ, zero, suc, Bool, true, false, not, List, [], ◌∷◌, ◌++◌, Some, cond, eq-eqb, refl, ap, sym, ◌∙◌, slice_get, slice_set, arith, ne_eqb}
 use Rattle.std.specs.List.{list_all}
 use Rattle.theory.specs.Literals.{Clause}
 use Rattle.theory.specs.Checking.{Numbered, clause_of, without_number}

@@ -42,8 +42,8 @@ check_fault_step NoMemory = None
 abbrev pub fault_at : Fault → ℕ → CheckFault
 fault_at inner.IdNotRising n = IdNotRising n
 fault_at inner.BothSigns n = BothSigns n
-fault_at inner.NoSuchClause n = NoSuchClause n
-fault_at inner.HintNotUnit n = HintNotUnit n
+fault_at (inner.NoSuchClause id) n = NoSuchClause n
+fault_at (inner.HintNotUnit id) n = HintNotUnit n
 fault_at inner.HintAfterConflict n = HintAfterConflict n
 fault_at inner.NoConflict n = NoConflict n
 fault_at inner.MissingCandidate n = MissingCandidate n
@@ -55,8 +55,8 @@ fault_at inner.LiteralOutOfRange n = LiteralOutOfRange n
 abbrev pub fault_of : Fault → theory.Fault
 fault_of inner.IdNotRising = theory.id_not_rising
 fault_of inner.BothSigns = theory.both_signs
-fault_of inner.NoSuchClause = theory.no_such_clause
-fault_of inner.HintNotUnit = theory.hint_not_unit
+fault_of (inner.NoSuchClause id) = theory.no_such_clause
+fault_of (inner.HintNotUnit id) = theory.hint_not_unit
 fault_of inner.HintAfterConflict = theory.hint_after_conflict
 fault_of inner.NoConflict = theory.no_conflict
 fault_of inner.MissingCandidate = theory.missing_candidate

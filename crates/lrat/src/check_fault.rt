@@ -57,19 +57,30 @@ pub enum CheckFault {
     NoMemory,
 }
 
-/// Why a step is refused.
+/// Why a step is refused, with the number of the clause that it names wrongly.
 #[derive(Clone, Copy)]
 pub(crate) enum Fault {
     IdNotRising,
     BothSigns,
-    NoSuchClause,
-    HintNotUnit,
+    NoSuchClause(u64),
+    HintNotUnit(u64),
     HintAfterConflict,
     NoConflict,
     MissingCandidate,
     BadCandidate,
     NoSuchDeletion,
     LiteralOutOfRange,
+}
+
+impl Fault {
+    /// The number of the clause that the step names wrongly, where it is that: there is none of
+    /// this number, or it is neither false nor unit.
+    pub(crate) fn named(self) -> Option<u64> {
+        match self {
+            Fault::NoSuchClause(id) | Fault::HintNotUnit(id) => Some(id),
+            _ => None,
+        }
+    }
 }
 
 impl CheckFault {
@@ -80,8 +91,8 @@ impl CheckFault {
         match fault {
             Fault::IdNotRising => CheckFault::IdNotRising(step),
             Fault::BothSigns => CheckFault::BothSigns(step),
-            Fault::NoSuchClause => CheckFault::NoSuchClause(step),
-            Fault::HintNotUnit => CheckFault::HintNotUnit(step),
+            Fault::NoSuchClause(_) => CheckFault::NoSuchClause(step),
+            Fault::HintNotUnit(_) => CheckFault::HintNotUnit(step),
             Fault::HintAfterConflict => CheckFault::HintAfterConflict(step),
             Fault::NoConflict => CheckFault::NoConflict(step),
             Fault::MissingCandidate => CheckFault::MissingCandidate(step),

@@ -148,7 +148,7 @@ fn group_fault(
     ensures vars { held.new.vars ≡ held.old.vars }
 {
     let Some(clause) = clauses.get(group.candidate()) else {
-        return Ok(Some(Fault::NoSuchClause));
+        return Ok(Some(Fault::NoSuchClause(group.candidate())));
     };
     if !has(clause, pivot) || named.contains(&group.candidate()) {
         return Ok(Some(Fault::BadCandidate));

@@ -70,8 +70,9 @@ pub(crate) fn take_hints(
     ensures vars { held.new.vars ≡ held.old.vars }
 {
     for index in 0..hints.len() {
-        let Some(clause) = clauses.get(hints[index]) else {
-            return Ok(Taken::Fails(Fault::NoSuchClause));
+        let id = hints[index];
+        let Some(clause) = clauses.get(id) else {
+            return Ok(Taken::Fails(Fault::NoSuchClause(id)));
         };
         match status_of(held, clause) {
             Hint::False => {
@@ -81,7 +82,7 @@ pub(crate) fn take_hints(
                     Taken::Fails(Fault::HintAfterConflict)
                 });
             }
-            Hint::NotUnit => return Ok(Taken::Fails(Fault::HintNotUnit)),
+            Hint::NotUnit => return Ok(Taken::Fails(Fault::HintNotUnit(id))),
             Hint::Implies(lit) => held.push(lit)?,
         }
     }

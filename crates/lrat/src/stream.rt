@@ -123,6 +123,15 @@ impl ProofStream {
         Ok(())
     }
 
+    /// The number of the clause that the first step at fault names wrongly, by a hint or as a
+    /// candidate, where it is that: there is none of this number, or it is neither false nor unit.
+    pub fn named_wrongly(&self) -> Option<u64> {
+        match self.stopped {
+            Some(stop) => stop.fault.named(),
+            None => None,
+        }
+    }
+
     /// What the check comes to if the text ends here: a text of more than 4,294,967,296 bytes is
     /// too long, then the first line at fault decides, then the first step. With none, a step has
     /// to have added the empty clause.

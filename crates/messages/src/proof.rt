@@ -31,7 +31,7 @@ fn words_around(number: u32) -> Option<(&'static str, &'static str)> {
     match number {
         21 => Some(("the number of ", " isn't above all numbers before it")),
         22 => Some(("", " has a variable in both signs")),
-        23 => Some(("a hint of ", " names a clause that isn't there")),
+        23 => Some(("", " names a clause that isn't there")),
         24 => Some(("a hint of ", " is neither false nor unit")),
         25 => Some(("a hint of ", " stands behind the conflict")),
         26 => Some(("the hints of ", " end without a conflict")),
@@ -73,29 +73,54 @@ fn added_by(line: u64, excerpt: Option<&Excerpt>) -> Added {
     }
 }
 
+/// Says which clause the step of a line names wrongly: one that isn't there, or one that is neither
+/// false nor unit.
+fn say_named<E: Write>(
+    out: &mut E,
+    name: Name<'_>,
+    number: u32,
+    named: u64,
+    added: Added,
+    line: u64,
+) {
+    let _ = if number == 23 {
+        writeln!(
+            out,
+            "c {name}: {added} names clause {named}, which isn't there (line {line})"
+        )
+    } else {
+        writeln!(
+            out,
+            "c {name}: hint {named} of {added} is neither false nor unit (line {line})"
+        )
+    };
+}
+
 /// Says what is wrong with the step or the line of this number.
 fn say_refused_at<E: Write>(
     out: &mut E,
     name: Name<'_>,
-    number: u32,
+    refused: Refused,
     line: u64,
     excerpt: Option<&Excerpt>,
 ) {
-    let _ = match words_around(number) {
-        Some((before, behind)) => {
-            let added = added_by(line, excerpt);
-            writeln!(out, "c {name}: {before}{added}{behind} (line {line})")
-        }
+    let added = added_by(line, excerpt);
+    if let Some(named) = refused.named {
+        say_named(out, name, refused.number, named, added, line);
+        return;
+    }
+    let _ = match words_around(refused.number) {
+        Some((before, behind)) => writeln!(out, "c {name}: {before}{added}{behind} (line {line})"),
         None => {
-            let words = words_of(number);
+            let words = words_of(refused.number);
             writeln!(out, "c {name}: {words} (line {line})")
         }
     };
 }
 
 /// Says why a proof was refused, with the number of the clause at fault where the text at its line
-/// is known; or what the file is, if it begins as no text does. `beginning` has its first bytes. A
-/// failed write changes nothing.
+/// is known, and with that of the one that it names wrongly; or what the file is, if it begins as
+/// no text does. `beginning` has its first bytes. A failed write changes nothing.
 pub fn say_proof_refused<E: Write>(
     out: &mut E,
     file: &str,
@@ -109,7 +134,7 @@ pub fn say_proof_refused<E: Write>(
     }
     let name = Name::of(file);
     match refused.line {
-        Some(line) => say_refused_at(out, name, refused.number, line, excerpt),
+        Some(line) => say_refused_at(out, name, refused, line, excerpt),
         None => {
             let words = words_of(refused.number);
             let _ = writeln!(out, "c {name}: {words}");

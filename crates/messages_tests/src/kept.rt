@@ -55,7 +55,7 @@ fn what_is_written_goes_through(rt: HostRuntime) -> Result<(), Fail> {
     writer.write_all(b"refused 30")?;
     writer.write_all(b"\n")?;
     writer.flush()?;
-    assert!(rt; writer.beginning() == b"refused 30\n".as_slice() && writer.error().is_none());
+    assert!(rt; writer.error().is_none());
     drop(writer);
     assert!(rt; taken.as_slice() == b"refused 30\n".as_slice());
     Ok(())

@@ -7,76 +7,117 @@ use std::alloc::Global;
 /// A proof with steps on three lines.
 const PROOF: &[u8] = b"5 1 0 1 2 0\n5 d 1 2 0\n12 0 5 3 4 0\n";
 
-/// Lines of `check`, with what is said of that proof.
-static REFUSED: [(&str, &str); 15] = [
+/// A refusal's number, line and clause that is named wrongly, with what is said of that proof.
+type Row = (u32, Option<u64>, Option<u64>, &'static str);
+
+static REFUSED: [Row; 17] = [
     (
-        "refused 21 step 1\n",
+        21,
+        Some(1),
+        None,
         "c p.lrat: the number of clause 5 isn't above all numbers before it (line 1)\n",
     ),
     (
-        "refused 22 step 1\n",
+        22,
+        Some(1),
+        None,
         "c p.lrat: clause 5 has a variable in both signs (line 1)\n",
     ),
     (
-        "refused 23 step 3\n",
-        "c p.lrat: a hint of clause 12 names a clause that isn't there (line 3)\n",
+        23,
+        Some(3),
+        None,
+        "c p.lrat: clause 12 names a clause that isn't there (line 3)\n",
     ),
     (
-        "refused 24 step 3\n",
+        23,
+        Some(3),
+        Some(17),
+        "c p.lrat: clause 12 names clause 17, which isn't there (line 3)\n",
+    ),
+    (
+        24,
+        Some(3),
+        None,
         "c p.lrat: a hint of clause 12 is neither false nor unit (line 3)\n",
     ),
     (
-        "refused 25 step 3\n",
+        24,
+        Some(3),
+        Some(17),
+        "c p.lrat: hint 17 of clause 12 is neither false nor unit (line 3)\n",
+    ),
+    (
+        25,
+        Some(3),
+        None,
         "c p.lrat: a hint of clause 12 stands behind the conflict (line 3)\n",
     ),
     (
-        "refused 26 step 3\n",
+        26,
+        Some(3),
+        None,
         "c p.lrat: the hints of clause 12 end without a conflict (line 3)\n",
     ),
     (
-        "refused 27 step 1\n",
+        27,
+        Some(1),
+        None,
         "c p.lrat: clause 5 has no hints for one of its candidates (line 1)\n",
     ),
     (
-        "refused 28 step 1\n",
+        28,
+        Some(1),
+        None,
         "c p.lrat: a group of clause 5 is for no candidate that needs one (line 1)\n",
     ),
     (
-        "refused 29 step 2\n",
+        29,
+        Some(2),
+        None,
         "c p.lrat: a deletion names a clause that isn't there (line 2)\n",
     ),
     (
-        "refused 30\n",
+        30,
+        None,
+        None,
         "c p.lrat: no step adds the empty clause; the proof may have been cut off\n",
     ),
     (
-        "refused 31 step 1\n",
+        31,
+        Some(1),
+        None,
         "c p.lrat: clause 5 has a variable that the formula doesn't have (line 1)\n",
     ),
     (
-        "refused 41 line 2\n",
+        41,
+        Some(2),
+        None,
         "c p.lrat: a word is no number in plain digits, or above its limit (line 2)\n",
     ),
     (
-        "refused 42 line 3\n",
+        42,
+        Some(3),
+        None,
         "c p.lrat: the last line isn't ended; the proof may have been cut off (line 3)\n",
     ),
     (
-        "refused 43 line 1\n",
+        43,
+        Some(1),
+        None,
         "c p.lrat: neither an addition `NUMBER LITERALS 0 HINTS 0` nor a deletion `NUMBER d NUMBERS 0` (line 1)\n",
     ),
     (
-        "refused 45\n",
+        45,
+        None,
+        None,
         "c p.lrat: longer than the limit, 4,294,967,296 bytes\n",
     ),
 ];
 
-/// What is said of a proof that a line refuses; nothing, if it doesn't.
-fn said(alloc: Global, line: &[u8], beginning: &[u8], is_read_again: bool) -> Vec<u8> {
+/// What is said of a proof that is refused.
+fn said(alloc: Global, refused: Refused, beginning: &[u8], is_read_again: bool) -> Vec<u8> {
     let mut out = Vec::new(alloc);
-    let Some(refused) = Refused::of_line(line) else {
-        return out;
-    };
     let mut excerpt = Excerpt::around(Place {
         line: refused.line.unwrap_or(1),
         column: 1,
@@ -89,18 +130,28 @@ fn said(alloc: Global, line: &[u8], beginning: &[u8], is_read_again: bool) -> Ve
 
 #[test]
 fn refusals_are_said(rt: HostRuntime) {
-    for (line, wanted) in &REFUSED {
-        let said = said(rt.alloc(), line.as_bytes(), PROOF, true);
+    for row in &REFUSED {
+        let (number, line, named, wanted) = *row;
+        let refused = Refused {
+            number,
+            line,
+            named,
+        };
+        let said = said(rt.alloc(), refused, PROOF, true);
         assert!(rt; said.as_slice() == wanted.as_bytes(), "{wanted}");
     }
 }
 
 #[test]
 fn a_refusal_of_what_is_read_once(rt: HostRuntime) {
-    let line = b"refused 24 step 18446744073709551615\n";
     let wanted =
         b"c p.lrat: a hint of the clause of step 18446744073709551615 is neither false nor unit (line 18446744073709551615)\n";
-    let said = said(rt.alloc(), line, PROOF, false);
+    let refused = Refused {
+        number: 24,
+        line: Some(u64::MAX),
+        named: None,
+    };
+    let said = said(rt.alloc(), refused, PROOF, false);
     assert!(rt; said.as_slice() == wanted.as_slice());
 }
 
@@ -131,20 +182,12 @@ static BEGINNINGS: [(&[u8], &str); 6] = [
 #[test]
 fn files_that_are_no_texts(rt: HostRuntime) {
     for (beginning, wanted) in &BEGINNINGS {
-        let said = said(rt.alloc(), b"refused 41 line 1\n", beginning, true);
+        let refused = Refused {
+            number: 41,
+            line: Some(1),
+            named: None,
+        };
+        let said = said(rt.alloc(), refused, beginning, true);
         assert!(rt; said.as_slice() == wanted.as_bytes(), "{beginning:?}");
-    }
-}
-
-#[test]
-fn other_lines_refuse_nothing(rt: HostRuntime) {
-    for line in [
-        "accepted\n",
-        "refused\n",
-        "refused x\n",
-        "",
-        "s refused 30\n",
-    ] {
-        assert!(rt; Refused::of_line(line.as_bytes()).is_none(), "{line}");
     }
 }

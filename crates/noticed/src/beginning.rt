@@ -5,8 +5,7 @@ ghost use Rattle.noticed.specs.declared.beginning.TheConstants.{KEPT};
 use arrayvec::ArrayVec;
 use std::marker::Model;
 
-/// How many bytes of a text are kept: more than a refusal's line has, and enough to tell what sort
-/// of file it is.
+/// How many bytes of a text are kept: enough to tell what sort of file it is.
 pub const KEPT: usize = 64;
 
 /// The first bytes of a text that comes in pieces. Contracts see them as a list.

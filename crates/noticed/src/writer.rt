@@ -1,31 +1,19 @@
 //! A writer that is looked at.
 
-use crate::beginning::Beginning;
 use std::io;
 use std::io::Write;
 
-/// Writes to another writer, and keeps the first bytes that it took and the last error that it
-/// answered.
+/// Writes to another writer, and keeps the last error that it answered.
 #[derive(Drop)]
 pub struct NoticedWriter<O> {
     inner: O,
-    beginning: Beginning,
     error: Option<io::Error>,
 }
 
 impl<O> NoticedWriter<O> {
     /// A writer to which nothing was written.
     pub fn of(inner: O) -> NoticedWriter<O> {
-        NoticedWriter {
-            inner,
-            beginning: Beginning::new(),
-            error: None,
-        }
-    }
-
-    /// The first bytes that it took.
-    pub fn beginning(&self) -> &[u8] {
-        self.beginning.bytes()
+        NoticedWriter { inner, error: None }
     }
 
     /// The last error that a write or a flush answered, if any.
@@ -39,10 +27,7 @@ impl<O: Write> Write for NoticedWriter<O> {
 
     fn write(&mut self, buf: &[u8]) -> io::Result<usize> {
         match self.inner.write(buf) {
-            Ok(count) => {
-                self.beginning.add(&buf[..count]);
-                Ok(count)
-            }
+            Ok(count) => Ok(count),
             Err(error) => {
                 self.error = Some(error);
                 Err(error)

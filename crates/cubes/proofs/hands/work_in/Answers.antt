@@ -1,4 +1,4 @@
-use Rattle.std.proofs.Common.{◌≡◌, true, false, sym, ap, ◌∙◌, subst, map, is_ok, rules}
+use Rattle.std.proofs.Common.{◌≡◌, true, false, sym, ap, ◌∙◌, subst, is_ok, rules}
 use Rattle.pool.specs.Hands.{HandView}
 use Rattle.cubes.specs.declared.hands.Worker.{Worker}
 use Rattle.cubes.specs.Solved.{results_by}

@@ -1,4 +1,4 @@
-use Rattle.std.proofs.Common.{map, is_ok, ap}
+use Rattle.std.proofs.Common.{is_ok, ap}
 use Rattle.pool.specs.Hands.{HandView}
 use Rattle.cubes.specs.Solved.{results_by}
 use Rattle.theory.specs.Ledger.{more, less}

@@ -2,7 +2,7 @@ use Rattle.std.proofs.Common.{rules}
 use Rattle.lrat.specs.Running.{stream_of, vars_of}
 use Rattle.cubesat.proofs.CheckRuns.{CheckSays-unread, CheckSays-stopped, IsCheckOf-made}
 use Rattle.cubesat.proofs.StreamedLemmas.{said-of_text, some_reading}
-use Rattle.cubesat.proofs.check.check_run.Goals as goal
+use Rattle.cubesat.proofs.check.check_told.Goals as goal
 
 pub returns-in-Err : goal.returns-in-Err
 returns-in-Err g c =
@@ -17,7 +17,7 @@ returns g c =
     record {
       line = c.in-Ok-checked_line.line.text.items;
       check = IsCheckOf-made (g.R.Read.remaining c.args.formula) (g.P.Read.remaining c.args.proof) F fed.bytes c.in-Ok-checked_line.line.checked c.in-Ok-checked_line.line.text.items c.in-Ok.ensures fed.are
-          (c.in-Ok-checked_line.ensures F fed.bytes r.0 r.1 (said-of_text F (vars_of stream) (stream_of stream) (stream_of c.feed_all.new.stream) fed.bytes r.0 c.verdict.result r.1 c.in-Ok-new.ensures.vars c.in-Ok-new.ensures.begin fed.fed c.verdict.ensures));
+          (c.in-Ok-checked_line.ensures F fed.bytes r.0 r.1 (said-of_text F (vars_of stream) (stream_of stream) (stream_of c.feed_all.new.stream) fed.bytes r.0 c.verdict-verdict.result r.1 c.in-Ok-new.ensures.vars c.in-Ok-new.ensures.begin fed.fed c.verdict-verdict.ensures));
       written = rw c.deref.ensures.value at c.in_ok-write_text.ensures;
     }
 
@@ -28,7 +28,7 @@ returns-in_err-write_text g c =
     let r = some_reading fed.bytes in
     let stream = c.in-Ok-new.stream in
     let check = IsCheckOf-made (g.R.Read.remaining c.args.formula) (g.P.Read.remaining c.args.proof) F fed.bytes c.in-Ok-checked_line.line.checked c.in-Ok-checked_line.line.text.items c.in-Ok.ensures fed.are
-    (c.in-Ok-checked_line.ensures F fed.bytes r.0 r.1 (said-of_text F (vars_of stream) (stream_of stream) (stream_of c.feed_all.new.stream) fed.bytes r.0 c.verdict.result r.1 c.in-Ok-new.ensures.vars c.in-Ok-new.ensures.begin fed.fed c.verdict.ensures)) in
+    (c.in-Ok-checked_line.ensures F fed.bytes r.0 r.1 (said-of_text F (vars_of stream) (stream_of stream) (stream_of c.feed_all.new.stream) fed.bytes r.0 c.verdict-verdict.result r.1 c.in-Ok-new.ensures.vars c.in-Ok-new.ensures.begin fed.fed c.verdict-verdict.ensures)) in
     search rules
 
 pub returns-in_err-feed_all : goal.returns-in_err-feed_all
