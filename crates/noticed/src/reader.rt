@@ -1,4 +1,5 @@
 //! A reader that is looked at.
+ghost use Rattle.std.specs.Prelude.{◌≡◌};
 
 use crate::beginning::Beginning;
 use std::io;
@@ -15,7 +16,9 @@ pub struct NoticedReader<I> {
 
 impl<I> NoticedReader<I> {
     /// A reader of which nothing was read.
-    pub fn of(inner: I) -> NoticedReader<I> {
+    pub fn of(inner: I) -> NoticedReader<I>
+        ensures { result.inner ≡ inner }
+    {
         NoticedReader {
             inner,
             beginning: Beginning::new(),

@@ -1,4 +1,5 @@
 //! A writer that is looked at.
+ghost use Rattle.std.specs.Prelude.{◌≡◌};
 
 use std::io;
 use std::io::Write;
@@ -12,7 +13,9 @@ pub struct NoticedWriter<O> {
 
 impl<O> NoticedWriter<O> {
     /// A writer to which nothing was written.
-    pub fn of(inner: O) -> NoticedWriter<O> {
+    pub fn of(inner: O) -> NoticedWriter<O>
+        ensures { result.inner ≡ inner }
+    {
         NoticedWriter { inner, error: None }
     }
 
