@@ -9,3 +9,4 @@ pub mod SaidLines
 pub mod CheckRuns
 pub mod StreamedLemmas
 pub mod ProofLemmas
+pub mod StatusLemmas

@@ -1,6 +1,6 @@
 -- That the answer of a run is right, without which of a formula's proofs is written. It needs
 -- truth, models, texts and their reading, and checking, and nothing of the search but its name.
-use Rattle.std.specs.Prelude.{◌≡◌, ℕ, ◌+◌, ◌≤◌, List, length, Option, Some, None, take, IfSome}
+use Rattle.std.specs.Prelude.{◌≡◌, ℕ, ◌+◌, ◌≤◌, List, length, Option, Some, None, take, codes, IfSome}
 use Rattle.std.specs.Io.KnownBytes.{Appends}
 use Rattle.theory.specs.Truth.{Formula, Assignment, Satisfiable}
 use Rattle.theory.specs.Plans.{Search}
@@ -12,6 +12,10 @@ use Rattle.theory.specs.ProofReading.{ProofReads, steps, max_proof_bytes}
 use Rattle.theory.specs.Checking.{checks, accepted}
 use Rattle.cubesat.specs.declared.verdict.Verdict.{Verdict}
 use Rattle.cubesat.specs.declared.verdict.Verdict.TheVariants as verdict
+
+-- the answer without a verdict
+abbrev pub unknown_text : List ℕ
+unknown_text = codes "s UNKNOWN\n"
 
 -- where a proof's text is no longer than such a text may be, it is read as steps that the checker
 -- accepts

@@ -20,6 +20,8 @@ use Rattle.cubesat.specs.declared.fault.RunFault.TheVariants.{Read, NoMemory, Pr
 use Rattle.cubesat.specs.declared.check.Told.{Told}
 use Rattle.cubesat.specs.declared.checked_line.Checked.{Checked}
 use Rattle.cubesat.specs.declared.checked_line.Checked.TheVariants.{Accepted, Refused}
+use Rattle.cubesat.specs.declared.checking.CheckEnd.{CheckEnd}
+use Rattle.cubesat.specs.declared.checking.CheckEnd.TheVariants as ends
 use Rattle.cubesat.specs.declared.checked_line.Place.{Place}
 use Rattle.cubesat.specs.declared.checked_line.Place.TheVariants.{Step, Line}
 
@@ -110,3 +112,12 @@ CheckSays known proof a b (Err ProofReadFailed) = IsProofUnread known a b
 abbrev pub checked_by : Result Told RunFault → Result Checked RunFault
 checked_by (Ok told) = Ok told.checked
 checked_by (Err fault) = Err fault
+
+abbrev pub end_of : Result Checked RunFault → CheckEnd
+end_of (Ok Accepted) = ends.Accepted
+end_of (Ok Refused) = ends.Refused
+end_of (Err fault) = ends.Fault
+
+-- the same by how the check ended
+abbrev pub CheckEnds : Option (List ℕ) → Option (List ℕ) → Option (List ℕ) → Option (List ℕ) → CheckEnd → Type 0
+CheckEnds known proof a b end = (r : Result Checked RunFault) × CheckSays known proof a b r × (end ≡ end_of r)

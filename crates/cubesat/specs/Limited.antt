@@ -1,18 +1,16 @@
 -- What a run with a limit has read and written.
-use Rattle.std.specs.Prelude.{ℕ, List, Option, Some, None, take, codes, Result, Ok, Err, ◌⊎◌}
+use Rattle.std.specs.Prelude.{◌≡◌, ℕ, List, Option, Some, None, take, Result, Ok, Err, ◌⊎◌}
 use Rattle.std.specs.Io.KnownBytes.{Appends, Keeps}
 use Rattle.theory.specs.Plans.{Plan}
+use Rattle.cubesat.specs.Answer.{unknown_text}
+use Rattle.cubesat.specs.Status.{solve_status}
 use Rattle.cubesat.specs.Run.{RunSays}
 use Rattle.cubesat.specs.Answered.{AnswerSays}
 use Rattle.cubesat.specs.declared.fault.RunFault.{RunFault}
 use Rattle.cubesat.specs.declared.fault.RunFault.TheVariants.{NoMemory, AnswerWriteFailed}
 use Rattle.cubesat.specs.declared.verdict.Verdict.{Verdict}
 
--- the answer without a verdict
-abbrev pub unknown_text : List ℕ
-unknown_text = codes "s UNKNOWN\n"
-
--- a beginning of it is written
+-- a beginning of the answer without a verdict is written
 abbrev pub BeginsUnknown : Option (List ℕ) → Option (List ℕ) → Type 0
 BeginsUnknown a b = (count : ℕ) × Appends a b (take count unknown_text)
 
@@ -37,3 +35,13 @@ LimitedAnswerSays reached known plan a b (Ok (Some verdict)) = AnswerSays known 
 LimitedAnswerSays reached known plan a b (Ok None) = reached × Appends a b unknown_text
 LimitedAnswerSays reached known plan a b (Err AnswerWriteFailed) = AnswerSays known plan a b (Err AnswerWriteFailed) ⊎ (reached × BeginsUnknown a b)
 LimitedAnswerSays reached known plan a b (Err fault) = AnswerSays known plan a b (Err fault)
+
+-- the same where there may be a writer for the proof, which is given away: what it held before, and
+-- what it holds in the end
+abbrev pub LimitedSays : Type 0 → Option (List ℕ) → Plan → Option (Option (List ℕ)) → Option (List ℕ) → Option (List ℕ) → Result (Option Verdict) RunFault → Type 0
+LimitedSays reached known plan None a b r = LimitedAnswerSays reached known plan a b r
+LimitedSays reached known plan (Some p) a b r = (q : Option (List ℕ)) × LimitedRunSays reached known plan p q a b r
+
+-- the same by the status
+abbrev pub SolveEnds : Type 0 → Option (List ℕ) → Plan → Option (Option (List ℕ)) → Option (List ℕ) → Option (List ℕ) → ℕ → Type 0
+SolveEnds reached known plan p a b status = (r : Result (Option Verdict) RunFault) × LimitedSays reached known plan p a b r × (status ≡ solve_status r)

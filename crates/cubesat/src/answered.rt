@@ -74,6 +74,7 @@ pub(crate) fn answer_observed<
         Ok(pair) => pair,
         Err(_) => return Err(RunFault::NoMemory),
     };
+    observer.answers();
     write_text(answer, &text, RunFault::AnswerWriteFailed)?;
     Ok(verdict)
 }

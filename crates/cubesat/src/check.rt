@@ -8,6 +8,7 @@ use crate::proof_input::feed_all;
 use cnf::read_from;
 use lrat::{ProofStream, Refusal};
 use messages::Refused;
+use statistics::{Observer, Unobserved};
 use std::alloc::Global;
 use std::io::{Read, Write};
 
@@ -35,12 +36,13 @@ fn why_refused(verdict: Result<(), Refusal>, named: Option<u64>) -> Option<Refus
     }
 }
 
-/// What `check_run` does, and why the proof is refused.
-pub(crate) fn check_told<R: Read + Drop, P: Read + Drop, W: Write>(
+/// What `check_run` does, and why the proof is refused. An observer is told of the answer.
+pub(crate) fn check_told<R: Read + Drop, P: Read + Drop, W: Write, O: Observer>(
     alloc: Global,
     formula: R,
     mut proof: P,
     answer: &mut W,
+    observer: &O,
 ) -> Result<Told, RunFault>
     ensures { CheckSays (R.remaining formula) (P.remaining proof) (W.contents answer.old) (W.contents answer.new) (checked_by result) }
 {
@@ -59,6 +61,7 @@ pub(crate) fn check_told<R: Read + Drop, P: Read + Drop, W: Write>(
         Ok(line) => line,
         Err(_) => return Err(RunFault::NoMemory),
     };
+    observer.answers();
     write_text(answer, &line.text, RunFault::AnswerWriteFailed)?;
     let checked = line.checked;
     let why = why_refused(verdict, stream.named_wrongly());
@@ -78,7 +81,7 @@ pub fn check_run<R: Read + Drop, P: Read + Drop, W: Write>(
 ) -> Result<Checked, RunFault>
     ensures { CheckSays (R.remaining formula) (P.remaining proof) (W.contents answer.old) (W.contents answer.new) result }
 {
-    match check_told(alloc, formula, proof, answer) {
+    match check_told(alloc, formula, proof, answer, &Unobserved) {
         Ok(told) => Ok(told.checked),
         Err(fault) => Err(fault),
     }

@@ -1,4 +1,8 @@
 //! `check`: its files, and what is printed of the run.
+ghost use Rattle.std.specs.Prelude.{◌≡◌, Ok};
+ghost use Rattle.std.specs.Thread.{IsSync};
+ghost use Rattle.cubesat.specs.Check.{end_of, checked_by, CheckSays, CheckEnds};
+ghost use Rattle.cubesat.specs.CheckStatus.{check_status, IsCheckEnd};
 
 use crate::arguments::Shown;
 use crate::check::{Told, check_told};
@@ -11,7 +15,7 @@ use crate::watched::check_counted;
 use crate::worded::{Known, Opened, say_refused};
 use messages::Refused;
 use noticed::{NoticedReader, NoticedWriter};
-use statistics::{Board, Showing, print_check_statistics, show_progress};
+use statistics::{Board, Showing, Unobserved, print_check_statistics, show_progress};
 use std::alloc::Global;
 use std::fs::Files;
 use std::io::{Read, Write};
@@ -36,7 +40,9 @@ pub(crate) enum CheckEnd {
 
 impl CheckEnd {
     /// The end of a check that answered so.
-    fn of(checked: Checked) -> CheckEnd {
+    fn of(checked: Checked) -> CheckEnd
+        ensures { result ≡ end_of (Ok checked) }
+    {
         match checked {
             Checked::Accepted => CheckEnd::Accepted,
             Checked::Refused => CheckEnd::Refused,
@@ -44,7 +50,9 @@ impl CheckEnd {
     }
 
     /// The exit status. A fault has that of a refused proof, unless the two are to be distinct.
-    pub(crate) fn status(self, are_distinct: bool) -> u8 {
+    pub(crate) fn status(self, are_distinct: bool) -> u8
+        ensures { result ≡ check_status self are_distinct }
+    {
         match self {
             CheckEnd::Accepted => ACCEPTED,
             CheckEnd::Fault if are_distinct => DISTINCT_FAULT,
@@ -65,17 +73,21 @@ fn check_beside<
     rt: &R,
     alloc: Global,
     board: &Board,
-    formula: F,
-    proof: P,
+    mut formula: F,
+    mut proof: P,
     answer: &mut W,
     faults: &mut E,
     screen: Screen,
-) -> Result<Told, RunFault> {
+) -> Result<Told, RunFault>
+    ensures { CheckSays (F.remaining formula) (P.remaining proof) (W.contents answer.old) (W.contents answer.new) (checked_by result) }
+{
     let showing = Showing::of(Some(screen.manner()), false);
-    let (_, result) = thread::join(
+    let (_, result) = thread::join_mut(
         rt,
-        || show_progress(rt, board, faults, showing),
-        || check_counted(rt, alloc, board, formula, proof, answer),
+        &mut || show_progress(rt, board, faults, showing),
+        &mut || -> Result<Told, RunFault>
+            ensures { CheckSays (F.remaining formula.entry) (P.remaining proof.entry) (W.contents answer.entry.now) (W.contents answer.exit.now) (checked_by result) }
+        { check_counted(rt, alloc, board, &mut formula, &mut proof, answer) },
     );
     result
 }
@@ -98,9 +110,11 @@ fn check_opened<
     answer: &mut W,
     faults: &mut E,
     screen: Screen,
-) -> Result<Told, RunFault> {
+) -> Result<Told, RunFault>
+    ensures { CheckSays (F.remaining formula) (P.remaining proof) (W.contents answer.old) (W.contents answer.new) (checked_by result) }
+{
     if !shown.progress && !shown.stats {
-        return check_told(alloc, formula, proof, answer);
+        return check_told(alloc, formula, proof, answer, &Unobserved);
     }
     let board = Board::of_proof(rt, size);
     let result = if shown.progress {
@@ -130,6 +144,32 @@ fn print_refused<R: Files, E: Write>(
     }
 }
 
+/// How a check ended that answered so, of a proof that begins with these bytes. It says what
+/// happened unless the proof is accepted.
+fn end_check<R: Files, E: Write>(
+    rt: &R,
+    faults: &mut E,
+    answered: Result<Told, RunFault>,
+    known: &Known<'_>,
+    beginning: &[u8],
+    is_explained: bool,
+) -> CheckEnd
+    ensures { result ≡ end_of (checked_by answered) }
+{
+    match answered {
+        Ok(told) => {
+            if let Some(why) = told.why {
+                print_refused(rt, faults, known.proof, beginning, why, is_explained);
+            }
+            CheckEnd::of(told.checked)
+        }
+        Err(fault) => {
+            print_fault_of(rt, faults, fault, known, is_explained);
+            CheckEnd::Fault
+        }
+    }
+}
+
 /// Checks the open proof, of so many bytes, if that is known, against the open formula, and says
 /// what happened unless it accepts.
 fn check_files<
@@ -145,45 +185,28 @@ fn check_files<
     proof: Opened<'_, P>,
     size: Option<u64>,
     shown: Shown,
-    answer: &mut W,
+    answer: &mut NoticedWriter<W>,
     faults: &mut E,
     screen: Screen,
-) -> CheckEnd {
+) -> CheckEnd
+    ensures end { IsCheckEnd (F.remaining formula.entry.file) (P.remaining proof.entry.file) result }
+    ensures says { CheckEnds (F.remaining formula.entry.file) (P.remaining proof.entry.file) (⟦<NoticedWriter<W> as Write>⟧.contents answer.old) (⟦<NoticedWriter<W> as Write>⟧.contents answer.new) result }
+{
     let mut text = NoticedReader::of(formula.file);
     let mut steps = NoticedReader::of(proof.file);
-    let mut answer = NoticedWriter::of(answer);
-    let result = check_opened(
-        rt,
-        alloc,
-        &mut text,
-        &mut steps,
-        size,
-        shown,
-        &mut answer,
-        faults,
-        screen,
+    let answered = check_opened(
+        rt, alloc, &mut text, &mut steps, size, shown, answer, faults, screen,
     );
-    match result {
-        Ok(told) => {
-            if let Some(why) = told.why {
-                let beginning = steps.beginning();
-                print_refused(rt, faults, proof.path, beginning, why, shown.verbose);
-            }
-            CheckEnd::of(told.checked)
-        }
-        Err(fault) => {
-            let known = Known {
-                formula: formula.path,
-                proof: proof.path,
-                beginning: text.beginning(),
-                formula_error: text.error(),
-                proof_error: steps.error(),
-                answer_error: answer.error(),
-            };
-            print_fault_of(rt, faults, fault, &known, shown.verbose);
-            CheckEnd::Fault
-        }
-    }
+    let known = Known {
+        formula: formula.path,
+        proof: proof.path,
+        beginning: text.beginning(),
+        formula_error: text.error(),
+        proof_error: steps.error(),
+        answer_error: answer.error(),
+    };
+    let beginning = steps.beginning();
+    end_check(rt, faults, answered, &known, beginning, shown.verbose)
 }
 
 /// Checks the proof in the file against the formula in the other, one of which may be the standard
@@ -228,6 +251,8 @@ pub(crate) fn check<
     };
     let size = size_of(&proof);
     let proof = Opened { path, file: proof };
+    let mut answer = NoticedWriter::of(answer);
+    let answer = &mut answer;
     check_files(
         rt, alloc, formula, proof, size, shown, answer, faults, screen,
     )

@@ -1,4 +1,5 @@
 //! The lines of faults.
+ghost use Rattle.std.specs.Prelude.{◌≡◌};
 
 use crate::fault::RunFault;
 use crate::input::shown_name;
@@ -55,7 +56,9 @@ pub(crate) fn print_fault_of<R: Files, E: Write>(
     fault: RunFault,
     known: &Known<'_>,
     is_explained: bool,
-) -> u8 {
+) -> u8
+    ensures { result ≡ 1 }
+{
     print_fault(faults, fault);
     say_fault(rt, faults, fault, known);
     if is_explained {

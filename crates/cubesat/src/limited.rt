@@ -20,12 +20,17 @@ use std::time::Clock;
 
 /// What a run answers that wasn't solved: where the limit is reached, it writes that the answer is
 /// unknown, and else memory was refused.
-fn end_unsolved<W: Write, L: Limit>(answer: &mut W, limit: &L) -> Result<Option<Verdict>, RunFault>
+fn end_unsolved<W: Write, L: Limit, O: Observer>(
+    answer: &mut W,
+    limit: &L,
+    observer: &O,
+) -> Result<Option<Verdict>, RunFault>
     ensures { EndsUnsolved (L.is_reached limit.now) (W.contents answer.old) (W.contents answer.new) result }
 {
     if !limit.reached() {
         return Err(RunFault::NoMemory);
     }
+    observer.answers();
     write_text(answer, b"s UNKNOWN\n", RunFault::AnswerWriteFailed)?;
     Ok(None)
 }
@@ -60,7 +65,7 @@ pub(crate) fn run_limited_observed<
         rt, alloc, input, answer, proof, plan, hands, &gate, observer,
     ) {
         Ok(verdict) => Ok(Some(verdict)),
-        Err(RunFault::NoMemory) => end_unsolved(answer, limit),
+        Err(RunFault::NoMemory) => end_unsolved(answer, limit, observer),
         Err(fault) => Err(fault),
     }
 }
@@ -90,7 +95,7 @@ pub(crate) fn answer_limited_observed<
     let gate = LimitedGate { gate, limit };
     match answer_observed(rt, alloc, input, answer, plan, hands, &gate, observer) {
         Ok(verdict) => Ok(Some(verdict)),
-        Err(RunFault::NoMemory) => end_unsolved(answer, limit),
+        Err(RunFault::NoMemory) => end_unsolved(answer, limit, observer),
         Err(fault) => Err(fault),
     }
 }

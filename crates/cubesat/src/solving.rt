@@ -1,4 +1,9 @@
 //! `solve`: its files, and what is printed of the run.
+ghost use Rattle.std.specs.Prelude.{◌≡◌, IsSome, option_map};
+ghost use Rattle.std.specs.Thread.{IsSync};
+ghost use Rattle.cubesat.specs.Status.{solve_status, IsSolveStatus};
+ghost use Rattle.cubesat.specs.Limited.{LimitedSays, SolveEnds};
+
 use crate::arguments::Shown;
 use crate::fault::RunFault;
 use crate::fault_lines::{
@@ -76,16 +81,21 @@ fn run_beside<
     alloc: Global,
     board: &Board,
     effort: Effort,
-    input: I,
+    mut input: I,
     answer: &mut W,
-    proof: Option<P>,
+    mut proof: Option<P>,
     faults: &mut E,
     showing: Showing,
-) -> Result<Option<Verdict>, RunFault> {
-    let (_, result) = thread::join(
+) -> Result<Option<Verdict>, RunFault>
+    ensures { LimitedSays (IsSome effort.seconds) (I.remaining input) effort.plan (option_map P.contents proof) (W.contents answer.old) (W.contents answer.new) result }
+{
+    let (_, result) = thread::join_mut(
         rt,
-        || show_progress(rt, board, faults, showing),
-        || run_counted(rt, alloc, board, effort, input, answer, proof),
+        &mut || show_progress(rt, board, faults, showing),
+        &mut || -> Result<Option<Verdict>, RunFault>
+            requires { IsSync R.row }
+            ensures { LimitedSays (IsSome effort.seconds) (I.remaining input.entry) effort.plan (option_map P.contents proof.entry) (W.contents answer.entry.now) (W.contents answer.exit.now) result }
+        { run_counted(rt, alloc, board, effort, &mut input, answer, proof.take()) },
     );
     result
 }
@@ -107,8 +117,10 @@ fn run_shown<
     stats: bool,
     faults: &mut E,
     showing: Showing,
-) -> Result<Option<Verdict>, RunFault> {
-    let board = Board::of_search(rt, effort.plan.search());
+) -> Result<Option<Verdict>, RunFault>
+    ensures { LimitedSays (IsSome effort.seconds) (I.remaining input) effort.plan (option_map P.contents proof) (W.contents answer.old) (W.contents answer.new) result }
+{
+    let board = Board::of_search(rt, effort.plan.search(), proof.is_some());
     let hands = effort.hands;
     let result = if showing.is_any() {
         run_beside(
@@ -132,7 +144,9 @@ fn run_plain<R: Files + Threads + Wait + Clock + Sync, I: Read + Drop, W: Write,
     input: I,
     answer: &mut W,
     proof: Option<P>,
-) -> Result<Option<Verdict>, RunFault> {
+) -> Result<Option<Verdict>, RunFault>
+    ensures { LimitedSays (IsSome effort.seconds) (I.remaining input) effort.plan (option_map P.contents proof) (W.contents answer.old) (W.contents answer.new) result }
+{
     let (plan, hands, gate) = (effort.plan, effort.hands, OpenGate);
     let limit = TimeLimit::begin(rt, effort.seconds);
     match proof {
@@ -161,7 +175,9 @@ fn run_opened<
     shown: Shown,
     faults: &mut E,
     screen: Screen,
-) -> Result<Option<Verdict>, RunFault> {
+) -> Result<Option<Verdict>, RunFault>
+    ensures { LimitedSays (IsSome effort.seconds) (I.remaining input) effort.plan (option_map P.contents proof) (W.contents answer.old) (W.contents answer.new) result }
+{
     let showing = showing_of(shown, effort.plan, screen);
     if shown.stats || showing.is_any() {
         let stats = shown.stats;
@@ -170,6 +186,34 @@ fn run_opened<
         );
     }
     run_plain(rt, alloc, effort, input, answer, proof)
+}
+
+/// The proof's writer, if there is to be one, as it is looked at.
+fn noticed_proof<P: Write>(proof: Option<Opened<'_, P>>) -> Option<NoticedWriter<P>>
+    ensures { option_map ⟦<NoticedWriter<P> as Write>⟧.contents result ≡ option_map (λ o. P.contents o.file) proof.entry }
+{
+    match proof {
+        Some(proof) => Some(NoticedWriter::of(proof.file)),
+        None => None,
+    }
+}
+
+/// The status of what a run answered, of which it says what happened if it came to no verdict.
+fn end_solve<R: Files, E: Write>(
+    rt: &R,
+    faults: &mut E,
+    answered: Result<Option<Verdict>, RunFault>,
+    known: &Known<'_>,
+    is_explained: bool,
+) -> u8
+    ensures { result ≡ solve_status answered }
+{
+    match answered {
+        Ok(Some(Verdict::Satisfiable)) => SATISFIABLE,
+        Ok(Some(Verdict::Unsatisfiable)) => UNSATISFIABLE,
+        Ok(None) => UNKNOWN,
+        Err(fault) => print_fault_of(rt, faults, fault, known, is_explained),
+    }
 }
 
 /// Decides the formula that is open, with its proof written to what is open, if there is to be one,
@@ -187,43 +231,39 @@ fn solve_opened<
     formula: Opened<'_, I>,
     proof: Option<Opened<'_, P>>,
     shown: Shown,
-    answer: &mut W,
+    answer: &mut NoticedWriter<W>,
     faults: &mut E,
     screen: Screen,
-) -> u8 {
-    let mut input = NoticedReader::of(formula.file);
-    let (path, mut output) = match proof {
-        Some(proof) => (proof.path, Some(NoticedWriter::of(proof.file))),
-        None => (NO_PATH, None),
+) -> u8
+    ensures status { IsSolveStatus (IsSome effort.seconds) effort.plan.search (I.remaining formula.entry.file) (⟦<NoticedWriter<W> as Write>⟧.contents answer.old) (⟦<NoticedWriter<W> as Write>⟧.contents answer.new) result }
+    ensures says { SolveEnds (IsSome effort.seconds) (I.remaining formula.entry.file) effort.plan (option_map (λ o. P.contents o.file) proof.entry) (⟦<NoticedWriter<W> as Write>⟧.contents answer.old) (⟦<NoticedWriter<W> as Write>⟧.contents answer.new) result }
+{
+    let path = match &proof {
+        Some(proof) => proof.path,
+        None => NO_PATH,
     };
-    let mut answer = NoticedWriter::of(answer);
-    let result = run_opened(
+    let mut input = NoticedReader::of(formula.file);
+    let mut output = noticed_proof(proof);
+    let answered = run_opened(
         rt,
         alloc,
         effort,
         &mut input,
-        &mut answer,
+        answer,
         output.as_mut(),
         shown,
         faults,
         screen,
     );
-    match result {
-        Ok(Some(Verdict::Satisfiable)) => SATISFIABLE,
-        Ok(Some(Verdict::Unsatisfiable)) => UNSATISFIABLE,
-        Ok(None) => UNKNOWN,
-        Err(fault) => {
-            let known = Known {
-                formula: formula.path,
-                proof: path,
-                beginning: input.beginning(),
-                formula_error: input.error(),
-                proof_error: output.as_ref().and_then(|output| output.error()),
-                answer_error: answer.error(),
-            };
-            print_fault_of(rt, faults, fault, &known, shown.verbose)
-        }
-    }
+    let known = Known {
+        formula: formula.path,
+        proof: path,
+        beginning: input.beginning(),
+        formula_error: input.error(),
+        proof_error: output.as_ref().and_then(|output| output.error()),
+        answer_error: answer.error(),
+    };
+    end_solve(rt, faults, answered, &known, shown.verbose)
 }
 
 /// Prints why the proof's file isn't begun; the status.
@@ -285,6 +325,8 @@ pub(crate) fn solve<
         path: file,
         file: input,
     };
+    let mut answer = NoticedWriter::of(answer);
+    let answer = &mut answer;
     solve_opened(
         rt, alloc, effort, formula, proof, shown, answer, faults, screen,
     )

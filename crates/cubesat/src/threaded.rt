@@ -58,6 +58,7 @@ pub(crate) fn run_observed<
     observer.joined();
     write_proof(proof, &mut output.lines, &mut output.buffer)?;
     observer.written();
+    observer.answers();
     write_text(answer, &output.answer, RunFault::AnswerWriteFailed)?;
     Ok(output.verdict)
 }

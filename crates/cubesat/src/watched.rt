@@ -1,5 +1,7 @@
 //! Runs that are watched: they write what `run_limited` and `check_run` write.
-ghost use Rattle.std.specs.Prelude.{◌≤◌};
+ghost use Rattle.std.specs.Prelude.{◌≤◌, IsSome, option_map};
+ghost use Rattle.cubesat.specs.Check.{CheckSays, checked_by};
+ghost use Rattle.cubesat.specs.Limited.{LimitedSays};
 
 use crate::check::{Told, check_told};
 use crate::fault::RunFault;
@@ -7,7 +9,7 @@ use crate::limit::TimeLimit;
 use crate::limited::{answer_limited_observed, run_limited_observed};
 use crate::verdict::Verdict;
 use cdcl::Plan;
-use statistics::{AnswerWriter, Board, CountedReader, CountedWriter, TextWatch, Watch};
+use statistics::{Board, CountedReader, CountedWriter, TextWatch, Watch};
 use std::alloc::Global;
 use std::fs::Files;
 use std::io::{Read, Write};
@@ -25,6 +27,43 @@ pub(crate) struct Effort {
     ghost hands_fit: { (1 ≤ hands) × (hands ≤ 16) },
 }
 
+/// A run that is counted on a board. Without a writer for the proof, none is made.
+fn run_on_board<
+    R: Files + Threads + Wait + Clock + Sync,
+    I: Read + Drop,
+    W: Write,
+    P: Write + Drop,
+>(
+    rt: &R,
+    alloc: Global,
+    board: &Board,
+    effort: Effort,
+    input: I,
+    answer: &mut W,
+    proof: Option<P>,
+) -> Result<Option<Verdict>, RunFault>
+    ensures { LimitedSays (IsSome effort.seconds) (I.remaining input) effort.plan (option_map P.contents proof) (W.contents answer.old) (W.contents answer.new) result }
+{
+    let watch = Watch { rt, board };
+    let limit = TimeLimit::begin(rt, effort.seconds);
+    let (plan, hands) = (effort.plan, effort.hands);
+    match proof {
+        Some(proof) => {
+            let mut counted = CountedWriter {
+                inner: proof,
+                counter: &watch,
+            };
+            let proof = &mut counted;
+            run_limited_observed(
+                rt, alloc, input, answer, proof, plan, hands, &watch, &limit, &watch,
+            )
+        }
+        None => answer_limited_observed(
+            rt, alloc, input, answer, plan, hands, &watch, &limit, &watch,
+        ),
+    }
+}
+
 /// A run that is counted on a board, and then ends the showing of progress. Without a writer for
 /// the proof, none is made.
 pub(crate) fn run_counted<
@@ -40,30 +79,10 @@ pub(crate) fn run_counted<
     input: I,
     answer: &mut W,
     proof: Option<P>,
-) -> Result<Option<Verdict>, RunFault> {
-    let watch = Watch { rt, board };
-    let limit = TimeLimit::begin(rt, effort.seconds);
-    let (plan, hands) = (effort.plan, effort.hands);
-    let mut answering = AnswerWriter {
-        inner: answer,
-        counter: &watch,
-    };
-    let answer = &mut answering;
-    let result = match proof {
-        Some(proof) => {
-            let mut counted = CountedWriter {
-                inner: proof,
-                counter: &watch,
-            };
-            let proof = &mut counted;
-            run_limited_observed(
-                rt, alloc, input, answer, proof, plan, hands, &watch, &limit, &watch,
-            )
-        }
-        None => answer_limited_observed(
-            rt, alloc, input, answer, plan, hands, &watch, &limit, &watch,
-        ),
-    };
+) -> Result<Option<Verdict>, RunFault>
+    ensures { LimitedSays (IsSome effort.seconds) (I.remaining input) effort.plan (option_map P.contents proof) (W.contents answer.old) (W.contents answer.new) result }
+{
+    let result = run_on_board(rt, alloc, board, effort, input, answer, proof);
     board.end_progress(rt);
     result
 }
@@ -76,7 +95,9 @@ pub(crate) fn check_counted<R: Files + Wait + Clock, F: Read + Drop, P: Read + D
     formula: F,
     proof: P,
     answer: &mut W,
-) -> Result<Told, RunFault> {
+) -> Result<Told, RunFault>
+    ensures { CheckSays (F.remaining formula) (P.remaining proof) (W.contents answer.old) (W.contents answer.new) (checked_by result) }
+{
     let watch = Watch { rt, board };
     let text_watch = TextWatch { rt, board };
     let text = CountedReader {
@@ -87,11 +108,7 @@ pub(crate) fn check_counted<R: Files + Wait + Clock, F: Read + Drop, P: Read + D
         inner: proof,
         counter: &watch,
     };
-    let mut answering = AnswerWriter {
-        inner: answer,
-        counter: &watch,
-    };
-    let result = check_told(alloc, text, counted, &mut answering);
+    let result = check_told(alloc, text, counted, answer, &watch);
     watch.checked();
     board.end_progress(rt);
     result

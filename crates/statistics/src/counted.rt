@@ -7,9 +7,6 @@ use std::io::{Read, Write};
 pub trait Counter {
     /// A piece of a text was read or written.
     fn went_by(&self, piece: &[u8]);
-
-    /// A piece of the answer is about to be written.
-    fn answer_begins(&self);
 }
 
 /// Reads a text from another reader.
@@ -43,26 +40,6 @@ impl<I: Write, C: Counter> Write for CountedWriter<'_, I, C> {
         let count = self.inner.write(buf)?;
         self.counter.went_by(&buf[..count]);
         Ok(count)
-    }
-
-    fn flush(&mut self) -> io::Result<()> {
-        self.inner.flush()
-    }
-}
-
-/// Writes an answer to another writer.
-#[derive(Drop)]
-pub struct AnswerWriter<'a, I, C> {
-    pub inner: I,
-    pub counter: &'a C,
-}
-
-impl<I: Write, C: Counter> Write for AnswerWriter<'_, I, C> {
-    ghost contents = { λ w. I.contents w.inner };
-
-    fn write(&mut self, buf: &[u8]) -> io::Result<usize> {
-        self.counter.answer_begins();
-        self.inner.write(buf)
     }
 
     fn flush(&mut self) -> io::Result<()> {

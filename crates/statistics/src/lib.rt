@@ -14,7 +14,7 @@ mod statistics;
 mod watch;
 
 pub use board::Board;
-pub use counted::{AnswerWriter, CountedReader, CountedWriter, Counter};
+pub use counted::{CountedReader, CountedWriter, Counter};
 pub use cube_counts::CubeCounts;
 pub use figures::{Figures, FormulaSize, Stage, StageEnd, TextSize, TreeSize};
 pub use observer::{Observer, Unobserved};

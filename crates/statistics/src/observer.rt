@@ -19,8 +19,11 @@ pub trait Observer {
     /// The answer is made, and all that the proof's lines are made of as they are written.
     fn joined(&self);
 
-    /// The proof is written; the answer comes next.
+    /// The proof is written.
     fn written(&self);
+
+    /// The answer is about to be written.
+    fn answers(&self);
 }
 
 /// The observer that does nothing.
@@ -37,4 +40,6 @@ impl Observer for Unobserved {
     fn joined(&self) {}
 
     fn written(&self) {}
+
+    fn answers(&self) {}
 }

@@ -36,10 +36,6 @@ impl<R: Wait + Clock> Counter for Watch<'_, R> {
         let size = TextSize::of(piece);
         self.board.figures().lock(self.rt).add_proof(size);
     }
-
-    fn answer_begins(&self) {
-        self.board.end_progress(self.rt);
-    }
 }
 
 impl<R: Files + Wait + Clock> Watch<'_, R> {
@@ -62,8 +58,6 @@ impl<R: Wait> Counter for TextWatch<'_, R> {
         let size = TextSize::of(piece);
         self.board.figures().lock(self.rt).add_text(size);
     }
-
-    fn answer_begins(&self) {}
 }
 
 impl<R: Wait> Gate for Watch<'_, R> {
@@ -115,5 +109,9 @@ impl<R: Files + Wait + Clock> Observer for Watch<'_, R> {
     fn written(&self) {
         let end = self.stage_end();
         self.board.figures().lock(self.rt).end_writing(end);
+    }
+
+    fn answers(&self) {
+        self.board.end_progress(self.rt);
     }
 }
