@@ -147,17 +147,18 @@ fn a_formula_that_is_refused(rt: HostRuntime) {
     assert!(rt; leaves(rt.alloc(), input, ROOMY, ROOMY, &left));
 }
 
+static NUMBERS: [(RunFault, u32); 5] = [
+    (RunFault::Read(ReadFault::ReadFailed), 51),
+    (RunFault::NoMemory, 52),
+    (RunFault::ProofWriteFailed, 53),
+    (RunFault::AnswerWriteFailed, 54),
+    (RunFault::ProofReadFailed, 55),
+];
+
 #[test]
 fn faults_have_numbers(rt: HostRuntime) {
-    let faults = [
-        (RunFault::Read(ReadFault::ReadFailed), 51),
-        (RunFault::NoMemory, 52),
-        (RunFault::ProofWriteFailed, 53),
-        (RunFault::AnswerWriteFailed, 54),
-        (RunFault::ProofReadFailed, 55),
-    ];
-    for (fault, number) in faults {
-        assert_eq!(rt; fault.number(), number);
+    for (fault, number) in &NUMBERS {
+        assert!(rt; fault.number() == *number, "{number}");
     }
 }
 

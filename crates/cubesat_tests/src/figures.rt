@@ -1,36 +1,43 @@
-//! The lines of known figures: those of `--stats`, and of `--progress` at each stage.
-use crate::texts::FOUR;
+//! The lines of `--progress` of known figures, at each stage.
 use cdcl::{Counts, Search};
-use cnf::read_formula;
 use cubesat::{CubeCounts, Figures, Manner, Stage, TextSize, print_line};
-use statistics::{FormulaSize, SearchCounts, StageEnd, print_statistics};
+use statistics::SearchCounts;
 use std::alloc::Global;
 use std::test::Fail;
 
-/// Cubes of a root that was split, and whose true half was split again; the hands are at depth 2.
+/// Cubes of a root that was split, with both halves split again, and one half of these. Hand 0 has
+/// solved the root and both halves, and is at the depth 2; hand 1 has solved a half of a half, and
+/// is at the depth 3.
 fn some_cubes() -> CubeCounts {
     let mut cubes = CubeCounts::none();
     let begun = [
-        (0, 0, None),
-        (0, 1, Some(false)),
-        (1, 1, Some(true)),
-        (0, 2, Some(false)),
-        (1, 2, Some(true)),
+        (0, 0, None, true),
+        (0, 1, Some(false), true),
+        (0, 1, Some(true), true),
+        (1, 2, Some(false), true),
+        (0, 2, Some(true), false),
+        (1, 3, Some(true), false),
     ];
-    for (hand, depth, last) in begun {
+    for (hand, depth, last, is_solved) in begun {
         cubes.begin(hand, depth, last);
-        if depth < 2 {
+        if is_solved {
             cubes.end(hand, depth);
         }
     }
     cubes
 }
 
-/// What the first and the last of sixteen hands have done; the first is told twice.
+/// What the first two and the last two of sixteen hands have done; the first is told twice.
 fn some_counts() -> SearchCounts {
     let mut counts = SearchCounts::none();
-    let told = [(0, 1000, 7), (15, 45_000, 100), (0, 300_000, 600)];
-    for (hand, conflicts, restarts) in told {
+    let told = [
+        (0, 1000, 7, 900),
+        (1, 2000, 20, 1500),
+        (14, 3000, 30, 2500),
+        (15, 45_000, 100, 44_000),
+        (0, 300_000, 600, 290_000),
+    ];
+    for (hand, conflicts, restarts, learnt) in told {
         counts.set(
             hand,
             Counts {
@@ -38,7 +45,7 @@ fn some_counts() -> SearchCounts {
                 decisions: 400_000,
                 propagations: 5_000_000,
                 restarts,
-                learnt: conflicts,
+                learnt,
                 forgotten: 20_000,
             },
         );
@@ -52,12 +59,12 @@ static LINES: [(Stage, Search, &str); 6] = [
     (
         Stage::Solving,
         Search::Ordered,
-        "c 12 s: 345000 conflicts, 3 cubes solved, at most 2 waiting, depth 2, at least 0.00 % of the tree closed",
+        "c 12 s: 350000 conflicts, 4 cubes solved, at most 3 waiting, depth 2, at least 0.00 % of the tree closed",
     ),
     (
         Stage::Solving,
         Search::Focused,
-        "c 12 s: 345000 conflicts, 28750 a second, 3 cubes solved",
+        "c 12 s: 350000 conflicts, 29166 a second, 4 cubes solved",
     ),
     (Stage::Joining, Search::Ordered, "c 12 s: joining"),
     (
@@ -72,13 +79,21 @@ static LINES: [(Stage, Search, &str); 6] = [
     ),
 ];
 
+/// How many bytes a proof has of which 7 are read, and its line.
+static PARTS: [(u64, &str); 3] = [
+    (700, "c 12 s: 2 lines, 7 bytes of the proof read, 1 %\n"),
+    (14, "c 12 s: 2 lines, 7 bytes of the proof read, 50 %\n"),
+    (7, "c 12 s: 2 lines, 7 bytes of the proof read, 100 %\n"),
+];
+
 /// Figures of a run at this stage.
-fn some_figures(stage: Stage, search: Search) -> Figures {
+pub fn some_figures(stage: Stage, search: Search) -> Figures {
     let mut figures = Figures::none(stage);
     figures.search = search;
     figures.cubes = some_cubes();
     figures.counts = some_counts();
-    figures.add_proof(TextSize::of(b"ab\ncd\ne"));
+    figures.add_proof(TextSize::of(b"ab\nc"));
+    figures.add_proof(TextSize::of(b"d\ne"));
     figures
 }
 
@@ -105,12 +120,23 @@ fn progress_has_a_line_for_each_stage(rt: HostRuntime) -> Result<(), Fail> {
 }
 
 #[test]
+fn the_part_of_a_proof_that_is_read(rt: HostRuntime) {
+    for (whole, wanted) in &PARTS {
+        let mut figures = some_figures(Stage::Checking, Search::Ordered);
+        figures.whole = Some(*whole);
+        let mut line = Vec::new(rt.alloc());
+        print_line(&mut line, Manner::Listed, 12, &figures);
+        assert!(rt; line.as_slice() == wanted.as_bytes(), "{wanted}");
+    }
+}
+
+#[test]
 fn no_speed_is_shown_where_the_clock_stood_still(rt: HostRuntime) {
     let figures = some_figures(Stage::Solving, Search::Focused);
     let mut line = Vec::new(rt.alloc());
     print_line(&mut line, Manner::Listed, 0, &figures);
-    let wanted = b"c 0 s: 345000 conflicts, 3 cubes solved\n";
-    assert_eq!(rt; line.as_slice(), wanted.as_slice());
+    let wanted = b"c 0 s: 350000 conflicts, 4 cubes solved\n";
+    assert!(rt; line.as_slice() == wanted.as_slice());
 }
 
 /// How many cubes of the depths 0 to 4 are solved, how many lie in the deques at most, and the part
@@ -136,60 +162,36 @@ fn what_is_closed_follows_from_the_depths(rt: HostRuntime) {
             }
             depth = depth.saturating_add(1);
         }
-        assert_eq!(rt; cubes.waiting(), *waiting);
-        assert_eq!(rt; cubes.closed(), *closed);
+        let is_right = cubes.waiting() == *waiting && cubes.closed() == *closed;
+        assert!(rt; is_right, "{solved:?}");
     }
 }
 
-/// What `--stats` prints of a run whose formula is read after half a second.
-static STATISTICS: [(u64, &str); 2] = [
+/// How many cubes of a depth were begun before a hand went on to the next depth, and what is shown:
+/// 7 of 8 parts of the tree may be open, or 243 of 256, which is a little less than 94.93 per cent.
+static SHARES: [(usize, usize, &str); 2] = [
     (
-        12_500,
-        "c formula: 2 variables, 4 clauses, 8 literals
-c hands: 16
-c search: 345000 conflicts, 800000 decisions, 10000000 propagations, 700 restarts
-c clauses: 345000 learnt, 40000 forgotten
-c cubes: 3 solved, at least 2 split, skipped unknown
-c solved by each hand: 2 1 0 0 0 0 0 0 0 0 0 0 0 0 0 0
-c proof: 2 lines, 7 bytes
-c reading: 0.500 s, peak memory 1024 KiB
-c solving: 12.000 s
-c conflicts a second: 28750
-",
+        7,
+        3,
+        "0 cubes solved, at most 0 waiting, depth 4, at least 12.50 % of the tree closed",
     ),
     (
-        500,
-        "c formula: 2 variables, 4 clauses, 8 literals
-c hands: 16
-c search: 345000 conflicts, 800000 decisions, 10000000 propagations, 700 restarts
-c clauses: 345000 learnt, 40000 forgotten
-c cubes: 3 solved, at least 2 split, skipped unknown
-c solved by each hand: 2 1 0 0 0 0 0 0 0 0 0 0 0 0 0 0
-c proof: 2 lines, 7 bytes
-c reading: 0.500 s, peak memory 1024 KiB
-c solving: 0.000 s
-",
+        243,
+        8,
+        "0 cubes solved, at most 0 waiting, depth 9, at least 5.07 % of the tree closed",
     ),
 ];
 
 #[test]
-fn statistics_of_known_figures(rt: HostRuntime) -> Result<(), Fail> {
-    let formula = read_formula(rt.alloc(), FOUR.as_bytes())?;
-    for (solved, wanted) in &STATISTICS {
-        let mut figures = some_figures(Stage::Reading, Search::Focused);
-        let read = StageEnd {
-            at: 500,
-            peak: Some(1024),
-        };
-        let ended = StageEnd {
-            at: *solved,
-            peak: None,
-        };
-        figures.end_reading(FormulaSize::of(&formula), read);
-        figures.end_solving(None, ended);
-        let mut text = Vec::new(rt.alloc());
-        print_statistics(&mut text, &figures, 16);
-        assert_eq!(rt; text.as_slice(), wanted.as_bytes());
+fn hundredths_of_a_per_cent_have_two_digits(rt: HostRuntime) -> Result<(), Fail> {
+    for (count, depth, wanted) in &SHARES {
+        let mut cubes = CubeCounts::none();
+        for _ in 0..*count {
+            cubes.begin(0, *depth, Some(true));
+        }
+        cubes.begin(0, depth.saturating_add(1), Some(true));
+        let text = format!(in rt.alloc(); "{cubes}")?;
+        assert!(rt; text.as_str() == *wanted, "{wanted}");
     }
     Ok(())
 }

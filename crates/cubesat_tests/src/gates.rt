@@ -157,8 +157,8 @@ fn two_hands_are_at_work_at_once(rt: HostRuntime) -> Result<(), Fail> {
     for _ in 0..20 {
         let gate = BothHalves::new();
         assert!(rt; write(&rt, rt.alloc(), FOUR, &gate, &wanted)?);
-        assert_eq!(rt; gate.let_go.hand(), NOBODY);
-        assert!(rt; gate.left.hand() != gate.right.hand());
+        let is_held = gate.let_go.hand() == NOBODY;
+        assert!(rt; is_held && gate.left.hand() != gate.right.hand());
     }
     Ok(())
 }
@@ -175,8 +175,8 @@ fn a_model_on_the_right_comes_first(rt: HostRuntime) -> Result<(), Fail> {
         let gate = RightFirst::new();
         let text = "p cnf 3 2\n1 2 3 0\n1 2 -3 0\n";
         assert!(rt; write(&rt, rt.alloc(), text, &gate, &wanted)?);
-        assert_eq!(rt; gate.let_go.hand(), NOBODY);
-        assert!(rt; gate.solved.hand() != NOBODY);
+        let is_held = gate.let_go.hand() == NOBODY;
+        assert!(rt; is_held && gate.solved.hand() != NOBODY);
     }
     Ok(())
 }

@@ -1,7 +1,8 @@
 //! Worked rows: the bytes of the proof and the answer for the bytes of a formula, by both searches,
 //! and the line for those of a proof; what failing readers and writers leave; two hands at a gate;
 //! proofs of many steps, and those with one byte changed; examples from end to end; the program,
-//! its options, its files and standard input.
+//! its options, its files and standard input; what it shows of runs, by clocks that a test sets; and
+//! limits of time.
 #![tactic(auto)]
 
 #[cfg(test)]
@@ -9,7 +10,13 @@ mod check;
 #[cfg(test)]
 mod check_faults;
 #[cfg(test)]
+mod check_status;
+#[cfg(test)]
+mod clocks;
+#[cfg(test)]
 mod examples;
+#[cfg(test)]
+mod fake;
 #[cfg(test)]
 mod faults;
 #[cfg(test)]
@@ -17,13 +24,21 @@ mod faulty;
 #[cfg(test)]
 mod figures;
 #[cfg(test)]
+mod flushes;
+#[cfg(test)]
 mod focused;
 #[cfg(test)]
 mod gates;
 #[cfg(test)]
+mod hands;
+#[cfg(test)]
 mod hints;
 #[cfg(test)]
 mod kept_proof;
+#[cfg(test)]
+mod known_runs;
+#[cfg(test)]
+mod limited_runs;
 #[cfg(test)]
 mod long_proofs;
 #[cfg(test)]
@@ -35,9 +50,13 @@ mod other_solvers;
 #[cfg(test)]
 mod program;
 #[cfg(test)]
+mod progress;
+#[cfg(test)]
 mod rows;
 #[cfg(test)]
 mod same_file;
+#[cfg(test)]
+mod seconds;
 #[cfg(test)]
 mod sessions;
 #[cfg(test)]
@@ -45,8 +64,16 @@ mod shown;
 #[cfg(test)]
 mod shown_faults;
 #[cfg(test)]
+mod slow_runs;
+#[cfg(test)]
 mod standard_input;
 #[cfg(test)]
 mod texts;
+#[cfg(test)]
+mod timed;
+#[cfg(test)]
+mod unshown;
+#[cfg(test)]
+mod watch;
 #[cfg(test)]
 mod worded;

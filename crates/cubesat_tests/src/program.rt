@@ -49,7 +49,7 @@ fn a_formula_is_decided(rt: HostRuntime) -> Result<(), Fail> {
     check_rows(&rt, "decided.cnf", &DECIDED)
 }
 
-static CHECKED: [Row; 3] = [
+static CHECKED: [Row; 2] = [
     Row {
         formula: WIDE,
         before: Some(WIDE_PROOF),
@@ -71,13 +71,6 @@ static CHECKED: [Row; 3] = [
             faults: "c |PROOF|: clause 6 has no hints for one of its candidates (line 2)\n",
         },
         after: "5 3 1 0 0\n6 -3 0 0\n7 1 0 1 2 0\n8 0 7 3 4 0\n",
-    },
-    Row {
-        formula: WIDE,
-        before: Some("old"),
-        words: &["cubesat", "check", "FORMULA", "MISSING"],
-        wanted: NOT_OPENED,
-        after: "old",
     },
 ];
 
@@ -147,7 +140,7 @@ fn a_folder_is_no_formula(rt: HostRuntime) -> Result<(), Fail> {
     check_rows(&rt, "folder.cnf", &FOLDER)
 }
 
-static WRONG: [&[&str]; 18] = [
+static WRONG: [&[&str]; 24] = [
     // no subcommand
     &["cubesat"],
     // no words
@@ -203,6 +196,13 @@ static WRONG: [&[&str]; 18] = [
     &[
         "cubesat", "solve", "--hands", "x", "--proof", "x.lrat", "x.cnf",
     ],
+    // limits that are none
+    &["cubesat", "solve", "--seconds", "0", "x.cnf"],
+    &["cubesat", "solve", "--seconds", "1000000001", "x.cnf"],
+    &["cubesat", "solve", "--seconds", "4294967297", "x.cnf"],
+    &["cubesat", "solve", "--seconds", "-1", "x.cnf"],
+    &["cubesat", "solve", "--seconds", "1.5", "x.cnf"],
+    &["cubesat", "solve", "x.cnf", "--seconds"],
 ];
 
 #[test]
@@ -219,8 +219,7 @@ fn wrong_command_lines(rt: HostRuntime) {
 #[test]
 fn help_is_shown(rt: HostRuntime) {
     let printed = run(&rt, &["./another_name", "--help"]);
-    assert_eq!(rt; printed.status, 0);
-    assert!(rt; printed.faults.is_empty());
+    assert!(rt; printed.status == 0 && printed.faults.is_empty());
     assert!(rt;
         printed
             .answer

@@ -1,5 +1,5 @@
 //! A proof that would be written over its formula, by whatever name.
-use crate::sessions::{Wanted, path_of, prints};
+use crate::sessions::{Wanted, path_of, prints, run};
 use crate::texts::FOUR;
 use std::fs;
 use std::rt::{Env, Files};
@@ -83,4 +83,35 @@ fn the_formula_is_not_written_over(rt: HostRuntime) -> Result<(), Fail> {
         assert!(rt; are_refused(&rt, formula, name)?, "{name}");
     }
     names.remove(&rt)
+}
+
+/// A device isn't a regular file: nothing in it can be written over.
+#[test]
+fn a_device_may_be_both(rt: HostRuntime) {
+    let words = ["cubesat", "solve", "--proof", "/dev/null", "/dev/null"];
+    let printed = run(&rt, &words);
+    assert!(rt; printed.status == 1 && printed.faults.starts_with(b"fault 51: refusal 1"));
+}
+
+/// What `--verbose` says of two names of one file.
+#[test]
+fn each_name_of_the_file_is_said(rt: HostRuntime) -> Result<(), Fail> {
+    let (formula, other) = (path_of(&rt, "two.cnf")?, path_of(&rt, "two_name")?);
+    fs::write(&rt, formula.as_str(), FOUR)?;
+    let _ = fs::remove_file(&rt, other.as_str());
+    fs::hard_link(&rt, formula.as_str(), other.as_str())?;
+    let words = [
+        "cubesat",
+        "solve",
+        "--verbose",
+        "--proof",
+        other.as_str(),
+        formula.as_str(),
+    ];
+    let printed = run(&rt, &words);
+    let wanted = format!(in rt.alloc(); "c the formula is {formula}\nc the proof is {other}\n")?;
+    assert!(rt; printed.status == 1 && printed.faults.ends_with(wanted.as_bytes()));
+    fs::remove_file(&rt, other.as_str())?;
+    fs::remove_file(&rt, formula.as_str())?;
+    Ok(())
 }

@@ -78,7 +78,7 @@ impl Paths {
     }
 
     /// The path that a word of a row stands for, or the word.
-    fn word<'a>(&'a self, word: &'a str) -> &'a str {
+    pub fn word<'a>(&'a self, word: &'a str) -> &'a str {
         match word {
             "FORMULA" => self.formula.as_str(),
             "PROOF" => self.proof.as_str(),

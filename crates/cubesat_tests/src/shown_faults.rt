@@ -211,8 +211,44 @@ const REFUTED: Row = Row {
     ends: &[],
 };
 
-static RUNS: [Row; 7] = [
+static RUNS: [Row; 10] = [
     REFUTED,
+    Row {
+        words: &[
+            "cubesat",
+            "solve",
+            "--verbose",
+            "--seconds",
+            "1000000000",
+            "--proof",
+            "PROOF",
+            "FORMULA",
+        ],
+        begins: &[
+            "c reading the formula from ",
+            "FORMULA",
+            "\nc solving it by the ordered search, hands 1, budget 1000 conflicts\nc for 1000000000 seconds at most\nc writing the proof to ",
+            "PROOF",
+            "\n",
+        ],
+        ..REFUTED
+    },
+    Row {
+        words: &[
+            "cubesat",
+            "solve",
+            "--verbose",
+            "--seconds",
+            "3600",
+            "FORMULA",
+        ],
+        begins: &[
+            "c reading the formula from ",
+            "FORMULA",
+            "\nc solving it by the ordered search, hands 1, budget 1000 conflicts\nc for 3600 seconds at most\nc writing no proof\n",
+        ],
+        ..REFUTED
+    },
     Row {
         words: &["cubesat", "solve", "--verbose", "FORMULA"],
         begins: &[
@@ -288,6 +324,27 @@ static RUNS: [Row; 7] = [
         fault: "fault 56\nc |MISSING|: can't be created: its folder doesn't exist\n",
         numbers: &[56],
         ends: &["c the file is ", "MISSING", "\n"],
+        ..REFUTED
+    },
+    Row {
+        words: &[
+            "cubesat",
+            "solve",
+            "--verbose",
+            "--proof",
+            "/dev/full",
+            "FORMULA",
+        ],
+        status: 1,
+        answer: "",
+        begins: &[
+            "c reading the formula from ",
+            "FORMULA",
+            "\nc solving it by the ordered search, hands 1, budget 1000 conflicts\nc writing the proof to /dev/full\n",
+        ],
+        fault: "fault 53\nc /dev/full: no room on the device\nc the proof isn't whole; make room for all of it, or name another place\n",
+        numbers: &[53],
+        ends: &["c the proof is /dev/full\n"],
         ..REFUTED
     },
     Row {

@@ -162,25 +162,22 @@ fn a_proof_of_what_is_read(rt: HostRuntime) -> Result<(), Fail> {
     let words = ["cubesat", "solve", "--budget", "1", "--proof", "PROOF", "-"];
     let words = paths.words(rt.alloc(), &words)?;
     let printed = run_with(&rt, &words, Trickle::whole(FOUR.as_bytes()));
-    assert_eq!(rt; printed.status, 20);
     let proof = fs::read(&rt, paths.proof.as_str())?;
-    assert_eq!(rt; proof.as_slice(), FOUR_PROOF.as_bytes());
+    assert!(rt; printed.status == 20 && proof.as_slice() == FOUR_PROOF.as_bytes());
     Ok(())
 }
 
 #[test]
 fn input_that_fails(rt: HostRuntime) {
     let printed = run_with(&rt, &["cubesat", "solve", "-"], Trickle::broken(b"p cnf"));
-    assert_eq!(rt; printed.status, 1);
     let said = b"fault 51: refusal 10\nc standard input: ";
-    assert!(rt; printed.faults.starts_with(said));
+    assert!(rt; printed.status == 1 && printed.faults.starts_with(said));
 }
 
 #[test]
 fn both_files_of_a_check(rt: HostRuntime) {
     let printed = run(&rt, &["cubesat", "check", "-", "-"]);
-    assert_eq!(rt; printed.status, 1);
-    assert!(rt; printed.answer.is_empty());
+    assert!(rt; printed.status == 1 && printed.answer.is_empty());
     let said = b"error: standard input can't be both the formula and the proof\n";
     assert!(rt; printed.faults.starts_with(said));
 }
@@ -192,8 +189,7 @@ fn no_proof_to_standard_output(rt: HostRuntime) {
         &["cubesat", "solve", "--proof", "-", "-"],
         FOUR.as_bytes(),
     );
-    assert_eq!(rt; printed.status, 1);
-    assert!(rt; printed.answer.is_empty());
+    assert!(rt; printed.status == 1 && printed.answer.is_empty());
     let said = b"error: the proof can't be written to standard output";
     assert!(rt; printed.faults.starts_with(said));
 }

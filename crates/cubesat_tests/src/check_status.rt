@@ -1,0 +1,177 @@
+//! What `check` prints and its exit status at each of its ends, and the status where a fault is to
+//! have one of its own.
+use crate::faulty::{Limited, Limits};
+use crate::sessions::{Paths, Wanted, prints};
+use crate::texts::{FOUR, FOUR_PROOF};
+use cubesat::command;
+use std::fs;
+use std::rt::Files;
+use std::sync::Wait;
+use std::test::Fail;
+use std::thread::Threads;
+use std::time::Clock;
+
+/// The texts of the formula's and the proof's file, the words that name the two, what is printed,
+/// and the status with `--distinct-status`.
+#[derive(Clone, Copy)]
+struct Row {
+    formula: &'static str,
+    proof: &'static str,
+    names: (&'static str, &'static str),
+    wanted: Wanted<'static>,
+    distinct: u8,
+}
+
+const ACCEPTED: Row = Row {
+    formula: FOUR,
+    proof: FOUR_PROOF,
+    names: ("FORMULA", "PROOF"),
+    wanted: Wanted {
+        status: 0,
+        answer: "accepted\n",
+        faults: "",
+    },
+    distinct: 0,
+};
+
+const REFUSED: Row = Row {
+    proof: "5 1 0 1 2 0\n",
+    wanted: Wanted {
+        status: 1,
+        answer: "refused 30\n",
+        faults: "c |PROOF|: no step adds the empty clause; the proof may have been cut off\n",
+    },
+    distinct: 1,
+    ..ACCEPTED
+};
+
+/// A proof that can't be read.
+const FAULT: Row = Row {
+    names: ("FORMULA", "."),
+    wanted: Wanted {
+        status: 1,
+        answer: "",
+        faults: "fault 55\nc .: is a folder\n",
+    },
+    distinct: 2,
+    ..ACCEPTED
+};
+
+static ROWS: [Row; 9] = [
+    ACCEPTED,
+    REFUSED,
+    Row {
+        proof: "4 1 0 1 2 0\n",
+        wanted: Wanted {
+            status: 1,
+            answer: "refused 21 step 1\n",
+            faults: "c |PROOF|: the number of clause 4 isn't above all numbers before it (line 1)\n",
+        },
+        ..REFUSED
+    },
+    Row {
+        proof: "5 1 0 1 2 0\n6 -1 0 3 4 0",
+        wanted: Wanted {
+            status: 1,
+            answer: "refused 42 line 2\n",
+            faults: "c |PROOF|: the last line isn't ended; the proof may have been cut off (line 2)\n",
+        },
+        ..REFUSED
+    },
+    FAULT,
+    Row {
+        formula: "p cnf 2 1\n1 3 0\n",
+        names: ("FORMULA", "PROOF"),
+        wanted: Wanted {
+            status: 1,
+            answer: "",
+            faults: "fault 51: refusal 5 at line 2, column 3\nc |FORMULA|: a variable above the header's number of variables (line 2, column 3)\nc   1 3 0\nc     ^\n",
+        },
+        ..FAULT
+    },
+    Row {
+        names: (".", "PROOF"),
+        wanted: Wanted {
+            status: 1,
+            answer: "",
+            faults: "fault 51: refusal 10\nc .: is a folder\n",
+        },
+        ..FAULT
+    },
+    Row {
+        names: ("MISSING", "PROOF"),
+        wanted: Wanted {
+            status: 1,
+            answer: "",
+            faults: "fault 56\nc |MISSING|: no such file\n",
+        },
+        ..FAULT
+    },
+    Row {
+        names: ("FORMULA", "MISSING"),
+        wanted: Wanted {
+            status: 1,
+            answer: "",
+            faults: "fault 56\nc |MISSING|: no such file\n",
+        },
+        ..FAULT
+    },
+];
+
+/// Whether a row's check prints what is wanted, with and without a status of its own for faults.
+fn holds<R: Files + AllocGlobal + Threads + Wait + Clock + Sync>(
+    rt: &R,
+    paths: &Paths,
+    row: &Row,
+) -> Result<bool, Fail> {
+    fs::write(rt, paths.formula.as_str(), row.formula)?;
+    fs::write(rt, paths.proof.as_str(), row.proof)?;
+    let (formula, proof) = (paths.word(row.names.0), paths.word(row.names.1));
+    let faults = paths.filled(rt.alloc(), row.wanted.faults)?;
+    let wanted = Wanted {
+        faults: faults.as_str(),
+        ..row.wanted
+    };
+    let distinct = Wanted {
+        status: row.distinct,
+        ..wanted
+    };
+    let words = ["cubesat", "check", formula, proof];
+    let is_printed = prints(rt, &words, &wanted);
+    let words = ["cubesat", "check", "--distinct-status", formula, proof];
+    Ok(is_printed && prints(rt, &words, &distinct))
+}
+
+#[test]
+fn each_end_has_its_status(rt: HostRuntime) -> Result<(), Fail> {
+    let paths = Paths::of(&rt, "check_status.cnf")?;
+    for row in &ROWS {
+        assert!(rt; holds(&rt, &paths, row)?, "{}", row.wanted.faults);
+    }
+    Ok(())
+}
+
+/// Whether a check whose line can't be written has the status of a fault.
+fn fails<R: Files + AllocGlobal + Threads + Wait + Clock + Sync>(
+    rt: &R,
+    words: &[&str],
+    status: u8,
+) -> bool {
+    let mut answer = Limited::new(rt.alloc(), Limits::of(3));
+    let mut faults = Vec::new(rt.alloc());
+    let ended = command(rt, rt.alloc(), words, &mut answer, &mut faults);
+    ended == status && faults.starts_with(b"fault 54\nc the answer: ")
+}
+
+#[test]
+fn a_line_that_cannot_be_written(rt: HostRuntime) -> Result<(), Fail> {
+    let paths = Paths::of(&rt, "check_unprinted.cnf")?;
+    fs::write(&rt, paths.formula.as_str(), FOUR)?;
+    fs::write(&rt, paths.proof.as_str(), FOUR_PROOF)?;
+    let (formula, proof) = (paths.formula.as_str(), paths.proof.as_str());
+    let words = ["cubesat", "check", formula, proof];
+    assert!(rt; fails(&rt, &words, 1));
+    let words = ["cubesat", "check", "--distinct-status", formula, proof];
+    assert!(rt; fails(&rt, &words, 2));
+    Ok(())
+}

@@ -1,0 +1,231 @@
+//! The real system, but for its clock, what it tells of memory, and files that are read slowly or
+//! can't be flushed.
+use crate::clocks::Pace;
+use std::alloc::Allocator;
+use std::fs::{Files, Metadata, OpenFile, OpenOptions};
+use std::io;
+use std::io::{ErrorKind, Read, Seek, SeekFrom, Write};
+use std::sync::Wait;
+use std::thread::Threads;
+use std::time::{Clock, Duration};
+
+/// Where Linux tells of the process. `solve` reads it at the end of each stage, where its run is
+/// counted.
+pub(crate) const STATUS: &str = "/proc/self/status";
+
+/// A file that is read slowly, or can't be flushed.
+#[derive(Drop)]
+pub(crate) struct FakeFile<'a, F> {
+    inner: F,
+    pace: Option<&'a Pace<'a>>,
+    flushes: bool,
+}
+
+impl<'a, 'b> FakeFile<'a, &'b [u8]> {
+    /// A text that stands for the standard input.
+    pub(crate) fn of_text(text: &'b [u8], pace: Option<&'a Pace<'a>>) -> FakeFile<'a, &'b [u8]> {
+        FakeFile {
+            inner: text,
+            pace,
+            flushes: false,
+        }
+    }
+}
+
+impl<F: Read> Read for FakeFile<'_, F> {
+    fn read(&mut self, buf: &mut [u8]) -> io::Result<usize> {
+        if let Some(pace) = self.pace {
+            pace.hold();
+        }
+        self.inner.read(buf)
+    }
+}
+
+impl<F: Write> Write for FakeFile<'_, F> {
+    fn write(&mut self, buf: &[u8]) -> io::Result<usize> {
+        self.inner.write(buf)
+    }
+
+    fn flush(&mut self) -> io::Result<()> {
+        if self.flushes {
+            self.inner.flush()
+        } else {
+            Err(io::Error::from(ErrorKind::Other))
+        }
+    }
+}
+
+impl<F> Seek for FakeFile<'_, F> {
+    fn seek(&mut self, _to: SeekFrom) -> io::Result<u64> {
+        Err(io::Error::from(ErrorKind::Unsupported))
+    }
+}
+
+impl<F: OpenFile> OpenFile for FakeFile<'_, F> {
+    fn metadata(&self) -> io::Result<Metadata> {
+        self.inner.metadata()
+    }
+
+    fn set_len(&self, size: u64) -> io::Result<()> {
+        self.inner.set_len(size)
+    }
+
+    fn sync_all(&self) -> io::Result<()> {
+        self.inner.sync_all()
+    }
+
+    fn sync_data(&self) -> io::Result<()> {
+        self.inner.sync_data()
+    }
+}
+
+/// The system.
+#[derive(Drop)]
+pub(crate) struct Fake<'a, R, C> {
+    pub(crate) rt: &'a R,
+    pub(crate) clock: &'a C,
+    /// The file that is read slowly, and what holds its reads.
+    pub(crate) slow: Option<(&'a str, &'a Pace<'a>)>,
+    /// The file that is opened in place of the one in which Linux tells of the process, where there
+    /// is one.
+    pub(crate) status: Option<&'a str>,
+    /// Whether files can be flushed.
+    pub(crate) flushes: bool,
+}
+
+impl<'a, R, C> Fake<'a, R, C> {
+    /// The system by this clock.
+    pub(crate) fn by(rt: &'a R, clock: &'a C) -> Fake<'a, R, C> {
+        Fake {
+            rt,
+            clock,
+            slow: None,
+            status: None,
+            flushes: true,
+        }
+    }
+
+    /// The system by this clock, where no file can be flushed.
+    pub(crate) fn unflushed(rt: &'a R, clock: &'a C) -> Fake<'a, R, C> {
+        Fake {
+            rt,
+            clock,
+            slow: None,
+            status: None,
+            flushes: false,
+        }
+    }
+
+    /// The system by this clock, where the file of this path tells of the process.
+    pub(crate) fn telling(rt: &'a R, clock: &'a C, path: &'a str) -> Fake<'a, R, C> {
+        Fake {
+            rt,
+            clock,
+            slow: None,
+            status: Some(path),
+            flushes: true,
+        }
+    }
+
+    /// What holds the reads of the file of this path.
+    fn pace_of(&self, path: &str) -> Option<&'a Pace<'a>> {
+        match self.slow {
+            Some((slow, pace)) if slow == path => Some(pace),
+            _ => None,
+        }
+    }
+}
+
+impl<'a, R> Fake<'a, R, Pace<'a>> {
+    /// The system by the clock of a pace that holds the reads of the file of this path.
+    pub(crate) fn slowed(rt: &'a R, pace: &'a Pace<'a>, path: &'a str) -> Fake<'a, R, Pace<'a>> {
+        Fake {
+            rt,
+            clock: pace,
+            slow: Some((path, pace)),
+            status: None,
+            flushes: true,
+        }
+    }
+}
+
+impl<R: Alloc, C> Alloc for Fake<'_, R, C> {
+    type A = R::A;
+
+    fn alloc(&self) -> R::A {
+        self.rt.alloc()
+    }
+}
+
+impl<R: Wait, C> Wait for Fake<'_, R, C> {}
+
+impl<R: Threads, C> Threads for Fake<'_, R, C> {}
+
+impl<R, C: Clock> Clock for Fake<'_, R, C> {
+    fn monotonic(&self) -> io::Result<Duration> {
+        self.clock.monotonic()
+    }
+
+    fn since_1970(&self) -> io::Result<Duration> {
+        self.clock.since_1970()
+    }
+
+    fn sleep(&self, duration: Duration) {
+        self.clock.sleep(duration)
+    }
+}
+
+impl<'a, R: Files, C> Files for Fake<'a, R, C> {
+    type File = FakeFile<'a, R::File>;
+
+    type Dir = R::Dir;
+
+    fn open_file(&self, how: &OpenOptions, path: &str) -> io::Result<FakeFile<'a, R::File>> {
+        let there = match self.status {
+            Some(status) if path == STATUS => status,
+            _ => path,
+        };
+        let inner = self.rt.open_file(how, there)?;
+        Ok(FakeFile {
+            inner,
+            pace: self.pace_of(path),
+            flushes: self.flushes,
+        })
+    }
+
+    fn open_dir(&self, path: &str) -> io::Result<R::Dir> {
+        self.rt.open_dir(path)
+    }
+
+    fn metadata(&self, path: &str) -> io::Result<Metadata> {
+        self.rt.metadata(path)
+    }
+
+    fn symlink_metadata(&self, path: &str) -> io::Result<Metadata> {
+        self.rt.symlink_metadata(path)
+    }
+
+    fn copy(&self, from: &str, to: &str) -> io::Result<u64> {
+        self.rt.copy(from, to)
+    }
+
+    fn rename(&self, from: &str, to: &str) -> io::Result<()> {
+        self.rt.rename(from, to)
+    }
+
+    fn remove_file(&self, path: &str) -> io::Result<()> {
+        self.rt.remove_file(path)
+    }
+
+    fn create_dir(&self, path: &str) -> io::Result<()> {
+        self.rt.create_dir(path)
+    }
+
+    fn remove_dir(&self, path: &str) -> io::Result<()> {
+        self.rt.remove_dir(path)
+    }
+
+    fn remove_dir_all<B: Allocator>(&self, alloc: B, path: &str) -> io::Result<()> {
+        self.rt.remove_dir_all(alloc, path)
+    }
+}
