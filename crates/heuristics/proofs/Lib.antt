@@ -1,4 +1,5 @@
 pub mod TournamentLemmas
+pub mod RaisedScores
 pub mod RankingLemmas
 pub mod BestOnes
 pub mod RankingViews

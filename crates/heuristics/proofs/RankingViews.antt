@@ -1,5 +1,5 @@
 -- What a ranking shows of its tables: scores by variable, and which variables wait.
-use Rattle.std.proofs.Common.{◌^◌, ◌≡◌, ◌≢◌, ℕ, zero, suc, ◌+◌, ◌-◌, ◌*◌, ◌/◌, ◌<◌, ◌≤◌, inl, inr, Bool, true, false, List, [], ◌∷◌, length, drop, map, filter, get_or, slice_index, slice_index_or, slice_set, nat_lt, nat_eq, ltb-true, refl, ap, sym, ◌∙◌, ◌^◌, subst, ⊎_elim, Some, None, replicate, All, arith, if◌then◌else◌}
+use Rattle.std.proofs.Common.{◌^◌, ◌≡◌, ◌≢◌, ℕ, zero, suc, ◌+◌, ◌-◌, ◌*◌, ◌<◌, ◌≤◌, inl, inr, Bool, true, false, List, [], ◌∷◌, length, drop, map, filter, get_or, slice_index, slice_index_or, slice_set, nat_lt, nat_eq, ltb-true, refl, ap, sym, ◌∙◌, ◌^◌, subst, ⊎_elim, Some, None, replicate, All, arith, if◌then◌else◌}
 use Rattle.std.specs.List.{list_any}
 use Rattle.std.proofs.lemmas.Bool.{cases_eq, cases_lt, lt-ltb}
 use Rattle.std.proofs.lemmas.Grind.{get_or_after_one}

@@ -164,6 +164,10 @@ leaf-read S W v = get_or-drop (length S) W v 0
 leaves-long : (S W : List ℕ) → IsField S W → length (drop (length S) W) ≡ length S
 leaves-long S W h = let long = h.long in let left = length-drop (length S) W in omega arith
 
+-- a leaf stays
+pub leaf-there : (S W : List ℕ) (v x : ℕ) → slice_index W (length S + v) ≡ x → drop (length S) W ≡ slice_set (drop (length S) W) v x
+leaf-there S W v x e = sym (ap (slice_set (drop (length S) W) v) (sym (leaf-read S W v ∙ e)) ∙ set-get_or (drop (length S) W) v 0)
+
 -- a variable whose leaf was written 0 is out
 pub left-out : (S W X : List ℕ) (v : ℕ) → v < length S → IsField S W → drop (length S) X ≡ slice_set (drop (length S) W) v 0 → slice_index X (length S + v) ≡ 0
 left-out S W X v less h e =

@@ -10,7 +10,7 @@ ghost use Rattle.heuristics.specs.Tournaments.{IsField, IsPlayedBut};
 ghost use Rattle.heuristics.specs.Rankings.{AreRanked, AreDistinct, first_ranking, vars_of, best_waiting, with_waiting, with_gains, grown, after_conflict, IsKept};
 
 use crate::constants::Constants;
-use crate::tournament::{enter, play_all, rescore};
+use crate::tournament::{enter, play_all, raise, rescore};
 use std::alloc::{AllocError, Global};
 use std::marker::Model;
 
@@ -73,7 +73,7 @@ fn gain(
     if score == 0 {
         gained.push(variable)?;
     }
-    rescore(scores, winners, variable, score + step);
+    raise(scores, winners, variable, score + step);
     Ok(())
 }
 

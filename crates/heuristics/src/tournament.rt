@@ -1,6 +1,6 @@
 //! A tournament of variables by their scores: the best one stands at the root, and each change is
 //! played again along one path.
-ghost use Rattle.std.specs.Prelude.{◌≡◌, ◌<◌, ◌≤◌, ◌+◌, ◌*◌, ◌/◌, ◌⊎◌, length, drop, slice_set};
+ghost use Rattle.std.specs.Prelude.{◌≡◌, ◌≢◌, ◌<◌, ◌≤◌, ◌+◌, ◌*◌, ◌/◌, ◌⊎◌, ℕ, length, drop, slice_index, slice_set};
 ghost use Rattle.heuristics.specs.Tournaments.{IsWinner, IsField, IsPlayedBut};
 
 /// The better of two variables: that of greater score, or of equal scores the greater.
@@ -49,7 +49,8 @@ pub(crate) fn play_all(scores: &[u64], winners: &mut [u32])
     }
 }
 
-/// Writes the leaf of a variable, itself or 0, and plays its matches again.
+/// Writes the leaf of a variable, itself or 0, and plays its matches again. It takes one look where
+/// the leaf stays: most variables that leave the trail wait still.
 pub(crate) fn enter(scores: &[u64], winners: &mut [u32], variable: u32, entrant: u32)
     requires played { IsPlayedBut scores.now winners.old 0 }
     requires inside { variable < length scores.now }
@@ -59,6 +60,9 @@ pub(crate) fn enter(scores: &[u64], winners: &mut [u32], variable: u32, entrant:
         slice_set (drop (length scores.now) winners.old) variable entrant }
 {
     let leaf = scores.len() + variable as usize;
+    if winners[leaf] == entrant {
+        return;
+    }
     winners[leaf] = entrant;
     replay(scores, winners, leaf);
 }
@@ -80,4 +84,37 @@ pub(crate) fn rescore(scores: &mut [u64], winners: &mut [u32], variable: u32, sc
     enter(scores, winners, variable, 0);
     scores[variable as usize] = score;
     enter(scores, winners, variable, variable);
+}
+
+/// The highest node that a variable stands at, or its leaf where it stands at none.
+fn top_of(scores: &[u64], winners: &[u32], variable: u32) -> usize
+    requires played { IsPlayedBut scores.now winners.now 0 }
+    requires inside { (1 ≤ variable) × (variable < length scores.now) }
+    ensures inside { result < length winners.now }
+    ensures top { (k : ℕ) → 1 ≤ k → k < length winners.now → slice_index winners.now k ≡ variable →
+        slice_index winners.now (k / 2) ≢ variable → k ≡ result }
+{
+    let mut node = scores.len() + variable as usize;
+    while node > 1 {
+        if winners[node / 2] != variable {
+            return node;
+        }
+        node /= 2;
+    }
+    node
+}
+
+/// Gives a variable a score that is no less than its own. It wins each match that it won before, so
+/// only those above the highest node that it stands at are played again.
+pub(crate) fn raise(scores: &mut [u64], winners: &mut [u32], variable: u32, score: u64)
+    requires played { IsPlayedBut scores.old winners.old 0 }
+    requires inside { (1 ≤ variable) × (variable < length scores.old) }
+    requires more { slice_index scores.old variable ≤ score }
+    ensures scores { scores.new ≡ slice_set scores.old variable score }
+    ensures played { IsPlayedBut scores.new winners.new 0 }
+    ensures leaves { drop (length scores.old) winners.new ≡ drop (length scores.old) winners.old }
+{
+    let top = top_of(scores, winners, variable);
+    scores[variable as usize] = score;
+    replay(scores, winners, top);
 }

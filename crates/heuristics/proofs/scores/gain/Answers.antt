@@ -6,8 +6,8 @@ pub returns-clause-ranked : goal.returns-clause-ranked
 returns-clause-ranked c =
     let S = c.args.scores.now in
     let v = c.args.variable in
-    let e = c.rescore.ensures in
+    let e = c.raise.ensures in
     elim c.if-score-eq0.branch [
-      | then-score-eq0+in_ok-push w ↦ rw (w.gained-is, e.scores) (AreRanked-noted S _ _ c.rescore.new.winners _ v _ c.requires.inside c.requires.ranked (rw e.scores at e.played) w.in_ok-push.ensures.items)
-      | else-score-eq0 w ↦ rw (w.gained-is, e.scores) (AreRanked-known S _ _ c.rescore.new.winners v _ c.requires.inside c.requires.ranked (rw e.scores at e.played) w.if-score-eq0.false)
+      | then-score-eq0+in_ok-push w ↦ rw (w.gained-is, e.scores) (AreRanked-noted S _ _ c.raise.new.winners _ v _ c.requires.inside c.requires.ranked (rw e.scores at e.played) w.in_ok-push.ensures.items)
+      | else-score-eq0 w ↦ rw (w.gained-is, e.scores) (AreRanked-known S _ _ c.raise.new.winners v _ c.requires.inside c.requires.ranked (rw e.scores at e.played) w.if-score-eq0.false)
     ]
