@@ -13,6 +13,7 @@ pub mod ForgottenAt
 pub mod InOrder
 pub mod KernelSteps
 pub mod LastFalse
+pub mod LastLiterals
 pub mod LeastClauses
 pub mod LeftClauses
 pub mod LeftLists

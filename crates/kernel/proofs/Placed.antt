@@ -1,6 +1,6 @@
 -- Clauses that wait elsewhere, or in another order; and what waits with the place of its last false
 -- literal.
-use Rattle.std.proofs.Common.{◌≡◌, ℕ, suc, zero, ◌+◌, ◌<◌, Bool, true, false, ◌||◌, List, [], ◌∷◌, ◌++◌, length, get_or, map, take, nat_eq, eq-eqb, Option, Some, None, option_map, refl, ap, sym, subst, ◌∙◌, ◌⊎◌, inl, inr, arith, All}
+use Rattle.std.proofs.Common.{◌≡◌, ℕ, suc, zero, ◌+◌, ◌<◌, Bool, true, false, ◌||◌, List, [], ◌∷◌, ◌++◌, length, map, take, nat_eq, eq-eqb, Option, Some, None, option_map, refl, ap, sym, subst, ◌∙◌, ◌⊎◌, inl, inr, append-nil, arith, All}
 use Rattle.std.specs.List.{AllByRecursion, Contains}
 use Rattle.std.specs.List.Sorted.{IsPermutation}
 use Rattle.std.specs.Ordering.{is_lt, nat_cmp, ordering_then}
@@ -12,40 +12,29 @@ use Rattle.std.proofs.lemmas.Cmp.{ranked}
 use Rattle.std.proofs.lemmas.List.{length-map}
 use Rattle.std.proofs.Math.ListN.{get_or-map}
 use Rattle.std.proofs.lemmas.List.Elements.{All-from_recursion, All-contains}
-use Rattle.std.proofs.lemmas.List.Sorted.{Contains-permutation, IsPermutation-sym, IsPermutation-trans, IsPermutation-middle, IsPermutation-append_right, IsPermutation-append_left}
-use Rattle.theory.specs.Literals.{Literal, Clause, has, has_var, negated}
+use Rattle.std.proofs.lemmas.List.Sorted.{Contains-permutation, IsPermutation-sym, IsPermutation-trans, IsPermutation-middle, IsPermutation-append_right, IsPermutation-append_left, IsPermutation-map}
+use Rattle.theory.specs.Literals.{Literal, Clause, same, has, has_var, negated}
 use Rattle.theory.specs.Status.{unit_literal, others_false}
 use Rattle.theory.specs.Trails.{Entry, Trail, literals}
-use Rattle.theory.specs.Propagation.{last_false, by_place, Placed}
+use Rattle.theory.specs.Propagation.{IsRule, last_false, by_number, by_place, Placed}
 use Rattle.theory.proofs.literals.LiteralLemmas.{or-left, or-right}
+use Rattle.theory.proofs.searching.Rules.{IsRule-by_number, IsRule-by_place}
 use Rattle.theory.proofs.literals.LiteralSets.{false_unless}
-use Rattle.kernel.specs.declared.watch.Watch.{Watch}
 use Rattle.kernel.specs.declared.line.Waiting.{Waiting}
-use Rattle.kernel.specs.Watching.{At, Tending, IsServed, WasUnit}
-use Rattle.kernel.specs.Visiting.{WatchLists, CanVisit, IsVisit, satisfied, behind, unit, clashes, moves}
-use Rattle.kernel.proofs.LiteralFacts.{true_false, free-not, free-not_negated, negated-negated}
-use Rattle.kernel.proofs.Places.{At-one}
+use Rattle.kernel.specs.Watching.{At, Tending, IsServed}
+use Rattle.kernel.specs.Visiting.{WatchLists, tending}
+use Rattle.kernel.proofs.LiteralFacts.{true_false, free-not, free-not_negated, negated-negated, has-push}
 use Rattle.kernel.proofs.TrailFacts.{literals-push}
 use Rattle.kernel.proofs.Serving.{Good-more}
 use Rattle.kernel.proofs.AtRest.{other-false}
-use Rattle.kernel.proofs.LeastClauses.{IsUnitIn, unit_literal-says, unit_literal-is}
+use Rattle.kernel.proofs.LeastClauses.{IsUnitIn, unit_literal-says, unit_literal-is, least_unit-some, least_unit-none}
+use Rattle.kernel.proofs.LastLiterals.{all-false-but}
 use Rattle.kernel.proofs.LastFalse.{last_false-push}
 use Rattle.kernel.proofs.NearestClauses.{NoLater, nearest-some, nearest-none}
-use Rattle.kernel.specs.Placing.{clauses_of, GoesFirst, ArePlaced, also}
-
-pub CanVisit-also : (ns : List ℕ) (K : List Clause) (P : List Literal) (g : Literal) (e : Watch) (k : WatchLists) → CanVisit K P g e (also ns k) → CanVisit K P g e k
-CanVisit-also ns K P g e k v = record { within = v.within; gone = v.gone; entry = v.entry; length_pairs = v.length_pairs; pair = v.pair }
-
--- a visit does the same where clauses wait elsewhere
-pub IsVisit-also : (ns : List ℕ) (K : List Clause) (P : List Literal) (g : Literal) (e : Watch) (s u : WatchLists) (r : Option Literal) → IsVisit K P g e s u r → IsVisit K P g e (also ns s) (also ns u) r
-IsVisit-also ns K P g e s u r (satisfied stay t is) = satisfied stay t (ap (also ns) is)
-IsVisit-also ns K P g e s u r (behind stay least le is) = behind stay least le (ap (also ns) is)
-IsVisit-also ns K P g e s u r (unit stay last free perm pairs lists least) =
-    unit stay last free
-    (IsPermutation-trans (e.clause ∷ (ns ++ s.units)) (ns ++ e.clause ∷ s.units) (ns ++ u.units) (IsPermutation-sym (ns ++ e.clause ∷ s.units) (e.clause ∷ (ns ++ s.units)) (IsPermutation-middle ns e.clause s.units)) (IsPermutation-append_right ns (e.clause ∷ s.units) u.units perm))
-    pairs lists least
-IsVisit-also ns K P g e s u r (clashes stay last gone is) = clashes stay last gone (ap (also ns) is)
-IsVisit-also ns K P g e s u r (moves long facts pairs lists units least) = moves long facts pairs lists (ap (λ (us : List ℕ). ns ++ us) units) least
+use Rattle.kernel.specs.declared.order.Order.{Order}
+use Rattle.kernel.specs.declared.order.Order.TheVariants.{ByNumber, ByPlace}
+use Rattle.kernel.specs.Rules.{rule_of}
+use Rattle.kernel.specs.Placing.{clauses_of, GoesFirst, place_in, IsLastOf, AreInLine, also}
 
 has_var-front : (P Q : List Literal) (v : ℕ) → has_var P v ≡ true → has_var (P ++ Q) v ≡ true
 has_var-front [] Q v h = absurd (cc)
@@ -107,71 +96,124 @@ waiting-of (w ∷ ws) n (suc p, l, e) =
 pub number-of : (ws : List Waiting) (w : Waiting) → Contains ws w → Contains (clauses_of ws) w.clause
 number-of ws w h = (h.0, subst (λ m. h.0 < m) (sym (length-map ws (λ (v : Waiting). v.clause))) h.1, get_or-map (λ (v : Waiting). v.clause) ws h.0 w ∙ ap (λ (v : Waiting). v.clause) h.2)
 
--- one more, with its place
-pub ArePlaced-push : (K : List Clause) (T : Trail) (ws vs : List Waiting) (w : Waiting) (c : Clause) → At K w.clause c → w.place ≡ last_false T c → IsPermutation (w ∷ ws) vs → ArePlaced K T ws → ArePlaced K T vs
-ArePlaced-push K T ws vs w c at place perm all v d l m a is_unit = split (Contains-permutation vs (w ∷ ws) v (IsPermutation-sym (w ∷ ws) vs perm) m)
+-- one more
+pub AreInLine-push : (o : Order) (K : List Clause) (T : Trail) (ws vs : List Waiting) (w : Waiting) → ((c : Clause) → At K w.clause c → IsLastOf (literals T) c w.lit × (w.place ≡ place_in o T c)) → IsPermutation (w ∷ ws) vs → AreInLine o K T ws → AreInLine o K T vs
+AreInLine-push o K T ws vs w waits perm all = record {
+  last = λ v d m a. last v d (there v m) a;
+  placed = λ v d l m a u. placed v d l (there v m) a u;
+}
   where
-    split : Contains (w ∷ ws) v → last_false T d ≡ v.place
-    split (zero, x, e) =
-        let one : c ≡ d = At-one K v.clause c d (subst (λ (y : Waiting). At K y.clause c) e at) a in
-        sym (ap (λ (y : Waiting). y.place) (sym e) ∙ place ∙ ap (last_false T) one)
-    split (suc p, x, e) = all v d l (p, (let z : p < length ws = omega (arith, x) in z), e) a is_unit
+    there : (v : Waiting) → Contains vs v → Contains (w ∷ ws) v
+    there v m = Contains-permutation vs (w ∷ ws) v (IsPermutation-sym (w ∷ ws) vs perm) m
+
+    last : (v : Waiting) (d : Clause) → Contains (w ∷ ws) v → At K v.clause d → IsLastOf (literals T) d v.lit
+    last v d (zero, x, e) a = subst (λ (y : Waiting). IsLastOf (literals T) d y.lit) e (waits d (subst (λ (y : Waiting). At K y.clause d) (sym e) a)).0
+    last v d (suc p, x, e) a = all.last v d (p, (let z : p < length ws = omega (arith, x) in z), e) a
+
+    placed : (v : Waiting) (d : Clause) (l : Literal) → Contains (w ∷ ws) v → At K v.clause d → unit_literal (literals T) d ≡ Some l → place_in o T d ≡ v.place
+    placed v d l (zero, x, e) a u = sym (waits d (subst (λ (y : Waiting). At K y.clause d) (sym e) a)).1 ∙ ap (λ (y : Waiting). y.place) e
+    placed v d l (suc p, x, e) a u = all.placed v d l (p, (let z : p < length ws = omega (arith, x) in z), e) a u
 
 -- one less
-pub ArePlaced-pop : (K : List Clause) (T : Trail) (ws vs : List Waiting) (w : Waiting) → IsPermutation ws (w ∷ vs) → ArePlaced K T ws → ArePlaced K T vs
-ArePlaced-pop K T ws vs w perm all v d l m a is_unit =
-    all v d l (Contains-permutation (w ∷ vs) ws v (IsPermutation-sym ws (w ∷ vs) perm) (suc m.0, (let z : suc m.0 < length (w ∷ vs) = omega (arith, m.1) in z), m.2)) a is_unit
+pub AreInLine-pop : (o : Order) (K : List Clause) (T : Trail) (ws vs : List Waiting) (w : Waiting) → IsPermutation ws (w ∷ vs) → AreInLine o K T ws → AreInLine o K T vs
+AreInLine-pop o K T ws vs w perm all = record {
+  last = λ v d m a. all.last v d (there v m) a;
+  placed = λ v d l m a u. all.placed v d l (there v m) a u;
+}
+  where
+    there : (v : Waiting) → Contains vs v → Contains ws v
+    there v m = Contains-permutation (w ∷ vs) ws v (IsPermutation-sym ws (w ∷ vs) perm) (suc m.0, (let z : suc m.0 < length (w ∷ vs) = omega (arith, m.1) in z), m.2)
 
 -- an entry more
-pub ArePlaced-grow : (K : List Clause) (T : Trail) (ws : List Waiting) (e : Entry) → has_var (literals T) e.lit.var ≡ false → ((n : ℕ) → Contains (clauses_of ws) n → (c : Clause) → At K n c → WasUnit (literals T) c) → ArePlaced K T ws → ArePlaced K (T ++ e ∷ []) ws
-ArePlaced-grow K T ws e fresh was all w c l m a is_unit = last_false-push T e c apart ∙ all w c l m a before
-  where
+module _ (T : Trail) (e : Entry) (fresh : has_var (literals T) e.lit.var ≡ false) (c : Clause) (k : Literal) (last : IsLastOf (literals T) c k) where
+  more : (l : Literal) → has (literals T) l ≡ true → has (literals (T ++ e ∷ [])) l ≡ true
+  more l h = subst (λ (P : List Literal). has P l ≡ true) (sym (literals-push T e)) (has-push (literals T) e.lit l ∙ or-left (has (literals T) l) (same l e.lit) h)
+
+  pub last-grow : IsLastOf (literals (T ++ e ∷ [])) c k
+  last-grow = (last.0, λ l m ne. more (negated l) (last.1 l m ne))
+
+  module _ (l : Literal) (is_unit : unit_literal (literals (T ++ e ∷ [])) c ≡ Some l) where
     says : IsUnitIn (literals T ++ e.lit ∷ []) c l
     says = unit_literal-says (literals T ++ e.lit ∷ []) c l (subst (λ (P : List Literal). unit_literal P c ≡ Some l) (literals-push T e) is_unit)
 
     free : has_var (literals T) l.var ≡ false
     free = false_unless (has_var (literals T) l.var) (λ h. true_false (has_var (literals T ++ e.lit ∷ []) l.var) (has_var-front (literals T) (e.lit ∷ []) l.var h) says.free)
 
-    wu : WasUnit (literals T) c
-    wu = was w.clause (number-of ws w m) c a
-
-    one : wu.0 ≡ l
-    one = go (other-false (literals T) c wu.0 l wu.2 says.member)
+    one : k ≡ l
+    one = go (other-false (literals T) c k l (all-false-but (literals T) c k last.1) says.member)
       where
-        go : (wu.0 ≡ l) ⊎ (has (literals T) (negated l) ≡ true) → wu.0 ≡ l
+        go : (k ≡ l) ⊎ (has (literals T) (negated l) ≡ true) → k ≡ l
         go (inl f) = f
         go (inr f) = absurd (free-not_negated (literals T) l free f)
 
     others : others_false (literals T) c l ≡ true
-    others = subst (λ (y : Literal). others_false (literals T) c y ≡ true) one wu.2
+    others = subst (λ (y : Literal). others_false (literals T) c y ≡ true) one (all-false-but (literals T) c k last.1)
 
-    before : unit_literal (literals T) c ≡ Some l
-    before = unit_literal-is (literals T) c l says.member free others
+    pub was-unit : unit_literal (literals T) c ≡ Some l
+    was-unit = unit_literal-is (literals T) c l says.member free others
 
-    apart : has c (negated e.lit) ≡ false
+    pub apart : has c (negated e.lit) ≡ false
     apart = false_unless (has c (negated e.lit)) (λ h. go (other-false (literals T) c l (negated e.lit) others h))
       where
         go : (l ≡ negated e.lit) ⊎ (has (literals T) (negated (negated e.lit)) ≡ true) → ⊥
         go (inl f) = true_false (has_var (literals T ++ e.lit ∷ []) l.var) (subst (λ (y : Literal). has_var (literals T ++ e.lit ∷ []) y.var ≡ true) (sym f) (has_var-last (literals T) e.lit)) says.free
         go (inr f) = free-not (literals T) e.lit fresh (subst (λ (y : Literal). has (literals T) y ≡ true) (negated-negated e.lit) f)
 
+pub AreInLine-grow : (o : Order) (K : List Clause) (T : Trail) (ws : List Waiting) (e : Entry) → has_var (literals T) e.lit.var ≡ false → AreInLine o K T ws → AreInLine o K (T ++ e ∷ []) ws
+AreInLine-grow o K T ws e fresh all = record {
+  last = λ w c m a. last-grow T e fresh c w.lit (all.last w c m a);
+  placed = λ w c l m a u. go o c w.place (all.placed w c l m a (was-unit T e fresh c w.lit (all.last w c m a) l u)) (last_false-push T e c (apart T e fresh c w.lit (all.last w c m a) l u));
+}
+  where
+    go : (o : Order) (c : Clause) (p : ℕ) → place_in o T c ≡ p → last_false (T ++ e ∷ []) c ≡ last_false T c → place_in o (T ++ e ∷ []) c ≡ p
+    go ByNumber c p h f = h
+    go ByPlace c p h f = f ∙ h
+
 -- the one that goes first is the nearest
-pub first-by_place : (K : List Clause) (T : Trail) (ws : List Waiting) (w : Waiting) (c : Clause) (l : Literal) → ArePlaced K T ws → Contains ws w → All (λ v. GoesFirst w v) ws → At K w.clause c → unit_literal (literals T) c ≡ Some l
+pub first-by_place : (K : List Clause) (T : Trail) (ws : List Waiting) (w : Waiting) (c : Clause) (l : Literal) → AreInLine ByPlace K T ws → Contains ws w → All (λ v. GoesFirst w v) ws → At K w.clause c → unit_literal (literals T) c ≡ Some l
     → ((m : ℕ) (d : Clause) (k : Literal) → At K m d → unit_literal (literals T) d ≡ Some k → Contains (clauses_of ws) m) → by_place T K ≡ Some (w.clause + 1, l)
-first-by_place K T ws w c l placed in_line first at is_unit waiting = ap (option_map (λ (p : Placed). p.unit)) (nearest-some T K w.clause c l at is_unit least)
+first-by_place K T ws w c l all in_line first at is_unit waiting = ap (option_map (λ (p : Placed). p.unit)) (nearest-some T K w.clause c l at is_unit least)
   where
     least : (m : ℕ) (d : Clause) (k : Literal) → At K m d → unit_literal (literals T) d ≡ Some k → NoLater (last_false T c) w.clause (last_false T d) m
     least m d k a h =
         let v = waiting-of ws m (waiting m d k a h) in
         let there : At K v.0.clause d = subst (λ i. At K i d) (sym v.2) a in
-        by (placed w c l in_line at is_unit) (placed v.0 d k v.1 there h) v.2 (All-contains (λ y. GoesFirst w y) ws v.0 first v.1)
+        by v.0 (all.placed w c l in_line at is_unit) (all.placed v.0 d k v.1 there h) v.2 (All-contains (λ y. GoesFirst w y) ws v.0 first v.1)
       where
-        by : {p q i : ℕ} {v : Waiting} → p ≡ w.place → q ≡ v.place → v.clause ≡ i → GoesFirst w v → NoLater p w.clause q i
-        by e f g (inl h) = inl (omega (arith, e, f, h))
-        by e f g (inr h) = inr ((let x = h.0 in omega (arith, e, f, x)), (let y = h.1 in omega (arith, g, y)))
+        by : {p q i : ℕ} (v : Waiting) → p ≡ w.place → q ≡ v.place → v.clause ≡ i → GoesFirst w v → NoLater p w.clause q i
+        by v e f g (inl h) = inl (omega (arith, e, f, h))
+        by v e f g (inr h) = inr ((let x = h.0 in omega (arith, e, f, x)), (let y = h.1 in omega (arith, g, y)))
+
+-- and by number the one of least number
+pub first-by_number : (K : List Clause) (T : Trail) (ws : List Waiting) (w : Waiting) (c : Clause) (l : Literal) → AreInLine ByNumber K T ws → Contains ws w → All (λ v. GoesFirst w v) ws → At K w.clause c → unit_literal (literals T) c ≡ Some l
+    → ((m : ℕ) (d : Clause) (k : Literal) → At K m d → unit_literal (literals T) d ≡ Some k → Contains (clauses_of ws) m) → by_number T K ≡ Some (w.clause + 1, l)
+first-by_number K T ws w c l all in_line first at is_unit waiting = least_unit-some (literals T) K w.clause c l at is_unit before
+  where
+    later : {p q i : ℕ} (v : Waiting) → p ≡ w.place → q ≡ v.place → p ≡ q → v.clause ≡ i → i < w.clause → GoesFirst w v → ⊥
+    later v e f g h less (inl x) = omega (arith, e, f, g, x)
+    later v e f g h less (inr x) = (let y = x.1 in omega (arith, h, less, y))
+
+    before : (m : ℕ) (d : Clause) → m < w.clause → At K m d → unit_literal (literals T) d ≡ None
+    before m d less a = go (unit_literal (literals T) d) refl
+      where
+        go : (q : Option Literal) → unit_literal (literals T) d ≡ q → unit_literal (literals T) d ≡ None
+        go None e = e
+        go (Some k) e =
+            let v = waiting-of ws m (waiting m d k a e) in
+            let there : At K v.0.clause d = subst (λ i. At K i d) (sym v.2) a in
+            absurd (later v.0 (all.placed w c l in_line at is_unit) (all.placed v.0 d k v.1 there e) refl v.2 less (All-contains (λ y. GoesFirst w y) ws v.0 first v.1))
+
+pub first-by : (o : Order) (K : List Clause) (T : Trail) (ws : List Waiting) (w : Waiting) (c : Clause) (l : Literal) → AreInLine o K T ws → Contains ws w → All (λ v. GoesFirst w v) ws → At K w.clause c → unit_literal (literals T) c ≡ Some l
+    → ((m : ℕ) (d : Clause) (k : Literal) → At K m d → unit_literal (literals T) d ≡ Some k → Contains (clauses_of ws) m) → rule_of o T K ≡ Some (w.clause + 1, l)
+first-by ByNumber K T ws w c l all there first at is_unit waiting = first-by_number K T ws w c l all there first at is_unit waiting
+first-by ByPlace K T ws w c l all there first at is_unit waiting = first-by_place K T ws w c l all there first at is_unit waiting
 
 pub none-by_place : (K : List Clause) (T : Trail) → ((n : ℕ) (c : Clause) → At K n c → unit_literal (literals T) c ≡ None) → by_place T K ≡ None
 none-by_place K T h = ap (option_map (λ (p : Placed). p.unit)) (nearest-none T K h)
+
+pub none-by : (o : Order) (K : List Clause) (T : Trail) → ((n : ℕ) (c : Clause) → At K n c → unit_literal (literals T) c ≡ None) → rule_of o T K ≡ None
+none-by ByNumber K T h = least_unit-none (literals T) K h
+none-by ByPlace K T h = none-by_place K T h
 
 -- a clause that was found is put in line
 pub lined : (all line found rest longer : List ℕ) (n : ℕ) → IsPermutation all (line ++ found) → IsPermutation found (n ∷ rest) → IsPermutation (n ∷ line) longer → IsPermutation all (longer ++ rest)
@@ -179,6 +221,27 @@ lined all line found rest longer n h k m =
     IsPermutation-trans all (line ++ found) (longer ++ rest) h
     (IsPermutation-trans (line ++ found) (line ++ n ∷ rest) (longer ++ rest) (IsPermutation-append_right line found (n ∷ rest) k)
     (IsPermutation-trans (line ++ n ∷ rest) (n ∷ (line ++ rest)) (longer ++ rest) (IsPermutation-middle line n rest) (IsPermutation-append_left rest (n ∷ line) longer m)))
+
+-- a clause more waits in line, or the same ones, and the others as before
+pub lengthened : (line longer us vs : List ℕ) (n : ℕ) → vs ≡ us → IsPermutation (n ∷ line) longer → IsPermutation (n ∷ (line ++ us)) (longer ++ vs)
+lengthened line longer us vs n e h = subst (λ xs. IsPermutation (n ∷ (line ++ us)) (longer ++ xs)) (sym e) (IsPermutation-append_left us (n ∷ line) longer h)
+
+pub joined : (line other us vs : List ℕ) → other ≡ line → vs ≡ us → other ++ vs ≡ line ++ us
+joined line other us vs e f = rw (e, f) refl
+
+pub lined-up : (ws vs : List Waiting) (w : Waiting) (n : ℕ) → w.clause ≡ n → IsPermutation (w ∷ ws) vs → IsPermutation (n ∷ clauses_of ws) (clauses_of vs)
+lined-up ws vs w n e h = subst (λ m. IsPermutation (m ∷ clauses_of ws) (clauses_of vs)) e (IsPermutation-map (λ v. v.clause) _ _ h)
+
+-- nothing waits but in line
+module _ (floor : ℕ) (K : List Clause) (T : Trail) (n : ℕ) (k : WatchLists) (ns : List ℕ) (none : k.units ≡ []) where
+  alone : ns ++ k.units ≡ ns
+  alone = ap (λ us. ns ++ us) none ∙ append-nil ns
+
+  pub IsServed-line : IsServed floor K T n (tending (also ns k)) → IsServed floor K T n (record (tending k) { units = ns })
+  IsServed-line s = subst (λ (us : List ℕ). IsServed floor K T n (record (tending k) { units = us })) alone s
+
+  pub IsServed-also : IsServed floor K T n (record (tending k) { units = ns }) → IsServed floor K T n (tending (also ns k))
+  IsServed-also s = subst (λ (us : List ℕ). IsServed floor K T n (record (tending k) { units = us })) (sym alone) s
 
 -- and one of the line is given back
 pub given_back : (all line found shorter more : List ℕ) (n : ℕ) → IsPermutation all (line ++ found) → IsPermutation line (n ∷ shorter) → IsPermutation (n ∷ found) more → IsPermutation all (shorter ++ more)
@@ -196,7 +259,12 @@ rest-there ns rest n m h x = Contains-permutation (n ∷ rest) ns m (IsPermutati
 pub in-line : (ws rest : List Waiting) (w : Waiting) → IsPermutation ws (w ∷ rest) → Contains ws w
 in-line ws rest w h = Contains-permutation (w ∷ rest) ws w (IsPermutation-sym ws (w ∷ rest) h) (0, (let z : 0 < length (w ∷ rest) = omega arith in z), refl)
 
--- a clause that was unit isn't empty
-pub WasUnit-full : (P : List Literal) (c : Clause) → WasUnit P c → c ≡ [] → ⊥
-WasUnit-full P [] u e = absurd (true_false (has [] u.0) u.1 refl)
-WasUnit-full P (l ∷ c) u e = absurd (cc)
+pub IsRule-by : (o : Order) → IsRule (rule_of o)
+IsRule-by ByNumber = IsRule-by_number
+IsRule-by ByPlace = IsRule-by_place
+
+pub AreInLine-none : (o : Order) (K : List Clause) (T : Trail) → AreInLine o K T []
+AreInLine-none o K T = record {
+  last = λ w c m a. absurd (omega (arith, m.1));
+  placed = λ w c l m a u. absurd (omega (arith, m.1));
+}

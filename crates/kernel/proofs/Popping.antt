@@ -1,22 +1,23 @@
 -- Once each entry was served: the conflict, the unit clause of least number, or neither.
-use Rattle.std.proofs.Common.{◌≡◌, ◌≢◌, ℕ, suc, zero, ◌+◌, ◌<◌, ◌≤◌, Bool, true, false, not, ◌||◌, List, [], ◌∷◌, ◌++◌, length, get_or, take, Option, Some, None, refl, sym, subst, ◌∙◌, ◌⊎◌, inl, inr, arith, cond, nat_eq, All}
+use Rattle.std.proofs.Common.{◌≡◌, ◌≢◌, ℕ, suc, zero, ◌+◌, ◌<◌, ◌≤◌, Bool, true, false, not, ◌||◌, List, [], ◌∷◌, ◌++◌, length, get_or, take, Option, Some, None, refl, sym, subst, ◌∙◌, ◌⊎◌, inl, inr, arith, nat_eq}
 use Rattle.std.proofs.lemmas.Bool.{cases_eq}
 use Rattle.std.proofs.lemmas.List.{take_all, take_at}
 use Rattle.std.specs.List.{Contains, list_all}
 use Rattle.std.specs.List.Sorted.{IsPermutation}
 use Rattle.std.proofs.lemmas.List.Sorted.{Contains-permutation, IsPermutation-sym}
-use Rattle.std.proofs.lemmas.List.Elements.{All-contains}
 use Rattle.theory.specs.Literals.{Literal, Clause, same, same_sign, has, has_var, negated}
-use Rattle.theory.specs.Status.{is_false, others_false, unit_literal}
+use Rattle.theory.specs.Status.{is_false, unit_literal}
 use Rattle.theory.specs.Trails.{Entry, Trail, literals, current_level}
 use Rattle.theory.specs.Propagation.{least_false, least_unit}
 use Rattle.theory.proofs.literals.LiteralLemmas.{and-left, and-right, or-cases, or-left, or-right, true_or_false, same-refl}
-use Rattle.kernel.specs.Watching.{IsConsistent, IsPair, IsWatched, apart, first_true, second_true, other_true, both_signs, Reached, Good, held, waits, reached, At, Tending, Includes, Tends, WasUnit, AllGood, IsServed, chosen}
+use Rattle.kernel.specs.Watching.{IsConsistent, IsPair, IsWatched, apart, first_true, second_true, other_true, both_signs, Reached, Good, held, waits, reached, At, Tending, Includes, Tends, WasUnit, AllGood, IsServed}
 use Rattle.kernel.specs.declared.watch.Watched.{Watched}
-use Rattle.kernel.proofs.LiteralFacts.{true_false, has-push, free-not_negated}
+use Rattle.kernel.specs.Placing.{IsLastOf}
+use Rattle.kernel.proofs.LastLiterals.{all-false-but, all-false}
+use Rattle.kernel.proofs.LiteralFacts.{true_false, has-push}
 use Rattle.kernel.proofs.Places.{At-one, At-get}
-use Rattle.kernel.proofs.AtRest.{false-reached, unit-waits, other-false}
-use Rattle.kernel.proofs.LeastClauses.{least_false-none, least_false-some, least_unit-none, least_unit-some, unit_literal-is, unit_literal-says}
+use Rattle.kernel.proofs.AtRest.{false-reached, unit-waits}
+use Rattle.kernel.proofs.LeastClauses.{least_false-none, least_false-some, least_unit-none, unit_literal-is, unit_literal-says}
 use Rattle.kernel.proofs.TrailFacts.{literals-push, up_to-push, current_level-push}
 
 -- a variable of P has one of its literals there
@@ -154,7 +155,7 @@ Tends-grow floor K T e t level s = record {
     one y l (inr f) = or-right (same y l) (has (literals (T ++ e ∷ [])) (negated l)) (grown (negated l) f)
 
 -- a number was taken out of those that wait
-pub record Pops (t u : Tending) (n : ℕ) (w : Watched) : Type 0 where
+record Pops (t u : Tending) (n : ℕ) (w : Watched) : Type 0 where
   pub pairs : u.pairs ≡ t.pairs
   pub lists : u.lists ≡ t.lists
   pub least : u.least ≡ t.least
@@ -169,7 +170,7 @@ module _ (floor : ℕ) (K : List Clause) (T : Trail) (t u : Tending) (n : ℕ) (
   waited : Contains t.units n
   waited = Contains-permutation (n ∷ u.units) t.units n (IsPermutation-sym t.units (n ∷ u.units) p.units) (0, (let z : 0 < length (n ∷ u.units) = omega arith in z), refl)
 
-  pub popped-within : n < length K
+  popped-within : n < length K
   popped-within = (s.tends.found.units n waited).0
 
   others-wait : (m : ℕ) → Contains u.units m → Contains t.units m
@@ -196,25 +197,6 @@ module _ (floor : ℕ) (K : List Clause) (T : Trail) (t u : Tending) (n : ℕ) (
 
   good-n : Good K (literals T) (literals T) t.units None w n
   good-n = subst (λ o. Good K (literals T) (literals T) t.units o w n) p.none (good_at n w p.watch)
-
-  -- the chosen literal is watched, and if it is false both are
-  record Choice (k : Literal) : Type 0 where
-    watched : (w.first ≡ k) ⊎ (w.second ≡ k)
-    member : has (get_or K n []) k ≡ true
-    both_false : has (literals T) (negated k) ≡ true → (has (literals T) (negated w.first) ≡ true) × (has (literals T) (negated w.second) ≡ true)
-
-  choice : Choice (chosen (literals T) w)
-  choice = go (has (literals T) (negated w.first)) refl
-    where
-      go : (b : Bool) → has (literals T) (negated w.first) ≡ b → Choice (cond b w.second w.first)
-      go true e = record { watched = inr refl; member = pair.second_in; both_false = λ f. (e, f) }
-      go false e = record { watched = inl refl; member = pair.first_in; both_false = λ f. absurd (true_false (has (literals T) (negated w.first)) f e) }
-
-  pub first-in : has (get_or K n []) w.first ≡ true
-  first-in = pair.first_in
-
-  pub choice-in : has (get_or K n []) (chosen (literals T) w) ≡ true
-  choice-in = choice.member
 
   -- without the number, where the clause has a true literal
   pop-tends : Tends floor K T u
@@ -251,66 +233,51 @@ module _ (floor : ℕ) (K : List Clause) (T : Trail) (t u : Tending) (n : ℕ) (
           rw (e, ← same_one) (held h)
       go (inr e) = rw p.least (less (literals T) Q t.least v m e (Good-grow K (literals T) (literals T) Q t.units t.least v m more (good_at m v there)))
 
-  -- the chosen literal is true
-  held-by : (Q : List Literal) → has Q (chosen (literals T) w) ≡ true → IsWatched K n (literals T) Q w
-  held-by Q h = other_true (get_or K n []) (chosen (literals T) w) c-at choice.member h
-
-  -- the clause is held, though both watched literals are false
-  held-otherwise : has (literals T) (negated w.first) ≡ true → has (literals T) (negated w.second) ≡ true → IsWatched K n (literals T) (literals T) w
-  held-otherwise f g = go good-n
-    where
-      go : Good K (literals T) (literals T) t.units None w n → IsWatched K n (literals T) (literals T) w
-      go (held h) = h
-      go (waits m (inl a)) = absurd (true_false (has (literals T) (negated w.first)) f a)
-      go (waits m (inr b)) = absurd (true_false (has (literals T) (negated w.second)) g b)
-      go (reached r) = absurd r
-
-  pub pop-stale : has_var (literals T) (chosen (literals T) w).var ≡ true → IsServed floor K T (length T) u
-  pop-stale h = record {
-    tends = pop-tends;
-    good = subst (λ (U : Trail). AllGood K (literals U) (literals T) u) (sym (take_all (length T) T (let z : length T ≤ length T = omega arith in z)))
-        (pop-good (literals T) (λ l m. m) (go (has_var-has (literals T) (chosen (literals T) w) h)));
-  }
-    where
-      go : (has (literals T) (chosen (literals T) w) ≡ true) ⊎ (has (literals T) (negated (chosen (literals T) w)) ≡ true) → IsWatched K n (literals T) (literals T) w
-      go (inl e) = held-by (literals T) e
-      go (inr e) = let b = choice.both_false e in held-otherwise b.0 b.1
-
-  -- it is unit in the chosen literal, where that is free
-  pub pop-is_unit : has_var (literals T) (chosen (literals T) w).var ≡ false → unit_literal (literals T) (get_or K n []) ≡ Some (chosen (literals T) w)
-  pop-is_unit free = unit_literal-is (literals T) (get_or K n []) (chosen (literals T) w) choice.member free (subst (λ (y : Literal). others_false (literals T) (get_or K n []) y ≡ true) y-is was.2)
-    where
-      y-is : was.0 ≡ chosen (literals T) w
-      y-is = go (other-false (literals T) (get_or K n []) was.0 (chosen (literals T) w) was.2 choice.member)
-        where
-          go : (was.0 ≡ chosen (literals T) w) ⊎ (has (literals T) (negated (chosen (literals T) w)) ≡ true) → was.0 ≡ chosen (literals T) w
-          go (inl e) = e
-          go (inr e) = absurd (free-not_negated (literals T) (chosen (literals T) w) free e)
-
   -- each unit clause waits
-  pub unit-waited : (m : ℕ) (d : Clause) (y : Literal) → At K m d → unit_literal (literals T) d ≡ Some y → Contains t.units m
+  unit-waited : (m : ℕ) (d : Clause) (y : Literal) → At K m d → unit_literal (literals T) d ≡ Some y → Contains t.units m
   unit-waited m d y a h = all-wait floor K T t ok s p.none m d y a h
 
-  -- the one of least number
-  pub pop-unit : All (λ m. n ≤ m) t.units → has_var (literals T) (chosen (literals T) w).var ≡ false → least_unit (literals T) K ≡ Some (n + 1, chosen (literals T) w)
-  pop-unit smallest free = least_unit-some (literals T) K n (get_or K n []) (chosen (literals T) w) c-at (pop-is_unit free) before
-    where
-      before : (m : ℕ) (d : Clause) → m < n → At K m d → unit_literal (literals T) d ≡ None
-      before m d l a = not_unit floor K T t ok s p.none m d a (λ q. let x : n ≤ m = All-contains (λ i. n ≤ i) t.units m smallest q in omega (arith, x, l))
+  module _ (k : Literal) (last : (c : Clause) → At K n c → IsLastOf (literals T) c k) where
+    here : IsLastOf (literals T) (get_or K n []) k
+    here = last (get_or K n []) c-at
 
-  pub pop-entry : (e : Entry) → e.lit ≡ chosen (literals T) w → e.level ≡ current_level T → IsServed floor K (T ++ e ∷ []) (length T) u
-  pop-entry e lit level = record {
-    tends = Tends-grow floor K T e u level pop-tends;
-    good = subst (λ (U : Trail). AllGood K (literals U) (literals (T ++ e ∷ [])) u) (sym (take_at T (e ∷ []) (length T) refl))
-        (pop-good (literals (T ++ e ∷ [])) more (held-by (literals (T ++ e ∷ [])) there));
-  }
-    where
-      more : Includes (literals (T ++ e ∷ [])) (literals T)
-      more l h = subst (λ (P : List Literal). has P l ≡ true) (sym (literals-push T e)) (Includes-push (literals T) e.lit l h)
+    last-in : has (get_or K n []) k ≡ true
+    last-in = here.0
 
-      there : has (literals (T ++ e ∷ [])) (chosen (literals T) w) ≡ true
-      there = subst (λ (P : List Literal). has P (chosen (literals T) w) ≡ true) (sym (literals-push T e))
-          (has-push (literals T) e.lit (chosen (literals T) w) ∙ or-right (has (literals T) (chosen (literals T) w)) (same (chosen (literals T) w) e.lit) (subst (λ (x : Literal). same (chosen (literals T) w) x ≡ true) (sym lit) (same-refl (chosen (literals T) w))))
+    -- it is unit in the literal, where that is free
+    pop-unit : has_var (literals T) k.var ≡ false → unit_literal (literals T) (get_or K n []) ≡ Some k
+    pop-unit free = unit_literal-is (literals T) (get_or K n []) k here.0 free (all-false-but (literals T) (get_or K n []) k here.1)
+
+    held-by : (Q : List Literal) → has Q k ≡ true → IsWatched K n (literals T) Q w
+    held-by Q h = other_true (get_or K n []) k c-at here.0 h
+
+    never : Reached t.least n → ⊥
+    never r = absurd (subst (λ (o : Option ℕ). Reached o n) p.none r)
+
+    pop-stale : has_var (literals T) k.var ≡ true → IsServed floor K T (length T) u
+    pop-stale h = record {
+      tends = pop-tends;
+      good = subst (λ (U : Trail). AllGood K (literals U) (literals T) u) (sym (take_all (length T) T (let z : length T ≤ length T = omega arith in z)))
+          (pop-good (literals T) (λ l m. m) (go (has_var-has (literals T) k h)));
+    }
+      where
+        go : (has (literals T) k ≡ true) ⊎ (has (literals T) (negated k) ≡ true) → IsWatched K n (literals T) (literals T) w
+        go (inl e) = held-by (literals T) e
+        go (inr e) = absurd (true_false (is_false (literals T) (get_or K n [])) (all-false (literals T) (get_or K n []) k here.1 e) (not_false floor K T t ok s n (get_or K n []) c-at never))
+
+    pop-entry : (e : Entry) → e.lit ≡ k → e.level ≡ current_level T → IsServed floor K (T ++ e ∷ []) (length T) u
+    pop-entry e lit level = record {
+      tends = Tends-grow floor K T e u level pop-tends;
+      good = subst (λ (U : Trail). AllGood K (literals U) (literals (T ++ e ∷ [])) u) (sym (take_at T (e ∷ []) (length T) refl))
+          (pop-good (literals (T ++ e ∷ [])) more (held-by (literals (T ++ e ∷ [])) there));
+    }
+      where
+        more : Includes (literals (T ++ e ∷ [])) (literals T)
+        more l h = subst (λ (P : List Literal). has P l ≡ true) (sym (literals-push T e)) (Includes-push (literals T) e.lit l h)
+
+        there : has (literals (T ++ e ∷ [])) k ≡ true
+        there = subst (λ (P : List Literal). has P k ≡ true) (sym (literals-push T e))
+            (has-push (literals T) e.lit k ∙ or-right (has (literals T) k) (same k e.lit) (subst (λ (x : Literal). same k x ≡ true) (sym lit) (same-refl k)))
 
 -- a number that is taken out is that of a clause
 pub pop-within : (floor : ℕ) (K : List Clause) (T : Trail) (t : Tending) (n : ℕ) (us : List ℕ) → Tends floor K T t → IsPermutation t.units (n ∷ us) → n < length t.pairs
@@ -318,6 +285,31 @@ pop-within floor K T t n us s p =
     let waited : Contains t.units n = Contains-permutation (n ∷ us) t.units n (IsPermutation-sym t.units (n ∷ us) p) (0, (let z : 0 < length (n ∷ us) = omega arith in z), refl) in
     omega (arith, (s.found.units n waited).0, s.listed.length_pairs)
 
--- the facts that a program has once it took a number out
-pub pops : (t : Tending) (us : List ℕ) (n : ℕ) (w : Watched) → t.least ≡ None → IsPermutation t.units (n ∷ us) → At t.pairs n w → Pops t (record t { units = us }) n w
-pops t us n w none units watch = record { pairs = refl; lists = refl; least = refl; none = none; units = units; watch = watch }
+-- what is known of the number that was taken out, with the literal that its clause may be unit in
+pub record Popped (floor : ℕ) (K : List Clause) (T : Trail) (t : Tending) (us : List ℕ) (n : ℕ) (k : Literal) : Type 0 where
+  pub inside : n < length K
+  pub member : has (get_or K n []) k ≡ true
+  pub unit : has_var (literals T) k.var ≡ false → unit_literal (literals T) (get_or K n []) ≡ Some k
+  pub waited : (m : ℕ) (d : Clause) (y : Literal) → At K m d → unit_literal (literals T) d ≡ Some y → Contains t.units m
+  pub stale : has_var (literals T) k.var ≡ true → IsServed floor K T (length T) (record t { units = us })
+  pub entry : (e : Entry) → e.lit ≡ k → e.level ≡ current_level T → IsServed floor K (T ++ e ∷ []) (length T) (record t { units = us })
+
+pub popped : (floor : ℕ) (K : List Clause) (T : Trail) (t : Tending) (us : List ℕ) (n : ℕ) (k : Literal) → IsConsistent (literals T) → t.least ≡ None → IsPermutation t.units (n ∷ us)
+    → ((c : Clause) → At K n c → IsLastOf (literals T) c k) → IsServed floor K T (length T) t → Popped floor K T t us n k
+popped floor K T t us n k ok none units last s = record {
+  inside = popped-within floor K T t u n w ok s p;
+  member = last-in floor K T t u n w ok s p k last;
+  unit = pop-unit floor K T t u n w ok s p k last;
+  waited = unit-waited floor K T t u n w ok s p;
+  stale = pop-stale floor K T t u n w ok s p k last;
+  entry = pop-entry floor K T t u n w ok s p k last;
+}
+  where
+    u : Tending
+    u = record t { units = us }
+
+    w : Watched
+    w = get_or t.pairs n record { first = k; second = k }
+
+    p : Pops t u n w
+    p = record { pairs = refl; lists = refl; least = refl; none = none; units = units; watch = At-get t.pairs n _ (pop-within floor K T t n us s.tends units) }

@@ -12,6 +12,7 @@ use Rattle.kernel.specs.Watching.{At, lesser}
 use Rattle.kernel.specs.Visiting.{CanVisit, IsVisit, WatchLists, satisfied, moves, Replaces}
 use Rattle.kernel.specs.Attaching.{with_entry}
 use Rattle.kernel.specs.Seeing.{IsSight, other_front}
+use Rattle.kernel.specs.Placing.{IsLastOf}
 use Rattle.kernel.proofs.Places.{At-get}
 use Rattle.kernel.proofs.Visits.{Looked, pair-inside, looked, looked-stays, looked-last, clause-is, beside-one, noted}
 
@@ -47,6 +48,11 @@ module _ (K : List Clause) (P : List Literal) (g : Literal) (e : Watch) (s : Wat
   sees-last k status t u sight free_one false_one pairs lists =
       let l = seen-beside k sight.0 in
       noted K P g e s v t k (value_of status) (looked-stays K P g e s v pair k long l) (looked-last K P g e s v pair k clause l clause-at sight.3) sight.1 sight.2 free_one false_one (same-pairs t.pairs u pairs sight.4) lists
+
+  pub last-seen : (k : Literal) (status : Truth) (u : Watched) → IsSight P g clause pair u (Last k status) → (d : Clause) → At K e.clause d → IsLastOf P d k
+  last-seen k status u sight d a =
+      let l = seen-beside k sight.0 in
+      (l.member d a, (looked-last K P g e s v pair k clause l clause-at sight.3 d pair a pair-at).1)
 
   pub sees-moved : (w : Watched) (t : WatchLists) (u : Watched) → IsSight P g clause pair u (Moved w) → t.pairs ≡ set s.pairs e.clause u
       → t.lists ≡ with_entry s.lists w.second record { clause = e.clause; blocker = w.first; is_short = false } → t.units ≡ s.units → t.least ≡ s.least → IsVisit K P g e s t None

@@ -1,5 +1,5 @@
 -- One turn of the loop that visits the entries of a list, which was taken out.
-use Rattle.std.proofs.Common.{◌≡◌, ◌≢◌, ℕ, suc, zero, ◌+◌, ◌-◌, ◌*◌, ◌<◌, ◌≤◌, true, false, ◌||◌, List, [], ◌∷◌, ◌++◌, length, get_or, set, take, map, Some, None, refl, ap, sym, subst, ◌∙◌, ◌⊎◌, inl, inr, arith, All}
+use Rattle.std.proofs.Common.{◌≡◌, ◌≢◌, ℕ, suc, zero, ◌+◌, ◌-◌, ◌*◌, ◌<◌, ◌≤◌, true, false, List, [], ◌∷◌, ◌++◌, length, get_or, set, take, map, Some, None, refl, ap, sym, subst, ◌∙◌, ◌⊎◌, inl, inr, arith, All}
 use Rattle.theory.specs.Truth.{IsOver}
 use Rattle.kernel.proofs.Visits.{code-within, over-var}
 use Rattle.std.proofs.lemmas.List.{map-set, map-append, length-map, length-set, get_or-set_same, get_or-set_other, get_or-take, set-get_or, take-map, length-take-le, get_or_default}
@@ -8,17 +8,17 @@ use Rattle.std.proofs.Math.ListN.{get_or-map}
 use Rattle.std.proofs.lemmas.Bool.{cases_eq}
 use Rattle.std.specs.List.{swap_remove}
 use Rattle.theory.specs.Literals.{Literal, Clause, same, has, negated}
-use Rattle.theory.specs.Status.{is_false, others_false}
 use Rattle.theory.specs.Trails.{Trail, literals}
-use Rattle.theory.proofs.literals.LiteralLemmas.{same-eq, same-refl, or-left, or-right, true_or_false}
+use Rattle.theory.proofs.literals.LiteralLemmas.{same-eq, same-refl, true_or_false}
 use Rattle.kernel.specs.declared.watch.Watched.{Watched}
 use Rattle.kernel.specs.declared.watch.Watch.{Watch}
 use Rattle.kernel.specs.Watching.{At, IsConsistent, IsBeside, IsFull, code, lesser, list_at, moved, Walks, IsNext, Tending, held, other_true, reached, Reached}
-use Rattle.kernel.specs.Visiting.{WatchLists, places, entries_at, tending, with_list, IsEntry, AreEntriesOf, AreEntries, Replaces, IsLast, CanVisit, IsStay, IsVisit, satisfied, behind, unit, clashes, moves}
+use Rattle.kernel.specs.Visiting.{WatchLists, places, entries_at, tending, with_list, IsEntry, AreEntriesOf, AreEntries, Replaces, CanVisit, IsStay, IsVisit, satisfied, behind, unit, clashes, moves}
 use Rattle.kernel.proofs.LiteralFacts.{true_false}
+use Rattle.kernel.proofs.LastLiterals.{all-false-but, all-false}
 use Rattle.kernel.proofs.Places.{At-one, At-get, At-set, At-push, code-one}
 use Rattle.kernel.proofs.Steps.{both}
-use Rattle.kernel.proofs.Walking.{Visits, Walks-good, Walks-unit, Walks-false, Walks-move, gone-true, all-from}
+use Rattle.kernel.proofs.Walking.{Visits, Walks-good, Walks-unit, Walks-false, Walks-move, gone-true}
 
 -- a write is forgotten where a later one goes over it
 set-over : {X : Type 0} (xs : List X) (i j : ℕ) (a b c : X) → i ≢ j → set (set (set xs i a) j b) i c ≡ set (set xs j b) i c
@@ -157,20 +157,6 @@ module _ (floor : ℕ) (K : List Clause) (T : Trail) (n : ℕ) (g : Literal) (k 
       let one : map places (set u.lists (code g) (set ws j (record e { blocker = b }))) ≡ map places (set u.lists (code g) ws) =
       map-set places u.lists (code g) (set ws j (record e { blocker = b })) ∙ ap (λ ns. set (map places u.lists) (code g) ns) (kept-places b) ∙ sym (map-set places u.lists (code g) ws) in
       (λ i. record { pairs = u.pairs; lists = one i; units = u.units; least = u.least })
-
-  all-false-but : (P : List Literal) (c : Clause) (b : Literal) → IsLast P c b → others_false P c b ≡ true
-  all-false-but P c b last = all-from (λ l. same b l || has P (negated l)) c (λ l m. by l m (true_or_false (same b l)))
-    where
-      by : (l : Literal) → has c l ≡ true → (same b l ≡ true) ⊎ (same b l ≡ false) → same b l || has P (negated l) ≡ true
-      by l m (inl x) = or-left (same b l) (has P (negated l)) x
-      by l m (inr x) = or-right (same b l) (has P (negated l)) (last l m x)
-
-  all-false : (P : List Literal) (c : Clause) (b : Literal) → IsLast P c b → has P (negated b) ≡ true → is_false P c ≡ true
-  all-false P c b last gone = all-from (λ l. has P (negated l)) c (λ l m. by l m (true_or_false (same b l)))
-    where
-      by : (l : Literal) → has c l ≡ true → (same b l ≡ true) ⊎ (same b l ≡ false) → has P (negated l) ≡ true
-      by l m (inl x) = subst (λ (y : Literal). has P (negated y) ≡ true) (same-eq b l x) gone
-      by l m (inr x) = last l m x
 
   stays-walk : (u : WatchLists) (b : Literal) → IsVisit K (literals T) g e k u (Some b) → Walks floor K T n g (tending (with_list u g ws)) (j + 1)
   stays-walk u b (satisfied stay t is) =

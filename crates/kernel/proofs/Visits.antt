@@ -16,6 +16,7 @@ use Rattle.std.specs.List.Sorted.{IsPermutation}
 use Rattle.theory.proofs.literals.ClauseWalks.{beq-same, beq-other}
 use Rattle.trail.specs.Tables.{IsTruth}
 use Rattle.kernel.specs.Visiting.{IsLast, Replaces, CanVisit, IsStay, IsVisit, unit, clashes, moves, WatchLists, entries_at}
+use Rattle.kernel.specs.Placing.{IsLastOf}
 use Rattle.kernel.proofs.LiteralFacts.{all-member, has-var}
 use Rattle.theory.proofs.literals.LiteralSets.{false_unless}
 use Rattle.kernel.proofs.LiteralFacts.{true_false, free-not_negated}
@@ -148,6 +149,19 @@ module _ (K : List Clause) (P : List Literal) (g : Literal) (e : Watch) (s : Wat
       go (inl (x, y)) = subst (λ (l : Literal). has c l ≡ true) y p.second_in
       go (inr (x, y)) = subst (λ (l : Literal). has c l ≡ true) y p.first_in
 
+  pub gone-in : (c : Clause) → At K e.clause c → has c g ≡ true
+  gone-in c a = go p.1
+    where
+      w : Watched
+      w = get_or s.pairs e.clause record { first = g; second = g }
+
+      p : IsPair c w × ((w.first ≡ g) ⊎ (w.second ≡ g))
+      p = v.pair c w a (At-get s.pairs e.clause record { first = g; second = g } pair-inside)
+
+      go : (w.first ≡ g) ⊎ (w.second ≡ g) → has c g ≡ true
+      go (inl x) = subst (λ (l : Literal). has c l ≡ true) x p.0.first_in
+      go (inr x) = subst (λ (l : Literal). has c l ≡ true) x p.0.second_in
+
   pub clause-is : (c d : Clause) → At K e.clause c → At K e.clause d → c ≡ d
   clause-is c d a b = At-one K e.clause c d a b
 
@@ -217,6 +231,9 @@ module _ (K : List Clause) (P : List Literal) (g : Literal) (e : Watch) (s : Wat
           go (inl (x, y)) (inr f) = absurd (not_it (f ∙ y))
           go (inr (x, y)) (inl f) = absurd (not_it (f ∙ y))
           go (inr (x, y)) (inr f) = is_g (f ∙ x)
+
+  pub short-in : e.is_short ≡ true → (c : Clause) → At K e.clause c → IsLastOf P c e.blocker
+  short-in h c a = (v.entry.blocker_in c a, (short-last h c (get_or s.pairs e.clause record { first = g; second = g }) a (At-get s.pairs e.clause record { first = g; second = g } pair-inside)).1)
 
   -- all literals but one are false, and that one isn't true
   pub noted : (u : WatchLists) (b : Literal) (o : Option Bool) → IsStay K e b → ((c : Clause) (w : Watched) → At K e.clause c → At s.pairs e.clause w → IsBeside w g b × IsLast P c b) → IsTruth P b o → o ≢ Some true

@@ -151,7 +151,3 @@ pub record IsServed (floor : ℕ) (K : List Clause) (T : Trail) (served : ℕ) (
 -- the entry that is served is on the trail
 abbrev pub IsNext : Trail → ℕ → Literal → Type 0
 IsNext T served g = Includes (literals T) (literals (take served T) ++ negated g ∷ [])
-
--- a watched literal that isn't false, where one isn't
-abbrev pub chosen : List Literal → Watched → Literal
-chosen P w = cond (has P (negated w.first)) w.second w.first

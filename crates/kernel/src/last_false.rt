@@ -1,10 +1,13 @@
-//! Where the last false literal of a clause stands on the trail.
+//! Where the last false literal of a clause stands on the trail, and the literal that is left of a
+//! unit clause.
 ghost use Rattle.std.specs.Prelude.{◌≡◌, ◌≤◌, ◌∷◌, [], true, length};
 ghost use Rattle.theory.specs.Literals.{Clause, has};
 ghost use Rattle.theory.specs.Truth.{IsOver};
 ghost use Rattle.theory.specs.Propagation.{last_false};
+ghost use Rattle.theory.specs.Trails.{literals};
+ghost use Rattle.kernel.specs.Watching.{WasUnit};
+ghost use Rattle.kernel.specs.Placing.{IsLastOf};
 
-use crate::watch::Watched;
 use cnf::Lit;
 use trail::Trail;
 
@@ -38,16 +41,17 @@ pub fn last_place(trail: &Trail, clause: &[Lit]) -> usize
     last
 }
 
-/// Whether one of these literals became false by the trail's last entry.
-pub fn fell_last(trail: &Trail, watched: Watched) -> bool
-    ensures { result ≡ true → (c : Clause) → has c watched.first ≡ true → has c watched.second ≡ true → last_false trail.now.entries c ≡ length trail.now.entries }
+/// The literal of a clause that isn't false, where all others are; one of them where all are
+/// false.
+pub fn open_literal(trail: &Trail, clause: &[Lit]) -> Lit
+    requires over { IsOver trail.now.vars clause.now }
+    requires was_unit { WasUnit (literals trail.now.entries) clause.now }
+    ensures { IsLastOf (literals trail.now.entries) clause.now result }
 {
-    let entries = trail.entries();
-    let count = entries.len();
-    if count == 0 {
-        return false;
+    for lit in clause {
+        if !trail.status(*lit).is_falsified() {
+            return *lit;
+        }
     }
-    let last = entries[count - 1];
-    let gone = last.lit.negated();
-    watched.first.same(&gone) || watched.second.same(&gone)
+    clause[0]
 }

@@ -3,9 +3,9 @@
 
 mod arrange;
 mod attach;
-mod by_place;
 mod clauses;
 mod closed;
+mod closing;
 mod counts;
 mod cut;
 mod forget;

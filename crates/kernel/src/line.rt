@@ -1,32 +1,80 @@
-//! Unit clauses that wait with the place of their last false literal.
-ghost use Rattle.std.specs.Prelude.{◌≡◌, [], ◌∷◌, All, OnOk, IfSome, IfNone, true, false, map};
+//! Unit clauses that wait, each with its literal and the place of its last false one.
+ghost use Rattle.std.specs.Prelude.{◌≡◌, [], ◌∷◌, All, OnOk, IfSome, IfNone, true, false, map, nat_eq};
 ghost use Rattle.std.specs.BinaryHeap.{IsHeap, heap_items};
 ghost use Rattle.std.specs.List.{Contains};
-ghost use Rattle.std.specs.Ordering.{nat_cmp, ordering_then};
+ghost use Rattle.std.proofs.Common.{rules};
+ghost use Rattle.std.specs.Cmp.{partial_order_from_own_ties};
+ghost use Rattle.std.specs.Cmp.Rules.{comparing};
+ghost use Rattle.std.specs.Ordering.{nat_cmp, ordering_then, on, eq_of_both, then_cmp, as_partial_cmp};
 ghost use Rattle.std.specs.List.Sorted.{IsPermutation};
 ghost use Rattle.kernel.specs.Placing.{GoesFirst};
 ghost use Rattle.kernel.specs.declared.line.Waiting.{Waiting};
 
 use crate::waiting_queue::{WaitingQueue, goes_first};
+use cnf::Lit;
 use std::alloc::{AllocError, Global};
-use std::cmp::Reverse;
+use std::cmp::{Ordering, Reverse};
 use std::collections::BinaryHeap;
 use std::marker::Model;
 
-/// A clause that was found unit.
-#[derive(Clone, Copy, PartialEq, Eq, PartialOrd, Ord)]
+/// A clause that was found unit. Which one goes first is a matter of place and clause.
+#[derive(Clone, Copy)]
 pub struct Waiting {
-    /// The place of its last false literal on the trail, counted from 1; 0 where it has none.
+    /// The place of its last false literal on the trail, counted from 1; 0 where it has none, and
+    /// where clauses go by number alone.
     pub place: usize,
     /// The place of the clause.
     pub clause: u32,
+    /// The literal that it was unit in.
+    pub lit: Lit,
+}
+
+impl PartialEq for Waiting {
+    ghost eq = { eq_of_both (on (λ w. w.place) nat_eq) (on (λ w. w.clause) nat_eq) };
+
+    ghost laws = { Prim.search (comparing, rules) };
+
+    fn eq(&self, other: &Waiting) -> bool {
+        self.place == other.place && self.clause == other.clause
+    }
+}
+
+impl Eq for Waiting {
+    ghost laws = { Prim.search (comparing, rules) };
+}
+
+impl PartialOrd for Waiting {
+    ghost partial_cmp = { as_partial_cmp (then_cmp (on (λ w. w.place) nat_cmp) (on (λ w. w.clause) nat_cmp)) };
+
+    ghost laws = { partial_order_from_own_ties (Prim.search (comparing, rules)) (Prim.search (comparing, rules)) };
+
+    fn partial_cmp(&self, other: &Waiting) -> Option<Ordering> {
+        Some(self.cmp(other))
+    }
+}
+
+impl Ord for Waiting {
+    ghost cmp = { then_cmp (on (λ w. w.place) nat_cmp) (on (λ w. w.clause) nat_cmp) };
+
+    ghost total = { Prim.search (comparing, rules) };
+
+    ghost matches_partial_cmp = { Prim.search (comparing, rules) };
+
+    ghost matches_eq = { Prim.search (comparing, rules) };
+
+    fn cmp(&self, other: &Waiting) -> Ordering {
+        self.place
+            .cmp(&other.place)
+            .then(self.clause.cmp(&other.clause))
+    }
 }
 
 /// Clauses that wait, of which the one of least place goes first, and of several the one of least
 /// number. One that goes behind those of the queue goes to its end, the others go into a heap.
 /// Clauses that one entry of the trail made unit come with its place, which is the greatest so far,
-/// and by rising number, so the heap is touched only where several entries were served at once.
-/// With a heap alone a quarter of the time of some searches went into it.
+/// so the heap is touched only by those of one entry that come in another order than that of their
+/// numbers, and where several entries were served at once. With a heap alone a quarter of the time
+/// of some searches went into it.
 #[derive(Drop)]
 pub struct Line {
     queue: WaitingQueue,
@@ -36,7 +84,10 @@ pub struct Line {
 impl Model for Line {
     ghost use Rattle.std.specs.Prelude.{List, map, ◌++◌};
     ghost use Rattle.std.specs.BinaryHeap.{IsHeap, heap_items};
-    ghost use Rattle.std.specs.Ordering.{nat_cmp, ordering_then};
+    ghost use Rattle.std.proofs.Common.{rules};
+    ghost use Rattle.std.specs.Cmp.{partial_order_from_own_ties};
+    ghost use Rattle.std.specs.Cmp.Rules.{comparing};
+    ghost use Rattle.std.specs.Ordering.{nat_cmp, ordering_then, on, eq_of_both, then_cmp, as_partial_cmp};
     ghost use Rattle.kernel.specs.declared.line.Waiting.{Waiting};
 
     ghost Value = { List Waiting };
@@ -87,7 +138,7 @@ impl Line {
     pub fn push(&mut self, waiting: Waiting) -> Result<(), AllocError>
         ensures { OnOk result (IsPermutation (waiting ∷ self.old) self.new) }
     {
-        if self.queue.takes(waiting) {
+        if self.queue.takes(&waiting) {
             self.queue.push(waiting)?;
         } else {
             self.heap.push(Reverse(waiting))?;

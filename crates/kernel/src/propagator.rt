@@ -3,25 +3,23 @@
 //!
 //! A clause can become false or unit only when one of its two watched literals becomes false, so
 //! only the clauses in that literal's list are visited: each finds another literal to watch, or is
-//! satisfied, or is unit, or is false. Going back to an earlier level changes nothing here. Source:
-//! Moskewicz et al., 'Chaff' (DAC 2001).
-ghost use Rattle.std.specs.Prelude.{◌^◌, ◌≡◌, ◌+◌, ◌<◌, ◌≤◌, ◌*◌, ◌∷◌, [], ◌++◌, All, IfOk, OnOk, IfSome, IfNone, Some, None, length, map, Bool, true, false, slice_set, slice_get, min, take, ℕ, List};
+//! satisfied, or is unit and waits in line, or is false. Going back to an earlier level changes
+//! nothing here. Source: Moskewicz et al., 'Chaff' (DAC 2001).
+ghost use Rattle.std.specs.Prelude.{◌^◌, ◌≡◌, ◌+◌, ◌<◌, ◌≤◌, ◌*◌, ◌∷◌, [], ◌++◌, All, IfOk, OnOk, IfSome, IfNone, Some, None, length, map, Bool, true, false, slice_set, slice_index_or, min, take, ℕ, List};
 ghost use Rattle.std.specs.List.Sorted.{IsPermutation};
-ghost use Rattle.theory.specs.Literals.{Literal, same, has, negated};
+ghost use Rattle.theory.specs.Literals.{Literal, Clause, same, has, negated};
 ghost use Rattle.theory.specs.Truth.{IsOver};
-ghost use Rattle.theory.specs.Trails.{literals, current_level};
-ghost use Rattle.theory.specs.Propagation.{least_unit, by_number, Propagates};
-ghost use Rattle.theory.specs.Lawful.{IsLawful};
-ghost use Rattle.theory.specs.Propagation as closing;
-ghost use Rattle.theory.specs.Trails as closing_trails;
-ghost use Rattle.kernel.specs.Answer.{closed_of};
+ghost use Rattle.theory.specs.Trails.{Entry, literals};
 ghost use Rattle.trail.specs.TrailOver.{IsOrdered};
 ghost use Rattle.trail.specs.Tables.{IsTruth, value_of};
-ghost use Rattle.kernel.specs.Watching.{code, lesser, At, IsNext, IsServed, Tends, AllGood, chosen};
-ghost use Rattle.kernel.specs.Placing.{also};
+ghost use Rattle.kernel.specs.Watching.{code, lesser, At, IsNext, IsServed, Tends, AllGood};
+ghost use Rattle.kernel.specs.declared.order.Order.{Order};
+ghost use Rattle.kernel.specs.Placing.{clauses_of, kept_with, HasPlace, PlacesOf, place_in, IsLastOf, AreInLine};
 ghost use Rattle.kernel.specs.Visiting.{WatchLists, kept_of, entries_at, CanVisit, IsVisit, IsLast, Replaces, tending, with_list, AreEntries};
 
-use crate::closed::Closed;
+use crate::last_false::last_place;
+use crate::line::{Line, Waiting};
+use crate::order::Order;
 use crate::replacement::Starts;
 use crate::sight::Sight;
 use crate::store::Store;
@@ -30,7 +28,7 @@ use crate::watch::{PackedWatch, Watch, Watched, code};
 use cnf::Lit;
 use std::alloc::{AllocError, Global};
 use std::mem;
-use trail::{Entry, Trail, Truth};
+use trail::{Trail, Truth};
 
 /// Clauses with their watches, and what was found of them. Clauses are named by their places, from
 /// 0 on.
@@ -41,7 +39,7 @@ pub struct Propagator {
     /// clauses take, so that opening never moves one; each visit of a list takes it out and puts it
     /// back, so it is a small value.
     pub lists: Vec<Vec<PackedWatch>>,
-    /// The clauses that were found unit.
+    /// The clauses that wait as units between two propagations; while one goes on they are in line.
     pub units: Units,
     /// The least clause that was found false.
     pub conflict: Option<u32>,
@@ -58,28 +56,65 @@ pub struct Unit {
     pub lit: Lit,
 }
 
-/// A watched literal that isn't false, where one isn't.
-pub fn chosen(trail: &Trail, watched: Watched) -> Lit
-    requires { watched.first.var ≤ trail.now.vars }
-    ensures { result ≡ chosen (literals trail.now.entries) watched }
+/// The place with which the clauses wait that the entry at a place makes units: 0 in the order of
+/// numbers; else that of the last entry, behind which no literal is false, and none for an earlier
+/// one.
+fn found_at(order: Order, trail: &Trail, place: usize) -> Option<usize>
+    requires inside { place < length trail.now.entries }
+    ensures { (e : Entry) → e ≡ slice_index_or trail.now.entries place e → PlacesOf order trail.now.entries (negated e.lit) result }
 {
-    if trail.truth(watched.first) == Some(false) {
-        watched.second
-    } else {
-        watched.first
+    match order {
+        Order::ByNumber => Some(0),
+        Order::ByPlace => {
+            let count = trail.entries().len();
+            if place + 1 == count {
+                Some(count)
+            } else {
+                None
+            }
+        }
     }
 }
 
 impl Propagator {
-    /// Notes a clause all of whose literals but one are false: it is unit where that has no value,
-    /// and else false.
-    fn note(&mut self, clause: u32, status: Truth) -> Result<(), AllocError>
-        ensures unit { OnOk result (value_of status ≡ None → IsPermutation (clause ∷ self.old.units) self.new.units × (self.new.conflict ≡ self.old.conflict)) }
-        ensures clashes { OnOk result ((b : Bool) → value_of status ≡ Some b → (self.new.units ≡ self.old.units) × (self.new.conflict ≡ Some (lesser self.old.conflict clause))) }
-        ensures kept { (self.new.clauses.given ≡ self.old.clauses.given) × (self.new.clauses.pairs ≡ self.old.clauses.pairs) × (self.new.lists ≡ self.old.lists) }
+    /// The place of a unit clause: the one that is given, or else that of its last false literal.
+    fn place_of(&self, trail: &Trail, clause: u32, place: Option<usize>) -> usize
+        requires within { clause < length self.now.clauses.given }
+        requires over { All (IsOver trail.now.vars) self.now.clauses.given }
+        ensures { (o : Order) (c : Clause) → At self.now.clauses.given clause c → HasPlace o trail.now.entries c place → result ≡ place_in o trail.now.entries c }
+    {
+        match place {
+            Some(place) => place,
+            None => last_place(trail, self.clauses.get(clause as usize)),
+        }
+    }
+
+    /// Notes a clause all of whose literals but one are false. Where that one has no value, the
+    /// clause waits as a unit, with the place that is given or else that of its last false literal;
+    /// and else it is false.
+    fn note(
+        &mut self,
+        trail: &Trail,
+        clause: u32,
+        lit: Lit,
+        status: Truth,
+        place: Option<usize>,
+        line: &mut Line,
+    ) -> Result<(), AllocError>
+        requires within { clause < length self.old.clauses.given }
+        requires over { All (IsOver trail.now.vars) self.old.clauses.given }
+        ensures unit { OnOk result (value_of status ≡ None → IsPermutation (clause ∷ clauses_of line.old) (clauses_of line.new) × (self.new.conflict ≡ self.old.conflict)) }
+        ensures clashes { OnOk result ((b : Bool) → value_of status ≡ Some b → (clauses_of line.new ≡ clauses_of line.old) × (self.new.conflict ≡ Some (lesser self.old.conflict clause))) }
+        ensures line { OnOk result ((o : Order) → ((c : Clause) → At self.old.clauses.given clause c → HasPlace o trail.now.entries c place × IsLastOf (literals trail.now.entries) c lit)
+            → AreInLine o self.old.clauses.given trail.now.entries line.old → AreInLine o self.old.clauses.given trail.now.entries line.new) }
+        ensures kept { (self.new.clauses.given ≡ self.old.clauses.given) × (self.new.clauses.pairs ≡ self.old.clauses.pairs) × (self.new.lists ≡ self.old.lists) × (self.new.units ≡ self.old.units) }
     {
         match status {
-            Truth::Unassigned => self.units.push(clause),
+            Truth::Unassigned => {
+                let place = self.place_of(trail, clause, place);
+                line.push(Waiting { place, clause, lit })?;
+                Ok(())
+            }
             _ => {
                 self.conflict = Some(match self.conflict {
                     None => clause,
@@ -91,14 +126,22 @@ impl Propagator {
     }
 
     /// Looks at the clause of an entry in the list of a literal that became false.
-    fn look(&mut self, trail: &Trail, gone: Lit, watch: Watch) -> Result<Option<Lit>, AllocError>
+    fn look(
+        &mut self,
+        trail: &Trail,
+        gone: Lit,
+        watch: Watch,
+        place: Option<usize>,
+        line: &mut Line,
+    ) -> Result<Option<Lit>, AllocError>
         requires small { watch.clause < 2 ^ 31 }
         requires long { watch.is_short ≡ false }
-        requires visit { CanVisit self.old.clauses.given (literals trail.now.entries) gone watch (kept_of self.old) }
+        requires visit { CanVisit self.old.clauses.given (literals trail.now.entries) gone watch (kept_with self.old line.old) }
         requires over { All (IsOver trail.now.vars) self.old.clauses.given }
         requires lists { length self.old.lists.items ≡ 2 * trail.now.vars + 2 }
-        ensures visit { IfOk result (λ r. IsVisit self.old.clauses.given (literals trail.now.entries) gone watch (kept_of self.old) (kept_of self.new) r) }
-        ensures kept { (self.new.clauses.given ≡ self.old.clauses.given) × (length self.new.lists.items ≡ length self.old.lists.items) }
+        ensures visit { IfOk result (λ r. IsVisit self.old.clauses.given (literals trail.now.entries) gone watch (kept_with self.old line.old) (kept_with self.new line.new) r) }
+        ensures line { OnOk result ((o : Order) → PlacesOf o trail.now.entries gone place → AreInLine o self.old.clauses.given trail.now.entries line.old → AreInLine o self.old.clauses.given trail.now.entries line.new) }
+        ensures kept { (self.new.clauses.given ≡ self.old.clauses.given) × (length self.new.lists.items ≡ length self.old.lists.items) × (self.new.units ≡ self.old.units) }
     {
         let clause = watch.clause;
         match self
@@ -118,7 +161,7 @@ impl Propagator {
                 Ok(None)
             }
             Sight::Last(other, status) => {
-                self.note(clause, status)?;
+                self.note(trail, clause, other, status, place, line)?;
                 Ok(Some(other))
             }
         }
@@ -128,13 +171,21 @@ impl Propagator {
     /// blocker from now on, or none where the entry leaves the list, since another literal is
     /// watched. Behind the least false clause nothing is looked for, since only an earlier one can
     /// be the answer, and the literal is taken back before the next propagation.
-    fn visit(&mut self, trail: &Trail, gone: Lit, watch: Watch) -> Result<Option<Lit>, AllocError>
+    fn visit(
+        &mut self,
+        trail: &Trail,
+        gone: Lit,
+        watch: Watch,
+        place: Option<usize>,
+        line: &mut Line,
+    ) -> Result<Option<Lit>, AllocError>
         requires small { watch.clause < 2 ^ 31 }
-        requires visit { CanVisit self.old.clauses.given (literals trail.now.entries) gone watch (kept_of self.old) }
+        requires visit { CanVisit self.old.clauses.given (literals trail.now.entries) gone watch (kept_with self.old line.old) }
         requires over { All (IsOver trail.now.vars) self.old.clauses.given }
         requires lists { length self.old.lists.items ≡ 2 * trail.now.vars + 2 }
-        ensures visit { IfOk result (λ r. IsVisit self.old.clauses.given (literals trail.now.entries) gone watch (kept_of self.old) (kept_of self.new) r) }
-        ensures kept { (self.new.clauses.given ≡ self.old.clauses.given) × (length self.new.lists.items ≡ length self.old.lists.items) }
+        ensures visit { IfOk result (λ r. IsVisit self.old.clauses.given (literals trail.now.entries) gone watch (kept_with self.old line.old) (kept_with self.new line.new) r) }
+        ensures line { OnOk result ((o : Order) → PlacesOf o trail.now.entries gone place → AreInLine o self.old.clauses.given trail.now.entries line.old → AreInLine o self.old.clauses.given trail.now.entries line.new) }
+        ensures kept { (self.new.clauses.given ≡ self.old.clauses.given) × (length self.new.lists.items ≡ length self.old.lists.items) × (self.new.units ≡ self.old.units) }
     {
         let status = trail.status(watch.blocker);
         if status.is_satisfied() {
@@ -146,38 +197,41 @@ impl Propagator {
             }
         }
         if watch.is_short {
-            self.note(watch.clause, status)?;
+            self.note(trail, watch.clause, watch.blocker, status, place, line)?;
             return Ok(Some(watch.blocker));
         }
-        self.look(trail, gone, watch)
+        self.look(trail, gone, watch, place, line)
     }
 
     /// Visits each clause that watches a literal which became false, in a list that was taken out.
     /// Entries leave it by the last one taking their place, so that those that stay are written to
-    /// only for a new blocker. The answer is how many entries stay. Other clauses may wait
-    /// elsewhere, also in the next two.
+    /// only for a new blocker. The answer is how many entries stay. Those that are found unit wait
+    /// in line, with the place that is given.
     fn visit_all(
         &mut self,
         trail: &Trail,
         gone: Lit,
+        found: Option<usize>,
         list: &mut [PackedWatch],
+        line: &mut Line,
     ) -> Result<usize, AllocError>
         requires ordered { IsOrdered trail.now.vars trail.now.entries }
-        requires served { (floor : ℕ) × (n : ℕ) × IsNext trail.now.entries n gone × (elsewhere : List ℕ) × IsServed floor self.old.clauses.given trail.now.entries n (tending (with_list (also elsewhere (kept_of self.old)) gone list.old)) }
+        requires served { (floor : ℕ) × (n : ℕ) × IsNext trail.now.entries n gone × IsServed floor self.old.clauses.given trail.now.entries n (tending (with_list (kept_with self.old line.old) gone list.old)) }
         requires entries { AreEntries self.old.clauses.given (with_list (kept_of self.old) gone list.old) }
         requires over { All (IsOver trail.now.vars) self.old.clauses.given }
         requires lists { length self.old.lists.items ≡ 2 * trail.now.vars + 2 }
         ensures within { IfOk result (λ m. m ≤ length list.new) }
-        ensures served { IfOk result (λ m. (floor n : ℕ) (elsewhere : List ℕ) → IsNext trail.now.entries n gone → IsServed floor self.old.clauses.given trail.now.entries n (tending (with_list (also elsewhere (kept_of self.old)) gone list.old))
-            → Tends floor self.old.clauses.given trail.now.entries (tending (with_list (also elsewhere (kept_of self.new)) gone (take m list.new)))
-            × AllGood self.old.clauses.given (literals (take n trail.now.entries) ++ negated gone ∷ []) (literals trail.now.entries) (tending (with_list (also elsewhere (kept_of self.new)) gone (take m list.new)))) }
+        ensures served { IfOk result (λ m. (floor n : ℕ) → IsNext trail.now.entries n gone → IsServed floor self.old.clauses.given trail.now.entries n (tending (with_list (kept_with self.old line.old) gone list.old))
+            → Tends floor self.old.clauses.given trail.now.entries (tending (with_list (kept_with self.new line.new) gone (take m list.new)))
+            × AllGood self.old.clauses.given (literals (take n trail.now.entries) ++ negated gone ∷ []) (literals trail.now.entries) (tending (with_list (kept_with self.new line.new) gone (take m list.new)))) }
+        ensures line { OnOk result ((o : Order) → PlacesOf o trail.now.entries gone found → AreInLine o self.old.clauses.given trail.now.entries line.old → AreInLine o self.old.clauses.given trail.now.entries line.new) }
         ensures entries { IfOk result (λ m. AreEntries self.old.clauses.given (with_list (kept_of self.new) gone (take m list.new))) }
-        ensures kept { (self.new.clauses.given ≡ self.old.clauses.given) × (length self.new.lists.items ≡ length self.old.lists.items) }
+        ensures kept { (self.new.clauses.given ≡ self.old.clauses.given) × (length self.new.lists.items ≡ length self.old.lists.items) × (self.new.units ≡ self.old.units) }
     {
         let mut end = list.len();
         let mut place = 0;
         while place < end {
-            match self.visit(trail, gone, list[place].watch())? {
+            match self.visit(trail, gone, list[place].watch(), found, line)? {
                 Some(blocker) => {
                     list[place].set_blocker(blocker);
                     place += 1;
@@ -192,109 +246,60 @@ impl Propagator {
     }
 
     /// Visits the clauses that watch the negation of the literal of the trail's entry at a place.
-    fn serve(&mut self, trail: &Trail, place: usize) -> Result<(), AllocError>
+    fn serve(
+        &mut self,
+        order: Order,
+        trail: &Trail,
+        place: usize,
+        line: &mut Line,
+    ) -> Result<(), AllocError>
         requires inside { place < length trail.now.entries }
         requires entries { AreEntries self.old.clauses.given (kept_of self.old) }
         requires over { All (IsOver trail.now.vars) self.old.clauses.given }
         requires lists { length self.old.lists.items ≡ 2 * trail.now.vars + 2 }
-        requires served { (floor : ℕ) × (elsewhere : List ℕ) × IsServed floor self.old.clauses.given trail.now.entries place (tending (also elsewhere (kept_of self.old))) }
-        ensures served { OnOk result ((floor : ℕ) (elsewhere : List ℕ) → IsServed floor self.old.clauses.given trail.now.entries place (tending (also elsewhere (kept_of self.old)))
-            → IsServed floor self.old.clauses.given trail.now.entries (place + 1) (tending (also elsewhere (kept_of self.new)))) }
+        requires served { (floor : ℕ) × IsServed floor self.old.clauses.given trail.now.entries place (tending (kept_with self.old line.old)) }
+        ensures served { OnOk result ((floor : ℕ) → IsServed floor self.old.clauses.given trail.now.entries place (tending (kept_with self.old line.old))
+            → IsServed floor self.old.clauses.given trail.now.entries (place + 1) (tending (kept_with self.new line.new))) }
+        ensures line { OnOk result (AreInLine order self.old.clauses.given trail.now.entries line.old → AreInLine order self.old.clauses.given trail.now.entries line.new) }
         ensures entries { OnOk result (AreEntries self.old.clauses.given (kept_of self.new)) }
-        ensures kept { (self.new.clauses.given ≡ self.old.clauses.given) × (length self.new.lists.items ≡ length self.old.lists.items) }
+        ensures kept { (self.new.clauses.given ≡ self.old.clauses.given) × (length self.new.lists.items ≡ length self.old.lists.items) × (self.new.units ≡ self.old.units) }
     {
+        let found = found_at(order, trail, place);
         let entry = trail.entries()[place];
         let gone = entry.lit.negated();
         let at = code(gone);
         let alloc = *self.lists.allocator();
         let mut list = mem::replace(&mut self.lists[at], Vec::new(alloc));
         self.visits = self.visits.saturating_add(list.len() as u64);
-        let end = self.visit_all(trail, gone, list.as_mut_slice())?;
+        let end = self.visit_all(trail, gone, found, list.as_mut_slice(), line)?;
         list.truncate(end);
         self.lists[at] = list;
         Ok(())
     }
 
     /// Serves the trail's entries from a place on.
-    pub fn serve_from(&mut self, trail: &Trail, from: usize) -> Result<(), AllocError>
+    pub fn serve_from(
+        &mut self,
+        order: Order,
+        trail: &Trail,
+        from: usize,
+        line: &mut Line,
+    ) -> Result<(), AllocError>
         requires inside { from ≤ length trail.now.entries }
         requires entries { AreEntries self.old.clauses.given (kept_of self.old) }
         requires over { All (IsOver trail.now.vars) self.old.clauses.given }
         requires lists { length self.old.lists.items ≡ 2 * trail.now.vars + 2 }
-        requires served { (floor : ℕ) × (elsewhere : List ℕ) × IsServed floor self.old.clauses.given trail.now.entries from (tending (also elsewhere (kept_of self.old))) }
-        ensures served { OnOk result ((floor : ℕ) (elsewhere : List ℕ) → IsServed floor self.old.clauses.given trail.now.entries from (tending (also elsewhere (kept_of self.old)))
-            → IsServed floor self.old.clauses.given trail.now.entries (length trail.now.entries) (tending (also elsewhere (kept_of self.new)))) }
+        requires served { (floor : ℕ) × IsServed floor self.old.clauses.given trail.now.entries from (tending (kept_with self.old line.old)) }
+        ensures served { OnOk result ((floor : ℕ) → IsServed floor self.old.clauses.given trail.now.entries from (tending (kept_with self.old line.old))
+            → IsServed floor self.old.clauses.given trail.now.entries (length trail.now.entries) (tending (kept_with self.new line.new))) }
+        ensures line { OnOk result (AreInLine order self.old.clauses.given trail.now.entries line.old → AreInLine order self.old.clauses.given trail.now.entries line.new) }
         ensures entries { OnOk result (AreEntries self.old.clauses.given (kept_of self.new)) }
-        ensures kept { (self.new.clauses.given ≡ self.old.clauses.given) × (length self.new.lists.items ≡ length self.old.lists.items) }
+        ensures kept { (self.new.clauses.given ≡ self.old.clauses.given) × (length self.new.lists.items ≡ length self.old.lists.items) × (self.new.units ≡ self.old.units) }
     {
         for place in from..trail.entries().len() {
-            self.serve(trail, place)?;
+            self.serve(order, trail, place, line)?;
         }
         Ok(())
-    }
-
-    /// The unit clause of least number, taken out of those that wait; stale ones are dropped.
-    fn next_unit(&mut self, trail: &Trail) -> Option<Unit>
-        requires none { self.old.conflict ≡ None }
-        requires over { All (IsOver trail.now.vars) self.old.clauses.given }
-        requires served { (floor : ℕ) × IsServed floor self.old.clauses.given trail.now.entries (length trail.now.entries) (tending (kept_of self.old)) }
-        ensures none { IfNone result (least_unit (literals trail.now.entries) self.old.clauses.given ≡ None) }
-        ensures empty { IfNone result (self.new.units ≡ []) }
-        ensures rest { IfNone result ((floor : ℕ) → IsServed floor self.old.clauses.given trail.now.entries (length trail.now.entries) (tending (kept_of self.old))
-            → IsServed floor self.old.clauses.given trail.now.entries (length trail.now.entries) (tending (kept_of self.new))) }
-        ensures unit { IfSome result (λ u. least_unit (literals trail.now.entries) self.old.clauses.given ≡ Some (u.clause + 1, u.lit)) }
-        ensures grows { IfSome result (λ u. (floor : ℕ) (e : closing_trails.Entry) → e.lit ≡ u.lit → e.level ≡ current_level trail.now.entries
-            → IsServed floor self.old.clauses.given trail.now.entries (length trail.now.entries) (tending (kept_of self.old))
-            → IsServed floor self.old.clauses.given (trail.now.entries ++ e ∷ []) (length trail.now.entries) (tending (kept_of self.new))) }
-        ensures kept { (self.new.clauses.given ≡ self.old.clauses.given) × (self.new.clauses.pairs ≡ self.old.clauses.pairs) × (self.new.lists ≡ self.old.lists) × (self.new.conflict ≡ self.old.conflict) }
-    {
-        let _trail = trail.entries(); // it ensures what the proof needs of the trail
-        while let Some(clause) = self.units.pop() {
-            let lit = chosen(trail, self.clauses.watched(clause as usize));
-            if trail.truth(lit).is_none() {
-                return Some(Unit { clause, lit });
-            }
-        }
-        None
-    }
-
-    /// Propagation from a trail of which the entries before `served` were served: puts the literals
-    /// of unit clauses on the trail, the clause of least number first, until a clause is false or
-    /// none is unit.
-    pub fn propagate(&mut self, trail: &mut Trail, served: usize) -> Result<Closed, AllocError>
-        requires inside { served ≤ length trail.old.entries }
-        requires entries { AreEntries self.old.clauses.given (kept_of self.old) }
-        requires over { All (IsOver trail.old.vars) self.old.clauses.given }
-        requires lists { length self.old.lists.items ≡ 2 * trail.old.vars + 2 }
-        requires served { (floor : ℕ) × IsServed floor self.old.clauses.given trail.old.entries served (tending (kept_of self.old)) }
-        ensures closes { IfOk result (λ a. Propagates by_number self.old.clauses.given trail.old.entries (closed_of a) trail.new.entries) }
-        ensures onward { (a : closing.Closed) (U : closing_trails.Trail) → Propagates by_number self.old.clauses.given trail.new.entries a U → Propagates by_number self.old.clauses.given trail.old.entries a U }
-        ensures lawful { IsLawful self.old.clauses.given trail.old.entries → IsLawful self.old.clauses.given trail.new.entries }
-        ensures served { OnOk result ((floor : ℕ) → IsServed floor self.old.clauses.given trail.old.entries served (tending (kept_of self.old))
-            → IsServed floor self.old.clauses.given trail.new.entries (length trail.new.entries) (tending (kept_of self.new))) }
-        ensures entries { OnOk result (AreEntries self.old.clauses.given (kept_of self.new)) }
-        ensures vars { trail.new.vars ≡ trail.old.vars }
-        ensures kept { (self.new.clauses.given ≡ self.old.clauses.given) × (length self.new.lists.items ≡ length self.old.lists.items) }
-    {
-        let mut served = served;
-        'steps: loop {
-            self.serve_from(trail, served)?;
-            served = trail.entries().len();
-            if let Some(clause) = self.conflict {
-                return Ok(Closed::Conflict(clause as u64 + 1));
-            }
-            match self.next_unit(trail) {
-                None => return Ok(Closed::Quiet),
-                Some(unit) => {
-                    let level = trail.level();
-                    trail.push(Entry {
-                        lit: unit.lit,
-                        reason: Some(unit.clause as u64 + 1),
-                        level,
-                    });
-                }
-            }
-        }
     }
 
     /// Forgets what was found unit or false.

@@ -1,4 +1,4 @@
-//! The clauses that were found unit and wait for their turn, the least first.
+//! The clauses that wait as units between two propagations, the least first.
 ghost use Rattle.std.specs.Prelude.{◌≡◌, ◌<◌, ◌≤◌, ℕ, true, false, [], ◌∷◌, IfOk, OnOk, IfSome, IfNone, All, map};
 ghost use Rattle.std.specs.BinaryHeap.{IsHeap, heap_items};
 ghost use Rattle.std.specs.List.{Contains};

@@ -48,15 +48,15 @@ impl WaitingQueue {
     }
 
     /// Whether a clause goes behind all of these.
-    pub fn takes(&self, waiting: Waiting) -> bool
-        ensures { result ≡ true → All (λ w. GoesFirst w waiting) self.now }
+    pub fn takes(&self, waiting: &Waiting) -> bool
+        ensures { result ≡ true → All (λ w. GoesFirst w waiting.now) self.now }
     {
         let count = self.items.len();
         if count == self.head {
             return true;
         }
         let last = self.items[count - 1];
-        goes_first(last, waiting)
+        goes_first(last, *waiting)
     }
 
     /// Puts a clause at the end that goes behind the others.

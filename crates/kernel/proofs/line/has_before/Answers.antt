@@ -15,4 +15,4 @@ pub returns-in-Some-clause-before : goal.returns-in-Some-clause-before
 returns-in-Some-clause-before c h = (c.in-Some.first.now.0, top-there (heap_items c.args.heap.now) c.in-Some.first.now (ltb-true 0 (length (heap_items c.args.heap.now)) (sym c.in-Some.ensures.item.0)) c.in-Some.ensures.lookup, c.goes_first.ensures.no (not_true c.goes_first.result h))
 
 pub returns-in-Some-clause-none : goal.returns-in-Some-clause-none
-returns-in-Some-clause-none c h = All-behind c.args.waiting c.in-Some.first.now.0 _ (c.goes_first.ensures.yes (isnt c.goes_first.result h)) (All-goes_first _ _ (c.in-Some.ensures.greatest c.requires.heap))
+returns-in-Some-clause-none c h = All-behind c.args.waiting c.in-Some.first.now.0 _ (c.goes_first.ensures.yes (isnt c.goes_first.result h)) (All-goes_first c.in-Some.first.now _ (c.in-Some.ensures.greatest c.requires.heap))

@@ -1,7 +1,8 @@
-use Rattle.std.proofs.Common.{refl}
-use Rattle.kernel.specs.Visiting.{kept_of}
-use Rattle.kernel.proofs.Visits.{over-var, clause-over, code-within}
-use Rattle.kernel.proofs.Sights.{clause, pair, clause-at, pair-at, sees-satisfied, sees-last, sees-moved}
+use Rattle.std.proofs.Common.{◌++◌, List, ℕ, refl, ap}
+use Rattle.kernel.specs.Placing.{clauses_of, kept_with}
+use Rattle.kernel.proofs.Placed.{lengthened, joined}
+use Rattle.kernel.proofs.Visits.{over-var, clause-over, code-within, gone-in}
+use Rattle.kernel.proofs.Sights.{clause, pair, clause-at, pair-at, sees-satisfied, sees-last, sees-moved, last-seen}
 use Rattle.kernel.proofs.propagator.Propagator.look.Goals as goal
 
 pub look-requires-clause-watched : goal.look-requires-clause-watched
@@ -25,7 +26,7 @@ returns-in-Satisfied-clause-visit c =
     let v = c.requires.visit in
     let long = c.requires.long in
     let seen = c.in-Satisfied.ensures.seen (clause _ _ _ _ _ v long) (pair _ _ _ _ _ v long) (clause-at _ _ _ _ _ v long) (pair-at _ _ _ _ _ v long) in
-    sees-satisfied _ _ _ _ _ v long c.in-Satisfied.other (record (kept_of c.args.self.now) { pairs = c.look.new.self.pairs }) seen.0 seen.2 seen.1 refl refl refl
+    sees-satisfied _ _ _ _ _ v long c.in-Satisfied.other (record (kept_with c.args.self.now c.args.line.now) { pairs = c.look.new.self.pairs }) seen.0 seen.2 seen.1 refl refl refl
 
 pub returns-in_ok-list-in-Moved-clause-visit : goal.returns-in_ok-list-in-Moved-clause-visit
 returns-in_ok-list-in-Moved-clause-visit c =
@@ -33,7 +34,7 @@ returns-in_ok-list-in-Moved-clause-visit c =
     let long = c.requires.long in
     let seen = c.in-Moved.ensures.seen (clause _ _ _ _ _ v long) (pair _ _ _ _ _ v long) (clause-at _ _ _ _ _ v long) (pair-at _ _ _ _ _ v long) in
     let e = c.in_ok-list-in-Moved.ensures in
-    sees-moved _ _ _ _ _ v long c.in-Moved.watched (kept_of c.list.new.self) seen.0 seen.2 (rw e.kept.1 seen.1) e.lists e.kept.2 e.kept.3
+    sees-moved _ _ _ _ _ v long c.in-Moved.watched (kept_with c.list.new.self c.args.line.now) seen.0 seen.2 (rw e.kept.1 seen.1) e.lists (ap (λ (us : List ℕ). clauses_of c.args.line.now ++ us) e.kept.2) e.kept.3
 
 pub returns-in_ok-note-in-Last-clause-visit : goal.returns-in_ok-note-in-Last-clause-visit
 returns-in_ok-note-in-Last-clause-visit c =
@@ -41,4 +42,11 @@ returns-in_ok-note-in-Last-clause-visit c =
     let long = c.requires.long in
     let seen = c.in-Last.ensures.seen (clause _ _ _ _ _ v long) (pair _ _ _ _ _ v long) (clause-at _ _ _ _ _ v long) (pair-at _ _ _ _ _ v long) in
     let e = c.in_ok-note-in-Last.ensures in
-    sees-last _ _ _ _ _ v long c.in-Last.other c.in-Last.status (kept_of c.note.new.self) seen.0 seen.2 e.unit e.clashes (rw e.kept.1 seen.1) (rw e.kept.2 refl)
+    sees-last _ _ _ _ _ v long c.in-Last.other c.in-Last.status (kept_with c.note.new.self c.note.new.line) seen.0 seen.2 (λ f. (lengthened _ _ _ _ _ e.kept.3 (e.unit f).0, (e.unit f).1)) (λ b f. (joined _ _ _ _ (e.clashes b f).0 e.kept.3, (e.clashes b f).1)) (rw e.kept.1 seen.1) (rw e.kept.2 refl)
+
+pub returns-in_ok-note-in-Last-clause-line : goal.returns-in_ok-note-in-Last-clause-line
+returns-in_ok-note-in-Last-clause-line c o places h =
+    let v = c.requires.visit in
+    let long = c.requires.long in
+    let seen = c.in-Last.ensures.seen (clause _ _ _ _ _ v long) (pair _ _ _ _ _ v long) (clause-at _ _ _ _ _ v long) (pair-at _ _ _ _ _ v long) in
+    (rw c.look.ensures.given at c.in_ok-note-in-Last.ensures.line) o (λ d a. (places d (gone-in _ _ _ _ _ v d a), last-seen _ _ _ _ _ v long c.in-Last.other c.in-Last.status seen.0 seen.2 d a)) h

@@ -9,5 +9,5 @@ returns c goes =
     let long = c.self.inside.items.ok.0 in
     let count : c.len-count.result ≡ length ws = omega (arith, c.len-count.ensures, long) in
     let last = c.index-last.result.now in
-    rw (← c.self.view_is) (before-next c.self.inside.head ws last last c.args.waiting (omega (arith, within, count, c.if-count-self.false))
+    rw (← c.self.view_is) (before-next c.self.inside.head ws last last c.args.waiting.now (omega (arith, within, count, c.if-count-self.false))
     (c.index-last.ensures ∙ ap (λ n. get_or ws (n - 1) last) count) c.self.invariant.1 (c.goes_first.ensures.yes goes))
