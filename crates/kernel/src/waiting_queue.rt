@@ -1,7 +1,9 @@
 //! Unit clauses that come in the order in which they go, and are taken out in it.
-ghost use Rattle.std.specs.Prelude.{◌≡◌, ◌≤◌, ◌<◌, true, false, [], ◌∷◌, ◌++◌, All, OnOk, IfSome, IfNone};
+ghost use Rattle.std.specs.Prelude.{◌≡◌, ◌≤◌, ◌<◌, ℕ, true, false, [], ◌∷◌, ◌++◌, All, IfOk, OnOk, IfSome, IfNone, drop, length, slice_index_or};
+ghost use Rattle.std.specs.List.Sorted.{IsPermutation};
+ghost use Rattle.kernel.specs.declared.line.Waiting.{Waiting};
 ghost use Rattle.std.specs.List.{Contains};
-ghost use Rattle.kernel.specs.Placing.{GoesFirst};
+ghost use Rattle.kernel.specs.Placing.{GoesFirst, AreInOrder};
 
 use crate::line::Waiting;
 use std::alloc::{AllocError, Global};
@@ -36,6 +38,30 @@ pub fn goes_first(a: Waiting, b: Waiting) -> bool
     a.place < b.place || (a.place == b.place && a.clause <= b.clause)
 }
 
+/// So many of the last clauses are looked at to find where one goes.
+const FEW: usize = 16;
+
+/// Where a clause goes among the last ones: behind those that go before it. None where that is
+/// further to the front.
+fn place_near(items: &[Waiting], head: usize, waiting: &Waiting) -> Option<usize>
+    requires head { head ≤ length items.now }
+    requires order { AreInOrder (drop head items.now) }
+    ensures within { IfSome result (λ p. (head ≤ p) × (p ≤ length items.now)) }
+    ensures behind { IfSome result (λ p. (k : ℕ) (d : Waiting) → head ≤ k → k < p → GoesFirst (slice_index_or items.now k d) waiting.now) }
+    ensures before { IfSome result (λ p. (k : ℕ) (d : Waiting) → p ≤ k → k < length items.now → GoesFirst waiting.now (slice_index_or items.now k d)) }
+{
+    let mut at = items.len();
+    let front = head.max(at.saturating_sub(FEW));
+    while at > front {
+        let before = items[at - 1];
+        if goes_first(before, *waiting) {
+            return Some(at);
+        }
+        at -= 1;
+    }
+    if at == head { Some(at) } else { None }
+}
+
 impl WaitingQueue {
     /// Nothing waits.
     pub fn new(alloc: Global) -> WaitingQueue
@@ -66,6 +92,21 @@ impl WaitingQueue {
     {
         self.items.push(waiting)?;
         Ok(())
+    }
+
+    /// Puts a clause in where it goes among the last ones; whether it does. It takes time by those
+    /// that it goes before.
+    pub fn put(&mut self, waiting: &Waiting) -> Result<bool, AllocError>
+        ensures put { IfOk result (λ b. b ≡ true → IsPermutation (waiting.now ∷ self.old) self.new) }
+        ensures left { IfOk result (λ b. b ≡ false → self.new ≡ self.old) }
+    {
+        match place_near(&self.items, self.head, waiting) {
+            None => Ok(false),
+            Some(place) => {
+                self.items.insert(place, *waiting)?;
+                Ok(true)
+            }
+        }
     }
 
     /// The clause that goes first.
