@@ -6,12 +6,12 @@ use Rattle.theory.specs.Truth.{Formula, IsOver}
 use Rattle.theory.specs.Trails.{literals, cube_trail}
 use Rattle.theory.specs.Lawful.{IsLawful}
 use Rattle.theory.specs.Results.{OutcomeSays}
-use Rattle.theory.specs.Plans.{ordered, Plan}
+use Rattle.theory.specs.Plans.{Search, ordered}
 use Rattle.theory.specs.Search.{Outcome, RunsFrom, budget_of, first_clauses}
 use Rattle.theory.specs.Ordered.{OrderedState, IsOrderedStep}
-use Rattle.theory.specs.Runs.{Runs}
+use Rattle.theory.specs.Runs.{RunsBy}
 use Rattle.theory.proofs.searching.OpenTrails.{IsOpenBelow-cube_trail}
-use Rattle.theory.proofs.searching.OutcomeLemmas.{Runs-says}
+use Rattle.theory.proofs.searching.OutcomeLemmas.{RunsBy-says}
 use Rattle.theory.proofs.searching.PureVariables.{IsFormula-searched}
 use Rattle.theory.proofs.trails.TrailLists.{literals-cube}
 use Rattle.kernel.specs.State.{State}
@@ -76,19 +76,19 @@ IsBegun-restart order F Q old k ready went lawful over clauses_over = record {
     trail = ap (λ (k : State). k.trail) went
 
 -- what a search that was begun runs to, is the cube's outcome
-pub Begins-runs : (F : Formula) (plan : Plan) (Q : List Literal) (s : OrderedSearch) (o : Outcome) → plan.search ≡ ordered → Begins F Q s
-    → RunsFrom (IsOrderedStep s.kernel.vars (budget_of plan.budget Q)) (search_of s) o → Runs F plan Q o
-Begins-runs F plan Q s o it begins runs = record { by = rw it (rw (begins.begun, begins.ready.vars) at runs) }
+pub Begins-runs : (F : Formula) (B : ℕ) (Q : List Literal) (s : OrderedSearch) (o : Outcome) → Begins F Q s
+    → RunsFrom (IsOrderedStep s.kernel.vars (budget_of B Q)) (search_of s) o → RunsBy ordered F B Q o
+Begins-runs F B Q s o begins runs = rw (begins.begun, begins.ready.vars) at runs
 
 -- what the outcome of a cube says, whose search was begun
-pub IsBegun-says : (order : Order) (F : Formula) (plan : Plan) (Q : List Literal) (k : State) (o : Outcome) → IsBegun order F Q k → IsOver F.vars Q → Runs F plan Q o → OutcomeSays plan.search F Q o
-IsBegun-says order F plan Q k o b over runs =
+pub IsBegun-says : (order : Order) (search : Search) (F : Formula) (B : ℕ) (Q : List Literal) (k : State) (o : Outcome) → IsBegun order F Q k → IsOver F.vars Q → RunsBy search F B Q o → OutcomeSays search F Q o
+IsBegun-says order search F B Q k o b over runs =
     let all : All (IsOver F.vars) (first_clauses F) = rw (b.clauses, b.ready.vars) at b.searching.clauses_over in
     let lawful : IsLawful (first_clauses F) (cube_trail Q) = rw (b.clauses, b.trail) at b.searching.lawful in
-    Runs-says F plan Q o (IsFormula-searched F all) (subst IsCube (literals-cube Q) (IsCube-from (literals (cube_trail Q)) (IsDistinctFrom-lawful (first_clauses F) [] (cube_trail Q) lawful))) over runs
+    RunsBy-says search F B Q o (IsFormula-searched F all) (subst IsCube (literals-cube Q) (IsCube-from (literals (cube_trail Q)) (IsDistinctFrom-lawful (first_clauses F) [] (cube_trail Q) lawful))) over runs
 
-pub Begins-says : (F : Formula) (plan : Plan) (Q : List Literal) (s : OrderedSearch) (o : Outcome) → Begins F Q s → IsOver F.vars Q → Runs F plan Q o → OutcomeSays plan.search F Q o
-Begins-says F plan Q s o begins over runs = IsBegun-says ByNumber F plan Q s.kernel o (record {
+pub Begins-says : (F : Formula) (B : ℕ) (Q : List Literal) (s : OrderedSearch) (o : Outcome) → Begins F Q s → IsOver F.vars Q → RunsBy ordered F B Q o → OutcomeSays ordered F Q o
+Begins-says F B Q s o begins over runs = IsBegun-says ByNumber ordered F B Q s.kernel o (record {
   ready = begins.ready;
   searching = begins.searching;
   clauses = ap (λ (t : OrderedState). t.clauses) begins.begun;

@@ -18,7 +18,7 @@ use Rattle.cdcl.specs.Saving.{AreWaiting, AreKept}
 use Rattle.cdcl.specs.Searching.{IsReady}
 use Rattle.cdcl.specs.Focusing.{IsEquipped, Begins}
 use Rattle.cdcl.proofs.Beginnings.{IsBegun, IsBegun-restart}
-use Rattle.cdcl.proofs.WaitingLemmas.{at-variable, length-mapped}
+use Rattle.theory.proofs.searching.MappedVariables.{at-variable, length-mapped}
 
 -- each score is 0 at first
 All-zero : (b : ℕ) (xs : List ℕ) → All (λ x. x ≤ b) (map (λ v. 0) xs)
@@ -35,9 +35,9 @@ pub Begins-focused : (F : Formula) (Q : List Literal) (s t : FocusedSearch) (fre
     → t.decisions.scores ≡ record free.scores { scores = first_scores free.scores.constants (vars_of free.scores) } → length t.decisions.saved ≡ length free.saved → ((v : ℕ) → value t.decisions.saved v ≡ false)
     → t.kernel ≡ record s.kernel { clauses = take s.kernel.first s.kernel.clauses; trail = cube_trail Q }
     → IsLawful t.kernel.clauses t.kernel.trail → IsOver t.kernel.vars (literals t.kernel.trail) → All (IsOver t.kernel.vars) t.kernel.clauses
-    → t.conflicts ≡ 0 → t.lines ≡ [] → t.glues.items ≡ [] → t.averages ≡ first_averages s.averages.constants → t.schedule ≡ first_schedule s.constants → t.constants ≡ s.constants → t.analysis ≡ s.analysis
+    → t.conflicts ≡ 0 → t.decided ≡ 0 → t.lines ≡ [] → t.glues.items ≡ [] → t.averages ≡ first_averages s.averages.constants → t.schedule ≡ first_schedule s.constants → t.constants ≡ s.constants → t.analysis ≡ s.analysis
     → Begins F s.constants Q t
-Begins-focused F Q s t free e ready waiting kept scores long none went lawful over clauses_over counted lines glues averages schedule constants analysis = record {
+Begins-focused F Q s t free e ready waiting kept scores long none went lawful over clauses_over counted decided lines glues averages schedule constants analysis = record {
   ready = b.ready;
   focusing = record {
     searching = b.searching;
@@ -56,6 +56,7 @@ Begins-focused F Q s t free e ready waiting kept scores long none went lawful ov
     };
     scores = rw scores (All-zero (t.conflicts * 2 ^ 40) (variables (vars_of free.scores)));
     total = rw averages (omega arith);
+    decided = omega (arith, decided);
     learnt = let a = ap length b.clauses in let f = b.ready.first in let l = ap length lines in omega arith;
     glues = ap length glues ∙ sym (ap length lines);
     plain = subst (All (IsPlain t.kernel.vars)) (sym (none-left t.kernel.first t.kernel.clauses (b.ready.first ∙ sym (ap length b.clauses)))) (All-nil (IsPlain t.kernel.vars));
@@ -63,7 +64,7 @@ Begins-focused F Q s t free e ready waiting kept scores long none went lawful ov
   constants = constants;
   counted = counted;
   saves = λ v k f. none v ∙ sym (at-variable (λ v. false) F.vars v false (rw b.ready.vars at k));
-  begun = rw (b.clauses, b.trail, counted, lines, glues, score, averages, schedule) refl;
+  begun = rw (b.clauses, b.trail, counted, decided, lines, glues, score, averages, schedule) refl;
 }
   where
     b : IsBegun ByPlace F Q t.kernel

@@ -50,6 +50,7 @@ IsFocusing-Propagates s k a f vars clauses first order memory closes =
       };
       scores = f.scores;
       total = f.total;
+      decided = let long = length-Propagates by_place s.kernel.clauses s.kernel.trail k.trail a closes in let most = f.decided in omega arith;
       learnt = rw (clauses, first) f.learnt;
       glues = f.glues;
       plain = rw (vars, clauses, first) f.plain;
@@ -96,7 +97,7 @@ pub Follows-decided : (budget : ℕ) (s t : FocusedSearch) (saved : Assignment) 
     → t.kernel ≡ record s.kernel { trail = s.kernel.trail ++ record { lit = saved_literal s.decisions.saved x; reason = None; level = current_level s.kernel.trail + 1 } ∷ [] }
     → IsLawful t.kernel.clauses t.kernel.trail → IsOver t.kernel.vars (literals t.kernel.trail) → All (IsOver t.kernel.vars) t.kernel.clauses
     → AreWaiting s.kernel.vars (literals s.kernel.trail) t.decisions → t.decisions.scores.scores ≡ s.decisions.scores.scores → t.decisions.scores.constants ≡ s.decisions.scores.constants
-    → t.decisions.saved ≡ s.decisions.saved → t ≡ record s { kernel = t.kernel; decisions = t.decisions } → Follows budget quiet s saved None t
+    → t.decisions.saved ≡ s.decisions.saved → t ≡ record s { kernel = t.kernel; decisions = t.decisions; decided = s.decided + 1 } → Follows budget quiet s saved None t
 Follows-decided budget s t saved x f counted calm best has went lawful over clauses_over waiting scores constants same is = record {
   values = saved;
   next = ap (definition.on_quiet s.kernel.vars (state_of s saved)) best ∙ ap goes_on next;
@@ -131,6 +132,7 @@ Follows-decided budget s t saved x f counted calm best has went lawful over clau
       clauses = s.kernel.clauses;
       trail = s.kernel.trail ++ e ∷ [];
       conflicts = u.conflicts;
+      decisions = u.decided;
       lines = u.lines;
       glues = u.glues.items;
       scores = s.decisions.scores.scores;
@@ -155,6 +157,8 @@ Follows-decided budget s t saved x f counted calm best has went lawful over clau
       equipped = equipped;
       scores = subst (λ (u : FocusedSearch). All (λ y. y ≤ u.conflicts * 2 ^ 40) t.decisions.scores.scores.scores) (sym is) (rw scores f.scores);
       total = subst (λ (u : FocusedSearch). u.averages.glues.total ≤ u.conflicts * 2 ^ 20) (sym is) f.total;
+      decided = subst (λ (u : FocusedSearch). u.decided ≤ u.conflicts * 2 ^ 18 + length t.kernel.trail) (sym is)
+          (let one = length-append s.kernel.trail (e ∷ []) in let long = ap length trail in let most = f.decided in omega arith);
       learnt = subst (λ (u : FocusedSearch). length t.kernel.clauses ≡ t.kernel.first + length u.lines) (sym is) (rw (clauses, ap (λ (k : State). k.first) went) f.learnt);
       glues = subst (λ (u : FocusedSearch). length u.glues.items ≡ length u.lines) (sym is) f.glues;
       plain = rw (vars, clauses, ap (λ (k : State). k.first) went) f.plain;

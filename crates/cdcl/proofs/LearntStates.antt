@@ -15,6 +15,7 @@ use Rattle.theory.specs.Forgetting.{is_due, rescheduled, forget, forget_half}
 use Rattle.theory.specs.Focused.{FocusedState, learnt_next, saved_after}
 use Rattle.theory.proofs.searching.ForgettingNumbers.{length-forget, half_numbers, half-number, forget-push, IsOpenBelow-forget}
 use Rattle.theory.proofs.trails.LawfulTrails.{IsLawful-append, IsLawful-up_to}
+use Rattle.theory.proofs.literals.OverVariables.{AreOver-from_IsOver}
 use Rattle.heuristics.specs.Rankings.{Ranking, after_conflict, vars_of}
 use Rattle.heuristics.specs.Averages.{Averages}
 use Rattle.kernel.specs.State.{State}
@@ -26,6 +27,7 @@ use Rattle.cdcl.specs.Saving.{AgreeOutside, AreWaiting, AreKept}
 use Rattle.cdcl.specs.Focusing.{state_of, HasSaved, IsEquipped, IsFocusing, IsTaught, Learns, Continues, CanForget}
 use Rattle.cdcl.proofs.FocusedLemmas.{none-false-learnt, low-learnt, lower-level, IsPlain-learn, AllPlain-forget, AllPlain-push, take-push, take-forget}
 use Rattle.cdcl.proofs.SeenLemmas.{scores_after-same}
+use Rattle.cdcl.proofs.Progress.{length-lawful}
 use Rattle.cdcl.proofs.WaitingLemmas.{AgreeOutside-saved}
 
 -- what the parts of the step did, one after the other
@@ -59,6 +61,7 @@ pub record IsLearning (s : FocusedSearch) (n : ℕ) (t : FocusedSearch) : Type 0
   }
   pub scheduled : t.schedule ≡ (if is_due s.schedule (s.conflicts + 1) then rescheduled s.constants (s.conflicts + 1) s.schedule else s.schedule)
   pub counted : t.conflicts ≡ s.conflicts + 1
+  pub decided : t.decided ≡ s.decided
   pub lines : t.lines ≡ s.lines ++ record { clause = clause; hints = hints } ∷ []
   pub glues : t.glues.items ≡ s.glues.items ++ g ∷ []
   pub constants : t.constants ≡ s.constants
@@ -99,6 +102,7 @@ module _ (s : FocusedSearch) (n : ℕ) (t : FocusedSearch) (f : IsFocusing s) (l
     clauses = (if is_due s.schedule (s.conflicts + 1) then forget_half s.constants (up_to s.kernel.trail (if r then 0 else level)) s.glues.items s.kernel.clauses else s.kernel.clauses) ++ line.clause ∷ [];
     trail = up_to s.kernel.trail (if r then 0 else level);
     conflicts = s.conflicts + 1;
+    decisions = s.decided;
     lines = s.lines ++ line ∷ [];
     glues = s.glues.items ++ g ∷ [];
     scores = scores;
@@ -135,7 +139,7 @@ module _ (s : FocusedSearch) (n : ℕ) (t : FocusedSearch) (f : IsFocusing s) (l
       let S = saved_after s.kernel.vars s.kernel.trail saved in
       let scores = scores_after s.constants s.kernel.vars (is_seen s.kernel.clauses s.kernel.trail line.hints) s.decisions.scores.scores in
       let first : state_of t S ≡ made S l.restarts l.level l.g (record { clause = l.clause; hints = l.hints }) scores =
-      rw (clauses-is, trail-is, l.counted, l.lines, l.glues, scores-is, averages-is, l.scheduled) refl in
+      rw (clauses-is, trail-is, l.counted, l.decided, l.lines, l.glues, scores-is, averages-is, l.scheduled) refl in
       first ∙ (ap (λ r. made S r l.level l.g (record { clause = l.clause; hints = l.hints }) scores) restarts-is
       ∙ (ap (λ level. made S R level l.g (record { clause = l.clause; hints = l.hints }) scores) l.taught.back
       ∙ (ap (λ g. made S R (back_level s.kernel.trail line.clause) g (record { clause = l.clause; hints = l.hints }) scores) l.glue_is
@@ -237,6 +241,9 @@ module _ (s : FocusedSearch) (n : ℕ) (t : FocusedSearch) (f : IsFocusing s) (l
     equipped = equipped;
     scores = rw l.kept.scores (subst (λ b. All (λ x. x ≤ b) l.middle.scores.scores.scores) more-scores (l.gained_most (s.conflicts * 2 ^ 40) f.scores));
     total = let a = total-is in let b = f.total in let g = l.few in let v = f.few in let c = l.counted in omega arith;
+    decided =
+        let most = length-lawful s.kernel.vars s.kernel.clauses s.kernel.trail f.searching.lawful (AreOver-from_IsOver s.kernel.vars (literals s.kernel.trail) f.searching.trail_over) in
+        let v = f.few in let c = l.counted in let d = l.decided in let before = f.decided in omega arith;
     learnt = let a = many in let b = first-is in let c = f.learnt in let d = ap length l.lines in let e = length-append s.lines (record { clause = l.clause; hints = l.hints } ∷ []) in omega arith;
     glues = let a = ap length l.glues in let b = length-append s.glues.items (l.g ∷ []) in let c = f.glues in let d = ap length l.lines in let e = length-append s.lines (record { clause = l.clause; hints = l.hints } ∷ []) in omega arith;
     plain = rw (vars-is, first-is) (holds (λ K. All (IsPlain s.kernel.vars) (drop s.kernel.first K)) plain-all (AllPlain-forget s.kernel.vars ns 1 s.kernel.first all plain-all));

@@ -2,7 +2,7 @@
 use Rattle.std.proofs.Common.{◌≡◌, ℕ, List, map, false, Result, Ok, Err, IfOk, refl, ap, subst}
 use Rattle.theory.specs.Literals.{Literal}
 use Rattle.theory.specs.Truth.{Formula, Assignment, IsOver}
-use Rattle.theory.specs.Plans.{Search, ordered, focused, Plan}
+use Rattle.theory.specs.Plans.{Search, ordered, focused}
 use Rattle.theory.specs.Trails.{variables}
 use Rattle.theory.specs.Search.{RunsFrom, budget_of}
 use Rattle.theory.specs.Ordered.{IsOrderedStep}
@@ -24,33 +24,31 @@ use Rattle.cdcl.proofs.Beginnings.{Begins-runs, Begins-says, IsBegun-says}
 -- by the ordered search
 pub says-ordered : {E : Type 0} (Q : List Literal) (budget : ℕ) (s begun : OrderedSearch) (r : Result LinesOutcome E) → ((F : Formula) → IsReady ByNumber F s.kernel → ordered_search.Begins F Q begun)
     → IfOk r (λ o. RunsFrom (IsOrderedStep begun.kernel.vars budget) (search_of begun) (outcome_of o))
-    → IfOk r (λ o. (F : Formula) (plan : Plan) → IsReadyBy plan.search F (Ordered s) → budget ≡ budget_of plan.budget Q → IsOver F.vars Q → OutcomeSays plan.search F Q (outcome_of o))
+    → IfOk r (λ o. (F : Formula) (search : Search) (B : ℕ) → IsReadyBy search F (Ordered s) → budget ≡ budget_of B Q → IsOver F.vars Q → OutcomeSays search F Q (outcome_of o))
 says-ordered Q budget s begun (Err e) begins runs = tt
-says-ordered Q budget s begun (Ok o) begins runs = λ F plan. go F plan.search plan.budget
+says-ordered Q budget s begun (Ok o) begins runs = go
   where
     go : (F : Formula) (which : Search) (B : ℕ) → IsReadyBy which F (Ordered s) → budget ≡ budget_of B Q → IsOver F.vars Q → OutcomeSays which F Q (outcome_of o)
     go F (focused c) B ready is over = absurd ready
     go F ordered B ready is over =
         let b = begins F ready in
-        Begins-says F (record { search = ordered; budget = B }) Q begun (outcome_of o) b over
-        (Begins-runs F (record { search = ordered; budget = B }) Q begun (outcome_of o) refl b (subst (λ n. RunsFrom (IsOrderedStep begun.kernel.vars n) (search_of begun) (outcome_of o)) is runs))
+        Begins-says F B Q begun (outcome_of o) b over
+        (Begins-runs F B Q begun (outcome_of o) b (subst (λ n. RunsFrom (IsOrderedStep begun.kernel.vars n) (search_of begun) (outcome_of o)) is runs))
 
 -- by the focused search
 pub says-focused : {E : Type 0} (Q : List Literal) (budget : ℕ) (s begun : FocusedSearch) (r : Result LinesOutcome E) → ((F : Formula) → IsReady ByPlace F s.kernel → focused_search.Begins F s.constants Q begun)
     → IfOk r (λ o. (saved : Assignment) → HasSaved begun saved → RunsFrom (IsFocusedStep begun.constants begun.kernel.vars budget) (state_of begun saved) (outcome_of o))
-    → IfOk r (λ o. (F : Formula) (plan : Plan) → IsReadyBy plan.search F (Focused s) → budget ≡ budget_of plan.budget Q → IsOver F.vars Q → OutcomeSays plan.search F Q (outcome_of o))
+    → IfOk r (λ o. (F : Formula) (search : Search) (B : ℕ) → IsReadyBy search F (Focused s) → budget ≡ budget_of B Q → IsOver F.vars Q → OutcomeSays search F Q (outcome_of o))
 says-focused Q budget s begun (Err e) begins runs = tt
-says-focused Q budget s begun (Ok o) begins runs = λ F plan. go F plan.search plan.budget
+says-focused Q budget s begun (Ok o) begins runs = go
   where
     go : (F : Formula) (which : Search) (B : ℕ) → IsReadyBy which F (Focused s) → budget ≡ budget_of B Q → IsOver F.vars Q → OutcomeSays which F Q (outcome_of o)
     go F ordered B ready is over = absurd ready
     go F (focused c) B ready is over =
         let b = begins F ready.0 in
-        IsBegun-says ByPlace F (record { search = focused c; budget = B }) Q begun.kernel (outcome_of o) (record {
+        IsBegun-says ByPlace (focused c) F B Q begun.kernel (outcome_of o) (record {
           ready = b.ready;
           searching = b.focusing.searching;
           clauses = ap (λ (t : FocusedState). t.clauses) b.begun;
           trail = ap (λ (t : FocusedState). t.trail) b.begun;
-        }) over (record {
-          by = rw ready.2 at (rw (b.constants, b.ready.vars, is, b.begun) at (runs (map (λ v. false) (variables F.vars)) b.saves));
-        })
+        }) over (rw ready.2 at (rw (b.constants, b.ready.vars, is, b.begun) at (runs (map (λ v. false) (variables F.vars)) b.saves)))

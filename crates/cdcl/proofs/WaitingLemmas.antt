@@ -1,11 +1,11 @@
 -- Which variables wait, and which values are saved, as entries are taken off the trail.
-use Rattle.std.proofs.Common.{◌≡◌, ℕ, suc, zero, ◌+◌, ◌-◌, ◌<◌, ◌≤◌, Bool, true, false, ◌||◌, List, [], ◌∷◌, ◌++◌, map, length, take, get_or, slice_get, slice_set, refl, ap, sym, subst, ◌∙◌, nat_eq, eqb-true, eq-eqb, Some, None, Option, unwrap_or, option_map, arith, inl, inr, if◌then◌else◌, cond, ◌⊎◌, count_by, All, filter, nat_le}
+use Rattle.std.proofs.Common.{◌≡◌, ℕ, suc, zero, ◌+◌, ◌-◌, ◌<◌, ◌≤◌, Bool, true, false, ◌||◌, List, [], ◌∷◌, length, take, get_or, slice_get, slice_set, refl, ap, sym, subst, ◌∙◌, nat_eq, eqb-true, eq-eqb, Some, None, Option, unwrap_or, option_map, arith, inl, inr, if◌then◌else◌, cond, ◌⊎◌, count_by, All, filter, nat_le}
 use Rattle.std.proofs.Math.Seq.{take-length}
 use Rattle.std.proofs.lemmas.Bool.{cases_eq}
 use Rattle.std.proofs.lemmas.List.Sums.{sum_by-set}
 use Rattle.std.proofs.lemmas.List.Elements.{All-nil, All-cons, All-head, All-tail, All-push, All-weaker}
 use Rattle.theory.proofs.literals.OverVariables.{AreOver-from_IsOver}
-use Rattle.std.proofs.lemmas.List.{get_or-set_same, get_or-set_other, length-set, map-append}
+use Rattle.std.proofs.lemmas.List.{get_or-set_same, get_or-set_other, length-set}
 use Rattle.theory.specs.Literals.{Literal, Clause, IsVariable, has, has_var, positive}
 use Rattle.theory.specs.Truth.{Assignment, IsOver, value}
 use Rattle.theory.specs.Scores.{Scores, score_of, better, best_of}
@@ -13,49 +13,13 @@ use Rattle.theory.specs.Trails.{Trail, Entry, literals, entry_of, variables}
 use Rattle.theory.specs.Lawful.{IsLawful}
 use Rattle.theory.specs.Focused.{saved_after}
 use Rattle.theory.proofs.literals.LiteralSets.{true_false, false_unless, has_var-has, or-none}
-use Rattle.theory.proofs.searching.ModelLemmas.{length-variables}
+use Rattle.theory.proofs.searching.MappedVariables.{at-variable}
 use Rattle.heuristics.specs.Rankings.{Ranking, vars_of, waits, with_waiting, best_waiting}
 use Rattle.cdcl.specs.Saving.{AgreeOutside, AreWaiting}
 use Rattle.cdcl.specs.declared.decisions.Decisions.{Decisions}
 use Rattle.cdcl.proofs.PlaceLemmas.{placed-there, placed-is, place-below, entry_of-placed}
 use Rattle.cdcl.proofs.TrailFronts.{has_var-last}
 use Rattle.cdcl.proofs.TrailValues.{has-value, entry_of-there}
-
--- what stands at the place of a variable
-pub at-variable : {X : Type 0} (f : ℕ → X) (V v : ℕ) (d : X) → IsVariable V v → get_or (map f (variables V)) (v - 1) d ≡ f v
-at-variable f zero v d h = absurd (let low = h.0 in let high = h.1 in omega arith)
-at-variable f (suc V) v d h = ap (λ (r : List _). get_or r (v - 1) d) (map-append f (variables V) (suc V ∷ [])) ∙ go (cases_eq v (suc V)) (at-variable f V v d)
-  where
-    left : {X : Type 0} (xs ys : List X) (i : ℕ) (d : X) → i < length xs → get_or (xs ++ ys) i d ≡ get_or xs i d
-    left [] ys i d h = absurd (omega arith)
-    left (x ∷ xs) ys zero d h = refl
-    left (x ∷ xs) ys (suc i) d h = left xs ys i d (omega arith)
-
-    end : {X : Type 0} (xs : List X) (y d : X) (i : ℕ) → i ≡ length xs → get_or (xs ++ y ∷ []) i d ≡ y
-    end [] y d i e = rw e refl
-    end (x ∷ xs) y d i e = rw e (end xs y d (length xs) refl)
-
-    many : length (map f (variables V)) ≡ V
-    many = same (variables V) ∙ length-variables V
-      where
-        same : (xs : List ℕ) → length (map f xs) ≡ length xs
-        same [] = refl
-        same (x ∷ xs) = ap suc (same xs)
-
-    go : (v ≡ suc V) ⊎ (v ≡ suc V → ⊥) → (IsVariable V v → get_or (map f (variables V)) (v - 1) d ≡ f v) → get_or (map f (variables V) ++ f (suc V) ∷ []) (v - 1) d ≡ f v
-    go (inl e) more = end (map f (variables V)) (f (suc V)) d (v - 1) (omega (arith, e, many)) ∙ ap f (sym e)
-    go (inr other) more =
-        let low = h.0 in
-        let high = h.1 in
-        let less : v ≤ V = omega (arith, other) in
-        left (map f (variables V)) (f (suc V) ∷ []) (v - 1) d (omega (arith, many)) ∙ more (low, less)
-
-pub length-mapped : {X : Type 0} (f : ℕ → X) (V : ℕ) → length (map f (variables V)) ≡ V
-length-mapped f V = same (variables V) ∙ length-variables V
-  where
-    same : (xs : List ℕ) → length (map f xs) ≡ length xs
-    same [] = refl
-    same (x ∷ xs) = ap suc (same xs)
 
 -- the values saved at a conflict
 pub value-saved : (V : ℕ) (T : Trail) (M : Assignment) (v : ℕ) → IsVariable V v → value (saved_after V T M) v ≡ (if has_var (literals T) v then has (literals T) (positive v) else value M v)

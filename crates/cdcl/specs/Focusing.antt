@@ -24,6 +24,7 @@ state_of s saved = record {
   clauses = s.kernel.clauses;
   trail = s.kernel.trail;
   conflicts = s.conflicts;
+  decisions = s.decided;
   lines = s.lines;
   glues = s.glues.items;
   scores = s.decisions.scores.scores;
@@ -45,14 +46,16 @@ pub record IsEquipped (s : FocusedSearch) : Type 0 where
   pub scored : s.decisions.scores.constants ≡ s.constants
   pub averaged : s.averages.constants ≡ s.constants
 
--- what it keeps from step to step: each score gains less than 2 ^ 40 at a conflict, and each glue
--- is at most 2 ^ 20
+-- what it keeps from step to step: each score gains less than 2 ^ 40 at a conflict, each glue is at
+-- most 2 ^ 20, and between two conflicts fewer than 2 ^ 18 literals are decided, each of which is on
+-- the trail
 pub record IsFocusing (s : FocusedSearch) : Type 0 where
   pub searching : IsSearching ByPlace s.kernel
   pub few : s.kernel.vars ≤ max_vars
   pub equipped : IsEquipped s
   pub scores : All (λ x. x ≤ s.conflicts * 2 ^ 40) s.decisions.scores.scores.scores
   pub total : s.averages.glues.total ≤ s.conflicts * 2 ^ 20
+  pub decided : s.decided ≤ s.conflicts * 2 ^ 18 + length s.kernel.trail
   -- behind the first clauses stand those of the lines, each with its glue
   pub learnt : length s.kernel.clauses ≡ s.kernel.first + length s.lines
   pub glues : length s.glues.items ≡ length s.lines

@@ -34,6 +34,8 @@ pub(crate) struct FocusedSearch {
     pub(crate) kernel: Kernel,
     /// How many conflicts above level 0 were counted.
     pub(crate) conflicts: u32,
+    /// How many literals were decided, also those that were taken back.
+    pub(crate) decided: u64,
     /// The lines learnt, also those of clauses that were forgotten.
     pub(crate) lines: Row,
     /// The glues of these lines.
@@ -55,6 +57,7 @@ impl Drop for FocusedSearch {
             constants: _,
             kernel: _,
             conflicts: _,
+            decided: _,
             lines: _,
             glues: _,
             decisions: _,
@@ -156,6 +159,7 @@ impl FocusedSearch {
             constants,
             kernel,
             conflicts: 0,
+            decided: 0,
             lines: Row::new(alloc),
             glues: Vec::new(alloc),
             decisions,
@@ -176,6 +180,7 @@ impl FocusedSearch {
         self.decisions.begin_again();
         self.kernel.restart(cube)?;
         self.conflicts = 0;
+        self.decided = 0;
         self.lines.clear();
         self.glues.clear();
         self.averages.begin_again();
@@ -237,6 +242,7 @@ impl FocusedSearch {
             }
             Some(var) => {
                 self.kernel.decide(self.decisions.literal(var));
+                self.decided += 1;
                 let _trail = self.kernel.trail(); // it ensures what the proof needs of the trail
                 Ok(None)
             }

@@ -18,8 +18,8 @@ pub enum Search {
     Focused,
 }
 
-/// A search, and the budget of the root: 1 to 100,000 conflicts. Formula and plan fix the answer
-/// and the proof, byte for byte.
+/// A search, and the budget of the root: 1 to 100,000 conflicts. No plan divides a formula by
+/// lookahead yet. Formula and plan fix the answer and the proof, byte for byte.
 #[derive(Clone, Copy, Debug, PartialEq, Eq)]
 pub struct Plan {
     search: Search,
@@ -36,7 +36,7 @@ impl Model for Plan {
 
     ghost Value = { plans.Plan };
 
-    ghost view = { λ p. record { search = search_of p.search p.constants; budget = p.budget } };
+    ghost view = { λ p. record { search = search_of p.search p.constants; budget = p.budget; divide = 0 } };
 
     ghost invariant = { λ p. (1 ≤ p.budget) × (p.budget ≤ 100000) × AreInRange p.constants
         × (constants_from (search_of p.search p.constants) ≡ p.constants) };
@@ -63,7 +63,7 @@ impl Plan {
     /// root.
     pub fn focused(budget: u32) -> Plan
         requires { (1 ≤ budget) × (budget ≤ 100000) }
-        ensures { result ≡ record { search = focused default_constants; budget = budget } }
+        ensures { result ≡ record { search = focused default_constants; budget = budget; divide = 0 } }
     {
         Plan::focused_by(budget, Constants::default())
     }
@@ -71,7 +71,7 @@ impl Plan {
     /// The focused search with other numbers.
     pub fn focused_by(budget: u32, constants: Constants) -> Plan
         requires { (1 ≤ budget) × (budget ≤ 100000) }
-        ensures { result ≡ record { search = focused constants; budget = budget } }
+        ensures { result ≡ record { search = focused constants; budget = budget; divide = 0 } }
     {
         constants.are_in_range();
         Plan {
@@ -79,6 +79,13 @@ impl Plan {
             budget,
             constants,
         }
+    }
+
+    /// It divides no formula.
+    pub(crate) fn divides_none(&self)
+        ensures { self.now.divide ≡ 0 }
+    {
+        let _search = &self.search; // so the proof knows the view
     }
 
     /// The search.

@@ -1,9 +1,9 @@
 //! The search of a plan.
-ghost use Rattle.std.specs.Prelude.{◌≡◌, ◌≤◌, IfOk, OnOk};
+ghost use Rattle.std.specs.Prelude.{◌≡◌, ℕ, ◌≤◌, IfOk, OnOk};
 ghost use Rattle.theory.specs.Truth.{Formula, IsOver};
 ghost use Rattle.theory.specs.Plans as plans;
 ghost use Rattle.theory.specs.Search.{budget_of, max_budget};
-ghost use Rattle.theory.specs.Runs.{Runs};
+ghost use Rattle.theory.specs.Runs.{RunsBy};
 ghost use Rattle.theory.specs.Results.{OutcomeSays};
 ghost use Rattle.cdcl.specs.Outcome.{outcome_of};
 ghost use Rattle.cdcl.specs.Solving.{IsReadyBy};
@@ -56,10 +56,10 @@ impl Searcher {
     ) -> Result<Outcome<Row>, AllocError>
         requires ready { (F : Formula) × (search : plans.Search) × IsReadyBy search F self.old × IsOver F.vars cube.now }
         requires budget { (1 ≤ budget) × (budget ≤ max_budget) }
-        ensures runs { IfOk result (λ o. (F : Formula) (plan : plans.Plan) → IsReadyBy plan.search F self.old → budget ≡ budget_of plan.budget cube.now →
-            Runs F plan cube.now (outcome_of o)) }
-        ensures says { IfOk result (λ o. (F : Formula) (plan : plans.Plan) → IsReadyBy plan.search F self.old → budget ≡ budget_of plan.budget cube.now →
-            IsOver F.vars cube.now → OutcomeSays plan.search F cube.now (outcome_of o)) }
+        ensures runs { IfOk result (λ o. (F : Formula) (search : plans.Search) (B : ℕ) → IsReadyBy search F self.old → budget ≡ budget_of B cube.now →
+            RunsBy search F B cube.now (outcome_of o)) }
+        ensures says { IfOk result (λ o. (F : Formula) (search : plans.Search) (B : ℕ) → IsReadyBy search F self.old → budget ≡ budget_of B cube.now →
+            IsOver F.vars cube.now → OutcomeSays search F cube.now (outcome_of o)) }
         ensures ready { OnOk result ((F : Formula) (search : plans.Search) → IsReadyBy search F self.old → IsReadyBy search F self.new) }
     {
         match self {

@@ -113,6 +113,7 @@ impl Solver {
         if watcher.stops() {
             return Err(AllocError);
         }
+        self.plan.divides_none();
         let conflicts = budget_of(self.plan.budget(), cube.lits().len());
         let outcome = self.search.solve(cube, conflicts, watcher)?;
         watcher.counted(self.search.counts());

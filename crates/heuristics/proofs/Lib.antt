@@ -1,7 +1,7 @@
 pub mod TournamentLemmas
 pub mod RaisedScores
 pub mod RankingLemmas
-pub mod BestOnes
+pub mod WaitingOnes
 pub mod RankingViews
 pub mod RecentGlues
 pub mod CandidateOrder

@@ -13,7 +13,7 @@ use Rattle.theory.proofs.searching.ModelLemmas.{length-variables}
 use Rattle.heuristics.specs.Tournaments.{Beats, IsField, IsPlayedBut}
 use Rattle.heuristics.specs.Rankings.{Ranking, ranking, waits, waiting_in, first_ranking, with_waiting, with_gains}
 use Rattle.heuristics.proofs.TournamentLemmas.{root-beats, node-from-leaf}
-use Rattle.heuristics.proofs.BestOnes.{IsTop, best_of-top, best_of-nobody}
+use Rattle.theory.proofs.searching.BestOnes.{IsTop, best_of-top, best_of-nobody}
 
 -- the variables by their places
 at-place : (V i : ℕ) → i < V → slice_index (variables V) i ≡ i + 1

@@ -38,3 +38,6 @@ pub mod FocusedRows
 pub mod RandomRows
 pub mod OutcomeLemmas
 pub mod FoundModels
+pub mod BestOnes
+pub mod LookedCubes
+pub mod MappedVariables

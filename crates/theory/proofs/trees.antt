@@ -11,3 +11,4 @@ pub mod CubePlaces
 pub mod WholeLists
 pub mod OneResult
 pub mod Assemblies
+pub mod Divisions

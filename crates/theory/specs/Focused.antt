@@ -14,12 +14,14 @@ use Rattle.theory.specs.Scores.{Scores, first_scores, best_outside, is_seen, sco
 use Rattle.theory.specs.Restarts.{glue, Glues, no_glues, with_glue, restarts, restarted}
 use Rattle.theory.specs.Forgetting.{Schedule, first_schedule, is_due, rescheduled, forget_half}
 
--- its state: the clauses, the trail, the conflicts counted, the lines learnt with their glues, and
--- what choices are made by
+-- its state: the clauses, the trail, the conflicts and the decisions counted, the lines learnt with
+-- their glues, and what choices are made by
 pub record FocusedState : Type 0 where
   pub clauses : List Clause
   pub trail : Trail
   pub conflicts : ℕ
+  -- also those that were taken back
+  pub decisions : ℕ
   pub lines : List Line
   pub glues : List ℕ
   pub scores : Scores
@@ -33,6 +35,7 @@ begin c F Q = record {
   clauses = first_clauses F;
   trail = cube_trail Q;
   conflicts = 0;
+  decisions = 0;
   lines = [];
   glues = [];
   scores = first_scores c F.vars;
@@ -47,7 +50,7 @@ saved_literal saved x = record { var = x; positive = value saved x }
 
 -- the free variable of greatest score gets its saved value
 abbrev pub decided_next : FocusedState → ℕ → FocusedState
-decided_next s x = record s { trail = decide s.trail (saved_literal s.saved x) }
+decided_next s x = record s { trail = decide s.trail (saved_literal s.saved x); decisions = s.decisions + 1 }
 
 abbrev pub on_quiet : ℕ → FocusedState → Option ℕ → Next FocusedState
 on_quiet V s None = ends (model (values V s.trail))
@@ -70,6 +73,7 @@ learnt_next c V s line =
       clauses = (if is_due s.schedule n then forget_half c trail s.glues s.clauses else s.clauses) ++ line.clause ∷ [];
       trail = trail;
       conflicts = n;
+      decisions = s.decisions;
       lines = s.lines ++ line ∷ [];
       glues = s.glues ++ g ∷ [];
       scores = scores_after c V (is_seen s.clauses s.trail line.hints) s.scores;

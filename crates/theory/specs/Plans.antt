@@ -37,11 +37,17 @@ pub data Search : Type 0 where
   ordered : Search
   focused : Constants → Search
 
--- the search, and the budget of the root
+-- the search, the budget of the root, and into how many cubes a formula is divided before they are
+-- searched; 0 and 1 divide none
 pub record Plan : Type 0 where
   pub search : Search
   pub budget : ℕ
+  pub divide : ℕ
 
 -- the ordered search, with this budget
 abbrev pub ordered_within : ℕ → Plan
-ordered_within B = record { search = ordered; budget = B }
+ordered_within B = record { search = ordered; budget = B; divide = 0 }
+
+-- the same plan, which divides no formula
+abbrev pub undivided : Plan → Plan
+undivided plan = record plan { divide = 0 }

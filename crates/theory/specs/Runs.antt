@@ -1,4 +1,5 @@
--- The outcome of a cube, by the plan's search. A search that is added gets one line here.
+-- The outcome of a cube by a plan: that of the plan's search, or, where the plan divides the
+-- formula, that of a look. A search that is added gets one line here.
 use Rattle.std.specs.Prelude.{ℕ, List}
 use Rattle.theory.specs.Literals.{Literal}
 use Rattle.theory.specs.Truth.{Formula}
@@ -6,11 +7,14 @@ use Rattle.theory.specs.Plans.{Search, ordered, focused, Plan}
 use Rattle.theory.specs.Search.{Outcome}
 use Rattle.theory.specs.Ordered.{RunsOrdered}
 use Rattle.theory.specs.Focused.{RunsFocused}
+use Rattle.theory.specs.Looking.{Looks}
+use Rattle.theory.specs.Dividing.{IsLookedAt}
 
 abbrev pub RunsBy : Search → Formula → ℕ → List Literal → Outcome → Type 0
 RunsBy ordered F B Q o = RunsOrdered F B Q o
 RunsBy (focused c) F B Q o = RunsFocused c F B Q o
 
 -- the outcome of the cube Q
-pub record Runs (F : Formula) (plan : Plan) (Q : List Literal) (o : Outcome) : Type 0 where
-  pub by : RunsBy plan.search F plan.budget Q o
+pub data Runs (F : Formula) (plan : Plan) (Q : List Literal) (o : Outcome) : Type 0 where
+  by_search : ¬ (IsLookedAt F plan Q) → RunsBy plan.search F plan.budget Q o → Runs F plan Q o
+  by_look : IsLookedAt F plan Q → Looks F Q o → Runs F plan Q o

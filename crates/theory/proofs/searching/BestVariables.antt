@@ -67,7 +67,7 @@ find-filter p (v ∷ vs) h = go (p v) h (find-filter p vs)
     go true q more = absurd (cc)
     go false q more = more q
 
-in-variables : (V x : ℕ) → list_any (nat_eq x) (variables V) ≡ true → IsVariable V x
+pub in-variables : (V x : ℕ) → list_any (nat_eq x) (variables V) ≡ true → IsVariable V x
 in-variables zero x h = absurd (cc)
 in-variables (suc V) x h = elim (or-cases (list_any (nat_eq x) (variables V)) (list_any (nat_eq x) (suc V ∷ [])) (sym (list_any-append (nat_eq x) (variables V) (suc V ∷ [])) ∙ h)) [
   | inl i ↦ wider (in-variables V x i)

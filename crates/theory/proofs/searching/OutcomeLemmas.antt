@@ -1,5 +1,5 @@
 -- What the outcome of a cube says, by each search.
-use Rattle.std.proofs.Common.{◌≡◌, ℕ, false, List, length, IsTrue}
+use Rattle.std.proofs.Common.{◌≡◌, ℕ, false, List, length, refl, IsTrue}
 use Rattle.theory.specs.Literals.{Literal, IsVariable, has_var, IsCube}
 use Rattle.theory.specs.Truth.{Formula, Assignment, IsFormula, IsOver, Satisfies, AreTrue, value}
 use Rattle.theory.specs.FirstModel.{comes_before, IsFoundIn}
@@ -7,7 +7,9 @@ use Rattle.theory.specs.Plans.{Search, ordered, focused, Plan}
 use Rattle.theory.specs.Learning.{Line}
 use Rattle.theory.specs.Search.{Outcome, model, refuted, exhausted, first_clauses, searched}
 use Rattle.theory.specs.Replaying.{AreRefutation}
-use Rattle.theory.specs.Runs.{RunsBy, Runs}
+use Rattle.theory.specs.Looking.{Looks}
+use Rattle.theory.specs.Dividing.{IsDivisibleBy, IsLookedAt}
+use Rattle.theory.specs.Runs.{RunsBy, Runs, by_search, by_look}
 use Rattle.theory.specs.Results.{OutcomeSays}
 use Rattle.theory.proofs.searching.CubeOutcomes.{CubeSays}
 use Rattle.theory.proofs.trees.FirstModel.{model-satisfies, model-first}
@@ -15,6 +17,7 @@ use Rattle.theory.proofs.searching.SearchSoundness.{refuted-unsatisfiable}
 use Rattle.theory.proofs.searching.SplitSoundness.{exhausted-free}
 use Rattle.theory.proofs.searching.FocusedSplits.{RunsFocused-exhausted}
 use Rattle.theory.proofs.searching.OrderedOutcomes.{RunsOrdered-says}
+use Rattle.theory.proofs.searching.LookedCubes.{Looks-says, Looks-refuted, Looks-satisfies, Looks-exhausted}
 use Rattle.theory.proofs.searching.FocusedOutcomes.{RunsFocused-says, RunsFocused-refuted, RunsFocused-satisfies}
 
 RunsBy-refuted : (search : Search) (F : Formula) (B : ℕ) (Q : List Literal) (lines : List Line) → IsCube Q → RunsBy search F B Q (refuted lines)
@@ -53,29 +56,56 @@ RunsBy-found (focused c) F B Q M formed cube over runs = record {
   cube = (RunsFocused-says c F B Q (model M) formed cube over runs).2;
 }
 
-RunsBy-says : (search : Search) (F : Formula) (B : ℕ) (Q : List Literal) (o : Outcome) → IsFormula F → IsCube Q → IsOver F.vars Q → RunsBy search F B Q o → OutcomeSays search F Q o
+pub RunsBy-says : (search : Search) (F : Formula) (B : ℕ) (Q : List Literal) (o : Outcome) → IsFormula F → IsCube Q → IsOver F.vars Q → RunsBy search F B Q o → OutcomeSays search F Q o
 RunsBy-says search F B Q (model M) formed cube over runs = RunsBy-found search F B Q M formed cube over runs
 RunsBy-says search F B Q (refuted lines) formed cube over runs = (RunsBy-refuted search F B Q lines cube runs, RunsBy-cube search F B Q (refuted lines) formed cube over runs)
 RunsBy-says search F B Q (exhausted x) formed cube over runs = RunsBy-exhausted search F B Q x runs
 
+-- a formula isn't divided by the ordered search
+IsDivisibleBy-search : (search : Search) (F : Formula) (t : ℕ) → IsDivisibleBy search F t → search ≡ ordered → ⊥
+IsDivisibleBy-search ordered F t d i = d
+IsDivisibleBy-search (focused c) F t d i = cc
+
+pub IsLookedAt-search : (F : Formula) (plan : Plan) (Q : List Literal) → IsLookedAt F plan Q → plan.search ≡ ordered → ⊥
+IsLookedAt-search F plan Q l i = IsDivisibleBy-search plan.search F _ l.divisible.by i
+
+-- the same by a look
+looked-found : (search : Search) (F : Formula) (Q : List Literal) (M : Assignment) → (search ≡ ordered → ⊥) → IsFormula F → IsCube Q → IsOver F.vars Q → Looks F Q (model M)
+    → IsFoundIn search (searched F) Q M
+looked-found ordered F Q M never formed cube over looks = absurd (never refl)
+looked-found (focused c) F Q M never formed cube over looks = record {
+  satisfies = Looks-satisfies F Q M formed looks;
+  cube = (Looks-says F Q (model M) formed cube over looks).2;
+}
+
+looked-says : (search : Search) (F : Formula) (Q : List Literal) (o : Outcome) → (search ≡ ordered → ⊥) → IsFormula F → IsCube Q → IsOver F.vars Q → Looks F Q o → OutcomeSays search F Q o
+looked-says search F Q (model M) never formed cube over looks = looked-found search F Q M never formed cube over looks
+looked-says search F Q (refuted lines) never formed cube over looks = (Looks-refuted F Q lines cube looks, Looks-says F Q (refuted lines) formed cube over looks)
+looked-says search F Q (exhausted x) never formed cube over looks = Looks-exhausted F Q x looks
+
 -- the same by a plan
 pub Runs-refuted : (F : Formula) (plan : Plan) (Q : List Literal) (lines : List Line) → IsCube Q → Runs F plan Q (refuted lines)
     → (M : Assignment) → Satisfies (searched F) M → AreTrue (value M) Q → ⊥
-Runs-refuted F plan Q lines cube runs = RunsBy-refuted plan.search F plan.budget Q lines cube runs.by
+Runs-refuted F plan Q lines cube (by_search n runs) = RunsBy-refuted plan.search F plan.budget Q lines cube runs
+Runs-refuted F plan Q lines cube (by_look l looks) = Looks-refuted F Q lines cube looks
 
 pub Runs-satisfies : (F : Formula) (plan : Plan) (Q : List Literal) (M : Assignment) → IsFormula F → Runs F plan Q (model M) → Satisfies (searched F) M
-Runs-satisfies F plan Q M formed runs = RunsBy-satisfies plan.search F plan.budget Q M formed runs.by
+Runs-satisfies F plan Q M formed (by_search n runs) = RunsBy-satisfies plan.search F plan.budget Q M formed runs
+Runs-satisfies F plan Q M formed (by_look l looks) = Looks-satisfies F Q M formed looks
 
 pub Runs-first : (F : Formula) (plan : Plan) (Q : List Literal) (M N : Assignment) → plan.search ≡ ordered → IsCube Q → Runs F plan Q (model M)
     → Satisfies (searched F) N → AreTrue (value N) Q → ¬ (IsTrue (comes_before N M))
-Runs-first F plan Q M N it cube runs = RunsBy-first plan.search F plan.budget Q M N it cube runs.by
+Runs-first F plan Q M N it cube (by_search n runs) = RunsBy-first plan.search F plan.budget Q M N it cube runs
+Runs-first F plan Q M N it cube (by_look l looks) = absurd (IsLookedAt-search F plan Q l it)
 
 pub Runs-says : (F : Formula) (plan : Plan) (Q : List Literal) (o : Outcome) → IsFormula F → IsCube Q → IsOver F.vars Q → Runs F plan Q o → OutcomeSays plan.search F Q o
-Runs-says F plan Q o formed cube over runs = RunsBy-says plan.search F plan.budget Q o formed cube over runs.by
+Runs-says F plan Q o formed cube over (by_search n runs) = RunsBy-says plan.search F plan.budget Q o formed cube over runs
+Runs-says F plan Q o formed cube over (by_look l looks) = looked-says plan.search F Q o (IsLookedAt-search F plan Q l) formed cube over looks
 
 -- A cube's model makes the cube true.
 pub Runs-cube : (F : Formula) (plan : Plan) (Q : List Literal) (M : Assignment) → IsFormula F → IsCube Q → IsOver F.vars Q → Runs F plan Q (model M) → AreTrue (value M) Q
-Runs-cube F plan Q M formed cube over runs = (RunsBy-cube plan.search F plan.budget Q (model M) formed cube over runs.by).2
+Runs-cube F plan Q M formed cube over (by_search n runs) = (RunsBy-cube plan.search F plan.budget Q (model M) formed cube over runs).2
+Runs-cube F plan Q M formed cube over (by_look l looks) = (Looks-says F Q (model M) formed cube over looks).2
 
 -- A refuted cube's lines replay, and the last one's clause is empty.
 pub Runs-AreRefutation : (F : Formula) (plan : Plan) (Q : List Literal) (lines : List Line) → IsFormula F → IsCube Q → IsOver F.vars Q
@@ -84,4 +114,5 @@ Runs-AreRefutation F plan Q lines formed cube over runs = (Runs-says F plan Q (r
 
 -- A cube is exhausted in a variable of the formula that isn't the cube's.
 pub Runs-exhausted : (F : Formula) (plan : Plan) (Q : List Literal) (x : ℕ) → Runs F plan Q (exhausted x) → IsVariable F.vars x × (has_var Q x ≡ false)
-Runs-exhausted F plan Q x runs = RunsBy-exhausted plan.search F plan.budget Q x runs.by
+Runs-exhausted F plan Q x (by_search n runs) = RunsBy-exhausted plan.search F plan.budget Q x runs
+Runs-exhausted F plan Q x (by_look l looks) = Looks-exhausted F Q x looks

@@ -5,11 +5,11 @@ use Rattle.theory.specs.Truth.{Formula, Assignment, IsFormula, Satisfies, AreTru
 use Rattle.theory.specs.FirstModel.{comes_before, IsFound}
 use Rattle.theory.specs.Plans.{Search, ordered, focused, Plan}
 use Rattle.theory.specs.Search.{exhausted, searched}
-use Rattle.theory.specs.Runs.{RunsBy, Runs}
+use Rattle.theory.specs.Runs.{RunsBy, Runs, by_search, by_look}
 use Rattle.theory.specs.Trees.{false_half, true_half, IsFirstLeaf, here, on_left, on_right, Result, model_of, tree_of, IsResult}
 use Rattle.theory.specs.Results.{ResultSays}
 use Rattle.theory.proofs.trees.FirstModel.{Differ, differ}
-use Rattle.theory.proofs.searching.OutcomeLemmas.{Runs-satisfies, Runs-first, Runs-cube, Runs-exhausted}
+use Rattle.theory.proofs.searching.OutcomeLemmas.{IsLookedAt-search, Runs-satisfies, Runs-first, Runs-cube, Runs-exhausted}
 use Rattle.theory.proofs.trees.TreeSoundness.{push-over, tree-unsatisfiable}
 use Rattle.theory.proofs.searching.AgreeingModels.{exhausted-agree}
 use Rattle.theory.proofs.searching.PureModels.{IsFirst-searched, Satisfies-searched, Satisfiable-searched}
@@ -47,7 +47,8 @@ RunsBy-agree (focused k) F B Q x M N i c r = absurd (cc)
 -- and the cube agrees
 Runs-agree : (F : Formula) (plan : Plan) (Q : List Literal) (x : ℕ) (M N : Assignment) → plan.search ≡ ordered → IsCube Q → Runs F plan Q (exhausted x) → Satisfies (searched F) M → AreTrue (value M) Q
     → Satisfies (searched F) N → AreTrue (value N) Q → (u : ℕ) → 1 ≤ u → u < x → value M u ≡ value N u
-Runs-agree F plan Q x M N i c r = RunsBy-agree plan.search F plan.budget Q x M N i c r.by
+Runs-agree F plan Q x M N i c (by_search n r) = RunsBy-agree plan.search F plan.budget Q x M N i c r
+Runs-agree F plan Q x M N i c (by_look l r) = absurd (IsLookedAt-search F plan Q l i)
 
 front-true : (m : ℕ → Bool) (Q R : List Literal) → AreTrue m (Q ++ R) → AreTrue m Q × AreTrue m R
 front-true m [] R h = (tt, h)

@@ -7,11 +7,12 @@ use Rattle.theory.specs.Trails.{Trail}
 use Rattle.theory.specs.Propagation.{Closed, by_number}
 use Rattle.theory.specs.Search.{Outcome, Next}
 use Rattle.theory.specs.Ordered.{OrderedState, begin, after, IsOrderedStep}
-use Rattle.theory.specs.Runs.{RunsBy, Runs}
+use Rattle.theory.specs.Runs.{RunsBy, Runs, by_search, by_look}
 use Rattle.theory.specs.Trees.{Tree, satisfied, refutation, split, IsTree, false_half, true_half, first_model, or_else, IsFirstLeaf, here, on_left, on_right}
 use Rattle.theory.proofs.searching.PropagationLemmas.{Propagates-unique}
 use Rattle.theory.proofs.searching.RunLemmas.{RunsFrom-unique}
 use Rattle.theory.proofs.searching.FocusedRuns.{RunsFocused-unique}
+use Rattle.theory.proofs.searching.LookedCubes.{Looks-unique}
 
 -- a state of the ordered search has one step
 IsOrderedStep-unique : (V budget : ℕ) (s : OrderedState) (m n : Next OrderedState) → IsOrderedStep V budget s m → IsOrderedStep V budget s n → m ≡ n
@@ -24,7 +25,10 @@ RunsBy-unique ordered F B Q o p h k = RunsFrom-unique (IsOrderedStep F.vars _) (
 RunsBy-unique (focused c) F B Q o p h k = RunsFocused-unique c F B Q o p h k
 
 pub Runs-unique : (F : Formula) (plan : Plan) (Q : List Literal) (o p : Outcome) → Runs F plan Q o → Runs F plan Q p → o ≡ p
-Runs-unique F plan Q o p h k = RunsBy-unique plan.search F plan.budget Q o p h.by k.by
+Runs-unique F plan Q o p (by_search n h) (by_search m k) = RunsBy-unique plan.search F plan.budget Q o p h k
+Runs-unique F plan Q o p (by_search n h) (by_look l k) = absurd (n l)
+Runs-unique F plan Q o p (by_look l h) (by_search n k) = absurd (n l)
+Runs-unique F plan Q o p (by_look l h) (by_look m k) = Looks-unique F Q o p h k
 
 -- a cube has one tree
 pub IsTree-unique : (F : Formula) (plan : Plan) (Q : List Literal) (t u : Tree) → IsTree F plan Q t → IsTree F plan Q u → t ≡ u

@@ -1,4 +1,4 @@
-use Rattle.heuristics.proofs.BestOnes.{best_outside-waiting, best_outside-nobody}
+use Rattle.heuristics.proofs.WaitingOnes.{best_outside-waiting, best_outside-nobody}
 use Rattle.heuristics.proofs.laws.best_waiting_is_best.Goals as goal
 
 pub returns-clause-some : goal.returns-clause-some

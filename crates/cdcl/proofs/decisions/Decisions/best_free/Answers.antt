@@ -1,6 +1,6 @@
 use Rattle.std.proofs.Common.{◌∙◌, ap, sym, arith}
 use Rattle.theory.specs.Trails.{literals}
-use Rattle.heuristics.proofs.BestOnes.{best_outside-waiting, best_outside-nobody}
+use Rattle.heuristics.proofs.WaitingOnes.{best_outside-waiting, best_outside-nobody}
 use Rattle.heuristics.specs.Rankings.{Ranking}
 use Rattle.cdcl.proofs.WaitingLemmas.{free-none, there-some, fewer-wait, best-waits, AreWaiting-out}
 use Rattle.cdcl.proofs.decisions.Decisions.best_free.Goals as goal

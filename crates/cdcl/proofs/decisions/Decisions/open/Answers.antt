@@ -1,5 +1,5 @@
 use Rattle.std.proofs.Common.{ℕ, true, false}
-use Rattle.cdcl.proofs.WaitingLemmas.{at-variable, length-mapped}
+use Rattle.theory.proofs.searching.MappedVariables.{at-variable, length-mapped}
 use Rattle.cdcl.proofs.decisions.Decisions.open.Goals as goal
 
 pub returns-clause-waiting : goal.returns-clause-waiting

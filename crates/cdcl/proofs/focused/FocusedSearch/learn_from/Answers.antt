@@ -28,6 +28,7 @@ learning : (c : In_ok-push-2) → IsLearning c.args.self.now c.args.number (reco
   constants = c.forget_where_due.new.self.constants;
   kernel = c.forget_where_due.new.self.kernel;
   conflicts = c.forget_where_due.new.self.conflicts;
+  decided = c.forget_where_due.new.self.decided;
   lines = c.push.new.self;
   glues = c.push-2.new.self;
   decisions = c.forget_where_due.new.self.decisions;
@@ -64,6 +65,7 @@ learning c =
       forgot = ap (λ (s : FocusedSearch). s.kernel) whole;
       scheduled = ap (λ (s : FocusedSearch). s.schedule) whole;
       counted = ap (λ (s : FocusedSearch). s.conflicts) whole;
+      decided = ap (λ (s : FocusedSearch). s.decided) whole;
       lines = c.in_ok-push.ensures.ok ∙ (ap₂ (λ (a : Clause) (b : List ℕ). c.forget_where_due.new.self.lines ++ record { clause = a; hints = b } ∷ []) c.deref.ensures.value c.deref-2.ensures.value
           ∙ ap (λ (s : FocusedSearch). s.lines ++ record { clause = s.analysis.learnt.clause.items; hints = s.analysis.learnt.hints.items } ∷ []) whole);
       glues = c.in_ok-push-2.ensures.items ∙ ap (λ (s : FocusedSearch). s.glues.items ++ c.in_ok-glue.glue ∷ []) whole;

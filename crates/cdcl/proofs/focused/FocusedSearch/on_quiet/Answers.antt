@@ -4,6 +4,8 @@ use Rattle.theory.specs.Focused.{saved_literal}
 use Rattle.theory.proofs.searching.SearchSoundness.{Propagates-says}
 use Rattle.theory.proofs.searching.BestVariables.{best_outside-some}
 use Rattle.theory.specs.Trails.{literals, current_level}
+use Rattle.theory.proofs.literals.OverVariables.{AreOver-from_IsOver}
+use Rattle.cdcl.proofs.Progress.{length-lawful}
 use Rattle.cdcl.proofs.FocusedLemmas.{if-false}
 use Rattle.cdcl.proofs.FocusedSteps.{Follows-decided}
 use Rattle.cdcl.proofs.focused.FocusedSearch.on_quiet.Goals as goal
@@ -20,6 +22,15 @@ literal-requires-clause-small c =
     let x = best_outside-some k.vars (literals k.trail) c.args.self.now.decisions.scores.scores c.in-Some.var (sym c.best_free.ensures.best ∙ c.in-Some.is) in
     let high = x.0.1 in
     let few = c.requires.focusing.searching.few in
+    omega arith
+
+pub overflow_add-self : goal.overflow_add-self
+overflow_add-self c =
+    let k = c.args.self.now.kernel in
+    let f = c.requires.focusing in
+    let long = length-lawful k.vars k.clauses k.trail f.searching.lawful (AreOver-from_IsOver k.vars (literals k.trail) f.searching.trail_over) in
+    let few = f.few in
+    let most = f.decided in
     omega arith
 
 pub decide-requires : goal.decide-requires

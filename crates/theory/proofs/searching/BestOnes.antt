@@ -1,14 +1,11 @@
 -- The best of the variables that pass a test: the one of greatest score, of several the greatest
 -- variable.
-use Rattle.std.proofs.Common.{◌≡◌, ℕ, zero, suc, ◌<◌, ◌≤◌, Bool, true, false, not, List, [], ◌∷◌, ◌++◌, filter, refl, ap, sym, ◌∙◌, subst, nat_le, leb-true, leb-false, le-leb, Option, Some, None, inl, inr, append-nil, arith, if◌then◌else◌}
+use Rattle.std.proofs.Common.{◌≡◌, ℕ, zero, suc, ◌<◌, ◌≤◌, Bool, true, false, List, [], ◌∷◌, ◌++◌, filter, refl, ap, sym, ◌∙◌, subst, nat_le, leb-true, leb-false, le-leb, Option, Some, None, inl, inr, append-nil, arith, if◌then◌else◌}
 use Rattle.std.proofs.lemmas.Bool.{cases_eq, lt-leb}
 use Rattle.std.proofs.lemmas.List.Elements.{filter-append}
-use Rattle.theory.specs.Literals.{Literal, has_var}
 use Rattle.theory.specs.Trails.{variables}
-use Rattle.theory.specs.Scores.{Scores, score_of, better, best_of, best_outside}
+use Rattle.theory.specs.Scores.{Scores, score_of, better, best_of}
 use Rattle.theory.proofs.literals.LiteralSets.{true_false}
-use Rattle.theory.proofs.literals.LiteralLemmas.{not_true}
-use Rattle.heuristics.specs.Rankings.{Ranking, vars_of, waits, best_waiting, AllWait}
 
 -- of two, the second where it is no worse
 pushed : Scores → Option ℕ → ℕ → Option ℕ
@@ -47,10 +44,10 @@ pub record IsTop (s : Scores) (p : ℕ → Bool) (V x : ℕ) : Type 0 where
   pub passes : p x ≡ true
   pub above : (v : ℕ) → 1 ≤ v → v ≤ V → p v ≡ true → (score_of s v ≤ score_of s x) × (score_of s v ≡ score_of s x → v ≤ x)
 
-abbrev AreNone : (ℕ → Bool) → ℕ → Type 0
+abbrev pub AreNone : (ℕ → Bool) → ℕ → Type 0
 AreNone p V = (v : ℕ) → 1 ≤ v → v ≤ V → p v ≡ false
 
-abbrev IsAnswer : Scores → (ℕ → Bool) → ℕ → Option ℕ → Type 0
+abbrev pub IsAnswer : Scores → (ℕ → Bool) → ℕ → Option ℕ → Type 0
 IsAnswer s p V None = AreNone p V
 IsAnswer s p V (Some x) = IsTop s p V x
 
@@ -141,23 +138,3 @@ best_of-nobody s p V h = go (best_of s (filter p (variables V))) (best_of-is s p
     go : (o : Option ℕ) → IsAnswer s p V o → o ≡ None
     go None k = refl
     go (Some y) k = true_false (p y) k.passes (h y k.low k.high)
-
--- where all outside P wait, the best one that waits is the best one outside P, if it is outside
-pub best_outside-waiting : (r : Ranking) (P : List Literal) (x : ℕ) → AllWait r P → best_waiting r ≡ Some x → has_var P x ≡ false → best_outside (vars_of r) P r.scores ≡ Some x
-best_outside-waiting r P x all best free =
-    let top : IsTop r.scores (waits r) (vars_of r) x = subst (IsAnswer r.scores (waits r) (vars_of r)) best (best_of-is r.scores (waits r) (vars_of r)) in
-    best_of-top r.scores (λ v. not (has_var P v)) (vars_of r) x (record {
-      low = top.low;
-      high = top.high;
-      passes = ap not free;
-      above = λ v l u t. top.above v l u (all v (l, u) (not_true (has_var P v) t));
-    })
-
-pub best_outside-nobody : (r : Ranking) (P : List Literal) → AllWait r P → best_waiting r ≡ None → best_outside (vars_of r) P r.scores ≡ None
-best_outside-nobody r P all best =
-    let none : AreNone (waits r) (vars_of r) = subst (IsAnswer r.scores (waits r) (vars_of r)) best (best_of-is r.scores (waits r) (vars_of r)) in
-    best_of-nobody r.scores (λ v. not (has_var P v)) (vars_of r) (λ v l u. go v l u (has_var P v) refl none)
-  where
-    go : (v : ℕ) → 1 ≤ v → v ≤ vars_of r → (b : Bool) → has_var P v ≡ b → AreNone (waits r) (vars_of r) → not b ≡ false
-    go v l u true e none = refl
-    go v l u false e none = true_false (waits r v) (all v (l, u) e) (none v l u)

@@ -1,0 +1,234 @@
+-- What is so of a cube that is looked at: it has one outcome, which says what a search's does.
+use Rattle.std.proofs.Common.{◌≡◌, ℕ, zero, suc, ◌+◌, ◌-◌, ◌≤◌, Bool, true, false, List, [], ◌∷◌, ◌++◌, length, refl, ap, ap₂, sym, subst, ◌∙◌, nat_lt, ltb-false, Option, Some, None, inl, inr, length-append, arith, if◌then◌else◌}
+use Rattle.theory.specs.Literals.{Literal, Clause, has_var, positive, negative, IsVariable, IsCube}
+use Rattle.theory.specs.Truth.{Formula, Assignment, IsOver, IsFormula, Satisfies, AreTrue, value, are_true}
+use Rattle.theory.specs.Trails.{Trail, literals, current_level, cube_trail, decide, least_free}
+use Rattle.theory.specs.Propagation.{Closed, quiet, conflict, by_place, Propagates, Rule}
+use Rattle.theory.specs.Learning.{Line}
+use Rattle.theory.specs.Search.{Outcome, model, refuted, exhausted, first_clauses, searched, values}
+use Rattle.theory.specs.Scores.{Scores, best_outside}
+use Rattle.theory.specs.Looking.{best_ones, ranks, brought, Brings, worth, Choice, no_choice, better_choice, IsWorth, Chooses, has_chosen, fails, tries, IsChosen, SplitsInto, ComesTo, Looks}
+use Rattle.theory.specs.Kept.{IsSearchOf}
+use Rattle.theory.proofs.literals.LiteralSets.{or-false_right}
+use Rattle.theory.proofs.searching.Rules.{IsRule-by_place}
+use Rattle.theory.proofs.searching.PureVariables.{IsOver-first_clauses}
+use Rattle.theory.proofs.searching.PropagationLemmas.{Propagates-unique}
+use Rattle.theory.proofs.trails.TrailLists.{literals-append, literals-cube}
+use Rattle.theory.proofs.searching.OpenTrails.{current_level-cube_trail}
+use Rattle.theory.proofs.searching.SplitSoundness.{Propagates-more, has_var-front}
+use Rattle.theory.proofs.searching.SearchSteps.{least_free-variable}
+use Rattle.theory.proofs.searching.SearchSoundness.{Propagates-says}
+use Rattle.theory.proofs.searching.BestVariables.{best_outside-some, best_outside-there}
+use Rattle.theory.proofs.searching.KeptSearches.{IsSearchOf-begin, IsInvariant-IsSearchOf}
+use Rattle.theory.proofs.searching.CubeOutcomes.{CubeSays, CubeSays-model, CubeSays-refuted}
+use Rattle.theory.proofs.searching.TrueSearches.{IsTrueSearch, IsTrueSearch-begin, IsTrueSearch-conflict, IsInvariant-IsTrueSearch}
+use Rattle.theory.proofs.searching.ModelLemmas.{quiet-true, length-values}
+
+-- propagation leaves the cube's trail at level 0
+level-looked : (rule : Rule) (F : Formula) (Q : List Literal) (T : Trail) (a : Closed) → Propagates rule (first_clauses F) (cube_trail Q) a T → current_level T ≡ 0
+level-looked rule F Q T a p = (Propagates-more rule (first_clauses F) (cube_trail Q) T a p).2 ∙ current_level-cube_trail Q
+
+-- one outcome
+
+Brings-unique : (K : List Clause) (T : Trail) (l : Literal) (m n : Option ℕ) → Brings K T l m → Brings K T l n → m ≡ n
+Brings-unique K T l m n h k =
+    let one = Propagates-unique by_place K (decide T l) h.trail k.trail h.answer k.answer h.propagates k.propagates in
+    sym h.counted ∙ ap₂ (λ (U : Trail) (a : Closed). brought T a U) one.0 one.1 ∙ k.counted
+
+IsWorth-unique : (K : List Clause) (T : Trail) (x : ℕ) (m n : Option ℕ) → IsWorth K T x m → IsWorth K T x n → m ≡ n
+IsWorth-unique K T x None None h k = refl
+IsWorth-unique K T x None (Some w) (inl h) k = absurd (let e = Brings-unique K T (negative x) _ _ h k.2 in cc)
+IsWorth-unique K T x None (Some w) (inr h) k = absurd (let e = Brings-unique K T (positive x) _ _ h.2 k.3 in cc)
+IsWorth-unique K T x (Some w) None h (inl k) = absurd (let e = Brings-unique K T (negative x) _ _ h.2 k in cc)
+IsWorth-unique K T x (Some w) None h (inr k) = absurd (let e = Brings-unique K T (positive x) _ _ h.3 k.2 in cc)
+IsWorth-unique K T x (Some v) (Some w) h k =
+    let one = Brings-unique K T (negative x) _ _ h.2 k.2 in
+    let other = Brings-unique K T (positive x) _ _ h.3 k.3 in
+    let first : h.0 ≡ k.0 = cc in
+    let second : h.1 ≡ k.1 = cc in
+    ap Some (h.4 ∙ ap₂ worth first second ∙ sym k.4)
+
+Chooses-unique : (K : List Clause) (T : Trail) (c : Choice) (xs : List ℕ) (y z : ℕ) → Chooses K T c xs y → Chooses K T c xs z → y ≡ z
+Chooses-unique K T c [] y z (has_chosen e) (has_chosen f) = sym e ∙ f
+Chooses-unique K T c (x ∷ xs) y z (fails h) (fails k) = refl
+Chooses-unique K T c (x ∷ xs) y z (fails h) (tries {w = w} k more) = absurd (let e = IsWorth-unique K T x None (Some w) h k in cc)
+Chooses-unique K T c (x ∷ xs) y z (tries {w = w} h more) (fails k) = absurd (let e = IsWorth-unique K T x (Some w) None h k in cc)
+Chooses-unique K T c (x ∷ xs) y z (tries {w = v} h more) (tries {w = w} k rest) =
+    let e = IsWorth-unique K T x (Some v) (Some w) h k in
+    let same : v ≡ w = cc in
+    Chooses-unique K T (better_choice c (record { var = x; worth = v })) xs y z more
+    (subst (λ n. Chooses K T (better_choice c (record { var = x; worth = n })) xs z) (sym same) rest)
+
+SplitsInto-unique : (F : Formula) (T : Trail) (v : Option ℕ) (o p : Outcome) → SplitsInto F T v o → SplitsInto F T v p → o ≡ p
+SplitsInto-unique F T None o p h k = h ∙ sym k
+SplitsInto-unique F T (Some v) o p h k = h.1 ∙ ap exhausted (Chooses-unique _ T no_choice _ h.0 k.0 h.2 k.2) ∙ sym k.1
+
+ComesTo-unique : (F : Formula) (a : Closed) (T : Trail) (o p : Outcome) → ComesTo F a T o → ComesTo F a T p → o ≡ p
+ComesTo-unique F (conflict n) T o p h k = h ∙ sym k
+ComesTo-unique F quiet T o p h k = SplitsInto-unique F T (least_free F.vars T) o p h k
+
+pub Looks-unique : (F : Formula) (Q : List Literal) (o p : Outcome) → Looks F Q o → Looks F Q p → o ≡ p
+Looks-unique F Q o p h k =
+    let one = Propagates-unique by_place (first_clauses F) (cube_trail Q) h.trail k.trail h.answer k.answer h.propagates k.propagates in
+    ComesTo-unique F h.answer h.trail o p h.comes_to (rw one.0 (rw one.1 k.comes_to))
+
+-- what a look says
+
+abbrev Each : (ℕ → Type 0) → List ℕ → Type 0
+Each P [] = Unit {0}
+Each P (x ∷ xs) = P x × Each P xs
+
+-- each of the best ones is a variable that isn't in P
+abbrev AreFree : ℕ → List Literal → List ℕ → Type 0
+AreFree V P xs = Each (λ x. IsVariable V x × (has_var P x ≡ false)) xs
+
+behind : (V : ℕ) (P : List Literal) (l : Literal) (xs : List ℕ) → AreFree V (l ∷ P) xs → AreFree V P xs
+behind V P l [] h = tt
+behind V P l (x ∷ xs) h = ((h.0.0, has_var-behind h.0.1), behind V P l xs h.1)
+  where
+    has_var-behind : has_var (l ∷ P) x ≡ false → has_var P x ≡ false
+    has_var-behind q = or-false_right _ (has_var P x) q
+
+best_ones-free : (n V : ℕ) (s : Scores) (P : List Literal) → AreFree V P (best_ones n V s P)
+best_ones-free zero V s P = tt
+best_ones-free (suc n) V s P = go (best_outside V P s) refl (λ x. best_ones-free n V s (positive x ∷ P))
+  where
+    go : (o : Option ℕ) → best_outside V P s ≡ o → ((x : ℕ) → AreFree V (positive x ∷ P) (best_ones n V s (positive x ∷ P)))
+        → AreFree V P (elim o [ None ↦ [] | Some x ↦ x ∷ best_ones n V s (positive x ∷ P) ])
+    go None e more = tt
+    go (Some x) e more = (best_outside-some V P s x e, behind V P (positive x) _ (more x))
+
+-- what is brought is at least the literal itself
+brought-some : (K : List Clause) (T : Trail) (l : Literal) (n : ℕ) → Brings K T l (Some n) → 1 ≤ n
+brought-some K T l n h = go h.answer h.counted
+  where
+    more : (R : Trail) × (h.trail ≡ decide T l ++ R) × (current_level h.trail ≡ current_level (decide T l))
+    more = Propagates-more by_place K (decide T l) h.trail h.answer h.propagates
+
+    longer : length T + 1 ≤ length h.trail
+    longer =
+        let whole = ap length more.1 ∙ length-append (decide T l) more.0 in
+        let first = length-append T (record { lit = l; reason = None; level = current_level T + 1 } ∷ []) in
+        omega (arith, whole, first)
+
+    go : (a : Closed) → brought T a h.trail ≡ Some n → 1 ≤ n
+    go (conflict k) e = absurd (cc)
+    go quiet e = let is : length h.trail - length T ≡ n = cc in let l = longer in omega (arith, is, l)
+
+-- a choice was made, or there is something to choose from
+abbrev HasChoice : Choice → List ℕ → Type 0
+HasChoice c [] = 1 ≤ c.worth
+HasChoice c (x ∷ xs) = Unit {0}
+
+-- what is so of each candidate, and of the best one before, is so of the one that is chosen
+Chooses-says : (P : ℕ → Type 0) (K : List Clause) (T : Trail) (c : Choice) (xs : List ℕ) (y : ℕ) → Each P xs → (1 ≤ c.worth → P c.var) → HasChoice c xs → Chooses K T c xs y → P y
+Chooses-says P K T c [] y all before some (has_chosen e) = subst P e (before some)
+Chooses-says P K T c (x ∷ xs) y all before some (fails h) = all.0
+Chooses-says P K T c (x ∷ xs) y all before some (tries {w = w} h more) =
+    Chooses-says P K T (better_choice c d) xs y all.1 (λ v. (better.0)) (chosen xs) more
+  where
+    d : Choice
+    d = record { var = x; worth = w }
+
+    much : 1 ≤ w
+    much = let one = brought-some K T (negative x) h.0 h.2 in let is = h.4 in omega (arith, one, is)
+
+    better : P (better_choice c d).var × (1 ≤ (better_choice c d).worth)
+    better = go (nat_lt c.worth d.worth) refl
+      where
+        go : (t : Bool) → nat_lt c.worth d.worth ≡ t → P (if t then d else c).var × (1 ≤ (if t then d else c).worth)
+        go true e = (all.0, much)
+        go false e = let low = ltb-false c.worth d.worth e in let m = much in let w : 1 ≤ c.worth = omega (arith, low, m) in (before w, w)
+
+    chosen : (zs : List ℕ) → HasChoice (better_choice c d) zs
+    chosen [] = better.1
+    chosen (z ∷ zs) = tt
+
+-- the variable that is chosen is free
+IsChosen-free : (F : Formula) (T : Trail) (v x : ℕ) → least_free F.vars T ≡ Some v → IsChosen F T x → IsVariable F.vars x × (has_var (literals T) x ≡ false)
+IsChosen-free F T v x free h = go (best_outside F.vars (literals T) scores) refl h
+  where
+    scores : Scores
+    scores = ranks F.vars (first_clauses F)
+
+    rest : ℕ → List ℕ
+    rest y = best_ones 31 F.vars scores (positive y ∷ literals T)
+
+    go : (o : Option ℕ) → best_outside F.vars (literals T) scores ≡ o → Chooses (first_clauses F) T no_choice (elim o [ None ↦ [] | Some y ↦ y ∷ rest y ]) x
+        → IsVariable F.vars x × (has_var (literals T) x ≡ false)
+    go None e c = absurd (let some = best_outside-there F.vars (literals T) scores v (least_free-variable F.vars T v free).0 (least_free-variable F.vars T v free).1 in let it = some.1 in cc)
+    go (Some y) e c =
+        Chooses-says (λ z. IsVariable F.vars z × (has_var (literals T) z ≡ false)) (first_clauses F) T no_choice (y ∷ rest y) x
+        (best_outside-some F.vars (literals T) scores y e, behind F.vars (literals T) (positive y) (rest y) (best_ones-free 31 F.vars scores (positive y ∷ literals T)))
+        (λ w. absurd (omega (arith, w))) tt c
+
+ComesTo-says : (F : Formula) (Q : List Literal) (a : Closed) (T : Trail) (o : Outcome) → Propagates by_place (first_clauses F) (cube_trail Q) a T
+    → IsSearchOf F.vars (first_clauses F) Q (first_clauses F) T [] → ComesTo F a T o → CubeSays F.vars (first_clauses F) Q o
+ComesTo-says F Q (conflict n) T o p i h =
+    subst (CubeSays F.vars (first_clauses F) Q) (sym h)
+    (CubeSays-refuted F.vars (first_clauses F) Q (first_clauses F) T [] n (Propagates-says by_place (first_clauses F) (cube_trail Q) T (conflict n) p) (level-looked by_place F Q T (conflict n) p) i)
+ComesTo-says F Q quiet T o p i h = go (least_free F.vars T) refl h
+  where
+    go : (v : Option ℕ) → least_free F.vars T ≡ v → SplitsInto F T v o → CubeSays F.vars (first_clauses F) Q o
+    go None e s = subst (CubeSays F.vars (first_clauses F) Q) (sym s) (CubeSays-model F.vars (first_clauses F) Q (first_clauses F) T [] e (Propagates-says by_place (first_clauses F) (cube_trail Q) T quiet p) i)
+    go (Some v) e s = subst (CubeSays F.vars (first_clauses F) Q) (sym s.1) tt
+
+-- its refutation replays, and its model makes the first clauses and the cube true
+pub Looks-says : (F : Formula) (Q : List Literal) (o : Outcome) → IsFormula F → IsCube Q → IsOver F.vars Q → Looks F Q o → CubeSays F.vars (first_clauses F) Q o
+Looks-says F Q o formed cube over h =
+    ComesTo-says F Q h.answer h.trail o h.propagates
+    ((IsInvariant-IsSearchOf by_place IsRule-by_place F.vars (first_clauses F) Q).propagated (first_clauses F) (cube_trail Q) h.trail [] h.answer h.propagates
+    (IsSearchOf-begin F.vars (first_clauses F) Q (IsOver-first_clauses F formed) cube over)) h.comes_to
+
+-- a refuted cube has no model
+pub Looks-refuted : (F : Formula) (Q : List Literal) (lines : List Line) → IsCube Q → Looks F Q (refuted lines) → (M : Assignment) → Satisfies (searched F) M → AreTrue (value M) Q → ⊥
+Looks-refuted F Q lines cube h M s q = go h.answer h.propagates h.comes_to
+  where
+    i : IsTrueSearch (value M) Q (first_clauses F) h.trail []
+    i = (IsInvariant-IsTrueSearch by_place IsRule-by_place F.vars (value M) Q q).propagated (first_clauses F) (cube_trail Q) h.trail [] h.answer h.propagates (IsTrueSearch-begin (value M) (first_clauses F) Q s.clauses cube)
+
+    free : (v : Option ℕ) → SplitsInto F h.trail v (refuted lines) → ⊥
+    free None e = cc
+    free (Some v) e = let it = e.1 in cc
+
+    go : (a : Closed) → Propagates by_place (first_clauses F) (cube_trail Q) a h.trail → ComesTo F a h.trail (refuted lines) → ⊥
+    go (conflict n) p c =
+        IsTrueSearch-conflict (value M) Q (first_clauses F) h.trail [] n q (Propagates-says by_place (first_clauses F) (cube_trail Q) h.trail (conflict n) p) (level-looked by_place F Q h.trail (conflict n) p) i
+    go quiet p c = free (least_free F.vars h.trail) c
+
+-- a model satisfies the formula, and the clauses of the pure variables
+pub Looks-satisfies : (F : Formula) (Q : List Literal) (M : Assignment) → IsFormula F → Looks F Q (model M) → Satisfies (searched F) M
+Looks-satisfies F Q M formed h = go h.answer h.propagates h.comes_to
+  where
+    full : Propagates by_place (first_clauses F) (cube_trail Q) quiet h.trail → (v : Option ℕ) → least_free F.vars h.trail ≡ v → SplitsInto F h.trail v (model M) → Satisfies (searched F) M
+    full p None e s =
+        let is : M ≡ values F.vars h.trail = cc in
+        record {
+          values = ap length is ∙ length-values F.vars h.trail;
+          clauses = ap (λ (x : Assignment). are_true (value x) (first_clauses F)) is
+              ∙ quiet-true F.vars h.trail (first_clauses F) e (IsOver-first_clauses F formed) (Propagates-says by_place (first_clauses F) (cube_trail Q) h.trail quiet p);
+        }
+    full p (Some v) e s = absurd (let it = s.1 in cc)
+
+    go : (a : Closed) → Propagates by_place (first_clauses F) (cube_trail Q) a h.trail → ComesTo F a h.trail (model M) → Satisfies (searched F) M
+    go (conflict n) p c = absurd (cc)
+    go quiet p c = full p (least_free F.vars h.trail) refl c
+
+-- it is split on a variable of the formula that it doesn't have
+pub Looks-exhausted : (F : Formula) (Q : List Literal) (x : ℕ) → Looks F Q (exhausted x) → IsVariable F.vars x × (has_var Q x ≡ false)
+Looks-exhausted F Q x h = go h.answer h.propagates h.comes_to
+  where
+    on : IsVariable F.vars x × (has_var (literals h.trail) x ≡ false) → Propagates by_place (first_clauses F) (cube_trail Q) quiet h.trail → IsVariable F.vars x × (has_var Q x ≡ false)
+    on f p =
+        let more = Propagates-more by_place (first_clauses F) (cube_trail Q) h.trail quiet p in
+        let parts : literals h.trail ≡ Q ++ literals more.0
+        = ap literals more.1 ∙ (literals-append (cube_trail Q) more.0 ∙ ap (λ (P : List Literal). P ++ literals more.0) (literals-cube Q)) in
+        (f.0, has_var-front Q (literals more.0) x (subst (λ (P : List Literal). has_var P x ≡ false) parts f.1))
+
+    free : Propagates by_place (first_clauses F) (cube_trail Q) quiet h.trail → (v : Option ℕ) → least_free F.vars h.trail ≡ v → SplitsInto F h.trail v (exhausted x) → IsVariable F.vars x × (has_var Q x ≡ false)
+    free p None e s = absurd (cc)
+    free p (Some v) e s = let is : s.0 ≡ x = (let it = s.1 in cc) in on (IsChosen-free F h.trail v x e (subst (IsChosen F h.trail) is s.2)) p
+
+    go : (a : Closed) → Propagates by_place (first_clauses F) (cube_trail Q) a h.trail → ComesTo F a h.trail (exhausted x) → IsVariable F.vars x × (has_var Q x ≡ false)
+    go (conflict n) p c = absurd (cc)
+    go quiet p c = free p (least_free F.vars h.trail) refl c
