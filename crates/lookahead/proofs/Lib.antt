@@ -1,0 +1,5 @@
+pub mod TableLemmas
+pub mod RankingOrder
+pub mod RankingLemmas
+pub mod TrailLengths
+pub mod LookLemmas

@@ -1,0 +1,4 @@
+-- What a look at a cube keeps.
+pub mod Tables
+pub mod Rankings
+pub mod Resting
