@@ -20,7 +20,7 @@ use Rattle.kernel.specs.declared.order.Order.TheVariants.{ByNumber}
 use Rattle.cdcl.specs.Searching.{IsReady, IsSearching, Begins, search_of}
 use Rattle.cdcl.specs.declared.ordered.OrderedSearch.{OrderedSearch}
 use Rattle.theory.proofs.literals.CubeLiterals.{IsCube-from}
-use Rattle.cdcl.proofs.Progress.{IsDistinctFrom-lawful}
+use Rattle.lookahead.proofs.TrailLengths.{IsDistinctFrom-lawful}
 
 take-whole : (n : ℕ) (K : List Clause) → n ≡ length K → take n K ≡ K
 take-whole n K e = ap (λ k. take k K) e ∙ take-length K

@@ -6,11 +6,13 @@ use Rattle.theory.specs.Trails.{Trail, Entry, literals, current_level}
 use Rattle.theory.specs.Propagation.{Closed, quiet, conflict, by_place, Propagates, least_false}
 use Rattle.theory.specs.Lawful.{IsLawful}
 use Rattle.theory.specs.Learning.{learn}
-use Rattle.theory.specs.Search.{RunsFrom, stops, steps, ends, goes_on, exhausted, values}
+use Rattle.theory.specs.Plans.{Constants}
+use Rattle.theory.specs.Search.{RunsFrom, stops, steps, Next, ends, goes_on, exhausted, values}
+use Rattle.theory.specs.Dividing.{LeadsTo, stays, moves}
 use Rattle.theory.specs.Search as search
 use Rattle.theory.specs.Scores.{best_outside}
 use Rattle.theory.specs.Focused as definition
-use Rattle.theory.specs.Focused.{IsFocusedStep, saved_literal, decided_next, learnt_next, splits_on}
+use Rattle.theory.specs.Focused.{FocusedState, IsFocusedStep, saved_literal, decided_next, learnt_next, splits_on}
 use Rattle.theory.proofs.searching.OpenTrails.{IsOpenBelow-decide}
 use Rattle.theory.proofs.literals.OverVariables.{AreOver-from_IsOver}
 use Rattle.theory.proofs.searching.SplitSoundness.{Propagates-more, has_var-front}
@@ -23,9 +25,10 @@ use Rattle.cdcl.specs.Outcome.{LinesOutcome}
 use Rattle.cdcl.specs.declared.focused.FocusedSearch.{FocusedSearch}
 use Rattle.cdcl.specs.declared.decisions.Decisions.{Decisions}
 use Rattle.cdcl.specs.Saving.{AreWaiting}
-use Rattle.cdcl.specs.Focusing.{state_of, HasSaved, IsEquipped, IsFocusing, Follows, GoesOnward, Onward, IsFocusedSearchStep}
+use Rattle.cdcl.specs.Focusing.{state_of, RunsTo, HasSaved, IsEquipped, IsFocusing, Follows, GoesOnward, Onward, IsFocusedSearchStep}
 use Rattle.cdcl.proofs.SearchingLemmas.{IsSearching-Propagates}
-use Rattle.cdcl.proofs.Progress.{remaining, length-lawful, length-Propagates}
+use Rattle.lookahead.proofs.TrailLengths.{length-lawful, length-Propagates}
+use Rattle.cdcl.proofs.Progress.{remaining}
 
 -- what is free on a longer trail is free on the shorter one
 pub free-before : (T R : Trail) (v : ℕ) → has_var (literals (T ++ R)) v ≡ false → has_var (literals T) v ≡ false
@@ -81,7 +84,7 @@ step-from budget s t k a (Ok o) vars clauses closes h = λ saved has.
         ∙ ap (λ V. definition.after s.constants V budget (state_of (record s { kernel = k }) saved) a) (sym vars)
 
     onward : (o : Option LinesOutcome) (values : Assignment) → Onward budget (record s { kernel = k }) o t values → Onward budget s o t values
-    onward (Some o) values i = tt
+    onward (Some o) values i = i
     onward None values i = record { saves = i.saves; focusing = i.focusing; counted = i.counted; moves = moves i.moves }
       where
         longer : length s.kernel.trail ≤ length k.trail
@@ -174,11 +177,11 @@ Follows-decided budget s t saved x f counted calm best has went lawful over clau
         }
 
 pub Follows-exhausted : (budget n : ℕ) (s t : FocusedSearch) (saved : Assignment) (x : ℕ) (o : LinesOutcome) → nat_eq (current_level s.kernel.trail) 0 ≡ false → s.conflicts + 1 ≡ budget
-    → x ≡ splits_on s.kernel.vars (state_of s saved) → outcome_of o ≡ exhausted x → Follows budget (conflict n) s saved (Some o) t
-Follows-exhausted budget n s t saved x o above last splits is = record {
+    → x ≡ splits_on s.kernel.vars (state_of s saved) → outcome_of o ≡ exhausted x → t.decided ≡ s.decided → Follows budget (conflict n) s saved (Some o) t
+Follows-exhausted budget n s t saved x o above last splits is same = record {
   values = saved;
   next = rw (above, eq-eqb (s.conflicts + 1) budget last) (ap ends (sym (is ∙ ap exhausted splits)));
-  onward = tt;
+  onward = same;
 }
 
 pub Follows-learns : (budget n : ℕ) (s t : FocusedSearch) (saved values : Assignment) → nat_eq (current_level s.kernel.trail) 0 ≡ false → nat_eq (s.conflicts + 1) budget ≡ false → s.conflicts + 1 < budget
@@ -210,26 +213,45 @@ GoesOnward-less budget s t saved counted vars g = go g.moves
         let v = vars in
         rw longer.0 (omega (arith, most, more, v))
 
--- whatever the state t leads to, s does
-abbrev pub LeadsTo : ℕ → FocusedSearch → FocusedSearch → Type 0
-LeadsTo budget s t =
-    (saved : Assignment) → HasSaved s saved → (now : Assignment) × HasSaved t now
-    × ((o : search.Outcome) → RunsFrom (IsFocusedStep s.constants s.kernel.vars budget) (state_of t now) o → RunsFrom (IsFocusedStep s.constants s.kernel.vars budget) (state_of s saved) o)
+-- the search went from s to t
+abbrev pub GoesTo : ℕ → FocusedSearch → FocusedSearch → Type 0
+GoesTo budget s t =
+    (saved : Assignment) → HasSaved s saved → (now : Assignment) × HasSaved t now × LeadsTo (IsFocusedStep s.constants s.kernel.vars budget) (state_of s saved) (state_of t now)
 
-pub LeadsTo-step : (budget : ℕ) (s t u : FocusedSearch) → t.constants ≡ s.constants → t.kernel.vars ≡ s.kernel.vars → LeadsTo budget s t
-    → ((saved : Assignment) → HasSaved t saved → IsFocusedSearchStep budget t saved None u) → LeadsTo budget s u
-LeadsTo-step budget s t u constants vars leads step saved h =
+-- one step more
+leads-step : {State : Type 0} (IsStep : State → Next State → Type 0) (s t u : State) → LeadsTo IsStep s t → IsStep t (goes_on u) → LeadsTo IsStep s u
+leads-step IsStep s t u stays step = moves step stays
+leads-step IsStep s t u (moves {t = m} first more) step = moves first (leads-step IsStep m t u more step)
+
+-- a run is that of its last step
+leads-runs : {State : Type 0} (IsStep : State → Next State → Type 0) (s t : State) (o : search.Outcome) → LeadsTo IsStep s t → IsStep t (ends o) → RunsFrom IsStep s o
+leads-runs IsStep s t o stays last = stops last
+leads-runs IsStep s t o (moves {t = m} first more) last = steps first (leads-runs IsStep m t o more last)
+
+pub RunsTo-runs : (c : Constants) (V budget : ℕ) (s : FocusedState) (o : search.Outcome) (decided : ℕ) → RunsTo c V budget s o decided → RunsFrom (IsFocusedStep c V budget) s o
+RunsTo-runs c V budget s o decided r = leads-runs (IsFocusedStep c V budget) s r.final o r.leads r.last
+
+pub GoesTo-first : (budget : ℕ) (s : FocusedSearch) → GoesTo budget s s
+GoesTo-first budget s saved h = (saved, h, stays)
+
+pub GoesTo-step : (budget : ℕ) (s t u : FocusedSearch) → t.constants ≡ s.constants → t.kernel.vars ≡ s.kernel.vars → GoesTo budget s t
+    → ((saved : Assignment) → HasSaved t saved → IsFocusedSearchStep budget t saved None u) → GoesTo budget s u
+GoesTo-step budget s t u constants vars leads step saved h =
     let l = leads saved h in
     let w = step l.0 l.1 in
-    (w.values, w.onward.saves, λ o runs. l.2 o (steps (rw (constants, vars) at w.step) runs))
+    (w.values, w.onward.saves, leads-step (IsFocusedStep s.constants s.kernel.vars budget) (state_of s saved) (state_of t l.0) (state_of u w.values) l.2 (rw (constants, vars) at w.step))
 
-pub LeadsTo-ends : (budget : ℕ) (s t u : FocusedSearch) (o : LinesOutcome) → t.constants ≡ s.constants → t.kernel.vars ≡ s.kernel.vars → LeadsTo budget s t
+pub GoesTo-ends : (budget : ℕ) (s t u : FocusedSearch) (o : LinesOutcome) → t.constants ≡ s.constants → t.kernel.vars ≡ s.kernel.vars → GoesTo budget s t
     → ((saved : Assignment) → HasSaved t saved → IsFocusedSearchStep budget t saved (Some o) u)
-    → (saved : Assignment) → HasSaved s saved → RunsFrom (IsFocusedStep s.constants s.kernel.vars budget) (state_of s saved) (outcome_of o)
-LeadsTo-ends budget s t u o constants vars leads step saved h =
+    → (saved : Assignment) → HasSaved s saved → RunsTo s.constants s.kernel.vars budget (state_of s saved) (outcome_of o) u.decided
+GoesTo-ends budget s t u o constants vars leads step saved h =
     let l = leads saved h in
-    let w = step l.0 l.1 in
-    l.2 (outcome_of o) (stops (rw (constants, vars) at w.step))
+    let w = step l.0 l.1 in record {
+      final = state_of t l.0;
+      leads = l.2;
+      last = rw (constants, vars) at w.step;
+      decided = sym w.onward;
+    }
 
 pub if_ok-map : {X E : Type 0} (r : Result X E) (P Q : X → Type 0) → ((x : X) → P x → Q x) → IfOk r P → IfOk r Q
 if_ok-map (Ok x) P Q f h = f x h

@@ -12,7 +12,7 @@ use Rattle.theory.specs.Truth.{IsOver}
 use Rattle.theory.specs.Trails.{literals}
 use Rattle.theory.proofs.searching.GlueBounds.{glue-most, current_level-most}
 use Rattle.theory.proofs.literals.OverVariables.{AreOver-from_IsOver}
-use Rattle.cdcl.proofs.Progress.{length-lawful}
+use Rattle.lookahead.proofs.TrailLengths.{length-lawful}
 use Rattle.theory.proofs.literals.LiteralSets.{false_unless, or-false_right}
 use Rattle.theory.proofs.trails.TrailLevels.{level_of-most}
 use Rattle.cdcl.specs.Numbers.{is_one_of, StandOnce}

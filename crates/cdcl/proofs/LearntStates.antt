@@ -27,7 +27,7 @@ use Rattle.cdcl.specs.Saving.{AgreeOutside, AreWaiting, AreKept}
 use Rattle.cdcl.specs.Focusing.{state_of, HasSaved, IsEquipped, IsFocusing, IsTaught, Learns, Continues, CanForget}
 use Rattle.cdcl.proofs.FocusedLemmas.{none-false-learnt, low-learnt, lower-level, IsPlain-learn, AllPlain-forget, AllPlain-push, take-push, take-forget}
 use Rattle.cdcl.proofs.SeenLemmas.{scores_after-same}
-use Rattle.cdcl.proofs.Progress.{length-lawful}
+use Rattle.lookahead.proofs.TrailLengths.{length-lawful}
 use Rattle.cdcl.proofs.WaitingLemmas.{AgreeOutside-saved}
 
 -- what the parts of the step did, one after the other

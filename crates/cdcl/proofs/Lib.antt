@@ -23,4 +23,5 @@ pub mod FocusedLemmas
 pub mod LearntStates
 pub mod FocusedSteps
 pub mod FocusedBeginnings
+pub mod DividingLemmas
 pub mod SearcherLemmas

@@ -1,12 +1,11 @@
 -- A search ends: with each step one more conflict is counted, or the trail is longer.
-use Rattle.std.proofs.Common.{◌≡◌, ℕ, ◌+◌, ◌-◌, ◌*◌, ◌<◌, ◌≤◌, Bool, true, false, List, [], ◌∷◌, ◌++◌, length, length-append, Some, None, refl, sym, subst, nat_eq, eq-eqb, if◌then◌else◌, unwrap_or, arith, All}
-use Rattle.std.proofs.lemmas.List.{map-append, length-map}
+use Rattle.std.proofs.Common.{◌≡◌, ℕ, ◌+◌, ◌-◌, ◌*◌, ◌<◌, ◌≤◌, Bool, true, false, [], ◌∷◌, ◌++◌, length, length-append, Some, None, refl, sym, subst, nat_eq, eq-eqb, if◌then◌else◌, unwrap_or, arith, All}
 use Rattle.std.proofs.lemmas.List.Elements.{All-push}
-use Rattle.theory.specs.Literals.{Clause, negative}
+use Rattle.theory.specs.Literals.{negative}
 use Rattle.theory.specs.Truth.{IsOver}
-use Rattle.theory.specs.Trails.{Trail, Entry, literals, current_level, up_to}
-use Rattle.theory.specs.Propagation.{Closed, quiet, conflict, Rule, Propagates, clashes, grows, rests, unit_entry, least_false}
-use Rattle.theory.specs.Lawful.{IsLawful, IsLawfulAfter}
+use Rattle.theory.specs.Trails.{Trail, literals, current_level, up_to}
+use Rattle.theory.specs.Propagation.{Closed, quiet, conflict, least_false}
+use Rattle.theory.specs.Lawful.{IsLawful}
 use Rattle.theory.specs.Learning.{learn, back_level}
 use Rattle.theory.specs.Search.{Next, ends, goes_on, refuted, exhausted}
 use Rattle.theory.specs.Ordered.{OrderedState, after, decided_next}
@@ -14,35 +13,12 @@ use Rattle.theory.proofs.searching.SearchSteps.{Answers, after-quiet, after-conf
 use Rattle.theory.proofs.literals.OverVariables.{AreOver, AreOver-push, AreOver-from_IsOver}
 use Rattle.theory.proofs.searching.KeptSearches.{AreOver-up_to}
 use Rattle.theory.proofs.literals.LiteralSets.{true_false}
-use Rattle.theory.proofs.literals.CubeLiterals.{IsDistinctFrom, IsCube-from}
-use Rattle.theory.proofs.literals.DistinctLiterals.{length-distinct}
+use Rattle.lookahead.proofs.TrailLengths.{length-lawful}
 use Rattle.cdcl.proofs.SearchingLemmas.{IsOver-learn}
 
 -- the conflicts and the variables that are left
 abbrev pub remaining : ℕ → ℕ → ℕ → Trail → ℕ
 remaining V budget conflicts T = (budget - conflicts) * (V + 2) + (V + 1 - length T)
-
--- the literals of a lawful trail are of distinct variables
-pub IsDistinctFrom-lawful : (K : List Clause) (before T : Trail) → IsLawfulAfter K before T → IsDistinctFrom (literals before) (literals T)
-IsDistinctFrom-lawful K before [] h = tt
-IsDistinctFrom-lawful K before (e ∷ T) h =
-    (h.0.is_new, subst (λ P. IsDistinctFrom P (literals T)) (map-append (λ (d : Entry). d.lit) before (e ∷ [])) (IsDistinctFrom-lawful K (before ++ e ∷ []) T h.1))
-
--- a lawful trail is no longer than its variables are many
-pub length-lawful : (V : ℕ) (K : List Clause) (T : Trail) → IsLawful K T → AreOver V (literals T) → length T ≤ V
-length-lawful V K T lawful over =
-    let short = length-distinct V (literals T) (IsCube-from (literals T) (IsDistinctFrom-lawful K [] T lawful)) over in
-    let same = length-map T (λ (d : Entry). d.lit) in
-    omega arith
-
--- propagation takes nothing off
-pub length-Propagates : (rule : Rule) (K : List Clause) (T U : Trail) (a : Closed) → Propagates rule K T a U → length T ≤ length U
-length-Propagates rule K T U a (clashes h) = omega arith
-length-Propagates rule K T U a (rests h i) = omega arith
-length-Propagates rule K T U a (grows {u = u} h i more) =
-    let rest = length-Propagates rule K (T ++ unit_entry T u ∷ []) U a more in
-    let one = length-append T (unit_entry T u ∷ []) in
-    omega arith
 
 -- what a step does
 pub record Progresses (V budget : ℕ) (s t : OrderedState) : Type 0 where

@@ -1,54 +1,99 @@
--- What the outcome of a cube says, by either search.
-use Rattle.std.proofs.Common.{◌≡◌, ℕ, List, map, false, Result, Ok, Err, IfOk, refl, ap, subst}
-use Rattle.theory.specs.Literals.{Literal}
+-- What the outcome of a cube is and says, by either search.
+use Rattle.std.proofs.Common.{◌≡◌, ℕ, List, [], map, false, take, All, Result, Ok, Err, IfOk, OnOk, ap, sym, subst, ◌∙◌}
+use Rattle.std.proofs.lemmas.List.Elements.{All-take}
+use Rattle.theory.specs.Literals.{Literal, IsCube}
 use Rattle.theory.specs.Truth.{Formula, Assignment, IsOver}
-use Rattle.theory.specs.Plans.{Search, ordered, focused}
+use Rattle.theory.specs.Plans.{Constants, ordered, focused, Plan}
 use Rattle.theory.specs.Trails.{variables}
-use Rattle.theory.specs.Search.{RunsFrom, budget_of}
+use Rattle.theory.specs.Search.{Outcome, RunsFrom, budget_of, first_clauses}
 use Rattle.theory.specs.Ordered.{IsOrderedStep}
-use Rattle.theory.specs.Focused.{FocusedState, IsFocusedStep}
+use Rattle.theory.specs.Focused as definition
+use Rattle.theory.specs.Runs.{RunsBy, Runs, by_search}
 use Rattle.theory.specs.Results.{OutcomeSays}
+use Rattle.theory.proofs.searching.OutcomeLemmas.{IsLookedAt-search, Runs-says}
+use Rattle.theory.proofs.searching.PureVariables.{IsFormula-searched}
 use Rattle.kernel.specs.declared.order.Order.TheVariants.{ByNumber, ByPlace}
 use Rattle.cdcl.specs.Outcome.{LinesOutcome}
 use Rattle.cdcl.specs.declared.ordered.OrderedSearch.{OrderedSearch}
 use Rattle.cdcl.specs.declared.focused.FocusedSearch.{FocusedSearch}
-use Rattle.cdcl.specs.declared.searcher.Searcher.TheVariants.{Ordered, Focused}
+use Rattle.cdcl.specs.declared.dividing.DividingSearch.{DividingSearch}
+use Rattle.cdcl.specs.declared.searcher.Searcher.TheVariants.{Ordered}
 use Rattle.cdcl.specs.Outcome.{outcome_of}
 use Rattle.cdcl.specs.Searching.{IsReady, search_of}
 use Rattle.cdcl.specs.Searching as ordered_search
-use Rattle.cdcl.specs.Focusing.{state_of, HasSaved}
+use Rattle.cdcl.specs.Focusing.{state_of, RunsTo, HasSaved, IsKept}
 use Rattle.cdcl.specs.Focusing as focused_search
-use Rattle.cdcl.specs.Solving.{IsReadyBy}
-use Rattle.cdcl.proofs.Beginnings.{Begins-runs, Begins-says, IsBegun-says}
+use Rattle.cdcl.specs.Solving.{IsReadyBy, IsDividing}
+use Rattle.cdcl.proofs.Beginnings.{Begins-runs, Begins-says}
+use Rattle.cdcl.proofs.FocusedSteps.{RunsTo-runs}
 
 -- by the ordered search
+runs-by_ordered : (Q : List Literal) (budget : ℕ) (s begun : OrderedSearch) (o : Outcome) → ((F : Formula) → IsReady ByNumber F s.kernel → ordered_search.Begins F Q begun)
+    → RunsFrom (IsOrderedStep begun.kernel.vars budget) (search_of begun) o → (F : Formula) (B : ℕ) → IsReady ByNumber F s.kernel → budget ≡ budget_of B Q → RunsBy ordered F B Q o
+runs-by_ordered Q budget s begun o begins runs F B ready is =
+    Begins-runs F B Q begun o (begins F ready) (subst (λ n. RunsFrom (IsOrderedStep begun.kernel.vars n) (search_of begun) o) is runs)
+
+pub runs-ordered : {E : Type 0} (Q : List Literal) (budget : ℕ) (s begun : OrderedSearch) (r : Result LinesOutcome E) → ((F : Formula) → IsReady ByNumber F s.kernel → ordered_search.Begins F Q begun)
+    → IfOk r (λ o. RunsFrom (IsOrderedStep begun.kernel.vars budget) (search_of begun) (outcome_of o))
+    → IfOk r (λ o. (F : Formula) (plan : Plan) → IsReadyBy plan F (Ordered s) → budget ≡ budget_of plan.budget Q → Runs F plan Q (outcome_of o))
+runs-ordered Q budget s begun (Err e) begins runs = tt
+runs-ordered Q budget s begun (Ok o) begins runs = λ F plan ready is.
+    by_search (λ l. IsLookedAt-search F plan Q l ready.0)
+    (subst (λ search. RunsBy search F plan.budget Q (outcome_of o)) (sym ready.0) (runs-by_ordered Q budget s begun (outcome_of o) begins runs F plan.budget ready.1 is))
+
 pub says-ordered : {E : Type 0} (Q : List Literal) (budget : ℕ) (s begun : OrderedSearch) (r : Result LinesOutcome E) → ((F : Formula) → IsReady ByNumber F s.kernel → ordered_search.Begins F Q begun)
     → IfOk r (λ o. RunsFrom (IsOrderedStep begun.kernel.vars budget) (search_of begun) (outcome_of o))
-    → IfOk r (λ o. (F : Formula) (search : Search) (B : ℕ) → IsReadyBy search F (Ordered s) → budget ≡ budget_of B Q → IsOver F.vars Q → OutcomeSays search F Q (outcome_of o))
+    → IfOk r (λ o. (F : Formula) (plan : Plan) → IsReadyBy plan F (Ordered s) → budget ≡ budget_of plan.budget Q → IsOver F.vars Q → OutcomeSays plan.search F Q (outcome_of o))
 says-ordered Q budget s begun (Err e) begins runs = tt
-says-ordered Q budget s begun (Ok o) begins runs = go
-  where
-    go : (F : Formula) (which : Search) (B : ℕ) → IsReadyBy which F (Ordered s) → budget ≡ budget_of B Q → IsOver F.vars Q → OutcomeSays which F Q (outcome_of o)
-    go F (focused c) B ready is over = absurd ready
-    go F ordered B ready is over =
-        let b = begins F ready in
-        Begins-says F B Q begun (outcome_of o) b over
-        (Begins-runs F B Q begun (outcome_of o) b (subst (λ n. RunsFrom (IsOrderedStep begun.kernel.vars n) (search_of begun) (outcome_of o)) is runs))
+says-ordered Q budget s begun (Ok o) begins runs = λ F plan ready is over.
+    subst (λ search. OutcomeSays search F Q (outcome_of o)) (sym ready.0)
+    (Begins-says F plan.budget Q begun (outcome_of o) (begins F ready.1) over (runs-by_ordered Q budget s begun (outcome_of o) begins runs F plan.budget ready.1 is))
 
 -- by the focused search
-pub says-focused : {E : Type 0} (Q : List Literal) (budget : ℕ) (s begun : FocusedSearch) (r : Result LinesOutcome E) → ((F : Formula) → IsReady ByPlace F s.kernel → focused_search.Begins F s.constants Q begun)
-    → IfOk r (λ o. (saved : Assignment) → HasSaved begun saved → RunsFrom (IsFocusedStep begun.constants begun.kernel.vars budget) (state_of begun saved) (outcome_of o))
-    → IfOk r (λ o. (F : Formula) (search : Search) (B : ℕ) → IsReadyBy search F (Focused s) → budget ≡ budget_of B Q → IsOver F.vars Q → OutcomeSays search F Q (outcome_of o))
-says-focused Q budget s begun (Err e) begins runs = tt
-says-focused Q budget s begun (Ok o) begins runs = go
-  where
-    go : (F : Formula) (which : Search) (B : ℕ) → IsReadyBy which F (Focused s) → budget ≡ budget_of B Q → IsOver F.vars Q → OutcomeSays which F Q (outcome_of o)
-    go F ordered B ready is over = absurd ready
-    go F (focused c) B ready is over =
-        let b = begins F ready.0 in
-        IsBegun-says ByPlace (focused c) F B Q begun.kernel (outcome_of o) (record {
-          ready = b.ready;
-          searching = b.focusing.searching;
-          clauses = ap (λ (t : FocusedState). t.clauses) b.begun;
-          trail = ap (λ (t : FocusedState). t.trail) b.begun;
-        }) over (rw ready.2 at (rw (b.constants, b.ready.vars, is, b.begun) at (runs (map (λ v. false) (variables F.vars)) b.saves)))
+runs-focused : (Q : List Literal) (budget decided : ℕ) (s begun : FocusedSearch) (o : LinesOutcome) → ((F : Formula) → IsReady ByPlace F s.kernel → focused_search.Begins F s.constants Q begun)
+    → ((saved : Assignment) → HasSaved begun saved → RunsTo begun.constants begun.kernel.vars budget (state_of begun saved) (outcome_of o) decided)
+    → (F : Formula) (B : ℕ) → IsReady ByPlace F s.kernel → budget ≡ budget_of B Q → RunsBy (focused s.constants) F B Q (outcome_of o)
+runs-focused Q budget decided s begun o begins runs F B ready is =
+    let b = begins F ready in
+    rw (b.constants, b.ready.vars, is, b.begun) at (RunsTo-runs begun.constants begun.kernel.vars budget (state_of begun (map (λ v. false) (variables F.vars))) (outcome_of o) decided (runs (map (λ v. false) (variables F.vars)) b.saves))
+
+-- the search of a plan
+pub search-runs : {E : Type 0} (Q : List Literal) (budget decided : ℕ) (s : DividingSearch) (begun : FocusedSearch) (r : Result LinesOutcome E)
+    → ((F : Formula) → IsReady ByPlace F s.search.kernel → focused_search.Begins F s.search.constants Q begun)
+    → IfOk r (λ o. (saved : Assignment) → HasSaved begun saved → RunsTo begun.constants begun.kernel.vars budget (state_of begun saved) (outcome_of o) decided)
+    → IfOk r (λ o. (F : Formula) (plan : Plan) → IsDividing plan F s → budget ≡ budget_of plan.budget Q → RunsBy plan.search F plan.budget Q (outcome_of o))
+search-runs Q budget decided s begun (Err e) begins runs = tt
+search-runs Q budget decided s begun (Ok o) begins runs = λ F plan d is.
+    subst (λ search. RunsBy search F plan.budget Q (outcome_of o)) (sym d.search) (runs-focused Q budget decided s.search begun o begins runs F plan.budget d.ready is)
+
+-- the first search, of the cube without literals
+pub first-run : (F : Formula) (c : Constants) (t decided : ℕ) (begun : FocusedSearch) (o : Outcome) → focused_search.Begins F c [] begun
+    → ((saved : Assignment) → HasSaved begun saved → RunsTo begun.constants begun.kernel.vars t (state_of begun saved) o decided) → RunsTo c F.vars t (definition.begin c F []) o decided
+first-run F c t decided begun o b runs = rw (b.constants, b.ready.vars, b.begun) at (runs (map (λ v. false) (variables F.vars)) b.saves)
+
+-- the search goes on to the next cube
+pub dividing-kept : {X E : Type 0} (r : Result X E) (old s : DividingSearch) (t : FocusedSearch) → ((F : Formula) (plan : Plan) → IsDividing plan F old → IsDividing plan F s) → OnOk r (IsKept s.search t)
+    → OnOk r ((F : Formula) (plan : Plan) → IsDividing plan F old → IsDividing plan F (record s { search = t }))
+dividing-kept (Err e) old s t before kept = tt
+dividing-kept (Ok x) old s t before kept = λ F plan d.
+    let e = before F plan d in record {
+      ready = kept.0 F e.ready;
+      equipped = kept.1;
+      search = e.search ∙ ap focused (sym kept.2);
+      divide = e.divide;
+      few = e.few;
+      asked = e.asked;
+      within = e.within;
+      division = e.division;
+    }
+
+-- what an outcome says, where the kernel is one of the formula
+pub says-ready : {E : Type 0} (Q : List Literal) (budget : ℕ) (s : DividingSearch) (r : Result LinesOutcome E) → IsCube Q → All (IsOver s.search.kernel.vars) s.search.kernel.clauses
+    → IfOk r (λ o. (F : Formula) (plan : Plan) → IsDividing plan F s → budget ≡ budget_of plan.budget Q → Runs F plan Q (outcome_of o))
+    → IfOk r (λ o. (F : Formula) (plan : Plan) → IsDividing plan F s → budget ≡ budget_of plan.budget Q → IsOver F.vars Q → OutcomeSays plan.search F Q (outcome_of o))
+says-ready Q budget s (Err e) cube over runs = tt
+says-ready Q budget s (Ok o) cube over runs = λ F plan d is within.
+    let h = d.ready in
+    let k = s.search.kernel in
+    let all : All (IsOver F.vars) (first_clauses F) = subst (All (IsOver F.vars)) h.clauses (subst (λ V. All (IsOver V) (take k.first k.clauses)) h.vars (All-take (IsOver k.vars) k.first k.clauses over)) in
+    Runs-says F plan Q (outcome_of o) (IsFormula-searched F all) cube within (runs F plan d is)

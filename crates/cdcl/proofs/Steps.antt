@@ -20,7 +20,8 @@ use Rattle.cdcl.specs.Outcome.{outcome_of}
 use Rattle.cdcl.specs.Searching.{IsSearching, IsSearchStep, GoesOn, search_of}
 use Rattle.cdcl.specs.Outcome.{LinesOutcome}
 use Rattle.cdcl.specs.declared.ordered.OrderedSearch.{OrderedSearch}
-use Rattle.cdcl.proofs.Progress.{Progresses, after-Progresses, length-Propagates, remaining}
+use Rattle.lookahead.proofs.TrailLengths.{length-Propagates}
+use Rattle.cdcl.proofs.Progress.{Progresses, after-Progresses, remaining}
 
 -- a step that ends
 pub IsSearchStep-ends : (V budget : ℕ) (s t : OrderedSearch) (o : LinesOutcome) → s.kernel.vars ≡ V → IsSearchStep budget s (Some o) t → RunsFrom (IsOrderedStep V budget) (search_of s) (outcome_of o)

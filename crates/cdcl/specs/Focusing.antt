@@ -7,7 +7,8 @@ use Rattle.theory.specs.Plans.{Constants}
 use Rattle.theory.specs.Trails.{literals, current_level, variables}
 use Rattle.theory.specs.Propagation.{Closed, least_false}
 use Rattle.theory.specs.Learning.{learn, back_level}
-use Rattle.theory.specs.Search.{Next, ends, goes_on}
+use Rattle.theory.specs.Search.{Outcome, Next, ends, goes_on}
+use Rattle.theory.specs.Dividing.{LeadsTo}
 use Rattle.theory.specs.Focused as definition
 use Rattle.theory.specs.Focused.{FocusedState, IsFocusedStep, learnt_next, saved_after}
 use Rattle.kernel.specs.State.{State}
@@ -82,6 +83,10 @@ pub record Continues (old new : FocusedSearch) : Type 0 where
   pub constants : new.constants ≡ old.constants
   pub equipped : IsEquipped new
 
+-- what a search keeps over whole cubes: it may go over to a cube of the formulas that it could
+abbrev pub IsKept : FocusedSearch → FocusedSearch → Type 0
+IsKept old new = ((F : Formula) → IsReady ByPlace F old.kernel → IsReady ByPlace F new.kernel) × IsEquipped new × (new.constants ≡ old.constants)
+
 -- the conflict with the clause of number n is learnt from, where the definition has these saved
 -- values
 pub record Learns (old : FocusedSearch) (saved : Assignment) (n : ℕ) (new : FocusedSearch) : Type 0 where
@@ -103,8 +108,9 @@ pub record GoesOnward (budget : ℕ) (old new : FocusedSearch) (saved : Assignme
   pub counted : new.conflicts < budget
   pub moves : (new.conflicts ≡ old.conflicts + 1) ⊎ ((new.conflicts ≡ old.conflicts) × (length old.kernel.trail < length new.kernel.trail))
 
+-- and where it ends, no decision more is counted
 abbrev pub Onward : ℕ → FocusedSearch → Option LinesOutcome → FocusedSearch → Assignment → Type 0
-Onward budget old (Some o) new saved = Unit {0}
+Onward budget old (Some o) new saved = new.decided ≡ old.decided
 Onward budget old None new saved = GoesOnward budget old new saved
 
 -- what follows an answer of propagation, where the definition has these saved values
@@ -118,6 +124,13 @@ pub record IsFocusedSearchStep (budget : ℕ) (old : FocusedSearch) (saved : Ass
   pub values : Assignment
   pub step : IsFocusedStep old.constants old.kernel.vars budget (state_of old saved) (next_of r new values)
   pub onward : Onward budget old r new values
+
+-- a search goes from the state s on to this outcome, with so many decisions at its end
+pub record RunsTo (c : Constants) (V budget : ℕ) (s : FocusedState) (o : Outcome) (count : ℕ) : Type 0 where
+  pub final : FocusedState
+  pub leads : LeadsTo (IsFocusedStep c V budget) s final
+  pub last : IsFocusedStep c V budget final (ends o)
+  pub decided : final.decisions ≡ count
 
 -- the search of the formula's cube Q begins
 pub record Begins (F : Formula) (c : Constants) (Q : List Literal) (s : FocusedSearch) : Type 0 where

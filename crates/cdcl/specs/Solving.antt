@@ -1,8 +1,14 @@
 -- Solving cubes of a formula by a plan.
-use Rattle.std.specs.Prelude.{◌≡◌, Bool}
+use Rattle.std.specs.Prelude.{◌≡◌, ◌≤◌, Bool, min}
 use Rattle.theory.specs.Truth.{Formula}
-use Rattle.theory.specs.Plans.{Search, ordered, focused, Plan}
+use Rattle.theory.specs.Plans.{ordered, focused, Plan}
+use Rattle.theory.specs.Search.{first_clauses, max_budget}
+use Rattle.theory.specs.Dividing.{first_conflicts, IsDivisible}
 use Rattle.kernel.specs.declared.order.Order.TheVariants.{ByNumber, ByPlace}
+use Rattle.lookahead.specs.Rankings.{IsRanking}
+use Rattle.cdcl.specs.declared.dividing.Division.{Division}
+use Rattle.cdcl.specs.declared.dividing.Division.TheVariants.{Unasked, Whole, Divided}
+use Rattle.cdcl.specs.declared.dividing.DividingSearch.{DividingSearch}
 use Rattle.cdcl.specs.declared.searcher.Searcher.{Searcher}
 use Rattle.cdcl.specs.declared.searcher.Searcher.TheVariants.{Ordered, Focused}
 use Rattle.cdcl.specs.Searching.{IsReady}
@@ -19,8 +25,29 @@ pub record Solving : Type 0 where
 abbrev pub IsSolverOf : Formula → Plan → Solving → Type 0
 IsSolverOf F plan s = (s.formula ≡ F) × (s.plan ≡ plan)
 
--- the search is this one, and may go over to a cube of the formula
-abbrev pub IsReadyBy : Search → Formula → Searcher → Type 0
-IsReadyBy ordered F (Ordered s) = IsReady ByNumber F s.kernel
-IsReadyBy (focused c) F (Focused s) = IsReady ByPlace F s.kernel × IsEquipped s × (s.constants ≡ c)
-IsReadyBy search F s = ⊥
+-- what is known of a formula's division is true
+abbrev pub IsDivisionOf : Formula → Plan → Division → Type 0
+IsDivisionOf F plan Unasked = Unit {0}
+IsDivisionOf F plan Whole = ¬ (IsDivisible F plan)
+IsDivisionOf F plan (Divided ranking) = IsDivisible F plan × IsRanking F.vars (first_clauses F) ranking
+
+-- and it is known
+abbrev pub IsKnown : Formula → Plan → Division → Type 0
+IsKnown F plan Unasked = ⊥
+IsKnown F plan Whole = ¬ (IsDivisible F plan)
+IsKnown F plan (Divided ranking) = IsDivisible F plan × IsRanking F.vars (first_clauses F) ranking
+
+-- the search goes by the plan, and may go over to a cube of the formula
+pub record IsDividing (plan : Plan) (F : Formula) (s : DividingSearch) : Type 0 where
+  pub ready : IsReady ByPlace F s.search.kernel
+  pub equipped : IsEquipped s.search
+  pub search : plan.search ≡ focused s.search.constants
+  pub divide : plan.divide ≡ s.divide
+  pub few : s.divide ≤ 65536
+  pub asked : min first_conflicts plan.budget ≡ s.asked
+  pub within : (1 ≤ s.asked) × (s.asked ≤ max_budget)
+  pub division : IsDivisionOf F plan s.division
+
+abbrev pub IsReadyBy : Plan → Formula → Searcher → Type 0
+IsReadyBy plan F (Ordered s) = (plan.search ≡ ordered) × IsReady ByNumber F s.kernel
+IsReadyBy plan F (Focused s) = IsDividing plan F s

@@ -5,15 +5,16 @@ ghost use Rattle.theory.specs.Truth.{Formula, Assignment, IsOver};
 ghost use Rattle.theory.specs.Plans as plans;
 ghost use Rattle.theory.specs.Trails.{literals, current_level, up_to};
 ghost use Rattle.theory.specs.Propagation.{by_place, Propagates, quiet, conflict, least_false};
-ghost use Rattle.theory.specs.Search.{RunsFrom, max_budget};
+ghost use Rattle.theory.specs.Search.{refuted, max_budget};
+ghost use Rattle.theory.specs.Learning.{learn};
 ghost use Rattle.theory.specs.Scores.{best_outside};
 ghost use Rattle.theory.specs.Forgetting.{is_due, rescheduled, forget_half};
-ghost use Rattle.theory.specs.Focused.{IsFocusedStep, splits_on, saved_after};
+ghost use Rattle.theory.specs.Focused.{splits_on, saved_after};
 ghost use Rattle.kernel.specs.declared.order.Order.TheVariants.{ByPlace};
 ghost use Rattle.cdcl.specs.Outcome.{outcome_of};
 ghost use Rattle.cdcl.specs.Searching.{IsReady, IsSearching, GoesOn};
 ghost use Rattle.cdcl.specs.Saving.{AgreeOutside, AreWaiting, AreKept};
-ghost use Rattle.cdcl.specs.Focusing.{state_of, HasSaved, IsEquipped, IsFocusing, IsTaught, CanForget, Learns, Follows, IsFocusedSearchStep, Begins, Continues};
+ghost use Rattle.cdcl.specs.Focusing.{state_of, RunsTo, HasSaved, IsEquipped, IsFocusing, IsTaught, CanForget, Learns, Follows, IsFocusedSearchStep, Begins, Continues};
 
 use crate::analysis::Learnt;
 use crate::counts::{Counts, Watcher, tell};
@@ -202,7 +203,7 @@ impl FocusedSearch {
         requires focusing { IsFocusing self.old }
         requires counted { (self.old.conflicts < budget) × (budget ≤ max_budget) }
         ensures runs { IfOk result (λ o. (saved : Assignment) → HasSaved self.old saved →
-            RunsFrom (IsFocusedStep self.old.constants self.old.kernel.vars budget) (state_of self.old saved) (outcome_of o)) }
+            RunsTo self.old.constants self.old.kernel.vars budget (state_of self.old saved) (outcome_of o) self.new.decided) }
         ensures kept { OnOk result (Continues self.old self.new) }
     {
         let mut told = self.counts();
@@ -258,13 +259,7 @@ impl FocusedSearch {
         ensures kept { OnOk result (Continues self.old self.new) }
     {
         if self.kernel.level() == 0 {
-            return Ok(Some(refute(
-                &self.kernel,
-                &mut self.analysis.room,
-                &mut self.analysis.learnt,
-                &mut self.lines,
-                number,
-            )?));
+            return Ok(Some(self.refuted(number)?));
         }
         if self.conflicts + 1 == budget {
             return Ok(Some(Outcome::Exhausted(self.split()?)));
@@ -273,12 +268,31 @@ impl FocusedSearch {
         Ok(None)
     }
 
+    /// A conflict at level 0 refutes the cube.
+    pub(crate) fn refuted(&mut self, number: u64) -> Result<Outcome<Row>, AllocError>
+        requires focusing { IsFocusing self.old }
+        requires conflict { least_false (literals self.old.kernel.trail) self.old.kernel.clauses ≡ Some number }
+        ensures refuted { IfOk result (λ o. outcome_of o
+            ≡ refuted (self.old.lines ++ learn self.old.kernel.clauses self.old.kernel.trail number ∷ [])) }
+        ensures decided { self.new.decided ≡ self.old.decided }
+        ensures kept { OnOk result (Continues self.old self.new) }
+    {
+        refute(
+            &self.kernel,
+            &mut self.analysis.room,
+            &mut self.analysis.learnt,
+            &mut self.lines,
+            number,
+        )
+    }
+
     /// The variable in which the cube is exhausted: of those that don't stand at level 0, the one
     /// of greatest score. It goes back there.
     fn split(&mut self) -> Result<u32, AllocError>
         requires focusing { IsFocusing self.old }
         requires level { 1 ≤ current_level self.old.kernel.trail }
         ensures splits { IfOk result (λ x. (saved : Assignment) → x ≡ splits_on self.old.kernel.vars (state_of self.old saved)) }
+        ensures decided { self.new.decided ≡ self.old.decided }
         ensures kept { OnOk result (Continues self.old self.new) }
     {
         let kept = count_up_to(&self.kernel, 0);

@@ -76,8 +76,9 @@ pub enum Outcome<L = Refutation> {
     Model(Vec<bool>),
     /// No assignment satisfies the formula and the cube and has the pure variables false.
     Refuted(L),
-    /// The budget of conflicts is used up; the variable, on which the cube is to be split, is the
-    /// first one that was decided by the ordered search, and by the focused search the one of
-    /// greatest score among those that don't stand at level 0.
+    /// The budget of conflicts is used up, or the cube was looked at; the variable, on which the
+    /// cube is to be split, is the first one that was decided by the ordered search, by the focused
+    /// search the one of greatest score among those that don't stand at level 0, and by a look the
+    /// one of which both decisions bring most.
     Exhausted(u32),
 }

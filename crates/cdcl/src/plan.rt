@@ -18,14 +18,17 @@ pub enum Search {
     Focused,
 }
 
-/// A search, and the budget of the root: 1 to 100,000 conflicts. No plan divides a formula by
-/// lookahead yet. Formula and plan fix the answer and the proof, byte for byte.
+/// A search, the budget of the root, which is 1 to 100,000 conflicts, and into how many cubes a
+/// formula is divided by lookahead before they are searched. Formula and plan fix the answer and
+/// the proof, byte for byte.
 #[derive(Clone, Copy, Debug, PartialEq, Eq)]
 pub struct Plan {
     search: Search,
     budget: u32,
     // the numbers of the focused search; the usual ones where the search is ordered
     constants: Constants,
+    // into how many cubes a formula is divided before they are searched
+    divide: u32,
 }
 
 impl Model for Plan {
@@ -36,12 +39,12 @@ impl Model for Plan {
 
     ghost Value = { plans.Plan };
 
-    ghost view = { λ p. record { search = search_of p.search p.constants; budget = p.budget; divide = 0 } };
+    ghost view = { λ p. record { search = search_of p.search p.constants; budget = p.budget; divide = p.divide } };
 
-    ghost invariant = { λ p. (1 ≤ p.budget) × (p.budget ≤ 100000) × AreInRange p.constants
+    ghost invariant = { λ p. (1 ≤ p.budget) × (p.budget ≤ 100000) × (p.divide ≤ 65536) × AreInRange p.constants
         × (constants_from (search_of p.search p.constants) ≡ p.constants) };
 
-    ghost inverse = { λ p. record { search = search_from p.search; budget = p.budget; constants = constants_from p.search } };
+    ghost inverse = { λ p. record { search = search_from p.search; budget = p.budget; constants = constants_from p.search; divide = p.divide } };
 }
 
 impl Plan {
@@ -56,6 +59,7 @@ impl Plan {
             search: Search::Ordered,
             budget,
             constants,
+            divide: 0,
         }
     }
 
@@ -78,14 +82,28 @@ impl Plan {
             search: Search::Focused,
             budget,
             constants,
+            divide: 0,
         }
     }
 
-    /// It divides no formula.
-    pub(crate) fn divides_none(&self)
-        ensures { self.now.divide ≡ 0 }
+    /// The same plan, which wants a formula to be divided into so many cubes by lookahead, before
+    /// they are searched: 0 to 65,536, where 0 and 1 divide none. The ordered search divides none.
+    pub fn divided(self, cubes: u32) -> Plan
+        requires { cubes ≤ 65536 }
+        ensures { result ≡ record self { divide = cubes } }
     {
-        let _search = &self.search; // so the proof knows the view
+        Plan {
+            divide: cubes,
+            ..self
+        }
+    }
+
+    /// Into how many cubes it wants a formula to be divided.
+    pub fn divide(&self) -> u32
+        ensures same { result ≡ self.now.divide }
+        ensures within { result ≤ 65536 }
+    {
+        self.divide
     }
 
     /// The search.

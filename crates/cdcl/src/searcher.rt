@@ -1,15 +1,15 @@
 //! The search of a plan.
-ghost use Rattle.std.specs.Prelude.{◌≡◌, ℕ, ◌≤◌, IfOk, OnOk};
+ghost use Rattle.std.specs.Prelude.{◌≡◌, ◌≤◌, IfOk, OnOk};
 ghost use Rattle.theory.specs.Truth.{Formula, IsOver};
 ghost use Rattle.theory.specs.Plans as plans;
 ghost use Rattle.theory.specs.Search.{budget_of, max_budget};
-ghost use Rattle.theory.specs.Runs.{RunsBy};
+ghost use Rattle.theory.specs.Runs.{Runs};
 ghost use Rattle.theory.specs.Results.{OutcomeSays};
 ghost use Rattle.cdcl.specs.Outcome.{outcome_of};
 ghost use Rattle.cdcl.specs.Solving.{IsReadyBy};
 
 use crate::counts::{Counts, Watcher};
-use crate::focused::FocusedSearch;
+use crate::dividing::DividingSearch;
 use crate::ordered::OrderedSearch;
 use crate::outcome::Outcome;
 use crate::plan::{Plan, Search};
@@ -22,18 +22,18 @@ use std::alloc::{AllocError, Global};
 #[derive(Drop)]
 pub(crate) enum Searcher {
     Ordered(OrderedSearch),
-    Focused(FocusedSearch),
+    Focused(DividingSearch),
 }
 
 impl Searcher {
     /// The plan's search of a formula, before its first cube.
     pub(crate) fn open(alloc: Global, formula: &Formula, plan: Plan) -> Result<Searcher, AllocError>
-        ensures { IfOk result (IsReadyBy plan.search formula.now) }
+        ensures { IfOk result (IsReadyBy plan formula.now) }
     {
         match plan.search() {
             Search::Ordered => Ok(Searcher::Ordered(OrderedSearch::open(alloc, formula)?)),
             Search::Focused => {
-                let search = FocusedSearch::open(alloc, formula, plan.constants())?;
+                let search = DividingSearch::open(alloc, formula, plan)?;
                 Ok(Searcher::Focused(search))
             }
         }
@@ -43,7 +43,7 @@ impl Searcher {
     pub(crate) fn counts(&self) -> Counts {
         match self {
             Searcher::Ordered(search) => search.counts(),
-            Searcher::Focused(search) => search.counts(),
+            Searcher::Focused(search) => search.search.counts(),
         }
     }
 
@@ -54,13 +54,13 @@ impl Searcher {
         budget: u32,
         watcher: &W,
     ) -> Result<Outcome<Row>, AllocError>
-        requires ready { (F : Formula) × (search : plans.Search) × IsReadyBy search F self.old × IsOver F.vars cube.now }
+        requires ready { (F : Formula) × (plan : plans.Plan) × IsReadyBy plan F self.old × IsOver F.vars cube.now }
         requires budget { (1 ≤ budget) × (budget ≤ max_budget) }
-        ensures runs { IfOk result (λ o. (F : Formula) (search : plans.Search) (B : ℕ) → IsReadyBy search F self.old → budget ≡ budget_of B cube.now →
-            RunsBy search F B cube.now (outcome_of o)) }
-        ensures says { IfOk result (λ o. (F : Formula) (search : plans.Search) (B : ℕ) → IsReadyBy search F self.old → budget ≡ budget_of B cube.now →
-            IsOver F.vars cube.now → OutcomeSays search F cube.now (outcome_of o)) }
-        ensures ready { OnOk result ((F : Formula) (search : plans.Search) → IsReadyBy search F self.old → IsReadyBy search F self.new) }
+        ensures runs { IfOk result (λ o. (F : Formula) (plan : plans.Plan) → IsReadyBy plan F self.old → budget ≡ budget_of plan.budget cube.now →
+            Runs F plan cube.now (outcome_of o)) }
+        ensures says { IfOk result (λ o. (F : Formula) (plan : plans.Plan) → IsReadyBy plan F self.old → budget ≡ budget_of plan.budget cube.now →
+            IsOver F.vars cube.now → OutcomeSays plan.search F cube.now (outcome_of o)) }
+        ensures ready { OnOk result ((F : Formula) (plan : plans.Plan) → IsReadyBy plan F self.old → IsReadyBy plan F self.new) }
     {
         match self {
             Searcher::Ordered(search) => {
@@ -68,8 +68,9 @@ impl Searcher {
                 search.run(budget, watcher)
             }
             Searcher::Focused(search) => {
-                search.begin(cube)?;
-                search.run(budget, watcher)
+                let _trail = search.search.kernel.trail(); // it ensures what the clauses are over
+                let _lits = cube.lits(); // it ensures that they are distinct
+                search.solve(cube, budget, watcher)
             }
         }
     }

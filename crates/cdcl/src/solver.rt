@@ -21,8 +21,9 @@ use std::snapshot::Snapshot;
 /// Solves cubes of one formula by one plan. The formula's clauses are copied once, with a unit
 /// clause for each of its pure literals, and the room for analysis is made once, so that a cube
 /// costs what its search does and not what the formula holds. A cube's budget is the root's times
-/// one more than the cube's literals, and at most 1,000,000. Once a call has met want of memory,
-/// each later one answers it.
+/// one more than the cube's literals, and at most 1,000,000. Where the plan wants a division, the
+/// first cube of few literals is preceded by a search of up to 20,000 conflicts, which says whether
+/// the formula is divided. Once a call has met want of memory, each later one answers it.
 pub struct Solver {
     search: Searcher,
     // which formula it is; it is no data, and takes no room
@@ -52,7 +53,7 @@ impl Model for Solver {
 
     ghost view = { λ a. record { formula = a.formula.value; plan = a.plan; short = a.short } };
 
-    ghost invariant = { λ a. a.short ≡ false → IsReadyBy a.plan.search a.formula.value a.search };
+    ghost invariant = { λ a. a.short ≡ false → IsReadyBy a.plan a.formula.value a.search };
 }
 
 impl Solver {
@@ -69,9 +70,9 @@ impl Solver {
         })
     }
 
-    /// The outcome of a cube over the formula's variables, by the plan's search: whatever cubes
-    /// came before, it is the same. It takes time by what the search does, and by the variables for
-    /// a model alone. An error comes only where an earlier call has met want of memory, or where a
+    /// The outcome of a cube over the formula's variables, by the plan: whatever cubes came before,
+    /// it is the same. It takes time by what the search does, and by the variables for a model
+    /// alone. An error comes only where an earlier call has met want of memory, or where a
     /// request for memory is refused, and from then on.
     pub fn solve(&mut self, cube: &Cube) -> Result<Outcome<Row>, AllocError>
         requires over { IsOver self.old.formula.vars cube.now }
@@ -113,7 +114,6 @@ impl Solver {
         if watcher.stops() {
             return Err(AllocError);
         }
-        self.plan.divides_none();
         let conflicts = budget_of(self.plan.budget(), cube.lits().len());
         let outcome = self.search.solve(cube, conflicts, watcher)?;
         watcher.counted(self.search.counts());

@@ -6,6 +6,8 @@ mod budgets;
 #[cfg(test)]
 mod conflicts;
 #[cfg(test)]
+mod divided;
+#[cfg(test)]
 mod focused;
 #[cfg(test)]
 mod kernels;

@@ -25,12 +25,17 @@ pub enum Wanted<'a> {
     Refuted(&'a [WantedLine<'a>]),
 }
 
+/// The outcome of a cube, by a plan.
+pub fn cube_by(alloc: Global, text: &[u8], cube: &[i32], plan: Plan) -> Result<Outcome, Fail> {
+    let formula = read_formula(alloc, text)?;
+    let cube = cube_of(alloc, formula.vars(), cube)?;
+    let outcome = solve_cube_by_plan(alloc, &formula, &cube, plan)?;
+    Ok(outcome.unpacked(alloc)?)
+}
+
 /// The outcome of the root, by a plan.
 pub fn outcome_by(alloc: Global, text: &[u8], plan: Plan) -> Result<Outcome, Fail> {
-    let formula = read_formula(alloc, text)?;
-    let root = cube_of(alloc, formula.vars(), &[])?;
-    let outcome = solve_cube_by_plan(alloc, &formula, &root, plan)?;
-    Ok(outcome.unpacked(alloc)?)
+    cube_by(alloc, text, &[], plan)
 }
 
 /// The outcome of a cube.

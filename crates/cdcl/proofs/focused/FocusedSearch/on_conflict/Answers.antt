@@ -9,7 +9,7 @@ pub returns-then-self-budget-clause-next : goal.returns-then-self-budget-clause-
 returns-then-self-budget-clause-next c saved h =
     let level = current_level c.args.self.now.kernel.trail in
     let above : nat_eq level 0 ≡ false = false_unless (nat_eq level 0) (λ t. let e = eqb-true level 0 t in let is = c.level.ensures in let other = c.if-level-eq0.false in absurd (omega arith)) in
-    Follows-exhausted c.args.budget c.args.number c.args.self.now _ saved c.in_ok-split.field-0 _ above (let last = c.if-self-budget.true in omega arith) (c.in_ok-split.ensures.splits saved) refl
+    Follows-exhausted c.args.budget c.args.number c.args.self.now _ saved c.in_ok-split.field-0 _ above (let last = c.if-self-budget.true in omega arith) (c.in_ok-split.ensures.splits saved) refl c.in_ok-split.ensures.decided
 
 pub returns-clause-next : goal.returns-clause-next
 returns-clause-next c saved h =

@@ -5,7 +5,7 @@ use Rattle.theory.proofs.searching.SearchSoundness.{Propagates-says}
 use Rattle.theory.proofs.searching.BestVariables.{best_outside-some}
 use Rattle.theory.specs.Trails.{literals, current_level}
 use Rattle.theory.proofs.literals.OverVariables.{AreOver-from_IsOver}
-use Rattle.cdcl.proofs.Progress.{length-lawful}
+use Rattle.lookahead.proofs.TrailLengths.{length-lawful}
 use Rattle.cdcl.proofs.FocusedLemmas.{if-false}
 use Rattle.cdcl.proofs.FocusedSteps.{Follows-decided}
 use Rattle.cdcl.proofs.focused.FocusedSearch.on_quiet.Goals as goal

@@ -2,14 +2,23 @@ use Rattle.std.proofs.Common.{◌∙◌, None, refl}
 use Rattle.theory.specs.Truth.{Assignment}
 use Rattle.cdcl.specs.Focusing.{HasSaved, IsFocusedSearchStep, GoesOnward}
 use Rattle.cdcl.proofs.Steps.{GoesOn-trans}
-use Rattle.cdcl.proofs.FocusedSteps.{LeadsTo-step, LeadsTo-ends, GoesOnward-less}
+use Rattle.cdcl.proofs.FocusedSteps.{GoesTo-first, GoesTo-step, GoesTo-ends, GoesOnward-less}
 use Rattle.cdcl.proofs.focused.FocusedSearch.run.Given.{Over}
 use Rattle.cdcl.proofs.focused.FocusedSearch.run.Goals as goal
 use Rattle.cdcl.proofs.focused.FocusedSearch.run.Goals.{In_ok-told}
 
+pub steps-init : goal.steps-init
+steps-init g c = record {
+  focusing = c.requires.focusing;
+  counted = c.requires.counted.0;
+  goes_on = (refl, refl, refl, c.requires.focusing.searching.has_memory, refl);
+  constants = refl;
+  leads = GoesTo-first c.args.budget c.args.self.now;
+}
+
 pub returns-in-Some-clause-runs : goal.returns-in-Some-clause-runs
 returns-in-Some-clause-runs g c =
-    LeadsTo-ends c.args.budget c.args.self.now c.steps.self c.step.new.self c.in-Some.outcome c.steps.invariant.constants c.steps.invariant.goes_on.0 c.steps.invariant.leads (rw c.in-Some.is at c.in_ok-outcome.ensures.step)
+    GoesTo-ends c.args.budget c.args.self.now c.steps.self c.step.new.self c.in-Some.outcome c.steps.invariant.constants c.steps.invariant.goes_on.0 c.steps.invariant.leads (rw c.in-Some.is at c.in_ok-outcome.ensures.step)
 
 went_on : (g : Over) (c : In_ok-told g) → (saved : Assignment) → HasSaved c.steps.self saved → IsFocusedSearchStep c.args.budget c.steps.self saved None c.step.new.self
 went_on g c = rw c.in_default.is at c.in_ok-outcome.ensures.step
@@ -32,5 +41,5 @@ steps-preserved g c = record {
   counted = (onward g c).counted;
   goes_on = GoesOn-trans c.args.self.now.kernel c.steps.self.kernel c.step.new.self.kernel c.steps.invariant.goes_on c.in_ok-outcome.ensures.kept.goes_on;
   constants = c.in_ok-outcome.ensures.kept.constants ∙ c.steps.invariant.constants;
-  leads = LeadsTo-step c.args.budget c.args.self.now c.steps.self c.step.new.self c.steps.invariant.constants c.steps.invariant.goes_on.0 c.steps.invariant.leads (went_on g c);
+  leads = GoesTo-step c.args.budget c.args.self.now c.steps.self c.step.new.self c.steps.invariant.constants c.steps.invariant.goes_on.0 c.steps.invariant.leads (went_on g c);
 }

@@ -2,17 +2,17 @@ use Rattle.std.proofs.Common.{◌≡◌, ◌<◌}
 use Rattle.cdcl.specs.Searching.{GoesOn}
 use Rattle.cdcl.specs.Focusing.{IsFocusing}
 use Rattle.cdcl.proofs.Progress.{remaining}
-use Rattle.cdcl.proofs.FocusedSteps.{LeadsTo}
+use Rattle.cdcl.proofs.FocusedSteps.{GoesTo}
 use Rattle.cdcl.proofs.focused.FocusedSearch.run.Given as goal
 
--- whatever the state leads to, the state at first does
+-- the search went from the state at first to this one
 abbrev pub invariant-steps : goal.invariant-steps
 invariant-steps g l = record {
   focusing : IsFocusing l.self;
   counted : l.self.conflicts < l.budget;
   goes_on : GoesOn l.initial.self.kernel l.self.kernel;
   constants : l.self.constants ≡ l.initial.self.constants;
-  leads : LeadsTo l.budget l.initial.self l.self;
+  leads : GoesTo l.budget l.initial.self l.self;
 }
 
 abbrev pub decreases-steps : goal.decreases-steps

@@ -1,0 +1,27 @@
+use Rattle.std.proofs.Common.{◌≡◌, ◌∙◌, ap, length, subst, sym}
+use Rattle.theory.specs.Truth.{IsOver}
+use Rattle.theory.specs.Search.{budget_of}
+use Rattle.theory.specs.Results.{OutcomeSays}
+use Rattle.cdcl.specs.Outcome.{outcome_of}
+use Rattle.cdcl.specs.Solving.{Solving}
+use Rattle.cdcl.proofs.solver.Solver.solve_watched.Goals as goal
+
+pub solve-requires-clause-ready : goal.solve-requires-clause-ready
+solve-requires-clause-ready g c = (
+  c.self.inside.formula.value,
+  c.self.inside.plan,
+  c.self.invariant c.if-self.false,
+  subst (λ (s : Solving). IsOver s.formula.vars c.args.cube.now) (sym c.self.view_is) c.requires.over,
+)
+
+pub invariant_of-self-2 : goal.invariant_of-self-2
+invariant_of-self-2 g c e = c.in_ok-outcome.ensures.ready c.self.inside.formula.value c.self.inside.plan (c.self.invariant c.if-self.false)
+
+pub returns-clause-says : goal.returns-clause-says
+returns-clause-says g c =
+    let Q = c.args.cube.now in
+    let conflicts : c.budget_of-conflicts.result ≡ budget_of c.self.inside.plan.budget Q
+    = c.budget_of-conflicts.ensures.same Q (ap length (sym c.lits.ensures.lits)) ∙ ap (λ B. budget_of B Q) c.budget.ensures.same in
+    let over = subst (λ (s : Solving). IsOver s.formula.vars Q) (sym c.self.view_is) c.requires.over in
+    subst (λ (s : Solving). OutcomeSays s.plan.search s.formula Q (outcome_of c.in_ok-outcome.outcome)) c.self.view_is
+    (c.in_ok-outcome.ensures.says c.self.inside.formula.value c.self.inside.plan (c.self.invariant c.if-self.false) conflicts over)

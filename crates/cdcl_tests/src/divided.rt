@@ -1,0 +1,168 @@
+//! Worked cubes of formulas that are divided by lookahead. What the first five come to is worked out
+//! by hand, and what the others do is from a program of its own, which goes by the definition.
+ghost use Rattle.std.specs.Prelude.{◌≤◌};
+
+use crate::outcomes::{Wanted, cube_by, is_wanted};
+use cdcl::{Plan, Solver};
+use cnf::read_formula;
+use samples::{FOUR, cube_of};
+use std::alloc::Global;
+use std::test::Fail;
+
+/// A formula, a plan and a cube, and what that is to come to.
+struct Row<'a> {
+    name: &'a str,
+    text: &'a [u8],
+    budget: u32,
+    divide: u32,
+    cube: &'a [i32],
+    wanted: Wanted<'a>,
+}
+
+static ROWS: [Row; 14] = [
+    Row {
+        name: "four, both literals fail",
+        text: FOUR,
+        budget: 1,
+        divide: 2,
+        cube: &[],
+        wanted: Wanted::ExhaustedOn(2),
+    },
+    Row {
+        name: "four, the half with the negation is searched",
+        text: FOUR,
+        budget: 1,
+        divide: 2,
+        cube: &[-2],
+        wanted: Wanted::Refuted(&[(&[], &[1, 3])]),
+    },
+    Row {
+        name: "four, the other half is looked at",
+        text: FOUR,
+        budget: 1,
+        divide: 3,
+        cube: &[2],
+        wanted: Wanted::Refuted(&[(&[], &[2, 4])]),
+    },
+    Row {
+        name: "four, refuted before it is asked",
+        text: FOUR,
+        budget: 2,
+        divide: 2,
+        cube: &[],
+        wanted: Wanted::Refuted(&[(&[2], &[1, 3]), (&[], &[5, 2, 4])]),
+    },
+    // 33 fails, but 32 variables rank before it
+    Row {
+        name: "more candidates than are tried",
+        text: b"p cnf 33 34\n1 -2 0\n-1 2 0\n3 -4 0\n-3 4 0\n5 -6 0\n-5 6 0\n7 -8 0\n-7 8 0\n9 -10 0\n-9 10 0\n11 -12 0\n-11 12 0\n13 -14 0\n-13 14 0\n15 -16 0\n-15 16 0\n17 -18 0\n-17 18 0\n19 -20 0\n-19 20 0\n21 -22 0\n-21 22 0\n23 -24 0\n-23 24 0\n25 -26 0\n-25 26 0\n27 -28 0\n-27 28 0\n29 -30 0\n-29 30 0\n31 -32 0\n-31 32 0\n33 32 0\n33 -32 0\n",
+        budget: 1,
+        divide: 2,
+        cube: &[],
+        wanted: Wanted::ExhaustedOn(32),
+    },
+    Row {
+        name: "refuted by a look",
+        text: b"p cnf 6 26\n6 -1 0\n5 1 2 0\n-5 4 1 0\n5 6 -4 0\n-3 -4 -2 0\n1 -5 2 0\n-5 2 4 0\n3 6 0\n-1 -5 -3 0\n-5 1 6 0\n-4 1 0\n-3 6 -4 0\n-4 1 -5 0\n-3 4 0\n-3 2 0\n3 -2 5 0\n-4 -6 -3 0\n-6 4 3 0\n-2 6 -5 0\n3 -6 -1 0\n2 -5 -1 0\n4 6 0\n1 2 0\n1 -3 -6 0\n-5 -1 6 0\n3 5 6 0\n",
+        budget: 2,
+        divide: 8,
+        cube: &[-1],
+        wanted: Wanted::Refuted(&[(&[], &[11, 23, 3, 14, 16])]),
+    },
+    Row {
+        name: "satisfied clauses count",
+        text: b"p cnf 6 21\n4 3 0\n1 5 -4 0\n2 4 0\n-4 -3 -1 0\n-6 2 -1 0\n-1 -5 4 0\n5 -1 2 0\n-6 -2 1 0\n5 -3 -4 0\n5 3 2 0\n-6 3 -5 0\n-5 1 -3 0\n-3 5 4 0\n5 2 3 0\n3 -5 -6 0\n6 1 -5 0\n-5 3 0\n5 -1 6 0\n-5 -2 4 0\n2 -6 0\n-4 -1 -5 0\n",
+        budget: 2,
+        divide: 4,
+        cube: &[-5],
+        wanted: Wanted::ExhaustedOn(3),
+    },
+    Row {
+        name: "fails on the left",
+        text: b"p cnf 8 28\n8 -6 -7 0\n-4 -2 6 0\n7 3 5 0\n-3 2 -5 0\n4 5 -6 0\n-2 -6 -5 0\n-8 -2 -5 0\n2 4 -6 0\n2 -8 0\n4 1 0\n-8 3 -1 0\n2 -6 3 0\n5 -1 -2 0\n-1 7 0\n2 1 -6 0\n8 1 7 0\n-5 -7 -6 0\n5 -4 1 0\n-1 7 0\n-8 2 0\n-2 3 7 0\n-4 2 3 0\n-6 1 3 0\n1 -6 0\n-7 3 -1 0\n-1 -5 -8 0\n-6 7 -3 0\n-2 -3 -7 0\n",
+        budget: 2,
+        divide: 8,
+        cube: &[],
+        wanted: Wanted::ExhaustedOn(1),
+    },
+    Row {
+        name: "fails on the right",
+        text: b"p cnf 8 21\n4 -1 0\n5 -6 0\n-4 6 0\n-7 -4 -8 0\n2 -3 -4 0\n8 1 3 0\n5 1 2 0\n-4 -2 8 0\n7 -3 2 0\n8 -4 1 0\n8 -2 -5 0\n-6 2 1 0\n6 3 -7 0\n-6 -3 -7 0\n-8 -6 -7 0\n-7 4 0\n7 3 -1 0\n8 5 1 0\n-1 7 3 0\n-6 2 8 0\n-5 1 -2 0\n",
+        budget: 2,
+        divide: 8,
+        cube: &[],
+        wanted: Wanted::ExhaustedOn(7),
+    },
+    Row {
+        name: "not divisible",
+        text: b"p cnf 7 20\n-6 -4 3 0\n-3 1 2 0\n7 1 -5 0\n-1 -7 -4 0\n-5 -6 -1 0\n3 -5 7 0\n-1 -3 -2 0\n-5 1 6 0\n-5 1 0\n4 -6 1 0\n-3 6 -1 0\n3 5 0\n-7 3 -1 0\n-6 -5 -7 0\n-4 -6 5 0\n1 -7 -2 0\n-4 7 -5 0\n4 -5 -2 0\n2 4 1 0\n6 -2 0\n",
+        budget: 3,
+        divide: 8,
+        cube: &[],
+        wanted: Wanted::ExhaustedOn(3),
+    },
+    Row {
+        name: "equal worth",
+        text: b"p cnf 7 25\n-5 7 -3 0\n-1 -5 4 0\n-1 6 3 0\n-7 3 -1 0\n5 -4 3 0\n-3 -4 -2 0\n2 -5 -6 0\n2 -6 7 0\n6 -3 -4 0\n-3 -7 1 0\n-1 6 -2 0\n-2 5 0\n2 -5 6 0\n4 1 -2 0\n-7 1 5 0\n-6 1 3 0\n2 7 3 0\n-3 -4 -1 0\n-5 6 7 0\n6 3 1 0\n3 -6 -2 0\n-6 1 4 0\n-6 1 -5 0\n4 -3 2 0\n-1 6 3 0\n",
+        budget: 2,
+        divide: 3,
+        cube: &[],
+        wanted: Wanted::ExhaustedOn(2),
+    },
+    Row {
+        name: "a model by a look",
+        text: b"p cnf 7 22\n-1 6 2 0\n4 -2 3 0\n-7 2 4 0\n-7 3 -5 0\n6 3 0\n2 -1 5 0\n7 -2 0\n-5 -6 -2 0\n-3 7 1 0\n2 -7 -5 0\n-6 -5 7 0\n-6 -2 7 0\n5 1 -7 0\n1 5 0\n-7 -3 -1 0\n3 1 -7 0\n5 -1 2 0\n-5 -6 -7 0\n6 -7 0\n7 -1 -6 0\n6 1 -5 0\n2 -3 0\n",
+        budget: 1,
+        divide: 3,
+        cube: &[7],
+        wanted: Wanted::Model(&[true, true, false, true, false, true, true]),
+    },
+    Row {
+        name: "worth not by the sum",
+        text: b"p cnf 9 22\n9 -5 -3 0\n8 2 4 0\n-2 -1 0\n-5 -1 0\n8 -6 -7 0\n-4 9 1 0\n-5 7 9 0\n8 4 -7 0\n-9 3 5 0\n8 3 -6 0\n2 1 -3 0\n-6 8 5 0\n4 2 9 0\n-2 -3 0\n-4 -3 1 0\n5 3 7 0\n8 6 -1 0\n6 -3 0\n2 -7 0\n-8 9 4 0\n-2 5 1 0\n2 6 0\n",
+        budget: 2,
+        divide: 3,
+        cube: &[],
+        wanted: Wanted::ExhaustedOn(2),
+    },
+    Row {
+        name: "searched and exhausted",
+        text: b"p cnf 24 103\n21 19 -7 0\n19 21 12 0\n9 -12 23 0\n-18 -8 -3 0\n23 11 -20 0\n3 9 -17 0\n-9 -11 12 0\n19 14 -16 0\n-9 18 19 0\n-17 -1 -6 0\n-20 2 -13 0\n-17 -6 22 0\n18 5 -14 0\n-11 -10 -21 0\n22 1 6 0\n7 20 22 0\n16 -1 20 0\n16 1 -14 0\n-19 3 20 0\n-21 -14 -6 0\n3 -8 -16 0\n5 -6 1 0\n-5 16 -8 0\n-4 -23 -14 0\n21 24 -5 0\n12 -14 16 0\n-11 -20 21 0\n2 9 14 0\n-14 10 -13 0\n17 -3 7 0\n1 15 11 0\n-7 -13 22 0\n-9 -8 1 0\n-3 -16 17 0\n21 -9 10 0\n6 5 -16 0\n-21 23 24 0\n-6 21 -3 0\n6 -15 19 0\n-16 3 -8 0\n5 -11 -16 0\n12 -15 24 0\n1 -24 3 0\n-15 -23 -19 0\n24 8 -1 0\n-14 21 -12 0\n-1 -19 9 0\n20 4 16 0\n-4 6 -8 0\n-3 21 5 0\n-16 -18 12 0\n-13 9 -17 0\n15 7 -22 0\n12 -22 -11 0\n-18 10 22 0\n-16 15 13 0\n-1 -21 8 0\n4 -3 12 0\n13 -18 3 0\n-10 -23 20 0\n-13 -18 19 0\n-17 -15 -12 0\n-1 14 -5 0\n-8 11 -2 0\n10 -16 23 0\n-8 -12 -15 0\n-10 -21 7 0\n-23 -3 -14 0\n16 -14 -21 0\n-12 10 -7 0\n-24 -10 22 0\n-21 2 -4 0\n-15 -1 -22 0\n-17 -24 -22 0\n12 18 15 0\n-19 -14 -10 0\n-19 -18 -4 0\n-2 19 -12 0\n-15 -7 -9 0\n10 -24 11 0\n-3 6 -13 0\n2 18 -15 0\n21 -1 -23 0\n15 4 -8 0\n-11 -21 19 0\n17 15 12 0\n-13 18 19 0\n-6 8 -21 0\n22 -4 -13 0\n-14 -3 7 0\n-6 -16 15 0\n4 6 3 0\n14 -15 -3 0\n24 -9 3 0\n-11 4 10 0\n-19 4 -17 0\n-12 -24 -6 0\n4 -19 12 0\n19 -8 -5 0\n-7 -24 14 0\n-5 -6 -13 0\n-18 19 3 0\n-7 22 -3 0\n",
+        budget: 3,
+        divide: 3,
+        cube: &[-3, -18],
+        wanted: Wanted::ExhaustedOn(15),
+    },
+];
+
+/// Whether the row's cube comes to what is wanted.
+fn comes(alloc: Global, row: &Row) -> Result<bool, Fail> {
+    if row.budget < 1 || row.budget > 100_000 || row.divide > 65_536 {
+        return Ok(false);
+    }
+    let plan = Plan::focused(row.budget).divided(row.divide);
+    Ok(is_wanted(&cube_by(alloc, row.text, row.cube, plan)?, row.wanted))
+}
+
+#[test]
+fn divided_formulas(rt: HostRuntime) -> Result<(), Fail> {
+    for row in &ROWS {
+        assert_eq!(rt; (row.name, comes(rt.alloc(), row)?), (row.name, true));
+    }
+    Ok(())
+}
+
+#[test]
+fn one_solver_asks_once(rt: HostRuntime) -> Result<(), Fail> {
+    let alloc = rt.alloc();
+    let formula = read_formula(alloc, FOUR)?;
+    let mut solver = Solver::open(alloc, &formula, Plan::focused(1).divided(2))?;
+    let root = cube_of(alloc, formula.vars(), &[])?;
+    let first = solver.solve(&root)?.unpacked(alloc)?;
+    let again = solver.solve(&root)?.unpacked(alloc)?;
+    assert!(rt; is_wanted(&first, Wanted::ExhaustedOn(2)));
+    assert!(rt; is_wanted(&again, Wanted::ExhaustedOn(2)));
+    // one conflict of the first search, and one of each look
+    assert_eq!(rt; solver.counts().conflicts, 3);
+    Ok(())
+}
