@@ -20,11 +20,14 @@ __all__ = ["BadClauses", "Error", "Fault", "NoProgram", "OutOfTime", "dimacs", "
 
 StrPath = Union[str, "os.PathLike[str]"]
 
-# What the program reads at most. It has a limit of 67,108,864 bytes, too, which no text of ours
-# reaches that keeps these.
+# What the program reads at most, and with `--large`. It has a limit of bytes, too, which no text of
+# ours reaches that keeps these.
 MOST_VARIABLES = 262_143
 MOST_CLAUSES = 1_000_000
 MOST_LITERALS = 8_000_000
+LARGE_VARIABLES = 100_000_000
+LARGE_CLAUSES = 1_000_000_000
+LARGE_LITERALS = 8_000_000_000
 
 SATISFIABLE = 10
 UNSATISFIABLE = 20
@@ -67,6 +70,7 @@ def solve(
     budget: int | None = None,
     hands: int = 1,
     seconds: int | None = None,
+    large: bool = False,
     check: bool = True,
     proof: StrPath | None = None,
     program: StrPath | None = None,
@@ -84,6 +88,8 @@ def solve(
                for "focused". Another budget gives another proof, and by "focused" maybe another model
     hands:     threads, 1 to 16; they change neither the answer nor the proof
     seconds:   after how many the search is given up, with OutOfTime; without it, never
+    large:     whether the formula may have up to 100,000,000 variables, 1,000,000,000 clauses and
+               8,000,000,000 literals, and not 262,143, 1,000,000 and 8,000,000 alone
     check:     whether the proof is checked
     proof:     where to keep the proof, which is empty where there is a model; a run that fails leaves
                what is there
@@ -91,7 +97,7 @@ def solve(
 
     Raises BadClauses, NoProgram, OutOfTime, or Fault. Formula and proof are written to a temporary folder (TMPDIR says where), but for a proof that is kept.
     """
-    text = dimacs(clauses, variables)
+    text = dimacs(clauses, variables, large=large)
     path = find_program(program)
     with tempfile.TemporaryDirectory(prefix="cubesat-") as folder:
         formula = os.path.join(folder, "formula.cnf")
@@ -100,6 +106,7 @@ def solve(
             file.write(text)
         options = ["--search", search, "--hands", str(hands)] + ([] if budget is None else ["--budget", str(budget)])
         options += [] if seconds is None else ["--seconds", str(seconds)]
+        options += ["--large"] if large else []
         options += ["--proof", written] if check or proof is not None else []
         ran = _run(path, "solve", *options, formula)
         if ran.returncode == SATISFIABLE:
@@ -109,28 +116,31 @@ def solve(
         if ran.returncode != UNSATISFIABLE:
             raise _fault(ran)
         if check:
-            checked = _run(path, "check", formula, written)
+            checked = _run(path, "check", *(["--large"] if large else []), formula, written)
             if (checked.returncode, checked.stdout) != (0, "accepted\n"):
                 raise _fault(checked)
     return None
 
 
-def dimacs(clauses: Iterable[Iterable[int]], variables: int | None = None) -> str:
+def dimacs(clauses: Iterable[Iterable[int]], variables: int | None = None, *, large: bool = False) -> str:
     """The clauses as a text in DIMACS CNF, one a line, or BadClauses. So many variables are declared, or without a number, up to the greatest."""
+    most_variables, most_clauses, most_literals = (
+        (LARGE_VARIABLES, LARGE_CLAUSES, LARGE_LITERALS) if large else (MOST_VARIABLES, MOST_CLAUSES, MOST_LITERALS)
+    )
     lines, count, greatest = [], 0, 0
     for number, clause in enumerate(clauses, 1):
         literals = _literals(clause, number)
         count += len(literals)
-        if number > MOST_CLAUSES or count > MOST_LITERALS:
-            raise BadClauses(f"clause {number}: more than {MOST_CLAUSES:,} clauses or {MOST_LITERALS:,} literals")
+        if number > most_clauses or count > most_literals:
+            raise BadClauses(f"clause {number}: more than {most_clauses:,} clauses or {most_literals:,} literals")
         greatest = max(greatest, max(map(abs, literals), default=0))
-        if greatest > MOST_VARIABLES:
-            raise BadClauses(f"clause {number}: a variable over {MOST_VARIABLES:,}, the greatest that there may be")
+        if greatest > most_variables:
+            raise BadClauses(f"clause {number}: a variable over {most_variables:,}, the greatest that there may be")
         lines.append(" ".join(map(str, (*literals, 0))))
     if variables is None:
         variables = greatest
-    if type(variables) is not int or not greatest <= variables <= MOST_VARIABLES:
-        raise BadClauses(f"variables: not a number from {greatest}, the greatest in a clause, to {MOST_VARIABLES:,}")
+    if type(variables) is not int or not greatest <= variables <= most_variables:
+        raise BadClauses(f"variables: not a number from {greatest}, the greatest in a clause, to {most_variables:,}")
     return "\n".join([f"p cnf {variables} {len(lines)}", *lines, ""])
 
 

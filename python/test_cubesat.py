@@ -96,6 +96,13 @@ class Answers(InFolder):
         self.assertEqual(cubesat.solve(ALTERNATING, seconds=1000), [-1, 2, -3])
         self.assertIsNone(cubesat.solve(PIGEONS, seconds=1000))
 
+    def test_large(self):
+        self.assertIsNone(cubesat.solve(PIGEONS, large=True))
+        model = cubesat.solve([[262_144]], large=True)
+        self.assertEqual(model, [*range(-1, -262_144, -1), 262_144])
+        self.assertRaises(cubesat.BadClauses, cubesat.solve, [[262_144]])
+        self.assertRaises(cubesat.BadClauses, cubesat.solve, [[100_000_001]], large=True)
+
     def test_kept_proof_is_accepted(self):
         formula, proof = os.path.join(self.folder, "f.cnf"), os.path.join(self.folder, "f.lrat")
         with open(formula, "w") as file:

@@ -159,8 +159,8 @@ Follows-decided budget s t saved x f counted calm best has went lawful over clau
       few = rw vars f.few;
       equipped = equipped;
       scores = subst (λ (u : FocusedSearch). All (λ y. y ≤ u.conflicts * 2 ^ 40) t.decisions.scores.scores.scores) (sym is) (rw scores f.scores);
-      total = subst (λ (u : FocusedSearch). u.averages.glues.total ≤ u.conflicts * 2 ^ 20) (sym is) f.total;
-      decided = subst (λ (u : FocusedSearch). u.decided ≤ u.conflicts * 2 ^ 18 + length t.kernel.trail) (sym is)
+      total = subst (λ (u : FocusedSearch). u.averages.glues.total ≤ u.conflicts * 2 ^ 27) (sym is) f.total;
+      decided = subst (λ (u : FocusedSearch). u.decided ≤ u.conflicts * 2 ^ 27 + length t.kernel.trail) (sym is)
           (let one = length-append s.kernel.trail (e ∷ []) in let long = ap length trail in let most = f.decided in omega arith);
       learnt = subst (λ (u : FocusedSearch). length t.kernel.clauses ≡ t.kernel.first + length u.lines) (sym is) (rw (clauses, ap (λ (k : State). k.first) went) f.learnt);
       glues = subst (λ (u : FocusedSearch). length u.glues.items ≡ length u.lines) (sym is) f.glues;

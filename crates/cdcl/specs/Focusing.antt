@@ -2,7 +2,7 @@
 use Rattle.std.specs.Prelude.{◌≡◌, ℕ, ◌+◌, ◌*◌, ◌^◌, ◌<◌, ◌≤◌, ◌⊎◌, false, Option, Some, None, List, length, map, drop, All}
 use Rattle.theory.specs.Literals.{Literal, Clause}
 use Rattle.theory.specs.Truth.{Formula, Assignment}
-use Rattle.theory.specs.Reading.{max_vars}
+use Rattle.theory.specs.Reading.{large, max_vars}
 use Rattle.theory.specs.Plans.{Constants}
 use Rattle.theory.specs.Trails.{literals, current_level, variables}
 use Rattle.theory.specs.Propagation.{Closed, least_false}
@@ -48,15 +48,15 @@ pub record IsEquipped (s : FocusedSearch) : Type 0 where
   pub averaged : s.averages.constants ≡ s.constants
 
 -- what it keeps from step to step: each score gains less than 2 ^ 40 at a conflict, each glue is at
--- most 2 ^ 20, and between two conflicts fewer than 2 ^ 18 literals are decided, each of which is on
+-- most 2 ^ 27, and between two conflicts fewer than 2 ^ 27 literals are decided, each of which is on
 -- the trail
 pub record IsFocusing (s : FocusedSearch) : Type 0 where
   pub searching : IsSearching ByPlace s.kernel
-  pub few : s.kernel.vars ≤ max_vars
+  pub few : s.kernel.vars ≤ max_vars large
   pub equipped : IsEquipped s
   pub scores : All (λ x. x ≤ s.conflicts * 2 ^ 40) s.decisions.scores.scores.scores
-  pub total : s.averages.glues.total ≤ s.conflicts * 2 ^ 20
-  pub decided : s.decided ≤ s.conflicts * 2 ^ 18 + length s.kernel.trail
+  pub total : s.averages.glues.total ≤ s.conflicts * 2 ^ 27
+  pub decided : s.decided ≤ s.conflicts * 2 ^ 27 + length s.kernel.trail
   -- behind the first clauses stand those of the lines, each with its glue
   pub learnt : length s.kernel.clauses ≡ s.kernel.first + length s.lines
   pub glues : length s.glues.items ≡ length s.lines

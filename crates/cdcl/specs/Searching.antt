@@ -2,7 +2,7 @@
 use Rattle.std.specs.Prelude.{◌≡◌, ℕ, ◌<◌, ◌≤◌, ◌^◌, false, Option, Some, None, List, length, take, All}
 use Rattle.theory.specs.Literals.{Literal}
 use Rattle.theory.specs.Truth.{Formula, IsOver}
-use Rattle.theory.specs.Reading.{max_vars}
+use Rattle.theory.specs.Reading.{large, max_vars}
 use Rattle.theory.specs.Trails.{literals}
 use Rattle.theory.specs.Lawful.{IsLawful}
 use Rattle.theory.specs.Learnable.{IsOpenBelow}
@@ -22,7 +22,7 @@ pub record IsReady (order : Order) (F : Formula) (k : State) : Type 0 where
   pub has_memory : k.short ≡ false
   pub in_order : k.order ≡ order
   pub vars : k.vars ≡ F.vars
-  pub few : F.vars ≤ max_vars
+  pub few : F.vars ≤ max_vars large
   pub first : k.first ≡ length (first_clauses F)
   pub clauses : take k.first k.clauses ≡ first_clauses F
 

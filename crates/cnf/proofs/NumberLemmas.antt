@@ -43,8 +43,8 @@ digits-next bytes i j size next above within digits digit s n =
 
 -- the same where sizes above 100,000,000 are read as that
 pub digits-more : (bytes : List ℕ) (i j size next : ℕ) → i ≤ j → j < length bytes → all_ascii_digits (slice_range bytes i j) ≡ true → is_ascii_digit (get_or bytes j 0) ≡ true
-    → size ≡ min 100000000 (digits_value 10 (slice_range bytes i j)) → next ≡ min 100000000 (size * 10 + (get_or bytes j 0 - 48))
-    → (all_ascii_digits (slice_range bytes i (j + 1)) ≡ true) × (next ≡ min 100000000 (digits_value 10 (slice_range bytes i (j + 1))))
+    → size ≡ min 10000000000 (digits_value 10 (slice_range bytes i j)) → next ≡ min 10000000000 (size * 10 + (get_or bytes j 0 - 48))
+    → (all_ascii_digits (slice_range bytes i (j + 1)) ≡ true) × (next ≡ min 10000000000 (digits_value 10 (slice_range bytes i (j + 1))))
 digits-more bytes i j size next above within digits digit s n =
     let exact = digits-next bytes i j (digits_value 10 (slice_range bytes i j)) (digits_value 10 (slice_range bytes i j) * 10 + (get_or bytes j 0 - 48)) above within digits digit refl refl in
     (exact.0, omega (arith, exact.1))
@@ -123,7 +123,7 @@ plain-ended m bytes i k j from to within h =
     (ap is_ascii_digit (get_or-slice bytes i j (k - i) (omega arith) ∙ ap (λ n. get_or bytes n 0) (let e : i + (k - i) ≡ k = omega arith in e)) ∙ h))
 
 -- a word as a number
-plain-number : (b : ℕ) (w : List ℕ) (plain : Bool) (size : ℕ) → (b ≡ 45 → ⊥) → plain ≡ is_plain_text false (b ∷ w) → (plain ≡ true → size ≡ min 100000000 (digits_value 10 (b ∷ w)))
+plain-number : (b : ℕ) (w : List ℕ) (plain : Bool) (size : ℕ) → (b ≡ 45 → ⊥) → plain ≡ is_plain_text false (b ∷ w) → (plain ≡ true → size ≡ min 10000000000 (digits_value 10 (b ∷ w)))
     → IsNumberOf (b ∷ w) plain false size
 plain-number b w plain size other p s =
     let n : nat_eq b 45 ≡ false = ne_eqb b 45 other in
@@ -133,7 +133,7 @@ plain-number b w plain size other p s =
     either true e = refl
     either false e = absurd (cc)
 
-minus-number : (b : ℕ) (w : List ℕ) (plain : Bool) (size : ℕ) → b ≡ 45 → plain ≡ is_plain_text true w → (plain ≡ true → size ≡ min 100000000 (digits_value 10 w))
+minus-number : (b : ℕ) (w : List ℕ) (plain : Bool) (size : ℕ) → b ≡ 45 → plain ≡ is_plain_text true w → (plain ≡ true → size ≡ min 10000000000 (digits_value 10 w))
     → IsNumberOf (b ∷ w) false plain size
 minus-number b w plain size e p s =
     let n : nat_eq b 45 ≡ true = eq-eqb b 45 e in
@@ -144,13 +144,13 @@ minus-number b w plain size e p s =
     no_natural b (c ∷ w) e = rw e refl
 
 pub number-plain : (bytes : List ℕ) (i j : ℕ) (plain : Bool) (size : ℕ) → i < j → j ≤ length bytes → (get_or bytes i 0 ≡ 45 → ⊥) → plain ≡ is_plain_text false (slice_range bytes i j)
-    → (plain ≡ true → size ≡ min 100000000 (digits_value 10 (slice_range bytes i j))) → IsNumberOf (slice_range bytes i j) plain false size
+    → (plain ≡ true → size ≡ min 10000000000 (digits_value 10 (slice_range bytes i j))) → IsNumberOf (slice_range bytes i j) plain false size
 number-plain bytes i j plain size l within other p s =
     let e = slice-first bytes i j l within in
-    rw e (plain-number (get_or bytes i 0) (slice_range bytes (i + 1) j) plain size other (p ∙ ap (is_plain_text false) e) (λ h. s h ∙ ap (λ (w : List ℕ). min 100000000 (digits_value 10 w)) e))
+    rw e (plain-number (get_or bytes i 0) (slice_range bytes (i + 1) j) plain size other (p ∙ ap (is_plain_text false) e) (λ h. s h ∙ ap (λ (w : List ℕ). min 10000000000 (digits_value 10 w)) e))
 
 pub number-minus : (bytes : List ℕ) (i j : ℕ) (plain : Bool) (size : ℕ) → i < j → j ≤ length bytes → get_or bytes i 0 ≡ 45 → plain ≡ is_plain_text true (slice_range bytes (i + 1) j)
-    → (plain ≡ true → size ≡ min 100000000 (digits_value 10 (slice_range bytes (i + 1) j))) → IsNumberOf (slice_range bytes i j) false plain size
+    → (plain ≡ true → size ≡ min 10000000000 (digits_value 10 (slice_range bytes (i + 1) j))) → IsNumberOf (slice_range bytes i j) false plain size
 number-minus bytes i j plain size l within m p s =
     rw (slice-first bytes i j l within) (minus-number (get_or bytes i 0) (slice_range bytes (i + 1) j) plain size m p s)
 
@@ -163,12 +163,12 @@ word-some bytes i from j front above inside word end = elim (cases_lt i j) [
 
 -- a word behind a minus or not
 pub number-any : (bytes : List ℕ) (i j from : ℕ) (minus plain : Bool) (size : ℕ) → i < j → j ≤ length bytes → minus ≡ nat_eq (get_or bytes i 0) 45 → from ≡ i + from_bool minus
-    → plain ≡ is_plain_text minus (slice_range bytes from j) → (plain ≡ true → size ≡ min 100000000 (digits_value 10 (slice_range bytes from j)))
+    → plain ≡ is_plain_text minus (slice_range bytes from j) → (plain ≡ true → size ≡ min 10000000000 (digits_value 10 (slice_range bytes from j)))
     → IsNumberOf (slice_range bytes i j) (plain && not minus) (plain && minus) size
 number-any bytes i j from true plain size l within m f p s =
     rw (and-true plain, and-false plain)
-    (number-minus bytes i j plain size l within (eqb-true (get_or bytes i 0) 45 (sym m)) (p ∙ ap (λ k. is_plain_text true (slice_range bytes k j)) f) (λ h. s h ∙ ap (λ k. min 100000000 (digits_value 10 (slice_range bytes k j))) f))
+    (number-minus bytes i j plain size l within (eqb-true (get_or bytes i 0) 45 (sym m)) (p ∙ ap (λ k. is_plain_text true (slice_range bytes k j)) f) (λ h. s h ∙ ap (λ k. min 10000000000 (digits_value 10 (slice_range bytes k j))) f))
 number-any bytes i j from false plain size l within m f p s =
     let e : from ≡ i = omega arith in
     rw (and-true plain, and-false plain)
-    (number-plain bytes i j plain size l within (λ h. let y = eq-eqb (get_or bytes i 0) 45 h in cc) (p ∙ ap (λ k. is_plain_text false (slice_range bytes k j)) e) (λ h. s h ∙ ap (λ k. min 100000000 (digits_value 10 (slice_range bytes k j))) e))
+    (number-plain bytes i j plain size l within (λ h. let y = eq-eqb (get_or bytes i 0) 45 h in cc) (p ∙ ap (λ k. is_plain_text false (slice_range bytes k j)) e) (λ h. s h ∙ ap (λ k. min 10000000000 (digits_value 10 (slice_range bytes k j))) e))

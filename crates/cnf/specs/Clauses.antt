@@ -1,7 +1,6 @@
 -- What the clauses read so far are to the machine.
-use Rattle.std.specs.Prelude.{map}
 use Rattle.theory.proofs.reading.ReadingMachine.{ReaderState, at_body}
 use Rattle.cnf.specs.declared.clauses.Clauses.{Clauses}
 
 abbrev pub state_of : Clauses → ReaderState
-state_of c = at_body c.vars c.wanted (map (λ v. v.items) c.whole.items) c.begun.items
+state_of c = at_body c.vars c.wanted c.whole c.begun.items

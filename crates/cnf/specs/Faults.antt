@@ -5,7 +5,7 @@ use Rattle.cnf.specs.declared.fault.ReadFault.{ReadFault}
 use Rattle.cnf.specs.declared.fault.ReadFault.TheVariants.{NoHeader, BadHeader, SecondHeader, BadNumber, VariableOutOfRange, TooManyClauses, TooFewClauses, ClauseNotEnded, OverLimit, ReadFailed, NoMemory}
 use Rattle.theory.specs.Tokens as tokens
 use Rattle.theory.specs.Truth as truth
-use Rattle.theory.specs.Reading.{max_bytes, Reading, Reads, formula, refusal, no_header, bad_header, second_header, bad_number, variable_out_of_range, too_many_clauses, too_few_clauses, clause_not_ended, over_limit}
+use Rattle.theory.specs.Reading.{Limits, max_bytes, Reading, ReadsWithin, formula, refusal, no_header, bad_header, second_header, bad_number, variable_out_of_range, too_many_clauses, too_few_clauses, clause_not_ended, over_limit}
 
 abbrev pub number_of_fault : ReadFault → ℕ
 number_of_fault (NoHeader p) = 1
@@ -53,13 +53,13 @@ IsRefusal P ReadFailed = ⊥
 IsRefusal P NoMemory = Unit {0}
 
 -- the answer is what the text is read as, or want of memory
-abbrev pub IsReadAs : List ℕ → Result truth.Formula ReadFault → Type 0
-IsReadAs bytes answer = MatchResult answer (λ F. Reads bytes (formula F)) (IsRefusal (Reads bytes))
+abbrev pub IsReadAs : Limits → List ℕ → Result truth.Formula ReadFault → Type 0
+IsReadAs L bytes answer = MatchResult answer (λ F. ReadsWithin L bytes (formula F)) (IsRefusal (ReadsWithin L bytes))
 
 -- the answer is what the bytes that were read are read as. Where the reader tells its bytes, these
 -- are its first up to one above the limit, and all its bytes are read as that too
-pub record IsReadOf (known : Option (List ℕ)) (answer : Result truth.Formula ReadFault) : Type 0 where
+pub record IsReadOf (L : Limits) (known : Option (List ℕ)) (answer : Result truth.Formula ReadFault) : Type 0 where
   pub bytes : List ℕ
-  pub are : IfSome known (λ xs. bytes ≡ take (max_bytes + 1) xs)
-  pub is_read : IsReadAs bytes answer
-  pub whole : IfSome known (λ xs. IsReadAs xs answer)
+  pub are : IfSome known (λ xs. bytes ≡ take (max_bytes L + 1) xs)
+  pub is_read : IsReadAs L bytes answer
+  pub whole : IfSome known (λ xs. IsReadAs L xs answer)

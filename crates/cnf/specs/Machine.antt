@@ -2,7 +2,7 @@
 -- a fault asks.
 use Rattle.std.specs.Prelude.{◌≡◌, ℕ, List, [], ◌∷◌, length, Option, Some, None, nat_eq, nat_lt, not, codes, if◌then◌else◌}
 use Rattle.theory.specs.Tokens.{Place, is_text, is_number_text, size_of}
-use Rattle.theory.specs.Reading.{Token, word, header_end, Placed, ReadFault, no_header, bad_header, second_header, bad_number, variable_out_of_range, too_many_clauses, too_few_clauses, clause_not_ended, over_limit, header_number_fault, Reading, formula, refusal, tokens_of, end_of, max_vars, max_clauses}
+use Rattle.theory.specs.Reading.{Limits, Token, word, header_end, Placed, ReadFault, no_header, bad_header, second_header, bad_number, variable_out_of_range, too_many_clauses, too_few_clauses, clause_not_ended, over_limit, header_number_fault, Reading, formula, refusal, tokens_of, end_of, max_vars, max_clauses}
 use Rattle.cnf.specs.Tokens.{Part, tokens_left}
 use Rattle.theory.proofs.reading.ReadingMachine.{ReaderState, at_p, at_cnf, at_vars, at_clauses, at_header_end, at_body, step}
 
@@ -32,32 +32,32 @@ ends_in (at_body V C cs (l ∷ part)) end = refusal clause_not_ended end
 ends_in s end = refusal no_header end
 
 -- what a text is read as whose tokens from a state on are these
-abbrev pub run : ReaderState → List Placed → Place → Reading
-run s [] end = ends_in s end
-run s (t ∷ ts) end = elim (step s t.token) [ Some next ↦ run next ts end | None ↦ refusal (fault_in s t.token) t.place ]
+abbrev pub run : Limits → ReaderState → List Placed → Place → Reading
+run L s [] end = ends_in s end
+run L s (t ∷ ts) end = elim (step L s t.token) [ Some next ↦ run L next ts end | None ↦ refusal (fault_in s t.token) t.place ]
 
 -- a state goes on with a token
-pub record TakesToken (s : ReaderState) (t : Placed) (next : ReaderState) : Type 0 where
-  pub step_is : step s t.token ≡ Some next
+pub record TakesToken (L : Limits) (s : ReaderState) (t : Placed) (next : ReaderState) : Type 0 where
+  pub step_is : step L s t.token ≡ Some next
 
 -- a state can't go on with a token, so a text is read as its refusal
-pub record Refuses (s : ReaderState) (t : Placed) (r : Reading) : Type 0 where
-  pub none : step s t.token ≡ None
+pub record Refuses (L : Limits) (s : ReaderState) (t : Placed) (r : Reading) : Type 0 where
+  pub none : step L s t.token ≡ None
   pub is : r ≡ refusal (fault_in s t.token) t.place
 
 -- what a text is read as, where the machine is in a state and stands at the byte i
-abbrev pub reads_from : ReaderState → Part → List ℕ → ℕ → Reading
-reads_from s part bytes i = run s (tokens_left part bytes i) (end_of bytes)
+abbrev pub reads_from : Limits → ReaderState → Part → List ℕ → ℕ → Reading
+reads_from L s part bytes i = run L s (tokens_left part bytes i) (end_of bytes)
 
 -- what a text is read as
-abbrev pub reading_of : List ℕ → Reading
-reading_of bytes = run at_p (tokens_of bytes) (end_of bytes)
+abbrev pub reading_of : Limits → List ℕ → Reading
+reading_of L bytes = run L at_p (tokens_of bytes) (end_of bytes)
 
 -- the header's third word, or the fourth behind the number of variables: its limit, and the states
 -- before and behind it
-abbrev pub number_limit : Option ℕ → ℕ
-number_limit None = max_vars
-number_limit (Some V) = max_clauses
+abbrev pub number_limit : Limits → Option ℕ → ℕ
+number_limit L None = max_vars L
+number_limit L (Some V) = max_clauses L
 
 abbrev pub at_number : Option ℕ → ReaderState
 at_number None = at_vars

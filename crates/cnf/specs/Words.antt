@@ -18,8 +18,8 @@ abbrev pub is_plain_text : Bool → List ℕ → Bool
 is_plain_text true text = is_positive_text text
 is_plain_text false text = is_natural_text text
 
--- what a text says as a number; a size above 100,000,000 is read as that
+-- what a text says as a number; a size above ten thousand million is read as that
 pub record IsNumberOf (text : List ℕ) (natural negative : Bool) (size : ℕ) : Type 0 where
   pub natural_is : natural ≡ is_natural_text text
   pub negative_is : negative ≡ is_negative_text text
-  pub size_is : (natural || negative) ≡ true → size ≡ min 100000000 (size_of text)
+  pub size_is : (natural || negative) ≡ true → size ≡ min 10000000000 (size_of text)

@@ -1,13 +1,15 @@
 //! A formula from a reader.
 ghost use Rattle.std.specs.Prelude.{◌≡◌, ◌+◌, ◌<◌, ◌≤◌, ◌⊎◌, List, ◌++◌, length, take, vec_len, true, false, Ok, Err, IfOk, IfErr, IfSome, MatchResult};
 ghost use Rattle.std.specs.Io.KnownBytes.{Consumes};
-ghost use Rattle.theory.specs.Reading.{max_bytes};
+ghost use Rattle.theory.specs.Reading.{standard, max_bytes};
 ghost use Rattle.cnf.specs.Faults.{IsReadOf};
 ghost use Rattle.cnf.specs.Input.{IsReadFault, ReadsOn};
+ghost use Rattle.cnf.specs.Limits.{limits_of};
 
 use crate::fault::ReadFault;
 use crate::formula::Formula;
-use crate::read::{MAX_BYTES, read_formula};
+use crate::limits::Limits;
+use crate::read::read_formula_within;
 use std::alloc::Global;
 use std::io::Read;
 
@@ -70,9 +72,20 @@ pub fn read_bytes<R: Read>(alloc: Global, input: &mut R, most: usize) -> Result<
 /// The formula of a reader's DIMACS text. It reads until a read gives no bytes, until an error, or
 /// until 67,108,865 bytes are there. Any error of the reader is `ReadFailed`, and no read is tried
 /// again; otherwise the answer is that of `read_formula` on the bytes read.
-pub fn read_from<R: Read + Drop>(alloc: Global, mut input: R) -> Result<Formula, ReadFault>
-    ensures { (result ≡ Err ReadFault.ReadFailed) ⊎ IsReadOf (R.remaining input) result }
+pub fn read_from<R: Read + Drop>(alloc: Global, input: R) -> Result<Formula, ReadFault>
+    ensures { (result ≡ Err ReadFault.ReadFailed) ⊎ IsReadOf standard (R.remaining input) result }
 {
-    let text = read_bytes(alloc, &mut input, MAX_BYTES + 1)?;
-    read_formula(alloc, &text)
+    read_from_within(alloc, input, Limits::Standard)
+}
+
+/// The same within these limits: it reads until one byte more than they allow is there.
+pub fn read_from_within<R: Read + Drop>(
+    alloc: Global,
+    mut input: R,
+    limits: Limits,
+) -> Result<Formula, ReadFault>
+    ensures { (result ≡ Err ReadFault.ReadFailed) ⊎ IsReadOf (limits_of limits) (R.remaining input) result }
+{
+    let text = read_bytes(alloc, &mut input, limits.bytes() + 1)?;
+    read_formula_within(alloc, &text, limits)
 }

@@ -9,7 +9,7 @@ ghost use Rattle.cnf.specs.Words.{IsWordAt, IsNumberOf, is_plain_text};
 use crate::scan::{is_word_byte, word_end};
 
 /// A size above each limit. Greater sizes are read as this one.
-const CAP: u32 = 100_000_000;
+const CAP: u64 = 10_000_000_000;
 
 /// A word from a byte on: where it ends, whether it is a natural or a negative number, and the
 /// number's size.
@@ -18,14 +18,14 @@ pub struct Number {
     pub end: usize,
     pub natural: bool,
     pub negative: bool,
-    pub size: u32,
+    pub size: u64,
 }
 
 /// Digits from a byte on: where they end, and their value.
 #[derive(Clone, Copy)]
 struct Digits {
     end: usize,
-    size: u32,
+    size: u64,
 }
 
 /// Digits from an index on, up to the first size that reaches the cap: so their value needs no cap
@@ -41,7 +41,7 @@ fn read_short(bytes: &[u8], from: usize) -> Digits
     let mut end = from;
     let mut size = 0;
     while end < bytes.len() && bytes[end].is_ascii_digit() && size < CAP {
-        size = size * 10 + u32::from(bytes[end] - b'0');
+        size = size * 10 + u64::from(bytes[end] - b'0');
         end += 1;
     }
     Digits { end, size }
@@ -54,12 +54,12 @@ fn read_digits(bytes: &[u8], from: usize) -> Digits
     ensures within { result.end ≤ length bytes.now }
     ensures digits { all_ascii_digits (slice_range bytes.now from result.end) ≡ true }
     ensures end { result.end < length bytes.now → is_ascii_digit (slice_index bytes.now result.end) ≡ false }
-    ensures size { result.size ≡ min 100000000 (digits_value 10 (slice_range bytes.now from result.end)) }
+    ensures size { result.size ≡ min 10000000000 (digits_value 10 (slice_range bytes.now from result.end)) }
 {
     let mut end = from;
     let mut size = 0;
     while end < bytes.len() && bytes[end].is_ascii_digit() {
-        size = CAP.min(size * 10 + u32::from(bytes[end] - b'0'));
+        size = CAP.min(size * 10 + u64::from(bytes[end] - b'0'));
         end += 1;
     }
     Digits { end, size }
@@ -86,7 +86,7 @@ fn read_long(bytes: &[u8], from: usize, minus: bool) -> (Digits, bool)
     ensures all { (k : ℕ) → from ≤ k → k < result.0.end → is_word_byte (slice_index bytes.now k) ≡ true }
     ensures end { result.0.end < length bytes.now → is_word_byte (slice_index bytes.now result.0.end) ≡ false }
     ensures plain { result.1 ≡ is_plain_text minus (slice_range bytes.now from result.0.end) }
-    ensures size { result.1 ≡ true → result.0.size ≡ min 100000000 (digits_value 10 (slice_range bytes.now from result.0.end)) }
+    ensures size { result.1 ≡ true → result.0.size ≡ min 10000000000 (digits_value 10 (slice_range bytes.now from result.0.end)) }
 {
     let digits = read_digits(bytes, from);
     let end = word_end(bytes, digits.end);
@@ -110,7 +110,7 @@ fn read_plain(bytes: &[u8], from: usize, minus: bool) -> (Digits, bool)
     ensures all { (k : ℕ) → from ≤ k → k < result.0.end → is_word_byte (slice_index bytes.now k) ≡ true }
     ensures end { result.0.end < length bytes.now → is_word_byte (slice_index bytes.now result.0.end) ≡ false }
     ensures plain { result.1 ≡ is_plain_text minus (slice_range bytes.now from result.0.end) }
-    ensures size { result.1 ≡ true → result.0.size ≡ min 100000000 (digits_value 10 (slice_range bytes.now from result.0.end)) }
+    ensures size { result.1 ≡ true → result.0.size ≡ min 10000000000 (digits_value 10 (slice_range bytes.now from result.0.end)) }
 {
     let short = read_short(bytes, from);
     if short.end < bytes.len() && is_word_byte(bytes[short.end]) {

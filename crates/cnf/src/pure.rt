@@ -1,9 +1,9 @@
 //! The pure literals of a formula: the negations of the variables that stand in no clause without
 //! one.
-ghost use Rattle.std.specs.Prelude.{◌≡◌, ℕ, ◌<◌, ◌≤◌, ◌^◌, ◌||◌, not, length, map, All, IfOk};
+ghost use Rattle.std.specs.Prelude.{◌≡◌, ℕ, ◌<◌, ◌≤◌, ◌^◌, ◌||◌, not, length, IfOk};
 ghost use Rattle.theory.specs.Literals.{IsVariable, has, positive};
 ghost use Rattle.theory.specs.Truth.{value, IsOver};
-ghost use Rattle.theory.specs.Reading.{max_vars};
+ghost use Rattle.theory.specs.Reading.{large, max_vars};
 ghost use Rattle.theory.specs.Pure.{occurs, pure_literals};
 ghost use Rattle.theory.proofs.searching.PureVariables.{negatives};
 
@@ -25,24 +25,24 @@ fn mark_clause(seen: &mut [bool], clause: &[Lit])
 }
 
 /// Marks the variables of all clauses' positive literals.
-fn mark_clauses(seen: &mut [bool], clauses: &[Vec<Lit>])
-    requires { All (λ c. IsOver (length seen.old) c.items) clauses.now }
+fn mark_clauses(seen: &mut [bool], formula: &Formula)
+    requires { length seen.old ≡ formula.now.vars }
     ensures { (v : ℕ) → IsVariable (length seen.old) v →
-        value seen.new v ≡ (value seen.old v || occurs (map (λ c. c.items) clauses.now) (positive v)) }
+        value seen.new v ≡ (value seen.old v || occurs formula.now.clauses (positive v)) }
 {
-    for clause in clauses {
-        mark_clause(seen, clause);
+    for place in 0..formula.clause_count() {
+        mark_clause(seen, formula.clause(place));
     }
 }
 
 /// Whether each variable stands in a clause without a negation; its place is one below its number.
 fn marks(alloc: Global, formula: &Formula) -> Result<Vec<bool>, AllocError>
     ensures length { IfOk result (λ m. length m.items ≡ formula.now.vars) }
-    ensures few { IfOk result (λ m. length m.items ≤ max_vars) }
+    ensures few { IfOk result (λ m. length m.items ≤ max_vars large) }
     ensures marks { IfOk result (λ m. (v : ℕ) → IsVariable formula.now.vars v → value m.items v ≡ occurs formula.now.clauses (positive v)) }
 {
     let mut seen = vec![in alloc; false; formula.vars() as usize]?;
-    mark_clauses(&mut seen, formula.clauses());
+    mark_clauses(&mut seen, formula);
     Ok(seen)
 }
 

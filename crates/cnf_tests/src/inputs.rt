@@ -67,14 +67,14 @@ impl Read for Endless {
 fn shape_and_calls(alloc: Global, left: usize) -> Result<(u32, usize, u32), ReadFault> {
     let mut reader = Failing::after(left, ErrorKind::Other);
     let formula = read_from(alloc, &mut reader)?;
-    Ok((formula.vars(), formula.clauses().len(), reader.calls))
+    Ok((formula.vars(), formula.clause_count(), reader.calls))
 }
 
 #[test]
 fn pieces(rt: HostRuntime) -> Result<(), Fail> {
     assert_eq!(rt; shape_and_calls(rt.alloc(), 100)?, (2, 1, 17));
     let whole = read_from(rt.alloc(), TEXT)?;
-    assert!(rt; whole.clauses().len() == 1);
+    assert!(rt; whole.clause_count() == 1);
     Ok(())
 }
 

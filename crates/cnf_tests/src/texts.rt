@@ -1,5 +1,5 @@
 //! Texts, the formulas that they are read as, and their refusals.
-use cnf::{Formula, Place, ReadFault, read_formula};
+use cnf::{Formula, Limits, Lit, Place, ReadFault, read_formula, read_formula_within};
 use std::alloc::{AllocError, Global};
 use std::process::Abort;
 use std::test::Fail;
@@ -7,8 +7,8 @@ use std::test::Fail;
 /// The clauses, written one after the other with a 0 behind each.
 fn numbers_of(alloc: Global, formula: &Formula) -> Result<Vec<i32>, AllocError> {
     let mut numbers = Vec::new(alloc);
-    for clause in formula.clauses() {
-        for lit in clause {
+    for place in 0..formula.clause_count() {
+        for lit in formula.clause(place) {
             numbers.push(lit.number())?;
         }
         numbers.push(0)?;
@@ -173,7 +173,7 @@ fn fronts(rt: HostRuntime) -> Result<(), Fail> {
     }
     for end in [37, 38] {
         let formula = read_formula(rt.alloc(), &text[..end])?;
-        assert!(rt; formula.clauses().len() == 4);
+        assert!(rt; formula.clause_count() == 4);
     }
     Ok(())
 }
@@ -204,10 +204,10 @@ fn long_numbers(rt: HostRuntime) -> Result<(), Fail> {
 /// How many literals the first clause has.
 fn first_length(alloc: Global, text: &[u8]) -> Result<Option<usize>, ReadFault> {
     let formula = read_formula(alloc, text)?;
-    match formula.clauses().first() {
-        Some(clause) => Ok(Some(clause.len())),
-        None => Ok(None),
+    if formula.clause_count() == 0 {
+        return Ok(None);
     }
+    Ok(Some(formula.clause(0).len()))
 }
 
 #[test]
@@ -239,5 +239,59 @@ fn messages(rt: HostRuntime) -> Result<(), Fail> {
         text.as_str(),
         "no number at line 2, column 3; the text could not be read"
     );
+    Ok(())
+}
+
+/// Texts that the large limits let through, with the variables, clauses and literals that are read.
+static LARGE: [(&[u8], u32, usize, usize); 3] = [
+    (b"p cnf 262144 0\n", 262_144, 0, 0),
+    (b"p cnf 100000000 2\n1 -100000000 0\n0\n", 100_000_000, 2, 2),
+    (b"p cnf 2 1\n1 2 0\n", 2, 1, 2),
+];
+
+/// Texts that they refuse, with the refusal and its place.
+static ABOVE_LARGE: [(&[u8], u32, u64, u64); 4] = [
+    (b"p cnf 100000001 0\n", 9, 1, 7),
+    (b"p cnf 0 1000000001\n", 9, 1, 9),
+    (b"p cnf 100000000 1000000000\n", 7, 2, 1),
+    (b"p cnf 1 1\n100000001 0\n", 5, 2, 1),
+];
+
+/// How many variables, clauses and literals are read within the large limits.
+fn large_shape(alloc: Global, text: &[u8]) -> Result<(u32, usize, usize), ReadFault> {
+    let formula = read_formula_within(alloc, text, Limits::Large)?;
+    Ok((
+        formula.vars(),
+        formula.clause_count(),
+        formula.literal_count(),
+    ))
+}
+
+#[test]
+fn large_limits(rt: HostRuntime) -> Result<(), Fail> {
+    for (text, vars, clauses, literals) in &LARGE {
+        let shape = large_shape(rt.alloc(), text)?;
+        assert!(rt; shape == (*vars, *clauses, *literals));
+    }
+    for (text, number, line, column) in &ABOVE_LARGE {
+        let place = Place {
+            line: *line,
+            column: *column,
+        };
+        let fault = large_shape(rt.alloc(), text).err();
+        assert!(rt;
+            fault.map(|fault| (fault.number(), fault.place())) == Some((*number, Some(place)))
+        );
+    }
+    Ok(())
+}
+
+#[test]
+fn a_clause_by_its_place(rt: HostRuntime) -> Result<(), Fail> {
+    let formula = read_formula(rt.alloc(), b"p cnf 3 3\n1 0 0 -2 3\n0\n")?;
+    assert!(rt; formula.clause_count() == 3 && formula.literal_count() == 3);
+    let second = [Lit::of(2, false), Lit::of(3, true)];
+    assert!(rt; formula.clause(0).len() == 1 && formula.clause(1).is_empty());
+    assert!(rt; formula.clause(2) == second.as_slice());
     Ok(())
 }

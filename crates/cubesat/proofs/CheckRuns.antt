@@ -1,5 +1,6 @@
 -- What a run of the checker says where the formula isn't read.
 use Rattle.std.proofs.Common.{◌≡◌, ℕ, List, ◌+◌, take, Option, Result, Ok, Err, inl, inr, ◌⊎◌, IfSome, ap, sym, subst, ◌∙◌}
+use Rattle.theory.specs.Reading.{Limits}
 use Rattle.theory.specs.Truth as truth
 use Rattle.cnf.specs.declared.fault.ReadFault.{ReadFault}
 use Rattle.cnf.specs.declared.fault.ReadFault.TheVariants as reading
@@ -13,38 +14,38 @@ use Rattle.cubesat.specs.declared.check.Told.{Told}
 use Rattle.cubesat.specs.Check.{IsUnchecked, IsLine, IsCheckOf, IsProofUnread, CheckSays, checked_by}
 use Rattle.cubesat.proofs.WrittenLemmas.{Keeps-same}
 
-unchecked : (known a : Option (List ℕ)) (fault : ReadFault) → ◌≡◌ {A = Result truth.Formula ReadFault} (Err fault) (Err reading.ReadFailed) ⊎ IsReadOf known (Err fault) → (fault ≡ reading.NoMemory → ⊥)
-    → IsUnchecked known a a fault
-unchecked known a fault (inl e) other = record { refused = inl (cc); not_memory = other; kept = Keeps-same a }
-unchecked known a fault (inr r) other = record { refused = inr r; not_memory = other; kept = Keeps-same a }
+unchecked : (L : Limits) (known a : Option (List ℕ)) (fault : ReadFault) → ◌≡◌ {A = Result truth.Formula ReadFault} (Err fault) (Err reading.ReadFailed) ⊎ IsReadOf L known (Err fault) → (fault ≡ reading.NoMemory → ⊥)
+    → IsUnchecked L known a a fault
+unchecked L known a fault (inl e) other = record { refused = inl (cc); not_memory = other; kept = Keeps-same a }
+unchecked L known a fault (inr r) other = record { refused = inr r; not_memory = other; kept = Keeps-same a }
 
-pub CheckSays-unread : (known proof a : Option (List ℕ)) (fault : ReadFault) → ◌≡◌ {A = Result truth.Formula ReadFault} (Err fault) (Err reading.ReadFailed) ⊎ IsReadOf known (Err fault)
-    → CheckSays known proof a a (Err (fault_of_read fault))
-CheckSays-unread known proof a reading.NoMemory h = Keeps-same a
-CheckSays-unread known proof a reading.ReadFailed h = unchecked known a reading.ReadFailed h (λ e. cc)
-CheckSays-unread known proof a (reading.NoHeader x) h = unchecked known a (reading.NoHeader x) h (λ e. cc)
-CheckSays-unread known proof a (reading.BadHeader x) h = unchecked known a (reading.BadHeader x) h (λ e. cc)
-CheckSays-unread known proof a (reading.SecondHeader x) h = unchecked known a (reading.SecondHeader x) h (λ e. cc)
-CheckSays-unread known proof a (reading.BadNumber x) h = unchecked known a (reading.BadNumber x) h (λ e. cc)
-CheckSays-unread known proof a (reading.VariableOutOfRange x) h = unchecked known a (reading.VariableOutOfRange x) h (λ e. cc)
-CheckSays-unread known proof a (reading.TooManyClauses x) h = unchecked known a (reading.TooManyClauses x) h (λ e. cc)
-CheckSays-unread known proof a (reading.TooFewClauses x) h = unchecked known a (reading.TooFewClauses x) h (λ e. cc)
-CheckSays-unread known proof a (reading.ClauseNotEnded x) h = unchecked known a (reading.ClauseNotEnded x) h (λ e. cc)
-CheckSays-unread known proof a (reading.OverLimit x) h = unchecked known a (reading.OverLimit x) h (λ e. cc)
+pub CheckSays-unread : (L : Limits) (known proof a : Option (List ℕ)) (fault : ReadFault) → ◌≡◌ {A = Result truth.Formula ReadFault} (Err fault) (Err reading.ReadFailed) ⊎ IsReadOf L known (Err fault)
+    → CheckSays L known proof a a (Err (fault_of_read fault))
+CheckSays-unread L known proof a reading.NoMemory h = Keeps-same a
+CheckSays-unread L known proof a reading.ReadFailed h = unchecked L known a reading.ReadFailed h (λ e. cc)
+CheckSays-unread L known proof a (reading.NoHeader x) h = unchecked L known a (reading.NoHeader x) h (λ e. cc)
+CheckSays-unread L known proof a (reading.BadHeader x) h = unchecked L known a (reading.BadHeader x) h (λ e. cc)
+CheckSays-unread L known proof a (reading.SecondHeader x) h = unchecked L known a (reading.SecondHeader x) h (λ e. cc)
+CheckSays-unread L known proof a (reading.BadNumber x) h = unchecked L known a (reading.BadNumber x) h (λ e. cc)
+CheckSays-unread L known proof a (reading.VariableOutOfRange x) h = unchecked L known a (reading.VariableOutOfRange x) h (λ e. cc)
+CheckSays-unread L known proof a (reading.TooManyClauses x) h = unchecked L known a (reading.TooManyClauses x) h (λ e. cc)
+CheckSays-unread L known proof a (reading.TooFewClauses x) h = unchecked L known a (reading.TooFewClauses x) h (λ e. cc)
+CheckSays-unread L known proof a (reading.ClauseNotEnded x) h = unchecked L known a (reading.ClauseNotEnded x) h (λ e. cc)
+CheckSays-unread L known proof a (reading.OverLimit x) h = unchecked L known a (reading.OverLimit x) h (λ e. cc)
 
 -- a formula and a proof that were read, and the line for them
-pub IsCheckOf-made : (known proofs : Option (List ℕ)) (F : truth.Formula) (proof : List ℕ) (checked : Checked) (line : List ℕ) → ◌≡◌ {A = Result truth.Formula ReadFault} (Ok F) (Err reading.ReadFailed) ⊎ IsReadOf known (Ok F)
-    → IfSome proofs (λ xs. proof ≡ take (max_proof_bytes + 1) xs) → IsLine F proof checked line → IsCheckOf known proofs checked line
-IsCheckOf-made known proofs F proof checked line (inl e) is says = absurd (cc)
-IsCheckOf-made known proofs F proof checked line (inr r) is says = record { bytes = r.bytes; are = r.are; value = F; reads = r.is_read; proof = proof; proof_is = is; says = says }
+pub IsCheckOf-made : (L : Limits) (known proofs : Option (List ℕ)) (F : truth.Formula) (proof : List ℕ) (checked : Checked) (line : List ℕ) → ◌≡◌ {A = Result truth.Formula ReadFault} (Ok F) (Err reading.ReadFailed) ⊎ IsReadOf L known (Ok F)
+    → IfSome proofs (λ xs. proof ≡ take (max_proof_bytes L + 1) xs) → IsLine L F proof checked line → IsCheckOf L known proofs checked line
+IsCheckOf-made L known proofs F proof checked line (inl e) is says = absurd (cc)
+IsCheckOf-made L known proofs F proof checked line (inr r) is says = record { bytes = r.bytes; are = r.are; value = F; reads = r.is_read; proof = proof; proof_is = is; says = says }
 
 -- a formula that was read, and a proof that wasn't
-pub IsProofUnread-made : (known a : Option (List ℕ)) (F : truth.Formula) → ◌≡◌ {A = Result truth.Formula ReadFault} (Ok F) (Err reading.ReadFailed) ⊎ IsReadOf known (Ok F) → IsProofUnread known a a
-IsProofUnread-made known a F (inl e) = absurd (cc)
-IsProofUnread-made known a F (inr r) = record { bytes = r.bytes; are = r.are; value = F; reads = r.is_read; kept = Keeps-same a }
+pub IsProofUnread-made : (L : Limits) (known a : Option (List ℕ)) (F : truth.Formula) → ◌≡◌ {A = Result truth.Formula ReadFault} (Ok F) (Err reading.ReadFailed) ⊎ IsReadOf L known (Ok F) → IsProofUnread L known a a
+IsProofUnread-made L known a F (inl e) = absurd (cc)
+IsProofUnread-made L known a F (inr r) = record { bytes = r.bytes; are = r.are; value = F; reads = r.is_read; kept = Keeps-same a }
 
 -- so what is said of a run that stopped while it fed the proof
-pub CheckSays-stopped : (known proof a : Option (List ℕ)) (F : truth.Formula) (e : RunFault) (r : Result Told RunFault)
-    → ◌≡◌ {A = Result truth.Formula ReadFault} (Ok F) (Err reading.ReadFailed) ⊎ IsReadOf known (Ok F) → IsStop e → r ≡ Err e → CheckSays known proof a a (checked_by r)
-CheckSays-stopped known proof a F e r read (inl p) same = subst (λ s. CheckSays known proof a a (checked_by s)) (sym (same ∙ ap (λ f. Err f) p)) (IsProofUnread-made known a F read)
-CheckSays-stopped known proof a F e r read (inr m) same = subst (λ s. CheckSays known proof a a (checked_by s)) (sym (same ∙ ap (λ f. Err f) m)) (Keeps-same a)
+pub CheckSays-stopped : (L : Limits) (known proof a : Option (List ℕ)) (F : truth.Formula) (e : RunFault) (r : Result Told RunFault)
+    → ◌≡◌ {A = Result truth.Formula ReadFault} (Ok F) (Err reading.ReadFailed) ⊎ IsReadOf L known (Ok F) → IsStop e → r ≡ Err e → CheckSays L known proof a a (checked_by r)
+CheckSays-stopped L known proof a F e r read (inl p) same = subst (λ s. CheckSays L known proof a a (checked_by s)) (sym (same ∙ ap (λ f. Err f) p)) (IsProofUnread-made L known a F read)
+CheckSays-stopped L known proof a F e r read (inr m) same = subst (λ s. CheckSays L known proof a a (checked_by s)) (sym (same ∙ ap (λ f. Err f) m)) (Keeps-same a)

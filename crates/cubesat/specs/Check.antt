@@ -3,8 +3,8 @@ use Rattle.std.specs.Prelude.{◌≡◌, ◌≢◌, ℕ, ◌+◌, List, [], ◌�
 use Rattle.std.specs.Io.KnownBytes.{Appends, Keeps}
 use Rattle.theory.specs.Truth as truth
 use Rattle.theory.specs.Texts.{lf}
-use Rattle.theory.specs.Reading.{Reads, formula, max_bytes}
-use Rattle.theory.specs.ProofReading.{ProofReading, ProofReads, steps, line_fault, too_long, max_proof_bytes}
+use Rattle.theory.specs.Reading.{Limits, ReadsWithin, formula, max_bytes}
+use Rattle.theory.specs.ProofReading.{ProofReading, ProofReadsWithin, steps, line_fault, too_long, max_proof_bytes}
 use Rattle.theory.specs.Checking.{checks, accepted, refused, no_empty_clause}
 use Rattle.theory.specs.Checking as theory
 use Rattle.theory.specs.Numbers.{check_text}
@@ -56,57 +56,57 @@ verdict_of F (line_fault fault n) = Refused
 verdict_of F too_long = Refused
 
 -- the verdict on a proof's bytes, and its line
-pub record IsLine (F : truth.Formula) (proof : List ℕ) (checked : Checked) (line : List ℕ) : Type 0 where
+pub record IsLine (L : Limits) (F : truth.Formula) (proof : List ℕ) (checked : Checked) (line : List ℕ) : Type 0 where
   pub read_as : ProofReading
-  pub reads : ProofReads proof read_as
+  pub reads : ProofReadsWithin L proof read_as
   pub verdict : checked ≡ verdict_of F read_as
   pub line_is : line ≡ check_text F read_as
 
 -- the same for the bytes that two readers gave, where they tell them
-pub record IsCheckOf (formula_known proof_known : Option (List ℕ)) (checked : Checked) (line : List ℕ) : Type 0 where
+pub record IsCheckOf (L : Limits) (formula_known proof_known : Option (List ℕ)) (checked : Checked) (line : List ℕ) : Type 0 where
   pub bytes : List ℕ
-  pub are : IfSome formula_known (λ xs. bytes ≡ take (max_bytes + 1) xs)
+  pub are : IfSome formula_known (λ xs. bytes ≡ take (max_bytes L + 1) xs)
   pub value : truth.Formula
-  pub reads : Reads bytes (formula value)
+  pub reads : ReadsWithin L bytes (formula value)
   pub proof : List ℕ
-  pub proof_is : IfSome proof_known (λ xs. proof ≡ take (max_proof_bytes + 1) xs)
-  pub says : IsLine value proof checked line
+  pub proof_is : IfSome proof_known (λ xs. proof ≡ take (max_proof_bytes L + 1) xs)
+  pub says : IsLine L value proof checked line
 
-pub record WritesLine (formula_known proof_known answer_old answer_new : Option (List ℕ)) (checked : Checked) : Type 0 where
+pub record WritesLine (L : Limits) (formula_known proof_known answer_old answer_new : Option (List ℕ)) (checked : Checked) : Type 0 where
   pub line : List ℕ
-  pub check : IsCheckOf formula_known proof_known checked line
+  pub check : IsCheckOf L formula_known proof_known checked line
   pub written : Appends answer_old answer_new line
 
-pub record StopsInLine (formula_known proof_known answer_old answer_new : Option (List ℕ)) : Type 0 where
+pub record StopsInLine (L : Limits) (formula_known proof_known answer_old answer_new : Option (List ℕ)) : Type 0 where
   pub checked : Checked
   pub line : List ℕ
-  pub check : IsCheckOf formula_known proof_known checked line
+  pub check : IsCheckOf L formula_known proof_known checked line
   pub count : ℕ
   pub written : Appends answer_old answer_new (take count line)
 
 -- nothing is written, as the formula was refused just as the definition of reading says, or the
 -- reader failed
-pub record IsUnchecked (formula_known answer_old answer_new : Option (List ℕ)) (fault : ReadFault) : Type 0 where
-  pub refused : (fault ≡ reading.ReadFailed) ⊎ IsReadOf formula_known (Err fault)
+pub record IsUnchecked (L : Limits) (formula_known answer_old answer_new : Option (List ℕ)) (fault : ReadFault) : Type 0 where
+  pub refused : (fault ≡ reading.ReadFailed) ⊎ IsReadOf L formula_known (Err fault)
   pub not_memory : fault ≢ reading.NoMemory
   pub kept : Keeps answer_old answer_new
 
 -- nothing is written, and it isn't for the formula, which was read
-pub record IsProofUnread (formula_known answer_old answer_new : Option (List ℕ)) : Type 0 where
+pub record IsProofUnread (L : Limits) (formula_known answer_old answer_new : Option (List ℕ)) : Type 0 where
   pub bytes : List ℕ
-  pub are : IfSome formula_known (λ xs. bytes ≡ take (max_bytes + 1) xs)
+  pub are : IfSome formula_known (λ xs. bytes ≡ take (max_bytes L + 1) xs)
   pub value : truth.Formula
-  pub reads : Reads bytes (formula value)
+  pub reads : ReadsWithin L bytes (formula value)
   pub kept : Keeps answer_old answer_new
 
 -- what a run of the checker answers of the bytes of its readers, and what it leaves in its writer
-abbrev pub CheckSays : Option (List ℕ) → Option (List ℕ) → Option (List ℕ) → Option (List ℕ) → Result Checked RunFault → Type 0
-CheckSays known proof a b (Ok checked) = WritesLine known proof a b checked
-CheckSays known proof a b (Err (Read fault)) = IsUnchecked known a b fault
-CheckSays known proof a b (Err NoMemory) = Keeps a b
-CheckSays known proof a b (Err ProofWriteFailed) = ⊥
-CheckSays known proof a b (Err AnswerWriteFailed) = StopsInLine known proof a b
-CheckSays known proof a b (Err ProofReadFailed) = IsProofUnread known a b
+abbrev pub CheckSays : Limits → Option (List ℕ) → Option (List ℕ) → Option (List ℕ) → Option (List ℕ) → Result Checked RunFault → Type 0
+CheckSays L known proof a b (Ok checked) = WritesLine L known proof a b checked
+CheckSays L known proof a b (Err (Read fault)) = IsUnchecked L known a b fault
+CheckSays L known proof a b (Err NoMemory) = Keeps a b
+CheckSays L known proof a b (Err ProofWriteFailed) = ⊥
+CheckSays L known proof a b (Err AnswerWriteFailed) = StopsInLine L known proof a b
+CheckSays L known proof a b (Err ProofReadFailed) = IsProofUnread L known a b
 
 -- the verdict of a check that also tells why
 abbrev pub checked_by : Result Told RunFault → Result Checked RunFault
@@ -119,5 +119,5 @@ end_of (Ok Refused) = ends.Refused
 end_of (Err fault) = ends.Fault
 
 -- the same by how the check ended
-abbrev pub CheckEnds : Option (List ℕ) → Option (List ℕ) → Option (List ℕ) → Option (List ℕ) → CheckEnd → Type 0
-CheckEnds known proof a b end = (r : Result Checked RunFault) × CheckSays known proof a b r × (end ≡ end_of r)
+abbrev pub CheckEnds : Limits → Option (List ℕ) → Option (List ℕ) → Option (List ℕ) → Option (List ℕ) → CheckEnd → Type 0
+CheckEnds L known proof a b end = (r : Result Checked RunFault) × CheckSays L known proof a b r × (end ≡ end_of r)

@@ -1,6 +1,7 @@
 -- What a run with a limit has read and written.
 use Rattle.std.specs.Prelude.{◌≡◌, ℕ, List, Option, Some, None, take, Result, Ok, Err, ◌⊎◌}
 use Rattle.std.specs.Io.KnownBytes.{Appends, Keeps}
+use Rattle.theory.specs.Reading.{Limits}
 use Rattle.theory.specs.Plans.{Plan}
 use Rattle.cubesat.specs.Answer.{unknown_text}
 use Rattle.cubesat.specs.Status.{solve_status}
@@ -23,25 +24,25 @@ EndsUnsolved reached a b r = ⊥
 
 -- what a run with a limit answers: what a run does, or, where the limit is reached and nothing is
 -- written, that the answer is unknown
-abbrev pub LimitedRunSays : Type 0 → Option (List ℕ) → Plan → Option (List ℕ) → Option (List ℕ) → Option (List ℕ) → Option (List ℕ) → Result (Option Verdict) RunFault → Type 0
-LimitedRunSays reached known plan p q a b (Ok (Some verdict)) = RunSays known plan p q a b (Ok verdict)
-LimitedRunSays reached known plan p q a b (Ok None) = reached × Keeps p q × Appends a b unknown_text
-LimitedRunSays reached known plan p q a b (Err AnswerWriteFailed) = RunSays known plan p q a b (Err AnswerWriteFailed) ⊎ (reached × Keeps p q × BeginsUnknown a b)
-LimitedRunSays reached known plan p q a b (Err fault) = RunSays known plan p q a b (Err fault)
+abbrev pub LimitedRunSays : Limits → Type 0 → Option (List ℕ) → Plan → Option (List ℕ) → Option (List ℕ) → Option (List ℕ) → Option (List ℕ) → Result (Option Verdict) RunFault → Type 0
+LimitedRunSays L reached known plan p q a b (Ok (Some verdict)) = RunSays L known plan p q a b (Ok verdict)
+LimitedRunSays L reached known plan p q a b (Ok None) = reached × Keeps p q × Appends a b unknown_text
+LimitedRunSays L reached known plan p q a b (Err AnswerWriteFailed) = RunSays L known plan p q a b (Err AnswerWriteFailed) ⊎ (reached × Keeps p q × BeginsUnknown a b)
+LimitedRunSays L reached known plan p q a b (Err fault) = RunSays L known plan p q a b (Err fault)
 
 -- the same of a run without a proof
-abbrev pub LimitedAnswerSays : Type 0 → Option (List ℕ) → Plan → Option (List ℕ) → Option (List ℕ) → Result (Option Verdict) RunFault → Type 0
-LimitedAnswerSays reached known plan a b (Ok (Some verdict)) = AnswerSays known plan a b (Ok verdict)
-LimitedAnswerSays reached known plan a b (Ok None) = reached × Appends a b unknown_text
-LimitedAnswerSays reached known plan a b (Err AnswerWriteFailed) = AnswerSays known plan a b (Err AnswerWriteFailed) ⊎ (reached × BeginsUnknown a b)
-LimitedAnswerSays reached known plan a b (Err fault) = AnswerSays known plan a b (Err fault)
+abbrev pub LimitedAnswerSays : Limits → Type 0 → Option (List ℕ) → Plan → Option (List ℕ) → Option (List ℕ) → Result (Option Verdict) RunFault → Type 0
+LimitedAnswerSays L reached known plan a b (Ok (Some verdict)) = AnswerSays L known plan a b (Ok verdict)
+LimitedAnswerSays L reached known plan a b (Ok None) = reached × Appends a b unknown_text
+LimitedAnswerSays L reached known plan a b (Err AnswerWriteFailed) = AnswerSays L known plan a b (Err AnswerWriteFailed) ⊎ (reached × BeginsUnknown a b)
+LimitedAnswerSays L reached known plan a b (Err fault) = AnswerSays L known plan a b (Err fault)
 
 -- the same where there may be a writer for the proof, which is given away: what it held before, and
 -- what it holds in the end
-abbrev pub LimitedSays : Type 0 → Option (List ℕ) → Plan → Option (Option (List ℕ)) → Option (List ℕ) → Option (List ℕ) → Result (Option Verdict) RunFault → Type 0
-LimitedSays reached known plan None a b r = LimitedAnswerSays reached known plan a b r
-LimitedSays reached known plan (Some p) a b r = (q : Option (List ℕ)) × LimitedRunSays reached known plan p q a b r
+abbrev pub LimitedSays : Limits → Type 0 → Option (List ℕ) → Plan → Option (Option (List ℕ)) → Option (List ℕ) → Option (List ℕ) → Result (Option Verdict) RunFault → Type 0
+LimitedSays L reached known plan None a b r = LimitedAnswerSays L reached known plan a b r
+LimitedSays L reached known plan (Some p) a b r = (q : Option (List ℕ)) × LimitedRunSays L reached known plan p q a b r
 
 -- the same by the status
-abbrev pub SolveEnds : Type 0 → Option (List ℕ) → Plan → Option (Option (List ℕ)) → Option (List ℕ) → Option (List ℕ) → ℕ → Type 0
-SolveEnds reached known plan p a b status = (r : Result (Option Verdict) RunFault) × LimitedSays reached known plan p a b r × (status ≡ solve_status r)
+abbrev pub SolveEnds : Limits → Type 0 → Option (List ℕ) → Plan → Option (Option (List ℕ)) → Option (List ℕ) → Option (List ℕ) → ℕ → Type 0
+SolveEnds L reached known plan p a b status = (r : Result (Option Verdict) RunFault) × LimitedSays L reached known plan p a b r × (status ≡ solve_status r)

@@ -3,7 +3,7 @@ use Rattle.std.specs.Prelude.{◌≡◌, ◌⊎◌, ℕ, ◌+◌, List, Option, 
 use Rattle.std.specs.Io.KnownBytes.{Appends}
 use Rattle.theory.specs.Truth.{Formula}
 use Rattle.theory.specs.Plans.{Search}
-use Rattle.theory.specs.Reading.{Reads, formula, max_bytes}
+use Rattle.theory.specs.Reading.{Limits, ReadsWithin, formula, max_bytes}
 use Rattle.cubesat.specs.Answer.{unknown_text, IsRight}
 use Rattle.cubesat.specs.declared.fault.RunFault.{RunFault}
 use Rattle.cubesat.specs.declared.verdict.Verdict.{Verdict}
@@ -21,20 +21,20 @@ solve_status (Err fault) = 1
 
 -- the verdict is right for the formula of the bytes that a reader gave, where it tells them, with
 -- the answer that was written, and with some proof
-pub record Answers (search : Search) (known answer_old answer_new : Option (List ℕ)) (verdict : Verdict) : Type 0 where
+pub record Answers (L : Limits) (search : Search) (known answer_old answer_new : Option (List ℕ)) (verdict : Verdict) : Type 0 where
   pub bytes : List ℕ
-  pub are : IfSome known (λ xs. bytes ≡ take (max_bytes + 1) xs)
+  pub are : IfSome known (λ xs. bytes ≡ take (max_bytes L + 1) xs)
   pub value : Formula
-  pub reads : Reads bytes (formula value)
+  pub reads : ReadsWithin L bytes (formula value)
   pub proof : List ℕ
   pub answer : List ℕ
-  pub right : IsRight search value verdict proof answer
+  pub right : IsRight L search value verdict proof answer
   pub written : Appends answer_old answer_new answer
 
 -- 10 and 20 are a verdict, which is right; 0 is `s UNKNOWN`, where there is a limit; all else is 1
-abbrev pub IsSolveStatus : Type 0 → Search → Option (List ℕ) → Option (List ℕ) → Option (List ℕ) → ℕ → Type 0
-IsSolveStatus limited search known a b status =
-    ((status ≡ 10) × Answers search known a b Satisfiable)
-    ⊎ ((status ≡ 20) × Answers search known a b Unsatisfiable)
+abbrev pub IsSolveStatus : Limits → Type 0 → Search → Option (List ℕ) → Option (List ℕ) → Option (List ℕ) → ℕ → Type 0
+IsSolveStatus L limited search known a b status =
+    ((status ≡ 10) × Answers L search known a b Satisfiable)
+    ⊎ ((status ≡ 20) × Answers L search known a b Unsatisfiable)
     ⊎ ((status ≡ 0) × limited × Appends a b unknown_text)
     ⊎ (status ≡ 1)

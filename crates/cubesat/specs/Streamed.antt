@@ -1,6 +1,7 @@
 -- A proof that is checked as a reader gives it.
 use Rattle.std.specs.Prelude.{◌≡◌, ◌⊎◌, ℕ, ◌+◌, ◌≤◌, List, length, take, Option, IfSome}
 use Rattle.std.specs.Io.KnownBytes.{Consumes, IsAtEnd}
+use Rattle.theory.specs.Reading.{Limits}
 use Rattle.theory.specs.ProofReading.{max_proof_bytes}
 use Rattle.lrat_text.specs.Streams.{Stream, feed}
 use Rattle.cubesat.specs.declared.fault.RunFault.{RunFault}
@@ -20,9 +21,9 @@ pub record FeedsChunk (known_old known_new : Option (List ℕ)) (V : ℕ) (old n
   pub at_end : count ≡ 0 → IsAtEnd known_new
 
 -- the bytes of the reader, up to one above the greatest length, were fed
-pub record FeedsAll (known : Option (List ℕ)) (V : ℕ) (old new : Stream) : Type 0 where
+pub record FeedsAll (L : Limits) (known : Option (List ℕ)) (V : ℕ) (old new : Stream) : Type 0 where
   pub bytes : List ℕ
-  pub are : IfSome known (λ xs. bytes ≡ take (max_proof_bytes + 1) xs)
+  pub are : IfSome known (λ xs. bytes ≡ take (max_proof_bytes L + 1) xs)
   pub fed : new ≡ feed V old bytes
 
 -- what stops the reading of a proof

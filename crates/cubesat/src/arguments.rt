@@ -6,6 +6,7 @@ use crate::standard_streams::refusal_of;
 use cdcl::Search;
 use clap::error::ErrorKind;
 use clap::{Arg, ArgAction, ArgMatches, Command, Error};
+use cnf::Limits;
 use std::alloc::{AllocError, Global};
 
 /// The largest budget.
@@ -22,6 +23,12 @@ static SEARCHES: [&str; 2] = ["ordered", "focused"];
 
 /// The most hands.
 const MAX_HANDS: u32 = 16;
+
+const SOLVE_LARGE: &str =
+    "Read a formula of up to 100,000,000 variables and 1,000,000,000 clauses, by no fixed limit less";
+
+const CHECK_LARGE: &str =
+    "Read a formula of up to 100,000,000 variables and 1,000,000,000 clauses, and a proof of any size";
 
 const SOLVE_STATS: &str =
     "Print to standard error what the run took: conflicts, cubes, lines, times, memory";
@@ -55,6 +62,7 @@ pub(crate) enum Request<'a> {
         budget: u32,
         hands: usize,
         seconds: Option<u32>,
+        limits: Limits,
         proof: Option<&'a str>,
         file: &'a str,
         shown: Shown,
@@ -63,6 +71,7 @@ pub(crate) enum Request<'a> {
     Check {
         formula: &'a str,
         proof: &'a str,
+        limits: Limits,
         /// Whether a fault and a refused proof are to have two exit statuses.
         distinct_status: bool,
         shown: Shown,
@@ -131,6 +140,7 @@ fn solve_command<'a>(alloc: Global) -> Result<Command<'a>, AllocError> {
         .arg(hands)?
         .arg(seconds)?
         .arg(proof)?
+        .arg(flag(alloc, "large", SOLVE_LARGE))?
         .arg(flag(alloc, "stats", SOLVE_STATS))?
         .arg(flag(alloc, "progress", SOLVE_PROGRESS))?
         .arg(flag(alloc, "verbose", VERBOSE))?
@@ -147,6 +157,7 @@ fn check_command<'a>(alloc: Global) -> Result<Command<'a>, AllocError> {
     Command::new(alloc, "check")
         .about("Check a proof: status 0 accepted, 1 refused or on a fault")
         .arg(flag(alloc, "distinct-status", DISTINCT_STATUS))?
+        .arg(flag(alloc, "large", CHECK_LARGE))?
         .arg(flag(alloc, "stats", CHECK_STATS))?
         .arg(flag(alloc, "progress", CHECK_PROGRESS))?
         .arg(flag(alloc, "verbose", VERBOSE))?
@@ -201,6 +212,15 @@ fn search_named(name: &str) -> Option<Search> {
     }
 }
 
+/// How large the formula and the proof may be.
+fn limits_of(matches: &ArgMatches<'_>) -> Limits {
+    if matches.get_flag("large") {
+        Limits::Large
+    } else {
+        Limits::Standard
+    }
+}
+
 /// The budget of the root where none is asked for.
 fn default_budget(search: Search) -> u32 {
     match search {
@@ -236,6 +256,7 @@ fn solve_request<'a>(matches: &ArgMatches<'a>) -> Option<Request<'a>>
         budget,
         hands: hands as usize,
         seconds,
+        limits: limits_of(matches),
         proof,
         file,
         shown,
@@ -255,6 +276,7 @@ fn check_request<'a>(matches: &ArgMatches<'a>) -> Option<Request<'a>>
     Some(Request::Check {
         formula,
         proof,
+        limits: limits_of(matches),
         distinct_status: matches.get_flag("distinct-status"),
         shown,
     })

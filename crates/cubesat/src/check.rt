@@ -1,11 +1,13 @@
 //! A run of the checker of proofs.
+ghost use Rattle.theory.specs.Reading.{standard};
+ghost use Rattle.cnf.specs.Limits.{limits_of};
 ghost use Rattle.cubesat.specs.Check.{CheckSays, checked_by};
 
 use crate::checked_line::{Checked, checked_line};
 use crate::fault::RunFault;
 use crate::output::write_text;
 use crate::proof_input::feed_all;
-use cnf::read_from;
+use cnf::{Limits, read_from_within};
 use lrat::{ProofStream, Refusal};
 use messages::Refused;
 use statistics::{Observer, Unobserved};
@@ -36,17 +38,18 @@ fn why_refused(verdict: Result<(), Refusal>, named: Option<u64>) -> Option<Refus
     }
 }
 
-/// What `check_run` does, and why the proof is refused. An observer is told of the answer.
+/// What `check_run_within` does, and why the proof is refused. An observer is told of the answer.
 pub(crate) fn check_told<R: Read + Drop, P: Read + Drop, W: Write, O: Observer>(
     alloc: Global,
     formula: R,
     mut proof: P,
+    limits: Limits,
     answer: &mut W,
     observer: &O,
 ) -> Result<Told, RunFault>
-    ensures { CheckSays (R.remaining formula) (P.remaining proof) (W.contents answer.old) (W.contents answer.new) (checked_by result) }
+    ensures { CheckSays (limits_of limits) (R.remaining formula) (P.remaining proof) (W.contents answer.old) (W.contents answer.new) (checked_by result) }
 {
-    let formula = match read_from(alloc, formula) {
+    let formula = match read_from_within(alloc, formula, limits) {
         Ok(formula) => formula,
         Err(fault) => return Err(RunFault::of_read(fault)),
     };
@@ -55,8 +58,8 @@ pub(crate) fn check_told<R: Read + Drop, P: Read + Drop, W: Write, O: Observer>(
         Err(_) => return Err(RunFault::NoMemory),
     };
     drop(formula);
-    feed_all(alloc, &mut proof, &mut stream)?;
-    let verdict = stream.verdict();
+    feed_all(alloc, &mut proof, &mut stream, limits)?;
+    let verdict = stream.verdict_within(limits);
     let line = match checked_line(alloc, verdict) {
         Ok(line) => line,
         Err(_) => return Err(RunFault::NoMemory),
@@ -69,20 +72,33 @@ pub(crate) fn check_told<R: Read + Drop, P: Read + Drop, W: Write, O: Observer>(
 }
 
 /// Checks a proof against the formula of a DIMACS text, by the checker of `lrat`: reads the
-/// formula, then the proof until 4,294,967,297 bytes are there, and writes and flushes one line,
+/// formula, then the proof until there is one byte more than it may have, and writes and flushes one line,
 /// `accepted` or why it is refused. Each step is checked as its line ends, so it takes memory for
 /// the clauses that are there, and none for the text. `RunFault` says when each fault comes and
 /// what is written then.
+pub fn check_run_within<R: Read + Drop, P: Read + Drop, W: Write>(
+    alloc: Global,
+    formula: R,
+    proof: P,
+    limits: Limits,
+    answer: &mut W,
+) -> Result<Checked, RunFault>
+    ensures { CheckSays (limits_of limits) (R.remaining formula) (P.remaining proof) (W.contents answer.old) (W.contents answer.new) result }
+{
+    match check_told(alloc, formula, proof, limits, answer, &Unobserved) {
+        Ok(told) => Ok(told.checked),
+        Err(fault) => Err(fault),
+    }
+}
+
+/// `check_run_within` the standard limits: of the proof it reads 4,294,967,297 bytes at most.
 pub fn check_run<R: Read + Drop, P: Read + Drop, W: Write>(
     alloc: Global,
     formula: R,
     proof: P,
     answer: &mut W,
 ) -> Result<Checked, RunFault>
-    ensures { CheckSays (R.remaining formula) (P.remaining proof) (W.contents answer.old) (W.contents answer.new) result }
+    ensures { CheckSays standard (R.remaining formula) (P.remaining proof) (W.contents answer.old) (W.contents answer.new) result }
 {
-    match check_told(alloc, formula, proof, answer, &Unobserved) {
-        Ok(told) => Ok(told.checked),
-        Err(fault) => Err(fault),
-    }
+    check_run_within(alloc, formula, proof, Limits::Standard, answer)
 }

@@ -1,7 +1,8 @@
 //! The line that the checker writes of a proof.
 ghost use Rattle.std.specs.Prelude.{◌≡◌, ℕ, List, true, is_some, IfOk, IfSome, MatchResult};
 ghost use Rattle.theory.specs.Truth.{Formula};
-ghost use Rattle.theory.specs.ProofReading.{ProofReading, ProofReads};
+ghost use Rattle.theory.specs.Reading.{Limits};
+ghost use Rattle.theory.specs.ProofReading.{ProofReading, ProofReadsWithin};
 ghost use Rattle.theory.specs.Checking.{accepted};
 ghost use Rattle.lrat.specs.Running.{IsSaid};
 ghost use Rattle.lrat_text.specs.Streams.{answer_to, checked};
@@ -102,9 +103,9 @@ pub(crate) fn checked_line(
     alloc: Global,
     verdict: Result<(), Refusal>,
 ) -> Result<CheckedLine, AllocError>
-    ensures { (F : Formula) (bytes : List ℕ) (r : ProofReading) → ProofReads bytes r →
+    ensures { (L : Limits) (F : Formula) (bytes : List ℕ) (r : ProofReading) → ProofReadsWithin L bytes r →
         MatchResult verdict (λ _. answer_to F r ≡ checked accepted) (IsSaid (answer_to F r)) →
-        IfOk result (λ l. IsLine F bytes l.checked l.text.items) }
+        IfOk result (λ l. IsLine L F bytes l.checked l.text.items) }
 {
     match verdict {
         Ok(()) => Ok(CheckedLine {

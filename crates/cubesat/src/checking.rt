@@ -1,6 +1,7 @@
 //! `check`: its files, and what is printed of the run.
 ghost use Rattle.std.specs.Prelude.{◌≡◌, Ok};
 ghost use Rattle.std.specs.Thread.{IsSync};
+ghost use Rattle.cnf.specs.Limits.{limits_of};
 ghost use Rattle.cubesat.specs.Check.{end_of, checked_by, CheckSays, CheckEnds};
 ghost use Rattle.cubesat.specs.CheckStatus.{check_status, IsCheckEnd};
 
@@ -13,6 +14,7 @@ use crate::input::{open_input, size_of};
 use crate::notes::{note_check, note_number};
 use crate::watched::check_counted;
 use crate::worded::{Known, Opened, say_refused};
+use cnf::Limits;
 use messages::Refused;
 use noticed::{NoticedReader, NoticedWriter};
 use statistics::{Board, Showing, Unobserved, print_check_statistics, show_progress};
@@ -75,19 +77,20 @@ fn check_beside<
     board: &Board,
     mut formula: F,
     mut proof: P,
+    limits: Limits,
     answer: &mut W,
     faults: &mut E,
     screen: Screen,
 ) -> Result<Told, RunFault>
-    ensures { CheckSays (F.remaining formula) (P.remaining proof) (W.contents answer.old) (W.contents answer.new) (checked_by result) }
+    ensures { CheckSays (limits_of limits) (F.remaining formula) (P.remaining proof) (W.contents answer.old) (W.contents answer.new) (checked_by result) }
 {
     let showing = Showing::of(Some(screen.manner()), false);
     let (_, result) = thread::join_mut(
         rt,
         &mut || show_progress(rt, board, faults, showing),
         &mut || -> Result<Told, RunFault>
-            ensures { CheckSays (F.remaining formula.entry) (P.remaining proof.entry) (W.contents answer.entry.now) (W.contents answer.exit.now) (checked_by result) }
-        { check_counted(rt, alloc, board, &mut formula, &mut proof, answer) },
+            ensures { CheckSays (limits_of limits) (F.remaining formula.entry) (P.remaining proof.entry) (W.contents answer.entry.now) (W.contents answer.exit.now) (checked_by result) }
+        { check_counted(rt, alloc, board, &mut formula, &mut proof, limits, answer) },
     );
     result
 }
@@ -105,22 +108,25 @@ fn check_opened<
     alloc: Global,
     formula: F,
     proof: P,
+    limits: Limits,
     size: Option<u64>,
     shown: Shown,
     answer: &mut W,
     faults: &mut E,
     screen: Screen,
 ) -> Result<Told, RunFault>
-    ensures { CheckSays (F.remaining formula) (P.remaining proof) (W.contents answer.old) (W.contents answer.new) (checked_by result) }
+    ensures { CheckSays (limits_of limits) (F.remaining formula) (P.remaining proof) (W.contents answer.old) (W.contents answer.new) (checked_by result) }
 {
     if !shown.progress && !shown.stats {
-        return check_told(alloc, formula, proof, answer, &Unobserved);
+        return check_told(alloc, formula, proof, limits, answer, &Unobserved);
     }
     let board = Board::of_proof(rt, size);
     let result = if shown.progress {
-        check_beside(rt, alloc, &board, formula, proof, answer, faults, screen)
+        check_beside(
+            rt, alloc, &board, formula, proof, limits, answer, faults, screen,
+        )
     } else {
-        check_counted(rt, alloc, &board, formula, proof, answer)
+        check_counted(rt, alloc, &board, formula, proof, limits, answer)
     };
     if shown.stats {
         print_check_statistics(faults, &board.look(rt));
@@ -128,17 +134,17 @@ fn check_opened<
     result
 }
 
-/// Says why the proof in a file, which begins with the first of these bytes, was refused, and what
+/// Says why the proof, which begins with these bytes, was refused, and what
 /// that means where it is to be explained.
 fn print_refused<R: Files, E: Write>(
     rt: &R,
     faults: &mut E,
-    path: &str,
+    known: &Known<'_>,
     beginning: &[u8],
     why: Refused,
     is_explained: bool,
 ) {
-    say_refused(rt, faults, path, why, beginning);
+    say_refused(rt, faults, known, why, beginning);
     if is_explained {
         note_number(faults, why.number);
     }
@@ -159,7 +165,7 @@ fn end_check<R: Files, E: Write>(
     match answered {
         Ok(told) => {
             if let Some(why) = told.why {
-                print_refused(rt, faults, known.proof, beginning, why, is_explained);
+                print_refused(rt, faults, known, beginning, why, is_explained);
             }
             CheckEnd::of(told.checked)
         }
@@ -183,19 +189,20 @@ fn check_files<
     alloc: Global,
     formula: Opened<'_, F>,
     proof: Opened<'_, P>,
+    limits: Limits,
     size: Option<u64>,
     shown: Shown,
     answer: &mut NoticedWriter<W>,
     faults: &mut E,
     screen: Screen,
 ) -> CheckEnd
-    ensures end { IsCheckEnd (F.remaining formula.entry.file) (P.remaining proof.entry.file) result }
-    ensures says { CheckEnds (F.remaining formula.entry.file) (P.remaining proof.entry.file) (⟦<NoticedWriter<W> as Write>⟧.contents answer.old) (⟦<NoticedWriter<W> as Write>⟧.contents answer.new) result }
+    ensures end { IsCheckEnd (limits_of limits) (F.remaining formula.entry.file) (P.remaining proof.entry.file) result }
+    ensures says { CheckEnds (limits_of limits) (F.remaining formula.entry.file) (P.remaining proof.entry.file) (⟦<NoticedWriter<W> as Write>⟧.contents answer.old) (⟦<NoticedWriter<W> as Write>⟧.contents answer.new) result }
 {
     let mut text = NoticedReader::of(formula.file);
     let mut steps = NoticedReader::of(proof.file);
     let answered = check_opened(
-        rt, alloc, &mut text, &mut steps, size, shown, answer, faults, screen,
+        rt, alloc, &mut text, &mut steps, limits, size, shown, answer, faults, screen,
     );
     let known = Known {
         formula: formula.path,
@@ -204,6 +211,7 @@ fn check_files<
         formula_error: text.error(),
         proof_error: steps.error(),
         answer_error: answer.error(),
+        limits,
     };
     let beginning = steps.beginning();
     end_check(rt, faults, answered, &known, beginning, shown.verbose)
@@ -221,6 +229,7 @@ pub(crate) fn check<
     alloc: Global,
     file: &str,
     path: &str,
+    limits: Limits,
     standard: I,
     shown: Shown,
     answer: &mut W,
@@ -254,6 +263,6 @@ pub(crate) fn check<
     let mut answer = NoticedWriter::of(answer);
     let answer = &mut answer;
     check_files(
-        rt, alloc, formula, proof, size, shown, answer, faults, screen,
+        rt, alloc, formula, proof, limits, size, shown, answer, faults, screen,
     )
 }

@@ -29,7 +29,7 @@ fn of_formula(number: u32) -> Option<&'static str> {
             "Clause not ended: the file ends inside a clause. Each clause, also the last one, ends with the word `0`.",
         ),
         9 => Some(
-            "Over a limit: the header counts more variables or clauses than can be read, or there are more literals or bytes than that. The limits are 262,143 variables, 1,000,000 clauses, 8,000,000 literals and 67,108,864 bytes.",
+            "Over a limit: the header counts more variables or clauses than can be read, or there are more literals or bytes than that. The limits are 262,143 variables, 1,000,000 clauses, 8,000,000 literals and 67,108,864 bytes; with --large 100,000,000 variables, 1,000,000,000 clauses, 8,000,000,000 literals and 1,099,511,627,776 bytes.",
         ),
         10 => Some(
             "Read failed: the system answered an error while the formula was read. A folder in place of a file does that too.",
@@ -89,7 +89,9 @@ fn of_text(number: u32) -> Option<&'static str> {
         43 => Some(
             "Bad shape: a line is no addition `NUMBER LITERALS 0 HINTS 0` and no deletion `NUMBER d NUMBERS 0`: a number has the wrong sign, a `0` is missing or stands where none may, or something follows the last `0`.",
         ),
-        45 => Some("Too long: the proof has more than 4,294,967,296 bytes."),
+        45 => Some(
+            "Too long: the proof has more than 4,294,967,296 bytes, or with --large more than 4,611,686,018,427,387,904.",
+        ),
         _ => None,
     }
 }

@@ -1,11 +1,12 @@
 //! A law of runs: the contract of a function that does nothing.
 ghost use Rattle.std.specs.Prelude.{◌≡◌, ℕ, List, Some};
+ghost use Rattle.theory.specs.Reading.{Limits};
 ghost use Rattle.theory.specs.Plans.{Plan};
 ghost use Rattle.cubesat.specs.declared.verdict.Verdict.{Verdict};
 ghost use Rattle.cubesat.specs.Run.{IsRunOf};
 
-/// The bytes and the plan fix the verdict, the proof and the answer of a run.
+/// The bytes, the limits and the plan fix the verdict, the proof and the answer of a run.
 pub fn runs_write_the_same()
-    ensures { (input : List ℕ) (plan : Plan) (v w : Verdict) (p a q b : List ℕ) →
-        IsRunOf (Some input) plan v p a → IsRunOf (Some input) plan w q b → (v ≡ w) × (p ≡ q) × (a ≡ b) }
+    ensures { (L : Limits) (input : List ℕ) (plan : Plan) (v w : Verdict) (p a q b : List ℕ) →
+        IsRunOf L (Some input) plan v p a → IsRunOf L (Some input) plan w q b → (v ≡ w) × (p ≡ q) × (a ≡ b) }
 {}

@@ -29,19 +29,19 @@ mod verdict;
 mod watched;
 mod worded;
 
-pub use answered::answer_by_plan;
-pub use check::check_run;
+pub use answered::{answer_by_plan, answer_within};
+pub use check::{check_run, check_run_within};
 pub use checked_line::Checked;
 pub use explanations::explanation;
 pub use fault::RunFault;
 pub use fault_lines::Screen;
 pub use laws::runs_write_the_same;
 pub use limit::Limit;
-pub use limited::{answer_limited, run_limited};
+pub use limited::{answer_limited, answer_limited_within, run_limited, run_limited_within};
 pub use program::{command, command_on, command_with_input};
 pub use runs::{run_one, run_one_by_plan};
 pub use statistics::{
     Board, CubeCounts, Figures, Manner, Showing, Stage, TextSize, print_line, show_progress,
 };
-pub use threaded::{run, run_by_plan};
+pub use threaded::{run, run_by_plan, run_within};
 pub use verdict::Verdict;

@@ -1,5 +1,7 @@
 //! A run that ends where a limit is reached.
 ghost use Rattle.std.specs.Prelude.{◌≡◌, ◌≤◌, IfOk, IfSome};
+ghost use Rattle.theory.specs.Reading.{standard};
+ghost use Rattle.cnf.specs.Limits.{limits_of};
 ghost use Rattle.cubesat.specs.Answer.{IsRightAnswer};
 ghost use Rattle.cubesat.specs.Limited.{EndsUnsolved, LimitedAnswerSays, LimitedRunSays};
 
@@ -10,6 +12,7 @@ use crate::output::write_text;
 use crate::threaded::run_observed;
 use crate::verdict::Verdict;
 use cdcl::Plan;
+use cnf::Limits;
 use cubes::Gate;
 use statistics::{Observer, Unobserved};
 use std::alloc::Global;
@@ -48,6 +51,7 @@ pub(crate) fn run_limited_observed<
     rt: &T,
     alloc: Global,
     input: R,
+    limits: Limits,
     answer: &mut W,
     proof: &mut P,
     plan: Plan,
@@ -57,12 +61,12 @@ pub(crate) fn run_limited_observed<
     observer: &O,
 ) -> Result<Option<Verdict>, RunFault>
     requires hands { (1 ≤ hands) × (hands ≤ 16) }
-    ensures says { LimitedRunSays (L.is_reached limit.now) (R.remaining input) plan (P.contents proof.old) (P.contents proof.new) (W.contents answer.old) (W.contents answer.new) result }
-    ensures answer_is_right { IfOk result (λ v. IfSome v (IsRightAnswer plan.search (R.remaining input) (P.contents proof.old) (P.contents proof.new) (W.contents answer.old) (W.contents answer.new))) }
+    ensures says { LimitedRunSays (limits_of limits) (L.is_reached limit.now) (R.remaining input) plan (P.contents proof.old) (P.contents proof.new) (W.contents answer.old) (W.contents answer.new) result }
+    ensures answer_is_right { IfOk result (λ v. IfSome v (IsRightAnswer (limits_of limits) plan.search (R.remaining input) (P.contents proof.old) (P.contents proof.new) (W.contents answer.old) (W.contents answer.new))) }
 {
     let gate = LimitedGate { gate, limit };
     match run_observed(
-        rt, alloc, input, answer, proof, plan, hands, &gate, observer,
+        rt, alloc, input, limits, answer, proof, plan, hands, &gate, observer,
     ) {
         Ok(verdict) => Ok(Some(verdict)),
         Err(RunFault::NoMemory) => end_unsolved(answer, limit, observer),
@@ -82,6 +86,7 @@ pub(crate) fn answer_limited_observed<
     rt: &T,
     alloc: Global,
     input: R,
+    limits: Limits,
     answer: &mut W,
     plan: Plan,
     hands: usize,
@@ -90,18 +95,55 @@ pub(crate) fn answer_limited_observed<
     observer: &O,
 ) -> Result<Option<Verdict>, RunFault>
     requires { (1 ≤ hands) × (hands ≤ 16) }
-    ensures { LimitedAnswerSays (L.is_reached limit.now) (R.remaining input) plan (W.contents answer.old) (W.contents answer.new) result }
+    ensures { LimitedAnswerSays (limits_of limits) (L.is_reached limit.now) (R.remaining input) plan (W.contents answer.old) (W.contents answer.new) result }
 {
     let gate = LimitedGate { gate, limit };
-    match answer_observed(rt, alloc, input, answer, plan, hands, &gate, observer) {
+    match answer_observed(
+        rt, alloc, input, limits, answer, plan, hands, &gate, observer,
+    ) {
         Ok(verdict) => Ok(Some(verdict)),
         Err(RunFault::NoMemory) => end_unsolved(answer, limit, observer),
         Err(fault) => Err(fault),
     }
 }
 
-/// What `answer_by_plan` does, unless the limit is reached before the formula is decided: then it
+/// What `answer_within` does, unless the limit is reached before the formula is decided: then it
 /// writes `s UNKNOWN` as the answer, and there is no verdict.
+pub fn answer_limited_within<
+    T: Threads + Wait + Clock + Sync,
+    R: Read + Drop,
+    W: Write,
+    G: Gate + Sync,
+    L: Limit + Sync,
+>(
+    rt: &T,
+    alloc: Global,
+    input: R,
+    limits: Limits,
+    answer: &mut W,
+    plan: Plan,
+    hands: usize,
+    gate: &G,
+    limit: &L,
+) -> Result<Option<Verdict>, RunFault>
+    requires { (1 ≤ hands) × (hands ≤ 16) }
+    ensures { LimitedAnswerSays (limits_of limits) (L.is_reached limit.now) (R.remaining input) plan (W.contents answer.old) (W.contents answer.new) result }
+{
+    answer_limited_observed(
+        rt,
+        alloc,
+        input,
+        limits,
+        answer,
+        plan,
+        hands,
+        gate,
+        limit,
+        &Unobserved,
+    )
+}
+
+/// `answer_limited_within` the standard limits.
 pub fn answer_limited<
     T: Threads + Wait + Clock + Sync,
     R: Read + Drop,
@@ -119,13 +161,45 @@ pub fn answer_limited<
     limit: &L,
 ) -> Result<Option<Verdict>, RunFault>
     requires { (1 ≤ hands) × (hands ≤ 16) }
-    ensures { LimitedAnswerSays (L.is_reached limit.now) (R.remaining input) plan (W.contents answer.old) (W.contents answer.new) result }
+    ensures { LimitedAnswerSays standard (L.is_reached limit.now) (R.remaining input) plan (W.contents answer.old) (W.contents answer.new) result }
 {
-    answer_limited_observed(
+    let limits = Limits::Standard;
+    answer_limited_within(rt, alloc, input, limits, answer, plan, hands, gate, limit)
+}
+
+/// What `run_within` does, unless the limit is reached before the formula is solved: then it
+/// writes `s UNKNOWN` as the answer and no proof, and there is no verdict. Where the limit isn't
+/// reached, it writes the same bytes as without one.
+pub fn run_limited_within<
+    T: Threads + Wait + Clock + Sync,
+    R: Read + Drop,
+    W: Write,
+    P: Write,
+    G: Gate + Sync,
+    L: Limit + Sync,
+>(
+    rt: &T,
+    alloc: Global,
+    input: R,
+    limits: Limits,
+    answer: &mut W,
+    proof: &mut P,
+    plan: Plan,
+    hands: usize,
+    gate: &G,
+    limit: &L,
+) -> Result<Option<Verdict>, RunFault>
+    requires hands { (1 ≤ hands) × (hands ≤ 16) }
+    ensures says { LimitedRunSays (limits_of limits) (L.is_reached limit.now) (R.remaining input) plan (P.contents proof.old) (P.contents proof.new) (W.contents answer.old) (W.contents answer.new) result }
+    ensures answer_is_right { IfOk result (λ v. IfSome v (IsRightAnswer (limits_of limits) plan.search (R.remaining input) (P.contents proof.old) (P.contents proof.new) (W.contents answer.old) (W.contents answer.new))) }
+{
+    run_limited_observed(
         rt,
         alloc,
         input,
+        limits,
         answer,
+        proof,
         plan,
         hands,
         gate,
@@ -134,9 +208,7 @@ pub fn answer_limited<
     )
 }
 
-/// What `run_by_plan` does, unless the limit is reached before the formula is solved: then it
-/// writes `s UNKNOWN` as the answer and no proof, and there is no verdict. Where the limit isn't
-/// reached, it writes the same bytes as without one.
+/// `run_limited_within` the standard limits.
 pub fn run_limited<
     T: Threads + Wait + Clock + Sync,
     R: Read + Drop,
@@ -156,19 +228,11 @@ pub fn run_limited<
     limit: &L,
 ) -> Result<Option<Verdict>, RunFault>
     requires hands { (1 ≤ hands) × (hands ≤ 16) }
-    ensures says { LimitedRunSays (L.is_reached limit.now) (R.remaining input) plan (P.contents proof.old) (P.contents proof.new) (W.contents answer.old) (W.contents answer.new) result }
-    ensures answer_is_right { IfOk result (λ v. IfSome v (IsRightAnswer plan.search (R.remaining input) (P.contents proof.old) (P.contents proof.new) (W.contents answer.old) (W.contents answer.new))) }
+    ensures says { LimitedRunSays standard (L.is_reached limit.now) (R.remaining input) plan (P.contents proof.old) (P.contents proof.new) (W.contents answer.old) (W.contents answer.new) result }
+    ensures answer_is_right { IfOk result (λ v. IfSome v (IsRightAnswer standard plan.search (R.remaining input) (P.contents proof.old) (P.contents proof.new) (W.contents answer.old) (W.contents answer.new))) }
 {
-    run_limited_observed(
-        rt,
-        alloc,
-        input,
-        answer,
-        proof,
-        plan,
-        hands,
-        gate,
-        limit,
-        &Unobserved,
+    let limits = Limits::Standard;
+    run_limited_within(
+        rt, alloc, input, limits, answer, proof, plan, hands, gate, limit,
     )
 }

@@ -91,6 +91,7 @@ pub fn command_with_input<
                 budget,
                 hands,
                 seconds,
+                limits,
                 proof,
                 file,
                 shown,
@@ -98,6 +99,7 @@ pub fn command_with_input<
         ) => {
             let plan = plan_of(search, budget);
             let effort = Effort {
+                limits,
                 plan,
                 hands,
                 seconds,
@@ -110,12 +112,13 @@ pub fn command_with_input<
             Request::Check {
                 formula,
                 proof,
+                limits,
                 distinct_status,
                 shown,
             },
         ) => {
             let end = check(
-                rt, alloc, formula, proof, input, shown, answer, faults, screen,
+                rt, alloc, formula, proof, limits, input, shown, answer, faults, screen,
             );
             end.status(distinct_status)
         }

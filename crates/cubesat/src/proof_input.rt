@@ -1,16 +1,16 @@
 //! A proof, as a reader gives it to the check piece by piece.
 ghost use Rattle.std.specs.Prelude.{◌≡◌, ◌+◌, ◌<◌, ◌≤◌, length, vec_len, MatchResult, OnOk};
+ghost use Rattle.theory.specs.Reading.{large};
 ghost use Rattle.theory.specs.ProofReading.{max_proof_bytes};
+ghost use Rattle.cnf.specs.Limits.{limits_of};
 ghost use Rattle.lrat.specs.Running.{IsRunning, stream_of, vars_of};
 ghost use Rattle.cubesat.specs.Streamed.{FeedsChunk, FeedsAll, IsStop};
 
 use crate::fault::RunFault;
-use lrat::{MAX_BYTES, ProofStream};
+use cnf::Limits;
+use lrat::ProofStream;
 use std::alloc::Global;
 use std::io::Read;
-
-/// How many bytes of a proof are read: one more than it may have.
-const MOST: usize = MAX_BYTES + 1;
 
 /// How many bytes a read is given room for. Larger pieces made the check no faster.
 const CHUNK: usize = 65_536;
@@ -33,7 +33,7 @@ fn feed_chunk<P: Read>(
 ) -> Result<usize, RunFault>
     requires room { 0 < length chunk.old }
     requires running { IsRunning stream.old }
-    requires few { (stream_of stream.old).seen + length chunk.old ≤ max_proof_bytes + 1 }
+    requires few { (stream_of stream.old).seen + length chunk.old ≤ max_proof_bytes large + 1 }
     ensures fed { MatchResult result
         (λ count. FeedsChunk (P.remaining proof.old) (P.remaining proof.new) (vars_of stream.old) (stream_of stream.old) (stream_of stream.new) (length chunk.old) count)
         IsStop }
@@ -49,24 +49,26 @@ fn feed_chunk<P: Read>(
     }
 }
 
-/// Feeds the check with a reader's bytes, until a read gives none, until an error, or until
-/// 4,294,967,297 bytes were given. Any error of the reader is `ProofReadFailed`, and no read is
+/// Feeds the check with a reader's bytes, until a read gives none, until an error, or until there
+/// is one byte more than the limits allow. Any error of the reader is `ProofReadFailed`, and no read is
 /// tried again.
 pub(crate) fn feed_all<P: Read>(
     alloc: Global,
     proof: &mut P,
     stream: &mut ProofStream,
+    limits: Limits,
 ) -> Result<(), RunFault>
     requires running { IsRunning stream.old }
     requires first { (stream_of stream.old).seen ≡ 0 }
     ensures { MatchResult result
-        (λ _. FeedsAll (P.remaining proof.old) (vars_of stream.old) (stream_of stream.old) (stream_of stream.new))
+        (λ _. FeedsAll (limits_of limits) (P.remaining proof.old) (vars_of stream.old) (stream_of stream.old) (stream_of stream.new))
         IsStop }
 {
     let mut chunk = chunk(alloc)?;
+    let most = limits.proof_bytes() as usize + 1;
     let mut read = 0;
-    while read < MOST {
-        let left = CHUNK.min(MOST - read);
+    while read < most {
+        let left = CHUNK.min(most - read);
         let count = feed_chunk(proof, &mut chunk[..left], stream)?;
         if count == 0 {
             break;

@@ -2,7 +2,9 @@
 ghost use Rattle.std.specs.Prelude.{◌≡◌, ◌≤◌, [], IfOk};
 ghost use Rattle.theory.specs.Plans as plans;
 ghost use Rattle.theory.specs.Plans.{ordered, ordered_within};
+ghost use Rattle.theory.specs.Reading.{standard};
 ghost use Rattle.theory.specs.Texts.{proof_text};
+ghost use Rattle.cnf.specs.Limits.{limits_of};
 ghost use Rattle.join.specs.Walking.{lines_left, IsBetweenLines};
 ghost use Rattle.cubes.specs.Result.{IsResultOf, Says};
 ghost use Rattle.cubesat.specs.Answer.{IsRightAnswer};
@@ -14,7 +16,7 @@ use crate::output::write_text;
 use crate::proof_output::{room, write_proof};
 use crate::verdict::Verdict;
 use cdcl::Plan;
-use cnf::{Formula, read_from};
+use cnf::{Formula, Limits, read_from};
 use cubes::{Tree, solve_one_by_plan};
 use join::{Lines, answer_bytes};
 use lines::Row;
@@ -71,16 +73,17 @@ fn answer_of(
 pub(crate) fn output_of(
     alloc: Global,
     formula: &Formula,
+    limits: Limits,
     plan: Plan,
     tree: Tree<Row>,
 ) -> Result<Output, AllocError>
     requires result { IsResultOf formula.now plan tree }
     requires says { Says plan.search formula.now tree }
-    ensures texts { IfOk result (λ o. AreTexts formula.now plan o.verdict (proof_text (lines_left o.lines)) o.answer.items) }
+    ensures texts { IfOk result (λ o. AreTexts (limits_of limits) formula.now plan o.verdict (proof_text (lines_left o.lines)) o.answer.items) }
     ensures lines { IfOk result (λ o. IsBetweenLines o.lines) }
     ensures buffer { IfOk result (λ o. o.buffer.items ≡ []) }
 {
-    let _plan = plan; // it is there for the contract alone
+    let (_limits, _plan) = (limits, plan); // they are there for the contract alone
     let (verdict, answer) = answer_of(alloc, formula, &tree)?;
     let lines = Lines::of(alloc, formula, tree)?;
     let buffer = room(alloc, &lines)?;
@@ -103,8 +106,8 @@ pub fn run_one_by_plan<R: Read + Drop, W: Write, P: Write>(
     proof: &mut P,
     plan: Plan,
 ) -> Result<Verdict, RunFault>
-    ensures says { RunSays (R.remaining input) plan (P.contents proof.old) (P.contents proof.new) (W.contents answer.old) (W.contents answer.new) result }
-    ensures answer_is_right { IfOk result (IsRightAnswer plan.search (R.remaining input) (P.contents proof.old) (P.contents proof.new) (W.contents answer.old) (W.contents answer.new)) }
+    ensures says { RunSays standard (R.remaining input) plan (P.contents proof.old) (P.contents proof.new) (W.contents answer.old) (W.contents answer.new) result }
+    ensures answer_is_right { IfOk result (IsRightAnswer standard plan.search (R.remaining input) (P.contents proof.old) (P.contents proof.new) (W.contents answer.old) (W.contents answer.new)) }
 {
     let formula = match read_from(alloc, input) {
         Ok(formula) => formula,
@@ -113,7 +116,7 @@ pub fn run_one_by_plan<R: Read + Drop, W: Write, P: Write>(
     let Ok(tree) = solve_one_by_plan(alloc, &formula, plan) else {
         return Err(RunFault::NoMemory);
     };
-    let mut output = match output_of(alloc, &formula, plan, tree) {
+    let mut output = match output_of(alloc, &formula, Limits::Standard, plan, tree) {
         Ok(output) => output,
         Err(_) => return Err(RunFault::NoMemory),
     };
@@ -131,8 +134,8 @@ pub fn run_one<R: Read + Drop, W: Write, P: Write>(
     budget: u32,
 ) -> Result<Verdict, RunFault>
     requires { (1 ≤ budget) × (budget ≤ 100000) }
-    ensures says { RunSays (R.remaining input) (ordered_within budget) (P.contents proof.old) (P.contents proof.new) (W.contents answer.old) (W.contents answer.new) result }
-    ensures answer_is_right { IfOk result (IsRightAnswer ordered (R.remaining input) (P.contents proof.old) (P.contents proof.new) (W.contents answer.old) (W.contents answer.new)) }
+    ensures says { RunSays standard (R.remaining input) (ordered_within budget) (P.contents proof.old) (P.contents proof.new) (W.contents answer.old) (W.contents answer.new) result }
+    ensures answer_is_right { IfOk result (IsRightAnswer standard ordered (R.remaining input) (P.contents proof.old) (P.contents proof.new) (W.contents answer.old) (W.contents answer.new)) }
 {
     run_one_by_plan(alloc, input, answer, proof, Plan::ordered(budget))
 }

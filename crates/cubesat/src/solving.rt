@@ -1,6 +1,7 @@
 //! `solve`: its files, and what is printed of the run.
 ghost use Rattle.std.specs.Prelude.{◌≡◌, IsSome, option_map};
 ghost use Rattle.std.specs.Thread.{IsSync};
+ghost use Rattle.cnf.specs.Limits.{limits_of};
 ghost use Rattle.cubesat.specs.Status.{solve_status, IsSolveStatus};
 ghost use Rattle.cubesat.specs.Limited.{LimitedSays, SolveEnds};
 
@@ -11,7 +12,7 @@ use crate::fault_lines::{
 };
 use crate::input::open_input;
 use crate::limit::TimeLimit;
-use crate::limited::{answer_limited, run_limited};
+use crate::limited::{answer_limited_within, run_limited_within};
 use crate::notes::{note_files, note_number, note_solve};
 use crate::placed_proof::{NotBegun, begin_proof};
 use crate::verdict::Verdict;
@@ -87,14 +88,14 @@ fn run_beside<
     faults: &mut E,
     showing: Showing,
 ) -> Result<Option<Verdict>, RunFault>
-    ensures { LimitedSays (IsSome effort.seconds) (I.remaining input) effort.plan (option_map P.contents proof) (W.contents answer.old) (W.contents answer.new) result }
+    ensures { LimitedSays (limits_of effort.limits) (IsSome effort.seconds) (I.remaining input) effort.plan (option_map P.contents proof) (W.contents answer.old) (W.contents answer.new) result }
 {
     let (_, result) = thread::join_mut(
         rt,
         &mut || show_progress(rt, board, faults, showing),
         &mut || -> Result<Option<Verdict>, RunFault>
             requires { IsSync R.row }
-            ensures { LimitedSays (IsSome effort.seconds) (I.remaining input.entry) effort.plan (option_map P.contents proof.entry) (W.contents answer.entry.now) (W.contents answer.exit.now) result }
+            ensures { LimitedSays (limits_of effort.limits) (IsSome effort.seconds) (I.remaining input.entry) effort.plan (option_map P.contents proof.entry) (W.contents answer.entry.now) (W.contents answer.exit.now) result }
         { run_counted(rt, alloc, board, effort, &mut input, answer, proof.take()) },
     );
     result
@@ -118,7 +119,7 @@ fn run_shown<
     faults: &mut E,
     showing: Showing,
 ) -> Result<Option<Verdict>, RunFault>
-    ensures { LimitedSays (IsSome effort.seconds) (I.remaining input) effort.plan (option_map P.contents proof) (W.contents answer.old) (W.contents answer.new) result }
+    ensures { LimitedSays (limits_of effort.limits) (IsSome effort.seconds) (I.remaining input) effort.plan (option_map P.contents proof) (W.contents answer.old) (W.contents answer.new) result }
 {
     let board = Board::of_search(rt, effort.plan.search(), proof.is_some());
     let hands = effort.hands;
@@ -145,16 +146,19 @@ fn run_plain<R: Files + Threads + Wait + Clock + Sync, I: Read + Drop, W: Write,
     answer: &mut W,
     proof: Option<P>,
 ) -> Result<Option<Verdict>, RunFault>
-    ensures { LimitedSays (IsSome effort.seconds) (I.remaining input) effort.plan (option_map P.contents proof) (W.contents answer.old) (W.contents answer.new) result }
+    ensures { LimitedSays (limits_of effort.limits) (IsSome effort.seconds) (I.remaining input) effort.plan (option_map P.contents proof) (W.contents answer.old) (W.contents answer.new) result }
 {
-    let (plan, hands, gate) = (effort.plan, effort.hands, OpenGate);
+    let (limits, gate) = (effort.limits, OpenGate);
+    let (plan, hands) = (effort.plan, effort.hands);
     let limit = TimeLimit::begin(rt, effort.seconds);
     match proof {
         Some(mut proof) => {
             let proof = &mut proof;
-            run_limited(rt, alloc, input, answer, proof, plan, hands, &gate, &limit)
+            run_limited_within(
+                rt, alloc, input, limits, answer, proof, plan, hands, &gate, &limit,
+            )
         }
-        None => answer_limited(rt, alloc, input, answer, plan, hands, &gate, &limit),
+        None => answer_limited_within(rt, alloc, input, limits, answer, plan, hands, &gate, &limit),
     }
 }
 
@@ -176,7 +180,7 @@ fn run_opened<
     faults: &mut E,
     screen: Screen,
 ) -> Result<Option<Verdict>, RunFault>
-    ensures { LimitedSays (IsSome effort.seconds) (I.remaining input) effort.plan (option_map P.contents proof) (W.contents answer.old) (W.contents answer.new) result }
+    ensures { LimitedSays (limits_of effort.limits) (IsSome effort.seconds) (I.remaining input) effort.plan (option_map P.contents proof) (W.contents answer.old) (W.contents answer.new) result }
 {
     let showing = showing_of(shown, effort.plan, screen);
     if shown.stats || showing.is_any() {
@@ -235,9 +239,10 @@ fn solve_opened<
     faults: &mut E,
     screen: Screen,
 ) -> u8
-    ensures status { IsSolveStatus (IsSome effort.seconds) effort.plan.search (I.remaining formula.entry.file) (⟦<NoticedWriter<W> as Write>⟧.contents answer.old) (⟦<NoticedWriter<W> as Write>⟧.contents answer.new) result }
-    ensures says { SolveEnds (IsSome effort.seconds) (I.remaining formula.entry.file) effort.plan (option_map (λ o. P.contents o.file) proof.entry) (⟦<NoticedWriter<W> as Write>⟧.contents answer.old) (⟦<NoticedWriter<W> as Write>⟧.contents answer.new) result }
+    ensures status { IsSolveStatus (limits_of effort.limits) (IsSome effort.seconds) effort.plan.search (I.remaining formula.entry.file) (⟦<NoticedWriter<W> as Write>⟧.contents answer.old) (⟦<NoticedWriter<W> as Write>⟧.contents answer.new) result }
+    ensures says { SolveEnds (limits_of effort.limits) (IsSome effort.seconds) (I.remaining formula.entry.file) effort.plan (option_map (λ o. P.contents o.file) proof.entry) (⟦<NoticedWriter<W> as Write>⟧.contents answer.old) (⟦<NoticedWriter<W> as Write>⟧.contents answer.new) result }
 {
+    let limits = effort.limits;
     let path = match &proof {
         Some(proof) => proof.path,
         None => NO_PATH,
@@ -262,6 +267,7 @@ fn solve_opened<
         formula_error: input.error(),
         proof_error: output.as_ref().and_then(|output| output.error()),
         answer_error: answer.error(),
+        limits,
     };
     end_solve(rt, faults, answered, &known, shown.verbose)
 }

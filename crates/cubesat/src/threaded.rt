@@ -1,6 +1,8 @@
 //! A run by several hands.
 ghost use Rattle.std.specs.Prelude.{◌≤◌, IfOk};
+ghost use Rattle.theory.specs.Reading.{standard};
 ghost use Rattle.theory.specs.Plans.{ordered, ordered_within};
+ghost use Rattle.cnf.specs.Limits.{limits_of};
 ghost use Rattle.cubesat.specs.Answer.{IsRightAnswer};
 ghost use Rattle.cubesat.specs.Run.{RunSays};
 
@@ -10,7 +12,7 @@ use crate::proof_output::write_proof;
 use crate::runs::output_of;
 use crate::verdict::Verdict;
 use cdcl::Plan;
-use cnf::read_from;
+use cnf::{Limits, read_from_within};
 use cubes::{Gate, solve_by_plan};
 use statistics::{Observer, Unobserved};
 use std::alloc::Global;
@@ -31,6 +33,7 @@ pub(crate) fn run_observed<
     rt: &T,
     alloc: Global,
     input: R,
+    limits: Limits,
     answer: &mut W,
     proof: &mut P,
     plan: Plan,
@@ -39,10 +42,10 @@ pub(crate) fn run_observed<
     observer: &O,
 ) -> Result<Verdict, RunFault>
     requires hands { (1 ≤ hands) × (hands ≤ 16) }
-    ensures says { RunSays (R.remaining input) plan (P.contents proof.old) (P.contents proof.new) (W.contents answer.old) (W.contents answer.new) result }
-    ensures answer_is_right { IfOk result (IsRightAnswer plan.search (R.remaining input) (P.contents proof.old) (P.contents proof.new) (W.contents answer.old) (W.contents answer.new)) }
+    ensures says { RunSays (limits_of limits) (R.remaining input) plan (P.contents proof.old) (P.contents proof.new) (W.contents answer.old) (W.contents answer.new) result }
+    ensures answer_is_right { IfOk result (IsRightAnswer (limits_of limits) plan.search (R.remaining input) (P.contents proof.old) (P.contents proof.new) (W.contents answer.old) (W.contents answer.new)) }
 {
-    let formula = match read_from(alloc, input) {
+    let formula = match read_from_within(alloc, input, limits) {
         Ok(formula) => formula,
         Err(fault) => return Err(RunFault::of_read(fault)),
     };
@@ -51,7 +54,7 @@ pub(crate) fn run_observed<
         return Err(RunFault::NoMemory);
     };
     observer.solved(&tree);
-    let mut output = match output_of(alloc, &formula, plan, tree) {
+    let mut output = match output_of(alloc, &formula, limits, plan, tree) {
         Ok(output) => output,
         Err(_) => return Err(RunFault::NoMemory),
     };
@@ -63,8 +66,36 @@ pub(crate) fn run_observed<
     Ok(output.verdict)
 }
 
-/// What `run_one_by_plan` does, by 1 to 16 hands, each in a thread of its own where one can be
+/// What `run_one_by_plan` does within these limits, by 1 to 16 hands, each in a thread of its own where one can be
 /// started. Whatever the hands, the gate and the schedule, the same bytes are written.
+pub fn run_within<
+    T: Threads + Wait + Clock + Sync,
+    R: Read + Drop,
+    W: Write,
+    P: Write,
+    G: Gate + Sync,
+>(
+    rt: &T,
+    alloc: Global,
+    input: R,
+    limits: Limits,
+    answer: &mut W,
+    proof: &mut P,
+    plan: Plan,
+    hands: usize,
+    gate: &G,
+) -> Result<Verdict, RunFault>
+    requires hands { (1 ≤ hands) × (hands ≤ 16) }
+    ensures says { RunSays (limits_of limits) (R.remaining input) plan (P.contents proof.old) (P.contents proof.new) (W.contents answer.old) (W.contents answer.new) result }
+    ensures answer_is_right { IfOk result (IsRightAnswer (limits_of limits) plan.search (R.remaining input) (P.contents proof.old) (P.contents proof.new) (W.contents answer.old) (W.contents answer.new)) }
+{
+    let observer = Unobserved;
+    run_observed(
+        rt, alloc, input, limits, answer, proof, plan, hands, gate, &observer,
+    )
+}
+
+/// `run_within` the standard limits.
 pub fn run_by_plan<
     T: Threads + Wait + Clock + Sync,
     R: Read + Drop,
@@ -82,13 +113,11 @@ pub fn run_by_plan<
     gate: &G,
 ) -> Result<Verdict, RunFault>
     requires hands { (1 ≤ hands) × (hands ≤ 16) }
-    ensures says { RunSays (R.remaining input) plan (P.contents proof.old) (P.contents proof.new) (W.contents answer.old) (W.contents answer.new) result }
-    ensures answer_is_right { IfOk result (IsRightAnswer plan.search (R.remaining input) (P.contents proof.old) (P.contents proof.new) (W.contents answer.old) (W.contents answer.new)) }
+    ensures says { RunSays standard (R.remaining input) plan (P.contents proof.old) (P.contents proof.new) (W.contents answer.old) (W.contents answer.new) result }
+    ensures answer_is_right { IfOk result (IsRightAnswer standard plan.search (R.remaining input) (P.contents proof.old) (P.contents proof.new) (W.contents answer.old) (W.contents answer.new)) }
 {
-    let observer = Unobserved;
-    run_observed(
-        rt, alloc, input, answer, proof, plan, hands, gate, &observer,
-    )
+    let limits = Limits::Standard;
+    run_within(rt, alloc, input, limits, answer, proof, plan, hands, gate)
 }
 
 /// `run_by_plan` by the ordered search, with a budget of 1 to 100,000 conflicts for the root.
@@ -104,8 +133,8 @@ pub fn run<T: Threads + Wait + Clock + Sync, R: Read + Drop, W: Write, P: Write,
 ) -> Result<Verdict, RunFault>
     requires budget { (1 ≤ budget) × (budget ≤ 100000) }
     requires hands { (1 ≤ hands) × (hands ≤ 16) }
-    ensures says { RunSays (R.remaining input) (ordered_within budget) (P.contents proof.old) (P.contents proof.new) (W.contents answer.old) (W.contents answer.new) result }
-    ensures answer_is_right { IfOk result (IsRightAnswer ordered (R.remaining input) (P.contents proof.old) (P.contents proof.new) (W.contents answer.old) (W.contents answer.new)) }
+    ensures says { RunSays standard (R.remaining input) (ordered_within budget) (P.contents proof.old) (P.contents proof.new) (W.contents answer.old) (W.contents answer.new) result }
+    ensures answer_is_right { IfOk result (IsRightAnswer standard ordered (R.remaining input) (P.contents proof.old) (P.contents proof.new) (W.contents answer.old) (W.contents answer.new)) }
 {
     let plan = Plan::ordered(budget);
     run_by_plan(rt, alloc, input, answer, proof, plan, hands, gate)

@@ -1,5 +1,6 @@
 //! Runs that are watched: they write what `run_limited` and `check_run` write.
 ghost use Rattle.std.specs.Prelude.{◌≤◌, IsSome, option_map};
+ghost use Rattle.cnf.specs.Limits.{limits_of};
 ghost use Rattle.cubesat.specs.Check.{CheckSays, checked_by};
 ghost use Rattle.cubesat.specs.Limited.{LimitedSays};
 
@@ -9,6 +10,7 @@ use crate::limit::TimeLimit;
 use crate::limited::{answer_limited_observed, run_limited_observed};
 use crate::verdict::Verdict;
 use cdcl::Plan;
+use cnf::Limits;
 use statistics::{Board, CountedReader, CountedWriter, TextWatch, Watch};
 use std::alloc::Global;
 use std::fs::Files;
@@ -20,6 +22,7 @@ use std::time::Clock;
 /// How a formula is to be solved.
 #[derive(Clone, Copy)]
 pub(crate) struct Effort {
+    pub(crate) limits: Limits,
     pub(crate) plan: Plan,
     pub(crate) hands: usize,
     /// After how many seconds a run ends without a verdict, if it isn't solved by then.
@@ -42,11 +45,11 @@ fn run_on_board<
     answer: &mut W,
     proof: Option<P>,
 ) -> Result<Option<Verdict>, RunFault>
-    ensures { LimitedSays (IsSome effort.seconds) (I.remaining input) effort.plan (option_map P.contents proof) (W.contents answer.old) (W.contents answer.new) result }
+    ensures { LimitedSays (limits_of effort.limits) (IsSome effort.seconds) (I.remaining input) effort.plan (option_map P.contents proof) (W.contents answer.old) (W.contents answer.new) result }
 {
     let watch = Watch { rt, board };
     let limit = TimeLimit::begin(rt, effort.seconds);
-    let (plan, hands) = (effort.plan, effort.hands);
+    let (limits, plan, hands) = (effort.limits, effort.plan, effort.hands);
     match proof {
         Some(proof) => {
             let mut counted = CountedWriter {
@@ -55,11 +58,11 @@ fn run_on_board<
             };
             let proof = &mut counted;
             run_limited_observed(
-                rt, alloc, input, answer, proof, plan, hands, &watch, &limit, &watch,
+                rt, alloc, input, limits, answer, proof, plan, hands, &watch, &limit, &watch,
             )
         }
         None => answer_limited_observed(
-            rt, alloc, input, answer, plan, hands, &watch, &limit, &watch,
+            rt, alloc, input, limits, answer, plan, hands, &watch, &limit, &watch,
         ),
     }
 }
@@ -80,7 +83,7 @@ pub(crate) fn run_counted<
     answer: &mut W,
     proof: Option<P>,
 ) -> Result<Option<Verdict>, RunFault>
-    ensures { LimitedSays (IsSome effort.seconds) (I.remaining input) effort.plan (option_map P.contents proof) (W.contents answer.old) (W.contents answer.new) result }
+    ensures { LimitedSays (limits_of effort.limits) (IsSome effort.seconds) (I.remaining input) effort.plan (option_map P.contents proof) (W.contents answer.old) (W.contents answer.new) result }
 {
     let result = run_on_board(rt, alloc, board, effort, input, answer, proof);
     board.end_progress(rt);
@@ -94,9 +97,10 @@ pub(crate) fn check_counted<R: Files + Wait + Clock, F: Read + Drop, P: Read + D
     board: &Board,
     formula: F,
     proof: P,
+    limits: Limits,
     answer: &mut W,
 ) -> Result<Told, RunFault>
-    ensures { CheckSays (F.remaining formula) (P.remaining proof) (W.contents answer.old) (W.contents answer.new) (checked_by result) }
+    ensures { CheckSays (limits_of limits) (F.remaining formula) (P.remaining proof) (W.contents answer.old) (W.contents answer.new) (checked_by result) }
 {
     let watch = Watch { rt, board };
     let text_watch = TextWatch { rt, board };
@@ -108,7 +112,7 @@ pub(crate) fn check_counted<R: Files + Wait + Clock, F: Read + Drop, P: Read + D
         inner: proof,
         counter: &watch,
     };
-    let result = check_told(alloc, text, counted, answer, &watch);
+    let result = check_told(alloc, text, counted, limits, answer, &watch);
     watch.checked();
     board.end_progress(rt);
     result

@@ -3,7 +3,7 @@
 use crate::anew::excerpt_of;
 use crate::fault::RunFault;
 use crate::input::shown_name;
-use cnf::{Place, ReadFault};
+use cnf::{Limits, Place, ReadFault};
 use messages::{
     Refused, say_answer_not_written, say_formula_refused, say_no_memory, say_not_read,
     say_proof_not_written, say_proof_refused,
@@ -30,6 +30,8 @@ pub(crate) struct Known<'a> {
     pub(crate) formula_error: Option<io::Error>,
     pub(crate) proof_error: Option<io::Error>,
     pub(crate) answer_error: Option<io::Error>,
+    /// Within which limits the files are read.
+    pub(crate) limits: Limits,
 }
 
 /// Says why a file wasn't read, if the system answered an error.
@@ -45,7 +47,8 @@ fn say_unread<R: Files, E: Write>(rt: &R, out: &mut E, fault: ReadFault, known: 
         Some(place) => {
             let excerpt = excerpt_of(rt, known.formula, place);
             let file = shown_name(known.formula);
-            say_formula_refused(out, file, fault, known.beginning, excerpt.as_ref());
+            let (limits, beginning) = (known.limits, known.beginning);
+            say_formula_refused(out, file, fault, limits, beginning, excerpt.as_ref());
         }
         None => say_error(out, known.formula, known.formula_error),
     }
@@ -67,17 +70,18 @@ pub(crate) fn say_fault<R: Files, E: Write>(
     }
 }
 
-/// Says why the proof in a file, which begins with the first of these bytes, was refused.
+/// Says why the proof, which begins with these bytes, was refused.
 pub(crate) fn say_refused<R: Files, E: Write>(
     rt: &R,
     out: &mut E,
-    file: &str,
+    known: &Known<'_>,
     refused: Refused,
     beginning: &[u8],
 ) {
     let excerpt = match refused.line {
-        Some(line) => excerpt_of(rt, file, Place { line, column: 1 }),
+        Some(line) => excerpt_of(rt, known.proof, Place { line, column: 1 }),
         None => None,
     };
-    say_proof_refused(out, shown_name(file), refused, beginning, excerpt.as_ref());
+    let (file, limits) = (shown_name(known.proof), known.limits);
+    say_proof_refused(out, file, refused, limits, beginning, excerpt.as_ref());
 }

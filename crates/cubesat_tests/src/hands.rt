@@ -52,58 +52,125 @@ fn told_in(faults: &[u8]) -> Option<Told> {
 /// A command line without its number of hands.
 type Line = &'static [&'static str];
 
-/// What so many hands tell of the eight clauses.
+/// What the command line tells of the eight clauses' hands.
 fn told_by<R: Files + AllocGlobal + Threads + Wait + Clock + Sync>(
     rt: &R,
     paths: &Paths,
-    line: &[&str],
-    hands: &str,
+    words: &[&str],
 ) -> Result<Option<Told>, Fail> {
     fs::write(rt, paths.formula.as_str(), EIGHT)?;
-    let mut words = paths.words(rt.alloc(), line)?;
-    words.push("--hands")?;
-    words.push(hands)?;
-    Ok(told_in(&run(rt, &words).faults))
+    Ok(told_in(&run(rt, words).faults))
 }
 
-/// With a proof and without one.
-static TELLING: [Line; 2] = [
-    &[
-        "cubesat", "solve", "--stats", "--budget", "1", "--proof", "PROOF", "FORMULA",
-    ],
-    &["cubesat", "solve", "--stats", "--budget", "1", "FORMULA"],
-];
-
-/// Each number of hands, in words of the command line and of the answer.
-static HANDS: [(&str, u64); 16] = [
-    ("1", 1),
-    ("2", 2),
-    ("3", 3),
-    ("4", 4),
-    ("5", 5),
-    ("6", 6),
-    ("7", 7),
-    ("8", 8),
-    ("9", 9),
-    ("10", 10),
-    ("11", 11),
-    ("12", 12),
-    ("13", 13),
-    ("14", 14),
-    ("15", 15),
-    ("16", 16),
+/// Each number of hands.
+static NUMBERED: [(Line, u64); 16] = [
+    (
+        &[
+            "cubesat", "solve", "--stats", "--budget", "1", "--hands", "1", "FORMULA",
+        ],
+        1,
+    ),
+    (
+        &[
+            "cubesat", "solve", "--stats", "--budget", "1", "--hands", "2", "FORMULA",
+        ],
+        2,
+    ),
+    (
+        &[
+            "cubesat", "solve", "--stats", "--budget", "1", "--hands", "3", "FORMULA",
+        ],
+        3,
+    ),
+    (
+        &[
+            "cubesat", "solve", "--stats", "--budget", "1", "--hands", "4", "FORMULA",
+        ],
+        4,
+    ),
+    (
+        &[
+            "cubesat", "solve", "--stats", "--budget", "1", "--hands", "5", "FORMULA",
+        ],
+        5,
+    ),
+    (
+        &[
+            "cubesat", "solve", "--stats", "--budget", "1", "--hands", "6", "FORMULA",
+        ],
+        6,
+    ),
+    (
+        &[
+            "cubesat", "solve", "--stats", "--budget", "1", "--hands", "7", "FORMULA",
+        ],
+        7,
+    ),
+    (
+        &[
+            "cubesat", "solve", "--stats", "--budget", "1", "--hands", "8", "FORMULA",
+        ],
+        8,
+    ),
+    (
+        &[
+            "cubesat", "solve", "--stats", "--budget", "1", "--hands", "9", "FORMULA",
+        ],
+        9,
+    ),
+    (
+        &[
+            "cubesat", "solve", "--stats", "--budget", "1", "--hands", "10", "FORMULA",
+        ],
+        10,
+    ),
+    (
+        &[
+            "cubesat", "solve", "--stats", "--budget", "1", "--hands", "11", "FORMULA",
+        ],
+        11,
+    ),
+    (
+        &[
+            "cubesat", "solve", "--stats", "--budget", "1", "--hands", "12", "FORMULA",
+        ],
+        12,
+    ),
+    (
+        &[
+            "cubesat", "solve", "--stats", "--budget", "1", "--hands", "13", "FORMULA",
+        ],
+        13,
+    ),
+    (
+        &[
+            "cubesat", "solve", "--stats", "--budget", "1", "--hands", "14", "FORMULA",
+        ],
+        14,
+    ),
+    (
+        &[
+            "cubesat", "solve", "--stats", "--budget", "1", "--hands", "15", "FORMULA",
+        ],
+        15,
+    ),
+    (
+        &[
+            "cubesat", "solve", "--stats", "--budget", "1", "--hands", "16", "FORMULA",
+        ],
+        16,
+    ),
 ];
 
 /// The root of the eight clauses and its halves are solved, by whatever hands.
 #[test]
 fn each_number_of_hands_is_the_one_named(rt: HostRuntime) -> Result<(), Fail> {
     let paths = Paths::of(&rt, "hands_named.cnf")?;
-    for line in &TELLING {
-        for (name, hands) in &HANDS {
-            let told = told_by(&rt, &paths, line, name)?;
-            let is_right = matches!(told, Some(told) if told.hands == *hands && told.cubes == 3);
-            assert!(rt; is_right, "{name}: {told:?}");
-        }
+    for (line, hands) in &NUMBERED {
+        let words = paths.words(rt.alloc(), line)?;
+        let told = told_by(&rt, &paths, &words)?;
+        let is_right = matches!(told, Some(told) if told.hands == *hands && told.cubes == 3);
+        assert!(rt; is_right, "{line:?}: {told:?}");
     }
     Ok(())
 }
@@ -168,8 +235,8 @@ static LIMITED: [(Line, u64); 4] = [
     ),
 ];
 
-/// Whether what `--stats` tells, if it does, is of so many hands, each of which has solved one of the
-/// three cubes.
+/// Whether what `--stats` tells, if it does, is of so many hands, of which each has solved one of
+/// the three cubes or more.
 fn is_of(told: Option<Told>, hands: u64) -> bool {
     match told {
         Some(told) => told.hands == hands && told.at_work == hands && told.cubes == 3,
@@ -185,7 +252,10 @@ fn two_hands_are_at_work_at_once(rt: HostRuntime) -> Result<(), Fail> {
     for (line, waits) in &LIMITED {
         let clock = Meeting::at(*waits, LONG);
         let fake = Fake::by(&rt, &clock);
-        let told = told_by(&fake, &paths, line, "2")?;
+        let mut words = paths.words(rt.alloc(), line)?;
+        words.push("--hands")?;
+        words.push("2")?;
+        let told = told_by(&fake, &paths, &words)?;
         assert!(rt; clock.is_met() && is_of(told, 2), "{line:?}");
     }
     Ok(())
@@ -197,7 +267,10 @@ fn one_hand_is_at_work_alone(rt: HostRuntime) -> Result<(), Fail> {
     for (line, waits) in &LIMITED {
         let clock = Meeting::at(*waits, SHORT);
         let fake = Fake::by(&rt, &clock);
-        let told = told_by(&fake, &paths, line, "1")?;
+        let mut words = paths.words(rt.alloc(), line)?;
+        words.push("--hands")?;
+        words.push("1")?;
+        let told = told_by(&fake, &paths, &words)?;
         assert!(rt; !clock.is_met() && is_of(told, 1), "{line:?}");
     }
     Ok(())

@@ -1,8 +1,8 @@
 //! Worked rows: the bytes of the proof and the answer for the bytes of a formula, by both searches,
 //! and the line for those of a proof; what failing readers and writers leave; two hands at a gate;
 //! proofs of many steps, and those with one byte changed; examples from end to end; the program,
-//! its options, its files and standard input; what it shows of runs, by clocks that a test sets; and
-//! limits of time.
+//! its options, its files and standard input; what it shows of runs, by clocks that a test sets;
+//! and limits of time.
 #![tactic(auto)]
 
 #[cfg(test)]
@@ -13,6 +13,8 @@ mod check_faults;
 mod check_status;
 #[cfg(test)]
 mod clocks;
+#[cfg(test)]
+mod divided;
 #[cfg(test)]
 mod examples;
 #[cfg(test)]
@@ -37,6 +39,8 @@ mod hints;
 mod kept_proof;
 #[cfg(test)]
 mod known_runs;
+#[cfg(test)]
+mod large;
 #[cfg(test)]
 mod limited_runs;
 #[cfg(test)]

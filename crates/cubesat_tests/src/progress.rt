@@ -214,9 +214,9 @@ fn progress_of_checks(rt: HostRuntime) -> Result<(), Fail> {
 const NAMED: &str =
     "c --search focused decides most large formulas sooner, with a model that need not be the first\n";
 
-/// What a terminal shows of so many seconds of reading, of the ordered search up to the last second,
-/// and of the answer. The focused search is named before the search's first line from the tenth
-/// second on.
+/// What a terminal shows of so many seconds of reading, of the ordered search up to the last
+/// second, and of the answer. The focused search is named before the search's first line from the
+/// tenth second on.
 fn seconds_of(alloc: Global, reading: u32, last: u32) -> Result<String, Fail> {
     let mut text = String::new(alloc);
     for second in 1..=last {
@@ -238,9 +238,9 @@ fn seconds_of(alloc: Global, reading: u32, last: u32) -> Result<String, Fail> {
     Ok(text)
 }
 
-/// How many seconds the formula is read, the second of the search's first line from the tenth second
-/// on, and how many lines the ends of reading and of solving wait for: the one that names the
-/// focused search counts twice.
+/// How many seconds the formula is read, the second of the search's first line from the tenth
+/// second on, and how many lines the ends of reading and of solving wait for: the one that names
+/// the focused search counts twice.
 static NAMINGS: [(u32, u32, &[u64]); 2] = [(1, 10, &[1, 12]), (11, 12, &[11, 14])];
 
 #[test]
@@ -254,7 +254,7 @@ fn the_focused_search_is_named_between_lines_of_progress(rt: HostRuntime) -> Res
             ..SOLVED
         };
         let pace = Pace::new(waits, LONG);
-        let fake = Fake::slowed(&rt, &pace, row.slow);
+        let fake = Fake::slowed(&rt, &pace, paths.word(SOLVED.slow));
         assert!(rt; holds(&fake, &paths, &row, &pace)?, "{reading}");
     }
     Ok(())

@@ -1,11 +1,9 @@
 //! `--seconds`: a run by a clock that jumps ends where the limit is reached, and nowhere else.
 use crate::clocks::{Readings, UNREAD};
 use crate::fake::Fake;
-use crate::faulty::{Full, Limited, Limits, UNFLUSHED};
 use crate::kept_proof::Parts;
 use crate::sessions::{Wanted, prints};
 use crate::texts::{FOUR, FOUR_PROOF};
-use cubesat::command;
 use std::alloc::{AllocError, Global};
 use std::fmt::Write;
 use std::fs;
@@ -26,9 +24,6 @@ struct Row<'a> {
     answer: &'a str,
     proof: &'a str,
 }
-
-/// Ten seconds have passed by the second reading.
-static REACHED: [u64; 2] = [5_000, 15_000];
 
 /// The clock is read as the files are open, and before each cube: the root, and its halves. The
 /// limit is reached before the first of these.
@@ -227,8 +222,8 @@ fn write_clause(text: &mut String, signs: u32) -> Result<(), AllocError> {
     write!(text, "0\n")
 }
 
-/// All clauses over twelve variables. A clause is false under one of the 4096 assignments alone, and
-/// a conflict rules out two of these: the ordered search has 2048.
+/// All clauses over twelve variables. A clause is false under one of the 4096 assignments alone,
+/// and a conflict rules out two of these: the ordered search has 2048.
 fn all_clauses(alloc: Global) -> Result<String, AllocError> {
     let mut text = String::from_str(alloc, "p cnf 12 4096\n")?;
     for signs in 0..4096u32 {
@@ -266,52 +261,6 @@ fn a_limit_that_is_reached_inside_a_cube(rt: HostRuntime) -> Result<(), Fail> {
         let clock = Readings::new(row.clock);
         let fake = Fake::by(&rt, &clock);
         assert!(rt; holds(&fake, &parts, &row, hands)?, "{hands}");
-    }
-    Ok(())
-}
-
-/// Writers that refuse a part of the answer.
-static REFUSING: [Limits; 4] = [
-    Limits {
-        room: 0,
-        full: Full::Fails,
-        flushes: true,
-    },
-    Limits {
-        room: 3,
-        full: Full::Fails,
-        flushes: true,
-    },
-    Limits {
-        room: 9,
-        full: Full::TakesNothing,
-        flushes: true,
-    },
-    UNFLUSHED,
-];
-
-/// Whether a run that is ended has the fault of an answer that a writer of these limits refuses.
-fn is_refused<R: Files + AllocGlobal + Threads + Wait + Clock + Sync>(
-    rt: &R,
-    parts: &Parts,
-    limits: Limits,
-) -> Result<bool, Fail> {
-    let words = parts.paths.words(rt.alloc(), ENDED.words)?;
-    let mut answer = Limited::new(rt.alloc(), limits);
-    let mut faults = Vec::new(rt.alloc());
-    let status = command(rt, rt.alloc(), &words, &mut answer, &mut faults);
-    let is_said = faults.starts_with(b"fault 54\nc the answer: ");
-    let is_beginning = ENDED.answer.as_bytes().starts_with(answer.taken.as_slice());
-    Ok(status == 1 && is_said && is_beginning && parts.has(rt, "old"))
-}
-
-#[test]
-fn an_unknown_answer_that_cannot_be_written(rt: HostRuntime) -> Result<(), Fail> {
-    let parts = Parts::of(&rt, "seconds_refused.cnf")?;
-    for limits in &REFUSING {
-        let clock = Readings::new(&REACHED);
-        let fake = Fake::by(&rt, &clock);
-        assert!(rt; is_refused(&fake, &parts, *limits)?, "{}", limits.room);
     }
     Ok(())
 }

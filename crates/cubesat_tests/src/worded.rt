@@ -118,7 +118,7 @@ fn files_that_the_system_refuses(rt: HostRuntime) -> Result<(), Fail> {
     Ok(())
 }
 
-static FORMULAS: [Row; 15] = [
+static FORMULAS: [Row; 16] = [
     Row {
         formula: b"1 2 0\n",
         faults: "fault 51: refusal 1 at line 1, column 1\nc |FORMULA|: the header `p cnf VARIABLES CLAUSES` is missing (line 1, column 1)\nc   1 2 0\nc   ^\n",
@@ -161,7 +161,13 @@ static FORMULAS: [Row; 15] = [
     },
     Row {
         formula: b"p cnf 262144 1\n1 0\n",
-        faults: "fault 51: refusal 9 at line 1, column 7\nc |FORMULA|: above a limit: 262,143 variables, 1,000,000 clauses, 8,000,000 literals (line 1, column 7)\nc   p cnf 262144 1\nc         ^\n",
+        faults: "fault 51: refusal 9 at line 1, column 7\nc |FORMULA|: above a limit: 262,143 variables, 1,000,000 clauses, 8,000,000 literals; --large has higher ones (line 1, column 7)\nc   p cnf 262144 1\nc         ^\n",
+        ..SOLVED
+    },
+    Row {
+        formula: b"p cnf 100000001 1\n1 0\n",
+        words: &["cubesat", "solve", "--large", "--proof", "PROOF", "FORMULA"],
+        faults: "fault 51: refusal 9 at line 1, column 7\nc |FORMULA|: above a limit: 100,000,000 variables, 1,000,000,000 clauses, 8,000,000,000 literals (line 1, column 7)\nc   p cnf 100000001 1\nc         ^\n",
         ..SOLVED
     },
     Row {

@@ -33,7 +33,7 @@ impl Model for Glues {
     ghost view = { λ a. record { constants = a.constants; glues = record { recent = a.recent.items; total = a.total } } };
 
     ghost invariant = { λ a. (a.recent_sum ≡ sum a.recent.items) × AreInRange a.constants × (a.recent.capacity ≡ a.constants.window)
-        × (length a.recent.items ≤ a.recent.capacity) × All (λ g. g ≤ 2 ^ 20) a.recent.items };
+        × (length a.recent.items ≤ a.recent.capacity) × All (λ g. g ≤ 2 ^ 27) a.recent.items };
 }
 
 /// Puts a glue behind the recent ones, the first of which leaves where they are full; the sum of
@@ -52,8 +52,8 @@ fn push(recent: &mut HeapCircularBuffer<u32>, recent_sum: u64, glue: u32) -> u64
 
 /// Whether the average of a window of glues is above 5/4 of the average of all.
 fn is_above(recent_sum: u64, window: u32, total: u64, conflicts: u32) -> bool
-    requires sum { (recent_sum ≤ 2 ^ 30) × (conflicts ≤ 2 ^ 20) }
-    requires total { (total ≤ 2 ^ 41) × (window ≤ 1024) }
+    requires sum { (recent_sum ≤ 2 ^ 37) × (conflicts ≤ 2 ^ 20) }
+    requires total { (total ≤ 2 ^ 48) × (window ≤ 1024) }
     ensures { result ≡ nat_lt (total * window * 5) (recent_sum * conflicts * 4) }
 {
     total * u64::from(window) * 5 < recent_sum * u64::from(conflicts) * 4
@@ -77,9 +77,9 @@ impl Glues {
     /// Takes the glue of the clause learnt at a cube's conflict, counted from 1; whether the search
     /// restarts. It takes constant time.
     pub fn take_glue(&mut self, glue: u32, conflicts: u32) -> bool
-        requires glue { glue ≤ 2 ^ 20 }
+        requires glue { glue ≤ 2 ^ 27 }
         requires conflicts { conflicts ≤ 2 ^ 20 }
-        requires total { self.old.glues.total ≤ 2 ^ 40 }
+        requires total { self.old.glues.total ≤ 2 ^ 47 }
         ensures restarts { result ≡ restarts self.old.constants conflicts (with_glue self.old.constants glue self.old.glues) }
         ensures glues { self.new ≡ record self.old {
           glues = if result

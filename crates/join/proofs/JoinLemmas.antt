@@ -7,7 +7,7 @@ use Rattle.theory.specs.Literals.{Literal}
 use Rattle.theory.specs.Truth.{Formula, IsFormula}
 use Rattle.theory.specs.Plans.{Plan}
 use Rattle.theory.specs.Pure.{pure_literals}
-use Rattle.theory.specs.Reading.{IsWithinLimits, max_vars, max_clauses}
+use Rattle.theory.specs.Reading.{large, IsWithinLimits, max_vars, max_clauses}
 use Rattle.theory.specs.Search.{first_clauses}
 use Rattle.theory.specs.Trees as trees
 use Rattle.theory.specs.Learning.{Line}
@@ -32,7 +32,7 @@ use Rattle.join.proofs.WalkLemmas.{lines_from-root}
 use Rattle.join.proofs.StepLemmas.{proof-within}
 
 -- there are as many pure literals as variables at most
-pub few-units : (F : Formula) (tree : LinesTree) (units : List Literal) → IsWithinLimits F → AreUnitsOf F tree units → length units ≤ max_vars
+pub few-units : (F : Formula) (tree : LinesTree) (units : List Literal) → IsWithinLimits large F → AreUnitsOf F tree units → length units ≤ max_vars large
 few-units F (Model values) units within are = let none = ap (λ (ls : List Literal). length ls) are in omega arith
 few-units F (Refuted ns) units within are = let all = ap (λ (ls : List Literal). length ls) are in let few = length-pure_literals F in let vars = within.vars in omega arith
 
@@ -41,7 +41,7 @@ first-count : (F : Formula) (units : List Literal) (C N : ℕ) → C ≡ length 
 first-count F units C N clauses count are = let all = ap (λ (ls : List Literal). length ls) are in let first = length-first_clauses F in omega arith
 
 -- the nodes of a formula's result are within their limits
-result-nodes : (F : Formula) (plan : Plan) (C N : ℕ) (tree : LinesTree) (units : List Literal) (nodes : List (Node (List Line))) → IsWithinLimits F → C ≡ length F.clauses → N ≡ C + length units → AreUnitsOf F tree units → IsResultOf F plan tree → AreNodesOf tree nodes
+result-nodes : (F : Formula) (plan : Plan) (C N : ℕ) (tree : LinesTree) (units : List Literal) (nodes : List (Node (List Line))) → IsWithinLimits large F → C ≡ length F.clauses → N ≡ C + length units → AreUnitsOf F tree units → IsResultOf F plan tree → AreNodesOf tree nodes
     → AreNodes N (map node_of nodes)
 result-nodes F plan C N (Model values) units nodes within clauses count are r same = rw same tt
 result-nodes F plan C N (Refuted ns) units nodes within clauses count are r same =
@@ -74,13 +74,13 @@ accepted-steps F plan (Refuted nodes) steps is_formula result are =
     ap (checks F) (are result.0 result.1.1 (sym result.2)) ∙ checks-proof F plan result.0 is_formula result.1.0 result.1.1
 
 -- their numbers are within the limits
-pub within-steps : (F : Formula) (plan : Plan) (tree : LinesTree) (steps : List Step) → IsWithinLimits F → IsResultOf F plan tree → AreStepsOf F tree steps → AreWithin steps
+pub within-steps : (F : Formula) (plan : Plan) (tree : LinesTree) (steps : List Step) → IsWithinLimits large F → IsResultOf F plan tree → AreStepsOf F tree steps → AreWithin steps
 within-steps F plan (Model values) steps within result are = λ short. rw are (All-nil IsStep)
 within-steps F plan (Refuted nodes) steps within result are =
     rw (are result.0 result.1.1 (sym result.2)) (λ short. proof-within F plan result.0 within result.1.0 result.1.1 short)
 
 -- what is kept before the first line
-walk-begun : (w : TreeWalk) (N : ℕ) (nodes : List (Node (List Line))) → IsBegun N nodes w → N ≤ max_clauses + max_vars → AreNodes N (map node_of nodes) → IsAt w w.next
+walk-begun : (w : TreeWalk) (N : ℕ) (nodes : List (Node (List Line))) → IsBegun N nodes w → N ≤ max_clauses large + max_vars large → AreNodes N (map node_of nodes) → IsAt w w.next
 walk-begun w N nodes begun few are =
     let clauses = begun.clauses in
     let next = begun.next in
@@ -95,7 +95,7 @@ walk-begun w N nodes begun few are =
       nodes = rw (begun.nodes, begun.clauses) are;
     }
 
-pub IsBetweenLines-begun : (l : Lines) (F : Formula) (plan : Plan) (N : ℕ) (tree : LinesTree) (units : List Literal) (nodes : List (Node (List Line))) → IsWithinLimits F → l.unit ≡ length F.clauses + 1 → into_iter_items l.units ≡ units → l.due ≡ Nothing
+pub IsBetweenLines-begun : (l : Lines) (F : Formula) (plan : Plan) (N : ℕ) (tree : LinesTree) (units : List Literal) (nodes : List (Node (List Line))) → IsWithinLimits large F → l.unit ≡ length F.clauses + 1 → into_iter_items l.units ≡ units → l.due ≡ Nothing
     → IsBegun N nodes l.walk → N ≡ length F.clauses + length units → AreUnitsOf F tree units → IsResultOf F plan tree → AreNodesOf tree nodes → IsBetweenLines l
 IsBetweenLines-begun l F plan N tree units nodes within unit here due begun count are result same =
     let few = few-units F tree units within are in

@@ -4,7 +4,7 @@ use Rattle.std.proofs.lemmas.List.Elements.{All-append, All-cons, All-head, All-
 use Rattle.std.proofs.lemmas.Bool.{leb-true, leb-false}
 use Rattle.theory.specs.Literals.{Literal, IsVariable, negations}
 use Rattle.theory.specs.Truth.{IsOver}
-use Rattle.theory.specs.Reading.{max_vars}
+use Rattle.theory.specs.Reading.{large, max_vars}
 use Rattle.theory.specs.Learning.{Line}
 use Rattle.theory.specs.Proofs.{renumbered, numbers_from}
 use Rattle.theory.proofs.checker.DeletedNumbers.{numbers_from-All}
@@ -17,9 +17,9 @@ use Rattle.join.specs.Numbered.{IsHalf, IsBefore, AreUpTo}
 use Rattle.join.proofs.CubeLemmas.{opposite, negations-path, All-reverse}
 
 -- the negations of the cube are over the variables
-pub IsOver-negations : (hs : List (Split ℕ)) → All (λ h. IsVariable max_vars h.var) hs → IsOver max_vars (negations (path hs))
+pub IsOver-negations : (hs : List (Split ℕ)) → All (λ h. IsVariable (max_vars large) h.var) hs → IsOver (max_vars large) (negations (path hs))
 IsOver-negations hs h =
-    subst (IsOver max_vars) (sym (negations-path hs)) (All-map (λ (l : Literal). IsVariable max_vars l.var) opposite (reverse hs) (All-reverse (λ s. IsVariable max_vars s.var) hs h))
+    subst (IsOver (max_vars large)) (sym (negations-path hs)) (All-map (λ (l : Literal). IsVariable (max_vars large) l.var) opposite (reverse hs) (All-reverse (λ s. IsVariable (max_vars large) s.var) hs h))
 
 -- a hint's number in the proof, where its line has the number first + k
 renumbered-within : (N first k h : ℕ) → N < first → (1 ≤ h) × (h ≤ N + k) → (1 ≤ renumbered N first h) × (renumbered N first h ≤ first + k - 1)
@@ -34,11 +34,11 @@ AreUpTo-renumbered N first k hints begun h =
     All-map (λ n. (1 ≤ n) × (n ≤ first + k - 1)) (renumbered N first) hints (All-weaker (λ n. (1 ≤ n) × (n ≤ N + k)) _ (λ n w. renumbered-within N first k n begun w) hints h)
 
 -- a line's numbers and literals are within the limits
-pub IsAddition-line : (n : ℕ) (clause : List Literal) (hints : List ℕ) → 1 ≤ n → n ≤ max_number → IsOver max_vars clause → AreUpTo (n - 1) hints
+pub IsAddition-line : (n : ℕ) (clause : List Literal) (hints : List ℕ) → 1 ≤ n → n ≤ max_number → IsOver (max_vars large) clause → AreUpTo (n - 1) hints
     → IsAddition (record { id = n; clause = clause; hints = hints; groups = [] })
 IsAddition-line n clause hints from to over up_to = record {
   id = (from, to);
-  clause = All-weaker (λ (l : Literal). IsVariable max_vars l.var) IsLiteral (λ l v. (v.0, omega (arith, v.1))) clause over;
+  clause = All-weaker (λ (l : Literal). IsVariable (max_vars large) l.var) IsLiteral (λ l v. (v.0, omega (arith, v.1))) clause over;
   hints = All-weaker (λ h. (1 ≤ h) × (h ≤ n - 1)) IsNumber (λ h w. (w.0, omega (arith, w.1))) hints up_to;
   groups = All-nil IsGroup;
 }
@@ -52,25 +52,25 @@ pub AreHalves-later : (n : ℕ) (hs : List (Split ℕ)) → All (IsHalf n) hs �
 AreHalves-later n hs h = All-weaker (IsHalf n) (IsHalf (n + 1)) (λ h w. record { variable = w.variable; left = IsBefore-later n h.left w.left }) hs h
 
 -- the line for a leaf's line, and that of a split, are within the limits
-pub IsStep-learnt : (N first n : ℕ) (hs : List (Split ℕ)) (line : Line) → first ≤ n → n ≤ max_number → N < first → All (λ h. IsVariable max_vars h.var) hs → IsOver max_vars line.clause
+pub IsStep-learnt : (N first n : ℕ) (hs : List (Split ℕ)) (line : Line) → first ≤ n → n ≤ max_number → N < first → All (λ h. IsVariable (max_vars large) h.var) hs → IsOver (max_vars large) line.clause
     → AreUpTo (N + (n - first)) line.hints → IsStep (learnt_line N first n (path hs) line)
 IsStep-learnt N first n hs line begun fits low halves over up_to =
     let number : first + (n - first) - 1 ≡ n - 1 = omega arith in
     IsAddition-line n (line.clause ++ negations (path hs)) (map (renumbered N first) line.hints) (omega arith) fits
-    (All-append (λ (l : Literal). IsVariable max_vars l.var) line.clause _ over (IsOver-negations hs halves))
+    (All-append (λ (l : Literal). IsVariable (max_vars large) l.var) line.clause _ over (IsOver-negations hs halves))
     (subst (λ m. AreUpTo m (map (renumbered N first) line.hints)) number (AreUpTo-renumbered N first (n - first) line.hints low up_to))
 
-pub IsStep-split : (n left : ℕ) (hs : List (Split ℕ)) → n ≤ max_number → 1 ≤ left → left < n → All (λ h. IsVariable max_vars h.var) hs → IsStep (split_line n (path hs) left (n - 1))
+pub IsStep-split : (n left : ℕ) (hs : List (Split ℕ)) → n ≤ max_number → 1 ≤ left → left < n → All (λ h. IsVariable (max_vars large) h.var) hs → IsStep (split_line n (path hs) left (n - 1))
 IsStep-split n left hs fits low before halves =
     IsAddition-line n (negations (path hs)) (left ∷ (n - 1) ∷ []) (omega arith) fits (IsOver-negations hs halves)
     (All-cons (λ h. (1 ≤ h) × (h ≤ n - 1)) left ((n - 1) ∷ []) (low, omega arith) (All-cons (λ h. (1 ≤ h) × (h ≤ n - 1)) (n - 1) [] (omega arith, omega arith) (All-nil (λ h. (1 ≤ h) × (h ≤ n - 1)))))
 
-pub within-learnt : (N first n : ℕ) (hs : List (Split ℕ)) (line : Line) (clause : List Literal) (hints : List ℕ) → first ≤ n → n ≤ max_number → N < first → All (λ h. IsVariable max_vars h.var) hs → IsOver max_vars line.clause
+pub within-learnt : (N first n : ℕ) (hs : List (Split ℕ)) (line : Line) (clause : List Literal) (hints : List ℕ) → first ≤ n → n ≤ max_number → N < first → All (λ h. IsVariable (max_vars large) h.var) hs → IsOver (max_vars large) line.clause
     → AreUpTo (N + (n - first)) line.hints → clause ≡ line.clause ++ negations (path hs) → hints ≡ map (renumbered N first) line.hints
     → IsStep (add (record { id = n; clause = clause; hints = hints; groups = [] }))
 within-learnt N first n hs line clause hints begun fits low halves over up_to c h = rw (c, h) (IsStep-learnt N first n hs line begun fits low halves over up_to)
 
-pub within-split : (n left : ℕ) (hs : List (Split ℕ)) (clause : List Literal) (hints : List ℕ) → n ≤ max_number → 1 ≤ left → left < n → All (λ h. IsVariable max_vars h.var) hs
+pub within-split : (n left : ℕ) (hs : List (Split ℕ)) (clause : List Literal) (hints : List ℕ) → n ≤ max_number → 1 ≤ left → left < n → All (λ h. IsVariable (max_vars large) h.var) hs
     → clause ≡ negations (path hs) → hints ≡ left ∷ (n - 1) ∷ [] → IsStep (add (record { id = n; clause = clause; hints = hints; groups = [] }))
 within-split n left hs clause hints fits low before halves c h = rw (c, h) (IsStep-split n left hs fits low before halves)
 

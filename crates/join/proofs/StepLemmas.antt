@@ -8,7 +8,7 @@ use Rattle.lrat_text.specs.Steps.{step_of}
 use Rattle.theory.specs.Literals.{Literal, IsVariable, positive, negative, negated, negations, are_distinct}
 use Rattle.theory.specs.Truth.{Formula, IsOver}
 use Rattle.theory.specs.Plans.{Plan}
-use Rattle.theory.specs.Reading.{IsWithinLimits, max_vars}
+use Rattle.theory.specs.Reading.{large, IsWithinLimits, max_vars}
 use Rattle.theory.specs.Learning.{Line}
 use Rattle.theory.specs.Search.{refuted, exhausted, first_clauses}
 use Rattle.theory.specs.Steps.{Step, delete}
@@ -57,18 +57,18 @@ tree-length N n Q (split x l r) =
     let both = length-append (tree_steps N n (false_half Q x) l) (tree_steps N (n + additions l) (true_half Q x) r) in
     omega arith
 
-IsOver-opposites : (V : ℕ) (Q : List Literal) → V ≤ max_vars → IsOver V Q → IsOver max_vars (negations Q)
+IsOver-opposites : (V : ℕ) (Q : List Literal) → V ≤ max_vars large → IsOver V Q → IsOver (max_vars large) (negations Q)
 IsOver-opposites V Q few h =
-    All-map (λ (l : Literal). IsVariable max_vars l.var) negated Q (All-weaker (λ (l : Literal). IsVariable V l.var) (λ (l : Literal). IsVariable max_vars (negated l).var) (λ l v. let low = v.0 in let high = v.1 in (low, omega arith)) Q h)
+    All-map (λ (l : Literal). IsVariable (max_vars large) l.var) negated Q (All-weaker (λ (l : Literal). IsVariable V l.var) (λ (l : Literal). IsVariable (max_vars large) (negated l).var) (λ l v. let low = v.0 in let high = v.1 in (low, omega arith)) Q h)
 
-leaf-steps : (N first n k : ℕ) (Q : List Literal) (lines : List Line) → N < first → n ≡ first + k → n + length lines ≤ max_number + 1 → IsOver max_vars (negations Q) → AreLines (N + k) lines
+leaf-steps : (N first n k : ℕ) (Q : List Literal) (lines : List Line) → N < first → n ≡ first + k → n + length lines ≤ max_number + 1 → IsOver (max_vars large) (negations Q) → AreLines (N + k) lines
     → All IsStep (leaf_steps N first n Q lines)
 leaf-steps N first n k Q [] low number fits over h = All-nil IsStep
 leaf-steps N first n k Q (line ∷ lines) low number fits over h =
     let later : N + k + 1 ≡ N + (k + 1) = omega arith in
     let before : first + k - 1 ≡ n - 1 = omega arith in
     All-cons IsStep (learnt_line N first n Q line) (leaf_steps N first (n + 1) Q lines)
-    (IsAddition-line n (line.clause ++ negations Q) (map (renumbered N first) line.hints) (omega arith) (omega arith) (All-append (λ (l : Literal). IsVariable max_vars l.var) line.clause (negations Q) h.0 over)
+    (IsAddition-line n (line.clause ++ negations Q) (map (renumbered N first) line.hints) (omega arith) (omega arith) (All-append (λ (l : Literal). IsVariable (max_vars large) l.var) line.clause (negations Q) h.0 over)
     (subst (λ m. AreUpTo m (map (renumbered N first) line.hints)) before (AreUpTo-renumbered N first k line.hints low h.1)))
     (leaf-steps N first (n + 1) (k + 1) Q lines low (omega arith) (omega arith) over (subst (λ m. AreLines m lines) later h.2))
 
@@ -78,7 +78,7 @@ deletion-within (l ∷ Q) last [] h all = All-nil IsStep
 deletion-within (l ∷ Q) last (n ∷ ns) h all = All-cons IsStep (delete (record { id = last; ids = n ∷ ns })) [] (record { id = h; ids = all }) (All-nil IsStep)
 
 -- the lines of a refuted cube, and what deletes its learnt clauses
-refuted-steps : (N n : ℕ) (Q : List Literal) (lines : List Line) → N < n → 0 < length lines → n + length lines ≤ max_number + 1 → IsOver max_vars (negations Q) → AreLines N lines → All IsStep (refuted_steps N n Q lines)
+refuted-steps : (N n : ℕ) (Q : List Literal) (lines : List Line) → N < n → 0 < length lines → n + length lines ≤ max_number + 1 → IsOver (max_vars large) (negations Q) → AreLines N lines → All IsStep (refuted_steps N n Q lines)
 refuted-steps N n Q lines low some fits over are =
     let same : N ≡ N + 0 = omega arith in
     All-append IsStep (leaf_steps N n n Q lines) (deletion Q (n + length lines - 1) (numbers_from n (length lines - 1)))
@@ -87,7 +87,7 @@ refuted-steps N n Q lines low some fits over are =
     (All-weaker (λ k. (n ≤ k) × (k < n + (length lines - 1))) IsNumber (λ k w. let from = w.0 in let to = w.1 in (omega arith, omega arith)) (numbers_from n (length lines - 1)) (numbers_from-All n (length lines - 1))))
 
 -- the line of a split, and what deletes the last lines of its halves
-split-steps : (n left right : ℕ) (Q : List Literal) → n ≤ max_number → 1 ≤ left → left < n → 1 ≤ right → right < n → IsOver max_vars (negations Q) → All IsStep (split_steps n Q left right)
+split-steps : (n left right : ℕ) (Q : List Literal) → n ≤ max_number → 1 ≤ left → left < n → 1 ≤ right → right < n → IsOver (max_vars large) (negations Q) → All IsStep (split_steps n Q left right)
 split-steps n left right Q fits some before more behind over =
     let hints : AreUpTo (n - 1) (left ∷ right ∷ []) =
     All-cons (λ h. (1 ≤ h) × (h ≤ n - 1)) left (right ∷ []) (some, omega arith)
@@ -97,7 +97,7 @@ split-steps n left right Q fits some before more behind over =
     (deletion-within Q n (left ∷ right ∷ []) (omega arith, fits) (All-weaker (λ h. (1 ≤ h) × (h ≤ n - 1)) IsNumber (λ h w. let from = w.0 in let to = w.1 in (from, omega arith)) (left ∷ right ∷ []) hints))
 
 -- the lines of a tree without a model, of which there is one at least
-tree-steps : (F : Formula) (plan : Plan) (n : ℕ) (Q : List Literal) (t : Tree) → IsWithinLimits F → are_distinct Q ≡ true → AreOver F.vars Q → IsTree F plan Q t → first_model t ≡ None → length (first_clauses F) < n
+tree-steps : (F : Formula) (plan : Plan) (n : ℕ) (Q : List Literal) (t : Tree) → IsWithinLimits large F → are_distinct Q ≡ true → AreOver F.vars Q → IsTree F plan Q t → first_model t ≡ None → length (first_clauses F) < n
     → n + additions t ≤ max_number + 1 → All IsStep (tree_steps (length (first_clauses F)) n Q t) × (1 ≤ additions t)
 tree-steps F plan n Q (satisfied M) within distinct over h none low fits = absurd (cc)
 tree-steps F plan n Q (refutation lines) within distinct over h none low fits =
@@ -120,7 +120,7 @@ tree-steps F plan n Q (split x l r) within distinct over h none low fits =
       omega arith,
     )
 
-pub proof-within : (F : Formula) (plan : Plan) (t : Tree) → IsWithinLimits F → IsTree F plan [] t → first_model t ≡ None → length (proof_text (proof F t)) ≤ max_proof_bytes → All IsStep (proof F t)
+pub proof-within : (F : Formula) (plan : Plan) (t : Tree) → IsWithinLimits large F → IsTree F plan [] t → first_model t ≡ None → length (proof_text (proof F t)) ≤ max_proof_bytes large → All IsStep (proof F t)
 proof-within F plan t within h none short =
     let N = length (first_clauses F) in
     let few = few-steps (proof F t) in

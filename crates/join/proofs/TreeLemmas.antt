@@ -4,7 +4,7 @@ use Rattle.std.proofs.lemmas.List.Elements.{All-nil, All-cons, All-weaker}
 use Rattle.theory.specs.Literals.{Literal, Clause, IsVariable, positive, negative, negations, are_distinct}
 use Rattle.theory.specs.Truth.{Formula}
 use Rattle.theory.specs.Plans.{Plan}
-use Rattle.theory.specs.Reading.{IsWithinLimits, max_vars}
+use Rattle.theory.specs.Reading.{large, IsWithinLimits, max_vars}
 use Rattle.theory.specs.Learning.{Line}
 use Rattle.theory.specs.Search.{refuted, exhausted, first_clauses}
 use Rattle.theory.specs.Trees.{Tree, satisfied, refutation, split, IsTree, Node, nodes_of, false_half, true_half}
@@ -47,17 +47,17 @@ hints-numbered N Q K P (n ∷ ns) h = go (clause_of (carrying_from 1 N Q K) n) r
     go None e k more = absurd (cc)
     go (Some c) e k more = after c (hint P (Some c)) e k more
 
-replayed-lines : (V N n : ℕ) (Q : List Literal) (K : List Clause) (lines : List Line) → V ≤ max_vars → length K ≡ n → AreReplayed V N Q K lines → AreLines n lines
+replayed-lines : (V N n : ℕ) (Q : List Literal) (K : List Clause) (lines : List Line) → V ≤ max_vars large → length K ≡ n → AreReplayed V N Q K lines → AreLines n lines
 replayed-lines V N n Q K [] few count h = tt
 replayed-lines V N n Q K (line ∷ lines) few count h =
     let longer : length (K ++ line.clause ∷ []) ≡ n + 1 = length-append K (line.clause ∷ []) ∙ ap (λ m. m + 1) count in (
-      All-weaker (λ (l : Literal). IsVariable V l.var) (λ l. IsVariable max_vars l.var) (λ l v. let low = v.0 in let high = v.1 in (low, omega arith)) line.clause
+      All-weaker (λ (l : Literal). IsVariable V l.var) (λ l. IsVariable (max_vars large) l.var) (λ l v. let low = v.0 in let high = v.1 in (low, omega arith)) line.clause
           (IsOver-left V line.clause (negations Q) h.0.over),
       subst (λ m. AreUpTo m line.hints) count (hints-numbered N Q K (negations (line.clause ++ negations Q)) line.hints h.0.passes),
       replayed-lines V N (n + 1) Q (K ++ line.clause ∷ []) lines few longer h.1,
     )
 
-pub refutation-lines : (F : Formula) (Q : List Literal) (lines : List Line) → IsWithinLimits F → AreRefutation F.vars (length (first_clauses F)) Q (first_clauses F) lines
+pub refutation-lines : (F : Formula) (Q : List Literal) (lines : List Line) → IsWithinLimits large F → AreRefutation F.vars (length (first_clauses F)) Q (first_clauses F) lines
     → (0 < length lines) × AreLines (length (first_clauses F)) lines
 refutation-lines F Q lines within h =
     let long = ap length h.ends ∙ length-append h.before (h.last ∷ []) in
@@ -68,7 +68,7 @@ nodes-append N [] ms h k = k
 nodes-append N (n ∷ ns) ms h k = (h.0, nodes-append N ns ms h.1 k)
 
 -- the nodes of a cube's tree
-pub tree-nodes : (F : Formula) (plan : Plan) (Q : List Literal) (t : Tree) → IsWithinLimits F → are_distinct Q ≡ true → AreOver F.vars Q → IsTree F plan Q t → AreNodes (length (first_clauses F)) (nodes_of t)
+pub tree-nodes : (F : Formula) (plan : Plan) (Q : List Literal) (t : Tree) → IsWithinLimits large F → are_distinct Q ≡ true → AreOver F.vars Q → IsTree F plan Q t → AreNodes (length (first_clauses F)) (nodes_of t)
 tree-nodes F plan Q (satisfied M) within distinct over h = tt
 tree-nodes F plan Q (refutation lines) within distinct over h =
     (refutation-lines F Q lines within (Runs-says F plan Q (refuted lines) within.formula distinct (IsOver-from_AreOver F.vars Q over) h).1, tt)

@@ -2,7 +2,7 @@
 use Rattle.std.specs.Prelude.{◌≡◌, ℕ, ◌+◌, ◌-◌, ◌<◌, ◌≤◌, List, [], ◌∷◌, map, length, Option, Some, None, All}
 use Rattle.theory.specs.Literals.{Literal, IsVariable}
 use Rattle.theory.specs.Truth.{Formula, IsOver}
-use Rattle.theory.specs.Reading.{max_vars}
+use Rattle.theory.specs.Reading.{large, max_vars}
 use Rattle.theory.specs.Pure.{pure_literals}
 use Rattle.theory.specs.Learning.{Line}
 use Rattle.theory.specs.Trees as trees
@@ -25,11 +25,11 @@ AreUpTo n hints = All (λ h. (1 ≤ h) × (h ≤ n)) hints
 -- a cube's lines, of which the first has number n + 1, name clauses before them
 abbrev pub AreLines : ℕ → List Line → Type 0
 AreLines n [] = Unit {0}
-AreLines n (line ∷ lines) = IsOver max_vars line.clause × AreUpTo n line.hints × AreLines (n + 1) lines
+AreLines n (line ∷ lines) = IsOver (max_vars large) line.clause × AreUpTo n line.hints × AreLines (n + 1) lines
 
 -- a node, where a search begins with N clauses
 abbrev pub IsNode : ℕ → trees.Node → Type 0
-IsNode N (trees.split_on x) = IsVariable max_vars x
+IsNode N (trees.split_on x) = IsVariable (max_vars large) x
 IsNode N (trees.refuted_leaf lines) = (0 < length lines) × AreLines N lines
 
 abbrev pub AreNodes : ℕ → List trees.Node → Type 0
@@ -42,7 +42,7 @@ IsBefore n None = Unit {0}
 IsBefore n (Some left) = (1 ≤ left) × (left < n)
 
 pub record IsHalf (n : ℕ) (h : Split ℕ) : Type 0 where
-  pub variable : IsVariable max_vars h.var
+  pub variable : IsVariable (max_vars large) h.var
   pub left : IsBefore n h.left
 
 -- the numbers of the clauses that are due behind a cube's last line; first is the number of a
@@ -86,4 +86,4 @@ AreAccepted F (Refuted nodes) steps = checks F steps ≡ accepted
 
 -- each number of the steps is within its limit, where their text is no longer than a proof may be
 abbrev pub AreWithin : List Step → Type 0
-AreWithin steps = length (proof_text steps) ≤ max_proof_bytes → All IsStep steps
+AreWithin steps = length (proof_text steps) ≤ max_proof_bytes large → All IsStep steps

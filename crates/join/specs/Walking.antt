@@ -4,7 +4,7 @@ use Rattle.std.specs.Vec.Iter.{into_iter_items}
 use Rattle.theory.specs.Literals.{Literal}
 use Rattle.theory.specs.Learning.{Line}
 use Rattle.theory.specs.Truth.{IsOver}
-use Rattle.theory.specs.Reading.{max_vars, max_clauses}
+use Rattle.theory.specs.Reading.{large, max_vars, max_clauses}
 use Rattle.theory.specs.Steps.{Step, add, delete}
 use Rattle.theory.specs.Proofs.{unit_steps, deletion}
 use Rattle.theory.specs.ProofReading.{IsStep, max_number}
@@ -64,7 +64,7 @@ lines_left l = unit_steps l.unit (into_iter_items l.units) ++ (deletion_of l.due
 
 -- what is kept between two lines of a tree, where the next one has the number n
 pub record IsAt (w : TreeWalk) (n : ℕ) : Type 0 where
-  pub clauses : w.clauses ≤ max_clauses + max_vars
+  pub clauses : w.clauses ≤ max_clauses large + max_vars large
   pub first : w.clauses < w.first
   pub begun : w.first ≤ n
   pub splits : All (IsHalf n) w.place
@@ -91,7 +91,7 @@ pub record IsBegun (N : ℕ) (tree : List (Node (List Line))) (w : TreeWalk) : T
 
 -- what is kept on the way down to a leaf
 pub record IsUnder (w : TreeWalk) : Type 0 where
-  pub clauses : w.clauses ≤ max_clauses + max_vars
+  pub clauses : w.clauses ≤ max_clauses large + max_vars large
   pub begun : w.clauses < w.next
   pub splits : All (IsHalf w.next) w.place
   pub leaf : w.leaf ≡ []
@@ -112,7 +112,7 @@ Gives old new End line = tree_left old ≡ []
 
 -- that line is within the limits
 abbrev pub IsWithin : TreeWalk → Source → Line → Type 0
-IsWithin w Learnt line = IsAt w (w.next + 1) × IsOver max_vars line.clause × AreUpTo (w.clauses + (w.next - w.first)) line.hints × (w.first ≤ w.next)
+IsWithin w Learnt line = IsAt w (w.next + 1) × IsOver (max_vars large) line.clause × AreUpTo (w.clauses + (w.next - w.first)) line.hints × (w.first ≤ w.next)
 IsWithin w (Split left) line = IsAt w (w.next + 1) × (1 ≤ left) × (left < w.next)
 IsWithin w End line = Unit {0}
 

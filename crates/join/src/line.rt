@@ -3,7 +3,7 @@
 ghost use Rattle.std.specs.Prelude.{◌≡◌, ℕ, ◌≤◌, ◌<◌, ◌^◌, ◌+◌, ◌-◌, ◌++◌, map, All, IfOk, OnOk};
 ghost use Rattle.theory.specs.Literals.{IsVariable, negations};
 ghost use Rattle.theory.specs.Truth.{IsOver};
-ghost use Rattle.theory.specs.Reading.{max_vars, max_clauses};
+ghost use Rattle.theory.specs.Reading.{large, max_vars, max_clauses};
 ghost use Rattle.theory.specs.Steps.{delete};
 ghost use Rattle.theory.specs.Proofs.{renumbered, numbers_from};
 ghost use Rattle.theory.specs.ProofReading.{IsStep, max_number};
@@ -142,9 +142,9 @@ impl ProofLine {
         first: u64,
     ) -> Result<(), AllocError>
         requires id { (first ≤ id) × (id ≤ max_number) }
-        requires first { (clauses < first) × (clauses ≤ max_clauses + max_vars) }
-        requires splits { All (λ s. IsVariable max_vars s.var) place.now }
-        requires clause { IsOver max_vars self.old.clause.items }
+        requires first { (clauses < first) × (clauses ≤ max_clauses large + max_vars large) }
+        requires splits { All (λ s. IsVariable (max_vars large) s.var) place.now }
+        requires clause { IsOver (max_vars large) self.old.clause.items }
         requires hints { AreUpTo (clauses + (id - first)) self.old.numbers.items }
         ensures line { OnOk result (line_of self.new ≡ learnt_line clauses first id (path place.now) (learnt_in self.old)) }
         ensures within { OnOk result (IsStep (line_of self.new)) }
@@ -161,7 +161,7 @@ impl ProofLine {
     pub(crate) fn split(&mut self, id: u64, left: u64, place: &Walk<u64>) -> Result<(), AllocError>
         requires id { id ≤ max_number }
         requires left { (1 ≤ left) × (left < id) }
-        requires splits { All (λ s. IsVariable max_vars s.var) place.now }
+        requires splits { All (λ s. IsVariable (max_vars large) s.var) place.now }
         ensures line { OnOk result (line_of self.new ≡ split_line id (path place.now) left (id - 1)) }
         ensures within { OnOk result (IsStep (line_of self.new)) }
     {

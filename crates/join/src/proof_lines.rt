@@ -73,7 +73,8 @@ impl Lines {
         ensures accepted { IfOk result (λ l. AreAccepted formula.now tree (lines_left l)) }
         ensures lawful { IfOk result IsBetweenLines }
     {
-        let clauses = formula.clauses().len() as u64;
+        let _vars = formula.vars(); // it ensures what the proof needs of the formula
+        let clauses = formula.clause_count() as u64;
         let units = units_of(alloc, formula, &tree)?;
         let first_clauses = clauses + units.len() as u64;
         let need = match TreeSize::of(&tree) {

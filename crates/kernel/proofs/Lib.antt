@@ -21,7 +21,6 @@ pub mod Levels
 pub mod LiteralFacts
 pub mod NearestClauses
 pub mod NextServed
-pub mod Pieces
 pub mod Placed
 pub mod Places
 pub mod Popping

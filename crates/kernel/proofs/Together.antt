@@ -5,9 +5,9 @@ use Rattle.std.proofs.lemmas.List.{take_more, take_more_set, drop-set-lt, length
 use Rattle.std.proofs.lemmas.List.Edits.{take-paste, drop-paste, length-paste}
 use Rattle.std.proofs.lemmas.Option.{get_or_from_slice_get}
 use Rattle.theory.specs.Literals.{Literal, Clause}
-use Rattle.kernel.specs.Pieces.{pieces, AreEnds, start_at}
+use Rattle.cnf.specs.Pieces.{pieces, AreEnds, start_at}
 use Rattle.kernel.specs.Shown.{emptied}
-use Rattle.kernel.proofs.Pieces.{pieces-push, AreEnds-push, AreEnds-take, pieces-take, pieces-at, length-pieces, start-le, end-le, start-within, start_at-behind}
+use Rattle.cnf.proofs.Pieces.{pieces-push, AreEnds-push, AreEnds-take, pieces-take, pieces-at, length-pieces, start-le, end-le, start-within, start_at-behind}
 
 pub length-emptied : (gone : ℕ → Bool) (n : ℕ) (K : List Clause) → length (emptied gone n K) ≡ length K
 length-emptied gone n [] = refl

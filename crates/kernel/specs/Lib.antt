@@ -4,7 +4,6 @@ pub mod Arranging
 pub mod Attaching
 pub mod Cutting
 pub mod Forgetting
-pub mod Pieces
 pub mod Shown
 pub mod Placing
 pub mod Rules

@@ -4,9 +4,9 @@ ghost use Rattle.theory.specs.Literals.{Literal, same, has};
 ghost use Rattle.theory.specs.Status.{unit_literal};
 ghost use Rattle.theory.specs.Trails.{literals, level_of};
 ghost use Rattle.theory.specs.Truth.{IsOver};
+ghost use Rattle.theory.specs.Reading.{large, max_clauses};
 ghost use Rattle.theory.specs.Learnable.{IsLearnable};
 ghost use Rattle.theory.specs.Pure.{unit_clauses};
-ghost use Rattle.theory.specs.Reading.{max_literals};
 ghost use Rattle.kernel.specs.Watching.{code, IsPair, lesser};
 ghost use Rattle.kernel.specs.Visiting.{kept_of};
 ghost use Rattle.kernel.specs.Attaching.{with_entry, attached, IsLater, IsWatching};
@@ -16,7 +16,7 @@ use crate::replacement::Starts;
 use crate::store::Store;
 use crate::units::Units;
 use crate::watch::{MOST_CLAUSES, PackedWatch, Watch, Watched, code};
-use cnf::Lit;
+use cnf::{Formula, Lit};
 use std::alloc::{AllocError, Global};
 use trail::Trail;
 
@@ -233,17 +233,17 @@ impl Propagator {
     /// Attaches the formula's clauses, before anything is decided, and notes those of one literal.
     pub fn attach_all(
         &mut self,
-        clauses: &[Vec<Lit>],
+        formula: &Formula,
         singles: &mut Vec<u32>,
     ) -> Result<(), AllocError>
-        requires over { (V : ℕ) × All (λ c. IsOver V c.items) clauses.now × (length self.old.lists.items ≡ 2 * V + 2) }
-        ensures clauses { OnOk result (self.new.clauses.given ≡ self.old.clauses.given ++ map (λ c. c.items) clauses.now) }
-        ensures watching { OnOk result ((V : ℕ) → All (λ c. IsOver V c.items) clauses.now → IsWatching V (length self.old.clauses.given) self.old.clauses.given [] 0 0 (kept_of self.old) singles.old.items self.old.conflict
-            → IsWatching V (length self.new.clauses.given) self.new.clauses.given [] 0 0 (kept_of self.new) singles.new.items self.new.conflict) }
+        requires over { length self.old.lists.items ≡ 2 * formula.now.vars + 2 }
+        ensures clauses { OnOk result (self.new.clauses.given ≡ self.old.clauses.given ++ formula.now.clauses) }
+        ensures watching { OnOk result (IsWatching formula.now.vars (length self.old.clauses.given) self.old.clauses.given [] 0 0 (kept_of self.old) singles.old.items self.old.conflict
+            → IsWatching formula.now.vars (length self.new.clauses.given) self.new.clauses.given [] 0 0 (kept_of self.new) singles.new.items self.new.conflict) }
         ensures lists { length self.new.lists.items ≡ length self.old.lists.items }
     {
-        for clause in clauses {
-            self.attach_first(clause, singles)?;
+        for place in 0..formula.clause_count() {
+            self.attach_first(formula.clause(place), singles)?;
         }
         Ok(())
     }
@@ -282,14 +282,14 @@ fn count_entries(counts: &mut [u32], lits: &[Lit])
     }
 }
 
-/// Counts the entries of clauses. It answers how many clauses are of one literal.
-fn count_clauses(counts: &mut [u32], clauses: &[Vec<Lit>]) -> usize
+/// Counts the entries of a formula's clauses. It answers how many clauses are of one literal.
+fn count_clauses(counts: &mut [u32], formula: &Formula) -> usize
     ensures kept { length counts.new ≡ length counts.old }
-    ensures few { result ≤ length clauses.now }
+    ensures few { result ≤ max_clauses large }
 {
     let mut singles = 0;
-    for clause in clauses {
-        if let Some(watched) = first_two(clause) {
+    for place in 0..formula.clause_count() {
+        if let Some(watched) = first_two(formula.clause(place)) {
             count_entry(counts, watched.first);
             if watched.first.same(&watched.second) {
                 singles += 1;
@@ -311,17 +311,18 @@ pub struct Room {
 }
 
 impl Room {
-    /// The room of these clauses, and of a clause of each of these literals, among so many lists.
+    /// The room of a formula's clauses, and of a clause of each of these literals, among so many
+    /// lists.
     pub fn of(
         alloc: Global,
         lists: usize,
-        clauses: &[Vec<Lit>],
+        formula: &Formula,
         units: &[Lit],
     ) -> Result<Room, AllocError>
         ensures { IfOk result (λ r. length r.entries.items ≡ lists) }
     {
         let mut entries = vec![in alloc; 0; lists]?;
-        let singles = count_clauses(&mut entries, clauses);
+        let singles = count_clauses(&mut entries, formula);
         count_entries(&mut entries, units);
         Ok(Room {
             entries,
@@ -347,19 +348,18 @@ impl Propagator {
     pub fn with_room(
         alloc: Global,
         room: Room,
-        clauses: &[Vec<Lit>],
+        formula: &Formula,
         units: &[Lit],
     ) -> Result<Propagator, AllocError>
-        requires few { sum_by (λ c. length c.items) clauses.now ≤ max_literals }
         ensures none { IfOk result (λ p. (p.clauses.given ≡ []) × (length p.lists.items ≡ length room.entries.items)) }
         ensures watching { IfOk result (λ p. (V : ℕ) → length room.entries.items ≡ 2 * V + 2 → IsWatching V 0 [] [] 0 0 (kept_of p) [] p.conflict) }
     {
         Ok(Propagator {
-            clauses: Store::with_room(alloc, clauses, units)?,
+            clauses: Store::with_room(alloc, formula, units)?,
             lists: no_entries(alloc, &room.entries)?,
             units: Units::with_room(alloc, room.singles)?,
             conflict: None,
-            starts: Starts::with_room(alloc, clauses.len() + units.len())?,
+            starts: Starts::with_room(alloc, formula.clause_count() + units.len())?,
             visits: 0,
         })
     }

@@ -1,12 +1,11 @@
 //! The clauses of a kernel, in the order of their numbers. Their literals lie in one list, so that
 //! looking at one clause after the other goes through memory from front to back. A clause that was
 //! forgotten keeps its number, and no literal.
-ghost use Rattle.std.specs.Prelude.{◌≡◌, ◌<◌, ◌≤◌, [], ◌∷◌, ◌++◌, length, take, sum_by, IfOk, OnOk, OnErr, slice_get, slice_set, Some, ℕ, List, false};
+ghost use Rattle.std.specs.Prelude.{◌≡◌, ◌<◌, ◌≤◌, [], ◌∷◌, ◌++◌, length, take, IfOk, OnOk, OnErr, slice_get, slice_set, Some, ℕ, List, false};
 ghost use Rattle.std.specs.List.Sorted.{IsPermutation};
 ghost use Rattle.theory.specs.Literals.{Clause};
-ghost use Rattle.theory.specs.Reading.{max_literals};
 ghost use Rattle.theory.specs.Forgetting.{forget};
-ghost use Rattle.kernel.specs.Pieces.{pieces, AreEnds, start_at};
+ghost use Rattle.cnf.specs.Pieces.{pieces, AreEnds, start_at};
 ghost use Rattle.kernel.specs.Shown.{emptied};
 ghost use Rattle.theory.specs.Trails.{literals};
 ghost use Rattle.kernel.specs.Watching.{At, IsPair};
@@ -19,7 +18,7 @@ use crate::named::Named;
 use crate::replacement::Starts;
 use crate::sight::{Sight, look_at};
 use crate::watch::Watched;
-use cnf::Lit;
+use cnf::{Lit, literals_at, start_of};
 use std::alloc::{AllocError, Global};
 use std::marker::Model;
 use trail::Trail;
@@ -42,7 +41,7 @@ impl Model for Clauses {
     ghost use Rattle.std.specs.Prelude.{◌≡◌, List, length};
     ghost use Rattle.theory.specs.Literals.{Clause};
     ghost use Rattle.theory.specs.Forgetting.{forgotten};
-    ghost use Rattle.kernel.specs.Pieces.{pieces, AreEnds};
+    ghost use Rattle.cnf.specs.Pieces.{pieces, AreEnds};
     ghost use Rattle.kernel.specs.Shown.{shown};
 
     ghost Value = { List Clause };
@@ -50,37 +49,6 @@ impl Model for Clauses {
     ghost view = { λ a. shown a.first (pieces 0 a.lits.items a.ends.items) };
 
     ghost invariant = { λ a. AreEnds 0 a.ends.items (length a.lits.items) × (a.tautology ≡ forgotten) };
-}
-
-/// Where the literals of the clause at a place begin, or would begin at the place behind the last.
-fn start_of(ends: &[usize], index: usize) -> usize
-    requires { index ≤ length ends.now }
-    ensures { result ≡ start_at 0 ends.now index }
-{
-    if index == 0 { 0 } else { ends[index - 1] }
-}
-
-/// The literals of the clause at a place.
-fn piece<'a>(lits: &'a [Lit], ends: &[usize], index: usize) -> &'a [Lit]
-    requires within { index < length ends.now }
-    requires ends { AreEnds 0 ends.now (length lits.now) }
-    ensures { slice_get (pieces 0 lits.now ends.now) index ≡ Some result.now }
-{
-    let start = start_of(ends, index);
-    let end = ends[index];
-    &lits[start..end]
-}
-
-/// How many literals the clauses have.
-pub fn count_lits(clauses: &[Vec<Lit>]) -> usize
-    requires { sum_by (λ c. length c.items) clauses.now ≤ max_literals }
-    ensures { result ≡ sum_by (λ c. length c.items) clauses.now }
-{
-    let mut count = 0;
-    for clause in clauses {
-        count += clause.len();
-    }
-    count
 }
 
 /// Moves the literals of the clauses from `first` on together, without those of the clauses that
@@ -133,7 +101,7 @@ impl Clauses {
         requires { index < length self.now }
         ensures { slice_get self.now index ≡ Some result.now }
     {
-        let kept = piece(&self.lits, &self.ends, index);
+        let kept = literals_at(&self.lits, &self.ends, index);
         if kept.is_empty() && self.first <= index {
             &self.tautology
         } else {

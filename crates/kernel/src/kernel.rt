@@ -9,7 +9,7 @@ ghost use Rattle.theory.specs.Propagation.{clause_at, Propagates, quiet, least_f
 ghost use Rattle.theory.specs.Forgetting.{is_reason, forget};
 ghost use Rattle.theory.specs.Lawful.{IsLawful};
 ghost use Rattle.theory.specs.Learnable.{IsLearnable};
-ghost use Rattle.theory.specs.Reading.{max_vars};
+ghost use Rattle.theory.specs.Reading.{large, max_vars};
 ghost use Rattle.theory.specs.Propagation as closing;
 ghost use Rattle.theory.specs.Trails as trails;
 ghost use Rattle.kernel.specs.Answer.{closed_of};
@@ -147,7 +147,7 @@ impl Kernel {
         }) }
         ensures lawful { IfOk result (λ k.
             IsLawful k.clauses k.trail × IsOver k.vars (literals k.trail) × All (IsOver k.vars) k.clauses) }
-        ensures few { IfOk result (λ k. k.vars ≤ max_vars) }
+        ensures few { IfOk result (λ k. k.vars ≤ max_vars large) }
     {
         let kernel = Kernel::open_with(alloc, formula, &[], cube)?;
         Ok(kernel)
@@ -174,7 +174,7 @@ impl Kernel {
         }) }
         ensures lawful { IfOk result (λ k.
             IsLawful k.clauses k.trail × IsOver k.vars (literals k.trail) × All (IsOver k.vars) k.clauses) }
-        ensures few { IfOk result (λ k. k.vars ≤ max_vars) }
+        ensures few { IfOk result (λ k. k.vars ≤ max_vars large) }
     {
         let kernel = Kernel::open_in_order(alloc, formula, units, cube, Order::ByNumber)?;
         Ok(kernel)
@@ -200,14 +200,13 @@ impl Kernel {
         }) }
         ensures lawful { IfOk result (λ k.
             IsLawful k.clauses k.trail × IsOver k.vars (literals k.trail) × All (IsOver k.vars) k.clauses) }
-        ensures few { IfOk result (λ k. k.vars ≤ max_vars) }
+        ensures few { IfOk result (λ k. k.vars ≤ max_vars large) }
     {
         let vars = formula.vars();
-        let clauses = formula.clauses();
-        let room = Room::of(alloc, 2 * vars as usize + 2, clauses, units)?;
+        let room = Room::of(alloc, 2 * vars as usize + 2, formula, units)?;
         let mut singles = Vec::with_capacity(alloc, room.singles)?;
-        let mut propagator = Propagator::with_room(alloc, room, clauses, units)?;
-        propagator.attach_all(clauses, &mut singles)?;
+        let mut propagator = Propagator::with_room(alloc, room, formula, units)?;
+        propagator.attach_all(formula, &mut singles)?;
         propagator.attach_units(units, &mut singles)?;
         let empty = propagator.conflict;
         let mut trail = Trail::with_room(alloc, vars)?;

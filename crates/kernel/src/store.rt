@@ -1,9 +1,8 @@
 //! Clauses as they were given, and the same arranged for propagation. Those that were given are
 //! what analysis reads and what a kernel shows. Propagation never touches them, and changes the
 //! order of the arranged clauses' literals as it likes.
-ghost use Rattle.std.specs.Prelude.{◌≡◌, ◌+◌, ◌<◌, ◌≤◌, ◌⊎◌, [], ◌∷◌, ◌++◌, All, length, take, sum_by, IfOk, OnOk, OnErr, slice_get, slice_set, Some, ℕ, List, false, true};
+ghost use Rattle.std.specs.Prelude.{◌≡◌, ◌+◌, ◌<◌, ◌≤◌, ◌⊎◌, [], ◌∷◌, ◌++◌, All, length, take, IfOk, OnOk, OnErr, slice_get, slice_set, Some, ℕ, List, false, true};
 ghost use Rattle.theory.specs.Literals.{Clause, has, negated};
-ghost use Rattle.theory.specs.Reading.{max_literals};
 ghost use Rattle.theory.specs.Forgetting.{forget};
 ghost use Rattle.theory.specs.Truth.{IsOver};
 ghost use Rattle.theory.specs.Trails.{literals};
@@ -13,12 +12,12 @@ ghost use Rattle.kernel.specs.Forgetting.{Tells, ArePairsLeft, names};
 ghost use Rattle.kernel.specs.Arranging.{front};
 ghost use Rattle.kernel.specs.Seeing.{IsSight};
 
-use crate::clauses::{Clauses, count_lits};
+use crate::clauses::Clauses;
 use crate::named::Named;
 use crate::replacement::Starts;
 use crate::sight::Sight;
 use crate::watch::Watched;
-use cnf::Lit;
+use cnf::{Formula, Lit};
 use std::alloc::{AllocError, Global};
 use std::marker::Model;
 use trail::Trail;
@@ -43,18 +42,13 @@ impl Model for Store {
 }
 
 impl Store {
-    /// No clauses, with room for these, and for a clause of each of these literals. It fails where
-    /// a request for memory is refused.
-    pub fn with_room(
-        alloc: Global,
-        clauses: &[Vec<Lit>],
-        units: &[Lit],
-    ) -> Result<Store, AllocError>
-        requires { sum_by (λ c. length c.items) clauses.now ≤ max_literals }
+    /// No clauses, with room for those of a formula, and for a clause of each of these literals. It
+    /// fails where a request for memory is refused.
+    pub fn with_room(alloc: Global, formula: &Formula, units: &[Lit]) -> Result<Store, AllocError>
         ensures { IfOk result (λ s. (s.given ≡ []) × (s.pairs ≡ [])) }
     {
-        let count = clauses.len() + units.len();
-        let lits = count_lits(clauses) + units.len();
+        let count = formula.clause_count() + units.len();
+        let lits = formula.literal_count() + units.len();
         Ok(Store {
             given: Clauses::with_room(alloc, count, lits)?,
             arranged: Clauses::with_room(alloc, count, lits)?,

@@ -81,7 +81,7 @@ impl Twins {
         let units = cube_of(alloc, formula.vars(), units)?;
         Ok(Twins {
             kernel: Kernel::open_with(alloc, formula, units.lits(), &Cube::root(alloc))?,
-            scan: Scan::open(alloc, formula.clauses(), units.lits(), &[], Order::ByNumber)?,
+            scan: Scan::open(alloc, formula, units.lits(), &[], Order::ByNumber)?,
             is_quiet: false,
             is_back: false,
             agree: true,

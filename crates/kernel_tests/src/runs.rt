@@ -74,7 +74,7 @@ impl Twins {
         let units = small_cube(alloc, dice, formula.vars())?;
         Ok(Twins {
             kernel: Kernel::open_in_order(alloc, formula, units.lits(), &cube, order)?,
-            scan: Scan::open(alloc, formula.clauses(), units.lits(), cube.lits(), order)?,
+            scan: Scan::open(alloc, formula, units.lits(), cube.lits(), order)?,
         })
     }
 

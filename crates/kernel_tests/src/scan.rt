@@ -1,5 +1,5 @@
 //! Propagation that looks at each clause in each step, to compare the kernel with.
-use cnf::Lit;
+use cnf::{Formula, Lit};
 use kernel::{Closed, Entry, Order};
 use std::alloc::{AllocError, Global};
 
@@ -26,19 +26,19 @@ impl Scan {
     /// The clauses, those of the units behind them, and the cube.
     pub fn open(
         alloc: Global,
-        clauses: &[Vec<Lit>],
+        formula: &Formula,
         units: &[Lit],
         cube: &[Lit],
         order: Order,
     ) -> Result<Scan, AllocError> {
         let mut scan = Scan {
             clauses: Vec::new(alloc),
-            first: clauses.len().saturating_add(units.len()),
+            first: formula.clause_count().saturating_add(units.len()),
             trail: Vec::new(alloc),
             order,
         };
-        for clause in clauses {
-            scan.learn(clause)?;
+        for place in 0..formula.clause_count() {
+            scan.learn(formula.clause(place))?;
         }
         for unit in units {
             scan.learn(&[*unit])?;

@@ -1,6 +1,6 @@
 -- Where a look may be made.
 use Rattle.std.specs.Prelude.{◌≡◌, ◌≤◌, false}
-use Rattle.theory.specs.Reading.{max_vars}
+use Rattle.theory.specs.Reading.{large, max_vars}
 use Rattle.theory.specs.Trails.{current_level}
 use Rattle.theory.specs.Propagation.{quiet, by_place, Propagates}
 use Rattle.kernel.specs.State.{State}
@@ -10,6 +10,6 @@ use Rattle.kernel.specs.declared.order.Order.TheVariants.{ByPlace}
 pub record IsAtRest (k : State) : Type 0 where
   pub has_memory : k.short ≡ false
   pub in_order : k.order ≡ ByPlace
-  pub few : k.vars ≤ max_vars
+  pub few : k.vars ≤ max_vars large
   pub level : current_level k.trail ≡ 0
   pub quiet : Propagates by_place k.clauses k.trail quiet k.trail

@@ -1,6 +1,7 @@
 -- A check of a text that comes in pieces: one byte more, and what it comes to.
 use Rattle.std.proofs.Common.{◌≡◌, ℕ, ◌+◌, ◌<◌, ◌≤◌, List, length, drop, get_or, cond, refl, sym, ap, ◌∙◌, arith}
 use Rattle.std.proofs.lemmas.List.{drop_more}
+use Rattle.theory.specs.Reading.{Limits}
 use Rattle.theory.specs.ProofReading.{max_proof_bytes}
 use Rattle.theory.specs.Checking.{refused}
 use Rattle.lrat_text.specs.declared.text.Text.{Text}
@@ -36,5 +37,5 @@ said-at NoSuchDeletion n = refl
 said-at LiteralOutOfRange n = refl
 
 -- a text without a fault, within the limit
-pub finish-ended : (m : Stream) → m.seen ≤ max_proof_bytes → ((p : Progress) → at_text_end m.line p m.part ≡ checked (verdict p)) → finish m ≡ checked (verdict m.progress)
-finish-ended m short ends = ap (λ b. cond b text_too_long (at_text_end m.line m.progress m.part)) (lt-false max_proof_bytes m.seen short) ∙ ends m.progress
+pub finish-ended : (L : Limits) (m : Stream) → m.seen ≤ max_proof_bytes L → ((p : Progress) → at_text_end m.line p m.part ≡ checked (verdict p)) → finish L m ≡ checked (verdict m.progress)
+finish-ended L m short ends = ap (λ b. cond b text_too_long (at_text_end m.line m.progress m.part)) (lt-false (max_proof_bytes L) m.seen short) ∙ ends m.progress

@@ -5,7 +5,8 @@ use Rattle.theory.specs.Texts.{lf}
 use Rattle.theory.specs.Tokens.{lines_of, is_blank}
 use Rattle.theory.specs.Truth.{Formula}
 use Rattle.theory.specs.Steps as theory
-use Rattle.theory.specs.ProofReading.{TextFault, line_not_ended, ProofReading, steps, line_fault, too_long, ProofReads, max_proof_bytes}
+use Rattle.theory.specs.Reading.{Limits}
+use Rattle.theory.specs.ProofReading.{TextFault, line_not_ended, ProofReading, steps, line_fault, too_long, ProofReadsWithin, max_proof_bytes}
 use Rattle.theory.specs.Checking.{Fault, Checker, Tested, refused, leaves, faulty, test, check_from}
 use Rattle.lrat_text.specs.LineWords.{ends_word, first_word, after_word, word_of}
 use Rattle.lrat_text.specs.LineMachine.{LineState, at_id, on, fault_in, at_end, behind, LineReading, line_read, line_at_fault, read_lines, within, with_step, has_line_feed}
@@ -204,28 +205,28 @@ lt-true a b h = grind arith
 pub lt-false : (a b : ℕ) → b ≤ a → nat_lt a b ≡ false
 lt-false a b h = grind arith
 
-short-text : (F : Formula) (bytes : List ℕ) (r : ProofReading) → length bytes ≤ max_proof_bytes → ProofReads bytes r
-    → finish (feed F.vars (begin F) bytes) ≡ answer_to F r
-short-text F bytes r short h =
+short-text : (L : Limits) (F : Formula) (bytes : List ℕ) (r : ProofReading) → length bytes ≤ max_proof_bytes L → ProofReadsWithin L bytes r
+    → finish L (feed F.vars (begin F) bytes) ≡ answer_to F r
+short-text L F bytes r short h =
     let m = feed F.vars (begin F) bytes in
-    let within : nat_lt max_proof_bytes m.seen ≡ false = lt-false max_proof_bytes m.seen (let s = feed-seen F.vars bytes (begin F) in omega arith) in
+    let within : nat_lt (max_proof_bytes L) m.seen ≡ false = lt-false (max_proof_bytes L) m.seen (let s = feed-seen F.vars bytes (begin F) in omega arith) in
     ap (λ x. cond x text_too_long (at_text_end m.line m.progress m.part)) within
     ∙ feed-end F.vars bytes (begin F) [] tt
-    ∙ ap (after F.vars 1 (begin F).progress) (ProofReads-only bytes (reading_of_text bytes) r (reading-ProofReads bytes short) h)
+    ∙ ap (after F.vars 1 (begin F).progress) (ProofReads-only L bytes (reading_of_text bytes) r (reading-ProofReads L bytes short) h)
     ∙ after-answer F r
 
 -- Fed with a whole text, the machine answers what the text is read as.
-pub finish-feed : (F : Formula) (bytes : List ℕ) (r : ProofReading) → ProofReads bytes r → finish (feed F.vars (begin F) bytes) ≡ answer_to F r
-finish-feed F bytes too_long h =
+pub finish-feed : (L : Limits) (F : Formula) (bytes : List ℕ) (r : ProofReading) → ProofReadsWithin L bytes r → finish L (feed F.vars (begin F) bytes) ≡ answer_to F r
+finish-feed L F bytes too_long h =
     let m = feed F.vars (begin F) bytes in
-    let above : nat_lt max_proof_bytes m.seen ≡ true = lt-true max_proof_bytes m.seen (let s = feed-seen F.vars bytes (begin F) in omega arith) in
+    let above : nat_lt (max_proof_bytes L) m.seen ≡ true = lt-true (max_proof_bytes L) m.seen (let s = feed-seen F.vars bytes (begin F) in omega arith) in
     ap (λ x. cond x text_too_long (at_text_end m.line m.progress m.part)) above
-finish-feed F bytes (steps ss) h = short-text F bytes (steps ss) h.0 h
-finish-feed F bytes (line_fault f n) h = short-text F bytes (line_fault f n) h.0 h
+finish-feed L F bytes (steps ss) h = short-text L F bytes (steps ss) h.0 h
+finish-feed L F bytes (line_fault f n) h = short-text L F bytes (line_fault f n) h.0 h
 
 -- Whatever comes behind the limit, the text is too long.
-pub finish-long : (V : ℕ) (m : Stream) (bytes : List ℕ) → max_proof_bytes < m.seen → finish (feed V m bytes) ≡ text_too_long
-finish-long V m bytes h =
+pub finish-long : (L : Limits) (V : ℕ) (m : Stream) (bytes : List ℕ) → max_proof_bytes L < m.seen → finish L (feed V m bytes) ≡ text_too_long
+finish-long L V m bytes h =
     let n = feed V m bytes in
-    let above : nat_lt max_proof_bytes n.seen ≡ true = lt-true max_proof_bytes n.seen (let s = feed-seen V bytes m in omega arith) in
+    let above : nat_lt (max_proof_bytes L) n.seen ≡ true = lt-true (max_proof_bytes L) n.seen (let s = feed-seen V bytes m in omega arith) in
     ap (λ x. cond x text_too_long (at_text_end n.line n.progress n.part)) above

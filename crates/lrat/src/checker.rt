@@ -131,7 +131,7 @@ impl Checker {
             clauses: Clauses::new(alloc, formula)?,
             occurrences: Occurrences::new(alloc),
             held: Held::new(alloc, formula.vars())?,
-            last: formula.clauses().len() as u64,
+            last: formula.clause_count() as u64,
             empty: false,
         })
     }

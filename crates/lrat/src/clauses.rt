@@ -127,15 +127,6 @@ fn pack(
     Ok((packed_heads, packed_lits))
 }
 
-/// How many literals clauses have. The count stops at the greatest one.
-fn literal_count(clauses: &[Vec<Lit>]) -> usize {
-    let mut count = 0usize;
-    for clause in clauses {
-        count = count.saturating_add(clause.len());
-    }
-    count
-}
-
 /// Clauses over the variables 1 to `vars`, each with a number of its own: a formula's, and then
 /// those that were added.
 #[derive(Drop)]
@@ -167,13 +158,13 @@ impl Clauses {
         ensures up_to { IfOk result (λ a. AreUpTo (length formula.now.clauses) a.slots) }
         ensures vars { IfOk result (λ a. a.vars ≡ formula.now.vars) }
     {
-        let texts = formula.clauses();
-        let first = texts.len();
+        let first = formula.clause_count();
         let mut heads = Vec::with_capacity(alloc, first)?;
-        let mut lits = Vec::with_capacity(alloc, literal_count(texts))?;
+        let mut lits = Vec::with_capacity(alloc, formula.literal_count())?;
         for done in 0..first {
-            let index = first - 1 - done;
-            append(&mut heads, &mut lits, index as u64 + 1, true, &texts[index])?;
+            let place = first - 1 - done;
+            let clause = formula.clause(place);
+            append(&mut heads, &mut lits, place as u64 + 1, true, clause)?;
         }
         Ok(Clauses {
             vars: formula.vars(),

@@ -1,7 +1,9 @@
 //! A check of a proof whose text comes in pieces. Each step is checked as its line ends, and then
 //! let go.
 ghost use Rattle.std.specs.Prelude.{◌≡◌, ◌+◌, ◌<◌, ◌≤◌, ◌^◌, ℕ, None, length, IfOk, OnOk, MatchResult};
+ghost use Rattle.theory.specs.Reading.{standard};
 ghost use Rattle.theory.specs.Checking.{accepted};
+ghost use Rattle.cnf.specs.Limits.{limits_of};
 ghost use Rattle.lrat_text.specs.Pieces.{IsText, stream_at};
 ghost use Rattle.lrat.specs.Running.{IsReadyUnless, IsRunning, IsSaid, progress_of, stream_of, vars_of};
 ghost use Rattle.lrat_text.specs.Steps.{step_of};
@@ -10,8 +12,8 @@ ghost use Rattle.lrat_text.specs.Streams.{begin, checked, checked_step, feed, fe
 use crate::check_fault::{CheckFault, Fault};
 use crate::checker::Checker;
 use crate::refusal::Refusal;
-use cnf::Formula;
-use lrat_text::{MAX_BYTES, Step, Text, TextFault};
+use cnf::{Formula, Limits};
+use lrat_text::{Step, Text, TextFault};
 use std::alloc::{AllocError, Global};
 
 /// The first step at fault.
@@ -136,9 +138,17 @@ impl ProofStream {
     /// too long, then the first line at fault decides, then the first step. With none, a step has
     /// to have added the empty clause.
     pub fn verdict(&self) -> Result<(), Refusal>
-        ensures { MatchResult result (λ _. finish (stream_of self.now) ≡ checked accepted) (IsSaid (finish (stream_of self.now))) }
+        ensures { MatchResult result (λ _. finish standard (stream_of self.now) ≡ checked accepted) (IsSaid (finish standard (stream_of self.now))) }
     {
-        if self.seen > MAX_BYTES as u64 {
+        self.verdict_within(Limits::Standard)
+    }
+
+    /// The same within these limits of a proof's text.
+    pub fn verdict_within(&self, limits: Limits) -> Result<(), Refusal>
+        ensures { MatchResult result (λ _. finish (limits_of limits) (stream_of self.now) ≡ checked accepted)
+            (IsSaid (finish (limits_of limits) (stream_of self.now))) }
+    {
+        if self.seen > limits.proof_bytes() {
             return Err(Refusal::Text(TextFault::TooLong));
         }
         if let Some(fault) = self.text.fault() {

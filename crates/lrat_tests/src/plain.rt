@@ -203,11 +203,10 @@ fn delete(there: &mut Vec<Numbered>, ids: &[u64]) -> bool {
 
 fn clauses_of(alloc: Global, formula: &Formula) -> Result<Vec<Numbered<'_>>, AllocError> {
     let mut there = Vec::new(alloc);
-    let clauses = formula.clauses();
-    for index in 0..clauses.len() {
+    for place in 0..formula.clause_count() {
         there.push(Numbered {
-            id: index as u64 + 1,
-            clause: &clauses[index],
+            id: place as u64 + 1,
+            clause: formula.clause(place),
         })?;
     }
     Ok(there)

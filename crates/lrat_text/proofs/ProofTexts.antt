@@ -2,7 +2,8 @@
 -- steps is read as them.
 use Rattle.std.proofs.Common.{◌≡◌, ℕ, ◌+◌, ◌≤◌, List, [], ◌∷◌, length, refl, sym, ap, subst, ◌∙◌, inl, inr, arith}
 use Rattle.theory.specs.Tokens.{lines_of}
-use Rattle.theory.specs.ProofReading.{ProofReading, steps, line_fault, too_long, words_in, LinesRead, ProofReads, max_proof_bytes}
+use Rattle.theory.specs.Reading.{Limits}
+use Rattle.theory.specs.ProofReading.{ProofReading, steps, line_fault, too_long, words_in, LinesRead, ProofReadsWithin, max_proof_bytes}
 use Rattle.lrat_text.specs.LineMachine.{at_id, LineReading, line_read, line_at_fault, read_words, with_step, behind, rest_read, read_lines}
 use Rattle.lrat_text.proofs.LineTexts.{Lines, lines}
 use Rattle.lrat_text.proofs.LineLaws.{LineSays, read_words-says, read_words-only}
@@ -28,16 +29,16 @@ lines-read n line (next ∷ ls) = go (read_words at_id (words_in line)) (read_wo
     go (line_at_fault fault) h r rest = inl (h, refl)
 
 -- The machine's answer is what the text is read as.
-pub reading-ProofReads : (bytes : List ℕ) → length bytes ≤ max_proof_bytes → ProofReads bytes (reading_of_text bytes)
-reading-ProofReads bytes short = go (lines bytes)
+pub reading-ProofReads : (L : Limits) (bytes : List ℕ) → length bytes ≤ max_proof_bytes L → ProofReadsWithin L bytes (reading_of_text bytes)
+reading-ProofReads L bytes short = go (lines bytes)
   where
-    said : (line : List ℕ) (ls : List (List ℕ)) → lines_of bytes ≡ line ∷ ls → (r : ProofReading) → LinesRead 1 (line ∷ ls) r → ProofReads bytes r
+    said : (line : List ℕ) (ls : List (List ℕ)) → lines_of bytes ≡ line ∷ ls → (r : ProofReading) → LinesRead 1 (line ∷ ls) r → ProofReadsWithin L bytes r
     said line ls e (steps ss) h = (short, subst (λ x. LinesRead 1 x (steps ss)) (sym e) h)
     said line ls e (line_fault fault k) h = (short, subst (λ x. LinesRead 1 x (line_fault fault k)) (sym e) h)
     said line ls e too_long h = absurd (never_long 1 line ls h)
 
-    go : Lines bytes → ProofReads bytes (reading_of_text bytes)
-    go l = subst (ProofReads bytes) (ap (read_lines 1) (sym l.are)) (said l.first l.rest l.are (read_lines 1 (l.first ∷ l.rest)) (lines-read 1 l.first l.rest))
+    go : Lines bytes → ProofReadsWithin L bytes (reading_of_text bytes)
+    go l = subst (ProofReadsWithin L bytes) (ap (read_lines 1) (sym l.are)) (said l.first l.rest l.are (read_lines 1 (l.first ∷ l.rest)) (lines-read 1 l.first l.rest))
 
 -- lines are read in one way
 lines-only : (n : ℕ) (line : List ℕ) (ls : List (List ℕ)) (r : ProofReading) → LinesRead n (line ∷ ls) r → read_lines n (line ∷ ls) ≡ r
@@ -64,13 +65,13 @@ text-only bytes r h =
     ap (read_lines 1) l.are ∙ lines-only 1 l.first l.rest r (subst (λ x. LinesRead 1 x r) l.are h)
 
 -- A text is read in one way.
-pub ProofReads-only : (bytes : List ℕ) (r s : ProofReading) → ProofReads bytes r → ProofReads bytes s → r ≡ s
-ProofReads-only bytes too_long too_long h k = refl
-ProofReads-only bytes too_long (steps ss) h k = absurd (let short = k.0 in omega arith)
-ProofReads-only bytes too_long (line_fault f n) h k = absurd (let short = k.0 in omega arith)
-ProofReads-only bytes (steps ss) too_long h k = absurd (let short = h.0 in omega arith)
-ProofReads-only bytes (line_fault f n) too_long h k = absurd (let short = h.0 in omega arith)
-ProofReads-only bytes (steps ss) (steps ts) h k = sym (text-only bytes (steps ss) h.1) ∙ text-only bytes (steps ts) k.1
-ProofReads-only bytes (steps ss) (line_fault f n) h k = sym (text-only bytes (steps ss) h.1) ∙ text-only bytes (line_fault f n) k.1
-ProofReads-only bytes (line_fault f n) (steps ss) h k = sym (text-only bytes (line_fault f n) h.1) ∙ text-only bytes (steps ss) k.1
-ProofReads-only bytes (line_fault f n) (line_fault g m) h k = sym (text-only bytes (line_fault f n) h.1) ∙ text-only bytes (line_fault g m) k.1
+pub ProofReads-only : (L : Limits) (bytes : List ℕ) (r s : ProofReading) → ProofReadsWithin L bytes r → ProofReadsWithin L bytes s → r ≡ s
+ProofReads-only L bytes too_long too_long h k = refl
+ProofReads-only L bytes too_long (steps ss) h k = absurd (let short = k.0 in omega arith)
+ProofReads-only L bytes too_long (line_fault f n) h k = absurd (let short = k.0 in omega arith)
+ProofReads-only L bytes (steps ss) too_long h k = absurd (let short = h.0 in omega arith)
+ProofReads-only L bytes (line_fault f n) too_long h k = absurd (let short = h.0 in omega arith)
+ProofReads-only L bytes (steps ss) (steps ts) h k = sym (text-only bytes (steps ss) h.1) ∙ text-only bytes (steps ts) k.1
+ProofReads-only L bytes (steps ss) (line_fault f n) h k = sym (text-only bytes (steps ss) h.1) ∙ text-only bytes (line_fault f n) k.1
+ProofReads-only L bytes (line_fault f n) (steps ss) h k = sym (text-only bytes (line_fault f n) h.1) ∙ text-only bytes (steps ss) k.1
+ProofReads-only L bytes (line_fault f n) (line_fault g m) h k = sym (text-only bytes (line_fault f n) h.1) ∙ text-only bytes (line_fault g m) k.1

@@ -3,6 +3,7 @@ use Rattle.std.proofs.Common.{◌≡◌, ℕ, ◌≤◌, List, [], ◌∷◌, �
 use Rattle.std.proofs.lemmas.List.{map-append, drop_all}
 use Rattle.theory.specs.Steps as theory
 use Rattle.theory.specs.Tokens.{lines_of}
+use Rattle.theory.specs.Reading.{standard}
 use Rattle.theory.specs.ProofReading.{TextFault, ProofReading, steps, line_fault, too_long, ProofReads, max_proof_bytes}
 use Rattle.theory.specs.ProofReading as faults
 use Rattle.lrat_text.specs.declared.step.Step.{Step}
@@ -36,21 +37,21 @@ steps-more ss s old r whole read h =
     ap (λ x. with_steps x r) (map-append step_of ss (s ∷ [])) ∙ with_steps-push (map step_of ss) (step_of s) r ∙ ap (with_steps (map step_of ss)) (sym read) ∙ h
 
 -- all lines are read
-pub steps-all : (bytes : List ℕ) (ss : List Step) (n at : ℕ) → length bytes ≤ max_proof_bytes → length bytes ≤ at
+pub steps-all : (bytes : List ℕ) (ss : List Step) (n at : ℕ) → length bytes ≤ max_proof_bytes standard → length bytes ≤ at
     → with_steps (map step_of ss) (read_lines n (lines_of (drop at bytes))) ≡ reading_of_text bytes → ProofReads bytes (steps (map step_of ss))
 steps-all bytes ss n at short end h =
     subst (ProofReads bytes)
     (sym h ∙ ap (λ x. with_steps (map step_of ss) (read_lines n (lines_of x))) (drop_all at bytes end) ∙ with_steps-end (map step_of ss))
-    (reading-ProofReads bytes short)
+    (reading-ProofReads standard bytes short)
 
 -- a line is at fault
-pub fault-found : (bytes : List ℕ) (ss : List theory.Step) (e : declared.TextFault) (r : ProofReading) → length bytes ≤ max_proof_bytes
-    → with_steps ss r ≡ reading_of_text bytes → IsFault e r → HasFault bytes e
+pub fault-found : (bytes : List ℕ) (ss : List theory.Step) (e : declared.TextFault) (r : ProofReading) → length bytes ≤ max_proof_bytes standard
+    → with_steps ss r ≡ reading_of_text bytes → IsFault e r → HasFault standard bytes e
 fault-found bytes ss (BadNumber n) r short h f =
-    subst (ProofReads bytes) (sym h ∙ ap (with_steps ss) f ∙ with_steps-fault ss faults.bad_number n) (reading-ProofReads bytes short)
+    subst (ProofReads bytes) (sym h ∙ ap (with_steps ss) f ∙ with_steps-fault ss faults.bad_number n) (reading-ProofReads standard bytes short)
 fault-found bytes ss (LineNotEnded n) r short h f =
-    subst (ProofReads bytes) (sym h ∙ ap (with_steps ss) f ∙ with_steps-fault ss faults.line_not_ended n) (reading-ProofReads bytes short)
+    subst (ProofReads bytes) (sym h ∙ ap (with_steps ss) f ∙ with_steps-fault ss faults.line_not_ended n) (reading-ProofReads standard bytes short)
 fault-found bytes ss (BadShape n) r short h f =
-    subst (ProofReads bytes) (sym h ∙ ap (with_steps ss) f ∙ with_steps-fault ss faults.bad_shape n) (reading-ProofReads bytes short)
+    subst (ProofReads bytes) (sym h ∙ ap (with_steps ss) f ∙ with_steps-fault ss faults.bad_shape n) (reading-ProofReads standard bytes short)
 fault-found bytes ss NoMemory r short h f = tt
-fault-found bytes ss TooLong r short h f = subst (ProofReads bytes) (sym h ∙ ap (with_steps ss) f ∙ with_steps-too_long ss) (reading-ProofReads bytes short)
+fault-found bytes ss TooLong r short h f = subst (ProofReads bytes) (sym h ∙ ap (with_steps ss) f ∙ with_steps-too_long ss) (reading-ProofReads standard bytes short)

@@ -8,7 +8,8 @@ use Rattle.theory.specs.Literals.{Literal}
 use Rattle.theory.specs.Steps.{Group, Step, add, delete}
 use Rattle.theory.specs.Texts.{lf, space, minus, literal_text, clause_words, group_words, groups_words, step_words, proof_text, zero_text}
 use Rattle.theory.specs.Tokens.{lines_of}
-use Rattle.theory.specs.ProofReading.{steps, IsNumber, IsLiteral, IsGroup, IsStep, words_in, LinesRead, ProofReads, max_proof_bytes}
+use Rattle.theory.specs.Reading.{Limits}
+use Rattle.theory.specs.ProofReading.{steps, IsNumber, IsLiteral, IsGroup, IsStep, words_in, LinesRead, ProofReadsWithin, max_proof_bytes}
 use Rattle.theory.proofs.literals.LiteralLemmas.{and-left, and-right}
 use Rattle.lrat_text.proofs.DigitLemmas.{digit-goes_on}
 use Rattle.lrat_text.proofs.LineTexts.{lines_of-byte, Lines, lines, onto_first, texts, words_in-texts, texts-word, texts-blank, Solid, no_lf}
@@ -167,5 +168,5 @@ written-lines n (s ∷ ss) h = go (lines (proof_text ss)) (written-lines (n + 1)
         (record { within = within; are = words_in-joined (step_words s) (words-step s within) }, subst (λ x. LinesRead (n + 1) x (steps ss)) l.are rest)
 
 -- The text of steps is read as these steps.
-pub proof_text-ProofReads : (ss : List Step) → All IsStep ss → length (proof_text ss) ≤ max_proof_bytes → ProofReads (proof_text ss) (steps ss)
-proof_text-ProofReads ss h short = (short, written-lines 1 ss h)
+pub proof_text-ProofReads : (L : Limits) (ss : List Step) → All IsStep ss → length (proof_text ss) ≤ max_proof_bytes L → ProofReadsWithin L (proof_text ss) (steps ss)
+proof_text-ProofReads L ss h short = (short, written-lines 1 ss h)

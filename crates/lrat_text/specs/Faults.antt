@@ -1,6 +1,7 @@
 -- The faults of a text: their numbers and lines, and when each comes.
 use Rattle.std.specs.Prelude.{ℕ, List, Option, Some, None}
-use Rattle.theory.specs.ProofReading.{ProofReading, line_fault, too_long, ProofReads}
+use Rattle.theory.specs.Reading.{Limits}
+use Rattle.theory.specs.ProofReading.{ProofReading, line_fault, too_long, ProofReadsWithin}
 use Rattle.theory.specs.ProofReading as theory
 use Rattle.theory.specs.Numbers.{text_fault_number}
 use Rattle.lrat_text.specs.declared.fault.TextFault.{TextFault}
@@ -27,9 +28,9 @@ text_fault_at theory.line_not_ended n = LineNotEnded n
 text_fault_at theory.bad_shape n = BadShape n
 
 -- the text has the fault; memory may run out at any text
-abbrev pub HasFault : List ℕ → TextFault → Type 0
-HasFault bytes (BadNumber n) = ProofReads bytes (line_fault theory.bad_number n)
-HasFault bytes (LineNotEnded n) = ProofReads bytes (line_fault theory.line_not_ended n)
-HasFault bytes (BadShape n) = ProofReads bytes (line_fault theory.bad_shape n)
-HasFault bytes NoMemory = Unit {0}
-HasFault bytes TooLong = ProofReads bytes too_long
+abbrev pub HasFault : Limits → List ℕ → TextFault → Type 0
+HasFault L bytes (BadNumber n) = ProofReadsWithin L bytes (line_fault theory.bad_number n)
+HasFault L bytes (LineNotEnded n) = ProofReadsWithin L bytes (line_fault theory.line_not_ended n)
+HasFault L bytes (BadShape n) = ProofReadsWithin L bytes (line_fault theory.bad_shape n)
+HasFault L bytes NoMemory = Unit {0}
+HasFault L bytes TooLong = ProofReadsWithin L bytes too_long

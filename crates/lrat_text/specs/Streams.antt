@@ -6,6 +6,7 @@ use Rattle.theory.specs.Truth.{Formula}
 use Rattle.theory.specs.Texts.{lf, minus, digit_zero}
 use Rattle.theory.specs.Tokens.{is_blank}
 use Rattle.theory.specs.Steps as theory
+use Rattle.theory.specs.Reading.{Limits}
 use Rattle.theory.specs.ProofReading.{TextFault, line_not_ended, ProofReading, steps, line_fault, too_long, max_proof_bytes}
 use Rattle.theory.specs.Checking.{Fault, Checker, Checked, accepted, refused, no_empty_clause, checks, test, leaves, faulty, numbered_from}
 use Rattle.lrat_text.specs.declared.word.Word.{Word}
@@ -151,8 +152,8 @@ at_text_end n p (in_line s w) = line_refused line_not_ended n
 at_text_end n p (held_back f) = line_refused line_not_ended n
 at_text_end n p (closed f) = line_refused f n
 
-abbrev pub finish : Stream → Answer
-finish m = if nat_lt max_proof_bytes m.seen then text_too_long else at_text_end m.line m.progress m.part
+abbrev pub finish : Limits → Stream → Answer
+finish L m = if nat_lt (max_proof_bytes L) m.seen then text_too_long else at_text_end m.line m.progress m.part
 
 -- the same of what a whole text is read as
 abbrev pub answer_to : Formula → ProofReading → Answer

@@ -1,5 +1,6 @@
 //! The text of a proof, as it is read.
 ghost use Rattle.std.specs.Prelude.{◌≡◌, ◌+◌, ◌<◌, ◌≤◌, length, drop, map, MatchResult, if◌then◌else◌};
+ghost use Rattle.theory.specs.Reading.{standard};
 ghost use Rattle.theory.specs.ProofReading.{steps, line_fault, line_not_ended, ProofReads};
 ghost use Rattle.theory.specs.Tokens.{lines_of};
 ghost use Rattle.lrat_text.specs.Steps.{step_of};
@@ -85,7 +86,7 @@ fn read_line(
 pub fn read_proof(alloc: Global, bytes: &[u8]) -> Result<Vec<Step>, TextFault>
     ensures { MatchResult result
         (λ v. ProofReads bytes.now (steps (map step_of v.items)))
-        (λ e. HasFault bytes.now e) }
+        (λ e. HasFault standard bytes.now e) }
 {
     if bytes.len() > MAX_BYTES {
         return Err(TextFault::TooLong);

@@ -4,6 +4,7 @@ use crate::excerpt::Excerpt;
 use crate::format::{Format, say_format};
 use crate::name::Name;
 use crate::refused::Refused;
+use cnf::Limits;
 use std::fmt;
 use std::fmt::{Display, Formatter};
 use std::io::Write;
@@ -42,15 +43,23 @@ fn words_around(number: u32) -> Option<(&'static str, &'static str)> {
     }
 }
 
-/// The words for what is wrong with no clause that is added.
-fn words_of(number: u32) -> &'static str {
+/// Which limit of bytes a proof is above.
+fn words_of_length(limits: Limits) -> &'static str {
+    match limits {
+        Limits::Standard => "longer than the limit, 4,294,967,296 bytes; --large has a higher one",
+        Limits::Large => "longer than the limit, 4,611,686,018,427,387,904 bytes",
+    }
+}
+
+/// The words for what is wrong with no clause that is added, within these limits.
+fn words_of(number: u32, limits: Limits) -> &'static str {
     match number {
         29 => "a deletion names a clause that isn't there",
         30 => "no step adds the empty clause; the proof may have been cut off",
         41 => "a word is no number in plain digits, or above its limit",
         42 => "the last line isn't ended; the proof may have been cut off",
         43 => "neither an addition `NUMBER LITERALS 0 HINTS 0` nor a deletion `NUMBER d NUMBERS 0`",
-        45 => "longer than the limit, 4,294,967,296 bytes",
+        45 => words_of_length(limits),
         _ => "refused",
     }
 }
@@ -101,6 +110,7 @@ fn say_refused_at<E: Write>(
     out: &mut E,
     name: Name<'_>,
     refused: Refused,
+    limits: Limits,
     line: u64,
     excerpt: Option<&Excerpt>,
 ) {
@@ -112,19 +122,20 @@ fn say_refused_at<E: Write>(
     let _ = match words_around(refused.number) {
         Some((before, behind)) => writeln!(out, "c {name}: {before}{added}{behind} (line {line})"),
         None => {
-            let words = words_of(refused.number);
+            let words = words_of(refused.number, limits);
             writeln!(out, "c {name}: {words} (line {line})")
         }
     };
 }
 
-/// Says why a proof was refused, with the number of the clause at fault where the text at its line
+/// Says why a proof was refused within these limits, with the number of the clause at fault where the text at its line
 /// is known, and with that of the one that it names wrongly; or what the file is, if it begins as
 /// no text does. `beginning` has its first bytes. A failed write changes nothing.
 pub fn say_proof_refused<E: Write>(
     out: &mut E,
     file: &str,
     refused: Refused,
+    limits: Limits,
     beginning: &[u8],
     excerpt: Option<&Excerpt>,
 ) {
@@ -134,9 +145,9 @@ pub fn say_proof_refused<E: Write>(
     }
     let name = Name::of(file);
     match refused.line {
-        Some(line) => say_refused_at(out, name, refused, line, excerpt),
+        Some(line) => say_refused_at(out, name, refused, limits, line, excerpt),
         None => {
-            let words = words_of(refused.number);
+            let words = words_of(refused.number, limits);
             let _ = writeln!(out, "c {name}: {words}");
         }
     }

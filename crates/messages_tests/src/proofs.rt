@@ -1,6 +1,6 @@
 //! What is said of proofs that are refused.
 
-use cnf::Place;
+use cnf::{Limits, Place};
 use messages::{Excerpt, Refused, say_proof_refused};
 use std::alloc::Global;
 
@@ -111,7 +111,7 @@ static REFUSED: [Row; 17] = [
         45,
         None,
         None,
-        "c p.lrat: longer than the limit, 4,294,967,296 bytes\n",
+        "c p.lrat: longer than the limit, 4,294,967,296 bytes; --large has a higher one\n",
     ),
 ];
 
@@ -124,7 +124,14 @@ fn said(alloc: Global, refused: Refused, beginning: &[u8], is_read_again: bool) 
     });
     excerpt.add(PROOF);
     let again = if is_read_again { Some(&excerpt) } else { None };
-    say_proof_refused(&mut out, "p.lrat", refused, beginning, again);
+    say_proof_refused(
+        &mut out,
+        "p.lrat",
+        refused,
+        Limits::Standard,
+        beginning,
+        again,
+    );
     out
 }
 
@@ -190,4 +197,17 @@ fn files_that_are_no_texts(rt: HostRuntime) {
         let said = said(rt.alloc(), refused, beginning, true);
         assert!(rt; said.as_slice() == wanted.as_bytes(), "{beginning:?}");
     }
+}
+
+#[test]
+fn a_proof_above_the_large_limit(rt: HostRuntime) {
+    let mut out = Vec::new(rt.alloc());
+    let refused = Refused {
+        number: 45,
+        line: None,
+        named: None,
+    };
+    say_proof_refused(&mut out, "p.lrat", refused, Limits::Large, PROOF, None);
+    let wanted = b"c p.lrat: longer than the limit, 4,611,686,018,427,387,904 bytes\n";
+    assert!(rt; out.as_slice() == wanted.as_slice());
 }

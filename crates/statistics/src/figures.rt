@@ -17,16 +17,11 @@ pub struct FormulaSize {
 }
 
 impl FormulaSize {
-    /// It takes time by the clauses.
     pub fn of(formula: &Formula) -> FormulaSize {
-        let mut literals = 0usize;
-        for clause in formula.clauses() {
-            literals = literals.saturating_add(clause.len());
-        }
         FormulaSize {
             vars: formula.vars(),
-            clauses: formula.clauses().len(),
-            literals,
+            clauses: formula.clause_count(),
+            literals: formula.literal_count(),
         }
     }
 }

@@ -3,6 +3,7 @@ pub mod ReadingMachine
 pub mod ReadingRows
 pub mod PrintedTokens
 pub mod ReadingLemmas
+pub mod LimitLemmas
 pub mod NumberTexts
 pub mod TextRows
 pub mod OneReading

@@ -5,7 +5,7 @@ use Rattle.theory.specs.Literals.{Literal, IsVariable}
 use Rattle.theory.specs.Truth.{Formula, IsOver}
 use Rattle.theory.specs.Pure.{pure_literals}
 use Rattle.theory.specs.Steps.{add}
-use Rattle.theory.specs.Reading.{IsWithinLimits}
+use Rattle.theory.specs.Reading.{large, IsWithinLimits}
 use Rattle.theory.specs.ProofReading.{IsLiteral, IsNumber, IsGroup, IsStep, max_literal, max_number}
 use Rattle.theory.specs.Proofs.{unit_steps, prelude}
 use Rattle.theory.proofs.searching.PureVariables.{IsOver-pure_literals, length-pure_literals}
@@ -37,7 +37,7 @@ IsStep-unit_steps V n (l ∷ ls) few one fits over =
     })
     (IsStep-unit_steps V (n + 1) ls few (omega arith) (omega arith) (All-tail (λ k. IsVariable V k.var) l ls over))
 
-pub IsStep-prelude : (F : Formula) → IsWithinLimits F → All IsStep (prelude F)
+pub IsStep-prelude : (F : Formula) → IsWithinLimits large F → All IsStep (prelude F)
 IsStep-prelude F within =
     let vars = within.vars in
     let clauses = within.clauses in

@@ -1,8 +1,8 @@
 -- Worked rows of the reader, computed by the machine.
 use Rattle.std.proofs.Common.{◌≡◌, [], ◌∷◌, refl, codes}
 use Rattle.theory.specs.Literals.{positive, negative}
-use Rattle.theory.specs.Reading.{formula, refusal, no_header, bad_header, second_header, bad_number, variable_out_of_range, too_many_clauses, too_few_clauses, clause_not_ended, over_limit}
-use Rattle.theory.proofs.reading.ReadingMachine.{read}
+use Rattle.theory.specs.Reading.{large, formula, refusal, no_header, bad_header, second_header, bad_number, variable_out_of_range, too_many_clauses, too_few_clauses, clause_not_ended, over_limit}
+use Rattle.theory.proofs.reading.ReadingMachine.{read, read_within}
 
 reading_row1 : read (codes "p cnf 2 1\n1 2 0\n") ≡ formula (record { vars = 2; clauses = (positive 1 ∷ positive 2 ∷ []) ∷ [] })
 reading_row1 = refl
@@ -108,3 +108,20 @@ reading_row34 = refl
 
 reading_row35 : read (codes "p cnf 262143 0\n") ≡ formula (record { vars = 262143; clauses = [] })
 reading_row35 = refl
+
+-- rows of the large limits
+
+large_row1 : read_within large (codes "p cnf 262144 0\n") ≡ formula (record { vars = 262144; clauses = [] })
+large_row1 = refl
+
+large_row2 : read_within large (codes "p cnf 100000000 1000000000\n") ≡ refusal too_few_clauses (record { line = 2; column = 1 })
+large_row2 = refl
+
+large_row3 : read_within large (codes "p cnf 100000001 0\n") ≡ refusal over_limit (record { line = 1; column = 7 })
+large_row3 = refl
+
+large_row4 : read_within large (codes "p cnf 0 1000000001\n") ≡ refusal over_limit (record { line = 1; column = 9 })
+large_row4 = refl
+
+large_row5 : read_within large (codes "p cnf 1 1\n100000001 0\n") ≡ refusal variable_out_of_range (record { line = 2; column = 1 })
+large_row5 = refl

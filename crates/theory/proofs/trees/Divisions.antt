@@ -9,8 +9,8 @@ use Rattle.theory.specs.Search.{Outcome}
 use Rattle.theory.specs.Dividing.{IsDivisible, IsLookedAt}
 use Rattle.theory.specs.Runs.{RunsBy, Runs, by_search, by_look}
 use Rattle.theory.specs.Trees.{Tree, satisfied, refutation, split, IsTree, false_half, true_half, cubes_at, IsFirstLeaf, here, on_left, on_right}
-use Rattle.theory.specs.Reading.{Reads, formula}
-use Rattle.theory.specs.Written.{IsWritten}
+use Rattle.theory.specs.Reading.{Limits, ReadsWithin, formula}
+use Rattle.theory.specs.Written.{IsWrittenWithin}
 
 -- the second plan gives each cube the outcome that the first one does
 abbrev Agree : Formula → Plan → Plan → Type 0
@@ -51,9 +51,9 @@ pub Runs-searched : (F : Formula) (plan : Plan) (Q : List Literal) (o : Outcome)
 Runs-searched F plan Q o = (search-of F plan Q o, Runs-by_search F (undivided plan) Q o refl)
 
 -- so the texts are those of the same plan without a division
-pub IsWritten-undivided : (bytes : List ℕ) (plan : Plan) (proof answer : List ℕ) → ((F : Formula) → Reads bytes (formula F) → ¬ (IsDivisible F plan))
-    → IsWritten bytes plan proof answer → IsWritten bytes (undivided plan) proof answer
-IsWritten-undivided bytes plan proof answer whole w = record {
+pub IsWritten-undivided : (L : Limits) (bytes : List ℕ) (plan : Plan) (proof answer : List ℕ) → ((F : Formula) → ReadsWithin L bytes (formula F) → ¬ (IsDivisible F plan))
+    → IsWrittenWithin L bytes plan proof answer → IsWrittenWithin L bytes (undivided plan) proof answer
+IsWritten-undivided L bytes plan proof answer whole w = record {
   value = w.value;
   reads = w.reads;
   texts = elim w.texts [

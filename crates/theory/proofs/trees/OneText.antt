@@ -4,8 +4,8 @@ use Rattle.theory.specs.Truth.{Formula}
 use Rattle.theory.specs.Plans.{Plan}
 use Rattle.theory.specs.Proofs.{proof}
 use Rattle.theory.specs.Texts.{proof_text, answer_text}
-use Rattle.theory.specs.Reading.{Token, IsReadable, Reads, formula, tokens_in, tokens_of}
-use Rattle.theory.specs.Written.{IsSatisfiableText, IsUnsatisfiableText, IsWritten}
+use Rattle.theory.specs.Reading.{Limits, Token, IsReadable, ReadsWithin, formula, tokens_in, tokens_of}
+use Rattle.theory.specs.Written.{IsSatisfiableText, IsUnsatisfiableText, IsWrittenWithin}
 use Rattle.theory.proofs.reading.ReadingMachine.{ReaderState, at_p, at_body}
 use Rattle.theory.proofs.searching.FoundModels.{IsFound-satisfies}
 use Rattle.theory.proofs.trees.OneResult.{IsFirstLeaf-unique}
@@ -16,12 +16,12 @@ formula_in : Option ReaderState → Formula
 formula_in (Some (at_body V C cs part)) = record { vars = V; clauses = cs }
 formula_in o = record { vars = 0; clauses = [] }
 
-IsReadable-unique : (ts : List Token) (F G : Formula) → IsReadable ts F → IsReadable ts G → F ≡ G
+IsReadable-unique : (L : Limits) (ts : List Token) (F G : Formula) → IsReadable L ts F → IsReadable L ts G → F ≡ G
 unfolding formula_in
-IsReadable-unique ts F G f g = ap formula_in (sym (formula-states F f.within) ∙ ap (states (Some at_p)) (sym f.tokens ∙ g.tokens) ∙ formula-states G g.within)
+IsReadable-unique L ts F G f g = ap formula_in (sym (formula-states L F f.within) ∙ ap (states L (Some at_p)) (sym f.tokens ∙ g.tokens) ∙ formula-states L G g.within)
 
-pub Reads-one_formula : (bytes : List ℕ) (F G : Formula) → Reads bytes (formula F) → Reads bytes (formula G) → F ≡ G
-Reads-one_formula bytes F G f g = IsReadable-unique (tokens_in (tokens_of bytes)) F G f.1 g.1
+pub Reads-one_formula : (L : Limits) (bytes : List ℕ) (F G : Formula) → ReadsWithin L bytes (formula F) → ReadsWithin L bytes (formula G) → F ≡ G
+Reads-one_formula L bytes F G f g = IsReadable-unique L (tokens_in (tokens_of bytes)) F G f.1 g.1
 
 -- two proofs and two answers are the same
 abbrev pub Same : (p a q b : List ℕ) → Type 0
@@ -42,6 +42,6 @@ texts-same F plan p a q b (inl s) (inr t) = absurd (t.unsatisfiable (s.model, Is
 texts-same F plan p a q b (inr s) (inl t) = absurd (s.unsatisfiable (t.model, IsFound-satisfies plan.search F t.model t.found))
 texts-same F plan p a q b (inr s) (inr t) = unsatisfiable-same F plan p a q b s t
 
-pub IsWritten-one : (bytes : List ℕ) (plan : Plan) (p a q b : List ℕ) → IsWritten bytes plan p a → IsWritten bytes plan q b → Same p a q b
-IsWritten-one bytes plan p a q b s t =
-    texts-same t.value plan p a q b (subst (λ F. IsSatisfiableText F plan p a ⊎ IsUnsatisfiableText F plan p a) (Reads-one_formula bytes s.value t.value s.reads t.reads) s.texts) t.texts
+pub IsWritten-one : (L : Limits) (bytes : List ℕ) (plan : Plan) (p a q b : List ℕ) → IsWrittenWithin L bytes plan p a → IsWrittenWithin L bytes plan q b → Same p a q b
+IsWritten-one L bytes plan p a q b s t =
+    texts-same t.value plan p a q b (subst (λ F. IsSatisfiableText F plan p a ⊎ IsUnsatisfiableText F plan p a) (Reads-one_formula L bytes s.value t.value s.reads t.reads) s.texts) t.texts

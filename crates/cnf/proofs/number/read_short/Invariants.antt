@@ -8,7 +8,7 @@ use Rattle.cnf.proofs.number.read_short.Given as goal
 abbrev pub invariant-loop-end : goal.invariant-loop-end
 invariant-loop-end l =
     (l.from ≤ l.end) × (l.end ≤ length l.bytes) × (all_ascii_digits (slice_range l.bytes l.from l.end) ≡ true)
-    × (l.size ≡ digits_value 10 (slice_range l.bytes l.from l.end)) × (l.size < 1000000000)
+    × (l.size ≡ digits_value 10 (slice_range l.bytes l.from l.end)) × (l.size < 100000000000)
 
 abbrev pub decreases-loop-end : goal.decreases-loop-end
 decreases-loop-end l = length l.bytes - l.end

@@ -1,6 +1,7 @@
 use Rattle.std.proofs.Common.{arith, ◌∙◌}
 use Rattle.std.proofs.lemmas.List.{length-take}
 use Rattle.lrat.specs.Running.{stream_of, vars_of}
+use Rattle.cnf.specs.Limits.{limits_of}
 use Rattle.cubesat.proofs.StreamedLemmas.{FeedsOn-more, FeedsOn-seen, FeedsAll-full, FeedsAll-ended}
 use Rattle.cubesat.proofs.proof_input.feed_all.Goals.{else-loop-read-test, then-loop-read-test+in_ok-count+then-count-eq0}
 use Rattle.cubesat.proofs.proof_input.feed_all.Goals as goal
@@ -27,9 +28,9 @@ loop-read-preserved g c =
 
 pub returns : goal.returns
 returns g c = elim c.loop-read-test.branch [
-  | else-loop-read-test w ↦ rw w.stream-is (FeedsAll-full (g.P.Read.remaining c.args.proof.now) (g.P.Read.remaining c.loop-read.proof) (vars_of c.args.stream.now) (stream_of c.args.stream.now) (stream_of c.loop-read.stream) c.loop-read.read
-      c.loop-read.invariant.feeds (let within = c.loop-read.invariant.within in let past = w.loop-read-test.false in omega arith))
+  | else-loop-read-test w ↦ rw w.stream-is (FeedsAll-full (limits_of c.args.limits) (g.P.Read.remaining c.args.proof.now) (g.P.Read.remaining c.loop-read.proof) (vars_of c.args.stream.now) (stream_of c.args.stream.now) (stream_of c.loop-read.stream) c.loop-read.read
+      c.loop-read.invariant.feeds (let within = c.loop-read.invariant.within in let past = w.loop-read-test.false in let is = c.proof_bytes.ensures.is in omega arith))
   | then-loop-read-test+in_ok-count+then-count-eq0 w ↦ rw w.stream-is
-      (FeedsAll-ended (g.P.Read.remaining c.args.proof.now) (g.P.Read.remaining c.loop-read.proof) (g.P.Read.remaining w.feed_chunk.new.proof) (vars_of c.args.stream.now) (vars_of c.loop-read.stream) (stream_of c.args.stream.now)
+      (FeedsAll-ended (limits_of c.args.limits) (g.P.Read.remaining c.args.proof.now) (g.P.Read.remaining c.loop-read.proof) (g.P.Read.remaining w.feed_chunk.new.proof) (vars_of c.args.stream.now) (vars_of c.loop-read.stream) (stream_of c.args.stream.now)
       (stream_of c.loop-read.stream) (stream_of w.feed_chunk.new.stream) c.loop-read.read w.in_ok-count.count _ c.loop-read.invariant.feeds c.loop-read.invariant.vars c.loop-read.invariant.within w.in_ok-count.ensures.fed w.if-count-eq0.true)
 ]

@@ -1,4 +1,6 @@
-use Rattle.std.proofs.Common.{◌≡◌, ◌-◌, ◌≤◌, vec_len}
+use Rattle.std.proofs.Common.{◌≡◌, ◌+◌, ◌-◌, ◌≤◌, vec_len}
+use Rattle.theory.specs.ProofReading.{max_proof_bytes}
+use Rattle.cnf.specs.Limits.{limits_of}
 use Rattle.lrat.specs.Running.{IsRunning, stream_of, vars_of}
 use Rattle.cubesat.specs.Streamed.{FeedsOn}
 use Rattle.cubesat.proofs.proof_input.feed_all.Given as goal
@@ -9,9 +11,9 @@ invariant-loop-read g l = record {
   feeds : FeedsOn (g.P.Read.remaining l.fn.proof) (g.P.Read.remaining l.proof) (vars_of l.fn.stream) (stream_of l.fn.stream) (stream_of l.stream) l.read;
   running : IsRunning l.stream;
   vars : vars_of l.stream ≡ vars_of l.fn.stream;
-  within : l.read ≤ 4294967297;
+  within : l.read ≤ max_proof_bytes (limits_of l.fn.limits) + 1;
   room : vec_len l.chunk ≡ 65536;
 }
 
 abbrev pub decreases-loop-read : goal.decreases-loop-read
-decreases-loop-read g l = 4294967297 - l.read
+decreases-loop-read g l = max_proof_bytes (limits_of l.fn.limits) + 1 - l.read

@@ -7,5 +7,5 @@ use Rattle.lrat_text.proofs.laws.written_is_read.Goals as goal
 pub returns : goal.returns
 returns c = record {
   read = proof_text-ProofReads;
-  only = λ ss r h short e. ProofReads-only (proof_text ss) r (steps ss) e (proof_text-ProofReads ss h short);
+  only = λ L ss r h short e. ProofReads-only L (proof_text ss) r (steps ss) e (proof_text-ProofReads L ss h short);
 }

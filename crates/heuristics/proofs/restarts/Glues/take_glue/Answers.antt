@@ -21,7 +21,7 @@ is_above-restarts-requires-clause-sum c =
     let e = c.push-self-inside.ensures in
     let now : c.push-self-inside.new.recent.items ≡ keep_last c.self.inside.recent.capacity _ = ap (λ b. b.items) e.recent in
     let few = kept-few c.self.inside.recent.capacity c.args.glue c.self.inside.recent.items in
-    let most : sum c.push-self-inside.new.recent.items ≤ 2 ^ 30 = rw now (sum-most _ (omega arith) (kept-most c.self.inside.recent.capacity c.args.glue (2 ^ 20) c.self.inside.recent.items c.requires.glue i.4)) in
+    let most : sum c.push-self-inside.new.recent.items ≤ 2 ^ 37 = rw now (sum-most _ (omega arith) (kept-most c.self.inside.recent.capacity c.args.glue (2 ^ 27) c.self.inside.recent.items c.requires.glue i.4)) in
     let is = e.sum in
     (omega arith, c.requires.conflicts)
 
@@ -29,4 +29,4 @@ pub invariant_of-self-else-restarts : goal.invariant_of-self-else-restarts
 invariant_of-self-else-restarts c =
     let i = c.self.invariant in
     let e = c.push-self-inside.ensures in
-    rw e.recent (rw e.recent at e.sum, i.1, i.2, kept-few c.self.inside.recent.capacity c.args.glue c.self.inside.recent.items, kept-most c.self.inside.recent.capacity c.args.glue (2 ^ 20) c.self.inside.recent.items c.requires.glue i.4)
+    rw e.recent (rw e.recent at e.sum, i.1, i.2, kept-few c.self.inside.recent.capacity c.args.glue c.self.inside.recent.items, kept-most c.self.inside.recent.capacity c.args.glue (2 ^ 27) c.self.inside.recent.items c.requires.glue i.4)

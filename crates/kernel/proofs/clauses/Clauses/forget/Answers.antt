@@ -3,9 +3,9 @@ use Rattle.std.specs.Vec.{with_items}
 use Rattle.std.proofs.lemmas.List.{with_items_is}
 use Rattle.theory.specs.Forgetting.{forget}
 use Rattle.kernel.specs.Forgetting.{names}
-use Rattle.kernel.specs.Pieces.{pieces}
+use Rattle.cnf.specs.Pieces.{pieces}
 use Rattle.kernel.specs.Shown.{shown, emptied}
-use Rattle.kernel.proofs.Pieces.{length-pieces}
+use Rattle.cnf.proofs.Pieces.{length-pieces}
 use Rattle.kernel.proofs.Shown.{length-shown, shown-less, shown-emptied, gone-behind, NoneEmpty}
 use Rattle.kernel.proofs.clauses.Clauses.forget.Goals as goal
 

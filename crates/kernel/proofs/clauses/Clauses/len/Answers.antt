@@ -1,5 +1,5 @@
 use Rattle.std.proofs.Common.{ap, sym, ◌∙◌, length}
-use Rattle.kernel.proofs.Pieces.{length-pieces}
+use Rattle.cnf.proofs.Pieces.{length-pieces}
 use Rattle.kernel.proofs.Shown.{length-shown}
 use Rattle.kernel.proofs.clauses.Clauses.len.Goals as goal
 

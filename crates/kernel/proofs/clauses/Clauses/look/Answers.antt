@@ -6,10 +6,10 @@ use Rattle.theory.specs.Literals.{Literal, Clause}
 use Rattle.theory.specs.Trails.{literals}
 use Rattle.kernel.specs.Watching.{At}
 use Rattle.kernel.specs.Seeing.{CanSee, IsSeen}
-use Rattle.kernel.specs.Pieces.{pieces, AreEnds, start_at}
+use Rattle.cnf.specs.Pieces.{pieces, AreEnds, start_at}
 use Rattle.kernel.specs.Shown.{shown}
 use Rattle.kernel.proofs.Shown.{length-shown, shown-long, shown-set}
-use Rattle.kernel.proofs.Pieces.{length-pieces, part-low, part-high, part-read, part-put, part-length, part-size}
+use Rattle.cnf.proofs.Pieces.{length-pieces, part-low, part-high, part-read, part-put, part-length, part-size}
 use Rattle.kernel.proofs.Places.{At-get}
 use Rattle.kernel.proofs.clauses.Clauses.look.Goals as goal
 

@@ -1,7 +1,7 @@
 use Rattle.std.proofs.Common.{◌≡◌, ap, ◌∙◌, ◌+◌, length, arith, length-append, sym}
-use Rattle.kernel.specs.Pieces.{pieces}
+use Rattle.cnf.specs.Pieces.{pieces}
 use Rattle.kernel.specs.Shown.{shown}
-use Rattle.kernel.proofs.Pieces.{pieces-push, AreEnds-push, length-pieces}
+use Rattle.cnf.proofs.Pieces.{pieces-push, AreEnds-push, length-pieces}
 use Rattle.kernel.proofs.Shown.{shown-more, some-there}
 use Rattle.kernel.proofs.clauses.Clauses.push.Goals.{else-is_empty-via-then-is_empty+else-self-len, else-is_empty-via-else-is_empty}
 use Rattle.kernel.proofs.clauses.Clauses.push.Goals as goal

@@ -4,9 +4,9 @@ use Rattle.std.specs.List.Sorted.{IsPermutation}
 use Rattle.std.proofs.lemmas.List.{with_items_is}
 use Rattle.std.proofs.lemmas.List.Sorted.{length_permutation}
 use Rattle.theory.specs.Literals.{Literal, Clause, has}
-use Rattle.kernel.specs.Pieces.{pieces}
+use Rattle.cnf.specs.Pieces.{pieces}
 use Rattle.kernel.specs.Shown.{shown}
-use Rattle.kernel.proofs.Pieces.{pieces-push, AreEnds-push, tail-written, tail-read}
+use Rattle.cnf.proofs.Pieces.{pieces-push, AreEnds-push, tail-written, tail-read}
 use Rattle.kernel.proofs.Shown.{shown-push}
 use Rattle.kernel.proofs.clauses.Clauses.push_led.Goals as goal
 

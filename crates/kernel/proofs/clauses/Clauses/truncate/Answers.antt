@@ -1,9 +1,9 @@
 use Rattle.std.proofs.Common.{◌≡◌, ℕ, ◌≤◌, ◌∙◌, List, ap, length, take, sym, subst}
 use Rattle.std.proofs.lemmas.List.{length-take-le}
 use Rattle.theory.specs.Literals.{Literal, Clause}
-use Rattle.kernel.specs.Pieces.{pieces, start_at}
+use Rattle.cnf.specs.Pieces.{pieces, start_at}
 use Rattle.kernel.specs.Shown.{shown}
-use Rattle.kernel.proofs.Pieces.{length-pieces, AreEnds-take, start-within, pieces-take}
+use Rattle.cnf.proofs.Pieces.{length-pieces, AreEnds-take, start-within, pieces-take}
 use Rattle.kernel.proofs.Shown.{length-shown, shown-take}
 use Rattle.kernel.proofs.clauses.Clauses.truncate.Goals as goal
 

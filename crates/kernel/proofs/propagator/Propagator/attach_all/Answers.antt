@@ -1,22 +1,29 @@
-use Rattle.std.proofs.Common.{◌≡◌, ◌+◌, ◌∙◌, ◌++◌, ◌∷◌, [], map, take, sym, ap, subst, get_or, List, append_assoc}
-use Rattle.std.proofs.lemmas.List.{map-append, take_more}
+use Rattle.std.proofs.Common.{◌≡◌, ◌≤◌, ◌+◌, ◌∙◌, ◌++◌, ◌∷◌, [], take, length, sym, ap, get_or, List, append_assoc, arith}
+use Rattle.std.proofs.lemmas.List.{take_more}
+use Rattle.std.proofs.lemmas.Option.{get_or_from_slice_get}
 use Rattle.theory.specs.Literals.{Clause}
-use Rattle.theory.specs.Truth.{IsOver}
+use Rattle.cnf.proofs.Pieces.{take-whole}
 use Rattle.kernel.proofs.propagator.Propagator.attach_all.Goals as goal
 
-pub loop-clause-preserved : goal.loop-clause-preserved
-loop-clause-preserved c =
-    let i = c.loop-clause.invariant in
+pub loop-place-preserved : goal.loop-place-preserved
+loop-place-preserved c =
+    let i = c.loop-place.invariant in
     let e = c.in_ok-attach_first.ensures in
-    let xs = c.args.clauses.now in
+    let xs = c.args.formula.now.clauses in
     let K = c.args.self.now.clauses.given in
-    let at = c.loop-clause.clause-index in
-    let x = c.clause-item.result in
-    let read : c.deref.result.now ≡ (get_or xs at x).items = c.deref.ensures.value ∙ ap (λ v. v.items) c.clause-item.is in
-    let one : map (λ v. v.items) (take at xs) ++ c.deref.result.now ∷ [] ≡ map (λ v. v.items) (take (at + 1) xs) = ap (λ (d : Clause). map (λ v. v.items) (take at xs) ++ d ∷ []) read
-    ∙ sym (ap (map (λ v. v.items)) (take_more xs at x c.loop-clause-test.true) ∙ map-append (λ v. v.items) (take at xs) (get_or xs at x ∷ [])) in
+    let at = c.loop-place.place in
+    let x = c.clause.result.now in
+    let inside : at + 1 ≤ length xs = omega (arith, c.loop-place-test.true, c.clause_count-place-end.ensures.count) in
+    let read : get_or xs at x ≡ x = get_or_from_slice_get xs at x x c.clause.ensures.clause in
+    let one : take at xs ++ x ∷ [] ≡ take (at + 1) xs = sym (take_more xs at x (omega arith) ∙ ap (λ (d : Clause). take at xs ++ d ∷ []) read) in
     record {
-      clauses = e.clauses ∙ (ap (λ (ks : List Clause). ks ++ c.deref.result.now ∷ []) i.clauses ∙ (append_assoc K (map (λ v. v.items) (take at xs)) (c.deref.result.now ∷ []) ∙ ap (λ (ks : List Clause). K ++ ks) one));
+      clauses = e.clauses ∙ (ap (λ (ks : List Clause). ks ++ x ∷ []) i.clauses ∙ (append_assoc K (take at xs) (x ∷ []) ∙ ap (λ (ks : List Clause). K ++ ks) one));
+      watching = λ s. e.watching c.args.formula.now.vars c.clause.ensures.over (i.watching s);
       lists = e.lists ∙ i.lists;
-      watching = λ V over s. e.watching V (subst (λ (d : Clause). IsOver V d) (sym read) (over at x c.loop-clause-test.true)) (i.watching V over s);
     }
+
+pub returns-clause-clauses : goal.returns-clause-clauses
+returns-clause-clauses c =
+    let xs = c.args.formula.now.clauses in
+    c.loop-place.invariant.clauses
+    ∙ ap (λ (ks : List Clause). c.args.self.now.clauses.given ++ ks) (take-whole c.loop-place.place xs (omega (arith, c.loop-place-test.false, c.loop-place.auto.place-end, c.clause_count-place-end.ensures.count)))

@@ -1,16 +1,12 @@
-use Rattle.std.proofs.Common.{rules, ◌≡◌, ◌∙◌, length, ap, sym, arith}
-use Rattle.std.proofs.lemmas.List.{length-map}
+use Rattle.std.proofs.Common.{rules, arith}
 use Rattle.lrat.proofs.OccurrenceLemmas.{IsIndexed-stay, StayThere-none}
 use Rattle.lrat.proofs.checker.Checker.new.Goals as goal
 
 pub returns-clause-ready : goal.returns-clause-ready
-returns-clause-ready c =
-    let texts = c.clauses.result.now in
-    let count : length c.args.formula.now.clauses ≡ length texts = ap length (sym c.clauses.ensures.clauses) ∙ length-map texts (λ v. v.items) in
-    record {
-      clauses_vars = search rules;
-      held_vars = search rules;
-      none_held = search rules;
-      indexed = IsIndexed-stay _ _ c.new-2.result (StayThere-none _) c.new-2.ensures;
-      up_to = λ i s g. let most = c.in_ok-new.ensures.up_to i s g in omega arith;
-    }
+returns-clause-ready c = record {
+  clauses_vars = search rules;
+  held_vars = search rules;
+  none_held = search rules;
+  indexed = IsIndexed-stay _ _ c.new-2.result (StayThere-none _) c.new-2.ensures;
+  up_to = λ i s g. let most = c.in_ok-new.ensures.up_to i s g in omega (arith, c.clause_count.ensures.count);
+}

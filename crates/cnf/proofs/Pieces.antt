@@ -1,11 +1,12 @@
 -- Lists that lie one behind the other: one more at the end, the one at a place, and others behind
 -- the first ones.
-use Rattle.std.proofs.Common.{◌≡◌, ℕ, zero, suc, ◌+◌, ◌-◌, ◌<◌, ◌≤◌, List, [], ◌∷◌, ◌++◌, length, take, drop, get_or, Some, slice_get, refl, ap, sym, subst, ◌∙◌, arith, length-append, append_assoc, set}
+use Rattle.std.proofs.Common.{◌≡◌, ℕ, zero, suc, ◌+◌, ◌-◌, ◌<◌, ◌≤◌, List, [], ◌∷◌, ◌++◌, length, take, drop, get_or, Some, slice_get, refl, ap, sym, subst, ◌∙◌, arith, length-append, append_assoc, set, sum_by, zero-add}
+use Rattle.std.proofs.lemmas.List.Sums.{sum_by-append}
 use Rattle.std.specs.List.{slice_range}
 use Rattle.std.proofs.lemmas.List.{append-nil, take-append-le, take-append-drop, drop-append-le, length-drop, length-take-le, get_or_default, drop-drop}
 use Rattle.std.proofs.Math.Seq.{drop-append_seam}
 use Rattle.std.proofs.lemmas.Option.{get_or_from_slice_get}
-use Rattle.kernel.specs.Pieces.{pieces, AreEnds, start_at}
+use Rattle.cnf.specs.Pieces.{pieces, AreEnds, start_at}
 
 pub start_at-behind : (from : ℕ) (ends : List ℕ) (i : ℕ) → 0 < i → start_at from ends i ≡ get_or ends (i - 1) 0
 start_at-behind from ends zero some = absurd (omega arith)
@@ -63,6 +64,24 @@ pub end-le : (from : ℕ) (ends : List ℕ) (n i : ℕ) → AreEnds from ends n 
 end-le from [] n i h less = absurd (omega arith)
 end-le from (end ∷ ends) n zero h less = ends-last end ends n h.1
 end-le from (end ∷ ends) n (suc i) h less = end-le end ends n i h.1 (omega arith)
+
+sum_by-cons : {X : Type 0} (f : X → ℕ) (x : X) (xs : List X) → sum_by f (x ∷ xs) ≡ f x + sum_by f xs
+sum_by-cons f x xs = sum_by-append f (x ∷ []) xs ∙ ap (λ n. n + sum_by f xs) (zero-add (f x))
+
+-- all lists together are as long as what they lie in
+pieces-long : {X : Type 0} (from : ℕ) (xs : List X) (ends : List ℕ) (n : ℕ) → AreEnds from ends n → n ≤ length xs → from + sum_by length (pieces from xs ends) ≡ n
+pieces-long from xs [] n h within = omega (arith, h)
+pieces-long from xs (end ∷ ends) n h within =
+    let low = h.0 in
+    let last = ends-last end ends n h.1 in
+    let rest = pieces-long end xs ends n h.1 within in
+    let cut : length (drop from xs) ≡ length xs - from = length-drop from xs in
+    let long : length (slice_range xs from end) ≡ end - from = length-take-le (end - from) (drop from xs) (omega arith) in
+    let sum = sum_by-cons length (slice_range xs from end) (pieces end xs ends) in
+    omega arith
+
+pub sum-pieces : {X : Type 0} (xs : List X) (ends : List ℕ) → AreEnds 0 ends (length xs) → sum_by length (pieces 0 xs ends) ≡ length xs
+sum-pieces xs ends h = let all = pieces-long 0 xs ends (length xs) h (omega arith) in omega arith
 
 pub AreEnds-take : (from : ℕ) (ends : List ℕ) (n i : ℕ) → AreEnds from ends n → i ≤ length ends → AreEnds from (take i ends) (start_at from ends i)
 AreEnds-take from ends n zero h less = refl

@@ -1,8 +1,0 @@
-use Rattle.std.proofs.lemmas.Result.{err_from_is_err_and}
-use Rattle.cnf.proofs.ReadLemmas.{refusal-Reads}
-use Rattle.cnf.proofs.read.read_formula.Goals as goal
-
-pub returns-in_err-header : goal.returns-in_err-header
-returns-in_err-header c =
-    let p = err_from_is_err_and c.from_residual.result c.from_residual.ensures.1 in
-    rw (p.1, p.2) (refusal-Reads c.args.bytes.now _ c.if-bytes-gt-MAX_BYTES.false c.in_err-header.ensures)
