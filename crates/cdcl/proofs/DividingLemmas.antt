@@ -1,18 +1,30 @@
 -- A look at a cube, and what the first search says of a formula's division.
-use Rattle.std.proofs.Common.{◌≡◌, ℕ, ◌*◌, ◌/◌, ◌^◌, ◌≤◌, false, nat_lt, le-ltb, List, [], ◌∷◌, Option, Some, refl, ap, ap₂, sym, subst, ◌∙◌, arith}
+use Rattle.std.proofs.Common.{◌≡◌, ◌≢◌, min, take, ℕ, ◌*◌, ◌/◌, ◌^◌, ◌≤◌, false, nat_lt, le-ltb, List, [], ◌∷◌, Option, Some, refl, ap, ap₂, sym, subst, ◌∙◌, arith}
 use Rattle.std.proofs.Math.Pow.{pow_mono}
 use Rattle.theory.specs.Literals.{Literal, Clause}
 use Rattle.theory.specs.Truth.{Formula}
-use Rattle.theory.specs.Plans.{Constants}
+use Rattle.theory.specs.Plans.{Constants, focused, Plan}
 use Rattle.theory.specs.Trails.{Trail, literals, cube_trail, least_free}
 use Rattle.theory.specs.Propagation.{Closed, quiet, conflict, by_place, Propagates}
 use Rattle.theory.specs.Learning.{learn}
 use Rattle.theory.specs.Search.{Outcome, refuted, exhausted, Next, ends, goes_on, first_clauses}
-use Rattle.theory.specs.Focused.{FocusedState, begin, after, IsFocusedStep}
+use Rattle.theory.specs.Focused.{FocusedState, begin, after, splits_on, IsFocusedStep}
 use Rattle.theory.specs.Looking.{Chooses, no_choice, best_ones, max_candidates, ranks, SplitsInto, Looks}
-use Rattle.theory.specs.Dividing.{LeadsTo, stays, moves, HasFewDecisions}
+use Rattle.theory.specs.Dividing.{LeadsTo, stays, moves, HasFewDecisions, first_conflicts, IsDivisible}
 use Rattle.theory.proofs.searching.PropagationLemmas.{Propagates-unique}
-use Rattle.cdcl.specs.Focusing.{RunsTo}
+use Rattle.kernel.specs.declared.order.Order.TheVariants.{ByPlace}
+use Rattle.lookahead.specs.declared.ranking.Ranked.{Ranked}
+use Rattle.lookahead.specs.Rankings.{IsRanking}
+use Rattle.cdcl.specs.declared.dividing.Division.{Division}
+use Rattle.cdcl.specs.declared.dividing.Division.TheVariants.{Unasked, Whole, Divided}
+use Rattle.cdcl.specs.declared.dividing.First.{First}
+use Rattle.cdcl.specs.declared.dividing.First.TheVariants.{Ended, FewDecisions, ManyDecisions}
+use Rattle.cdcl.specs.declared.focused.FocusedSearch.{FocusedSearch}
+use Rattle.cdcl.specs.Outcome.{outcome_of}
+use Rattle.cdcl.specs.Searching.{IsReady}
+use Rattle.cdcl.specs.Focusing.{state_of, RunsTo, Reaches, IsKept}
+use Rattle.cdcl.specs.declared.dividing.DividingSearch.{DividingSearch}
+use Rattle.cdcl.specs.Solving.{IsKnown, IsDivisionOf, FirstSays, IsDividing}
 
 -- by more literals than the number wanted needs, no cube is looked at
 pub never-upper : (d divide : ℕ) → divide ≤ 65536 → 17 ≤ d → false ≡ nat_lt (2 ^ d) divide
@@ -49,19 +61,72 @@ step-unique c V budget s m n h k =
     sym h.follows ∙ ap₂ (λ (T : Trail) (a : Closed). after c V budget (record s { trail = T }) a) one.0 one.1 ∙ k.follows
 
 -- the first search says whether there are few decisions
-pub few-decisions : (c : Constants) (F : Formula) (t count x : ℕ) (o : Outcome) → RunsTo c F.vars t (begin c F []) o count → o ≡ exhausted x → count ≤ 3 * t / 2 → HasFewDecisions c F t
-few-decisions c F t count x o r is few = record {
+pub few-decisions : (c : Constants) (F : Formula) (t : ℕ) (s : FocusedSearch) → Reaches c F.vars t (begin c F []) s → s.decided ≤ 3 * t / 2 → HasFewDecisions c F t
+few-decisions c F t s r few = record {
   state = r.final;
-  var = x;
+  var = splits_on F.vars (state_of s r.values);
   leads = r.leads;
-  last = subst (λ p. IsFocusedStep c F.vars t r.final (ends p)) is r.last;
+  last = r.ends_there;
   few = let same = r.decided in omega (arith, same, few);
 }
 
-pub many-decisions : (c : Constants) (F : Formula) (t count : ℕ) (o : Outcome) → RunsTo c F.vars t (begin c F []) o count → HasFewDecisions c F t → (x : ℕ) × (o ≡ exhausted x) × (count ≤ 3 * t / 2)
-many-decisions c F t count o r h =
-    let one = ends-unique (IsFocusedStep c F.vars t) (step-unique c F.vars t) (begin c F []) r.final h.state o (exhausted h.var) r.leads r.last h.leads h.last in
-    let same = ap (λ (s : FocusedState). s.decisions) one.0 in
+many-decisions : (c : Constants) (F : Formula) (t : ℕ) (s : FocusedSearch) → Reaches c F.vars t (begin c F []) s → HasFewDecisions c F t → s.decided ≤ 3 * t / 2
+many-decisions c F t s r h =
+    let x = splits_on F.vars (state_of s r.values) in
+    let one = ends-unique (IsFocusedStep c F.vars t) (step-unique c F.vars t) (begin c F []) r.final h.state (exhausted x) (exhausted h.var) r.leads r.ends_there h.leads h.last in
+    let same = ap (λ (u : FocusedState). u.decisions) one.0 in
     let counted = r.decided in
     let few = h.few in
-    (h.var, one.1, omega (arith, same, counted, few))
+    omega (arith, same, counted, few)
+
+own-outcome : (c : Constants) (F : Formula) (t count : ℕ) (o : Outcome) → RunsTo c F.vars t (begin c F []) o count → HasFewDecisions c F t → (x : ℕ) × (o ≡ exhausted x)
+own-outcome c F t count o r h = (h.var, (ends-unique (IsFocusedStep c F.vars t) (step-unique c F.vars t) (begin c F []) r.final h.state o (exhausted h.var) r.leads r.last h.leads h.last).1)
+
+-- so it says whether the formula is divided
+first-divides : (c : Constants) (F : Formula) (t : ℕ) (first : First) (s : FocusedSearch) → FirstSays c F t first s → first ≢ FewDecisions → ¬ (HasFewDecisions c F t)
+first-divides c F t (Ended o) s says other h = let own = own-outcome c F t s.decided (outcome_of o) says.0 h in says.1 own.0 own.1
+first-divides c F t FewDecisions s says other h = other refl
+first-divides c F t ManyDecisions s says other h = says.1 (many-decisions c F t s says.0 h)
+
+pub first-whole : (c : Constants) (F : Formula) (plan : Plan) (t : ℕ) (first : First) (s : FocusedSearch) → plan.search ≡ focused c → min first_conflicts plan.budget ≡ t → FirstSays c F t first s → first ≢ FewDecisions
+    → ¬ (IsDivisible F plan)
+first-whole c F plan t first s search asked says other h = first-divides c F t first s says other (rw (search, asked) at h.by)
+
+-- what is known once it was asked
+pub first-known : (c : Constants) (F : Formula) (plan : Plan) (t : ℕ) (first : First) (s : FocusedSearch) (d : Division) → plan.search ≡ focused c → min first_conflicts plan.budget ≡ t → 2 ≤ plan.divide
+    → FirstSays c F t first s → IsReady ByPlace F s.kernel
+    → (first ≡ FewDecisions → (ranking : List Ranked) × (d ≡ Divided ranking) × IsRanking s.kernel.vars (take s.kernel.first s.kernel.clauses) ranking)
+    → (first ≢ FewDecisions → d ≡ Whole) → IsKnown F plan d
+first-known c F plan t first s d search asked wanted says ready divided whole = go first says divided whole
+  where
+    known_whole : (f : First) → FirstSays c F t f s → f ≢ FewDecisions → d ≡ Whole → IsKnown F plan d
+    known_whole f says other is = subst (IsKnown F plan) (sym is) (first-whole c F plan t f s search asked says other)
+
+    go : (f : First) → FirstSays c F t f s → (f ≡ FewDecisions → (ranking : List Ranked) × (d ≡ Divided ranking) × IsRanking s.kernel.vars (take s.kernel.first s.kernel.clauses) ranking)
+        → (f ≢ FewDecisions → d ≡ Whole) → IsKnown F plan d
+    go (Ended o) says divided whole = let other : Ended o ≢ FewDecisions = λ e. cc in known_whole (Ended o) says other (whole other)
+    go FewDecisions says divided whole =
+        let ranked = divided refl in
+        let few : IsDivisible F plan = record { wanted = wanted; by = rw (search, asked) (few-decisions c F t s says.0 says.1) } in
+        subst (IsKnown F plan) (sym ranked.1) (few, rw (ready.vars, ready.clauses) at ranked.2)
+    go ManyDecisions says divided whole = let other : ManyDecisions ≢ FewDecisions = λ e. cc in known_whole ManyDecisions says other (whole other)
+
+-- and what is known then
+IsKnown-division : (F : Formula) (plan : Plan) (d : Division) → IsKnown F plan d → IsDivisionOf F plan d
+IsKnown-division F plan Unasked h = absurd h
+IsKnown-division F plan Whole h = h
+IsKnown-division F plan (Divided ranking) h = h
+
+pub IsDividing-asked : (F : Formula) (plan : Plan) (s : DividingSearch) (t : FocusedSearch) (d : Division) → IsDividing plan F s → IsKept s.search t → IsKnown F plan d
+    → IsDividing plan F (record s { search = t; division = d })
+IsDividing-asked F plan s t d h kept known = record {
+  ready = kept.0 F h.ready;
+  equipped = kept.1;
+  search = h.search ∙ ap focused (sym kept.2);
+  divide = h.divide;
+  few = h.few;
+  asked = h.asked;
+  within = h.within;
+  division = IsKnown-division F plan d known;
+  root = h.root;
+}

@@ -1,5 +1,5 @@
 -- The steps of the focused search, as the definition has them.
-use Rattle.std.proofs.Common.{◌≡◌, ℕ, ◌+◌, ◌-◌, ◌*◌, ◌^◌, ◌<◌, ◌≤◌, false, List, [], ◌∷◌, ◌++◌, length, length-append, refl, ap, sym, subst, ◌∙◌, nat_eq, eq-eqb, ◌⊎◌, inl, inr, Option, Some, None, Result, Ok, Err, IfOk, All, arith}
+use Rattle.std.proofs.Common.{◌≡◌, ℕ, zero, suc, ◌+◌, ◌-◌, ◌*◌, ◌^◌, ◌<◌, ◌≤◌, false, List, [], ◌∷◌, ◌++◌, length, length-append, refl, ap, sym, subst, ◌∙◌, nat_eq, eq-eqb, ◌⊎◌, inl, inr, Option, Some, None, Result, Ok, Err, IfOk, All, arith}
 use Rattle.theory.specs.Literals.{Clause, IsVariable, has_var}
 use Rattle.theory.specs.Truth.{Assignment, IsOver, value}
 use Rattle.theory.specs.Trails.{Trail, Entry, literals, current_level}
@@ -23,9 +23,11 @@ use Rattle.kernel.specs.declared.order.Order.TheVariants.{ByPlace}
 use Rattle.cdcl.specs.Outcome.{outcome_of}
 use Rattle.cdcl.specs.Outcome.{LinesOutcome}
 use Rattle.cdcl.specs.declared.focused.FocusedSearch.{FocusedSearch}
+use Rattle.cdcl.specs.declared.focused.Stop.{Stop}
+use Rattle.cdcl.specs.declared.focused.Stop.TheVariants.{Ended, Spent}
 use Rattle.cdcl.specs.declared.decisions.Decisions.{Decisions}
 use Rattle.cdcl.specs.Saving.{AreWaiting}
-use Rattle.cdcl.specs.Focusing.{state_of, RunsTo, HasSaved, IsEquipped, IsFocusing, Follows, GoesOnward, Onward, IsFocusedSearchStep}
+use Rattle.cdcl.specs.Focusing.{state_of, RunsTo, HasSaved, IsEquipped, IsFocusing, IsOwn, StepsAs, IsSpent, Follows, GoesOnward, Onward, IsFocusedSearchStep, Reaches, Stops}
 use Rattle.cdcl.proofs.SearchingLemmas.{IsSearching-Propagates}
 use Rattle.lookahead.proofs.TrailLengths.{length-lawful, length-Propagates}
 use Rattle.cdcl.proofs.Progress.{remaining}
@@ -66,26 +68,42 @@ HasSaved-Propagates s k a saved vars closes h v variable free =
     h v (rw vars at variable) (free-before s.kernel.trail more.0 v (subst (λ (U : Trail). has_var (literals U) v ≡ false) more.1 free))
 
 -- a step from what propagation left
-pub step-from : {E : Type 0} (budget : ℕ) (s t : FocusedSearch) (k : State) (a : Closed) (r : Result (Option LinesOutcome) E) → k.vars ≡ s.kernel.vars → k.clauses ≡ s.kernel.clauses
+pub step-from : {E : Type 0} (last : ℕ) (s t : FocusedSearch) (k : State) (a : Closed) (r : Result (Option Stop) E) → k.vars ≡ s.kernel.vars → k.clauses ≡ s.kernel.clauses
     → Propagates by_place s.kernel.clauses s.kernel.trail a k.trail
-    → IfOk r (λ o. (saved : Assignment) → HasSaved (record s { kernel = k }) saved → Follows budget a (record s { kernel = k }) saved o t)
-    → IfOk r (λ o. (saved : Assignment) → HasSaved s saved → IsFocusedSearchStep budget s saved o t)
-step-from budget s t k a (Err e) vars clauses closes h = tt
-step-from budget s t k a (Ok o) vars clauses closes h = λ saved has.
+    → ((b : Closed) (U : Trail) → Propagates by_place s.kernel.clauses k.trail b U → Propagates by_place s.kernel.clauses s.kernel.trail b U)
+    → IfOk r (λ o. (saved : Assignment) → HasSaved (record s { kernel = k }) saved → Follows last a (record s { kernel = k }) saved o t)
+    → IfOk r (λ o. (saved : Assignment) → HasSaved s saved → IsFocusedSearchStep last s saved o t)
+step-from last s t k a (Err e) vars clauses closes more h = tt
+step-from last s t k a (Ok o) vars clauses closes more h = λ saved has.
     let f = h saved (HasSaved-Propagates s k a saved vars closes has) in record {
       values = f.values;
       step = record { answer = a; trail = k.trail; propagates = closes; follows = same saved ∙ f.next };
-      onward = onward o f.values f.onward;
+      onward = onward saved o f.values f.onward;
     }
   where
-    same : (saved : Assignment) → definition.after s.constants s.kernel.vars budget (record (state_of s saved) { trail = k.trail }) a ≡ definition.after s.constants k.vars budget (state_of (record s { kernel = k }) saved) a
+    same : (saved : Assignment) → definition.after s.constants s.kernel.vars last (record (state_of s saved) { trail = k.trail }) a ≡ definition.after s.constants k.vars last (state_of (record s { kernel = k }) saved) a
     same saved =
-        ap (λ (K : List Clause). definition.after s.constants s.kernel.vars budget (record (state_of (record s { kernel = k }) saved) { clauses = K }) a) (sym clauses)
-        ∙ ap (λ V. definition.after s.constants V budget (state_of (record s { kernel = k }) saved) a) (sym vars)
+        ap (λ (K : List Clause). definition.after s.constants s.kernel.vars last (record (state_of (record s { kernel = k }) saved) { clauses = K }) a) (sym clauses)
+        ∙ ap (λ V. definition.after s.constants V last (state_of (record s { kernel = k }) saved) a) (sym vars)
 
-    onward : (o : Option LinesOutcome) (values : Assignment) → Onward budget (record s { kernel = k }) o t values → Onward budget s o t values
-    onward (Some o) values i = i
-    onward None values i = record { saves = i.saves; focusing = i.focusing; counted = i.counted; moves = moves i.moves }
+    -- from the trail that propagation left it steps as from the one before
+    as_before : (saved : Assignment) → StepsAs s.constants s.kernel.vars (state_of s saved) (state_of (record s { kernel = k }) saved)
+    as_before saved last next w = record {
+      answer = w.answer;
+      trail = w.trail;
+      propagates = more w.answer w.trail (subst (λ (K : List Clause). Propagates by_place K k.trail w.answer w.trail) clauses w.propagates);
+      follows = ap (λ (K : List Clause). definition.after s.constants s.kernel.vars last (record (state_of s saved) { clauses = K; trail = w.trail }) w.answer) (sym clauses) ∙ w.follows;
+    }
+
+    onward : (saved : Assignment) (o : Option Stop) (values : Assignment) → Onward last (record s { kernel = k }) saved o t values → Onward last s saved o t values
+    onward saved (Some (Ended o)) values i = i
+    onward saved (Some Spent) values i = record {
+      spent = i.spent;
+      saves = i.saves;
+      decided = i.decided;
+      resumes = λ later next w. as_before saved later next (subst (λ V. IsFocusedStep s.constants V later (state_of (record s { kernel = k }) saved) next) vars (i.resumes later next (subst (λ V. IsFocusedStep s.constants V later (state_of t values) next) (sym vars) w)));
+    }
+    onward saved None values i = record { saves = i.saves; focusing = i.focusing; counted = i.counted; moves = moves i.moves }
       where
         longer : length s.kernel.trail ≤ length k.trail
         longer = length-Propagates by_place s.kernel.clauses s.kernel.trail k.trail a closes
@@ -176,13 +194,28 @@ Follows-decided budget s t saved x f counted calm best has went lawful over clau
           averaged = subst (λ (u : FocusedSearch). u.averages.constants ≡ u.constants) (sym is) f.equipped.averaged;
         }
 
-pub Follows-exhausted : (budget n : ℕ) (s t : FocusedSearch) (saved : Assignment) (x : ℕ) (o : LinesOutcome) → nat_eq (current_level s.kernel.trail) 0 ≡ false → s.conflicts + 1 ≡ budget
-    → x ≡ splits_on s.kernel.vars (state_of s saved) → outcome_of o ≡ exhausted x → t.decided ≡ s.decided → Follows budget (conflict n) s saved (Some o) t
-Follows-exhausted budget n s t saved x o above last splits is same = record {
+-- an end by itself
+pub Follows-ends : (last : ℕ) (a : Closed) (s t : FocusedSearch) (saved : Assignment) (o : LinesOutcome) → definition.after s.constants s.kernel.vars last (state_of s saved) a ≡ ends (outcome_of o)
+    → t.decided ≡ s.decided → IsOwn o → Follows last a s saved (Some (Ended o)) t
+Follows-ends last a s t saved o is same own = record { values = saved; next = is; onward = (same, own) }
+
+-- the last conflict
+pub Follows-spent : (last n : ℕ) (s : FocusedSearch) (saved : Assignment) → IsFocusing s → nat_eq (current_level s.kernel.trail) 0 ≡ false → s.conflicts + 1 ≡ last
+    → HasSaved s saved → Follows last (conflict n) s saved (Some Spent) s
+Follows-spent last n s saved f above counted has = record {
   values = saved;
-  next = rw (above, eq-eqb (s.conflicts + 1) budget last) (ap ends (sym (is ∙ ap exhausted splits)));
-  onward = same;
+  next = rw (above, eq-eqb (s.conflicts + 1) last counted) refl;
+  onward = record {
+    spent = record { focusing = f; above = positive (current_level s.kernel.trail) above; counted = counted };
+    saves = has;
+    decided = refl;
+    resumes = λ later next w. w;
+  };
 }
+  where
+    positive : (n : ℕ) → nat_eq n 0 ≡ false → 1 ≤ n
+    positive zero e = absurd (cc)
+    positive (suc n) e = omega arith
 
 pub Follows-learns : (budget n : ℕ) (s t : FocusedSearch) (saved values : Assignment) → nat_eq (current_level s.kernel.trail) 0 ≡ false → nat_eq (s.conflicts + 1) budget ≡ false → s.conflicts + 1 < budget
     → state_of t values ≡ learnt_next s.constants s.kernel.vars (state_of s saved) (learn s.kernel.clauses s.kernel.trail n) → HasSaved t values → IsFocusing t
@@ -224,7 +257,7 @@ leads-step IsStep s t u stays step = moves step stays
 leads-step IsStep s t u (moves {t = m} first more) step = moves first (leads-step IsStep m t u more step)
 
 -- a run is that of its last step
-leads-runs : {State : Type 0} (IsStep : State → Next State → Type 0) (s t : State) (o : search.Outcome) → LeadsTo IsStep s t → IsStep t (ends o) → RunsFrom IsStep s o
+pub leads-runs : {State : Type 0} (IsStep : State → Next State → Type 0) (s t : State) (o : search.Outcome) → LeadsTo IsStep s t → IsStep t (ends o) → RunsFrom IsStep s o
 leads-runs IsStep s t o stays last = stops last
 leads-runs IsStep s t o (moves {t = m} first more) last = steps first (leads-runs IsStep m t o more last)
 
@@ -241,17 +274,39 @@ GoesTo-step budget s t u constants vars leads step saved h =
     let w = step l.0 l.1 in
     (w.values, w.onward.saves, leads-step (IsFocusedStep s.constants s.kernel.vars budget) (state_of s saved) (state_of t l.0) (state_of u w.values) l.2 (rw (constants, vars) at w.step))
 
-pub GoesTo-ends : (budget : ℕ) (s t u : FocusedSearch) (o : LinesOutcome) → t.constants ≡ s.constants → t.kernel.vars ≡ s.kernel.vars → GoesTo budget s t
-    → ((saved : Assignment) → HasSaved t saved → IsFocusedSearchStep budget t saved (Some o) u)
-    → (saved : Assignment) → HasSaved s saved → RunsTo s.constants s.kernel.vars budget (state_of s saved) (outcome_of o) u.decided
-GoesTo-ends budget s t u o constants vars leads step saved h =
+-- where it stops
+pub GoesTo-stops : (last : ℕ) (s t u : FocusedSearch) (stop : Stop) → t.constants ≡ s.constants → t.kernel.vars ≡ s.kernel.vars → u.kernel.vars ≡ t.kernel.vars → GoesTo last s t
+    → ((saved : Assignment) → HasSaved t saved → IsFocusedSearchStep last t saved (Some stop) u)
+    → (saved : Assignment) → HasSaved s saved → Stops s.constants s.kernel.vars last (state_of s saved) stop u
+GoesTo-stops last s t u (Ended o) constants vars same leads step saved h =
+    let l = leads saved h in
+    let w = step l.0 l.1 in
+    (record { final = state_of t l.0; leads = l.2; last = rw (constants, vars) at w.step; decided = sym w.onward.0 }, w.onward.1)
+GoesTo-stops last s t u Spent constants vars same leads step saved h =
     let l = leads saved h in
     let w = step l.0 l.1 in record {
       final = state_of t l.0;
+      values = w.values;
       leads = l.2;
-      last = rw (constants, vars) at w.step;
-      decided = sym w.onward;
+      ends_there = rw (same, constants, vars) at w.step;
+      saves = w.onward.saves;
+      decided = sym w.onward.decided;
+      resumes = rw (constants, vars) at w.onward.resumes;
     }
+
+pub stops-spent : (last : ℕ) (s t : FocusedSearch) (saved : Assignment) (stop : Stop) → IsFocusedSearchStep last s saved (Some stop) t → stop ≡ Spent → IsSpent last t
+stops-spent last s t saved (Ended o) w e = absurd (cc)
+stops-spent last s t saved Spent w e = w.onward.spent
+
+-- at its last conflict it is exhausted, if that is the last of its budget
+pub Reaches-exhausted : (c : Constants) (V last x count : ℕ) (s : FocusedState) (t : FocusedSearch) → Reaches c V last s t → t.kernel.vars ≡ V
+    → ((saved : Assignment) → x ≡ splits_on t.kernel.vars (state_of t saved)) → count ≡ t.decided → RunsTo c V last s (exhausted x) count
+Reaches-exhausted c V last x count s t r vars splits same = record {
+  final = r.final;
+  leads = r.leads;
+  last = subst (λ y. IsFocusedStep c V last r.final (ends (exhausted y))) (ap (λ W. splits_on W (state_of t r.values)) (sym vars) ∙ sym (splits r.values)) r.ends_there;
+  decided = r.decided ∙ sym same;
+}
 
 pub if_ok-map : {X E : Type 0} (r : Result X E) (P Q : X → Type 0) → ((x : X) → P x → Q x) → IfOk r P → IfOk r Q
 if_ok-map (Ok x) P Q f h = f x h

@@ -22,6 +22,7 @@ pub mod ForgettingLemmas
 pub mod FocusedLemmas
 pub mod LearntStates
 pub mod FocusedSteps
+pub mod LongerSearches
 pub mod FocusedBeginnings
 pub mod DividingLemmas
 pub mod SearcherLemmas

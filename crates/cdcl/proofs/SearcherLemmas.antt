@@ -1,11 +1,12 @@
 -- What the outcome of a cube is and says, by either search.
-use Rattle.std.proofs.Common.{◌≡◌, ℕ, List, [], map, false, take, All, Result, Ok, Err, IfOk, OnOk, ap, sym, subst, ◌∙◌}
+use Rattle.std.proofs.Common.{◌≡◌, ◌≢◌, ℕ, ◌≤◌, min, List, [], map, false, take, All, Result, Ok, Err, IfOk, OnOk, ap, sym, subst, ◌∙◌, arith}
 use Rattle.std.proofs.lemmas.List.Elements.{All-take}
 use Rattle.theory.specs.Literals.{Literal, IsCube}
 use Rattle.theory.specs.Truth.{Formula, Assignment, IsOver}
 use Rattle.theory.specs.Plans.{Constants, ordered, focused, Plan}
 use Rattle.theory.specs.Trails.{variables}
-use Rattle.theory.specs.Search.{Outcome, RunsFrom, budget_of, first_clauses}
+use Rattle.theory.specs.Search.{Outcome, exhausted, RunsFrom, budget_of, first_clauses}
+use Rattle.theory.specs.Dividing.{first_conflicts, IsDivisible}
 use Rattle.theory.specs.Ordered.{IsOrderedStep}
 use Rattle.theory.specs.Focused as definition
 use Rattle.theory.specs.Runs.{RunsBy, Runs, by_search}
@@ -16,16 +17,22 @@ use Rattle.kernel.specs.declared.order.Order.TheVariants.{ByNumber, ByPlace}
 use Rattle.cdcl.specs.Outcome.{LinesOutcome}
 use Rattle.cdcl.specs.declared.ordered.OrderedSearch.{OrderedSearch}
 use Rattle.cdcl.specs.declared.focused.FocusedSearch.{FocusedSearch}
+use Rattle.cdcl.specs.declared.focused.Stop.{Stop}
 use Rattle.cdcl.specs.declared.dividing.DividingSearch.{DividingSearch}
 use Rattle.cdcl.specs.declared.searcher.Searcher.TheVariants.{Ordered}
 use Rattle.cdcl.specs.Outcome.{outcome_of}
 use Rattle.cdcl.specs.Searching.{IsReady, search_of}
 use Rattle.cdcl.specs.Searching as ordered_search
-use Rattle.cdcl.specs.Focusing.{state_of, RunsTo, HasSaved, IsKept}
+use Rattle.cdcl.specs.Focusing.{state_of, RunsTo, Reaches, Stops, HasSaved, IsKept}
 use Rattle.cdcl.specs.Focusing as focused_search
 use Rattle.cdcl.specs.Solving.{IsReadyBy, IsDividing}
 use Rattle.cdcl.proofs.Beginnings.{Begins-runs, Begins-says}
 use Rattle.cdcl.proofs.FocusedSteps.{RunsTo-runs}
+use Rattle.cdcl.proofs.LongerSearches.{RunsTo-longer, Reaches-longer}
+
+-- the first search is asked within the budget of the cube without literals
+pub within-budget : (B t : ℕ) → min first_conflicts B ≡ t → t ≤ budget_of B []
+within-budget B t asked = omega (arith, asked)
 
 -- by the ordered search
 runs-by_ordered : (Q : List Literal) (budget : ℕ) (s begun : OrderedSearch) (o : Outcome) → ((F : Formula) → IsReady ByNumber F s.kernel → ordered_search.Begins F Q begun)
@@ -67,9 +74,25 @@ search-runs Q budget decided s begun (Ok o) begins runs = λ F plan d is.
     subst (λ search. RunsBy search F plan.budget Q (outcome_of o)) (sym d.search) (runs-focused Q budget decided s.search begun o begins runs F plan.budget d.ready is)
 
 -- the first search, of the cube without literals
-pub first-run : (F : Formula) (c : Constants) (t decided : ℕ) (begun : FocusedSearch) (o : Outcome) → focused_search.Begins F c [] begun
-    → ((saved : Assignment) → HasSaved begun saved → RunsTo begun.constants begun.kernel.vars t (state_of begun saved) o decided) → RunsTo c F.vars t (definition.begin c F []) o decided
-first-run F c t decided begun o b runs = rw (b.constants, b.ready.vars, b.begun) at (runs (map (λ v. false) (variables F.vars)) b.saves)
+pub first-stops : (F : Formula) (c : Constants) (t : ℕ) (begun s : FocusedSearch) (stop : Stop) → focused_search.Begins F c [] begun
+    → ((saved : Assignment) → HasSaved begun saved → Stops begun.constants begun.kernel.vars t (state_of begun saved) stop s) → Stops c F.vars t (definition.begin c F []) stop s
+first-stops F c t begun s stop b stops = rw (b.constants, b.ready.vars, b.begun) at (stops (map (λ v. false) (variables F.vars)) b.saves)
+
+-- what it comes to is the outcome by the plan, where that doesn't divide the formula
+pub first-runs : (F : Formula) (plan : Plan) (c : Constants) (t budget count : ℕ) (o : Outcome) → plan.search ≡ focused c → min first_conflicts plan.budget ≡ t → budget ≡ budget_of plan.budget [] → 1 ≤ t
+    → ¬ (IsDivisible F plan) → RunsTo c F.vars t (definition.begin c F []) o count → ((x : ℕ) → o ≢ exhausted x) → Runs F plan [] o
+first-runs F plan c t budget count o search asked is some whole runs own =
+    by_search (λ l. whole l.divisible)
+    (subst (λ s. RunsBy s F plan.budget [] o) (sym search)
+    (RunsTo-longer c F.vars t (budget_of plan.budget []) count (definition.begin c F []) o (within-budget plan.budget t asked) some own runs))
+
+pub first-goes-on : (F : Formula) (plan : Plan) (c : Constants) (t budget count : ℕ) (s : FocusedSearch) (o : Outcome) → plan.search ≡ focused c → min first_conflicts plan.budget ≡ t → budget ≡ budget_of plan.budget [] → 1 ≤ t
+    → ¬ (IsDivisible F plan) → Reaches c F.vars t (definition.begin c F []) s → ((saved : Assignment) → HasSaved s saved → RunsTo c F.vars budget (state_of s saved) o count) → Runs F plan [] o
+first-goes-on F plan c t budget count s o search asked is some whole reached runs =
+    by_search (λ l. whole l.divisible)
+    (subst (λ s. RunsBy s F plan.budget [] o) (sym search)
+    (Reaches-longer c F.vars t (budget_of plan.budget []) count (definition.begin c F []) s o (within-budget plan.budget t asked) some reached
+    (subst (λ n. (saved : Assignment) → HasSaved s saved → RunsTo c F.vars n (state_of s saved) o count) is runs)))
 
 -- the search goes on to the next cube
 pub dividing-kept : {X E : Type 0} (r : Result X E) (old s : DividingSearch) (t : FocusedSearch) → ((F : Formula) (plan : Plan) → IsDividing plan F old → IsDividing plan F s) → OnOk r (IsKept s.search t)
@@ -85,7 +108,14 @@ dividing-kept (Ok x) old s t before kept = λ F plan d.
       asked = e.asked;
       within = e.within;
       division = e.division;
+      root = e.root;
     }
+
+-- and goes on so in two steps
+pub kept-then : {X E : Type 0} (r : Result X E) (old s t : DividingSearch) → ((F : Formula) (plan : Plan) → IsDividing plan F old → IsDividing plan F s)
+    → OnOk r ((F : Formula) (plan : Plan) → IsDividing plan F s → IsDividing plan F t) → OnOk r ((F : Formula) (plan : Plan) → IsDividing plan F old → IsDividing plan F t)
+kept-then (Err e) old s t before kept = tt
+kept-then (Ok x) old s t before kept = λ F plan d. kept F plan (before F plan d)
 
 -- what an outcome says, where the kernel is one of the formula
 pub says-ready : {E : Type 0} (Q : List Literal) (budget : ℕ) (s : DividingSearch) (r : Result LinesOutcome E) → IsCube Q → All (IsOver s.search.kernel.vars) s.search.kernel.clauses

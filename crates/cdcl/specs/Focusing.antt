@@ -1,5 +1,5 @@
 -- The state of a focused search, as the definition of the search has it, and its steps.
-use Rattle.std.specs.Prelude.{◌≡◌, ℕ, ◌+◌, ◌*◌, ◌^◌, ◌<◌, ◌≤◌, ◌⊎◌, false, Option, Some, None, List, length, map, drop, All}
+use Rattle.std.specs.Prelude.{◌≡◌, ◌≢◌, ℕ, ◌+◌, ◌*◌, ◌^◌, ◌<◌, ◌≤◌, ◌⊎◌, false, Option, Some, None, List, length, map, drop, All}
 use Rattle.theory.specs.Literals.{Literal, Clause}
 use Rattle.theory.specs.Truth.{Formula, Assignment}
 use Rattle.theory.specs.Reading.{large, max_vars}
@@ -7,13 +7,15 @@ use Rattle.theory.specs.Plans.{Constants}
 use Rattle.theory.specs.Trails.{literals, current_level, variables}
 use Rattle.theory.specs.Propagation.{Closed, least_false}
 use Rattle.theory.specs.Learning.{learn, back_level}
-use Rattle.theory.specs.Search.{Outcome, Next, ends, goes_on}
+use Rattle.theory.specs.Search.{Outcome, exhausted, Next, ends, goes_on}
 use Rattle.theory.specs.Dividing.{LeadsTo}
 use Rattle.theory.specs.Focused as definition
-use Rattle.theory.specs.Focused.{FocusedState, IsFocusedStep, learnt_next, saved_after}
+use Rattle.theory.specs.Focused.{FocusedState, IsFocusedStep, learnt_next, saved_after, splits_on}
 use Rattle.kernel.specs.State.{State}
 use Rattle.kernel.specs.declared.order.Order.TheVariants.{ByPlace}
 use Rattle.cdcl.specs.declared.focused.FocusedSearch.{FocusedSearch}
+use Rattle.cdcl.specs.declared.focused.Stop.{Stop}
+use Rattle.cdcl.specs.declared.focused.Stop.TheVariants.{Ended, Spent}
 use Rattle.cdcl.specs.Forgetful.{IsPlain}
 use Rattle.cdcl.specs.Outcome.{LinesOutcome, outcome_of}
 use Rattle.cdcl.specs.Saving.{AgreeOutside, AreWaiting}
@@ -95,35 +97,57 @@ pub record Learns (old : FocusedSearch) (saved : Assignment) (n : ℕ) (new : Fo
   pub saves : HasSaved new (saved_after old.kernel.vars old.kernel.trail saved)
   pub focusing : IsFocusing new
 
--- what follows where a step ended with an outcome, or with none left the state with these saved
--- values
-abbrev pub next_of : Option LinesOutcome → FocusedSearch → Assignment → Next FocusedState
-next_of (Some o) s saved = ends (outcome_of o)
+-- what follows where a step stopped the search, or left the state with these saved values
+abbrev pub next_of : Option Stop → FocusedSearch → Assignment → Next FocusedState
+next_of (Some (Ended o)) s saved = ends (outcome_of o)
+next_of (Some Spent) s saved = ends (exhausted (splits_on s.kernel.vars (state_of s saved)))
 next_of None s saved = goes_on (state_of s saved)
 
 -- what is so where it goes on: one more conflict is counted, or the trail is longer
-pub record GoesOnward (budget : ℕ) (old new : FocusedSearch) (saved : Assignment) : Type 0 where
+pub record GoesOnward (last : ℕ) (old new : FocusedSearch) (saved : Assignment) : Type 0 where
   pub saves : HasSaved new saved
   pub focusing : IsFocusing new
-  pub counted : new.conflicts < budget
+  pub counted : new.conflicts < last
   pub moves : (new.conflicts ≡ old.conflicts + 1) ⊎ ((new.conflicts ≡ old.conflicts) × (length old.kernel.trail < length new.kernel.trail))
 
+-- the search stands at its last conflict, from which it has learnt nothing
+pub record IsSpent (last : ℕ) (s : FocusedSearch) : Type 0 where
+  pub focusing : IsFocusing s
+  pub above : 1 ≤ current_level s.kernel.trail
+  pub counted : s.conflicts + 1 ≡ last
+
+-- each step from the state t is one from the state s, whatever the last conflict is
+abbrev pub StepsAs : Constants → ℕ → FocusedState → FocusedState → Type 0
+StepsAs c V s t = (last : ℕ) (next : Next FocusedState) → IsFocusedStep c V last t next → IsFocusedStep c V last s next
+
+-- what is so where it stopped there: it may go on as from the state before
+pub record StopsAt (last : ℕ) (old : FocusedSearch) (saved : Assignment) (new : FocusedSearch) (values : Assignment) : Type 0 where
+  pub spent : IsSpent last new
+  pub saves : HasSaved new values
+  pub decided : new.decided ≡ old.decided
+  pub resumes : StepsAs old.constants old.kernel.vars (state_of old saved) (state_of new values)
+
+-- an outcome that a search comes to by itself
+abbrev pub IsOwn : LinesOutcome → Type 0
+IsOwn o = (x : ℕ) → outcome_of o ≢ exhausted x
+
 -- and where it ends, no decision more is counted
-abbrev pub Onward : ℕ → FocusedSearch → Option LinesOutcome → FocusedSearch → Assignment → Type 0
-Onward budget old (Some o) new saved = new.decided ≡ old.decided
-Onward budget old None new saved = GoesOnward budget old new saved
+abbrev pub Onward : ℕ → FocusedSearch → Assignment → Option Stop → FocusedSearch → Assignment → Type 0
+Onward last old saved (Some (Ended o)) new values = (new.decided ≡ old.decided) × IsOwn o
+Onward last old saved (Some Spent) new values = StopsAt last old saved new values
+Onward last old saved None new values = GoesOnward last old new values
 
 -- what follows an answer of propagation, where the definition has these saved values
-pub record Follows (budget : ℕ) (a : Closed) (old : FocusedSearch) (saved : Assignment) (r : Option LinesOutcome) (new : FocusedSearch) : Type 0 where
+pub record Follows (last : ℕ) (a : Closed) (old : FocusedSearch) (saved : Assignment) (r : Option Stop) (new : FocusedSearch) : Type 0 where
   pub values : Assignment
-  pub next : definition.after old.constants old.kernel.vars budget (state_of old saved) a ≡ next_of r new values
-  pub onward : Onward budget old r new values
+  pub next : definition.after old.constants old.kernel.vars last (state_of old saved) a ≡ next_of r new values
+  pub onward : Onward last old saved r new values
 
 -- a step of the definition
-pub record IsFocusedSearchStep (budget : ℕ) (old : FocusedSearch) (saved : Assignment) (r : Option LinesOutcome) (new : FocusedSearch) : Type 0 where
+pub record IsFocusedSearchStep (last : ℕ) (old : FocusedSearch) (saved : Assignment) (r : Option Stop) (new : FocusedSearch) : Type 0 where
   pub values : Assignment
-  pub step : IsFocusedStep old.constants old.kernel.vars budget (state_of old saved) (next_of r new values)
-  pub onward : Onward budget old r new values
+  pub step : IsFocusedStep old.constants old.kernel.vars last (state_of old saved) (next_of r new values)
+  pub onward : Onward last old saved r new values
 
 -- a search goes from the state s on to this outcome, with so many decisions at its end
 pub record RunsTo (c : Constants) (V budget : ℕ) (s : FocusedState) (o : Outcome) (count : ℕ) : Type 0 where
@@ -131,6 +155,21 @@ pub record RunsTo (c : Constants) (V budget : ℕ) (s : FocusedState) (o : Outco
   pub leads : LeadsTo (IsFocusedStep c V budget) s final
   pub last : IsFocusedStep c V budget final (ends o)
   pub decided : final.decisions ≡ count
+
+-- a search goes from the state s on to its last conflict
+pub record Reaches (c : Constants) (V last : ℕ) (s : FocusedState) (new : FocusedSearch) : Type 0 where
+  pub final : FocusedState
+  pub values : Assignment
+  pub leads : LeadsTo (IsFocusedStep c V last) s final
+  pub ends_there : IsFocusedStep c V last final (ends (exhausted (splits_on V (state_of new values))))
+  pub saves : HasSaved new values
+  pub decided : final.decisions ≡ new.decided
+  pub resumes : StepsAs c V final (state_of new values)
+
+-- it stops so
+abbrev pub Stops : Constants → ℕ → ℕ → FocusedState → Stop → FocusedSearch → Type 0
+Stops c V last s (Ended o) new = RunsTo c V last s (outcome_of o) new.decided × IsOwn o
+Stops c V last s Spent new = Reaches c V last s new
 
 -- the search of the formula's cube Q begins
 pub record Begins (F : Formula) (c : Constants) (Q : List Literal) (s : FocusedSearch) : Type 0 where

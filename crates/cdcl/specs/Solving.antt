@@ -1,18 +1,26 @@
 -- Solving cubes of a formula by a plan.
-use Rattle.std.specs.Prelude.{◌≡◌, ◌≤◌, Bool, min}
+use Rattle.std.specs.Prelude.{◌≡◌, ℕ, ◌*◌, ◌/◌, ◌≤◌, Bool, [], min}
 use Rattle.theory.specs.Truth.{Formula}
-use Rattle.theory.specs.Plans.{ordered, focused, Plan}
-use Rattle.theory.specs.Search.{first_clauses, max_budget}
+use Rattle.theory.specs.Plans.{Constants, ordered, focused, Plan}
+use Rattle.theory.specs.Search.{exhausted, first_clauses, max_budget}
+use Rattle.theory.specs.Focused.{begin}
 use Rattle.theory.specs.Dividing.{first_conflicts, IsDivisible}
+use Rattle.theory.specs.Runs.{Runs}
 use Rattle.kernel.specs.declared.order.Order.TheVariants.{ByNumber, ByPlace}
 use Rattle.lookahead.specs.Rankings.{IsRanking}
 use Rattle.cdcl.specs.declared.dividing.Division.{Division}
 use Rattle.cdcl.specs.declared.dividing.Division.TheVariants.{Unasked, Whole, Divided}
+use Rattle.cdcl.specs.declared.dividing.First.{First}
+use Rattle.cdcl.specs.declared.dividing.First.TheVariants.{Ended, FewDecisions, ManyDecisions}
 use Rattle.cdcl.specs.declared.dividing.DividingSearch.{DividingSearch}
+use Rattle.cdcl.specs.declared.focused.FocusedSearch.{FocusedSearch}
+use Rattle.cdcl.specs.declared.root.Root.{Root}
+use Rattle.cdcl.specs.declared.root.Root.TheVariants.{Unknown, Searched, LookedAt}
 use Rattle.cdcl.specs.declared.searcher.Searcher.{Searcher}
 use Rattle.cdcl.specs.declared.searcher.Searcher.TheVariants.{Ordered, Focused}
 use Rattle.cdcl.specs.Searching.{IsReady}
-use Rattle.cdcl.specs.Focusing.{IsEquipped}
+use Rattle.cdcl.specs.Outcome.{outcome_of}
+use Rattle.cdcl.specs.Focusing.{IsEquipped, RunsTo, IsOwn, Reaches}
 
 -- what a solver is seen as: which formula it solves cubes of, by which plan, and whether it has met
 -- want of memory
@@ -37,6 +45,19 @@ IsKnown F plan Unasked = ⊥
 IsKnown F plan Whole = ¬ (IsDivisible F plan)
 IsKnown F plan (Divided ranking) = IsDivisible F plan × IsRanking F.vars (first_clauses F) ranking
 
+-- what is known of a formula's cube without literals is true
+abbrev pub IsRootOf : Formula → Plan → Root → Type 0
+IsRootOf F plan Unknown = Unit {0}
+IsRootOf F plan (Searched x) = ¬ (IsDivisible F plan) × Runs F plan [] (exhausted x)
+IsRootOf F plan (LookedAt x) = IsDivisible F plan × Runs F plan [] (exhausted x)
+
+-- the first search has come to this, up to its conflict number t: an outcome, or the conflict, with
+-- at most three decisions for two conflicts or with more
+abbrev pub FirstSays : Constants → Formula → ℕ → First → FocusedSearch → Type 0
+FirstSays c F t (Ended o) s = RunsTo c F.vars t (begin c F []) (outcome_of o) s.decided × IsOwn o
+FirstSays c F t FewDecisions s = Reaches c F.vars t (begin c F []) s × (s.decided ≤ 3 * t / 2)
+FirstSays c F t ManyDecisions s = Reaches c F.vars t (begin c F []) s × ¬ (s.decided ≤ 3 * t / 2)
+
 -- the search goes by the plan, and may go over to a cube of the formula
 pub record IsDividing (plan : Plan) (F : Formula) (s : DividingSearch) : Type 0 where
   pub ready : IsReady ByPlace F s.search.kernel
@@ -47,6 +68,7 @@ pub record IsDividing (plan : Plan) (F : Formula) (s : DividingSearch) : Type 0 
   pub asked : min first_conflicts plan.budget ≡ s.asked
   pub within : (1 ≤ s.asked) × (s.asked ≤ max_budget)
   pub division : IsDivisionOf F plan s.division
+  pub root : IsRootOf F plan s.root
 
 abbrev pub IsReadyBy : Plan → Formula → Searcher → Type 0
 IsReadyBy plan F (Ordered s) = (plan.search ≡ ordered) × IsReady ByNumber F s.kernel

@@ -1,22 +1,26 @@
 //! The focused search of a formula's cubes, by a plan that may divide the formula before they are
 //! searched.
-ghost use Rattle.std.specs.Prelude.{◌≡◌, ◌≤◌, ℕ, ◌^◌, ◌*◌, ◌/◌, true, false, nat_lt, IfOk, OnOk};
+ghost use Rattle.std.specs.Prelude.{◌≡◌, ◌≢◌, ◌≤◌, ◌<◌, ℕ, ◌^◌, ◌*◌, ◌/◌, true, false, nat_lt, [], List, length, take, IfOk, OnOk};
 ghost use Rattle.theory.specs.Truth.{Formula, IsOver};
 ghost use Rattle.theory.specs.Plans as plans;
 ghost use Rattle.theory.specs.Search.{exhausted, budget_of, max_budget};
-ghost use Rattle.theory.specs.Dividing.{HasFewDecisions};
 ghost use Rattle.theory.specs.Runs.{RunsBy, Runs};
 ghost use Rattle.kernel.specs.declared.order.Order.TheVariants.{ByPlace};
 ghost use Rattle.cdcl.specs.Outcome.{outcome_of};
 ghost use Rattle.cdcl.specs.Plans.{constants_from};
 ghost use Rattle.cdcl.specs.Searching.{IsReady};
-ghost use Rattle.cdcl.specs.Focusing.{IsEquipped, IsKept};
-ghost use Rattle.cdcl.specs.Solving.{IsKnown, IsDividing};
+ghost use Rattle.lookahead.specs.declared.ranking.Ranked.{Ranked};
+ghost use Rattle.lookahead.specs.Rankings.{IsRanking};
+ghost use Rattle.cdcl.specs.declared.dividing.Division.TheVariants.{Whole, Divided};
+ghost use Rattle.cdcl.specs.declared.dividing.First.TheVariants.{FewDecisions, ManyDecisions};
+ghost use Rattle.cdcl.specs.Focusing.{IsEquipped, IsKept, IsSpent};
+ghost use Rattle.cdcl.specs.Solving.{IsKnown, IsDivisionOf, IsRootOf, FirstSays, IsDividing};
 
 use crate::counts::Watcher;
-use crate::focused::FocusedSearch;
+use crate::focused::{FocusedSearch, Stop};
 use crate::outcome::Outcome;
 use crate::plan::Plan;
+use crate::root::Root;
 use cnf::Formula;
 use kernel::Cube;
 use lines::Row;
@@ -37,6 +41,17 @@ pub(crate) enum Division {
     Divided(Ranking),
 }
 
+/// What the first search has come to, up to the conflict at which it is asked.
+#[derive(Drop)]
+pub(crate) enum First {
+    /// An outcome before it.
+    Ended(Outcome<Row>),
+    /// The conflict, with so few decisions that the formula is divided.
+    FewDecisions,
+    /// The conflict, with more decisions.
+    ManyDecisions,
+}
+
 /// The focused search, with what it knows of the formula's division.
 pub(crate) struct DividingSearch {
     pub(crate) search: FocusedSearch,
@@ -45,6 +60,8 @@ pub(crate) struct DividingSearch {
     /// With so many conflicts the first search is asked.
     pub(crate) asked: u32,
     pub(crate) division: Division,
+    /// What was known of the cube without literals from the beginning.
+    pub(crate) root: Root,
 }
 
 // written out, so that proofs of its owners stay short (docs/CHANGING.md)
@@ -55,6 +72,7 @@ impl Drop for DividingSearch {
             divide: _,
             asked: _,
             division: _,
+            root: _,
         } = self;
     }
 }
@@ -67,79 +85,123 @@ fn is_upper(literals: usize, divide: u32) -> bool
     literals < 17 && 2_u32.pow(literals as u32) < divide
 }
 
-/// Whether a search used up so many conflicts, with at most three decisions for two of them.
-fn has_few(outcome: &Outcome<Row>, decided: u64, conflicts: u32) -> bool
-    ensures few { result ≡ true → ((x : ℕ) × (outcome_of outcome.now ≡ exhausted x)) × (decided ≤ 3 * conflicts / 2) }
-    ensures many { result ≡ false → (x : ℕ) → outcome_of outcome.now ≡ exhausted x → ¬ (decided ≤ 3 * conflicts / 2) }
+/// Whether so many decisions are at most three for two conflicts.
+fn are_few(decided: u64, conflicts: u32) -> bool
+    ensures few { result ≡ true → decided ≤ 3 * conflicts / 2 }
+    ensures many { result ≡ false → ¬ (decided ≤ 3 * conflicts / 2) }
 {
-    match outcome {
-        Outcome::Exhausted(_) => decided <= 3 * u64::from(conflicts) / 2,
-        Outcome::Model(_) => false,
-        Outcome::Refuted(_) => false,
-    }
+    decided <= 3 * u64::from(conflicts) / 2
 }
 
 impl FocusedSearch {
-    /// Whether the search of the cube without literals, with so many conflicts, uses them up, and
-    /// decides at most three literals for two conflicts.
-    pub(crate) fn has_few_decisions<W: Watcher>(
+    /// The search of the cube without literals, up to a conflict of this number.
+    pub(crate) fn first<W: Watcher>(
         &mut self,
         conflicts: u32,
         watcher: &W,
-    ) -> Result<bool, AllocError>
+    ) -> Result<First, AllocError>
         requires equipped { IsEquipped self.old }
         requires ready { (F : Formula) × IsReady ByPlace F self.old.kernel }
         requires conflicts { (1 ≤ conflicts) × (conflicts ≤ max_budget) }
-        ensures few { IfOk result (λ few. (F : Formula) → IsReady ByPlace F self.old.kernel → few ≡ true → HasFewDecisions self.old.constants F conflicts) }
-        ensures many { IfOk result (λ few. (F : Formula) → IsReady ByPlace F self.old.kernel → few ≡ false → ¬ (HasFewDecisions self.old.constants F conflicts)) }
+        ensures says { IfOk result (λ first. (F : Formula) → IsReady ByPlace F self.old.kernel → FirstSays self.old.constants F conflicts first self.new) }
+        ensures spent { IfOk result (λ first. first ≡ ManyDecisions → IsSpent conflicts self.new) }
         ensures kept { OnOk result (IsKept self.old self.new) }
     {
         let root = Cube::root(self.lines.allocator());
         self.begin(&root)?;
-        let outcome = self.run(conflicts, watcher)?;
-        Ok(has_few(&outcome, self.decided, conflicts))
+        match self.run_to(conflicts, watcher)? {
+            Stop::Ended(outcome) => Ok(First::Ended(outcome)),
+            Stop::Spent => {
+                if are_few(self.decided, conflicts) {
+                    Ok(First::FewDecisions)
+                } else {
+                    Ok(First::ManyDecisions)
+                }
+            }
+        }
+    }
+
+    /// Whether the formula is divided, by what the first search has come to.
+    fn division_by(&self, first: &First) -> Result<Division, AllocError>
+        requires { self.now.kernel.vars < 2 ^ 31 }
+        ensures divided { IfOk result (λ d. first.now ≡ FewDecisions → (ranking : List Ranked) × (d ≡ Divided ranking) × IsRanking self.now.kernel.vars (take self.now.kernel.first self.now.kernel.clauses) ranking) }
+        ensures whole { IfOk result (λ d. first.now ≢ FewDecisions → d ≡ Whole) }
+    {
+        match first {
+            First::FewDecisions => Ok(Division::Divided(self.rank()?)),
+            _ => Ok(Division::Whole),
+        }
+    }
+}
+
+/// What is known of the division from the beginning.
+fn division_of(search: &FocusedSearch, root: Root) -> Result<Division, AllocError>
+    requires { search.now.kernel.vars < 2 ^ 31 }
+    ensures { IfOk result (λ d. (F : Formula) (plan : plans.Plan) → IsReady ByPlace F search.now.kernel → IsRootOf F plan root → IsDivisionOf F plan d) }
+{
+    match root {
+        Root::Unknown => Ok(Division::Unasked),
+        Root::Searched(_) => Ok(Division::Whole),
+        Root::LookedAt(_) => Ok(Division::Divided(search.rank()?)),
     }
 }
 
 impl DividingSearch {
-    /// The plan's search of a formula, before its first cube.
+    /// The plan's search of a formula, before its first cube, with what is known of the cube
+    /// without literals.
     pub(crate) fn open(
         alloc: Global,
         formula: &Formula,
         plan: Plan,
+        root: Root,
     ) -> Result<DividingSearch, AllocError>
-        requires { plan.search ≡ plans.focused (constants_from plan.search) }
+        requires search { plan.search ≡ plans.focused (constants_from plan.search) }
+        requires root { IsRootOf formula.now plan root }
         ensures { IfOk result (IsDividing plan formula.now) }
     {
+        let search = FocusedSearch::open(alloc, formula, plan.constants())?;
+        let division = division_of(&search, root)?;
         Ok(DividingSearch {
-            search: FocusedSearch::open(alloc, formula, plan.constants())?,
+            search,
             divide: plan.divide(),
             asked: FIRST_CONFLICTS.min(plan.budget()),
-            division: Division::Unasked,
+            division,
+            root,
         })
     }
 
-    /// Asks the first search whether the formula is divided, and ranks the variables if it is.
-    fn ask<W: Watcher>(&mut self, watcher: &W) -> Result<Division, AllocError>
-        requires { (F : Formula) × (plan : plans.Plan) × IsDividing plan F self.old × (2 ≤ plan.divide) }
-        ensures division { IfOk result (λ d. (F : Formula) (plan : plans.Plan) → IsDividing plan F self.old → 2 ≤ plan.divide → IsKnown F plan d) }
-        ensures kept { OnOk result ((F : Formula) (plan : plans.Plan) → IsDividing plan F self.old → IsDividing plan F self.new) }
+    /// What is known of the cube without literals, once it was found to be split on this variable.
+    pub(crate) fn root_split_on(&self, var: u32) -> Root
+        ensures { (F : Formula) (plan : plans.Plan) → IsDividing plan F self.now → Runs F plan [] (exhausted var) → IsRootOf F plan result }
     {
-        if !self.search.has_few_decisions(self.asked, watcher)? {
-            return Ok(Division::Whole);
+        match self.division {
+            Division::Unasked => Root::Unknown,
+            Division::Whole => Root::Searched(var),
+            Division::Divided(_) => Root::LookedAt(var),
         }
-        let ranking = self.search.rank()?;
-        Ok(Division::Divided(ranking))
     }
 
-    /// As `ask`, unless that was done before.
+    /// Asks the first search whether the formula is divided, and ranks the variables if it is.
+    fn ask<W: Watcher>(&mut self, watcher: &W) -> Result<First, AllocError>
+        requires { (F : Formula) × (plan : plans.Plan) × IsDividing plan F self.old × (2 ≤ plan.divide) }
+        ensures division { OnOk result ((F : Formula) (plan : plans.Plan) → IsDividing plan F self.old → 2 ≤ plan.divide → IsKnown F plan self.new.division) }
+        ensures says { IfOk result (λ first. (F : Formula) → IsReady ByPlace F self.old.search.kernel → FirstSays self.old.search.constants F self.old.asked first self.new.search) }
+        ensures spent { IfOk result (λ first. first ≡ ManyDecisions → IsSpent self.old.asked self.new.search) }
+        ensures kept { OnOk result ((F : Formula) (plan : plans.Plan) → IsDividing plan F self.old → IsDividing plan F self.new) }
+    {
+        let first = self.search.first(self.asked, watcher)?;
+        self.division = self.search.division_by(&first)?;
+        Ok(first)
+    }
+
+    /// As `ask`, unless the division is known.
     fn ask_once<W: Watcher>(&mut self, watcher: &W) -> Result<(), AllocError>
         requires { (F : Formula) × (plan : plans.Plan) × IsDividing plan F self.old × (2 ≤ plan.divide) }
         ensures known { OnOk result ((F : Formula) (plan : plans.Plan) → IsDividing plan F self.old → 2 ≤ plan.divide → IsKnown F plan self.new.division) }
         ensures kept { OnOk result ((F : Formula) (plan : plans.Plan) → IsDividing plan F self.old → IsDividing plan F self.new) }
     {
         if let Division::Unasked = self.division {
-            self.division = self.ask(watcher)?;
+            let _first = self.ask(watcher)?;
         }
         Ok(())
     }
@@ -161,6 +223,47 @@ impl DividingSearch {
         self.search.run(budget, watcher)
     }
 
+    /// The outcome of a cube that is looked at where the formula is divided, once that is known.
+    fn solve_upper<W: Watcher>(
+        &mut self,
+        cube: &Cube,
+        budget: u32,
+        watcher: &W,
+    ) -> Result<Outcome<Row>, AllocError>
+        requires ready { (F : Formula) × (plan : plans.Plan) × IsDividing plan F self.old × IsKnown F plan self.old.division × IsOver F.vars cube.now }
+        requires budget { (1 ≤ budget) × (budget ≤ max_budget) }
+        ensures runs { IfOk result (λ o. (F : Formula) (plan : plans.Plan) → IsDividing plan F self.old → IsKnown F plan self.old.division → 2 ^ length cube.now < plan.divide → budget ≡ budget_of plan.budget cube.now →
+            Runs F plan cube.now (outcome_of o)) }
+        ensures kept { OnOk result ((F : Formula) (plan : plans.Plan) → IsDividing plan F self.old → IsDividing plan F self.new) }
+    {
+        if let Division::Divided(ranking) = &self.division {
+            return self.search.look(cube, ranking);
+        }
+        self.search(cube, budget, watcher)
+    }
+
+    /// The outcome of the cube without literals, where it isn't known whether the formula is
+    /// divided: the first search is asked, and goes on where it isn't. So nothing is searched twice
+    /// unless the formula is divided.
+    fn solve_first<W: Watcher>(
+        &mut self,
+        root: &Cube,
+        budget: u32,
+        watcher: &W,
+    ) -> Result<Outcome<Row>, AllocError>
+        requires root { root.now ≡ [] }
+        requires ready { (F : Formula) × (plan : plans.Plan) × IsDividing plan F self.old × (2 ≤ plan.divide) × (budget ≡ budget_of plan.budget []) }
+        ensures runs { IfOk result (λ o. (F : Formula) (plan : plans.Plan) → IsDividing plan F self.old → 2 ≤ plan.divide → budget ≡ budget_of plan.budget [] →
+            Runs F plan [] (outcome_of o)) }
+        ensures kept { OnOk result ((F : Formula) (plan : plans.Plan) → IsDividing plan F self.old → IsDividing plan F self.new) }
+    {
+        match self.ask(watcher)? {
+            First::Ended(outcome) => Ok(outcome),
+            First::FewDecisions => self.solve_upper(root, budget, watcher),
+            First::ManyDecisions => self.search.run(budget, watcher),
+        }
+    }
+
     /// The outcome of a cube, with this budget of conflicts if it is searched.
     pub(crate) fn solve<W: Watcher>(
         &mut self,
@@ -168,18 +271,24 @@ impl DividingSearch {
         budget: u32,
         watcher: &W,
     ) -> Result<Outcome<Row>, AllocError>
-        requires ready { (F : Formula) × (plan : plans.Plan) × IsDividing plan F self.old × IsOver F.vars cube.now }
+        requires ready { (F : Formula) × (plan : plans.Plan) × IsDividing plan F self.old × IsOver F.vars cube.now × (budget ≡ budget_of plan.budget cube.now) }
         requires budget { (1 ≤ budget) × (budget ≤ max_budget) }
         ensures runs { IfOk result (λ o. (F : Formula) (plan : plans.Plan) → IsDividing plan F self.old → budget ≡ budget_of plan.budget cube.now →
             Runs F plan cube.now (outcome_of o)) }
         ensures kept { OnOk result ((F : Formula) (plan : plans.Plan) → IsDividing plan F self.old → IsDividing plan F self.new) }
     {
-        if is_upper(cube.lits().len(), self.divide) {
-            self.ask_once(watcher)?;
-            if let Division::Divided(ranking) = &self.division {
-                return self.search.look(cube, ranking);
+        if let Some(var) = self.root.split_of(cube) {
+            return Ok(Outcome::Exhausted(var));
+        }
+        if !is_upper(cube.lits().len(), self.divide) {
+            return self.search(cube, budget, watcher);
+        }
+        if let Division::Unasked = self.division {
+            if cube.lits().is_empty() {
+                return self.solve_first(cube, budget, watcher);
             }
         }
-        self.search(cube, budget, watcher)
+        self.ask_once(watcher)?;
+        self.solve_upper(cube, budget, watcher)
     }
 }

@@ -14,7 +14,8 @@ ghost use Rattle.kernel.specs.declared.order.Order.TheVariants.{ByPlace};
 ghost use Rattle.cdcl.specs.Outcome.{outcome_of};
 ghost use Rattle.cdcl.specs.Searching.{IsReady, IsSearching, GoesOn};
 ghost use Rattle.cdcl.specs.Saving.{AgreeOutside, AreWaiting, AreKept};
-ghost use Rattle.cdcl.specs.Focusing.{state_of, RunsTo, HasSaved, IsEquipped, IsFocusing, IsTaught, CanForget, Learns, Follows, IsFocusedSearchStep, Begins, Continues};
+ghost use Rattle.cdcl.specs.declared.focused.Stop.TheVariants.{Spent};
+ghost use Rattle.cdcl.specs.Focusing.{state_of, RunsTo, Stops, IsSpent, HasSaved, IsEquipped, IsFocusing, IsTaught, CanForget, Learns, Follows, IsFocusedSearchStep, Begins, Continues};
 
 use crate::analysis::Learnt;
 use crate::counts::{Counts, Watcher, tell};
@@ -67,6 +68,15 @@ impl Drop for FocusedSearch {
             analysis: _,
         } = self;
     }
+}
+
+/// How a search stops.
+#[derive(Drop)]
+pub(crate) enum Stop {
+    /// With an outcome, before it has counted as many conflicts as it may.
+    Ended(Outcome<Row>),
+    /// At the last conflict that it may count, which isn't learnt from.
+    Spent,
 }
 
 /// The level to go back to.
@@ -206,40 +216,57 @@ impl FocusedSearch {
             RunsTo self.old.constants self.old.kernel.vars budget (state_of self.old saved) (outcome_of o) self.new.decided) }
         ensures kept { OnOk result (Continues self.old self.new) }
     {
+        match self.run_to(budget, watcher)? {
+            Stop::Ended(outcome) => Ok(outcome),
+            Stop::Spent => Ok(Outcome::Exhausted(self.split()?)),
+        }
+    }
+
+    /// Goes on up to the conflict of this number, or to an outcome before it. At the conflict the
+    /// search may go on to a later one.
+    pub(crate) fn run_to<W: Watcher>(&mut self, last: u32, watcher: &W) -> Result<Stop, AllocError>
+        requires focusing { IsFocusing self.old }
+        requires counted { (self.old.conflicts < last) × (last ≤ max_budget) }
+        ensures stops { IfOk result (λ stop. (saved : Assignment) → HasSaved self.old saved →
+            Stops self.old.constants self.old.kernel.vars last (state_of self.old saved) stop self.new) }
+        ensures spent { IfOk result (λ stop. stop ≡ Spent → IsSpent last self.new) }
+        ensures kept { OnOk result (Continues self.old self.new) }
+    {
         let mut told = self.counts();
         'steps: loop {
-            if let Some(outcome) = self.step(budget)? {
-                return Ok(outcome);
+            if let Some(stop) = self.step(last)? {
+                return Ok(stop);
             }
             told = tell(watcher, self.counts(), told)?;
         }
     }
 
     /// Propagation and what follows its answer.
-    fn step(&mut self, budget: u32) -> Result<Option<Outcome<Row>>, AllocError>
+    fn step(&mut self, last: u32) -> Result<Option<Stop>, AllocError>
         requires focusing { IsFocusing self.old }
-        requires counted { (self.old.conflicts < budget) × (budget ≤ max_budget) }
-        ensures step { IfOk result (λ r. (saved : Assignment) → HasSaved self.old saved → IsFocusedSearchStep budget self.old saved r self.new) }
+        requires counted { (self.old.conflicts < last) × (last ≤ max_budget) }
+        ensures step { IfOk result (λ r. (saved : Assignment) → HasSaved self.old saved → IsFocusedSearchStep last self.old saved r self.new) }
         ensures kept { OnOk result (Continues self.old self.new) }
     {
         match self.kernel.close()? {
             Closed::Quiet => self.on_quiet(),
-            Closed::Conflict(number) => self.on_conflict(number, budget),
+            Closed::Conflict(number) => self.on_conflict(number, last),
         }
     }
 
     /// Where propagation came to rest: decides the free variable of greatest score, or gives the
     /// model where none is free.
-    fn on_quiet(&mut self) -> Result<Option<Outcome<Row>>, AllocError>
+    fn on_quiet(&mut self) -> Result<Option<Stop>, AllocError>
         requires focusing { IsFocusing self.old }
         requires quiet { Propagates by_place self.old.kernel.clauses self.old.kernel.trail quiet self.old.kernel.trail }
-        ensures next { IfOk result (λ r. (saved : Assignment) (budget : ℕ) → self.old.conflicts < budget → HasSaved self.old saved → Follows budget quiet self.old saved r self.new) }
+        ensures next { IfOk result (λ r. (saved : Assignment) (last : ℕ) → self.old.conflicts < last → HasSaved self.old saved → Follows last quiet self.old saved r self.new) }
         ensures kept { OnOk result (Continues self.old self.new) }
     {
         match self.decisions.best_free(&self.kernel) {
             None => {
                 let alloc = self.lines.allocator();
-                Ok(Some(Outcome::Model(values(alloc, &self.kernel)?)))
+                let model = values(alloc, &self.kernel)?;
+                Ok(Some(Stop::Ended(Outcome::Model(model))))
             }
             Some(var) => {
                 self.kernel.decide(self.decisions.literal(var));
@@ -250,19 +277,20 @@ impl FocusedSearch {
         }
     }
 
-    /// A conflict above level 0 is counted; the last one that the budget allows exhausts the cube.
-    fn on_conflict(&mut self, number: u64, budget: u32) -> Result<Option<Outcome<Row>>, AllocError>
+    /// A conflict at level 0 refutes the cube, one above it is counted; the search stops at the last
+    /// one that it may count.
+    fn on_conflict(&mut self, number: u64, last: u32) -> Result<Option<Stop>, AllocError>
         requires focusing { IsFocusing self.old }
         requires conflict { least_false (literals self.old.kernel.trail) self.old.kernel.clauses ≡ Some number }
-        requires counted { (self.old.conflicts < budget) × (budget ≤ max_budget) }
-        ensures next { IfOk result (λ r. (saved : Assignment) → HasSaved self.old saved → Follows budget (conflict number) self.old saved r self.new) }
+        requires counted { (self.old.conflicts < last) × (last ≤ max_budget) }
+        ensures next { IfOk result (λ r. (saved : Assignment) → HasSaved self.old saved → Follows last (conflict number) self.old saved r self.new) }
         ensures kept { OnOk result (Continues self.old self.new) }
     {
         if self.kernel.level() == 0 {
-            return Ok(Some(self.refuted(number)?));
+            return Ok(Some(Stop::Ended(self.refuted(number)?)));
         }
-        if self.conflicts + 1 == budget {
-            return Ok(Some(Outcome::Exhausted(self.split()?)));
+        if self.conflicts + 1 == last {
+            return Ok(Some(Stop::Spent));
         }
         self.learn_from(number)?;
         Ok(None)

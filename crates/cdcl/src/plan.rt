@@ -106,6 +106,11 @@ impl Plan {
         self.divide
     }
 
+    /// Whether it divides some formulas.
+    pub fn may_divide(&self) -> bool {
+        self.search == Search::Focused && self.divide >= 2
+    }
+
     /// The search.
     pub fn search(&self) -> Search
         ensures { search_of result (constants_from self.now.search) ≡ self.now.search }

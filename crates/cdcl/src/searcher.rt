@@ -1,18 +1,19 @@
 //! The search of a plan.
-ghost use Rattle.std.specs.Prelude.{◌≡◌, ◌≤◌, IfOk, OnOk};
+ghost use Rattle.std.specs.Prelude.{◌≡◌, ◌≤◌, [], IfOk, OnOk};
 ghost use Rattle.theory.specs.Truth.{Formula, IsOver};
 ghost use Rattle.theory.specs.Plans as plans;
-ghost use Rattle.theory.specs.Search.{budget_of, max_budget};
+ghost use Rattle.theory.specs.Search.{exhausted, budget_of, max_budget};
 ghost use Rattle.theory.specs.Runs.{Runs};
 ghost use Rattle.theory.specs.Results.{OutcomeSays};
 ghost use Rattle.cdcl.specs.Outcome.{outcome_of};
-ghost use Rattle.cdcl.specs.Solving.{IsReadyBy};
+ghost use Rattle.cdcl.specs.Solving.{IsReadyBy, IsRootOf};
 
 use crate::counts::{Counts, Watcher};
 use crate::dividing::DividingSearch;
 use crate::ordered::OrderedSearch;
 use crate::outcome::Outcome;
 use crate::plan::{Plan, Search};
+use crate::root::Root;
 use cnf::Formula;
 use kernel::Cube;
 use lines::Row;
@@ -26,14 +27,21 @@ pub(crate) enum Searcher {
 }
 
 impl Searcher {
-    /// The plan's search of a formula, before its first cube.
-    pub(crate) fn open(alloc: Global, formula: &Formula, plan: Plan) -> Result<Searcher, AllocError>
+    /// The plan's search of a formula, before its first cube, with what is known of the cube
+    /// without literals.
+    pub(crate) fn open(
+        alloc: Global,
+        formula: &Formula,
+        plan: Plan,
+        root: Root,
+    ) -> Result<Searcher, AllocError>
+        requires { IsRootOf formula.now plan root }
         ensures { IfOk result (IsReadyBy plan formula.now) }
     {
         match plan.search() {
             Search::Ordered => Ok(Searcher::Ordered(OrderedSearch::open(alloc, formula)?)),
             Search::Focused => {
-                let search = DividingSearch::open(alloc, formula, plan)?;
+                let search = DividingSearch::open(alloc, formula, plan, root)?;
                 Ok(Searcher::Focused(search))
             }
         }
@@ -47,6 +55,16 @@ impl Searcher {
         }
     }
 
+    /// What is known of the cube without literals, once it was found to be split on this variable.
+    pub(crate) fn root(&self, var: u32) -> Root
+        ensures { (F : Formula) (plan : plans.Plan) → IsReadyBy plan F self.now → Runs F plan [] (exhausted var) → IsRootOf F plan result }
+    {
+        match self {
+            Searcher::Ordered(_) => Root::Searched(var),
+            Searcher::Focused(search) => search.root_split_on(var),
+        }
+    }
+
     /// The outcome of a cube, with this budget of conflicts.
     pub(crate) fn solve<W: Watcher>(
         &mut self,
@@ -54,7 +72,7 @@ impl Searcher {
         budget: u32,
         watcher: &W,
     ) -> Result<Outcome<Row>, AllocError>
-        requires ready { (F : Formula) × (plan : plans.Plan) × IsReadyBy plan F self.old × IsOver F.vars cube.now }
+        requires ready { (F : Formula) × (plan : plans.Plan) × IsReadyBy plan F self.old × IsOver F.vars cube.now × (budget ≡ budget_of plan.budget cube.now) }
         requires budget { (1 ≤ budget) × (budget ≤ max_budget) }
         ensures runs { IfOk result (λ o. (F : Formula) (plan : plans.Plan) → IsReadyBy plan F self.old → budget ≡ budget_of plan.budget cube.now →
             Runs F plan cube.now (outcome_of o)) }

@@ -1,15 +1,18 @@
 //! Solving the cubes of a formula, one after the other.
-ghost use Rattle.std.specs.Prelude.{◌≡◌, ◌≤◌, true, false, IfOk, OnOk, OnErr, IsErr};
+ghost use Rattle.std.specs.Prelude.{◌≡◌, ◌≤◌, [], true, false, IfOk, OnOk, OnErr, IsErr};
 ghost use Rattle.theory.specs.Truth.{IsOver};
 ghost use Rattle.theory.specs.Plans.{ordered, ordered_within};
+ghost use Rattle.theory.specs.Search.{exhausted};
 ghost use Rattle.theory.specs.Runs.{Runs};
 ghost use Rattle.theory.specs.Results.{OutcomeSays};
 ghost use Rattle.cdcl.specs.Outcome.{outcome_of};
+ghost use Rattle.cdcl.specs.Solving.{IsRootOf};
 
 use crate::budget::budget_of;
 use crate::counts::{Counts, Unwatched, Watcher};
 use crate::outcome::Outcome;
 use crate::plan::Plan;
+use crate::root::Root;
 use crate::searcher::Searcher;
 use cnf::Formula;
 use kernel::Cube;
@@ -62,8 +65,23 @@ impl Solver {
     pub fn open(alloc: Global, formula: &Formula, plan: Plan) -> Result<Solver, AllocError>
         ensures { IfOk result (λ s. s ≡ record { formula = formula.now; plan = plan; short = false }) }
     {
+        let solver = Solver::open_told(alloc, formula, plan, Root::Unknown)?;
+        Ok(solver)
+    }
+
+    /// As `open`, where another solver of the formula, by the plan, has found out what the cube
+    /// without literals comes to: it isn't searched again.
+    pub fn open_told(
+        alloc: Global,
+        formula: &Formula,
+        plan: Plan,
+        root: Root,
+    ) -> Result<Solver, AllocError>
+        requires { IsRootOf formula.now plan root }
+        ensures { IfOk result (λ s. s ≡ record { formula = formula.now; plan = plan; short = false }) }
+    {
         Ok(Solver {
-            search: Searcher::open(alloc, formula, plan)?,
+            search: Searcher::open(alloc, formula, plan, root)?,
             formula: Snapshot::of(formula),
             plan,
             short: false,
@@ -85,6 +103,18 @@ impl Solver {
     {
         let outcome = self.solve_watched(cube, &Unwatched)?;
         Ok(outcome)
+    }
+
+    /// What other solvers may be told of the cube without literals, which was found to be split on
+    /// this variable.
+    pub fn root(&self, var: u32) -> Root
+        requires { Runs self.now.formula self.now.plan [] (exhausted var) }
+        ensures { IsRootOf self.now.formula self.now.plan result }
+    {
+        if self.short {
+            return Root::Unknown;
+        }
+        self.search.root(var)
     }
 
     /// How much was done in all cubes so far.

@@ -3,8 +3,9 @@
 ghost use Rattle.std.specs.Prelude.{◌≤◌};
 
 use crate::outcomes::{Wanted, cube_by, is_wanted};
-use cdcl::{Plan, Solver};
+use cdcl::{Outcome, Plan, Solver};
 use cnf::read_formula;
+use kernel::Cube;
 use samples::{FOUR, cube_of};
 use std::alloc::Global;
 use std::test::Fail;
@@ -135,6 +136,30 @@ static ROWS: [Row; 14] = [
     },
 ];
 
+/// Whether a solver that is told what another one found out of the cube without literals has the
+/// same outcome of it, and of this cube, for less.
+fn comes_told(alloc: Global, row: &Row) -> Result<bool, Fail> {
+    if row.budget < 1 || row.budget > 100_000 || row.divide > 65_536 {
+        return Ok(false);
+    }
+    let plan = Plan::focused(row.budget).divided(row.divide);
+    let formula = read_formula(alloc, row.text)?;
+    let root = Cube::root(alloc);
+    let mut first = Solver::open(alloc, &formula, plan)?;
+    let Outcome::Exhausted(var) = first.solve(&root)? else {
+        return Ok(false);
+    };
+    let known = first.root(var);
+    let mut told = Solver::open_told(alloc, &formula, plan, known)?;
+    let Outcome::Exhausted(again) = told.solve(&root)? else {
+        return Ok(false);
+    };
+    let conflicts = told.counts().conflicts;
+    let cube = cube_of(alloc, formula.vars(), row.cube)?;
+    let outcome = told.solve(&cube)?.unpacked(alloc)?;
+    Ok(again == var && conflicts == 0 && is_wanted(&outcome, row.wanted))
+}
+
 /// Whether the row's cube comes to what is wanted.
 fn comes(alloc: Global, row: &Row) -> Result<bool, Fail> {
     if row.budget < 1 || row.budget > 100_000 || row.divide > 65_536 {
@@ -148,6 +173,18 @@ fn comes(alloc: Global, row: &Row) -> Result<bool, Fail> {
 fn divided_formulas(rt: HostRuntime) -> Result<(), Fail> {
     for row in &ROWS {
         assert_eq!(rt; (row.name, comes(rt.alloc(), row)?), (row.name, true));
+    }
+    Ok(())
+}
+
+/// Rows whose formula has a split at its root.
+static TOLD: [usize; 4] = [1, 2, 8, 9];
+
+#[test]
+fn solvers_that_are_told(rt: HostRuntime) -> Result<(), Fail> {
+    for place in &TOLD {
+        let row = &ROWS[*place];
+        assert_eq!(rt; (row.name, comes_told(rt.alloc(), row)?), (row.name, true));
     }
     Ok(())
 }

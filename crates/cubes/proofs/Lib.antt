@@ -3,6 +3,7 @@ pub mod OkLemmas
 pub mod PlaceLemmas
 pub mod KnownLemmas
 pub mod GatheringLemmas
+pub mod RootResults
 pub mod WholeWalks
 pub mod Carrying
 pub mod RoundParts

@@ -1,5 +1,5 @@
 -- The parts of a hand's work, over the crate's own types.
-use Rattle.std.specs.Prelude.{◌≡◌, ℕ, zero, Bool, true, false, List, [], ◌∷◌, ◌++◌, map, IfSome, All}
+use Rattle.std.specs.Prelude.{◌≡◌, ℕ, zero, Bool, true, false, List, [], ◌∷◌, ◌++◌, map, All}
 use Rattle.theory.specs.Literals.{Literal, IsVariable, has_var}
 use Rattle.theory.specs.Truth.{Formula, Assignment}
 use Rattle.theory.specs.Plans.{Plan}
@@ -10,8 +10,8 @@ use Rattle.theory.specs.Ledger.{Call, still_open, halt, halted, Ledger, joined, 
 use Rattle.theory.specs.Trees.{false_half, true_half}
 use Rattle.theory.specs.Results as results
 use Rattle.theory.specs.Round.{IsHandOn, IsRound, Adds, HasWorked}
-use Rattle.cdcl.specs.Solving.{IsSolverOf}
 use Rattle.cubes.specs.Solved.{LinesSolved, solved_of}
+use Rattle.cubes.specs.Source.{IsOwnSolver}
 use Rattle.cubes.specs.declared.hands.Ending.{Ending}
 use Rattle.cubes.specs.declared.hands.Ending.TheVariants as ending
 use Rattle.cubes.specs.declared.hands.Worker.{Worker}
@@ -20,10 +20,9 @@ use Rattle.cubes.specs.declared.hands.Worker.{Worker}
 abbrev pub Gets : Ledger → Ledger → List Literal → Type 0
 Gets old new Q = (d : ℕ) × (new ≡ joined old (getting d Q))
 
--- the hand's own solver, if there is one yet, is the formula's, by the plan, and the pool is over
--- the formula's variables
+-- the hand's solver is the formula's, by the plan, and the pool is over the formula's variables
 abbrev pub IsWorker : {L : Type 0} → Formula → Plan → Worker L → Type 0
-IsWorker F plan w = IfSome w.solver (IsSolverOf F plan) × (w.hand.vars ≡ F.vars)
+IsWorker F plan w = IsOwnSolver F plan w.solver × (w.hand.vars ≡ F.vars)
 
 -- how a cube's outcome goes on
 abbrev pub EndsIn : Formula → List Literal → search.Outcome → Ending → Type 0

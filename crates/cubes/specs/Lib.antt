@@ -5,6 +5,7 @@ pub mod Gathering
 pub mod Hands
 pub mod Known
 pub mod Result
+pub mod Preparing
 pub mod Shares
 pub mod Solved
 pub mod Source

@@ -14,7 +14,7 @@ use crate::results::{gather_by_plan, solve_one_by_plan};
 use crate::solved::Solved;
 use crate::threads::solve_by_plan;
 use crate::tree::Tree;
-use cdcl::Plan;
+use cdcl::{Plan, Root};
 use cnf::Formula;
 use pool::Hand;
 use std::alloc::{AllocError, Global};
@@ -37,7 +37,8 @@ pub fn work<R: Wait + Clock, G: Gate>(
     ensures work { Worked_as formula.now (ordered_within budget) result.short_of_memory hand.ledger result.hand.ledger result.solved.items }
     ensures home { GoesHome result.short_of_memory hand.ledger result.hand.ledger }
 {
-    work_in(rt, alloc, hand, formula, Plan::ordered(budget), gate)
+    let plan = Plan::ordered(budget);
+    work_in(rt, alloc, hand, formula, plan, Root::Unknown, gate)
 }
 
 /// `gather_by_plan` by the ordered search, with a budget of 1 to 100,000 conflicts for the root.

@@ -18,6 +18,10 @@ pub trait Gate {
     /// that it carries on too.
     fn counted(&self, _hand: usize, _counts: Counts) {}
 
+    /// Before the hands begin, so much was done to find out whether the formula is divided. It is
+    /// told as `counted` is.
+    fn prepared(&self, _counts: Counts) {}
+
     /// Whether the hands are to stop before all is solved. A solver asks before each cube, and
     /// inside one each time that the gate was told what is done.
     fn stops(&self) -> bool {
@@ -33,6 +37,22 @@ impl Gate for OpenGate {
     fn before(&self, _hand: usize, _cube: &Cube) {}
 
     fn after(&self, _hand: usize, _cube: &Cube) {}
+}
+
+/// Tells a gate what is done before the hands begin.
+#[derive(Drop)]
+pub(crate) struct Prepared<'a, G> {
+    pub(crate) gate: &'a G,
+}
+
+impl<G: Gate> Watcher for Prepared<'_, G> {
+    fn counted(&self, counts: Counts) {
+        self.gate.prepared(counts);
+    }
+
+    fn stops(&self) -> bool {
+        self.gate.stops()
+    }
 }
 
 /// Tells a gate what the solver of a hand has done.

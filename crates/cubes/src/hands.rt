@@ -8,6 +8,7 @@ ghost use Rattle.theory.specs.Runs.{Runs};
 ghost use Rattle.theory.specs.Ledger.{IsFit};
 ghost use Rattle.theory.specs.Round.{HasWorked};
 ghost use Rattle.cdcl.specs.Outcome.{outcome_of};
+ghost use Rattle.cdcl.specs.Solving.{IsRootOf};
 ghost use Rattle.pool.specs.Hands.{SameHand, IsAllTaken};
 ghost use Rattle.cubes.specs.Hands.{Gets, IsWorker, EndsIn, Settles, AddsRound, AddsHandOn, AddsHalves, AddsCarried, Worked_as, GoesOn, GoesHome};
 ghost use Rattle.cubes.specs.Solved.{results_by};
@@ -16,10 +17,10 @@ use crate::cube_walk::CubeWalk;
 use crate::gate::{Gate, Watched};
 use crate::pause::Pauses;
 use crate::place::place_of;
-use crate::results::solve;
+use crate::results::OwnSolver;
 use crate::solved::{Solved, What};
 use crate::tries::Tries;
-use cdcl::{KeepsLines, Outcome, Plan, Refutation, Solver, split};
+use cdcl::{KeepsLines, Outcome, Plan, Refutation, Root, split};
 use cnf::Formula;
 use kernel::Cube;
 use lines::Row;
@@ -54,8 +55,7 @@ pub(crate) enum Ending {
 #[derive(Drop)]
 pub(crate) struct Worker<L> {
     pub(crate) hand: Hand,
-    /// Its solver, once it has got a cube.
-    pub(crate) solver: Option<Solver>,
+    pub(crate) solver: OwnSolver,
     pub(crate) solved: Vec<Solved<L>>,
 }
 
@@ -107,7 +107,7 @@ impl<L: KeepsLines> Worker<L> {
         let copy = cube.copied()?;
         let hand = self.hand.number();
         let watched = Watched { gate, hand };
-        let outcome = solve(alloc, formula, plan, cube, &mut self.solver, &watched)?;
+        let outcome = self.solver.solve(alloc, formula, plan, cube, &watched)?;
         let ending = ending_of(&outcome);
         let what = What::Done(outcome.kept(alloc)?);
         self.solved.push(Solved { cube: copy, what })?;
@@ -261,23 +261,26 @@ impl<L: KeepsLines> Worker<L> {
     }
 }
 
-/// What `work_by_plan` does, whatever keeps the lines of refuted cubes.
+/// What `work_by_plan` does, whatever keeps the lines of refuted cubes, where this is known of the
+/// cube without literals.
 pub(crate) fn work_in<L: KeepsLines, R: Wait + Clock, G: Gate>(
     rt: &R,
     alloc: Global,
     hand: Hand,
     formula: &Formula,
     plan: Plan,
+    root: Root,
     gate: &G,
 ) -> Worked<L>
     requires vars { hand.vars ≡ formula.now.vars }
+    requires root { IsRootOf formula.now plan root }
     ensures same { SameHand hand result.hand }
     ensures work { HasWorked formula.now plan result.short_of_memory hand.ledger result.hand.ledger (results_by L.lines result.solved.items) }
     ensures home { GoesHome result.short_of_memory hand.ledger result.hand.ledger }
 {
     let mut worker = Worker {
         hand,
-        solver: None,
+        solver: OwnSolver::none(root),
         solved: Vec::new(alloc),
     };
     let mut pauses = Pauses::none();
@@ -326,5 +329,5 @@ pub fn work_by_plan<R: Wait + Clock, G: Gate>(
     ensures work { Worked_as formula.now plan result.short_of_memory hand.ledger result.hand.ledger result.solved.items }
     ensures home { GoesHome result.short_of_memory hand.ledger result.hand.ledger }
 {
-    work_in(rt, alloc, hand, formula, plan, gate)
+    work_in(rt, alloc, hand, formula, plan, Root::Unknown, gate)
 }

@@ -13,6 +13,7 @@ mod known;
 mod packing;
 mod pause;
 mod place;
+mod preparing;
 mod results;
 mod size;
 mod solved;

@@ -5,50 +5,72 @@ ghost use Rattle.theory.specs.Plans as plans;
 ghost use Rattle.theory.specs.Runs.{Runs};
 ghost use Rattle.theory.specs.Results.{OutcomeSays, IsWhole};
 ghost use Rattle.cdcl.specs.Outcome.{outcome_of, outcome_by};
-ghost use Rattle.cdcl.specs.Solving.{IsSolverOf};
+ghost use Rattle.cdcl.specs.Solving.{IsRootOf};
 ghost use Rattle.cubes.specs.Solved.{AreTrueBy, AreTrueResults, results_by, solved_of};
-ghost use Rattle.cubes.specs.Source.{IsSource};
+ghost use Rattle.cubes.specs.Source.{IsOwnSolver, IsSource};
 ghost use Rattle.cubes.specs.Result.{IsResultBy, IsResultOf, Says};
 
 use crate::gathering::Gathering;
 use crate::known::Known;
 use crate::solved::Solved;
 use crate::tree::Tree;
-use cdcl::{KeepsLines, Outcome, Plan, Solver, Unwatched, Watcher};
+use cdcl::{KeepsLines, Outcome, Plan, Root, Solver, Unwatched, Watcher};
 use cnf::Formula;
 use kernel::Cube;
 use lines::Row;
 use std::alloc::{AllocError, Global};
 
-/// The outcome of a cube, by the solver of the formula and the plan, which is made where there is
-/// none yet. A watcher is told what it does.
-pub(crate) fn solve<W: Watcher>(
-    alloc: Global,
-    formula: &Formula,
-    plan: Plan,
-    cube: &Cube,
-    solver: &mut Option<Solver>,
-    watcher: &W,
-) -> Result<Outcome<Row>, AllocError>
-    requires over { IsOver formula.now.vars cube.now }
-    requires solver { IfSome solver.old (IsSolverOf formula.now plan) }
-    ensures runs { IfOk result (λ o. Runs formula.now plan cube.now (outcome_of o)) }
-    ensures says { IfOk result (λ o. OutcomeSays plan.search formula.now cube.now (outcome_of o)) }
-    ensures kept { OnOk result (IfSome solver.new (IsSolverOf formula.now plan)) }
-{
-    let mut ready = match solver.take() {
-        Some(solver) => solver,
-        None => Solver::open(alloc, formula, plan)?,
-    };
-    let outcome = ready.solve_watched(cube, watcher)?;
-    *solver = Some(ready);
-    Ok(outcome)
+/// The solver of a formula by a plan, once a cube was to be solved, and what it is told of the cube
+/// without literals.
+pub(crate) struct OwnSolver {
+    pub(crate) solver: Option<Solver>,
+    pub(crate) root: Root,
+}
+
+// written out, so that proofs of its owners stay short (docs/CHANGING.md)
+impl Drop for OwnSolver {
+    fn drop(self) {
+        let OwnSolver { solver: _, root: _ } = self;
+    }
+}
+
+impl OwnSolver {
+    /// None was needed yet.
+    pub(crate) fn none(root: Root) -> OwnSolver
+        ensures { (F : Formula) (plan : plans.Plan) → IsRootOf F plan root → IsOwnSolver F plan result }
+    {
+        OwnSolver { solver: None, root }
+    }
+
+    /// The outcome of a cube. A watcher is told what is done.
+    pub(crate) fn solve<W: Watcher>(
+        &mut self,
+        alloc: Global,
+        formula: &Formula,
+        plan: Plan,
+        cube: &Cube,
+        watcher: &W,
+    ) -> Result<Outcome<Row>, AllocError>
+        requires over { IsOver formula.now.vars cube.now }
+        requires solver { IsOwnSolver formula.now plan self.old }
+        ensures runs { IfOk result (λ o. Runs formula.now plan cube.now (outcome_of o)) }
+        ensures says { IfOk result (λ o. OutcomeSays plan.search formula.now cube.now (outcome_of o)) }
+        ensures kept { OnOk result (IsOwnSolver formula.now plan self.new) }
+    {
+        let mut ready = match self.solver.take() {
+            Some(solver) => solver,
+            None => Solver::open_told(alloc, formula, plan, self.root)?,
+        };
+        let outcome = ready.solve_watched(cube, watcher)?;
+        self.solver = Some(ready);
+        Ok(outcome)
+    }
 }
 
 /// Where the outcomes of cubes come from: those that are known, and a solver, once one was needed.
 pub(crate) struct Source<L> {
     pub(crate) known: Known<L>,
-    pub(crate) solver: Option<Solver>,
+    pub(crate) solver: OwnSolver,
 }
 
 // written out, so that proofs of its owners stay short (docs/CHANGING.md)
@@ -79,30 +101,33 @@ impl<L: KeepsLines> Source<L> {
         match self.known.take(cube) {
             Some(outcome) => Ok(outcome),
             None => {
-                let outcome = solve(alloc, formula, plan, cube, &mut self.solver, watcher)?;
+                let outcome = self.solver.solve(alloc, formula, plan, cube, watcher)?;
                 Ok(outcome.kept(alloc)?)
             }
         }
     }
 }
 
-/// What `gather_by_plan` does, whatever keeps the lines of refuted cubes, and tells a watcher of
-/// what is solved. It fails also where the watcher stops it.
+/// What `gather_by_plan` does, whatever keeps the lines of refuted cubes, where this is known of the
+/// cube without literals, and tells a watcher of what is solved. It fails also where the watcher
+/// stops it.
 pub(crate) fn gather_watched<L: KeepsLines, W: Watcher>(
     alloc: Global,
     formula: &Formula,
     plan: Plan,
+    root: Root,
     results: Vec<Solved<L>>,
     watcher: &W,
 ) -> Result<Tree<L>, AllocError>
     requires results { AreTrueBy L.lines formula.now plan results.items }
+    requires root { IsRootOf formula.now plan root }
     ensures result { IfOk result (λ t. IsResultBy L.lines formula.now plan t) }
     ensures says { IfOk result (λ t. Says plan.search formula.now t) }
 {
     let _vars = formula.vars(); // it ensures what the proof needs of the formula
     let mut source = Source {
         known: Known::new(alloc, results)?,
-        solver: None,
+        solver: OwnSolver::none(root),
     };
     let mut gathering = Gathering::start(alloc);
     'cubes: loop {
@@ -127,7 +152,7 @@ pub fn gather_by_plan(
     ensures result { IfOk result (λ t. IsResultOf formula.now plan t) }
     ensures says { IfOk result (λ t. Says plan.search formula.now t) }
 {
-    gather_watched(alloc, formula, plan, results, &Unwatched)
+    gather_watched(alloc, formula, plan, Root::Unknown, results, &Unwatched)
 }
 
 /// What `assemble_rows` does, whatever keeps the lines of refuted cubes.

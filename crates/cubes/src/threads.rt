@@ -2,6 +2,7 @@
 ghost use Rattle.std.specs.Prelude.{◌≡◌, ◌≤◌, [], false, map, length, All, IfOk};
 ghost use Rattle.theory.specs.Results.{IsWhole};
 ghost use Rattle.pool.specs.Pools.{AreNew};
+ghost use Rattle.cdcl.specs.Solving.{IsRootOf};
 ghost use Rattle.cubes.specs.Result.{IsResultBy, IsResultOf, Says};
 ghost use Rattle.cubes.specs.Shares.{HasDone, HaveDone};
 ghost use Rattle.cubes.specs.Solved.{results_by, solved_of};
@@ -9,10 +10,11 @@ ghost use Rattle.cubes.specs.Solved.{results_by, solved_of};
 use crate::closing::close_all;
 use crate::gate::{Gate, Watched};
 use crate::hands::{Worked, work_in};
+use crate::preparing::{Beginning, prepare};
 use crate::results::{assemble_in, gather_watched};
 use crate::solved::Solved;
 use crate::tree::Tree;
-use cdcl::{KeepsLines, Plan};
+use cdcl::{KeepsLines, Plan, Root};
 use cnf::Formula;
 use kernel::Cube;
 use lines::Row;
@@ -30,10 +32,12 @@ fn all_work<L: KeepsLines + Send, R: Threads + Wait + Clock + Sync, G: Gate + Sy
     alloc: Global,
     formula: &Formula,
     plan: Plan,
+    root: Root,
     gate: &G,
     hands: Vec<Hand>,
 ) -> Result<Vec<Worked<L>>, AllocError>
     requires vars { All (λ h. h.vars ≡ formula.now.vars) hands.items }
+    requires root { IsRootOf formula.now plan root }
     ensures len { IfOk result (λ v. length v.items ≡ length hands.items) }
     ensures each { IfOk result (λ v. HaveDone L.lines formula.now plan hands.items v.items) }
 {
@@ -41,9 +45,9 @@ fn all_work<L: KeepsLines + Send, R: Threads + Wait + Clock + Sync, G: Gate + Sy
         rt,
         hands,
         &|hand: Hand| -> Worked<L>
-            requires { hand.vars ≡ formula.now.vars }
+            requires { (hand.vars ≡ formula.now.vars) × IsRootOf formula.now plan root }
             ensures { HasDone L.lines formula.entry.now plan hand result }
-        { work_in(rt, alloc, hand, formula, plan, gate) },
+        { work_in(rt, alloc, hand, formula, plan, root, gate) },
     )
 }
 
@@ -58,12 +62,14 @@ fn is_short<L>(works: &[Worked<L>]) -> bool
     false
 }
 
-/// What `results_by_hands` does, whatever keeps the lines of refuted cubes.
+/// What `results_by_hands` does, whatever keeps the lines of refuted cubes, where this is known of
+/// the cube without literals.
 fn results_in<L: KeepsLines + Send, R: Threads + Wait + Clock + Sync, G: Gate + Sync>(
     rt: &R,
     alloc: Global,
     formula: &Formula,
     plan: Plan,
+    known: Root,
     gate: &G,
     pool: Pool,
     hands: Vec<Hand>,
@@ -71,9 +77,10 @@ fn results_in<L: KeepsLines + Send, R: Threads + Wait + Clock + Sync, G: Gate + 
     requires some { 1 ≤ pool.hands }
     requires root { pool.root ≡ [] }
     requires hands { AreNew pool formula.now.vars hands.items }
+    requires known { IsRootOf formula.now plan known }
     ensures { IfOk result (λ r. IsWhole formula.now plan (results_by L.lines r.items)) }
 {
-    let works = all_work(rt, alloc, formula, plan, gate, hands)?;
+    let works = all_work(rt, alloc, formula, plan, known, gate, hands)?;
     if is_short(&works) {
         return Err(AllocError);
     }
@@ -95,7 +102,7 @@ pub fn results_by_hands<R: Threads + Wait + Clock + Sync, G: Gate + Sync>(
     requires hands { AreNew pool formula.now.vars hands.items }
     ensures { IfOk result (λ r. IsWhole formula.now plan (map solved_of r.items)) }
 {
-    results_in(rt, alloc, formula, plan, gate, pool, hands)
+    results_in(rt, alloc, formula, plan, Root::Unknown, gate, pool, hands)
 }
 
 /// The result, by these hands of the pool.
@@ -104,6 +111,7 @@ fn solve_by_hands<L: KeepsLines + Send, R: Threads + Wait + Clock + Sync, G: Gat
     alloc: Global,
     formula: &Formula,
     plan: Plan,
+    known: Root,
     gate: &G,
     pool: Pool,
     hands: Vec<Hand>,
@@ -111,11 +119,12 @@ fn solve_by_hands<L: KeepsLines + Send, R: Threads + Wait + Clock + Sync, G: Gat
     requires some { 1 ≤ pool.hands }
     requires root { pool.root ≡ [] }
     requires hands { AreNew pool formula.now.vars hands.items }
+    requires known { IsRootOf formula.now plan known }
     ensures result { IfOk result (λ t. IsResultBy L.lines formula.now plan t) }
     ensures says { IfOk result (λ t. Says plan.search formula.now t) }
 {
     let _vars = formula.vars(); // it ensures what the proof needs of the formula
-    let results = results_in(rt, alloc, formula, plan, gate, pool, hands)?;
+    let results = results_in(rt, alloc, formula, plan, known, gate, pool, hands)?;
     assemble_in(alloc, results)
 }
 
@@ -124,13 +133,36 @@ fn solve_here<L: KeepsLines, G: Gate>(
     alloc: Global,
     formula: &Formula,
     plan: Plan,
+    root: Root,
     gate: &G,
 ) -> Result<Tree<L>, AllocError>
+    requires { IsRootOf formula.now plan root }
     ensures result { IfOk result (λ t. IsResultBy L.lines formula.now plan t) }
     ensures says { IfOk result (λ t. Says plan.search formula.now t) }
 {
     let watched = Watched { gate, hand: 0 };
-    gather_watched(alloc, formula, plan, Vec::new(alloc), &watched)
+    gather_watched(alloc, formula, plan, root, Vec::new(alloc), &watched)
+}
+
+/// The result, by hands that are told this of the cube without literals.
+fn solve_from<L: KeepsLines + Send, R: Threads + Wait + Clock + Sync, G: Gate + Sync>(
+    rt: &R,
+    alloc: Global,
+    formula: &Formula,
+    plan: Plan,
+    root: Root,
+    hands: usize,
+    gate: &G,
+) -> Result<Tree<L>, AllocError>
+    requires hands { (1 ≤ hands) × (hands ≤ 16) }
+    requires root { IsRootOf formula.now plan root }
+    ensures result { IfOk result (λ t. IsResultBy L.lines formula.now plan t) }
+    ensures says { IfOk result (λ t. Says plan.search formula.now t) }
+{
+    match pool::open(alloc, hands, formula.vars(), Cube::root(alloc)) {
+        Ok((pool, all)) => solve_by_hands(rt, alloc, formula, plan, root, gate, pool, all),
+        Err(_) => solve_here(alloc, formula, plan, root, gate),
+    }
 }
 
 /// What `solve_by_plan` does, whatever keeps the lines of refuted cubes.
@@ -146,9 +178,9 @@ pub(crate) fn solve_in<L: KeepsLines + Send, R: Threads + Wait + Clock + Sync, G
     ensures result { IfOk result (λ t. IsResultBy L.lines formula.now plan t) }
     ensures says { IfOk result (λ t. Says plan.search formula.now t) }
 {
-    match pool::open(alloc, hands, formula.vars(), Cube::root(alloc)) {
-        Ok((pool, all)) => solve_by_hands(rt, alloc, formula, plan, gate, pool, all),
-        Err(_) => solve_here(alloc, formula, plan, gate),
+    match prepare(alloc, formula, plan, gate)? {
+        Beginning::Decided(tree) => Ok(tree),
+        Beginning::Open(root) => solve_from(rt, alloc, formula, plan, root, hands, gate),
     }
 }
 

@@ -16,36 +16,46 @@ use std::time::Clock;
 /// makes them restart or forget.
 type Done = [u64; 4];
 
-/// A text, a search, a budget for the root, and what all hands do.
-type Row = (&'static [u8], Search, u32, Done);
+/// A text, a search, a budget for the root, how many cubes are wanted, what is done before the hands
+/// begin, and what all hands do.
+type Row = (&'static [u8], Search, u32, u32, Done, Done);
+
+/// Nothing is done.
+const NONE: Done = [0, 0, 0, 0];
 
 /// A formula with two models; both have 1 true.
 const ONE: &[u8] = b"p cnf 2 2\n1 2 0\n1 -2 0\n";
 
-static ROWS: [Row; 7] = [
+static ROWS: [Row; 9] = [
     // -1 is decided and gives 2, which makes the second clause false; 1 is learnt and gives 2,
     // which makes the fourth one false at level 0
-    (FOUR, Search::Ordered, 2, [2, 1, 4, 1]),
+    (FOUR, Search::Ordered, 2, 0, NONE, [2, 1, 4, 1]),
     // the same with 1 and 2 exchanged
-    (FOUR, Search::Focused, 2, [2, 1, 4, 1]),
+    (FOUR, Search::Focused, 2, 0, NONE, [2, 1, 4, 1]),
     // -1, then -2 and 3, a conflict; (1 2) is learnt; 2 and 3, a conflict; 1 is learnt and gives
     // nothing; -2 is decided and gives 3, a conflict; 2 is learnt and gives 3, the last conflict
-    (EIGHT, Search::Ordered, 1000, [4, 3, 10, 3]),
+    (EIGHT, Search::Ordered, 1000, 0, NONE, [4, 3, 10, 3]),
     // the same with 1 and 3 exchanged, but 2 is decided to be true, as it was last
-    (EIGHT, Search::Focused, 1000, [4, 3, 10, 3]),
+    (EIGHT, Search::Focused, 1000, 0, NONE, [4, 3, 10, 3]),
     // the first of these conflicts uses the root up; in each half its literal, then -2 and 3, a
     // conflict; a unit clause of 2 is learnt and gives 3, a conflict
-    (EIGHT, Search::Ordered, 1, [5, 4, 13, 2]),
+    (EIGHT, Search::Ordered, 1, 0, NONE, [5, 4, 13, 2]),
     // -1 gives 2, a conflict; 1 is learnt; -2 is decided
-    (ONE, Search::Ordered, 2, [1, 2, 4, 1]),
+    (ONE, Search::Ordered, 2, 0, NONE, [1, 2, 4, 1]),
     // -2 is decided and gives 1
-    (ONE, Search::Focused, 2, [0, 1, 2, 0]),
+    (ONE, Search::Focused, 2, 0, NONE, [0, 1, 2, 0]),
+    // it is refuted before the first search is asked
+    (FOUR, Search::Focused, 2, 2, [2, 1, 4, 1], NONE),
+    // -2 is decided and gives 1, a conflict, with few decisions; a look meets the same one; both
+    // halves are refuted by propagation
+    (FOUR, Search::Focused, 1, 2, [2, 2, 4, 0], [2, 0, 4, 0]),
 ];
 
-/// What each of four hands has done.
+/// What was done before the hands began, and what each of four has done.
 #[derive(Drop)]
 struct Told<'a, R> {
     rt: &'a R,
+    before: Mutex<Counts>,
     last: Mutex<[Counts; 4]>,
 }
 
@@ -66,6 +76,10 @@ impl<R: Wait> Gate for Told<'_, R> {
 
     fn after(&self, _hand: usize, _cube: &Cube) {}
 
+    fn prepared(&self, counts: Counts) {
+        *self.before.lock(self.rt) = counts;
+    }
+
     fn counted(&self, hand: usize, counts: Counts) {
         let mut last = self.last.lock(self.rt);
         if let Some(at) = last.get_mut(hand) {
@@ -74,43 +88,56 @@ impl<R: Wait> Gate for Told<'_, R> {
     }
 }
 
-/// What so many hands do, as a gate is told.
+fn numbers_of(counts: Counts) -> Done {
+    [
+        counts.conflicts,
+        counts.decisions,
+        counts.propagations,
+        counts.learnt,
+    ]
+}
+
+/// What is done before so many hands begin, and by them, as a gate is told.
 fn done_by<R: Threads + Wait + Clock + Sync>(
     rt: &R,
     alloc: Global,
     formula: &Formula,
     plan: Plan,
     hands: usize,
-) -> Result<Done, Fail>
+) -> Result<(Done, Done), Fail>
     requires { (1 ≤ hands) × (hands ≤ 16) }
 {
     let gate = Told {
         rt,
+        before: Mutex::new(Counts::none()),
         last: Mutex::new([Counts::none(); 4]),
     };
     solve_by_plan(rt, alloc, formula, plan, hands, &gate)?;
-    let sum = gate.sum();
-    Ok([sum.conflicts, sum.decisions, sum.propagations, sum.learnt])
+    let before = *gate.before.lock(rt);
+    Ok((numbers_of(before), numbers_of(gate.sum())))
 }
 
-fn plan_of(search: Search, budget: u32) -> Plan
-    requires { (1 ≤ budget) × (budget ≤ 100000) }
+fn plan_of(search: Search, budget: u32, divide: u32) -> Plan
+    requires { (1 ≤ budget) × (budget ≤ 100000) × (divide ≤ 65536) }
 {
     match search {
         Search::Ordered => Plan::ordered(budget),
-        Search::Focused => Plan::focused(budget),
+        Search::Focused => Plan::focused(budget).divided(divide),
     }
 }
 
 #[test]
 fn a_gate_is_told_what_is_done(rt: HostRuntime) -> Result<(), Fail> {
-    for (text, search, budget, wanted) in &ROWS {
+    for (text, search, budget, divide, before, wanted) in &ROWS {
         let formula = read_formula(rt.alloc(), text)?;
         let budget = (*budget).max(1).min(100_000);
-        let plan = plan_of(*search, budget);
+        let plan = plan_of(*search, budget, (*divide).min(65_536));
         for hands in [1, 2, 4] {
             let found = done_by(&rt, rt.alloc(), &formula, plan, hands)?;
-            assert!(rt; found == *wanted, "{hands} hands at {text:?}: {found:?}");
+            assert!(rt;
+                found == (*before, *wanted),
+                "{hands} hands at {text:?}: {found:?}"
+            );
         }
     }
     Ok(())

@@ -70,6 +70,10 @@ impl<G: Gate, L: Limit> Gate for LimitedGate<'_, G, L> {
         self.gate.after(hand, cube);
     }
 
+    fn prepared(&self, counts: Counts) {
+        self.gate.prepared(counts);
+    }
+
     fn counted(&self, hand: usize, counts: Counts) {
         self.gate.counted(hand, counts);
     }

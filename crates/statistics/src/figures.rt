@@ -146,6 +146,11 @@ impl Figures {
         self.cubes.end(hand, depth);
     }
 
+    /// Before hands began so much was done.
+    pub(crate) fn count_prepared(&mut self, counts: Counts) {
+        self.counts.set_prepared(counts);
+    }
+
     /// A hand's solver has done so much in all.
     pub(crate) fn count(&mut self, hand: usize, counts: Counts) {
         self.counts.set(hand, counts);

@@ -3,9 +3,11 @@
 use crate::cube_counts::HANDS;
 use cdcl::Counts;
 
-/// What each hand's solver has done since it began, as far as a gate was told.
+/// What was done before hands began, and what each hand's solver has done since it began, as far as
+/// a gate was told.
 #[derive(Clone, Copy)]
 pub struct SearchCounts {
+    prepared: Counts,
     by_hand: [Counts; HANDS],
 }
 
@@ -13,8 +15,14 @@ impl SearchCounts {
     /// Nothing was done.
     pub fn none() -> SearchCounts {
         SearchCounts {
+            prepared: Counts::none(),
             by_hand: [Counts::none(); HANDS],
         }
+    }
+
+    /// Before hands began so much was done.
+    pub fn set_prepared(&mut self, counts: Counts) {
+        self.prepared = counts;
     }
 
     /// A hand's solver has done so much in all. There are hands 0 to 15.
@@ -26,7 +34,7 @@ impl SearchCounts {
 
     /// What all solvers have done together.
     pub fn sum(&self) -> Counts {
-        let mut sum = Counts::none();
+        let mut sum = self.prepared;
         for done in self.by_hand {
             sum = sum.with(done);
         }

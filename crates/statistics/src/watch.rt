@@ -78,6 +78,10 @@ impl<R: Wait> Gate for Watch<'_, R> {
         self.board.figures().lock(self.rt).end_cube(hand, depth);
     }
 
+    fn prepared(&self, counts: Counts) {
+        self.board.figures().lock(self.rt).count_prepared(counts);
+    }
+
     fn counted(&self, hand: usize, counts: Counts) {
         self.board.figures().lock(self.rt).count(hand, counts);
     }

@@ -14,7 +14,7 @@ use Rattle.cubes.proofs.hands.work_in.Goals as goal
 pub turns-init : goal.turns-init
 turns-init g c = record {
   same = SameHand-itself c.args.hand;
-  worker = (tt, c.requires.vars);
+  worker = (c.none.ensures c.args.formula.now c.args.plan c.requires.root, c.requires.vars);
   underway = loop-begins c.args.formula.now c.args.plan c.args.hand.ledger (results_by g.L.KeepsLines.lines c.new.result.items) (ap (results_by g.L.KeepsLines.lines) c.new.ensures.items);
   onward = GoesOn-itself c.args.hand.ledger;
 }

@@ -9,7 +9,7 @@ use Rattle.cubes.proofs.results.gather_watched.Goals as goal
 
 pub cubes-init : goal.cubes-init
 cubes-init g c = record {
-  source = (AreOutcomes-known g.L.KeepsLines.lines c.args.formula.now c.args.plan (results_by g.L.KeepsLines.lines c.args.results.items) c.in_ok-new.field-0 (All-map (λ r. IsTrueOf c.args.formula.now c.args.plan r.cube r.what) (solved_by g.L.KeepsLines.lines) c.args.results.items c.requires.results) c.in_ok-new.ensures, tt);
+  source = (AreOutcomes-known g.L.KeepsLines.lines c.args.formula.now c.args.plan (results_by g.L.KeepsLines.lines c.args.results.items) c.in_ok-new.field-0 (All-map (λ r. IsTrueOf c.args.formula.now c.args.plan r.cube r.what) (solved_by g.L.KeepsLines.lines) c.args.results.items c.requires.results) c.in_ok-new.ensures, c.none.ensures c.args.formula.now c.args.plan c.requires.root);
   reached = IsGathered-start g.L.KeepsLines.lines c.args.formula.now c.args.plan c.start-gathering.result c.start-gathering.ensures.cube c.start-gathering.ensures.walk c.start-gathering.ensures.nodes;
 }
 

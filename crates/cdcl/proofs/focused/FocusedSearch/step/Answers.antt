@@ -26,11 +26,11 @@ on_conflict-requires-clause-conflict c = rw c.close.ensures.kept.1 (Propagates-c
 
 pub returns-in-Quiet-clause-step : goal.returns-in-Quiet-clause-step
 returns-in-Quiet-clause-step c =
-    step-from c.args.budget c.args.self.now c.on_quiet.new.self c.close.new.self quiet c.on_quiet.result c.close.ensures.kept.0 c.close.ensures.kept.1
-    (rw (c.in-Quiet.is, c.requires.focusing.searching.in_order) at c.in_ok-close.ensures.ok)
-    (if_ok-map c.on_quiet.result _ _ (λ o h saved. h saved c.args.budget c.requires.counted.0) c.on_quiet.ensures.next)
+    step-from c.args.last c.args.self.now c.on_quiet.new.self c.close.new.self quiet c.on_quiet.result c.close.ensures.kept.0 c.close.ensures.kept.1
+    (rw (c.in-Quiet.is, c.requires.focusing.searching.in_order) at c.in_ok-close.ensures.ok) (rw c.requires.focusing.searching.in_order at c.close.ensures.onward)
+    (if_ok-map c.on_quiet.result _ _ (λ o h saved. h saved c.args.last c.requires.counted.0) c.on_quiet.ensures.next)
 
 pub returns-in-Conflict-clause-step : goal.returns-in-Conflict-clause-step
 returns-in-Conflict-clause-step c =
-    step-from c.args.budget c.args.self.now c.on_conflict.new.self c.close.new.self (conflict c.in-Conflict.number) c.on_conflict.result c.close.ensures.kept.0 c.close.ensures.kept.1
-    (rw (c.in-Conflict.is, c.requires.focusing.searching.in_order) at c.in_ok-close.ensures.ok) c.on_conflict.ensures.next
+    step-from c.args.last c.args.self.now c.on_conflict.new.self c.close.new.self (conflict c.in-Conflict.number) c.on_conflict.result c.close.ensures.kept.0 c.close.ensures.kept.1
+    (rw (c.in-Conflict.is, c.requires.focusing.searching.in_order) at c.in_ok-close.ensures.ok) (rw c.requires.focusing.searching.in_order at c.close.ensures.onward) c.on_conflict.ensures.next

@@ -12,6 +12,7 @@ solve-requires-clause-ready g c = (
   c.self.inside.plan,
   c.self.invariant c.if-self.false,
   subst (λ (s : Solving). IsOver s.formula.vars c.args.cube.now) (sym c.self.view_is) c.requires.over,
+  c.budget_of-conflicts.ensures.same c.args.cube.now (ap length (sym c.lits.ensures.lits)) ∙ ap (λ B. budget_of B c.args.cube.now) c.budget.ensures.same,
 )
 
 pub invariant_of-self-2 : goal.invariant_of-self-2
