@@ -105,6 +105,17 @@ impl<'a, R, C> Fake<'a, R, C> {
         }
     }
 
+    /// The system by this clock, where no file can be flushed.
+    pub(crate) fn unflushed(rt: &'a R, clock: &'a C) -> Fake<'a, R, C> {
+        Fake {
+            rt,
+            clock,
+            slow: None,
+            status: None,
+            flushes: false,
+        }
+    }
+
     /// The system by this clock, where the file of this path tells of the process.
     pub(crate) fn telling(rt: &'a R, clock: &'a C, path: &'a str) -> Fake<'a, R, C> {
         Fake {

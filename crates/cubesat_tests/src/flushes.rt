@@ -1,7 +1,9 @@
 //! What is written is flushed at its end, whatever is shown of the run: a flush that fails is a
 //! fault.
+use crate::clocks::Meeting;
+use crate::fake::Fake;
 use crate::faulty::{Limited, UNFLUSHED};
-use crate::sessions::Paths;
+use crate::sessions::{Paths, run};
 use crate::texts::{FOUR, FOUR_PROOF};
 use cubesat::command;
 use std::fs;
@@ -71,6 +73,30 @@ fn answers_are_flushed(rt: HostRuntime) -> Result<(), Fail> {
     let paths = Paths::of(&rt, "flushed_answer.cnf")?;
     for words in SOLVING.iter().chain(&OTHERS) {
         assert!(rt; flushes_answer(&rt, &paths, words)?, "{words:?}");
+    }
+    Ok(())
+}
+
+/// Whether a command line has the fault of a proof that can't be flushed, and answers nothing, on a
+/// system whose files can't be.
+fn flushes_proof<R: Files + AllocGlobal + Threads + Wait + Clock + Sync>(
+    rt: &R,
+    paths: &Paths,
+    words: &[&str],
+) -> Result<bool, Fail> {
+    write_files(rt, paths)?;
+    let words = paths.words(rt.alloc(), words)?;
+    let printed = run(rt, &words);
+    Ok(printed.status == 1 && printed.answer.is_empty() && names(&printed.faults, "53"))
+}
+
+#[test]
+fn proofs_are_flushed(rt: HostRuntime) -> Result<(), Fail> {
+    let paths = Paths::of(&rt, "flushed_proof.cnf")?;
+    let clock = Meeting::at(u64::MAX, 0);
+    let fake = Fake::unflushed(&rt, &clock);
+    for words in &SOLVING {
+        assert!(rt; flushes_proof(&fake, &paths, words)?, "{words:?}");
     }
     Ok(())
 }

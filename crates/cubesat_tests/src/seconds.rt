@@ -1,9 +1,11 @@
 //! `--seconds`: a run by a clock that jumps ends where the limit is reached, and nowhere else.
 use crate::clocks::{Readings, UNREAD};
 use crate::fake::Fake;
+use crate::faulty::{Full, Limited, Limits, UNFLUSHED};
 use crate::kept_proof::Parts;
 use crate::sessions::{Wanted, prints};
 use crate::texts::{FOUR, FOUR_PROOF};
+use cubesat::command;
 use std::alloc::{AllocError, Global};
 use std::fmt::Write;
 use std::fs;
@@ -261,6 +263,61 @@ fn a_limit_that_is_reached_inside_a_cube(rt: HostRuntime) -> Result<(), Fail> {
         let clock = Readings::new(row.clock);
         let fake = Fake::by(&rt, &clock);
         assert!(rt; holds(&fake, &parts, &row, hands)?, "{hands}");
+    }
+    Ok(())
+}
+
+/// Writers that refuse a part of the answer.
+static REFUSING: [Limits; 4] = [
+    Limits {
+        room: 0,
+        full: Full::Fails,
+        flushes: true,
+    },
+    Limits {
+        room: 3,
+        full: Full::Fails,
+        flushes: true,
+    },
+    Limits {
+        room: 9,
+        full: Full::TakesNothing,
+        flushes: true,
+    },
+    UNFLUSHED,
+];
+
+/// Whether a row's run, which is ended, has the fault of an answer that a writer of these limits
+/// refuses.
+fn is_refused<R: Files + AllocGlobal + Threads + Wait + Clock + Sync>(
+    rt: &R,
+    parts: &Parts,
+    row: &Row,
+    limits: Limits,
+) -> Result<bool, Fail> {
+    fs::write(rt, parts.paths.formula.as_str(), row.formula)?;
+    fs::write(rt, parts.paths.proof.as_str(), "old")?;
+    let words = parts.paths.words(rt.alloc(), row.words)?;
+    let mut answer = Limited::new(rt.alloc(), limits);
+    let mut faults = Vec::new(rt.alloc());
+    let status = command(rt, rt.alloc(), &words, &mut answer, &mut faults);
+    let is_said = faults.starts_with(b"fault 54\nc the answer: ");
+    let is_beginning = row.answer.as_bytes().starts_with(answer.taken.as_slice());
+    Ok(status == 1 && is_said && is_beginning && parts.has(rt, row.proof))
+}
+
+#[test]
+fn an_unknown_answer_that_cannot_be_written(rt: HostRuntime) -> Result<(), Fail> {
+    let parts = Parts::of(&rt, "seconds_refused.cnf")?;
+    let row = ENDED;
+    for limits in &REFUSING {
+        let clock = Readings::new(row.clock);
+        let fake = Fake::by(&rt, &clock);
+        assert!(rt;
+            is_refused(&fake, &parts, &row, *limits)?,
+            "{}",
+            limits.room
+        );
     }
     Ok(())
 }
