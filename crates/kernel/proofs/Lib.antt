@@ -10,6 +10,7 @@ pub mod Falling
 pub mod Filtering
 pub mod Forgetting
 pub mod ForgottenAt
+pub mod GivenBack
 pub mod InOrder
 pub mod KernelSteps
 pub mod LastFalse
@@ -35,5 +36,6 @@ pub mod Turns
 pub mod UnitLemmas
 pub mod Replacements
 pub mod Visits
+pub mod WaitingHeaps
 pub mod Walking
 pub mod WatchChoice

@@ -7,6 +7,7 @@ use Rattle.theory.specs.Status.{unit_literal}
 use Rattle.theory.specs.Trails.{Trail, literals}
 use Rattle.theory.specs.Propagation.{last_false}
 use Rattle.kernel.specs.declared.line.Waiting.{Waiting}
+use Rattle.kernel.specs.declared.waiting_heap.Numbered.{Numbered}
 use Rattle.kernel.specs.declared.order.Order.{Order}
 use Rattle.kernel.specs.declared.order.Order.TheVariants.{ByNumber, ByPlace}
 use Rattle.kernel.specs.declared.propagator.Propagator.{Propagator}
@@ -15,6 +16,10 @@ use Rattle.kernel.specs.Visiting.{WatchLists, kept_of, IsLast}
 
 abbrev pub clauses_of : List Waiting → List ℕ
 clauses_of ws = map (λ w. w.clause) ws
+
+-- a clause that waits at place 0
+abbrev pub at_start : Numbered → Waiting
+at_start u = record { place = 0; clause = u.clause; lit = u.lit }
 
 -- a is of a lesser place, or of the same and no greater number
 abbrev pub GoesFirst : Waiting → Waiting → Type 0

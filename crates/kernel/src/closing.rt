@@ -70,9 +70,7 @@ impl Propagator {
         ensures line { OnOk result (line.new ≡ []) }
         ensures kept { (self.new.clauses.given ≡ self.old.clauses.given) × (self.new.clauses.pairs ≡ self.old.clauses.pairs) × (self.new.lists ≡ self.old.lists) × (self.new.conflict ≡ self.old.conflict) }
     {
-        while let Some(waiting) = line.pop() {
-            self.units.push(waiting.clause)?;
-        }
+        line.give_to(&mut self.units)?;
         Ok(())
     }
 

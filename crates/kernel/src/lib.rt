@@ -20,6 +20,7 @@ mod replacement;
 mod sight;
 mod store;
 mod units;
+mod waiting_heap;
 mod waiting_queue;
 mod watch;
 

@@ -1,20 +1,19 @@
 //! Unit clauses that wait, each with its literal and the place of its last false one.
-ghost use Rattle.std.specs.Prelude.{◌≡◌, [], ◌∷◌, All, OnOk, IfSome, IfNone, true, false, map, nat_eq};
-ghost use Rattle.std.specs.BinaryHeap.{IsHeap, heap_items};
-ghost use Rattle.std.specs.List.{Contains};
+ghost use Rattle.std.specs.Prelude.{◌≡◌, [], ◌∷◌, ◌++◌, All, OnOk, IfSome, IfNone, nat_eq};
 ghost use Rattle.std.proofs.Common.{rules};
 ghost use Rattle.std.specs.Cmp.{partial_order_from_own_ties};
 ghost use Rattle.std.specs.Cmp.Rules.{comparing};
 ghost use Rattle.std.specs.Ordering.{nat_cmp, ordering_then, on, eq_of_both, then_cmp, as_partial_cmp};
 ghost use Rattle.std.specs.List.Sorted.{IsPermutation};
-ghost use Rattle.kernel.specs.Placing.{GoesFirst};
+ghost use Rattle.kernel.specs.Placing.{GoesFirst, clauses_of};
 ghost use Rattle.kernel.specs.declared.line.Waiting.{Waiting};
 
-use crate::waiting_queue::{WaitingQueue, goes_first};
+use crate::units::Units;
+use crate::waiting_heap::WaitingHeap;
+use crate::waiting_queue::WaitingQueue;
 use cnf::Lit;
 use std::alloc::{AllocError, Global};
-use std::cmp::{Ordering, Reverse};
-use std::collections::BinaryHeap;
+use std::cmp::Ordering;
 use std::marker::Model;
 
 /// A clause that was found unit. Which one goes first is a matter of place and clause.
@@ -70,57 +69,26 @@ impl Ord for Waiting {
 }
 
 /// Clauses that wait, of which the one of least place goes first, and of several the one of least
-/// number. One that goes behind those of the queue, or before a few of them alone, goes there, the
-/// others go into a heap. Clauses that one entry of the trail made unit come with its place, which
-/// is the greatest so far, so the heap is touched only where an entry makes many clauses unit in
-/// another order than that of their numbers, and where several entries were served at once. With a
-/// heap alone a quarter of the time of some searches went into it.
+/// number. One that goes behind those of the queue goes there, and one with a place that goes
+/// before a few of them alone; the others go into a heap. Clauses that one entry of the trail made
+/// unit come with its place, which is the greatest so far, so of these the heap is touched only
+/// where an entry makes many clauses unit in another order than that of their numbers, and where
+/// several entries were served at once. With a heap alone a quarter of the time of some searches
+/// went into it. Where clauses go by number they have no place and come in no order, and to look
+/// for one's place among the last ones takes longer than the heap.
 #[derive(Drop)]
 pub struct Line {
     queue: WaitingQueue,
-    heap: BinaryHeap<Reverse<Waiting>>,
+    heap: WaitingHeap,
 }
 
 impl Model for Line {
-    ghost use Rattle.std.specs.Prelude.{List, map, ◌++◌};
-    ghost use Rattle.std.specs.BinaryHeap.{IsHeap, heap_items};
-    ghost use Rattle.std.proofs.Common.{rules};
-    ghost use Rattle.std.specs.Cmp.{partial_order_from_own_ties};
-    ghost use Rattle.std.specs.Cmp.Rules.{comparing};
-    ghost use Rattle.std.specs.Ordering.{nat_cmp, ordering_then, on, eq_of_both, then_cmp, as_partial_cmp};
+    ghost use Rattle.std.specs.Prelude.{List, ◌++◌};
     ghost use Rattle.kernel.specs.declared.line.Waiting.{Waiting};
 
     ghost Value = { List Waiting };
 
-    ghost view = { λ l. l.queue ++ map (λ r. r.0) (heap_items l.heap) };
-
-    ghost invariant = { λ l. IsHeap (λ x y. ordering_then (nat_cmp y.0.place x.0.place) (nat_cmp y.0.clause x.0.clause)) (heap_items l.heap) };
-}
-
-/// Whether a clause of the heap goes before this one.
-fn has_before(heap: &BinaryHeap<Reverse<Waiting>>, waiting: Waiting) -> bool
-    requires heap { IsHeap (λ x y. ordering_then (nat_cmp y.0.place x.0.place) (nat_cmp y.0.clause x.0.clause)) (heap_items heap.now) }
-    ensures before { result ≡ true → (w : Waiting) × Contains (map (λ r. r.0) (heap_items heap.now)) w × GoesFirst w waiting }
-    ensures none { result ≡ false → All (λ w. GoesFirst waiting w) (map (λ r. r.0) (heap_items heap.now)) }
-{
-    match heap.peek() {
-        None => false,
-        Some(first) => !goes_first(waiting, first.0),
-    }
-}
-
-/// Takes the clause out of the heap that goes first.
-fn take_first(heap: &mut BinaryHeap<Reverse<Waiting>>) -> Option<Waiting>
-    requires heap { IsHeap (λ x y. ordering_then (nat_cmp y.0.place x.0.place) (nat_cmp y.0.clause x.0.clause)) (heap_items heap.old) }
-    ensures heap { IsHeap (λ x y. ordering_then (nat_cmp y.0.place x.0.place) (nat_cmp y.0.clause x.0.clause)) (heap_items heap.new) }
-    ensures none { IfNone result ((map (λ r. r.0) (heap_items heap.old) ≡ []) × (map (λ r. r.0) (heap_items heap.new) ≡ [])) }
-    ensures taken { IfSome result (λ w. IsPermutation (map (λ r. r.0) (heap_items heap.old)) (w ∷ map (λ r. r.0) (heap_items heap.new))) }
-    ensures first { IfSome result (λ w. All (λ v. GoesFirst w v) (map (λ r. r.0) (heap_items heap.old))) }
-{
-    match heap.pop() {
-        None => None,
-        Some(first) => Some(first.0),
-    }
+    ghost view = { λ l. l.queue ++ l.heap };
 }
 
 impl Line {
@@ -130,7 +98,7 @@ impl Line {
     {
         Line {
             queue: WaitingQueue::new(alloc),
-            heap: BinaryHeap::new(alloc),
+            heap: WaitingHeap::new(alloc),
         }
     }
 
@@ -140,6 +108,8 @@ impl Line {
     {
         if self.queue.takes(&waiting) {
             self.queue.push(waiting)?;
+        } else if waiting.place == 0 {
+            self.heap.push(waiting)?;
         } else {
             self.push_before(waiting)?;
         }
@@ -153,7 +123,7 @@ impl Line {
         if self.queue.put(&waiting)? {
             return Ok(());
         }
-        self.heap.push(Reverse(waiting))?;
+        self.heap.push(waiting)?;
         Ok(())
     }
 
@@ -164,12 +134,23 @@ impl Line {
         ensures first { IfSome result (λ w. All (λ v. GoesFirst w v) self.old) }
     {
         let Some(first) = self.queue.first() else {
-            return take_first(&mut self.heap);
+            return self.heap.pop();
         };
-        if has_before(&self.heap, first) {
-            take_first(&mut self.heap)
+        if self.heap.has_before(first) {
+            self.heap.pop()
         } else {
             self.queue.pop()
         }
+    }
+
+    /// Puts the clauses among the units, in any order: it takes a step for each. Nothing is in line
+    /// then.
+    pub fn give_to(&mut self, units: &mut Units) -> Result<(), AllocError>
+        ensures given { OnOk result (IsPermutation (clauses_of self.old ++ units.old) units.new) }
+        ensures empty { OnOk result (self.new ≡ []) }
+    {
+        self.heap.give_to(units)?;
+        self.queue.give_to(units)?;
+        Ok(())
     }
 }

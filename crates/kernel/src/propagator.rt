@@ -92,6 +92,8 @@ impl Propagator {
     /// Notes a clause all of whose literals but one are false. Where that one has no value, the
     /// clause waits as a unit, with the place that is given or else that of its last false literal;
     /// and else it is false.
+    // A call, since most visits end without it and their loop needs the registers.
+    #[inline(never)]
     fn note(
         &mut self,
         trail: &Trail,

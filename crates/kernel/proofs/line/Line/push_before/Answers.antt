@@ -1,4 +1,4 @@
-use Rattle.std.proofs.lemmas.List.Sorted.{IsPermutation-map, IsPermutation-append_left}
+use Rattle.std.proofs.lemmas.List.Sorted.{IsPermutation-append_left}
 use Rattle.kernel.proofs.UnitLemmas.{heaped-units}
 use Rattle.kernel.proofs.line.Line.push_before.Goals as goal
 
@@ -6,4 +6,4 @@ pub returns-then-branch : goal.returns-then-branch
 returns-then-branch c = rw (← c.self.view_is) (IsPermutation-append_left _ _ _ (c.in_ok-put.ensures.put c.if-branch.true))
 
 pub returns : goal.returns
-returns c = rw (← c.self.view_is, c.in_ok-put.ensures.left c.if-branch.false) (heaped-units _ _ _ _ (IsPermutation-map (λ r. r.0) _ _ c.in_ok-push.ensures.permutation))
+returns c = rw (← c.self.view_is, c.in_ok-put.ensures.left c.if-branch.false) (heaped-units _ _ _ _ c.in_ok-push.ensures)

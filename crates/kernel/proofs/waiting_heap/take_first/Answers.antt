@@ -1,6 +1,6 @@
 use Rattle.std.proofs.lemmas.List.Sorted.{IsPermutation-map}
 use Rattle.kernel.proofs.Placed.{All-goes_first}
-use Rattle.kernel.proofs.line.take_first.Goals as goal
+use Rattle.kernel.proofs.waiting_heap.take_first.Goals as goal
 
 pub returns-in-Some-clause-taken : goal.returns-in-Some-clause-taken
 returns-in-Some-clause-taken c = IsPermutation-map (λ r. r.0) _ _ c.in-Some.ensures.permutation
