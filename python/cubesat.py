@@ -68,6 +68,7 @@ def solve(
     variables: int | None = None,
     search: str = "ordered",
     budget: int | None = None,
+    divide: int | None = None,
     hands: int = 1,
     seconds: int | None = None,
     large: bool = False,
@@ -86,6 +87,9 @@ def solve(
                sooner
     budget:    conflicts of the first cube, 1 to 100,000; without it 1000 for "ordered", and 100,000
                for "focused". Another budget gives another proof, and by "focused" maybe another model
+    divide:    by "focused", cubes into which a formula is divided first, if its first conflicts tell
+               that this helps, 0 to 65,536; without it 64, and 0 and 1 divide none. Another number
+               may give another proof and another model. "ordered" takes none
     hands:     threads, 1 to 16; they change neither the answer nor the proof
     seconds:   after how many the search is given up, with OutOfTime; without it, never
     large:     whether the formula may have up to 100,000,000 variables, 1,000,000,000 clauses and
@@ -105,6 +109,7 @@ def solve(
         with open(formula, "w") as file:
             file.write(text)
         options = ["--search", search, "--hands", str(hands)] + ([] if budget is None else ["--budget", str(budget)])
+        options += [] if divide is None else ["--divide", str(divide)]
         options += [] if seconds is None else ["--seconds", str(seconds)]
         options += ["--large"] if large else []
         options += ["--proof", written] if check or proof is not None else []

@@ -92,6 +92,14 @@ class Answers(InFolder):
             with self.subTest(f"budget {budget}, hands {hands}"):
                 self.assertIsNone(cubesat.solve(PIGEONS, search="focused", budget=budget, hands=hands))
 
+    def test_division_changes_no_answer(self):
+        for divide in (0, 2, 64, 65_536):
+            for budget, hands in ((1, 1), (2, 4), (None, 16)):
+                with self.subTest(f"divide {divide}, budget {budget}, hands {hands}"):
+                    self.assertIsNone(cubesat.solve(PIGEONS, search="focused", divide=divide, budget=budget, hands=hands))
+                    model = cubesat.solve(ALTERNATING, search="focused", divide=divide, budget=budget, hands=hands)
+                    self.assertIn(model, ([-1, 2, -3], [1, -2, 3]))
+
     def test_a_limit_that_isnt_reached_changes_nothing(self):
         self.assertEqual(cubesat.solve(ALTERNATING, seconds=1000), [-1, 2, -3])
         self.assertIsNone(cubesat.solve(PIGEONS, seconds=1000))
@@ -166,7 +174,9 @@ class Refusals(InFolder):
                 self.assertEqual(file.read(), "old\n")
 
     def test_options_out_of_range_are_a_fault(self):
-        for options in ({"seconds": 0}, {"hands": 0}, {"hands": 17}, {"budget": 0}, {"budget": 100_001}, {"search": "x"}):
+        bad = [{"seconds": 0}, {"hands": 0}, {"hands": 17}, {"budget": 0}, {"budget": 100_001}, {"search": "x"}]
+        bad += [{"search": "focused", "divide": 65_537}, {"search": "focused", "divide": -1}, {"divide": 2}]
+        for options in bad:
             with self.subTest(options), self.assertRaises(cubesat.Fault):
                 cubesat.solve(ALTERNATING, **options)
 

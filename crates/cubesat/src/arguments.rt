@@ -2,7 +2,7 @@
 ghost use Rattle.std.specs.Prelude.{◌≤◌, IfOk};
 ghost use Rattle.cubesat.specs.Arguments.{IsRequest, IsWithin};
 
-use crate::standard_streams::refusal_of;
+use crate::refusals::refusal_of;
 use cdcl::Search;
 use clap::error::ErrorKind;
 use clap::{Arg, ArgAction, ArgMatches, Command, Error};
@@ -17,6 +17,12 @@ const ORDERED_BUDGET: u32 = 1000;
 
 /// That of the focused search. It loses more by a split, since both halves begin from nothing.
 const FOCUSED_BUDGET: u32 = 100_000;
+
+/// The most cubes that a formula may be divided into.
+const MAX_DIVIDE: u32 = 65_536;
+
+/// Into how many cubes the focused search divides a formula, where no number is asked for.
+pub(crate) const FOCUSED_DIVIDE: u32 = 64;
 
 /// The names of the searches.
 static SEARCHES: [&str; 2] = ["ordered", "focused"];
@@ -60,6 +66,8 @@ pub(crate) enum Request<'a> {
     Solve {
         search: Search,
         budget: u32,
+        /// Into how many cubes the formula is to be divided, if that is asked for.
+        divide: Option<u32>,
         hands: usize,
         seconds: Option<u32>,
         limits: Limits,
@@ -112,6 +120,16 @@ fn budget_option<'a>(alloc: Global) -> Arg<'a> {
         )
 }
 
+fn divide_option<'a>(alloc: Global) -> Arg<'a> {
+    Arg::new(alloc, "divide")
+        .long("divide")
+        .value_name("N")
+        .value_parser(clap::value_parser!(u32).range(0..=65_536))
+        .help(
+            "Cubes into which the focused search divides a formula first, if its first conflicts tell that this helps, 0 to 65536; 0 and 1 divide none [default: 64 with the focused search, 0 with the ordered one]",
+        )
+}
+
 fn solve_command<'a>(alloc: Global) -> Result<Command<'a>, AllocError> {
     let hands = Arg::new(alloc, "hands")
         .long("hands")
@@ -137,6 +155,7 @@ fn solve_command<'a>(alloc: Global) -> Result<Command<'a>, AllocError> {
         .about("Decide a formula: status 10 satisfiable, 20 unsatisfiable, 0 unknown, 1 on a fault")
         .arg(search_option(alloc))?
         .arg(budget_option(alloc))?
+        .arg(divide_option(alloc))?
         .arg(hands)?
         .arg(seconds)?
         .arg(proof)?
@@ -185,7 +204,7 @@ const VERSION: &str = "0.3.0 (rattle-kit-13f logic dac8208d650f15bf)";
 const EXAMPLES: &str = "Examples:
   cubesat solve --proof f.lrat f.cnf                     decide f.cnf, with its first model
   cubesat solve --search focused --proof f.lrat f.cnf    mostly sooner, with one of its models
-  cubesat solve --hands 4 --proof f.lrat f.cnf           the same bytes as with one, by four threads
+  cubesat solve --search focused --hands 4 f.cnf         the same bytes as with one, by four threads
   cubesat solve --stats --proof f.lrat f.cnf             and what it took
   xz -dc f.cnf.xz | cubesat solve -                      standard input, and no proof
   cubesat check f.cnf f.lrat                             check the proof
@@ -239,6 +258,10 @@ fn solve_request<'a>(matches: &ArgMatches<'a>) -> Option<Request<'a>>
         Some(budget) => budget,
         None => default_budget(search),
     };
+    let divide = match matches.get_one::<u32>("divide") {
+        Some(cubes) if cubes > MAX_DIVIDE => return None,
+        divide => divide,
+    };
     let hands = matches.get_one::<u32>("hands")?;
     let seconds = matches.get_one::<u32>("seconds");
     let proof = matches.get_str("proof");
@@ -254,6 +277,7 @@ fn solve_request<'a>(matches: &ArgMatches<'a>) -> Option<Request<'a>>
     Some(Request::Solve {
         search,
         budget,
+        divide,
         hands: hands as usize,
         seconds,
         limits: limits_of(matches),

@@ -23,6 +23,13 @@ pub(crate) fn note_solve<E: Write>(out: &mut E, effort: &Effort, file: &str, pro
         out,
         "c solving it by the {search} search, hands {hands}, budget {budget} conflicts"
     );
+    let cubes = effort.plan.divide();
+    if cubes > 1 {
+        let _ = writeln!(
+            out,
+            "c dividing it into cubes, {cubes} wanted, if its first conflicts tell that this helps"
+        );
+    }
     if let Some(seconds) = effort.seconds {
         let _ = writeln!(out, "c for {seconds} seconds at most");
     }

@@ -1,7 +1,8 @@
 //! The program: a command line, and what is done for it.
-ghost use Rattle.std.specs.Prelude.{◌≤◌};
+ghost use Rattle.std.specs.Prelude.{◌≡◌, ◌≤◌, IfSome};
+ghost use Rattle.cubesat.specs.Arguments.{plan_asked};
 
-use crate::arguments::{Request, request_of};
+use crate::arguments::{FOCUSED_DIVIDE, Request, request_of};
 use crate::checking::check;
 use crate::explanations::explanation;
 use crate::fault::RunFault;
@@ -53,13 +54,15 @@ fn explain<W: Write, E: Write>(
     if is_known { SHOWN } else { FAILED }
 }
 
-/// The plan of a search with this budget for the root.
-fn plan_of(search: Search, budget: u32) -> Plan
-    requires { (1 ≤ budget) × (budget ≤ 100000) }
+/// The plan that is asked for: a search, with this budget for the root, and for the focused one into
+/// how many cubes a formula is divided, if a number is given.
+fn plan_of(search: Search, budget: u32, divide: Option<u32>) -> Plan
+    requires { (1 ≤ budget) × (budget ≤ 100000) × IfSome divide (λ cubes. cubes ≤ 65536) }
+    ensures { result ≡ plan_asked search budget divide }
 {
     match search {
         Search::Ordered => Plan::ordered(budget),
-        Search::Focused => Plan::focused(budget),
+        Search::Focused => Plan::focused(budget).divided(divide.unwrap_or(FOCUSED_DIVIDE)),
     }
 }
 
@@ -89,6 +92,7 @@ pub fn command_with_input<
             Request::Solve {
                 search,
                 budget,
+                divide,
                 hands,
                 seconds,
                 limits,
@@ -97,7 +101,7 @@ pub fn command_with_input<
                 shown,
             },
         ) => {
-            let plan = plan_of(search, budget);
+            let plan = plan_of(search, budget, divide);
             let effort = Effort {
                 limits,
                 plan,

@@ -1,4 +1,4 @@
-//! Worked rows of the focused search, and examples from end to end by it.
+//! Worked rows of the focused search that divides nothing, and examples from end to end by it.
 ghost use Rattle.std.specs.Prelude.{◌≤◌};
 
 use crate::examples::{MITER, is_accepted, pigeonhole};
@@ -82,8 +82,8 @@ fn formulas_are_decided_by_any_number_of_hands(rt: HostRuntime) -> Result<(), Fa
     for (formula, budget, answer, proof) in &DECIDED {
         for hands in ["1", "2", "8"] {
             let words = [
-                "cubesat", "solve", "--search", "focused", "--budget", budget, "--hands", hands,
-                "--proof", "PROOF", "FORMULA",
+                "cubesat", "solve", "--search", "focused", "--budget", budget, "--divide", "0",
+                "--hands", hands, "--proof", "PROOF", "FORMULA",
             ];
             let row = row_of(&words, formula, answer, proof);
             check_rows(&rt, "focused.cnf", &[row])?;

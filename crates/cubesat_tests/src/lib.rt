@@ -14,6 +14,8 @@ mod check_status;
 #[cfg(test)]
 mod clocks;
 #[cfg(test)]
+mod divide;
+#[cfg(test)]
 mod divided;
 #[cfg(test)]
 mod examples;

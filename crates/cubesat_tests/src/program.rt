@@ -140,7 +140,7 @@ fn a_folder_is_no_formula(rt: HostRuntime) -> Result<(), Fail> {
     check_rows(&rt, "folder.cnf", &FOLDER)
 }
 
-static WRONG: [&[&str]; 24] = [
+static WRONG: [&[&str]; 27] = [
     // no subcommand
     &["cubesat"],
     // no words
@@ -186,6 +186,16 @@ static WRONG: [&[&str]; 24] = [
         "cubesat", "solve", "--search", "Focused", "--proof", "x.lrat", "x.cnf",
     ],
     &["cubesat", "solve", "--proof", "x.lrat", "x.cnf", "--search"],
+    // numbers of cubes that are none
+    &[
+        "cubesat", "solve", "--search", "focused", "--divide", "x", "x.cnf",
+    ],
+    &[
+        "cubesat", "solve", "--search", "focused", "--divide", "-1", "x.cnf",
+    ],
+    &[
+        "cubesat", "solve", "--search", "focused", "x.cnf", "--divide",
+    ],
     // numbers of hands that are none
     &[
         "cubesat", "solve", "--hands", "0", "--proof", "x.lrat", "x.cnf",

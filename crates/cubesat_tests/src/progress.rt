@@ -25,6 +25,8 @@ static RUNS: [SlowRun; 7] = [
             "--progress",
             "--search",
             "focused",
+            "--divide",
+            "0",
             "--budget",
             "1",
             "--proof",

@@ -95,7 +95,8 @@ static SOLVED: [Row; 7] = [
     Row {
         formula: FOUR,
         words: &[
-            "cubesat", "solve", "--stats", "--search", "focused", "--proof", "PROOF", "FORMULA",
+            "cubesat", "solve", "--stats", "--search", "focused", "--divide", "0", "--proof",
+            "PROOF", "FORMULA",
         ],
         lines: "c formula: 2 variables, 4 clauses, 8 literals
 c hands: 1

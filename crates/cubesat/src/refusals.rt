@@ -1,11 +1,19 @@
-//! What a command line may not ask of standard input and output.
+//! Command lines that are refused, though each of their words is right by itself.
 
 use crate::arguments::Request;
 use crate::input::STANDARD_INPUT;
+use cdcl::Search;
 
-/// Why a request asks too much of one of them, if it does. `-` is the name of either.
+/// Why a request is refused, if it is. `-` is the name of standard input, and of standard output.
 pub(crate) fn refusal_of(request: &Request) -> Option<&'static str> {
     match request {
+        Request::Solve {
+            search: Search::Ordered,
+            divide: Some(_),
+            ..
+        } => Some(
+            "only the focused search divides formulas; give --search focused too, or leave --divide out",
+        ),
         Request::Solve {
             proof: Some(path),
             ..
