@@ -1,5 +1,5 @@
-"""The two searches, the tree and the text of its proof, in the plainest form: without watches, a heap
-or marks. `bin/fuzz` compares what the program writes with it, byte for byte; docs/DEFINITIONS.md has
+"""The two searches, division by lookahead, the tree and the text of its proof, in the plainest form:
+without watches, a heap or marks. `bin/fuzz` compares what the program writes with it, byte for byte; docs/DEFINITIONS.md has
 the rules in words. Literals are whole numbers, as in DIMACS."""
 import collections
 
@@ -10,6 +10,13 @@ FIRST_STEP, GROWTH = 65_536, 20
 GREATEST_STEP, DIVISOR = 2**40, 2**24
 WINDOW = 50
 FIRST_INTERVAL, INTERVAL_GAIN, KEPT_GLUE = 2000, 300, 2
+
+# into how many cubes the program divides a formula, where no number is given
+DEFAULT_DIVIDE = 64
+# at this conflict the first search is asked whether the formula is divisible
+FIRST_CONFLICTS = 20_000
+# so many variables of a cube are looked at
+CANDIDATES = 32
 
 
 class Entry:
@@ -74,11 +81,10 @@ class Clauses:
         return [(number, literal) for number, literal in self.last.items() if -literal not in self.false]
 
 
-class Search:
-    """The search in one cube. `outcome` is ('model', literals), ('refuted', lines) or ('exhausted',
-    variable); a line is a clause and its hints."""
+class Trail:
+    """The clauses, and a trail that begins with a cube; propagation, and learning from a conflict."""
 
-    def __init__(self, variables, clauses, cube, budget):
+    def __init__(self, variables, clauses, cube):
         self.variables, self.first = variables, len(clauses)
         self.clauses = Clauses()
         for it in clauses:
@@ -86,11 +92,6 @@ class Search:
         self.trail, self.entry = [], {}
         for it in cube:
             self.push(it, None, 0)
-        self.lines = []
-        self.outcome = None
-        self.begin()
-        while self.outcome is None:
-            self.step(budget)
 
     def push(self, literal, reason, level):
         self.trail.append(Entry(literal, reason, level, len(self.trail) + 1))
@@ -122,23 +123,10 @@ class Search:
             number, literal = min(units, key=self.turn)
             self.push(literal, number, self.level())
 
-    def step(self, budget):
-        conflict = self.propagate()
-        if conflict is None:
-            literal = self.decision()
-            if literal is None:
-                self.outcome = ("model", [it.literal for it in self.trail])
-            else:
-                self.push(literal, None, self.level() + 1)
-            return
-        clause, hints = self.learn(conflict)
-        if self.level() == 0:
-            self.outcome = ("refuted", [*self.lines, (clause, hints)])
-        elif len(self.lines) + 1 == budget:
-            self.outcome = ("exhausted", self.splits_on())
-        else:
-            self.lines.append((clause, hints))
-            self.learnt(clause, hints)
+    def turn(self, unit):
+        """By place: the place of the last false literal, and the number."""
+        number, literal = unit
+        return max((self.entry[abs(it)].place for it in self.clauses.literals[number] if it != literal), default=0), number
 
     def learn(self, conflict):
         """Resolution from the conflict back to the first unique implication point: the clause by rising
@@ -153,6 +141,43 @@ class Search:
                 left = (left - {-entry.literal}) | (self.clauses.literals[entry.reason] - {entry.literal})
                 reasons.append(entry.reason)
         return sorted((it for it in left if self.level_of(it) > 0), key=abs), [*reversed(reasons), conflict]
+
+
+class Search(Trail):
+    """The search in one cube. `outcome` is ('model', literals), ('refuted', lines) or ('exhausted',
+    variable), and maybe ('divisible', None) of a first search; a line is a clause and its hints."""
+
+    def __init__(self, variables, clauses, cube, budget):
+        super().__init__(variables, clauses, cube)
+        self.lines, self.decisions = [], 0
+        self.outcome = None
+        self.begin()
+        while self.outcome is None:
+            self.step(budget)
+
+    def step(self, budget):
+        conflict = self.propagate()
+        if conflict is None:
+            literal = self.decision()
+            if literal is None:
+                self.outcome = ("model", [it.literal for it in self.trail])
+            else:
+                self.push(literal, None, self.level() + 1)
+                self.decisions += 1
+            return
+        clause, hints = self.learn(conflict)
+        if self.level() == 0:
+            self.outcome = ("refuted", [*self.lines, (clause, hints)])
+        elif self.is_divisible_at(len(self.lines) + 1, budget):
+            self.outcome = ("divisible", None)
+        elif len(self.lines) + 1 == budget:
+            self.outcome = ("exhausted", self.splits_on())
+        else:
+            self.lines.append((clause, hints))
+            self.learnt(clause, hints)
+
+    def is_divisible_at(self, conflicts, budget):
+        return False
 
     def back_level(self, clause):
         return max((self.level_of(it) for it in clause if self.level_of(it) != self.level()), default=0)
@@ -189,11 +214,6 @@ class Focused(Search):
         self.glues, self.recent = [], []
         self.interval = self.next = FIRST_INTERVAL
         self.restarts = self.forgettings = 0
-
-    def turn(self, unit):
-        """The place of the last false literal, and the number."""
-        number, literal = unit
-        return max((self.entry[abs(it)].place for it in self.clauses.literals[number] if it != literal), default=0), number
 
     def best(self, variables):
         return max(variables, key=lambda it: (self.scores[it], it), default=None)
@@ -249,6 +269,55 @@ class Focused(Search):
         self.forgettings += 1
 
 
+class First(Focused):
+    """The focused search of the cube without literals, where the formula is divided if it is divisible."""
+
+    def is_divisible_at(self, conflicts, budget):
+        """Whether this is the conflict at which the search is asked, and it decided at most three
+        literals for two conflicts. Those that were taken back count too."""
+        return conflicts == min(FIRST_CONFLICTS, budget) and 2 * self.decisions <= 3 * conflicts
+
+
+class Look(Trail):
+    """A look at a cube in place of its search. Nothing is learnt, and there is no budget; `outcome` is
+    like a search's."""
+
+    def __init__(self, variables, clauses, cube):
+        super().__init__(variables, clauses, cube)
+        conflict = self.propagate()
+        free = [*self.free_variables()]
+        if conflict:
+            self.outcome = ("refuted", [self.learn(conflict)])
+        elif not free:
+            self.outcome = ("model", [it.literal for it in self.trail])
+        else:
+            self.outcome = ("exhausted", self.splits_on(self.candidates(free)))
+
+    def candidates(self, free):
+        """The first of the free variables: those in many clauses with each sign, and of equal ones the greatest."""
+        one_signed = [it for it in self.clauses.literals if not any(-literal in it for literal in it)]
+        count = collections.Counter(literal for it in one_signed for literal in it)
+        return sorted(free, key=lambda it: ((count[it] + 1) * (count[-it] + 1), it), reverse=True)[:CANDIDATES]
+
+    def splits_on(self, candidates):
+        """The first candidate of which a literal fails, or else the first that is worth most."""
+        worths = {}
+        for it in candidates:
+            a, b = self.brings(-it), self.brings(it)
+            if a is None or b is None:
+                return it
+            worths[it] = 1024 * a * b + a + b
+        return max(candidates, key=worths.get)
+
+    def brings(self, literal):
+        """How many entries its level has where the literal is decided, or None where a clause is false."""
+        self.push(literal, None, 1)
+        conflict = self.propagate()
+        count = sum(it.level == 1 for it in self.trail)
+        self.back_to(0)
+        return None if conflict else count
+
+
 SEARCHES = {"ordered": Ordered, "focused": Focused}
 
 
@@ -258,12 +327,15 @@ class Satisfied(Exception):
 
 class Tree:
     """The tree of cubes and its proof, up to the first cube from the left that has a model. `model` is
-    the values of the variables, or None; `proof` is empty where there is a model."""
+    the values of the variables, or None; `proof` is empty where there is a model; `is_divided` says
+    whether cubes were looked at. The ordered search divides no formula."""
 
-    def __init__(self, variables, clauses, budget, search):
+    def __init__(self, variables, clauses, budget, search, divide):
         positive = {it for clause in clauses for it in clause if it > 0}
         pure = [-it for it in range(1, variables + 1) if it not in positive]
         self.variables, self.budget, self.search = variables, budget, SEARCHES[search]
+        self.divide = divide if search == "focused" else 0
+        self.is_divided = False
         self.clauses = [*clauses, *([it] for it in pure)]
         self.text = [f"{len(clauses) + at} {it} 0 0\n" for at, it in enumerate(pure, 1)]
         self.last = len(self.clauses)
@@ -282,11 +354,22 @@ class Tree:
         if cube and numbers:
             self.text.append(f"{self.last} d {' '.join(map(str, numbers))} 0\n")
 
+    def outcome(self, cube):
+        """The outcome of a cube: by its search, or where the formula is divided and there are fewer cubes
+        of its size than are wanted, by a look."""
+        if self.is_divided and 2 ** len(cube) < self.divide:
+            return Look(self.variables, self.clauses, cube).outcome
+        search = First if not cube and self.divide >= 2 else self.search
+        self.searched.append(search(self.variables, self.clauses, cube, min(self.budget * (len(cube) + 1), MAX_BUDGET)))
+        if self.searched[-1].outcome[0] == "divisible":
+            self.is_divided = True
+            return self.outcome(cube)
+        return self.searched[-1].outcome
+
     def cube(self, cube):
         """The lines of a cube's tree; the number of the last addition."""
         denied = [-it for it in cube]
-        self.searched.append(self.search(self.variables, self.clauses, cube, min(self.budget * (len(cube) + 1), MAX_BUDGET)))
-        kind, found = self.searched[-1].outcome
+        kind, found = self.outcome(cube)
         if kind == "model":
             raise Satisfied(found)
         if kind == "exhausted":
