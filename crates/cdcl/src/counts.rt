@@ -1,5 +1,6 @@
 //! How much a search has done, and who is told of it while it goes on.
 
+use crate::first_search::FirstSearch;
 use std::alloc::AllocError;
 
 /// How much a solver has done since it was opened, in all its cubes. Each number stays once it has
@@ -16,6 +17,10 @@ pub struct Counts {
     pub learnt: u64,
     /// Learnt clauses that were forgotten.
     pub forgotten: u64,
+    /// Cubes that were looked at.
+    pub looks: u64,
+    /// Failed literals: decisions of looks whose propagation met a conflict.
+    pub failed: u64,
 }
 
 impl Counts {
@@ -28,6 +33,8 @@ impl Counts {
             restarts: 0,
             learnt: 0,
             forgotten: 0,
+            looks: 0,
+            failed: 0,
         }
     }
 
@@ -40,6 +47,8 @@ impl Counts {
             restarts,
             learnt: kernel.learnt,
             forgotten: kernel.forgotten,
+            looks: 0,
+            failed: 0,
         }
     }
 
@@ -52,6 +61,8 @@ impl Counts {
             restarts: self.restarts.saturating_add(other.restarts),
             learnt: self.learnt.saturating_add(other.learnt),
             forgotten: self.forgotten.saturating_add(other.forgotten),
+            looks: self.looks.saturating_add(other.looks),
+            failed: self.failed.saturating_add(other.failed),
         }
     }
 }
@@ -62,6 +73,9 @@ impl Counts {
 pub trait Watcher {
     /// The solver has done so much since it was opened.
     fn counted(&self, counts: Counts);
+
+    /// The first search was asked whether the formula is divided, or ended before.
+    fn asked(&self, _first: FirstSearch) {}
 
     /// Whether the solver is to stop before it has an answer. It is asked before each cube, and
     /// each time that it was told what is done inside one.

@@ -13,10 +13,11 @@ ghost use Rattle.lookahead.specs.declared.ranking.Ranked.{Ranked};
 ghost use Rattle.lookahead.specs.Rankings.{IsRanking};
 ghost use Rattle.cdcl.specs.declared.dividing.Division.TheVariants.{Whole, Divided};
 ghost use Rattle.cdcl.specs.declared.dividing.First.TheVariants.{FewDecisions, ManyDecisions};
-ghost use Rattle.cdcl.specs.Focusing.{IsEquipped, IsKept, IsSpent};
+ghost use Rattle.cdcl.specs.Focusing.{IsEquipped, IsKept, IsSpent, Begins};
 ghost use Rattle.cdcl.specs.Solving.{IsKnown, IsDivisionOf, IsRootOf, FirstSays, IsDividing};
 
 use crate::counts::Watcher;
+use crate::first_search::{FirstAnswer, FirstSearch};
 use crate::focused::{FocusedSearch, Stop};
 use crate::outcome::Outcome;
 use crate::plan::Plan;
@@ -94,6 +95,15 @@ fn are_few(decided: u64, conflicts: u32) -> bool
 }
 
 impl FocusedSearch {
+    /// Goes over to the cube without literals.
+    fn begin_at_root(&mut self) -> Result<(), AllocError>
+        requires { IsEquipped self.old }
+        ensures { OnOk result ((F : Formula) → IsReady ByPlace F self.old.kernel → Begins F self.old.constants [] self.new) }
+    {
+        let root = Cube::root(self.lines.allocator());
+        self.begin(&root)
+    }
+
     /// The search of the cube without literals, up to a conflict of this number.
     pub(crate) fn first<W: Watcher>(
         &mut self,
@@ -107,8 +117,7 @@ impl FocusedSearch {
         ensures spent { IfOk result (λ first. first ≡ ManyDecisions → IsSpent conflicts self.new) }
         ensures kept { OnOk result (IsKept self.old self.new) }
     {
-        let root = Cube::root(self.lines.allocator());
-        self.begin(&root)?;
+        self.begin_at_root()?;
         match self.run_to(conflicts, watcher)? {
             Stop::Ended(outcome) => Ok(First::Ended(outcome)),
             Stop::Spent => {
@@ -181,6 +190,20 @@ impl DividingSearch {
         }
     }
 
+    /// What the first search has come to, where so many conflicts were met before it.
+    fn found(&self, first: &First, before: u64) -> FirstSearch {
+        let answer = match first {
+            First::Ended(_) => FirstAnswer::Ended,
+            First::FewDecisions => FirstAnswer::Divided(self.divide),
+            First::ManyDecisions => FirstAnswer::Whole,
+        };
+        FirstSearch {
+            decisions: self.search.decided,
+            conflicts: self.search.counts().conflicts.saturating_sub(before),
+            answer,
+        }
+    }
+
     /// Asks the first search whether the formula is divided, and ranks the variables if it is.
     fn ask<W: Watcher>(&mut self, watcher: &W) -> Result<First, AllocError>
         requires { (F : Formula) × (plan : plans.Plan) × IsDividing plan F self.old × (2 ≤ plan.divide) }
@@ -189,7 +212,9 @@ impl DividingSearch {
         ensures spent { IfOk result (λ first. first ≡ ManyDecisions → IsSpent self.old.asked self.new.search) }
         ensures kept { OnOk result ((F : Formula) (plan : plans.Plan) → IsDividing plan F self.old → IsDividing plan F self.new) }
     {
+        let before = self.search.counts().conflicts;
         let first = self.search.first(self.asked, watcher)?;
+        watcher.asked(self.found(&first, before));
         self.division = self.search.division_by(&first)?;
         Ok(first)
     }
@@ -260,7 +285,10 @@ impl DividingSearch {
         match self.ask(watcher)? {
             First::Ended(outcome) => Ok(outcome),
             First::FewDecisions => self.solve_upper(root, budget, watcher),
-            First::ManyDecisions => self.search.run(budget, watcher),
+            First::ManyDecisions => {
+                self.search.tally.resume();
+                self.search.run(budget, watcher)
+            }
         }
     }
 

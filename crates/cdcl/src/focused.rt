@@ -22,7 +22,9 @@ use crate::counts::{Counts, Watcher, tell};
 use crate::decisions::{Decisions, count_up_to};
 use crate::forgetting::candidates;
 use crate::lesson::Analysis;
+use crate::opening::open_kernel;
 use crate::outcome::Outcome;
+use crate::tally::Tally;
 use crate::values::{refute, values};
 use cnf::Formula;
 use heuristics::{Constants, Glues, Schedule, last_half};
@@ -50,6 +52,8 @@ pub(crate) struct FocusedSearch {
     pub(crate) schedule: Schedule,
     /// Room for the analysis of conflicts.
     pub(crate) analysis: Analysis,
+    /// What the kernel doesn't count.
+    pub(crate) tally: Tally,
 }
 
 // written out, so that proofs of its owners stay short (docs/CHANGING.md)
@@ -66,6 +70,7 @@ impl Drop for FocusedSearch {
             averages: _,
             schedule: _,
             analysis: _,
+            tally: _,
         } = self;
     }
 }
@@ -150,8 +155,7 @@ fn forget(
 }
 
 impl FocusedSearch {
-    /// A search of a formula, before its first cube: over its clauses, and behind them a unit
-    /// clause for each pure literal.
+    /// A search of a formula, before its first cube.
     pub(crate) fn open(
         alloc: Global,
         formula: &Formula,
@@ -161,11 +165,11 @@ impl FocusedSearch {
         ensures equipped { IfOk result IsEquipped }
         ensures constants { IfOk result (λ s. s.constants ≡ constants) }
     {
-        let units = formula.pure(alloc)?;
-        let root = Cube::root(alloc);
-        let kernel = Kernel::open_in_order(alloc, formula, &units, &root, Order::ByPlace)?;
-        let decisions = Decisions::open(alloc, kernel.vars(), constants)?;
-        let analysis = Analysis::open(alloc, kernel.vars())?;
+        let kernel = open_kernel(alloc, formula, Order::ByPlace)?;
+        let vars = kernel.vars();
+        let decisions = Decisions::open(alloc, vars, constants)?;
+        let analysis = Analysis::open(alloc, vars)?;
+        let averages = Glues::open(alloc, constants)?;
         Ok(FocusedSearch {
             constants,
             kernel,
@@ -174,9 +178,10 @@ impl FocusedSearch {
             lines: Row::new(alloc),
             glues: Vec::new(alloc),
             decisions,
-            averages: Glues::open(alloc, constants)?,
+            averages,
             schedule: Schedule::first(constants),
             analysis,
+            tally: Tally::none(),
         })
     }
 
@@ -201,7 +206,8 @@ impl FocusedSearch {
 
     /// How much was done in all cubes so far.
     pub(crate) fn counts(&self) -> Counts {
-        Counts::of(self.kernel.counts(), self.averages.restarts())
+        self.tally
+            .counts(self.kernel.counts(), self.averages.restarts())
     }
 
     /// The outcome of the cube that was begun.

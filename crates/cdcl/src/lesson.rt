@@ -46,11 +46,13 @@ impl Analysis {
         ensures levels { IfOk result (λ a. vars < a.levels.bound) }
     {
         let bound = vars as usize + 1;
+        let seen = Numbers::with_room(alloc, bound)?;
+        let levels = Numbers::with_room(alloc, bound)?;
         Ok(Analysis {
             room: Room::new(),
             learnt: Learnt::none(alloc),
-            seen: Numbers::with_room(alloc, bound)?,
-            levels: Numbers::with_room(alloc, bound)?,
+            seen,
+            levels,
         })
     }
 

@@ -41,8 +41,12 @@ impl FocusedSearch {
         ensures looks { IfOk result (λ o. (F : Formula) → IsReady ByPlace F self.old.kernel → Looks F cube.now (outcome_of o)) }
         ensures kept { OnOk result (IsKept self.old self.new) }
     {
+        let before = self.counts().conflicts;
         self.begin(cube)?;
-        self.look_from_here(ranking)
+        let outcome = self.look_from_here(ranking)?;
+        let conflicts = self.counts().conflicts.saturating_sub(before);
+        self.tally.add_look(&outcome, conflicts);
+        Ok(outcome)
     }
 
     /// A look at the cube that was begun.

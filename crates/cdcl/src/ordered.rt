@@ -15,10 +15,11 @@ ghost use Rattle.cdcl.specs.Searching.{IsReady, IsSearching, IsSearchStep, Begin
 use crate::analysis::{Learnt, analyze_in};
 use crate::counts::{Counts, Watcher, tell};
 use crate::marks::Room;
+use crate::opening::open_kernel;
 use crate::outcome::Outcome;
 use crate::values::{refute, values};
 use cnf::{Formula, Lit};
-use kernel::{Closed, Cube, Kernel};
+use kernel::{Closed, Cube, Kernel, Order};
 use lines::Row;
 use std::alloc::{AllocError, Global};
 
@@ -52,14 +53,12 @@ impl Drop for OrderedSearch {
 }
 
 impl OrderedSearch {
-    /// A search of a formula, before its first cube: over its clauses, and behind them a unit
-    /// clause for each pure literal.
+    /// A search of a formula, before its first cube.
     pub(crate) fn open(alloc: Global, formula: &Formula) -> Result<OrderedSearch, AllocError>
         ensures { IfOk result (λ s. IsReady ByNumber formula.now s.kernel) }
     {
-        let units = formula.pure(alloc)?;
         Ok(OrderedSearch {
-            kernel: Kernel::open_with(alloc, formula, &units, &Cube::root(alloc))?,
+            kernel: open_kernel(alloc, formula, Order::ByNumber)?,
             conflicts: 0,
             decided: None,
             lines: Row::new(alloc),

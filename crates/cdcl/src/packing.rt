@@ -4,6 +4,7 @@ ghost use Rattle.theory.specs.Learning as learning;
 ghost use Rattle.cdcl.specs.Outcome.{outcome_of, outcome_by};
 
 use crate::outcome::{Line, Outcome, Refutation};
+use cnf::Lit;
 use lines::{Reader, Row};
 use std::alloc::{AllocError, Global};
 
@@ -33,6 +34,15 @@ impl KeepsLines for Refutation {
     }
 }
 
+/// A line in memory of its own.
+fn line_of(alloc: Global, clause: &[Lit], hints: &[u64]) -> Result<Line, AllocError>
+    ensures { IfOk result (λ line. line ≡ record { clause = clause.now; hints = hints.now }) }
+{
+    let clause = Vec::from_slice(alloc, clause)?;
+    let hints = Vec::from_slice(alloc, hints)?;
+    Ok(Line::new(clause, hints))
+}
+
 impl Refutation {
     /// The lines of a row. It takes two requests for memory a line, and fails only where one is
     /// refused.
@@ -44,9 +54,7 @@ impl Refutation {
         let mut hints = Vec::new(alloc);
         let mut reader = Reader::of(row);
         while reader.next(&mut clause, &mut hints)? {
-            let clause = Vec::from_slice(alloc, &clause)?;
-            let hints = Vec::from_slice(alloc, &hints)?;
-            lines.push(Line::new(clause, hints))?;
+            lines.push(line_of(alloc, &clause, &hints)?)?;
         }
         Ok(Refutation { lines })
     }

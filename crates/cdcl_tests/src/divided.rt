@@ -137,7 +137,7 @@ static ROWS: [Row; 14] = [
 ];
 
 /// Whether a solver that is told what another one found out of the cube without literals has the
-/// same outcome of it, and of this cube, for less.
+/// same outcome of it, for nothing, and of this cube, for no more conflicts than that one.
 fn comes_told(alloc: Global, row: &Row) -> Result<bool, Fail> {
     if row.budget < 1 || row.budget > 100_000 || row.divide > 65_536 {
         return Ok(false);
@@ -156,8 +156,12 @@ fn comes_told(alloc: Global, row: &Row) -> Result<bool, Fail> {
     };
     let conflicts = told.counts().conflicts;
     let cube = cube_of(alloc, formula.vars(), row.cube)?;
+    let before = first.counts().conflicts;
+    first.solve(&cube)?;
+    let in_cube = first.counts().conflicts.saturating_sub(before);
     let outcome = told.solve(&cube)?.unpacked(alloc)?;
-    Ok(again == var && conflicts == 0 && is_wanted(&outcome, row.wanted))
+    let is_as_cheap = conflicts == 0 && told.counts().conflicts <= in_cube;
+    Ok(again == var && is_as_cheap && is_wanted(&outcome, row.wanted))
 }
 
 /// Whether the row's cube comes to what is wanted.

@@ -1,7 +1,8 @@
 //! What a hand passes as it solves cubes from the pool.
 
-use cdcl::{Counts, Watcher};
+use cdcl::{Counts, FirstSearch, Outcome, Watcher};
 use kernel::Cube;
+use lines::Row;
 
 /// A gate that all hands share. A hand tells it of each cube from the pool that it solves, by the
 /// hand's number.
@@ -22,6 +23,13 @@ pub trait Gate {
     /// told as `counted` is.
     fn prepared(&self, _counts: Counts) {}
 
+    /// Before the hands begin, the first search was asked whether the formula is divided, or ended
+    /// before.
+    fn asked(&self, _first: FirstSearch) {}
+
+    /// The hand has refuted a cube, one that it carries on too. It is told before `after`.
+    fn refuted(&self, _hand: usize, _cube: &Cube) {}
+
     /// Whether the hands are to stop before all is solved. A solver asks before each cube, and
     /// inside one each time that the gate was told what is done.
     fn stops(&self) -> bool {
@@ -39,6 +47,13 @@ impl Gate for OpenGate {
     fn after(&self, _hand: usize, _cube: &Cube) {}
 }
 
+/// Tells a gate of a cube that a hand has solved, where it is refuted.
+pub(crate) fn tell_refuted<G: Gate>(gate: &G, hand: usize, cube: &Cube, outcome: &Outcome<Row>) {
+    if let Outcome::Refuted(_) = outcome {
+        gate.refuted(hand, cube);
+    }
+}
+
 /// Tells a gate what is done before the hands begin.
 #[derive(Drop)]
 pub(crate) struct Prepared<'a, G> {
@@ -48,6 +63,10 @@ pub(crate) struct Prepared<'a, G> {
 impl<G: Gate> Watcher for Prepared<'_, G> {
     fn counted(&self, counts: Counts) {
         self.gate.prepared(counts);
+    }
+
+    fn asked(&self, first: FirstSearch) {
+        self.gate.asked(first);
     }
 
     fn stops(&self) -> bool {

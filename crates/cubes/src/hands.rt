@@ -14,7 +14,7 @@ ghost use Rattle.cubes.specs.Hands.{Gets, IsWorker, EndsIn, Settles, AddsRound, 
 ghost use Rattle.cubes.specs.Solved.{results_by};
 
 use crate::cube_walk::CubeWalk;
-use crate::gate::{Gate, Watched};
+use crate::gate::{Gate, Watched, tell_refuted};
 use crate::pause::Pauses;
 use crate::place::place_of;
 use crate::results::OwnSolver;
@@ -108,6 +108,7 @@ impl<L: KeepsLines> Worker<L> {
         let hand = self.hand.number();
         let watched = Watched { gate, hand };
         let outcome = self.solver.solve(alloc, formula, plan, cube, &watched)?;
+        tell_refuted(gate, hand, cube, &outcome);
         let ending = ending_of(&outcome);
         let what = What::Done(outcome.kept(alloc)?);
         self.solved.push(Solved { cube: copy, what })?;

@@ -26,6 +26,9 @@ fn decided<L, G: Gate>(alloc: Global, gate: &G, tree: Tree<L>) -> Beginning<L>
 {
     let root = Cube::root(alloc);
     gate.before(0, &root);
+    if let Tree::Refuted(_) = &tree {
+        gate.refuted(0, &root);
+    }
     gate.after(0, &root);
     Beginning::Decided(tree)
 }

@@ -10,11 +10,12 @@ ghost use Rattle.cubes.specs.Solved.{AreTrueBy, AreTrueResults, results_by, solv
 ghost use Rattle.cubes.specs.Source.{IsOwnSolver, IsSource};
 ghost use Rattle.cubes.specs.Result.{IsResultBy, IsResultOf, Says};
 
+use crate::gate::{Gate, OpenGate, Watched, tell_refuted};
 use crate::gathering::Gathering;
 use crate::known::Known;
 use crate::solved::Solved;
 use crate::tree::Tree;
-use cdcl::{KeepsLines, Outcome, Plan, Root, Solver, Unwatched, Watcher};
+use cdcl::{KeepsLines, Outcome, Plan, Root, Solver, Watcher};
 use cnf::Formula;
 use kernel::Cube;
 use lines::Row;
@@ -84,14 +85,15 @@ impl<L: Drop> Drop for Source<L> {
 }
 
 impl<L: KeepsLines> Source<L> {
-    /// The outcome of a cube: the one that is known, or what solving it on the spot gives.
-    fn outcome<W: Watcher>(
+    /// The outcome of a cube: the one that is known, or what solving it on the spot gives. The gate
+    /// is told of what is solved, as of the hand 0.
+    fn outcome<G: Gate>(
         &mut self,
         alloc: Global,
         formula: &Formula,
         plan: Plan,
         cube: &Cube,
-        watcher: &W,
+        gate: &G,
     ) -> Result<Outcome<L>, AllocError>
         requires over { IsOver formula.now.vars cube.now }
         requires source { IsSource L.lines formula.now plan self.old }
@@ -101,7 +103,9 @@ impl<L: KeepsLines> Source<L> {
         match self.known.take(cube) {
             Some(outcome) => Ok(outcome),
             None => {
-                let outcome = self.solver.solve(alloc, formula, plan, cube, watcher)?;
+                let watched = Watched { gate, hand: 0 };
+                let outcome = self.solver.solve(alloc, formula, plan, cube, &watched)?;
+                tell_refuted(gate, 0, cube, &outcome);
                 Ok(outcome.kept(alloc)?)
             }
         }
@@ -109,15 +113,14 @@ impl<L: KeepsLines> Source<L> {
 }
 
 /// What `gather_by_plan` does, whatever keeps the lines of refuted cubes, where this is known of the
-/// cube without literals, and tells a watcher of what is solved. It fails also where the watcher
-/// stops it.
-pub(crate) fn gather_watched<L: KeepsLines, W: Watcher>(
+/// cube without literals, and tells a gate of what is solved. It fails also where the gate stops it.
+pub(crate) fn gather_in<L: KeepsLines, G: Gate>(
     alloc: Global,
     formula: &Formula,
     plan: Plan,
     root: Root,
     results: Vec<Solved<L>>,
-    watcher: &W,
+    gate: &G,
 ) -> Result<Tree<L>, AllocError>
     requires results { AreTrueBy L.lines formula.now plan results.items }
     requires root { IsRootOf formula.now plan root }
@@ -131,7 +134,7 @@ pub(crate) fn gather_watched<L: KeepsLines, W: Watcher>(
     };
     let mut gathering = Gathering::start(alloc);
     'cubes: loop {
-        let outcome = source.outcome(alloc, formula, plan, &gathering.at.cube, watcher)?;
+        let outcome = source.outcome(alloc, formula, plan, &gathering.at.cube, gate)?;
         if let Some(tree) = gathering.go_on(outcome)? {
             return Ok(tree);
         }
@@ -152,7 +155,7 @@ pub fn gather_by_plan(
     ensures result { IfOk result (λ t. IsResultOf formula.now plan t) }
     ensures says { IfOk result (λ t. Says plan.search formula.now t) }
 {
-    gather_watched(alloc, formula, plan, Root::Unknown, results, &Unwatched)
+    gather_in(alloc, formula, plan, Root::Unknown, results, &OpenGate)
 }
 
 /// What `assemble_rows` does, whatever keeps the lines of refuted cubes.

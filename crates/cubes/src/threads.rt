@@ -8,10 +8,10 @@ ghost use Rattle.cubes.specs.Shares.{HasDone, HaveDone};
 ghost use Rattle.cubes.specs.Solved.{results_by, solved_of};
 
 use crate::closing::close_all;
-use crate::gate::{Gate, Watched};
+use crate::gate::Gate;
 use crate::hands::{Worked, work_in};
 use crate::preparing::{Beginning, prepare};
-use crate::results::{assemble_in, gather_watched};
+use crate::results::{assemble_in, gather_in};
 use crate::solved::Solved;
 use crate::tree::Tree;
 use cdcl::{KeepsLines, Plan, Root};
@@ -140,8 +140,7 @@ fn solve_here<L: KeepsLines, G: Gate>(
     ensures result { IfOk result (λ t. IsResultBy L.lines formula.now plan t) }
     ensures says { IfOk result (λ t. Says plan.search formula.now t) }
 {
-    let watched = Watched { gate, hand: 0 };
-    gather_watched(alloc, formula, plan, root, Vec::new(alloc), &watched)
+    gather_in(alloc, formula, plan, root, Vec::new(alloc), gate)
 }
 
 /// The result, by hands that are told this of the cube without literals.

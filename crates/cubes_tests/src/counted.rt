@@ -12,43 +12,71 @@ use std::test::Fail;
 use std::thread::Threads;
 use std::time::Clock;
 
-/// What hands do: conflicts, decisions, propagations, learnt clauses. None of these small formulas
-/// makes them restart or forget.
-type Done = [u64; 4];
+/// What hands do: conflicts, decisions, propagations, learnt clauses, looks, failed literals. None of
+/// these small formulas makes them restart or forget.
+type Done = [u64; 6];
 
 /// A text, a search, a budget for the root, how many cubes are wanted, what is done before the hands
 /// begin, and what all hands do.
 type Row = (&'static [u8], Search, u32, u32, Done, Done);
 
 /// Nothing is done.
-const NONE: Done = [0, 0, 0, 0];
+const NONE: Done = [0, 0, 0, 0, 0, 0];
 
 /// A formula with two models; both have 1 true.
 const ONE: &[u8] = b"p cnf 2 2\n1 2 0\n1 -2 0\n";
 
-static ROWS: [Row; 9] = [
+static ROWS: [Row; 11] = [
     // -1 is decided and gives 2, which makes the second clause false; 1 is learnt and gives 2,
     // which makes the fourth one false at level 0
-    (FOUR, Search::Ordered, 2, 0, NONE, [2, 1, 4, 1]),
+    (FOUR, Search::Ordered, 2, 0, NONE, [2, 1, 4, 1, 0, 0]),
     // the same with 1 and 2 exchanged
-    (FOUR, Search::Focused, 2, 0, NONE, [2, 1, 4, 1]),
+    (FOUR, Search::Focused, 2, 0, NONE, [2, 1, 4, 1, 0, 0]),
     // -1, then -2 and 3, a conflict; (1 2) is learnt; 2 and 3, a conflict; 1 is learnt and gives
     // nothing; -2 is decided and gives 3, a conflict; 2 is learnt and gives 3, the last conflict
-    (EIGHT, Search::Ordered, 1000, 0, NONE, [4, 3, 10, 3]),
+    (EIGHT, Search::Ordered, 1000, 0, NONE, [4, 3, 10, 3, 0, 0]),
     // the same with 1 and 3 exchanged, but 2 is decided to be true, as it was last
-    (EIGHT, Search::Focused, 1000, 0, NONE, [4, 3, 10, 3]),
+    (EIGHT, Search::Focused, 1000, 0, NONE, [4, 3, 10, 3, 0, 0]),
     // the first of these conflicts uses the root up; in each half its literal, then -2 and 3, a
     // conflict; a unit clause of 2 is learnt and gives 3, a conflict
-    (EIGHT, Search::Ordered, 1, 0, NONE, [5, 4, 13, 2]),
+    (EIGHT, Search::Ordered, 1, 0, NONE, [5, 4, 13, 2, 0, 0]),
     // -1 gives 2, a conflict; 1 is learnt; -2 is decided
-    (ONE, Search::Ordered, 2, 0, NONE, [1, 2, 4, 1]),
+    (ONE, Search::Ordered, 2, 0, NONE, [1, 2, 4, 1, 0, 0]),
     // -2 is decided and gives 1
-    (ONE, Search::Focused, 2, 0, NONE, [0, 1, 2, 0]),
+    (ONE, Search::Focused, 2, 0, NONE, [0, 1, 2, 0, 0, 0]),
     // it is refuted before the first search is asked
-    (FOUR, Search::Focused, 2, 2, [2, 1, 4, 1], NONE),
+    (FOUR, Search::Focused, 2, 2, [2, 1, 4, 1, 0, 0], NONE),
     // -2 is decided and gives 1, a conflict, with few decisions; a look meets the same one; both
     // halves are refuted by propagation
-    (FOUR, Search::Focused, 1, 2, [2, 2, 4, 0], [2, 0, 4, 0]),
+    (
+        FOUR,
+        Search::Focused,
+        1,
+        2,
+        [2, 2, 4, 0, 1, 1],
+        [2, 0, 4, 0, 0, 0],
+    ),
+    // -3, then -2 and 1, a conflict, with many decisions: it uses the root up too, and is counted
+    // once; each half is as above
+    (
+        EIGHT,
+        Search::Focused,
+        1,
+        2,
+        [1, 2, 3, 0, 0, 0],
+        [4, 2, 10, 2, 0, 0],
+    ),
+    // -3, then -2 and 1, a conflict; (2 3) is learnt; 2 and 1, a conflict, with few decisions; a
+    // look decides both literals of each variable, which bring nothing; in each half its literal,
+    // then -2 and 1, a conflict, so -2 fails; each half of that is refuted by its literals and 1
+    (
+        EIGHT,
+        Search::Focused,
+        2,
+        3,
+        [2, 8, 11, 1, 1, 0],
+        [6, 2, 18, 0, 2, 2],
+    ),
 ];
 
 /// What was done before the hands began, and what each of four has done.
@@ -94,6 +122,8 @@ fn numbers_of(counts: Counts) -> Done {
         counts.decisions,
         counts.propagations,
         counts.learnt,
+        counts.looks,
+        counts.failed,
     ]
 }
 
@@ -117,7 +147,8 @@ fn done_by<R: Threads + Wait + Clock + Sync>(
     Ok((numbers_of(before), numbers_of(gate.sum())))
 }
 
-fn plan_of(search: Search, budget: u32, divide: u32) -> Plan
+/// The plan of a search, with this budget for the root, that wants so many cubes.
+pub fn plan_of(search: Search, budget: u32, divide: u32) -> Plan
     requires { (1 ≤ budget) × (budget ≤ 100000) × (divide ≤ 65536) }
 {
     match search {

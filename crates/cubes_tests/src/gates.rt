@@ -1,10 +1,12 @@
 //! A gate that counts: each cube of a tree is solved once, whatever the hands.
 ghost use Rattle.std.specs.Prelude.{◌≤◌};
 
+use crate::counted::plan_of;
+use cdcl::{Plan, Search};
 use cnf::{Formula, read_formula};
-use cubes::{Gate, solve_with};
+use cubes::{Gate, solve_by_plan};
 use kernel::Cube;
-use samples::{EIGHT, SIXTEEN, reads};
+use samples::{EIGHT, FOUR, SIXTEEN, reads};
 use std::alloc::Global;
 use std::sync::Wait;
 use std::sync::atomic::{AtomicU64, Ordering};
@@ -15,13 +17,20 @@ use std::time::Clock;
 /// The cubes of a tree, from the root on.
 type Cubes = &'static [&'static [i32]];
 
-// each with the cubes of its tree
-static TREES: [(&[u8], Cubes); 2] = [
-    (EIGHT, &[&[], &[-1], &[1]]),
+/// A text, a search, a budget for the root, how many cubes are wanted, and the cubes of its tree.
+type Row = (&'static [u8], Search, u32, u32, Cubes);
+
+static TREES: [Row; 3] = [
+    (EIGHT, Search::Ordered, 1, 0, &[&[], &[-1], &[1]]),
     (
         SIXTEEN,
+        Search::Ordered,
+        1,
+        0,
         &[&[], &[-1], &[1], &[-1, -2], &[-1, 2], &[1, -2], &[1, 2]],
     ),
+    // it is refuted before the hands begin
+    (FOUR, Search::Focused, 2, 2, &[&[]]),
 ];
 
 /// How often a gate was passed with each of the cubes of a tree, which are seven at most, and with
@@ -93,6 +102,7 @@ fn is_solved_once<R: Threads + Wait + Clock + Sync>(
     rt: &R,
     alloc: Global,
     formula: &Formula,
+    plan: Plan,
     hands: usize,
     cubes: Cubes,
 ) -> Result<bool, Fail>
@@ -102,7 +112,7 @@ fn is_solved_once<R: Threads + Wait + Clock + Sync>(
         before: Passed::none(cubes),
         after: Passed::none(cubes),
     };
-    solve_with(rt, alloc, formula, 1, hands, &gate)?;
+    solve_by_plan(rt, alloc, formula, plan, hands, &gate)?;
     Ok(gate.before.is_once_each() && gate.after.is_once_each())
 }
 
@@ -111,6 +121,7 @@ fn is_solved_once_each_time<R: Threads + Wait + Clock + Sync>(
     rt: &R,
     alloc: Global,
     text: &[u8],
+    plan: Plan,
     hands: usize,
     cubes: Cubes,
 ) -> Result<bool, Fail>
@@ -118,7 +129,7 @@ fn is_solved_once_each_time<R: Threads + Wait + Clock + Sync>(
 {
     let formula = read_formula(alloc, text)?;
     for _ in 0..20 {
-        if !is_solved_once(rt, alloc, &formula, hands, cubes)? {
+        if !is_solved_once(rt, alloc, &formula, plan, hands, cubes)? {
             return Ok(false);
         }
     }
@@ -127,9 +138,11 @@ fn is_solved_once_each_time<R: Threads + Wait + Clock + Sync>(
 
 #[test]
 fn each_cube_is_solved_once(rt: HostRuntime) -> Result<(), Fail> {
-    for (text, cubes) in &TREES {
+    for (text, search, budget, divide, cubes) in &TREES {
+        let budget = (*budget).max(1).min(100_000);
+        let plan = plan_of(*search, budget, (*divide).min(65_536));
         for hands in [1, 2, 4] {
-            let is_once = is_solved_once_each_time(&rt, rt.alloc(), text, hands, *cubes)?;
+            let is_once = is_solved_once_each_time(&rt, rt.alloc(), text, plan, hands, *cubes)?;
             assert!(rt; is_once, "{hands} hands at {text:?}");
         }
     }

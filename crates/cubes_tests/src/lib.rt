@@ -19,6 +19,8 @@ mod harvests;
 #[cfg(test)]
 mod places;
 #[cfg(test)]
+mod refuted;
+#[cfg(test)]
 mod results;
 #[cfg(test)]
 mod trees;

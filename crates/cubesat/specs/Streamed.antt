@@ -1,9 +1,13 @@
 -- A proof that is checked as a reader gives it.
-use Rattle.std.specs.Prelude.{◌≡◌, ◌⊎◌, ℕ, ◌+◌, ◌≤◌, List, length, take, Option, IfSome}
+use Rattle.std.specs.Prelude.{◌≡◌, ◌⊎◌, ℕ, ◌+◌, ◌≤◌, List, length, take, Option, IfSome, Result, MatchResult}
 use Rattle.std.specs.Io.KnownBytes.{Consumes, IsAtEnd}
 use Rattle.theory.specs.Reading.{Limits}
-use Rattle.theory.specs.ProofReading.{max_proof_bytes}
-use Rattle.lrat_text.specs.Streams.{Stream, feed}
+use Rattle.theory.specs.Truth as truth
+use Rattle.theory.specs.ProofReading.{ProofReading, ProofReadsWithin, max_proof_bytes}
+use Rattle.theory.specs.Checking.{accepted}
+use Rattle.lrat.specs.Running.{IsSaid}
+use Rattle.lrat.specs.declared.refusal.Refusal.{Refusal}
+use Rattle.lrat_text.specs.Streams.{Stream, feed, answer_to, checked}
 use Rattle.cubesat.specs.declared.fault.RunFault.{RunFault}
 use Rattle.cubesat.specs.declared.fault.RunFault.TheVariants.{NoMemory, ProofReadFailed}
 
@@ -25,6 +29,13 @@ pub record FeedsAll (L : Limits) (known : Option (List ℕ)) (V : ℕ) (old new 
   pub bytes : List ℕ
   pub are : IfSome known (λ xs. bytes ≡ take (max_proof_bytes L + 1) xs)
   pub fed : new ≡ feed V old bytes
+
+-- the verdict on the reader's bytes, up to one above the greatest length: it says of each reading of
+-- them what the checker answers to that
+pub record Judges (L : Limits) {X : Type 0} (F : truth.Formula) (known : Option (List ℕ)) (verdict : Result X Refusal) : Type 0 where
+  pub bytes : List ℕ
+  pub are : IfSome known (λ xs. bytes ≡ take (max_proof_bytes L + 1) xs)
+  pub says : (r : ProofReading) → ProofReadsWithin L bytes r → MatchResult verdict (λ _. answer_to F r ≡ checked accepted) (IsSaid (answer_to F r))
 
 -- what stops the reading of a proof
 abbrev pub IsStop : RunFault → Type 0

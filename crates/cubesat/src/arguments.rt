@@ -49,10 +49,14 @@ const CHECK_PROGRESS: &str =
 
 const VERBOSE: &str = "Print to standard error what is done, and what a fault or refusal means";
 
+const FORMULA_FILE: &str = "The formula, in DIMACS CNF; - is standard input";
+
+const PROOF_FILE: &str = "The proof, in LRAT; - is standard input";
+
 const DISTINCT_STATUS: &str = "Exit with status 2 on a fault, and with 1 for a refused proof alone";
 
 /// What is shown of a run, beside its answer and its faults.
-#[derive(Clone, Copy, Debug)]
+#[derive(Clone, Copy)]
 pub(crate) struct Shown {
     pub(crate) stats: bool,
     pub(crate) progress: bool,
@@ -60,7 +64,7 @@ pub(crate) struct Shown {
 }
 
 /// What the command line asks for.
-#[derive(Clone, Copy, Debug)]
+#[derive(Clone, Copy)]
 pub(crate) enum Request<'a> {
     /// Decide the formula in `file`, and write its proof to `proof`, if there is to be one.
     Solve {
@@ -130,72 +134,98 @@ fn divide_option<'a>(alloc: Global) -> Arg<'a> {
         )
 }
 
-fn solve_command<'a>(alloc: Global) -> Result<Command<'a>, AllocError> {
-    let hands = Arg::new(alloc, "hands")
+fn hands_option<'a>(alloc: Global) -> Arg<'a> {
+    Arg::new(alloc, "hands")
         .long("hands")
         .value_name("N")
         .value_parser(clap::value_parser!(u32).range(1..=16))
         .default_value("1")
-        .help("Hands that solve cubes side by side, 1 to 16");
-    let seconds = Arg::new(alloc, "seconds")
+        .help("Hands that solve cubes side by side, 1 to 16")
+}
+
+fn seconds_option<'a>(alloc: Global) -> Arg<'a> {
+    Arg::new(alloc, "seconds")
         .long("seconds")
         .value_name("N")
         .value_parser(clap::value_parser!(u32).range(1..=1_000_000_000))
-        .help("Answer `s UNKNOWN`, status 0, unless the formula is decided in so many seconds");
-    let proof = Arg::new(alloc, "proof")
+        .help("Answer `s UNKNOWN`, status 0, unless the formula is decided in so many seconds")
+}
+
+fn proof_option<'a>(alloc: Global) -> Arg<'a> {
+    Arg::new(alloc, "proof")
         .long("proof")
         .value_name("PATH")
         .help(
             "Where the LRAT proof is written, in PATH.part until it is whole; without it none is written",
-        );
-    let file = Arg::new(alloc, "FILE")
-        .required(true)
-        .help("The formula, in DIMACS CNF; - is standard input");
-    Command::new(alloc, "solve")
-        .about("Decide a formula: status 10 satisfiable, 20 unsatisfiable, 0 unknown, 1 on a fault")
+        )
+}
+
+/// A word without an option before it, which isn't left out.
+fn word<'a>(alloc: Global, name: &'a str, help: &'a str) -> Arg<'a> {
+    Arg::new(alloc, name).required(true).help(help)
+}
+
+/// The options of how a formula is solved.
+fn with_search<'a>(alloc: Global, command: Command<'a>) -> Result<Command<'a>, AllocError> {
+    command
         .arg(search_option(alloc))?
         .arg(budget_option(alloc))?
         .arg(divide_option(alloc))?
-        .arg(hands)?
-        .arg(seconds)?
-        .arg(proof)?
-        .arg(flag(alloc, "large", SOLVE_LARGE))?
-        .arg(flag(alloc, "stats", SOLVE_STATS))?
-        .arg(flag(alloc, "progress", SOLVE_PROGRESS))?
-        .arg(flag(alloc, "verbose", VERBOSE))?
-        .arg(file)
+        .arg(hands_option(alloc))?
+        .arg(seconds_option(alloc))?
+        .arg(proof_option(alloc))
+}
+
+/// The options of how large files may be and of what is shown, with the helps that differ.
+fn with_flags<'a>(
+    alloc: Global,
+    command: Command<'a>,
+    large: &'a str,
+    stats: &'a str,
+    progress: &'a str,
+) -> Result<Command<'a>, AllocError> {
+    command
+        .arg(flag(alloc, "large", large))?
+        .arg(flag(alloc, "stats", stats))?
+        .arg(flag(alloc, "progress", progress))?
+        .arg(flag(alloc, "verbose", VERBOSE))
+}
+
+fn solve_command<'a>(alloc: Global) -> Result<Command<'a>, AllocError> {
+    let command = Command::new(alloc, "solve").about(
+        "Decide a formula: status 10 satisfiable, 20 unsatisfiable, 0 unknown, 1 on a fault",
+    );
+    let command = with_search(alloc, command)?;
+    let command = with_flags(alloc, command, SOLVE_LARGE, SOLVE_STATS, SOLVE_PROGRESS)?;
+    command.arg(word(alloc, "FILE", FORMULA_FILE))
 }
 
 fn check_command<'a>(alloc: Global) -> Result<Command<'a>, AllocError> {
-    let formula = Arg::new(alloc, "FORMULA")
-        .required(true)
-        .help("The formula, in DIMACS CNF; - is standard input");
-    let proof = Arg::new(alloc, "PROOF")
-        .required(true)
-        .help("The proof, in LRAT; - is standard input");
-    Command::new(alloc, "check")
+    let command = Command::new(alloc, "check")
         .about("Check a proof: status 0 accepted, 1 refused or on a fault")
-        .arg(flag(alloc, "distinct-status", DISTINCT_STATUS))?
-        .arg(flag(alloc, "large", CHECK_LARGE))?
-        .arg(flag(alloc, "stats", CHECK_STATS))?
-        .arg(flag(alloc, "progress", CHECK_PROGRESS))?
-        .arg(flag(alloc, "verbose", VERBOSE))?
-        .arg(formula)?
-        .arg(proof)
+        .arg(flag(alloc, "distinct-status", DISTINCT_STATUS))?;
+    with_flags(alloc, command, CHECK_LARGE, CHECK_STATS, CHECK_PROGRESS)?
+        .arg(word(alloc, "FORMULA", FORMULA_FILE))?
+        .arg(word(alloc, "PROOF", PROOF_FILE))
+}
+
+fn number_word<'a>(alloc: Global) -> Arg<'a> {
+    word(alloc, "NUMBER", "The number behind `fault` or `refused`").value_parser(
+        clap::value_parser!(u32),
+    )
+}
+
+fn refusal_word<'a>(alloc: Global) -> Arg<'a> {
+    Arg::new(alloc, "REFUSAL")
+        .value_parser(clap::value_parser!(u32))
+        .help("The number behind `refusal`")
 }
 
 fn explain_command<'a>(alloc: Global) -> Result<Command<'a>, AllocError> {
-    let number = Arg::new(alloc, "NUMBER")
-        .required(true)
-        .value_parser(clap::value_parser!(u32))
-        .help("The number behind `fault` or `refused`");
-    let behind = Arg::new(alloc, "REFUSAL")
-        .value_parser(clap::value_parser!(u32))
-        .help("The number behind `refusal`");
     Command::new(alloc, "explain")
         .about("Say what a number means that `solve` or `check` printed, and what to change")
-        .arg(number)?
-        .arg(behind)
+        .arg(number_word(alloc))?
+        .arg(refusal_word(alloc))
 }
 
 /// The version, and the kit that the program was proved and built by.
@@ -210,16 +240,24 @@ const EXAMPLES: &str = "Examples:
   cubesat check f.cnf f.lrat                             check the proof
   cubesat explain 51 5                                   what `fault 51: refusal 5` means";
 
+/// The command with a subcommand, if there was memory for that one.
+fn with_subcommand<'a>(
+    command: Command<'a>,
+    subcommand: Result<Command<'a>, AllocError>,
+) -> Result<Command<'a>, AllocError> {
+    command.subcommand(subcommand?)
+}
+
 fn whole_command<'a>(alloc: Global) -> Result<Command<'a>, AllocError> {
-    Command::new(alloc, "cubesat")
+    let command = Command::new(alloc, "cubesat")
         .bin_name("cubesat")?
         .about("A SAT solver with LRAT proofs")
         .version(VERSION)
         .after_help(EXAMPLES)
-        .subcommand_required(true)
-        .subcommand(solve_command(alloc)?)?
-        .subcommand(check_command(alloc)?)?
-        .subcommand(explain_command(alloc)?)
+        .subcommand_required(true);
+    let command = with_subcommand(command, solve_command(alloc))?;
+    let command = with_subcommand(command, check_command(alloc))?;
+    with_subcommand(command, explain_command(alloc))
 }
 
 /// The search of this name.
@@ -314,25 +352,44 @@ fn explain_request<'a>(matches: &ArgMatches<'a>) -> Option<Request<'a>>
     Some(Request::Explain { number, behind })
 }
 
+/// The request of what matched the words, if it is one.
+fn request_in<'a>(matches: &ArgMatches<'a>) -> Option<Request<'a>>
+    ensures { IsWithin result }
+{
+    let (name, matches) = matches.subcommand()?;
+    match name {
+        "check" => check_request(matches),
+        "explain" => explain_request(matches),
+        _ => solve_request(matches),
+    }
+}
+
+/// The same of the words.
+fn parsed<'a>(command: &mut Command<'a>, words: &'a [&'a str]) -> Result<Option<Request<'a>>, Error>
+    ensures { IfOk result IsWithin }
+{
+    let matches = command.try_get_matches_from_mut(words)?;
+    Ok(request_in(&matches))
+}
+
+/// What the words ask for by this command.
+fn request_by<'a>(command: &mut Command<'a>, words: &'a [&'a str]) -> Result<Request<'a>, Error>
+    ensures { IfOk result IsRequest }
+{
+    let Some(request) = parsed(command, words)? else {
+        return Err(command.error(ErrorKind::InvalidValue, "no request")?);
+    };
+    match refusal_of(&request) {
+        Some(message) => Err(command.error(ErrorKind::ArgumentConflict, message)?),
+        None => Ok(request),
+    }
+}
+
 /// What the words ask for; the program's name is the first one. An error is the parser's, with its
 /// message.
 pub(crate) fn request_of<'a>(alloc: Global, words: &'a [&'a str]) -> Result<Request<'a>, Error>
     ensures { IfOk result IsRequest }
 {
     let mut command = whole_command(alloc)?;
-    let matches = command.try_get_matches_from_mut(words)?;
-    if let Some((name, matches)) = matches.subcommand() {
-        let request = match name {
-            "check" => check_request(matches),
-            "explain" => explain_request(matches),
-            _ => solve_request(matches),
-        };
-        if let Some(request) = request {
-            return match refusal_of(&request) {
-                Some(message) => Err(command.error(ErrorKind::ArgumentConflict, message)?),
-                None => Ok(request),
-            };
-        }
-    }
-    Err(command.error(ErrorKind::InvalidValue, "no request")?)
+    request_by(&mut command, words)
 }

@@ -1,13 +1,15 @@
 //! A run of the checker of proofs.
+ghost use Rattle.std.specs.Prelude.{MatchResult};
 ghost use Rattle.theory.specs.Reading.{standard};
 ghost use Rattle.cnf.specs.Limits.{limits_of};
 ghost use Rattle.cubesat.specs.Check.{CheckSays, checked_by};
+ghost use Rattle.cubesat.specs.Streamed.{Judges, IsStop};
 
 use crate::checked_line::{Checked, checked_line};
 use crate::fault::RunFault;
 use crate::output::write_text;
 use crate::proof_input::feed_all;
-use cnf::{Limits, read_from_within};
+use cnf::{Formula, Limits, read_from_within};
 use lrat::{ProofStream, Refusal};
 use messages::Refused;
 use statistics::{Observer, Unobserved};
@@ -38,6 +40,35 @@ fn why_refused(verdict: Result<(), Refusal>, named: Option<u64>) -> Option<Refus
     }
 }
 
+/// The checker's verdict on a proof, and the clause that its step at fault names wrongly, if it is
+/// that.
+#[derive(Clone, Copy)]
+struct Judged {
+    verdict: Result<(), Refusal>,
+    named: Option<u64>,
+}
+
+/// What the checker says of a reader's bytes as the proof of a formula. `RunFault` says when each
+/// fault comes.
+fn judge<P: Read>(
+    alloc: Global,
+    formula: Formula,
+    proof: &mut P,
+    limits: Limits,
+) -> Result<Judged, RunFault>
+    ensures { MatchResult result (λ j. Judges (limits_of limits) formula (P.remaining proof.old) j.verdict) IsStop }
+{
+    let mut stream = match ProofStream::new(alloc, &formula) {
+        Ok(stream) => stream,
+        Err(_) => return Err(RunFault::NoMemory),
+    };
+    drop(formula);
+    feed_all(alloc, proof, &mut stream, limits)?;
+    let verdict = stream.verdict_within(limits);
+    let named = stream.named_wrongly();
+    Ok(Judged { verdict, named })
+}
+
 /// What `check_run_within` does, and why the proof is refused. An observer is told of the answer.
 pub(crate) fn check_told<R: Read + Drop, P: Read + Drop, W: Write, O: Observer>(
     alloc: Global,
@@ -53,21 +84,15 @@ pub(crate) fn check_told<R: Read + Drop, P: Read + Drop, W: Write, O: Observer>(
         Ok(formula) => formula,
         Err(fault) => return Err(RunFault::of_read(fault)),
     };
-    let mut stream = match ProofStream::new(alloc, &formula) {
-        Ok(stream) => stream,
-        Err(_) => return Err(RunFault::NoMemory),
-    };
-    drop(formula);
-    feed_all(alloc, &mut proof, &mut stream, limits)?;
-    let verdict = stream.verdict_within(limits);
-    let line = match checked_line(alloc, verdict) {
+    let judged = judge(alloc, formula, &mut proof, limits)?;
+    let line = match checked_line(alloc, judged.verdict) {
         Ok(line) => line,
         Err(_) => return Err(RunFault::NoMemory),
     };
     observer.answers();
     write_text(answer, &line.text, RunFault::AnswerWriteFailed)?;
     let checked = line.checked;
-    let why = why_refused(verdict, stream.named_wrongly());
+    let why = why_refused(judged.verdict, judged.named);
     Ok(Told { checked, why })
 }
 

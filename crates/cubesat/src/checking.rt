@@ -33,7 +33,7 @@ const ACCEPTED: u8 = 0;
 const DISTINCT_FAULT: u8 = 2;
 
 /// How a check ended.
-#[derive(Clone, Copy, Debug, PartialEq, Eq)]
+#[derive(Clone, Copy)]
 pub(crate) enum CheckEnd {
     Accepted,
     Refused,

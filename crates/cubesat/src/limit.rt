@@ -1,7 +1,7 @@
 //! A limit of time.
 ghost use Rattle.std.specs.Prelude.{◌≡◌, true, IsSome};
 
-use cdcl::Counts;
+use cdcl::{Counts, FirstSearch};
 use cubes::Gate;
 use kernel::Cube;
 use std::time::{Clock, Instant};
@@ -72,6 +72,14 @@ impl<G: Gate, L: Limit> Gate for LimitedGate<'_, G, L> {
 
     fn prepared(&self, counts: Counts) {
         self.gate.prepared(counts);
+    }
+
+    fn asked(&self, first: FirstSearch) {
+        self.gate.asked(first);
+    }
+
+    fn refuted(&self, hand: usize, cube: &Cube) {
+        self.gate.refuted(hand, cube);
     }
 
     fn counted(&self, hand: usize, counts: Counts) {

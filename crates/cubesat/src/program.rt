@@ -1,6 +1,6 @@
 //! The program: a command line, and what is done for it.
 ghost use Rattle.std.specs.Prelude.{◌≡◌, ◌≤◌, IfSome};
-ghost use Rattle.cubesat.specs.Arguments.{plan_asked};
+ghost use Rattle.cubesat.specs.Arguments.{plan_asked, IsRequest};
 
 use crate::arguments::{FOCUSED_DIVIDE, Request, request_of};
 use crate::checking::check;
@@ -10,6 +10,7 @@ use crate::fault_lines::{FAILED, Screen, print_fault};
 use crate::solving::solve;
 use crate::watched::Effort;
 use cdcl::{Plan, Search};
+use clap::Error;
 use clap::error::ErrorKind;
 use messages::say_no_memory;
 use std::alloc::Global;
@@ -66,6 +67,73 @@ fn plan_of(search: Search, budget: u32, divide: Option<u32>) -> Plan
     }
 }
 
+/// Prints what the parser answered in place of a request: help or the version, or what is wrong; the
+/// status.
+fn print_parsed<W: Write, E: Write>(error: Error, answer: &mut W, faults: &mut E) -> u8 {
+    if error.kind() == ErrorKind::OutOfMemory {
+        print_fault(faults, RunFault::NoMemory);
+        say_no_memory(faults, "the command line");
+        FAILED
+    } else if error.use_stderr() {
+        let _ = write!(faults, "{error}");
+        FAILED
+    } else {
+        let _ = write!(answer, "{error}");
+        SHOWN
+    }
+}
+
+/// Does what is asked for; the status.
+fn serve<R: Files + Threads + Wait + Clock + Sync, I: Read + Drop, W: Write, E: Write + Send>(
+    rt: &R,
+    alloc: Global,
+    request: Request<'_>,
+    input: I,
+    answer: &mut W,
+    faults: &mut E,
+    screen: Screen,
+) -> u8
+    requires { IsRequest request }
+{
+    match request {
+        Request::Solve {
+            search,
+            budget,
+            divide,
+            hands,
+            seconds,
+            limits,
+            proof,
+            file,
+            shown,
+        } => {
+            let plan = plan_of(search, budget, divide);
+            let effort = Effort {
+                limits,
+                plan,
+                hands,
+                seconds,
+            };
+            solve(
+                rt, alloc, effort, proof, file, input, shown, answer, faults, screen,
+            )
+        }
+        Request::Check {
+            formula,
+            proof,
+            limits,
+            distinct_status,
+            shown,
+        } => {
+            let end = check(
+                rt, alloc, formula, proof, limits, input, shown, answer, faults, screen,
+            );
+            end.status(distinct_status)
+        }
+        Request::Explain { number, behind } => explain(number, behind, answer, faults),
+    }
+}
+
 /// Does all that the program does for a command line, of which the first word is the program's
 /// name: reads and writes its files, reads `input` where the line has `-` for one, writes the
 /// answer to `answer`, faults and what is shown of the run to `faults`, and answers the exit
@@ -88,58 +156,8 @@ pub fn command_with_input<
     screen: Screen,
 ) -> u8 {
     match request_of(alloc, words) {
-        Ok(
-            Request::Solve {
-                search,
-                budget,
-                divide,
-                hands,
-                seconds,
-                limits,
-                proof,
-                file,
-                shown,
-            },
-        ) => {
-            let plan = plan_of(search, budget, divide);
-            let effort = Effort {
-                limits,
-                plan,
-                hands,
-                seconds,
-            };
-            solve(
-                rt, alloc, effort, proof, file, input, shown, answer, faults, screen,
-            )
-        }
-        Ok(
-            Request::Check {
-                formula,
-                proof,
-                limits,
-                distinct_status,
-                shown,
-            },
-        ) => {
-            let end = check(
-                rt, alloc, formula, proof, limits, input, shown, answer, faults, screen,
-            );
-            end.status(distinct_status)
-        }
-        Ok(Request::Explain { number, behind }) => explain(number, behind, answer, faults),
-        Err(error) if error.kind() == ErrorKind::OutOfMemory => {
-            print_fault(faults, RunFault::NoMemory);
-            say_no_memory(faults, "the command line");
-            FAILED
-        }
-        Err(error) if error.use_stderr() => {
-            let _ = write!(faults, "{error}");
-            FAILED
-        }
-        Err(help) => {
-            let _ = write!(answer, "{help}");
-            SHOWN
-        }
+        Ok(request) => serve(rt, alloc, request, input, answer, faults, screen),
+        Err(error) => print_parsed(error, answer, faults),
     }
 }
 

@@ -121,8 +121,8 @@ fn run_shown<
 ) -> Result<Option<Verdict>, RunFault>
     ensures { LimitedSays (limits_of effort.limits) (IsSome effort.seconds) (I.remaining input) effort.plan (option_map P.contents proof) (W.contents answer.old) (W.contents answer.new) result }
 {
-    let board = Board::of_search(rt, effort.plan.search(), proof.is_some());
     let hands = effort.hands;
+    let board = Board::of_search(rt, effort.plan.search(), hands, proof.is_some());
     let result = if showing.is_any() {
         run_beside(
             rt, alloc, &board, effort, input, answer, proof, faults, showing,

@@ -1,10 +1,9 @@
 //! What `check` prints and its exit status at each of its ends, and the status where a fault is to
 //! have one of its own.
 use crate::faulty::{Limited, Limits};
-use crate::sessions::{Paths, Wanted, prints};
+use crate::sessions::{Paths, Wanted, put_texts, says};
 use crate::texts::{FOUR, FOUR_PROOF};
 use cubesat::command;
-use std::fs;
 use std::rt::Files;
 use std::sync::Wait;
 use std::test::Fail;
@@ -124,22 +123,16 @@ fn holds<R: Files + AllocGlobal + Threads + Wait + Clock + Sync>(
     paths: &Paths,
     row: &Row,
 ) -> Result<bool, Fail> {
-    fs::write(rt, paths.formula.as_str(), row.formula)?;
-    fs::write(rt, paths.proof.as_str(), row.proof)?;
-    let (formula, proof) = (paths.word(row.names.0), paths.word(row.names.1));
-    let faults = paths.filled(rt.alloc(), row.wanted.faults)?;
-    let wanted = Wanted {
-        faults: faults.as_str(),
-        ..row.wanted
-    };
+    put_texts(rt, paths, row.formula.as_bytes(), row.proof.as_bytes())?;
+    let (formula, proof) = row.names;
     let distinct = Wanted {
         status: row.distinct,
-        ..wanted
+        ..row.wanted
     };
     let words = ["cubesat", "check", formula, proof];
-    let is_printed = prints(rt, &words, &wanted);
+    let is_said = says(rt, paths, &words, &row.wanted)?;
     let words = ["cubesat", "check", "--distinct-status", formula, proof];
-    Ok(is_printed && prints(rt, &words, &distinct))
+    Ok(says(rt, paths, &words, &distinct)? && is_said)
 }
 
 #[test]
@@ -166,8 +159,7 @@ fn fails<R: Files + AllocGlobal + Threads + Wait + Clock + Sync>(
 #[test]
 fn a_line_that_cannot_be_written(rt: HostRuntime) -> Result<(), Fail> {
     let paths = Paths::of(&rt, "check_unprinted.cnf")?;
-    fs::write(&rt, paths.formula.as_str(), FOUR)?;
-    fs::write(&rt, paths.proof.as_str(), FOUR_PROOF)?;
+    put_texts(&rt, &paths, FOUR.as_bytes(), FOUR_PROOF.as_bytes())?;
     let (formula, proof) = (paths.formula.as_str(), paths.proof.as_str());
     let words = ["cubesat", "check", formula, proof];
     assert!(rt; fails(&rt, &words, 1));

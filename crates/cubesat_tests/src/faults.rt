@@ -91,27 +91,58 @@ fn an_answer_writer_that_fails(rt: HostRuntime) {
     );
 }
 
+/// A formula, the limits of the proof's and the answer's writer, the fault, and what these have
+/// taken.
+type Unflushed = (
+    &'static str,
+    Limits,
+    Limits,
+    RunFault,
+    &'static str,
+    &'static [u8],
+);
+
+/// A flush of the proof, of the answer, and of no proof.
+static FLUSHES: [Unflushed; 3] = [
+    (
+        FOUR,
+        UNFLUSHED,
+        ROOMY,
+        RunFault::ProofWriteFailed,
+        FOUR_PROOF,
+        b"",
+    ),
+    (
+        FOUR,
+        ROOMY,
+        UNFLUSHED,
+        RunFault::AnswerWriteFailed,
+        FOUR_PROOF,
+        REFUTED,
+    ),
+    (
+        SATISFIABLE,
+        UNFLUSHED,
+        ROOMY,
+        RunFault::ProofWriteFailed,
+        "",
+        b"",
+    ),
+];
+
 #[test]
 fn a_flush_that_fails(rt: HostRuntime) {
-    let in_proof = Left {
-        result: Err(RunFault::ProofWriteFailed),
-        proof: FOUR_PROOF.as_bytes(),
-        answer: b"",
-    };
-    let in_answer = Left {
-        result: Err(RunFault::AnswerWriteFailed),
-        proof: FOUR_PROOF.as_bytes(),
-        answer: REFUTED,
-    };
-    let in_empty_proof = nothing_but(RunFault::ProofWriteFailed);
-    let rows = [
-        ("of the proof", FOUR, UNFLUSHED, ROOMY, in_proof),
-        ("of the answer", FOUR, ROOMY, UNFLUSHED, in_answer),
-        ("of no proof", SATISFIABLE, UNFLUSHED, ROOMY, in_empty_proof),
-    ];
-    for (name, text, proof, answer, left) in rows {
+    for (text, to_proof, to_answer, fault, proof, answer) in &FLUSHES {
+        let left = Left {
+            result: Err(*fault),
+            proof: proof.as_bytes(),
+            answer: *answer,
+        };
         let input = Trickle::at_once(text.as_bytes());
-        assert!(rt; leaves(rt.alloc(), input, proof, answer, &left), "{name}");
+        assert!(rt;
+            leaves(rt.alloc(), input, *to_proof, *to_answer, &left),
+            "{fault:?}"
+        );
     }
 }
 

@@ -8,20 +8,22 @@ use std::test::Fail;
 /// Cubes of a root that was split, with both halves split again, and one half of these. Hand 0 has
 /// solved the root and both halves, and is at the depth 2; hand 1 has solved a half of a half, and
 /// is at the depth 3.
+static BEGUN: [(usize, usize, Option<bool>, bool); 6] = [
+    (0, 0, None, true),
+    (0, 1, Some(false), true),
+    (0, 1, Some(true), true),
+    (1, 2, Some(false), true),
+    (0, 2, Some(true), false),
+    (1, 3, Some(true), false),
+];
+
+/// The counts of these cubes.
 fn some_cubes() -> CubeCounts {
     let mut cubes = CubeCounts::none();
-    let begun = [
-        (0, 0, None, true),
-        (0, 1, Some(false), true),
-        (0, 1, Some(true), true),
-        (1, 2, Some(false), true),
-        (0, 2, Some(true), false),
-        (1, 3, Some(true), false),
-    ];
-    for (hand, depth, last, is_solved) in begun {
-        cubes.begin(hand, depth, last);
-        if is_solved {
-            cubes.end(hand, depth);
+    for (hand, depth, last, is_solved) in &BEGUN {
+        cubes.begin(*hand, *depth, *last);
+        if *is_solved {
+            cubes.end(*hand, *depth);
         }
     }
     cubes
@@ -47,6 +49,8 @@ fn some_counts() -> SearchCounts {
                 restarts,
                 learnt,
                 forgotten: 20_000,
+                looks: 10,
+                failed: 2,
             },
         );
     }

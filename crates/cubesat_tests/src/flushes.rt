@@ -3,10 +3,9 @@
 use crate::clocks::Meeting;
 use crate::fake::Fake;
 use crate::faulty::{Limited, UNFLUSHED};
-use crate::sessions::{Paths, run};
+use crate::sessions::{Paths, put_texts, run_words};
 use crate::texts::{FOUR, FOUR_PROOF};
 use cubesat::command;
-use std::fs;
 use std::rt::Files;
 use std::sync::Wait;
 use std::test::Fail;
@@ -48,19 +47,13 @@ fn names(faults: &[u8], fault: &str) -> bool {
     }
 }
 
-fn write_files<R: Files>(rt: &R, paths: &Paths) -> Result<(), Fail> {
-    fs::write(rt, paths.formula.as_str(), FOUR)?;
-    fs::write(rt, paths.proof.as_str(), FOUR_PROOF)?;
-    Ok(())
-}
-
 /// Whether a command line has the fault of an answer that can't be flushed.
 fn flushes_answer<R: Files + AllocGlobal + Threads + Wait + Clock + Sync>(
     rt: &R,
     paths: &Paths,
     words: &[&str],
 ) -> Result<bool, Fail> {
-    write_files(rt, paths)?;
+    put_texts(rt, paths, FOUR.as_bytes(), FOUR_PROOF.as_bytes())?;
     let words = paths.words(rt.alloc(), words)?;
     let mut answer = Limited::new(rt.alloc(), UNFLUSHED);
     let mut faults = Vec::new(rt.alloc());
@@ -84,9 +77,8 @@ fn flushes_proof<R: Files + AllocGlobal + Threads + Wait + Clock + Sync>(
     paths: &Paths,
     words: &[&str],
 ) -> Result<bool, Fail> {
-    write_files(rt, paths)?;
-    let words = paths.words(rt.alloc(), words)?;
-    let printed = run(rt, &words);
+    put_texts(rt, paths, FOUR.as_bytes(), FOUR_PROOF.as_bytes())?;
+    let printed = run_words(rt, paths, words)?;
     Ok(printed.status == 1 && printed.answer.is_empty() && names(&printed.faults, "53"))
 }
 

@@ -57,11 +57,21 @@ fn half_of_root(cube: &Cube) -> Option<bool> {
 }
 
 /// Holds the half of the root that is entered first until another hand has entered the other.
-#[derive(Drop)]
 struct BothHalves {
     left: Mark,
     right: Mark,
     let_go: Mark,
+}
+
+// written out, so that proofs of its owners stay short (docs/CHANGING.md)
+impl Drop for BothHalves {
+    fn drop(self) {
+        let BothHalves {
+            left: _,
+            right: _,
+            let_go: _,
+        } = self;
+    }
 }
 
 impl BothHalves {
@@ -91,10 +101,19 @@ impl Gate for BothHalves {
 }
 
 /// Holds the left half of the root until another hand has solved the right one.
-#[derive(Drop)]
 struct RightFirst {
     solved: Mark,
     let_go: Mark,
+}
+
+// written out, so that proofs of its owners stay short (docs/CHANGING.md)
+impl Drop for RightFirst {
+    fn drop(self) {
+        let RightFirst {
+            solved: _,
+            let_go: _,
+        } = self;
+    }
 }
 
 impl RightFirst {

@@ -12,7 +12,7 @@ use std::time::Clock;
 
 /// What `--stats` tells of hands: how many there are, how many of them solved a cube, and how many
 /// cubes were solved.
-#[derive(Clone, Copy, Debug, PartialEq, Eq)]
+#[derive(Clone, Copy)]
 struct Told {
     hands: u64,
     at_work: u64,
@@ -60,6 +60,18 @@ fn told_by<R: Files + AllocGlobal + Threads + Wait + Clock + Sync>(
 ) -> Result<Option<Told>, Fail> {
     fs::write(rt, paths.formula.as_str(), EIGHT)?;
     Ok(told_in(&run(rt, words).faults))
+}
+
+/// Whether the command line tells of so many hands, which have solved three cubes.
+fn is_named<R: Files + AllocGlobal + Threads + Wait + Clock + Sync>(
+    rt: &R,
+    paths: &Paths,
+    line: &[&str],
+    hands: u64,
+) -> Result<bool, Fail> {
+    let words = paths.words(rt.alloc(), line)?;
+    let told = told_by(rt, paths, &words)?;
+    Ok(matches!(told, Some(told) if told.hands == hands && told.cubes == 3))
 }
 
 /// Each number of hands.
@@ -167,18 +179,16 @@ static NUMBERED: [(Line, u64); 16] = [
 fn each_number_of_hands_is_the_one_named(rt: HostRuntime) -> Result<(), Fail> {
     let paths = Paths::of(&rt, "hands_named.cnf")?;
     for (line, hands) in &NUMBERED {
-        let words = paths.words(rt.alloc(), line)?;
-        let told = told_by(&rt, &paths, &words)?;
-        let is_right = matches!(told, Some(told) if told.hands == *hands && told.cubes == 3);
-        assert!(rt; is_right, "{line:?}: {told:?}");
+        assert!(rt; is_named(&rt, &paths, line, *hands)?, "{line:?}");
     }
     Ok(())
 }
 
-/// Command lines with a limit of time, and which reading of the clock is the one before the root's
-/// first half. It is read when the limit begins and before each cube; with `--stats` before that as
-/// the run begins, and as the formula is read.
-static LIMITED: [(Line, u64); 4] = [
+/// Command lines with a limit of time, and which reading of the clock is the first one at the root's
+/// first half, by one hand and by two. It is read when the limit begins and before each cube; with
+/// `--stats` before that as the run begins, and as the formula is read, and with several hands also
+/// as each cube begins and ends.
+static LIMITED: [(Line, u64, u64); 4] = [
     (
         &[
             "cubesat",
@@ -192,6 +202,7 @@ static LIMITED: [(Line, u64); 4] = [
             "FORMULA",
         ],
         2,
+        2,
     ),
     (
         &[
@@ -203,6 +214,7 @@ static LIMITED: [(Line, u64); 4] = [
             "1",
             "FORMULA",
         ],
+        2,
         2,
     ),
     (
@@ -219,6 +231,7 @@ static LIMITED: [(Line, u64); 4] = [
             "FORMULA",
         ],
         4,
+        6,
     ),
     (
         &[
@@ -232,6 +245,7 @@ static LIMITED: [(Line, u64); 4] = [
             "FORMULA",
         ],
         4,
+        6,
     ),
 ];
 
@@ -244,18 +258,26 @@ fn is_of(told: Option<Told>, hands: u64) -> bool {
     }
 }
 
+/// What the command line tells of the eight clauses' hands, of which there are so many.
+fn told_of<R: Files + AllocGlobal + Threads + Wait + Clock + Sync>(
+    rt: &R,
+    paths: &Paths,
+    line: &[&str],
+    hands: &str,
+) -> Result<Option<Told>, Fail> {
+    let words = paths.words_by(rt.alloc(), line, hands)?;
+    told_by(rt, paths, &words)
+}
+
 /// Before it solves the first half, its hand waits until the other half is begun too: by two hands
 /// that comes, by one it can't.
 #[test]
 fn two_hands_are_at_work_at_once(rt: HostRuntime) -> Result<(), Fail> {
     let paths = Paths::of(&rt, "hands_two.cnf")?;
-    for (line, waits) in &LIMITED {
+    for (line, _, waits) in &LIMITED {
         let clock = Meeting::at(*waits, LONG);
         let fake = Fake::by(&rt, &clock);
-        let mut words = paths.words(rt.alloc(), line)?;
-        words.push("--hands")?;
-        words.push("2")?;
-        let told = told_by(&fake, &paths, &words)?;
+        let told = told_of(&fake, &paths, line, "2")?;
         assert!(rt; clock.is_met() && is_of(told, 2), "{line:?}");
     }
     Ok(())
@@ -264,13 +286,10 @@ fn two_hands_are_at_work_at_once(rt: HostRuntime) -> Result<(), Fail> {
 #[test]
 fn one_hand_is_at_work_alone(rt: HostRuntime) -> Result<(), Fail> {
     let paths = Paths::of(&rt, "hands_one.cnf")?;
-    for (line, waits) in &LIMITED {
+    for (line, waits, _) in &LIMITED {
         let clock = Meeting::at(*waits, SHORT);
         let fake = Fake::by(&rt, &clock);
-        let mut words = paths.words(rt.alloc(), line)?;
-        words.push("--hands")?;
-        words.push("1")?;
-        let told = told_by(&fake, &paths, &words)?;
+        let told = told_of(&fake, &paths, line, "1")?;
         assert!(rt; !clock.is_met() && is_of(told, 1), "{line:?}");
     }
     Ok(())

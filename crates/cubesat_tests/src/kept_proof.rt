@@ -1,11 +1,15 @@
 //! An old proof stays until a new one is whole, and an answer comes only behind its proof.
 use crate::faulty::{Limited, Limits};
-use crate::sessions::{Paths, Row, Wanted, check_rows, path_of, prints};
+use crate::same_file::is_refused;
+use crate::sessions::{Paths, Row, Wanted, check_rows, path_of, says};
 use crate::texts::{FOUR, FOUR_PROOF};
 use cubesat::command;
 use std::io::Write;
 use std::rt::{Env, Files};
+use std::sync::Wait;
 use std::test::Fail;
+use std::thread::Threads;
+use std::time::Clock;
 use std::{fs, io};
 
 const SOLVE: [&str; 7] = [
@@ -60,10 +64,16 @@ fn a_proof_that_cannot_be_written(rt: HostRuntime) -> Result<(), Fail> {
 }
 
 /// The files of a test, and the path of the proof's part.
-#[derive(Drop)]
 pub(crate) struct Parts {
     pub(crate) paths: Paths,
     part: String,
+}
+
+// written out, so that proofs of its owners stay short (docs/CHANGING.md)
+impl Drop for Parts {
+    fn drop(self) {
+        let Parts { paths: _, part: _ } = self;
+    }
 }
 
 impl Parts {
@@ -92,42 +102,45 @@ impl Parts {
 fn the_part_of_a_run_that_was_killed(rt: HostRuntime) -> Result<(), Fail> {
     let parts = Parts::of(&rt, "killed.cnf")?;
     fs::write(&rt, parts.part.as_str(), "5 1 0 1 2 0\n6 -1 0")?;
-    let words = parts.paths.words(rt.alloc(), &SOLVE)?;
-    assert!(rt; prints(&rt, &words, &REFUTED));
+    assert!(rt; says(&rt, &parts.paths, &SOLVE, &REFUTED)?);
     assert!(rt; parts.has(&rt, FOUR_PROOF));
     Ok(())
 }
+
+const OCCUPIED: Wanted = Wanted {
+    status: 1,
+    answer: "",
+    faults: "fault 56\nc |PROOF|: can't be created: the name of its part, with .part behind, is taken by something other than a file\n",
+};
 
 #[test]
 fn a_folder_in_the_place_of_the_part(rt: HostRuntime) -> Result<(), Fail> {
     let parts = Parts::of(&rt, "occupied.cnf")?;
     let _ = fs::remove_dir(&rt, parts.part.as_str());
     fs::create_dir(&rt, parts.part.as_str())?;
-    let words = parts.paths.words(rt.alloc(), &SOLVE)?;
-    let faults = format!(in rt.alloc();
-        "fault 56\nc {}: can't be created: the name of its part, with .part behind, is taken by something other than a file\n",
-        parts.paths.proof
-    )?;
-    let wanted = Wanted {
-        status: 1,
-        answer: "",
-        faults: faults.as_str(),
-    };
-    assert!(rt; prints(&rt, &words, &wanted));
+    assert!(rt; says(&rt, &parts.paths, &SOLVE, &OCCUPIED)?);
     fs::remove_dir(&rt, parts.part.as_str())?;
     assert!(rt; parts.has(&rt, "old"));
     Ok(())
+}
+
+/// Whether `solve` has the fault of an answer that can't be written.
+fn is_unanswered<R: Files + AllocGlobal + Threads + Wait + Clock + Sync>(
+    rt: &R,
+    paths: &Paths,
+) -> Result<bool, Fail> {
+    let words = paths.words(rt.alloc(), &SOLVE)?;
+    let mut answer = Limited::new(rt.alloc(), Limits::of(3));
+    let mut faults = Vec::new(rt.alloc());
+    let status = command(rt, rt.alloc(), &words, &mut answer, &mut faults);
+    Ok(status == 1 && faults.starts_with(b"fault 54\nc the answer: "))
 }
 
 /// The new proof is in its place where the answer fails behind it.
 #[test]
 fn an_answer_that_cannot_be_written(rt: HostRuntime) -> Result<(), Fail> {
     let parts = Parts::of(&rt, "unanswered.cnf")?;
-    let words = parts.paths.words(rt.alloc(), &SOLVE)?;
-    let mut answer = Limited::new(rt.alloc(), Limits::of(3));
-    let mut faults = Vec::new(rt.alloc());
-    let status = command(&rt, rt.alloc(), &words, &mut answer, &mut faults);
-    assert!(rt; status == 1 && faults.starts_with(b"fault 54\nc the answer: "));
+    assert!(rt; is_unanswered(&rt, &parts.paths)?);
     assert!(rt; parts.has(&rt, FOUR_PROOF));
     Ok(())
 }
@@ -180,24 +193,7 @@ fn the_formula_is_no_part(rt: HostRuntime) -> Result<(), Fail> {
     let proof = path_of(&rt, "whole.lrat")?;
     let formula = format!(in rt.alloc(); "{proof}.part")?;
     fs::write(&rt, formula.as_str(), FOUR)?;
-    let words = [
-        "cubesat",
-        "solve",
-        "--proof",
-        proof.as_str(),
-        formula.as_str(),
-    ];
-    let faults = format!(in rt.alloc();
-        "fault 57: the proof would be written over the formula\nc {formula}: formula and proof are one file; give the proof another name\n"
-    )?;
-    let wanted = Wanted {
-        status: 1,
-        answer: "",
-        faults: faults.as_str(),
-    };
-    assert!(rt; prints(&rt, &words, &wanted));
-    let text = fs::read(&rt, formula.as_str())?;
-    assert!(rt; text.as_slice() == FOUR.as_bytes());
+    assert!(rt; is_refused(&rt, formula.as_str(), proof.as_str())?);
     fs::remove_file(&rt, formula.as_str())?;
     Ok(())
 }

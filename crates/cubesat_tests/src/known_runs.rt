@@ -22,9 +22,18 @@ const TREE: TreeSize = TreeSize {
 /// When a stage ended, in milliseconds since the run began, and the memory by then in KiB.
 type End = (u64, Option<u64>);
 
-/// The size of the tree, the ends of the four stages, how many hands there are, and what is
-/// printed.
-type Row = (Option<TreeSize>, [End; 4], usize, &'static str);
+/// A hand, and when it began and ended its last cube.
+type Last = (usize, u64, u64);
+
+/// The size of the tree, the ends of the four stages, the last cubes of hands, how many hands there
+/// are, and what is printed.
+type Row = (
+    Option<TreeSize>,
+    [End; 4],
+    &'static [Last],
+    usize,
+    &'static str,
+);
 
 static ROWS: [Row; 3] = [
     (
@@ -35,6 +44,7 @@ static ROWS: [Row; 3] = [
             (12_750, None),
             (72_757, Some(8192)),
         ],
+        &[(0, 1500, 12_000), (1, 1600, 12_500)],
         16,
         "c formula: 2 variables, 4 clauses, 8 literals
 c hands: 16
@@ -42,6 +52,7 @@ c search: 350000 conflicts, 1600000 decisions, 20000000 propagations, 750 restar
 c clauses: 338000 learnt, 80000 forgotten
 c cubes: 4 solved, at least 3 split, skipped unknown
 c solved by each hand: 3 1 0 0 0 0 0 0 0 0 0 0 0 0 0 0
+c hands waited: 154.500 s in all, 87.7 % of the hands' time
 c proof: 2 lines, 7 bytes
 c reading: 0.500 s, peak memory 1024 KiB
 c solving: 12.000 s, peak memory 4096 KiB
@@ -53,6 +64,7 @@ c conflicts a second: 29166
     (
         Some(TREE),
         [(3, None), (1003, None), (1004, Some(1024)), (1024, None)],
+        &[(0, 3, 903), (1, 5, 1003)],
         2,
         "c formula: 2 variables, 4 clauses, 8 literals
 c hands: 2
@@ -61,6 +73,7 @@ c clauses: 338000 learnt, 80000 forgotten
 c cubes: 11 solved, 5 split, 0 skipped
 c learnt: 40 lines in refuted cubes, kept in 900 bytes
 c solved by each hand: 3 1
+c hands waited: 0.100 s in all, 5.0 % of the hands' time
 c proof: 2 lines, 7 bytes
 c reading: 0.003 s
 c solving: 1.000 s
@@ -73,6 +86,7 @@ c conflicts a second: 350000
     (
         None,
         [(500, None), (500, None), (500, None), (510, None)],
+        &[(0, 500, 500)],
         1,
         "c formula: 2 variables, 4 clauses, 8 literals
 c hands: 1
@@ -98,12 +112,16 @@ fn stage_end(end: End) -> StageEnd {
 
 /// What is printed of a row's figures.
 fn printed(alloc: Global, formula: &Formula, row: &Row) -> Vec<u8> {
-    let (tree, ends, hands) = (row.0, row.1, row.2);
+    let (tree, ends, hands) = (row.0, row.1, row.3);
     let mut figures = some_figures(Stage::Reading, Search::Focused);
     figures.end_reading(FormulaSize::of(formula), stage_end(ends[0]));
     figures.end_solving(tree, stage_end(ends[1]));
     figures.end_joining(stage_end(ends[2]));
     figures.end_writing(stage_end(ends[3]));
+    for (hand, began, ended) in row.2 {
+        figures.times.begin(*hand, *began);
+        figures.times.end(*hand, *ended);
+    }
     let mut text = Vec::new(alloc);
     print_statistics(&mut text, &figures, hands);
     text
@@ -114,7 +132,7 @@ fn statistics_of_known_figures(rt: HostRuntime) -> Result<(), Fail> {
     let formula = read_formula(rt.alloc(), FOUR.as_bytes())?;
     for row in &ROWS {
         let text = printed(rt.alloc(), &formula, row);
-        assert!(rt; text.as_slice() == row.3.as_bytes(), "{}", row.3);
+        assert!(rt; text.as_slice() == row.4.as_bytes(), "{}", row.4);
     }
     Ok(())
 }

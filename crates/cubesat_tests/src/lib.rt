@@ -18,6 +18,8 @@ mod divide;
 #[cfg(test)]
 mod divided;
 #[cfg(test)]
+mod divided_figures;
+#[cfg(test)]
 mod examples;
 #[cfg(test)]
 mod fake;

@@ -9,7 +9,7 @@ use cubesat::Screen;
 use std::alloc::Global;
 use std::test::Fail;
 
-static RUNS: [SlowRun; 7] = [
+static RUNS: [SlowRun; 8] = [
     SOLVED,
     SlowRun {
         screen: Screen::Terminal,
@@ -34,6 +34,28 @@ static RUNS: [SlowRun; 7] = [
             "FORMULA",
         ],
         log: "c 1 s: reading\nc 2 s: 5 conflicts, 2 a second, 3 cubes solved\nc 3 s: joining\nc 4 s: 7 lines, 94 bytes of the proof written\ns UNSATISFIABLE\n",
+        ..SOLVED
+    },
+    // three conflicts before the formula is divided, one in each look at a half, and one in each of
+    // four quarters, which all close a quarter of the tree; so many that the speed is the same where
+    // the line comes a little later
+    SlowRun {
+        formula: EIGHT,
+        words: &[
+            "cubesat",
+            "solve",
+            "--progress",
+            "--search",
+            "focused",
+            "--divide",
+            "64",
+            "--budget",
+            "3",
+            "--proof",
+            "PROOF",
+            "FORMULA",
+        ],
+        log: "c 1 s: reading\nc 2 s: 9 conflicts, 4 a second, 64 of at most 64 cubes done, 100 %\nc 3 s: joining\nc 4 s: 9 lines, 131 bytes of the proof written\ns UNSATISFIABLE\n",
         ..SOLVED
     },
     SlowRun {

@@ -9,7 +9,7 @@ use std::thread::Threads;
 use std::time::Clock;
 
 /// Whether `solve` refuses these two names of one file, and leaves its text.
-fn is_refused<R: Files + AllocGlobal + Threads + Wait + Clock + Sync>(
+pub(crate) fn is_refused<R: Files + AllocGlobal + Threads + Wait + Clock + Sync>(
     rt: &R,
     formula: &str,
     proof: &str,
@@ -40,19 +40,34 @@ fn are_refused<R: Files + AllocGlobal + Threads + Wait + Clock + Sync>(
 }
 
 /// The formula's file, a symbolic link to it, and another name of it.
-#[derive(Drop)]
 struct Names {
     formula: String,
     link: String,
     other: String,
 }
 
+// written out, so that proofs of its owners stay short (docs/CHANGING.md)
+impl Drop for Names {
+    fn drop(self) {
+        let Names {
+            formula: _,
+            link: _,
+            other: _,
+        } = self;
+    }
+}
+
 impl Names {
-    fn new<R: Env + AllocGlobal>(rt: &R) -> Result<Names, Fail> {
+    fn of<R: Env + AllocGlobal>(
+        rt: &R,
+        formula: &str,
+        link: &str,
+        other: &str,
+    ) -> Result<Names, Fail> {
         Ok(Names {
-            formula: path_of(rt, "kept.cnf")?,
-            link: path_of(rt, "kept_link")?,
-            other: path_of(rt, "kept_name")?,
+            formula: path_of(rt, formula)?,
+            link: path_of(rt, link)?,
+            other: path_of(rt, other)?,
         })
     }
 
@@ -76,7 +91,7 @@ impl Names {
 
 #[test]
 fn the_formula_is_not_written_over(rt: HostRuntime) -> Result<(), Fail> {
-    let names = Names::new(&rt)?;
+    let names = Names::of(&rt, "kept.cnf", "kept_link", "kept_name")?;
     names.make(&rt)?;
     let formula = names.formula.as_str();
     for name in [formula, names.link.as_str(), names.other.as_str()] {
@@ -93,25 +108,24 @@ fn a_device_may_be_both(rt: HostRuntime) {
     assert!(rt; printed.status == 1 && printed.faults.starts_with(b"fault 51: refusal 1"));
 }
 
+/// Whether `solve --verbose` refuses two names of one file and says both.
+fn are_said<R: Files + AllocGlobal + Threads + Wait + Clock + Sync>(
+    rt: &R,
+    formula: &str,
+    other: &str,
+) -> Result<bool, Fail> {
+    let words = ["cubesat", "solve", "--verbose", "--proof", other, formula];
+    let wanted = format!(in rt.alloc(); "c the formula is {formula}\nc the proof is {other}\n")?;
+    let printed = run(rt, &words);
+    Ok(printed.status == 1 && printed.faults.ends_with(wanted.as_bytes()))
+}
+
 /// What `--verbose` says of two names of one file.
 #[test]
 fn each_name_of_the_file_is_said(rt: HostRuntime) -> Result<(), Fail> {
-    let (formula, other) = (path_of(&rt, "two.cnf")?, path_of(&rt, "two_name")?);
-    fs::write(&rt, formula.as_str(), FOUR)?;
-    let _ = fs::remove_file(&rt, other.as_str());
-    fs::hard_link(&rt, formula.as_str(), other.as_str())?;
-    let words = [
-        "cubesat",
-        "solve",
-        "--verbose",
-        "--proof",
-        other.as_str(),
-        formula.as_str(),
-    ];
-    let printed = run(&rt, &words);
-    let wanted = format!(in rt.alloc(); "c the formula is {formula}\nc the proof is {other}\n")?;
-    assert!(rt; printed.status == 1 && printed.faults.ends_with(wanted.as_bytes()));
-    fs::remove_file(&rt, other.as_str())?;
-    fs::remove_file(&rt, formula.as_str())?;
-    Ok(())
+    let names = Names::of(&rt, "two.cnf", "two_link", "two_name")?;
+    names.make(&rt)?;
+    let (formula, other) = (names.formula.as_str(), names.other.as_str());
+    assert!(rt; are_said(&rt, formula, other)?);
+    names.remove(&rt)
 }

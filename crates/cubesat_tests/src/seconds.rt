@@ -3,12 +3,11 @@ use crate::clocks::{Readings, UNREAD};
 use crate::fake::Fake;
 use crate::faulty::{Full, Limited, Limits, UNFLUSHED};
 use crate::kept_proof::Parts;
-use crate::sessions::{Wanted, prints};
+use crate::sessions::{Wanted, prints, put_texts};
 use crate::texts::{FOUR, FOUR_PROOF};
 use cubesat::command;
 use std::alloc::{AllocError, Global};
 use std::fmt::Write;
-use std::fs;
 use std::rt::Files;
 use std::sync::Wait;
 use std::test::Fail;
@@ -180,11 +179,8 @@ fn holds<R: Files + AllocGlobal + Threads + Wait + Clock + Sync>(
     row: &Row,
     hands: &str,
 ) -> Result<bool, Fail> {
-    fs::write(rt, parts.paths.formula.as_str(), row.formula)?;
-    fs::write(rt, parts.paths.proof.as_str(), "old")?;
-    let mut words = parts.paths.words(rt.alloc(), row.words)?;
-    words.push("--hands")?;
-    words.push(hands)?;
+    put_texts(rt, &parts.paths, row.formula.as_bytes(), b"old")?;
+    let words = parts.paths.words_by(rt.alloc(), row.words, hands)?;
     let wanted = Wanted {
         status: row.status,
         answer: row.answer,
@@ -202,12 +198,8 @@ fn limits_of_time(rt: HostRuntime) -> Result<(), Fail> {
         for hands in &HANDS {
             let clock = Readings::new(row.clock);
             let fake = Fake::by(&rt, &clock);
-            assert!(rt;
-                holds(&fake, &parts, row, hands)?,
-                "{hands} {:?} {:?}",
-                row.words,
-                row.clock
-            );
+            let is_right = holds(&fake, &parts, row, hands)?;
+            assert!(rt; is_right, "{hands} {:?} {:?}", row.words, row.clock);
         }
     }
     Ok(())
@@ -295,8 +287,7 @@ fn is_refused<R: Files + AllocGlobal + Threads + Wait + Clock + Sync>(
     row: &Row,
     limits: Limits,
 ) -> Result<bool, Fail> {
-    fs::write(rt, parts.paths.formula.as_str(), row.formula)?;
-    fs::write(rt, parts.paths.proof.as_str(), "old")?;
+    put_texts(rt, &parts.paths, row.formula.as_bytes(), b"old")?;
     let words = parts.paths.words(rt.alloc(), row.words)?;
     let mut answer = Limited::new(rt.alloc(), limits);
     let mut faults = Vec::new(rt.alloc());
@@ -313,11 +304,8 @@ fn an_unknown_answer_that_cannot_be_written(rt: HostRuntime) -> Result<(), Fail>
     for limits in &REFUSING {
         let clock = Readings::new(row.clock);
         let fake = Fake::by(&rt, &clock);
-        assert!(rt;
-            is_refused(&fake, &parts, &row, *limits)?,
-            "{}",
-            limits.room
-        );
+        let is_right = is_refused(&fake, &parts, &row, *limits)?;
+        assert!(rt; is_right, "{}", limits.room);
     }
     Ok(())
 }

@@ -18,11 +18,21 @@ pub fn path_of<R: Env + AllocGlobal>(rt: &R, name: &str) -> Result<String, Fail>
 }
 
 /// What a command line printed, and its status.
-#[derive(Drop)]
 pub struct Printed {
     pub status: u8,
     pub answer: Vec<u8>,
     pub faults: Vec<u8>,
+}
+
+// written out, so that proofs of its owners stay short (docs/CHANGING.md)
+impl Drop for Printed {
+    fn drop(self) {
+        let Printed {
+            status: _,
+            answer: _,
+            faults: _,
+        } = self;
+    }
 }
 
 pub fn run<R: Files + AllocGlobal + Threads + Wait + Clock + Sync>(
@@ -47,24 +57,38 @@ pub struct Wanted<'a> {
     pub faults: &'a str,
 }
 
+/// Whether this was printed, and nothing else.
+pub fn is_printed(printed: &Printed, wanted: &Wanted) -> bool {
+    printed.status == wanted.status
+        && printed.answer.as_slice() == wanted.answer.as_bytes()
+        && printed.faults.as_slice() == wanted.faults.as_bytes()
+}
+
 /// Whether a command line prints just this.
 pub fn prints<R: Files + AllocGlobal + Threads + Wait + Clock + Sync>(
     rt: &R,
     words: &[&str],
     wanted: &Wanted,
 ) -> bool {
-    let printed = run(rt, words);
-    printed.status == wanted.status
-        && printed.answer.as_slice() == wanted.answer.as_bytes()
-        && printed.faults.as_slice() == wanted.faults.as_bytes()
+    is_printed(&run(rt, words), wanted)
 }
 
 /// The files of a test: the formula, the proof, and one in a folder that isn't there.
-#[derive(Drop)]
 pub struct Paths {
     pub formula: String,
     pub proof: String,
     pub missing: String,
+}
+
+// written out, so that proofs of its owners stay short (docs/CHANGING.md)
+impl Drop for Paths {
+    fn drop(self) {
+        let Paths {
+            formula: _,
+            proof: _,
+            missing: _,
+        } = self;
+    }
 }
 
 impl Paths {
@@ -100,6 +124,19 @@ impl Paths {
         Ok(line)
     }
 
+    /// The same, by so many hands.
+    pub fn words_by<'a>(
+        &'a self,
+        alloc: Global,
+        words: &[&'a str],
+        hands: &'a str,
+    ) -> Result<Vec<&'a str>, AllocError> {
+        let mut line = self.words(alloc, words)?;
+        line.push("--hands")?;
+        line.push(hands)?;
+        Ok(line)
+    }
+
     /// A text in which such words stand between bars.
     pub fn filled(&self, alloc: Global, text: &str) -> Result<String, AllocError> {
         let mut filled = String::new(alloc);
@@ -108,6 +145,56 @@ impl Paths {
         }
         Ok(filled)
     }
+}
+
+/// Puts texts into the formula's file and the proof's.
+pub fn put_texts<R: Files>(
+    rt: &R,
+    paths: &Paths,
+    formula: &[u8],
+    proof: &[u8],
+) -> Result<(), Fail> {
+    fs::write(rt, paths.formula.as_str(), formula)?;
+    fs::write(rt, paths.proof.as_str(), proof)?;
+    Ok(())
+}
+
+/// What the command line prints that the words of a row stand for.
+pub fn run_words<R: Files + AllocGlobal + Threads + Wait + Clock + Sync>(
+    rt: &R,
+    paths: &Paths,
+    words: &[&str],
+) -> Result<Printed, Fail> {
+    let words = paths.words(rt.alloc(), words)?;
+    Ok(run(rt, &words))
+}
+
+/// Whether just this was printed, where a file's word stands between bars in the faults that are
+/// wanted.
+pub fn is_filled(
+    alloc: Global,
+    paths: &Paths,
+    printed: &Printed,
+    wanted: &Wanted,
+) -> Result<bool, Fail> {
+    let faults = paths.filled(alloc, wanted.faults)?;
+    let filled = Wanted {
+        faults: faults.as_str(),
+        ..*wanted
+    };
+    Ok(is_printed(printed, &filled))
+}
+
+/// Whether the command line that the words of a row stand for prints just this, where a file's word
+/// stands between bars in the faults that are wanted.
+pub fn says<R: Files + AllocGlobal + Threads + Wait + Clock + Sync>(
+    rt: &R,
+    paths: &Paths,
+    words: &[&str],
+    wanted: &Wanted,
+) -> Result<bool, Fail> {
+    let printed = run_words(rt, paths, words)?;
+    is_filled(rt.alloc(), paths, &printed, wanted)
 }
 
 /// A command line, with the texts of the formula's file and the proof's file before, and the one of
@@ -141,15 +228,9 @@ fn holds<R: Files + AllocGlobal + Threads + Wait + Clock + Sync>(
     row: &Row,
 ) -> Result<bool, Fail> {
     put(rt, paths, row)?;
-    let words = paths.words(rt.alloc(), row.words)?;
-    let faults = paths.filled(rt.alloc(), row.wanted.faults)?;
-    let wanted = Wanted {
-        faults: faults.as_str(),
-        ..row.wanted
-    };
-    let is_printed = prints(rt, &words, &wanted);
+    let is_said = says(rt, paths, row.words, &row.wanted)?;
     let text = fs::read(rt, paths.proof.as_str())?;
-    Ok(is_printed && text.as_slice() == row.after.as_bytes())
+    Ok(is_said && text.as_slice() == row.after.as_bytes())
 }
 
 /// Checks rows one after the other, over these files.

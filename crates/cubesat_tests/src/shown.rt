@@ -1,7 +1,7 @@
 //! Where what is shown of a run can't be printed, all else stays as it is.
 use crate::faulty::{Limited, Limits};
 use crate::options::SPLIT;
-use crate::sessions::Paths;
+use crate::sessions::{Paths, put_texts};
 use crate::texts::EIGHT;
 use cubesat::{Screen, command_on};
 use std::fs;
@@ -50,8 +50,7 @@ fn is_as_ever_beside<R: Files + AllocGlobal + Threads + Wait + Clock + Sync>(
     room: usize,
     screen: Screen,
 ) -> Result<bool, Fail> {
-    fs::write(rt, paths.formula.as_str(), EIGHT)?;
-    fs::write(rt, paths.proof.as_str(), "old")?;
+    put_texts(rt, paths, EIGHT.as_bytes(), b"old")?;
     let mut faults = Limited::new(rt.alloc(), Limits::of(room));
     let is_right = is_as_ever(rt, paths, &mut faults, screen)?;
     Ok(is_right && faults.refusals > 0)

@@ -1,10 +1,9 @@
 //! What `--verbose` prints, and that a fault's lines and the answer stay as they are.
-use crate::sessions::{Paths, Wanted, prints};
+use crate::sessions::{Paths, Wanted, is_printed, put_texts, run_words};
 use crate::texts::{WIDE, WIDE_PROOF};
 use cubesat::explanation;
 use std::alloc::{AllocError, Global};
 use std::fmt::Write;
-use std::fs;
 use std::rt::Files;
 use std::sync::Wait;
 use std::test::Fail;
@@ -71,16 +70,15 @@ fn shows<R: Files + AllocGlobal + Threads + Wait + Clock + Sync>(
     paths: &Paths,
     row: &Row,
 ) -> Result<bool, Fail> {
-    fs::write(rt, paths.formula.as_str(), row.texts.0)?;
-    fs::write(rt, paths.proof.as_str(), row.texts.1)?;
-    let words = paths.words(rt.alloc(), row.words)?;
+    put_texts(rt, paths, row.texts.0.as_bytes(), row.texts.1.as_bytes())?;
+    let printed = run_words(rt, paths, row.words)?;
     let faults = shown(rt.alloc(), paths, row)?;
     let wanted = Wanted {
         status: row.status,
         answer: row.answer,
         faults: faults.as_str(),
     };
-    Ok(prints(rt, &words, &wanted))
+    Ok(is_printed(&printed, &wanted))
 }
 
 const CHECK: [&str; 5] = ["cubesat", "check", "--verbose", "FORMULA", "PROOF"];

@@ -1,6 +1,6 @@
 //! `-` is standard input, of either command.
 use crate::faulty::Trickle;
-use crate::sessions::{Paths, Printed, Wanted, run};
+use crate::sessions::{Paths, Printed, Wanted, is_filled, put_texts, run};
 use crate::texts::{FOUR, FOUR_PROOF, WIDE, WIDE_PROOF};
 use cubesat::{Screen, command_with_input};
 use std::fs;
@@ -135,16 +135,10 @@ fn holds<R: Files + AllocGlobal + Threads + Wait + Clock + Sync>(
     paths: &Paths,
     row: &Row,
 ) -> Result<bool, Fail> {
-    fs::write(rt, paths.formula.as_str(), row.texts.0)?;
-    fs::write(rt, paths.proof.as_str(), row.texts.1)?;
+    put_texts(rt, paths, row.texts.0.as_bytes(), row.texts.1.as_bytes())?;
     let words = paths.words(rt.alloc(), row.words)?;
-    let faults = paths.filled(rt.alloc(), row.wanted.faults)?;
     let printed = run_with(rt, &words, row.input.as_bytes());
-    Ok(
-        printed.status == row.wanted.status
-            && printed.answer.as_slice() == row.wanted.answer.as_bytes()
-            && printed.faults.as_slice() == faults.as_bytes(),
-    )
+    is_filled(rt.alloc(), paths, &printed, &row.wanted)
 }
 
 #[test]
@@ -156,14 +150,22 @@ fn what_is_read_of_it(rt: HostRuntime) -> Result<(), Fail> {
     Ok(())
 }
 
+/// Whether `solve` writes a proof of the formula that it reads byte after byte.
+fn is_proved<R: Files + AllocGlobal + Threads + Wait + Clock + Sync>(
+    rt: &R,
+    paths: &Paths,
+) -> Result<bool, Fail> {
+    let words = ["cubesat", "solve", "--budget", "1", "--proof", "PROOF", "-"];
+    let words = paths.words(rt.alloc(), &words)?;
+    let status = run_with(rt, &words, Trickle::whole(FOUR.as_bytes())).status;
+    let proof = fs::read(rt, paths.proof.as_str())?;
+    Ok(status == 20 && proof.as_slice() == FOUR_PROOF.as_bytes())
+}
+
 #[test]
 fn a_proof_of_what_is_read(rt: HostRuntime) -> Result<(), Fail> {
     let paths = Paths::of(&rt, "piped.cnf")?;
-    let words = ["cubesat", "solve", "--budget", "1", "--proof", "PROOF", "-"];
-    let words = paths.words(rt.alloc(), &words)?;
-    let printed = run_with(&rt, &words, Trickle::whole(FOUR.as_bytes()));
-    let proof = fs::read(&rt, paths.proof.as_str())?;
-    assert!(rt; printed.status == 20 && proof.as_slice() == FOUR_PROOF.as_bytes());
+    assert!(rt; is_proved(&rt, &paths)?);
     Ok(())
 }
 

@@ -28,21 +28,21 @@ const PROCESS: &str =
 /// bytes of the answer are taken, whether the system tells of the process, the status, the lines
 /// that are printed, and with which words a fault or a refusal begins behind them.
 #[derive(Clone, Copy)]
-struct Row<'a> {
-    formula: &'a str,
-    proof: &'a str,
-    words: &'a [&'a str],
-    times: &'a [u64],
-    room: usize,
-    tells: bool,
-    status: u8,
-    lines: &'a str,
-    fault: &'a str,
+pub(crate) struct Row<'a> {
+    pub(crate) formula: &'a str,
+    pub(crate) proof: &'a str,
+    pub(crate) words: &'a [&'a str],
+    pub(crate) times: &'a [u64],
+    pub(crate) room: usize,
+    pub(crate) tells: bool,
+    pub(crate) status: u8,
+    pub(crate) lines: &'a str,
+    pub(crate) fault: &'a str,
 }
 
 /// The eight clauses, with the root split. What its searches do is worked out in the tests of
 /// `cubes`.
-const SPLIT: Row = Row {
+pub(crate) const SPLIT: Row = Row {
     formula: EIGHT,
     proof: "",
     words: &[
@@ -351,7 +351,7 @@ fn has_lines(faults: &[u8], row: &Row) -> bool {
 }
 
 /// Whether a row's command line prints what is wanted.
-fn holds<R: Files + AllocGlobal + Threads + Wait + Clock + Sync>(
+pub(crate) fn holds<R: Files + AllocGlobal + Threads + Wait + Clock + Sync>(
     rt: &R,
     paths: &Paths,
     row: &Row,

@@ -9,6 +9,7 @@ use statistics::{FormulaSize, StageEnd, Watch, print_statistics};
 use std::alloc::{AllocError, Global};
 use std::sync::Wait;
 use std::test::Fail;
+use std::time::Clock;
 
 /// What a hand has done in all, with so many conflicts.
 fn counts_of(conflicts: u64) -> Counts {
@@ -19,23 +20,30 @@ fn counts_of(conflicts: u64) -> Counts {
         restarts: 0,
         learnt: 2,
         forgotten: 0,
+        looks: 0,
+        failed: 0,
     }
 }
 
+/// Which hand begins a cube of which literals, and whether it solves it.
+type Told = (usize, &'static [i32], bool);
+
 /// Hand 0 solves the root and begins a half; hand 1 solves both halves of the other half.
-fn watch_two<R: Wait>(rt: &R, alloc: Global, board: &Board) -> Result<(), AllocError> {
+static TOLD: [Told; 4] = [
+    (0, &[], true),
+    (0, &[-1], false),
+    (1, &[1, -2], true),
+    (1, &[1, 2], true),
+];
+
+/// Tells a gate of two hands.
+fn watch_two<R: Wait + Clock>(rt: &R, alloc: Global, board: &Board) -> Result<(), AllocError> {
     let watch = Watch { rt, board };
-    let told: [(usize, &[i32], bool); 4] = [
-        (0, &[], true),
-        (0, &[-1], false),
-        (1, &[1, -2], true),
-        (1, &[1, 2], true),
-    ];
-    for (hand, numbers, is_solved) in told {
+    for (hand, numbers, is_solved) in &TOLD {
         let cube = cube_of(alloc, 2, numbers)?;
-        watch.before(hand, &cube);
-        if is_solved {
-            watch.after(hand, &cube);
+        watch.before(*hand, &cube);
+        if *is_solved {
+            watch.after(*hand, &cube);
         }
     }
     watch.counted(0, counts_of(10));

@@ -1,9 +1,7 @@
 //! What the program says of a fault in words, from the files on.
 use crate::faulty::{Limited, Limits};
-use crate::sessions::{Paths, Wanted, prints};
+use crate::sessions::{Paths, Wanted, put_texts, says};
 use cubesat::command;
-use std::alloc::Global;
-use std::fs;
 use std::rt::Files;
 use std::sync::Wait;
 use std::test::Fail;
@@ -42,21 +40,18 @@ const CHECKED: Row = Row {
 };
 
 /// Whether a row's command line answers and says what it is to answer and to say.
-fn says<R: Files + AllocGlobal + Threads + Wait + Clock + Sync>(
+fn holds<R: Files + AllocGlobal + Threads + Wait + Clock + Sync>(
     rt: &R,
     paths: &Paths,
     row: &Row,
 ) -> Result<bool, Fail> {
-    fs::write(rt, paths.formula.as_str(), row.formula)?;
-    fs::write(rt, paths.proof.as_str(), row.proof)?;
-    let words = paths.words(rt.alloc(), row.words)?;
-    let faults = paths.filled(rt.alloc(), row.faults)?;
+    put_texts(rt, paths, row.formula, row.proof)?;
     let wanted = Wanted {
         status: 1,
         answer: row.answer,
-        faults: faults.as_str(),
+        faults: row.faults,
     };
-    Ok(prints(rt, &words, &wanted))
+    says(rt, paths, row.words, &wanted)
 }
 
 /// The first of the rows that isn't as it is to be.
@@ -66,7 +61,7 @@ fn first_wrong<R: Files + AllocGlobal + Threads + Wait + Clock + Sync>(
     rows: &[Row],
 ) -> Result<Option<usize>, Fail> {
     for (at, row) in rows.iter().enumerate() {
-        if !says(rt, paths, row)? {
+        if !holds(rt, paths, row)? {
             return Ok(Some(at));
         }
     }
@@ -327,29 +322,28 @@ fn proofs_that_are_refused(rt: HostRuntime) -> Result<(), Fail> {
     Ok(())
 }
 
-/// What a command line says whose answer's writer has room for four bytes.
-fn said_of_unwritten<R: Files + AllocGlobal + Threads + Wait + Clock + Sync>(
+const UNWRITTEN: &[u8] =
+    b"fault 54\nc the answer: other error\nc what was printed is only a beginning of it\n";
+
+/// Whether a command line says that its answer's writer, which has room for four bytes, failed.
+fn is_unwritten<R: Files + AllocGlobal + Threads + Wait + Clock + Sync>(
     rt: &R,
-    alloc: Global,
+    paths: &Paths,
     words: &[&str],
-) -> Vec<u8> {
-    let mut answer = Limited::new(alloc, Limits::of(4));
-    let mut faults = Vec::new(alloc);
-    let _ = command(rt, alloc, words, &mut answer, &mut faults);
-    faults
+) -> Result<bool, Fail> {
+    let words = paths.words(rt.alloc(), words)?;
+    let mut answer = Limited::new(rt.alloc(), Limits::of(4));
+    let mut faults = Vec::new(rt.alloc());
+    let _ = command(rt, rt.alloc(), &words, &mut answer, &mut faults);
+    Ok(faults.as_slice() == UNWRITTEN)
 }
 
 #[test]
 fn answers_that_are_not_written(rt: HostRuntime) -> Result<(), Fail> {
     let paths = Paths::of(&rt, "worded_answers.cnf")?;
-    fs::write(&rt, paths.formula.as_str(), FOUR)?;
-    fs::write(&rt, paths.proof.as_str(), "5 1 0 1 2 0\n6 0 5 3 4 0\n")?;
-    let wanted =
-        b"fault 54\nc the answer: other error\nc what was printed is only a beginning of it\n";
-    for row in [SOLVED, CHECKED] {
-        let words = paths.words(rt.alloc(), row.words)?;
-        let said = said_of_unwritten(&rt, rt.alloc(), &words);
-        assert!(rt; said.as_slice() == wanted.as_slice());
+    put_texts(&rt, &paths, FOUR, b"5 1 0 1 2 0\n6 0 5 3 4 0\n")?;
+    for words in [SOLVED.words, CHECKED.words] {
+        assert!(rt; is_unwritten(&rt, &paths, words)?);
     }
     Ok(())
 }

@@ -23,10 +23,12 @@ impl Board {
         Board::of(rt, Figures::none(stage))
     }
 
-    /// A run begins that decides a formula by a search, and writes its proof if there is to be one.
-    pub fn of_search<R: Clock>(rt: &R, search: Search, has_proof: bool) -> Board {
+    /// A run begins that decides a formula by a search and so many hands, and writes its proof if
+    /// there is to be one.
+    pub fn of_search<R: Clock>(rt: &R, search: Search, hands: usize, has_proof: bool) -> Board {
         let mut figures = Figures::none(Stage::Reading);
         figures.search = search;
+        figures.hands = hands;
         figures.has_no_proof = !has_proof;
         Board::of(rt, figures)
     }

@@ -1,8 +1,10 @@
 //! What is counted in a run, as plain numbers; a number that can't grow stays as it is.
 
 use crate::cube_counts::CubeCounts;
+use crate::division::DivisionCounts;
+use crate::hand_times::HandTimes;
 use crate::search_counts::SearchCounts;
-use cdcl::{Counts, Search};
+use cdcl::{Counts, FirstSearch, Search};
 use cnf::Formula;
 pub use cubes::TreeSize;
 use std::fmt;
@@ -96,7 +98,11 @@ pub struct Figures {
     /// Whether a line of progress stands on the terminal.
     pub(crate) is_drawn: bool,
     pub(crate) formula: Option<FormulaSize>,
+    /// How many hands solve it.
+    pub hands: usize,
     pub cubes: CubeCounts,
+    pub division: DivisionCounts,
+    pub times: HandTimes,
     /// What the hands' solvers have done.
     pub counts: SearchCounts,
     pub(crate) tree: Option<TreeSize>,
@@ -115,7 +121,7 @@ pub struct Figures {
 }
 
 impl Figures {
-    /// Nothing is counted yet, of a run by the ordered search.
+    /// Nothing is counted yet, of a run by the ordered search and one hand.
     pub fn none(stage: Stage) -> Figures {
         Figures {
             stage,
@@ -123,7 +129,10 @@ impl Figures {
             is_ended: false,
             is_drawn: false,
             formula: None,
+            hands: 1,
             cubes: CubeCounts::none(),
+            division: DivisionCounts::none(),
+            times: HandTimes::none(),
             counts: SearchCounts::none(),
             tree: None,
             text: TextSize::none(),
@@ -138,17 +147,39 @@ impl Figures {
         }
     }
 
-    pub(crate) fn begin_cube(&mut self, hand: usize, depth: usize, last: Option<bool>) {
-        self.cubes.begin(hand, depth, last);
+    /// Whether it is asked when each cube begins and ends: for the time of looks, and for the time
+    /// that hands wait.
+    pub(crate) fn times_cubes(&self) -> bool {
+        self.hands >= 2 || self.division.depth().is_some()
     }
 
-    pub(crate) fn end_cube(&mut self, hand: usize, depth: usize) {
+    pub(crate) fn begin_cube(&mut self, hand: usize, depth: usize, last: Option<bool>, now: u64) {
+        self.cubes.begin(hand, depth, last);
+        self.times.begin(hand, now);
+    }
+
+    pub(crate) fn end_cube(&mut self, hand: usize, depth: usize, now: u64) {
         self.cubes.end(hand, depth);
+        self.times.end(hand, now);
+        if self.division.looks_at(depth) {
+            self.division.add_look(self.times.began(hand), now);
+        }
+    }
+
+    /// The first search was asked whether the formula is divided, or ended before.
+    pub(crate) fn ask(&mut self, first: FirstSearch, now: u64) {
+        self.division.ask(first, now);
+    }
+
+    /// A cube of so many literals is refuted.
+    pub(crate) fn close_cube(&mut self, literals: usize) {
+        self.division.close(literals);
     }
 
     /// Before hands began so much was done.
-    pub(crate) fn count_prepared(&mut self, counts: Counts) {
+    pub(crate) fn count_prepared(&mut self, counts: Counts, now: u64) {
         self.counts.set_prepared(counts);
+        self.division.end_preparing(now);
     }
 
     /// A hand's solver has done so much in all.

@@ -1,6 +1,7 @@
 //! How far a search is, in a line of progress.
 
 use crate::cube_counts::CubeCounts;
+use crate::division::Done;
 use crate::figures::Figures;
 use crate::search_counts::a_second;
 use cdcl::Search;
@@ -16,6 +17,8 @@ pub(crate) struct SearchLine {
     /// How many a second, where the clock went on.
     speed: Option<u64>,
     cubes: CubeCounts,
+    /// The cubes that are done, where the formula is divided.
+    done: Option<Done>,
 }
 
 impl SearchLine {
@@ -27,6 +30,7 @@ impl SearchLine {
             conflicts,
             speed: a_second(conflicts, now.saturating_sub(figures.began_solving())),
             cubes: figures.cubes,
+            done: figures.division.done(),
         }
     }
 }
@@ -40,6 +44,9 @@ impl Display for SearchLine {
         }
         if let Some(speed) = self.speed {
             write!(f, "{speed} a second, ")?;
+        }
+        if let Some(done) = self.done {
+            return write!(f, "{done}");
         }
         let solved = cubes.solved();
         write!(f, "{solved} cubes solved")

@@ -1,5 +1,6 @@
 //! What `--stats` prints: lines that begin with `c`, of as much of the run as it came to.
 
+use crate::division_lines::print_division;
 use crate::figures::{Figures, StageEnd};
 use crate::search_counts::a_second;
 use std::io::Write;
@@ -51,6 +52,25 @@ fn print_cubes<E: Write>(out: &mut E, figures: &Figures) {
     };
 }
 
+/// Prints how long hands waited at the end of solving, where there are several.
+fn print_waits<E: Write>(out: &mut E, figures: &Figures, hands: usize) {
+    let Some(end) = figures.solved else {
+        return;
+    };
+    if hands < 2 {
+        return;
+    }
+    let waited = figures.times.waited(hands, end.at);
+    let (seconds, milliseconds) = (waited.waited / 1000, waited.waited % 1000);
+    let share = waited.waited.saturating_mul(1000).checked_div(waited.all);
+    let share = share.unwrap_or(0);
+    let (whole, tenths) = (share / 10, share % 10);
+    let _ = writeln!(
+        out,
+        "c hands waited: {seconds}.{milliseconds:03} s in all, {whole}.{tenths} % of the hands' time"
+    );
+}
+
 /// Prints how many cubes each hand solved.
 fn print_hands<E: Write>(out: &mut E, figures: &Figures, hands: usize) {
     let _ = write!(out, "c solved by each hand:");
@@ -95,8 +115,10 @@ pub fn print_statistics<E: Write>(out: &mut E, figures: &Figures, hands: usize) 
         "c formula: {vars} variables, {clauses} clauses, {literals} literals\nc hands: {hands}"
     );
     print_counts(out, figures);
+    print_division(out, figures);
     print_cubes(out, figures);
     print_hands(out, figures, hands);
+    print_waits(out, figures, hands);
     if !figures.has_no_proof {
         let proof = figures.proof;
         let _ = writeln!(out, "c proof: {proof}");

@@ -6,7 +6,7 @@ use crate::counted::Counter;
 use crate::figures::{FormulaSize, StageEnd, TextSize, TreeSize};
 use crate::observer::Observer;
 use crate::peak::peak_memory;
-use cdcl::Counts;
+use cdcl::{Counts, FirstAnswer, FirstSearch};
 use cnf::Formula;
 use cubes::{Gate, Tree};
 use kernel::Cube;
@@ -60,8 +60,35 @@ impl<R: Wait> Counter for TextWatch<'_, R> {
     }
 }
 
-impl<R: Wait> Gate for Watch<'_, R> {
+impl<R: Wait + Clock> Watch<'_, R> {
+    /// The time of a cube's beginning or end, where that is asked for; else 0.
+    fn cube_time(&self) -> u64 {
+        let is_asked = self.board.figures().lock(self.rt).times_cubes();
+        if is_asked { self.board.now(self.rt) } else { 0 }
+    }
+
+    /// The time of an answer that divides the formula; else 0.
+    fn answer_time(&self, first: FirstSearch) -> u64 {
+        match first.answer {
+            FirstAnswer::Divided(_) => self.board.now(self.rt),
+            _ => 0,
+        }
+    }
+
+    /// The time of the end of the first look, where it goes on; else 0.
+    fn first_look_time(&self) -> u64 {
+        let is_looking = self.board.figures().lock(self.rt).division.is_looking();
+        if is_looking {
+            self.board.now(self.rt)
+        } else {
+            0
+        }
+    }
+}
+
+impl<R: Wait + Clock> Gate for Watch<'_, R> {
     fn before(&self, hand: usize, cube: &Cube) {
+        let now = self.cube_time();
         let depth = cube.lits().len();
         let last = match cube.lits().last() {
             Some(lit) => Some(lit.positive()),
@@ -70,16 +97,34 @@ impl<R: Wait> Gate for Watch<'_, R> {
         self.board
             .figures()
             .lock(self.rt)
-            .begin_cube(hand, depth, last);
+            .begin_cube(hand, depth, last, now);
     }
 
     fn after(&self, hand: usize, cube: &Cube) {
+        let now = self.cube_time();
         let depth = cube.lits().len();
-        self.board.figures().lock(self.rt).end_cube(hand, depth);
+        self.board
+            .figures()
+            .lock(self.rt)
+            .end_cube(hand, depth, now);
     }
 
     fn prepared(&self, counts: Counts) {
-        self.board.figures().lock(self.rt).count_prepared(counts);
+        let now = self.first_look_time();
+        self.board
+            .figures()
+            .lock(self.rt)
+            .count_prepared(counts, now);
+    }
+
+    fn asked(&self, first: FirstSearch) {
+        let now = self.answer_time(first);
+        self.board.figures().lock(self.rt).ask(first, now);
+    }
+
+    fn refuted(&self, _hand: usize, cube: &Cube) {
+        let literals = cube.lits().len();
+        self.board.figures().lock(self.rt).close_cube(literals);
     }
 
     fn counted(&self, hand: usize, counts: Counts) {

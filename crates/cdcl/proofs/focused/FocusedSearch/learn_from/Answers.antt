@@ -35,6 +35,7 @@ learning : (c : In_ok-push-2) → IsLearning c.args.self.now c.args.number (reco
   averages = c.forget_where_due.new.self.averages;
   schedule = c.forget_where_due.new.self.schedule;
   analysis = c.forget_where_due.new.self.analysis;
+  tally = c.forget_where_due.new.self.tally;
 })
 learning c =
     let learnt = c.lesson.new.self.learnt in

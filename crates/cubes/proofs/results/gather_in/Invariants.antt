@@ -2,7 +2,7 @@ use Rattle.std.proofs.Common.{◌+◌}
 use Rattle.cubes.specs.Source.{IsSource}
 use Rattle.cubes.proofs.GatheringLemmas.{IsGathered}
 use Rattle.cubes.proofs.Walks.{to_come}
-use Rattle.cubes.proofs.results.gather_watched.Given as goal
+use Rattle.cubes.proofs.results.gather_in.Given as goal
 
 -- what is known is so, and the cube is reached, with the nodes before it
 abbrev pub invariant-cubes : goal.invariant-cubes

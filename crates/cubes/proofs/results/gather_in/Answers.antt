@@ -5,7 +5,7 @@ use Rattle.cubes.specs.Solved.{results_by, solved_by}
 use Rattle.cubes.proofs.Walks.{IsReached-over, IsReached-short}
 use Rattle.cubes.proofs.KnownLemmas.{AreOutcomes-known}
 use Rattle.cubes.proofs.GatheringLemmas.{IsGathered-start, can_go_on, gives, fewer, says}
-use Rattle.cubes.proofs.results.gather_watched.Goals as goal
+use Rattle.cubes.proofs.results.gather_in.Goals as goal
 
 pub cubes-init : goal.cubes-init
 cubes-init g c = record {

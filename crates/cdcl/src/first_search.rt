@@ -1,0 +1,21 @@
+//! What is found out when the first search is asked whether the formula is divided.
+
+/// What the first search answers.
+#[derive(Clone, Copy, Debug, PartialEq, Eq)]
+pub enum FirstAnswer {
+    /// It wasn't asked, since it ended before.
+    Ended,
+    /// The formula isn't divided.
+    Whole,
+    /// It is, and so many cubes are wanted.
+    Divided(u32),
+}
+
+/// What the first search had done when it was asked or ended, and what it answers.
+#[derive(Clone, Copy, Debug, PartialEq, Eq)]
+pub struct FirstSearch {
+    /// Literals that were decided, also those that were taken back.
+    pub decisions: u64,
+    pub conflicts: u64,
+    pub answer: FirstAnswer,
+}

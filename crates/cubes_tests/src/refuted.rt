@@ -1,0 +1,100 @@
+//! What a gate is told of the first search, and of cubes that are refuted.
+ghost use Rattle.std.specs.Prelude.{◌≤◌};
+
+use cdcl::{FirstAnswer, FirstSearch, Plan};
+use cnf::{Formula, read_formula};
+use cubes::{Gate, solve_by_plan};
+use kernel::Cube;
+use samples::{EIGHT, FOUR};
+use std::alloc::Global;
+use std::sync::{Mutex, Wait};
+use std::test::Fail;
+use std::thread::Threads;
+use std::time::Clock;
+
+/// All of a tree; a cube of d literals is one part in 2^d of it.
+const WHOLE: u64 = 1024;
+
+/// Decisions and conflicts of the first search, and what it answers.
+type First = Option<(u64, u64, FirstAnswer)>;
+
+/// A text, a budget for the root, how many cubes are wanted, and the first search, if there is one.
+type Row = (&'static [u8], u32, u32, First);
+
+static ROWS: [Row; 6] = [
+    // no division is wanted
+    (FOUR, 1, 1, None),
+    // -2 is decided, a conflict
+    (FOUR, 1, 2, Some((1, 1, FirstAnswer::Divided(2)))),
+    // it goes on to a conflict without a decision
+    (FOUR, 2, 2, Some((1, 2, FirstAnswer::Ended))),
+    // -3 and -2 are decided, a conflict
+    (EIGHT, 1, 2, Some((2, 1, FirstAnswer::Whole))),
+    // and there is one more without a decision more
+    (EIGHT, 2, 3, Some((2, 2, FirstAnswer::Divided(3)))),
+    (EIGHT, 2, 64, Some((2, 2, FirstAnswer::Divided(64)))),
+];
+
+/// What the first search answered, and how much of the tree is refuted.
+#[derive(Drop)]
+struct Told<'a, R> {
+    rt: &'a R,
+    first: Mutex<First>,
+    refuted: Mutex<u64>,
+}
+
+impl<R: Wait> Gate for Told<'_, R> {
+    fn before(&self, _hand: usize, _cube: &Cube) {}
+
+    fn after(&self, _hand: usize, _cube: &Cube) {}
+
+    fn asked(&self, first: FirstSearch) {
+        let found = (first.decisions, first.conflicts, first.answer);
+        *self.first.lock(self.rt) = Some(found);
+    }
+
+    fn refuted(&self, _hand: usize, cube: &Cube) {
+        let depth = cube.lits().len().min(10);
+        let part = WHOLE >> depth as u32;
+        let mut refuted = self.refuted.lock(self.rt);
+        *refuted = refuted.saturating_add(part);
+    }
+}
+
+/// What so many hands tell a gate.
+fn told_by<R: Threads + Wait + Clock + Sync>(
+    rt: &R,
+    alloc: Global,
+    formula: &Formula,
+    plan: Plan,
+    hands: usize,
+) -> Result<(First, u64), Fail>
+    requires { (1 ≤ hands) × (hands ≤ 16) }
+{
+    let gate = Told {
+        rt,
+        first: Mutex::new(None),
+        refuted: Mutex::new(0),
+    };
+    solve_by_plan(rt, alloc, formula, plan, hands, &gate)?;
+    let first = *gate.first.lock(rt);
+    let refuted = *gate.refuted.lock(rt);
+    Ok((first, refuted))
+}
+
+#[test]
+fn all_of_a_tree_without_a_model_is_refuted(rt: HostRuntime) -> Result<(), Fail> {
+    for (text, budget, divide, first) in &ROWS {
+        let formula = read_formula(rt.alloc(), text)?;
+        let budget = (*budget).max(1).min(100_000);
+        let plan = Plan::focused(budget).divided((*divide).min(65_536));
+        for hands in [1, 2, 4] {
+            let found = told_by(&rt, rt.alloc(), &formula, plan, hands)?;
+            assert!(rt;
+                found == (*first, WHOLE),
+                "{hands} hands at {text:?}: {found:?}"
+            );
+        }
+    }
+    Ok(())
+}

@@ -1,0 +1,66 @@
+//! What `--stats` prints of the division of a formula.
+
+use crate::division::Done;
+use crate::figures::Figures;
+use cdcl::{FirstAnswer, FirstSearch};
+use std::io::Write;
+
+/// Prints by which figures of the first search the formula isn't divided.
+fn print_whole<E: Write>(out: &mut E, first: FirstSearch) {
+    let (decisions, conflicts) = (first.decisions, first.conflicts);
+    let _ = if first.answer == FirstAnswer::Ended {
+        writeln!(
+            out,
+            "c not divided: the first search ended after {conflicts} conflicts"
+        )
+    } else {
+        writeln!(
+            out,
+            "c not divided: {decisions} decisions in {conflicts} conflicts"
+        )
+    };
+}
+
+/// Prints by which figures it is divided, and into how many cubes.
+fn print_divided<E: Write>(out: &mut E, first: FirstSearch, done: Done) {
+    let (decisions, conflicts, wanted) = (first.decisions, first.conflicts, done.wanted);
+    let _ = writeln!(
+        out,
+        "c divided: {decisions} decisions in {conflicts} conflicts, into at most {wanted} cubes"
+    );
+}
+
+/// How many cubes were solved.
+fn solved_of(figures: &Figures) -> u64 {
+    match figures.tree {
+        Some(tree) => tree.splits.saturating_add(tree.leaves),
+        None => figures.cubes.solved(),
+    }
+}
+
+/// Prints how many cubes were looked at and searched, and what the looks met and took.
+fn print_looks<E: Write>(out: &mut E, figures: &Figures) {
+    let counts = figures.counts.sum();
+    let (looks, failed) = (counts.looks, counts.failed);
+    let searched = solved_of(figures).saturating_sub(looks);
+    let time = figures.division.looking();
+    let (seconds, milliseconds) = (time / 1000, time % 1000);
+    let _ = writeln!(
+        out,
+        "c looked at: {looks} cubes, {failed} failed literals, {seconds}.{milliseconds:03} s\nc searched: {searched} cubes"
+    );
+}
+
+/// Prints what the first search answered, if it was asked, and what the division came to.
+pub(crate) fn print_division<E: Write>(out: &mut E, figures: &Figures) {
+    let Some(first) = figures.division.first() else {
+        return;
+    };
+    match figures.division.done() {
+        Some(done) => {
+            print_divided(out, first, done);
+            print_looks(out, figures);
+        }
+        None => print_whole(out, first),
+    }
+}
