@@ -7,13 +7,12 @@ use std::fs;
 use std::fs::Files;
 use std::io::Read;
 
-/// How many bytes a read is given room for.
-const CHUNK: usize = 8192;
+/// How many bytes a read is given room for: so many that a large file takes few calls.
+const CHUNK: usize = 65_536;
 
 /// Adds what one read gives; whether more is to be read. None where the read fails.
-fn add_chunk<I: Read>(input: &mut I, excerpt: &mut Excerpt) -> Option<bool> {
-    let mut chunk = [0u8; CHUNK];
-    let count = input.read(&mut chunk).ok()?;
+fn add_chunk<I: Read>(input: &mut I, chunk: &mut [u8], excerpt: &mut Excerpt) -> Option<bool> {
+    let count = input.read(chunk).ok()?;
     excerpt.add(&chunk[..count]);
     Some(count > 0 && !excerpt.is_full())
 }
@@ -26,8 +25,9 @@ pub(crate) fn excerpt_of<R: Files>(rt: &R, file: &str, place: Place) -> Option<E
     }
     let mut input = fs::open(rt, file).ok()?;
     let mut excerpt = Excerpt::around(place);
+    let mut chunk = [0u8; CHUNK];
     for _ in 0..u64::MAX {
-        if !add_chunk(&mut input, &mut excerpt)? {
+        if !add_chunk(&mut input, &mut chunk, &mut excerpt)? {
             break;
         }
     }

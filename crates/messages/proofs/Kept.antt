@@ -1,9 +1,10 @@
 -- What is kept of a text around a place, a byte more.
-use Rattle.std.proofs.Common.{◌≡◌, ℕ, zero, suc, ◌-◌, ◌<◌, ◌≤◌, List, [], ◌∷◌, ◌++◌, length, take, drop, nat_eq, Bool, IsTrue, true, false, if◌then◌else◌, refl, sym, ap, ◌∙◌, arith, append_assoc}
+use Rattle.std.proofs.Common.{◌≡◌, ℕ, zero, suc, ◌+◌, ◌-◌, ◌<◌, ◌≤◌, List, [], ◌∷◌, ◌++◌, length, take, drop, nat_eq, Bool, IsTrue, true, false, if◌then◌else◌, refl, sym, ap, ◌∙◌, arith, append_assoc}
 use Rattle.std.proofs.lemmas.Bool.{eqb-true}
 use Rattle.std.proofs.lemmas.List.{take-append-le}
 use mir.Val.{bool_byte}
 use Rattle.std.specs.Prelude.{Result, Ok, Err, OnOk, OnErr}
+use Rattle.messages.specs.Lines.{line_feeds}
 use Rattle.messages.specs.Excerpts.{behind_lines}
 
 pub behind-byte : (n b r : ℕ) (bs : List ℕ) → 0 < n → r ≡ bool_byte (nat_eq b 10) →
@@ -15,6 +16,22 @@ behind-byte (suc n) b r bs h e =
       | true ↦ λ one. (let k : suc n - r ≡ n = omega arith in ap (λ m. behind_lines m bs) k)
       | false ↦ λ none. (let k : suc n - r ≡ suc n = omega arith in ap (λ m. behind_lines m bs) k)
     ] e
+
+-- a piece with fewer line feeds than are to come
+pub behind-piece : (n : ℕ) (piece more : List ℕ) → line_feeds piece < n →
+    behind_lines (n - line_feeds piece) more ≡ behind_lines n (piece ++ more)
+behind-piece n [] more h = let k : n - 0 ≡ n = omega arith in ap (λ m. behind_lines m more) k
+behind-piece zero (b ∷ bs) more h = absurd (omega arith)
+behind-piece (suc n) (b ∷ bs) more h =
+    elim (nat_eq b 10) as (λ t. (if t then suc (line_feeds bs) else line_feeds bs) < suc n →
+    behind_lines (suc n - (if t then suc (line_feeds bs) else line_feeds bs)) more ≡ (if t then behind_lines n (bs ++ more) else behind_lines (suc n) (bs ++ more))) [
+      | true ↦ λ less. (let k : suc n - suc (line_feeds bs) ≡ n - line_feeds bs = omega arith in ap (λ m. behind_lines m more) k ∙ behind-piece n bs more (omega arith))
+      | false ↦ λ less. behind-piece (suc n) bs more less
+    ] h
+
+pub behind-counted : (n k : ℕ) (piece more : List ℕ) → k ≡ line_feeds piece → k < n →
+    behind_lines (n - k) more ≡ behind_lines n (piece ++ more)
+behind-counted n k piece more e less = ap (λ m. behind_lines (n - m) more) e ∙ behind-piece n piece more (omega arith)
 
 pub behind-none : (n : ℕ) (text : List ℕ) → n ≤ 0 → behind_lines n text ≡ text
 behind-none zero text h = refl

@@ -1,6 +1,7 @@
 //! The piece of a text around a place.
 ghost use Rattle.std.specs.Prelude.{◌≡◌, ℕ, ◌≤◌, List, [], ◌∷◌, ◌++◌, IsTrue};
 
+use crate::line_feeds::line_feeds;
 use arrayvec::ArrayVec;
 use cnf::Place;
 
@@ -59,11 +60,17 @@ impl Excerpt {
         let _ = self.bytes.try_push(byte);
     }
 
-    /// Takes the next piece of the text.
+    /// Takes the next piece of the text. Most are of lines before the place's, and only their line
+    /// feeds are counted.
     pub fn add(&mut self, piece: &[u8])
         ensures { (more : List ℕ) →
             kept_with self.new more ≡ kept_with self.old (piece.now ++ more) }
     {
+        let lines = line_feeds(piece);
+        if lines < self.lines {
+            self.lines -= lines;
+            return;
+        }
         for byte in piece {
             self.take(*byte);
         }

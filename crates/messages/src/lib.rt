@@ -6,6 +6,7 @@ mod excerpt;
 mod files;
 mod format;
 mod formula;
+mod line_feeds;
 mod name;
 mod picture;
 mod proof;
