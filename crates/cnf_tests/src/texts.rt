@@ -7,8 +7,8 @@ use std::test::Fail;
 /// The clauses, written one after the other with a 0 behind each.
 fn numbers_of(alloc: Global, formula: &Formula) -> Result<Vec<i32>, AllocError> {
     let mut numbers = Vec::new(alloc);
-    for place in 0..formula.clause_count() {
-        for lit in formula.clause(place) {
+    for clause in formula.clauses() {
+        for lit in clause {
             numbers.push(lit.number())?;
         }
         numbers.push(0)?;
@@ -204,10 +204,7 @@ fn long_numbers(rt: HostRuntime) -> Result<(), Fail> {
 /// How many literals the first clause has.
 fn first_length(alloc: Global, text: &[u8]) -> Result<Option<usize>, ReadFault> {
     let formula = read_formula(alloc, text)?;
-    if formula.clause_count() == 0 {
-        return Ok(None);
-    }
-    Ok(Some(formula.clause(0).len()))
+    Ok(formula.clauses().next().map(|clause| clause.len()))
 }
 
 #[test]
