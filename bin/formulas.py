@@ -183,6 +183,18 @@ def progressions(count, lengths):
     return count, clauses
 
 
+def schur(count, colours):
+    """The numbers up to count in colours, none of which has two numbers and their sum, nor one and its double."""
+    formula = Formula()
+    for number in range(1, count + 1):
+        formula.add(*(formula.var(number, it) for it in range(colours)))
+    for one, other in itertools.combinations_with_replacement(range(1, count + 1), 2):
+        if one + other <= count:
+            for it in range(colours):
+                formula.add(*(-formula.var(number, it) for number in sorted({one, other, one + other})))
+    return numbered(formula)
+
+
 def chessboard(size):
     """A board without two opposite corners, to be covered by dominoes."""
     formula, corners = Formula(), {(0, 0), (size - 1, size - 1)}
