@@ -24,6 +24,7 @@ pub mod GlueBounds
 pub mod CubeOutcomes
 pub mod OrderedOutcomes
 pub mod SplitSoundness
+pub mod LeastSplits
 pub mod AgreeingModels
 pub mod TrueSearches
 pub mod FirstClauses

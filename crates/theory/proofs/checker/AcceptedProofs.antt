@@ -11,6 +11,7 @@ use Rattle.theory.specs.Trees.{Tree, satisfied, refutation, split, IsTree, false
 use Rattle.theory.specs.Steps.{Addition, Step, add}
 use Rattle.theory.specs.Checking.{Numbered, clause_of, hint, take_hints, conflicts, Checker, accepted, no_empty_clause, check_from, checks}
 use Rattle.theory.specs.Replaying.{IsReplayed, AreReplayed, AreRefutation}
+use Rattle.theory.specs.Checked.{IsCheckedTree}
 use Rattle.theory.specs.Proofs.{additions, renumbered, leaf_steps, tree_steps, prelude, proof, numbers_from, deletion, refuted_steps}
 use Rattle.theory.proofs.literals.LiteralLemmas.{and-left, and-right, not_true, or-cases}
 use Rattle.theory.specs.Deletions.{is_among}
@@ -20,7 +21,7 @@ use Rattle.theory.proofs.checker.Hints.{hint-false, hint-unit, take_hints-false,
 use Rattle.theory.proofs.literals.OverVariables.{AreOver, AreOver-negations, AreOver-from_IsOver}
 use Rattle.theory.proofs.trees.TreeSoundness.{push-over}
 use Rattle.theory.proofs.checker.AcceptedPrelude.{AreInput, start, prelude-leads}
-use Rattle.theory.proofs.searching.OutcomeLemmas.{Runs-AreRefutation, Runs-exhausted}
+use Rattle.theory.proofs.trees.CheckedTrees.{IsCheckedTree-IsTree}
 use Rattle.theory.proofs.checker.AcceptedSteps.{Leads, Leads-then, renumbered-high, AreMoved, Passes-moved, LinesLead, LinesLead-from_AreReplayed}
 use Rattle.theory.proofs.checker.DeletedNumbers.{numbers_from-within, are_different-numbers_from}
 use Rattle.theory.proofs.checker.AcceptedCubes.{CubeLeads, ending, AreOwn, CubeLeads-end}
@@ -226,41 +227,51 @@ pub or_else-none : (o p : Option Assignment) → or_else o p ≡ None → (o ≡
 or_else-none (Some M) p h = absurd (cc)
 or_else-none None p h = (refl, h)
 
--- The lines of a tree without a satisfied leaf are accepted.
-pub CubeLeads-tree : (F : Formula) (plan : Plan) (n : ℕ) (Q : List Literal) (t : Tree) (s : Checker) → IsFormula F → are_distinct Q ≡ true → IsOver F.vars Q → IsTree F plan Q t → first_model t ≡ None
+-- The lines of a checked tree without a satisfied leaf are accepted.
+pub CubeLeads-tree : (F : Formula) (n : ℕ) (Q : List Literal) (t : Tree) (s : Checker) → are_distinct Q ≡ true → IsOver F.vars Q → IsCheckedTree F Q t → first_model t ≡ None
     → length (first_clauses F) < n → s.last < n → AreInput (first_clauses F) s.clauses → CubeLeads F.vars n (additions t) Q s (tree_steps (length (first_clauses F)) n Q t)
-CubeLeads-tree F plan n Q (satisfied M) s formed distinct over h none low rises input = absurd (cc)
-CubeLeads-tree F plan n Q (refutation lines) s formed distinct over h none low rises input =
-    CubeLeads-leaf F.vars n Q (first_clauses F) s lines low rises input distinct (AreOver-from_IsOver F.vars Q over) (Runs-AreRefutation F plan Q lines formed distinct over h)
-CubeLeads-tree F plan n Q (split x l r) s formed distinct over h none low rises input =
+CubeLeads-tree F n Q (satisfied M) s distinct over h none low rises input = absurd (cc)
+CubeLeads-tree F n Q (refutation lines) s distinct over h none low rises input =
+    CubeLeads-leaf F.vars n Q (first_clauses F) s lines low rises input distinct (AreOver-from_IsOver F.vars Q over) h
+CubeLeads-tree F n Q (split x l r) s distinct over h none low rises input =
     let both = or_else-none (first_model l) (first_model r) none in
-    let free = Runs-exhausted F plan Q x h.0 in
-    let left = CubeLeads-tree F plan n (false_half Q x) l s formed (are_distinct-push Q (negative x) distinct free.1) (push-over F.vars Q (negative x) over free.0) h.1 both.0 low rises input in
+    let fit = h.0 in
+    let left = CubeLeads-tree F n (false_half Q x) l s (are_distinct-push Q (negative x) distinct fit.1) (push-over F.vars Q (negative x) over fit.0) h.1 both.0 low rises input in
     let e = left.last in
-    let right = CubeLeads-tree F plan (n + additions l) (true_half Q x) r left.state formed (are_distinct-push Q (positive x) distinct free.1) (push-over F.vars Q (positive x) over free.0) h.2 both.1
+    let right = CubeLeads-tree F (n + additions l) (true_half Q x) r left.state (are_distinct-push Q (positive x) distinct fit.1) (push-over F.vars Q (positive x) over fit.0) h.2 both.1
     (omega arith) (omega arith) (λ m one end. left.kept m (omega arith) ∙ input m one end) in
-    CubeLeads-split F.vars (length (first_clauses F)) n Q x l r s distinct (AreOver-from_IsOver F.vars Q over) free.1 left right
+    CubeLeads-split F.vars (length (first_clauses F)) n Q x l r s distinct (AreOver-from_IsOver F.vars Q over) fit.1 left right
 
--- The checker accepts the proof of a tree without a satisfied leaf: the prelude, and then the lines
--- of the tree.
-tree-leads : (F : Formula) (plan : Plan) (t : Tree) → IsFormula F → IsTree F plan [] t → first_model t ≡ None
+-- The checker accepts the proof of a checked tree without a satisfied leaf: the prelude, and then
+-- the lines of the tree.
+tree-leads : (F : Formula) (t : Tree) → IsCheckedTree F [] t → first_model t ≡ None
     → CubeLeads F.vars (length (first_clauses F) + 1) (additions t) [] (prelude-leads F).state (tree_steps (length (first_clauses F)) (length (first_clauses F) + 1) [] t)
-tree-leads F plan t formed h none =
+tree-leads F t h none =
     let begun = prelude-leads F in
     let last = begun.last in
-    CubeLeads-tree F plan (length (first_clauses F) + 1) [] t begun.state formed refl (λ k d j. absurd (omega arith)) h none (omega arith) (omega arith) begun.input
+    CubeLeads-tree F (length (first_clauses F) + 1) [] t begun.state refl (λ k d j. absurd (omega arith)) h none (omega arith) (omega arith) begun.input
 
-pub checks-proof : (F : Formula) (plan : Plan) (t : Tree) → IsFormula F → IsTree F plan [] t → first_model t ≡ None → checks F (proof F t) ≡ accepted
-checks-proof F plan t formed h none =
+pub checks-checked : (F : Formula) (t : Tree) → IsCheckedTree F [] t → first_model t ≡ None → checks F (proof F t) ≡ accepted
+checks-checked F t h none =
     let begun = prelude-leads F in
-    let tree = tree-leads F plan t formed h none in
+    let tree = tree-leads F t h none in
     let whole : Leads F.vars (start F) (proof F t) tree.state
     = Leads-then F.vars (start F) begun.state tree.state (prelude F) (tree_steps (length (first_clauses F)) (length (first_clauses F) + 1) [] t) begun.leads tree.leads in
     ap (check_from F.vars 1 (start F)) (sym (append-nil (proof F t))) ∙ (whole 1 [] ∙ ap (λ b. if b then accepted else no_empty_clause) (tree.empty refl))
 
 -- Its last line is the empty clause.
+pub checked-ends_empty : (F : Formula) (t : Tree) → IsCheckedTree F [] t → first_model t ≡ None → (before : List Step) × (line : Addition) × (proof F t ≡ before ++ add line ∷ []) × (line.clause ≡ [])
+checked-ends_empty F t h none =
+    let e = (tree-leads F t h none).ends refl in
+    (prelude F ++ e.0, e.1, ap (λ steps. prelude F ++ steps) e.2 ∙ sym (append_assoc (prelude F) e.0 (add e.1 ∷ [])), e.3)
+
+-- A formula's tree is a checked one.
+root-checked : (F : Formula) (plan : Plan) (t : Tree) → IsFormula F → IsTree F plan [] t → IsCheckedTree F [] t
+root-checked F plan t formed h = IsCheckedTree-IsTree F plan [] t formed refl (λ k d j. absurd (omega arith)) h
+
+pub checks-proof : (F : Formula) (plan : Plan) (t : Tree) → IsFormula F → IsTree F plan [] t → first_model t ≡ None → checks F (proof F t) ≡ accepted
+checks-proof F plan t formed h none = checks-checked F t (root-checked F plan t formed h) none
+
 pub proof-ends_empty : (F : Formula) (plan : Plan) (t : Tree) → IsFormula F → IsTree F plan [] t → first_model t ≡ None
     → (before : List Step) × (line : Addition) × (proof F t ≡ before ++ add line ∷ []) × (line.clause ≡ [])
-proof-ends_empty F plan t formed h none =
-    let e = (tree-leads F plan t formed h none).ends refl in
-    (prelude F ++ e.0, e.1, ap (λ steps. prelude F ++ steps) e.2 ∙ sym (append_assoc (prelude F) e.0 (add e.1 ∷ [])), e.3)
+proof-ends_empty F plan t formed h none = checked-ends_empty F t (root-checked F plan t formed h) none

@@ -102,11 +102,6 @@ pub Runs-says : (F : Formula) (plan : Plan) (Q : List Literal) (o : Outcome) →
 Runs-says F plan Q o formed cube over (by_search n runs) = RunsBy-says plan.search F plan.budget Q o formed cube over runs
 Runs-says F plan Q o formed cube over (by_look l looks) = looked-says plan.search F Q o (IsLookedAt-search F plan Q l) formed cube over looks
 
--- A cube's model makes the cube true.
-pub Runs-cube : (F : Formula) (plan : Plan) (Q : List Literal) (M : Assignment) → IsFormula F → IsCube Q → IsOver F.vars Q → Runs F plan Q (model M) → AreTrue (value M) Q
-Runs-cube F plan Q M formed cube over (by_search n runs) = (RunsBy-cube plan.search F plan.budget Q (model M) formed cube over runs).2
-Runs-cube F plan Q M formed cube over (by_look l looks) = (Looks-says F Q (model M) formed cube over looks).2
-
 -- A refuted cube's lines replay, and the last one's clause is empty.
 pub Runs-AreRefutation : (F : Formula) (plan : Plan) (Q : List Literal) (lines : List Line) → IsFormula F → IsCube Q → IsOver F.vars Q
     → Runs F plan Q (refuted lines) → AreRefutation F.vars (length (first_clauses F)) Q (first_clauses F) lines

@@ -1,11 +1,12 @@
--- A line that passes by its hints over true clauses is true, where the cube is.
-use Rattle.std.proofs.Common.{◌≡◌, ℕ, ◌+◌, Bool, true, false, not, ◌||◌, List, [], ◌∷◌, ◌++◌, refl, ap, sym, ◌∙◌, Some, nat_eq, nat_le, append-nil, if◌then◌else◌}
+-- A line that passes by its hints over true clauses is true, where the cube is; so lines that
+-- replay as a refutation of a cube leave it no model.
+use Rattle.std.proofs.Common.{◌≡◌, ℕ, ◌+◌, Bool, true, false, not, ◌||◌, List, [], ◌∷◌, ◌++◌, refl, ap, sym, subst, ◌∙◌, Some, nat_eq, nat_le, append-nil, if◌then◌else◌}
 use Rattle.std.proofs.lemmas.List.Folds.{list_any-append}
 use Rattle.theory.specs.Literals.{Literal, Clause, negated, negations}
 use Rattle.theory.specs.Truth.{AreTrue, is_true, is_true_clause, are_true}
 use Rattle.theory.specs.Learning.{Line}
 use Rattle.theory.specs.Checking.{clause_of}
-use Rattle.theory.specs.Replaying.{carrying_from, Passes}
+use Rattle.theory.specs.Replaying.{carrying_from, Passes, AreReplayed, AreRefutation}
 use Rattle.theory.proofs.literals.LiteralLemmas.{and-left, and-right, or-left, is_true-negated}
 use Rattle.theory.proofs.literals.LiteralSets.{true_false, and-true, or-none}
 use Rattle.theory.proofs.checker.Soundness.{AllTrue, conflict-true}
@@ -48,3 +49,17 @@ are_true-push m (d ∷ K) c a t =
 pub Passes-true : (m : ℕ → Bool) (N : ℕ) (Q : List Literal) (K : List Clause) (line : Line) → AreTrue m Q → are_true m K ≡ true → Passes N Q K line → is_true_clause m line.clause ≡ true
 Passes-true m N Q K line q a passes =
     less-true m line.clause Q q (conflict-true m (carrying_from 1 N Q K) [] (line.clause ++ negations Q) line.hints (carrying-true m 1 N Q K a) tt (rw append-nil passes))
+
+-- so is the last of lines that replay one after the other
+last-true : (m : ℕ → Bool) (V N : ℕ) (Q : List Literal) (K : List Clause) (before : List Line) (last : Line) → AreTrue m Q → are_true m K ≡ true
+    → AreReplayed V N Q K (before ++ last ∷ []) → is_true_clause m last.clause ≡ true
+last-true m V N Q K [] last q a h = Passes-true m N Q K last q a h.0.passes
+last-true m V N Q K (line ∷ before) last q a h =
+    last-true m V N Q (K ++ line.clause ∷ []) before last q (are_true-push m K line.clause a (Passes-true m N Q K line q a h.0.passes)) h.1
+
+-- Lines that replay as a refutation leave no truth values that make the clauses and the cube true.
+pub AreRefutation-refutes : (m : ℕ → Bool) (V N : ℕ) (Q : List Literal) (K : List Clause) (lines : List Line) → AreRefutation V N Q K lines → are_true m K ≡ true → AreTrue m Q → ⊥
+AreRefutation-refutes m V N Q K lines r a q =
+    let last : is_true_clause m r.last.clause ≡ true = last-true m V N Q K r.before r.last q a (subst (AreReplayed V N Q K) r.ends r.replayed) in
+    let none : is_true_clause m [] ≡ true = subst (λ (c : Clause). is_true_clause m c ≡ true) r.empty last in
+    cc

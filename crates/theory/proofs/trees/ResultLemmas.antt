@@ -1,20 +1,20 @@
--- The model of the first model leaf is the formula's first model.
+-- What the model of a checked first leaf is; so what a checked result says, and a true one.
 use Rattle.std.proofs.Common.{◌≡◌, ℕ, suc, ◌-◌, ◌<◌, ◌≤◌, Bool, true, false, not, List, [], ◌∷◌, ◌++◌, nat_lt, refl, sym, ap, arith, ltb-true, ltb-false}
-use Rattle.theory.specs.Literals.{Literal, positive, negative, has_var, IsVariable, IsCube}
-use Rattle.theory.specs.Truth.{Formula, Assignment, IsFormula, Satisfies, AreTrue, value, IsOver}
-use Rattle.theory.specs.FirstModel.{comes_before, IsFound}
+use Rattle.theory.specs.Literals.{Literal, positive, negative}
+use Rattle.theory.specs.Truth.{Formula, Assignment, IsFormula, Satisfies, AreTrue, value}
+use Rattle.theory.specs.FirstModel.{comes_before, IsFirstIn, IsModelIn, IsFound, IsFoundIn}
 use Rattle.theory.specs.Plans.{Search, ordered, focused, Plan}
-use Rattle.theory.specs.Search.{exhausted, searched}
-use Rattle.theory.specs.Runs.{RunsBy, Runs, by_search, by_look}
-use Rattle.theory.specs.Trees.{false_half, true_half, IsFirstLeaf, here, on_left, on_right, Result, model_of, tree_of, IsResult}
+use Rattle.theory.specs.Search.{searched}
+use Rattle.theory.specs.Trees.{false_half, true_half, Result, model_of, tree_of, IsResult}
 use Rattle.theory.specs.Results.{ResultSays}
+use Rattle.theory.specs.Checked.{IsCheckedFirstLeaf, found_here, found_left, found_right, IsCheckedResult}
 use Rattle.theory.proofs.trees.FirstModel.{Differ, differ}
-use Rattle.theory.proofs.searching.OutcomeLemmas.{IsLookedAt-search, Runs-satisfies, Runs-first, Runs-cube, Runs-exhausted}
-use Rattle.theory.proofs.trees.TreeSoundness.{push-over, tree-unsatisfiable}
-use Rattle.theory.proofs.searching.AgreeingModels.{exhausted-agree}
+use Rattle.theory.proofs.trees.TreeSoundness.{checked-unsatisfiable}
+use Rattle.theory.proofs.trees.CheckedTrees.{IsCheckedTree-IsTree, IsCheckedFirstLeaf-IsFirstLeaf}
+use Rattle.theory.proofs.searching.AgreeingModels.{least-agree}
+use Rattle.theory.proofs.searching.LeastSplits.{IsFitSplit-least}
 use Rattle.theory.proofs.searching.PureModels.{IsFirst-searched, Satisfies-searched, Satisfiable-searched}
 use Rattle.theory.proofs.literals.TrueClauses.{AreTrue-append}
-use Rattle.theory.proofs.trails.TrailEntries.{are_distinct-push}
 
 -- where two assignments agree below x, and the first is true and the second false at x, the first
 -- doesn't come before the second
@@ -38,37 +38,17 @@ not-before N M x p agree n m h = go (nat_lt (suc d.at) x) refl
         later true r l = let e = d.agree (x - 1) (ltb-true (x - 1) d.at r) in cc
         later false r l = let g = ltb-false (x - 1) d.at r in let s : x ≡ suc d.at = omega arith in let t : value N x ≡ false = rw s n_at in cc
 
-RunsBy-agree : (search : Search) (F : Formula) (B : ℕ) (Q : List Literal) (x : ℕ) (M N : Assignment) → search ≡ ordered → IsCube Q → RunsBy search F B Q (exhausted x) → Satisfies (searched F) M → AreTrue (value M) Q
-    → Satisfies (searched F) N → AreTrue (value N) Q → (u : ℕ) → 1 ≤ u → u < x → value M u ≡ value N u
-RunsBy-agree ordered F B Q x M N i c r = exhausted-agree F B Q x M N c r
-RunsBy-agree (focused k) F B Q x M N i c r = absurd (cc)
-
--- below the variable in which the ordered search exhausts a cube, all that satisfies the formula
--- and the cube agrees
-Runs-agree : (F : Formula) (plan : Plan) (Q : List Literal) (x : ℕ) (M N : Assignment) → plan.search ≡ ordered → IsCube Q → Runs F plan Q (exhausted x) → Satisfies (searched F) M → AreTrue (value M) Q
-    → Satisfies (searched F) N → AreTrue (value N) Q → (u : ℕ) → 1 ≤ u → u < x → value M u ≡ value N u
-Runs-agree F plan Q x M N i c (by_search n r) = RunsBy-agree plan.search F plan.budget Q x M N i c r
-Runs-agree F plan Q x M N i c (by_look l r) = absurd (IsLookedAt-search F plan Q l i)
-
 front-true : (m : ℕ → Bool) (Q R : List Literal) → AreTrue m (Q ++ R) → AreTrue m Q × AreTrue m R
 front-true m [] R h = (tt, h)
 front-true m (l ∷ Q) R h = ((h.0, (front-true m Q R h.1).0), (front-true m Q R h.1).1)
 
--- what the model of the first leaf of a cube's tree is
-record IsFirstOf (F : Formula) (Q : List Literal) (M : Assignment) : Type 0 where
-  satisfies : Satisfies (searched F) M
-  cube : AreTrue (value M) Q
-  least : (N : Assignment) → Satisfies (searched F) N → AreTrue (value N) Q → comes_before N M ≡ true → ⊥
-
-leaf-first : (F : Formula) (plan : Plan) (Q : List Literal) (M : Assignment) → plan.search ≡ ordered → IsFormula F → IsCube Q → IsOver F.vars Q → IsFirstLeaf F plan Q M → IsFirstOf F Q M
-leaf-first F plan Q M i f c o (here r) = record { satisfies = Runs-satisfies F plan Q M f r; cube = Runs-cube F plan Q M f c o r; least = λ N n q. Runs-first F plan Q M N i c r n q }
-leaf-first F plan Q M i f c o (on_left {x = x} r leaf) =
-    let free = Runs-exhausted F plan Q x r in
-    let g = leaf-first F plan (false_half Q x) M i f (are_distinct-push Q (negative x) c free.1) (push-over F.vars Q (negative x) o free.0) leaf in
-    left g free
+-- by the ordered search it is the cube's first
+leaf-first : (F : Formula) (Q : List Literal) (M : Assignment) → IsCheckedFirstLeaf ordered F Q M → IsFirstIn (searched F) Q M
+leaf-first F Q M (found_here h) = h
+leaf-first F Q M (found_left x s leaf) = left (leaf-first F (false_half Q x) M leaf)
   where
-    left : IsFirstOf F (false_half Q x) M → IsVariable F.vars x × (has_var Q x ≡ false) → IsFirstOf F Q M
-    left g free = record { satisfies = g.satisfies; cube = both.0; least = λ N n q. go N n q (value N x) refl }
+    left : IsFirstIn (searched F) (false_half Q x) M → IsFirstIn (searched F) Q M
+    left g = record { satisfies = g.satisfies; cube = both.0; least = λ N n q. go N n q (value N x) refl }
       where
         both : AreTrue (value M) Q × AreTrue (value M) (negative x ∷ [])
         both = front-true (value M) Q (negative x ∷ []) g.cube
@@ -79,32 +59,41 @@ leaf-first F plan Q M i f c o (on_left {x = x} r leaf) =
 
         go : (N : Assignment) → Satisfies (searched F) N → AreTrue (value N) Q → (b : Bool) → value N x ≡ b → comes_before N M ≡ true → ⊥
         go N n q false v = g.least N n (AreTrue-append (value N) Q (negative x ∷ []) q (ap not v, tt))
-        go N n q true v = not-before N M x free.0.0 (Runs-agree F plan Q x M N i c r g.satisfies both.0 n q) v (m_false (value M x) both.1.0)
-leaf-first F plan Q M i f c o (on_right {x = x} t r l none leaf) =
-    let free = Runs-exhausted F plan Q x r in
-    let g = leaf-first F plan (true_half Q x) M i f (are_distinct-push Q (positive x) c free.1) (push-over F.vars Q (positive x) o free.0) leaf in
-    right g free
+        go N n q true v =
+            not-before N M x (IsFitSplit-least F Q x s).0.0 (least-agree F Q x (value M) (value N) s g.satisfies.clauses both.0 n.clauses q) v (m_false (value M x) both.1.0)
+leaf-first F Q M (found_right x t s l none leaf) = right (leaf-first F (true_half Q x) M leaf)
   where
-    right : IsFirstOf F (true_half Q x) M → IsVariable F.vars x × (has_var Q x ≡ false) → IsFirstOf F Q M
-    right g free = record { satisfies = g.satisfies; cube = (front-true (value M) Q (positive x ∷ []) g.cube).0; least = λ N n q. go N n q (value N x) refl }
+    right : IsFirstIn (searched F) (true_half Q x) M → IsFirstIn (searched F) Q M
+    right g = record { satisfies = g.satisfies; cube = (front-true (value M) Q (positive x ∷ []) g.cube).0; least = λ N n q. go N n q (value N x) refl }
       where
         go : (N : Assignment) → Satisfies (searched F) N → AreTrue (value N) Q → (b : Bool) → value N x ≡ b → comes_before N M ≡ true → ⊥
         go N n q true v = g.least N n (AreTrue-append (value N) Q (positive x ∷ []) q (v, tt))
-        go N n q false v = λ h. tree-unsatisfiable F plan (false_half Q x) t f (are_distinct-push Q (negative x) c free.1) (push-over F.vars Q (negative x) o free.0) l none N n (AreTrue-append (value N) Q (negative x ∷ []) q (ap not v, tt))
+        go N n q false v = λ h. checked-unsatisfiable (value N) F (false_half Q x) t l none n.clauses (AreTrue-append (value N) Q (negative x ∷ []) q (ap not v, tt))
 
--- the model of the first leaf satisfies the formula, by each search
-leaf-satisfies : (F : Formula) (plan : Plan) (Q : List Literal) (M : Assignment) → IsFormula F → IsFirstLeaf F plan Q M → Satisfies (searched F) M
-leaf-satisfies F plan Q M f (here r) = Runs-satisfies F plan Q M f r
-leaf-satisfies F plan Q M f (on_left {x = x} r leaf) = leaf-satisfies F plan (false_half Q x) M f leaf
-leaf-satisfies F plan Q M f (on_right {x = x} t r l none leaf) = leaf-satisfies F plan (true_half Q x) M f leaf
+-- one more literal of the cube
+without-last : (F : Formula) (Q : List Literal) (l : Literal) (M : Assignment) → IsModelIn F (Q ++ l ∷ []) M → IsModelIn F Q M
+without-last F Q l M g = record { satisfies = g.satisfies; cube = (front-true (value M) Q (l ∷ []) g.cube).0 }
 
-leaf-found : (F : Formula) (plan : Plan) (M : Assignment) (search : Search) → plan.search ≡ search → IsFormula F → IsFirstLeaf F plan [] M → IsFound search F M
-leaf-found F plan M ordered i f leaf =
-    let g = leaf-first F plan [] M i f refl (λ k d j. absurd (omega arith)) leaf in
-    IsFirst-searched F M f (record { satisfies = g.satisfies; least = λ N n. g.least N n tt })
-leaf-found F plan M (focused c) i f leaf = Satisfies-searched F M (leaf-satisfies F plan [] M f leaf)
+-- by each search it is a model in the cube
+pub leaf-found : (search : Search) (F : Formula) (Q : List Literal) (M : Assignment) → IsCheckedFirstLeaf search F Q M → IsFoundIn search (searched F) Q M
+leaf-found ordered F Q M leaf = leaf-first F Q M leaf
+leaf-found (focused c) F Q M (found_here h) = h
+leaf-found (focused c) F Q M (found_left x s leaf) = without-last (searched F) Q (negative x) M (leaf-found (focused c) F (false_half Q x) M leaf)
+leaf-found (focused c) F Q M (found_right x t s l none leaf) = without-last (searched F) Q (positive x) M (leaf-found (focused c) F (true_half Q x) M leaf)
 
--- A result that is a model is what the search finds; a tree leaves none.
+found-searched : (search : Search) (F : Formula) (M : Assignment) → IsFormula F → IsFoundIn search (searched F) [] M → IsFound search F M
+found-searched ordered F M f g = IsFirst-searched F M f (record { satisfies = g.satisfies; least = λ N n. g.least N n tt })
+found-searched (focused c) F M f g = Satisfies-searched F M g.satisfies
+
+-- A checked result that is a model is what the search finds; a checked tree leaves none.
+pub IsCheckedResult-says : (search : Search) (F : Formula) (r : Result) → IsFormula F → IsCheckedResult search F r → ResultSays search F r
+IsCheckedResult-says search F (model_of M) f h = found-searched search F M f (leaf-found search F [] M h)
+IsCheckedResult-says search F (tree_of t) f h = λ s. let more = Satisfiable-searched F f s in checked-unsatisfiable (value more.0) F [] t h.0 h.1 more.1.clauses tt
+
+-- The formula's result is a checked one.
+pub IsCheckedResult-IsResult : (F : Formula) (plan : Plan) (r : Result) → IsFormula F → IsResult F plan r → IsCheckedResult plan.search F r
+IsCheckedResult-IsResult F plan (model_of M) f h = IsCheckedFirstLeaf-IsFirstLeaf F plan [] M f refl (λ k d j. absurd (omega arith)) h
+IsCheckedResult-IsResult F plan (tree_of t) f h = (IsCheckedTree-IsTree F plan [] t f refl (λ k d j. absurd (omega arith)) h.0, h.1)
+
 pub IsResult-says : (F : Formula) (plan : Plan) (r : Result) → IsFormula F → IsResult F plan r → ResultSays plan.search F r
-IsResult-says F plan (model_of M) f h = leaf-found F plan M plan.search refl f h
-IsResult-says F plan (tree_of t) f h = λ s. let more = Satisfiable-searched F f s in tree-unsatisfiable F plan [] t f refl (λ k d j. absurd (omega arith)) h.0 h.1 more.0 more.1 tt
+IsResult-says F plan r f h = IsCheckedResult-says plan.search F r f (IsCheckedResult-IsResult F plan r f h)
