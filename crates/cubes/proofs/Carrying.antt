@@ -23,7 +23,7 @@ use Rattle.theory.proofs.hands.RoundEnds.{All-one, only_calls, not-halt}
 use Rattle.theory.proofs.trees.WholeLists.{sign_positive, sign_negative}
 use Rattle.cubes.specs.declared.traversal.Split.{Split}
 use Rattle.cubes.specs.Traversal.{half, path}
-use Rattle.cubes.proofs.Walks.{results_of, IsDone, IsLeftDone, IsReached, IsReached-leads}
+use Rattle.cubes.proofs.Walks.{by_plan, results_of, IsDone, IsLeftDone, IsReached, IsReached-leads}
 
 -- the true half lies right of the false one
 right-of-half : (Q ls ks : List Literal) (x : ℕ) → lies_right (Q ++ positive x ∷ ls) (Q ++ negative x ∷ ks) ≡ true
@@ -80,7 +80,7 @@ module _ (F : Formula) (plan : Plan) where
   has-result : (all : List Solved) (Q : List Literal) (o : Outcome) → Contains all (record { cube = Q; what = done o }) → IsSettled all Q
   has-result all Q o c = inl (Any-from (λ r. (r.cube ≡ Q) × results.IsDone r.what) all (record { cube = Q; what = done o }) c (refl, tt))
 
-  done-settled : (Q : List Literal) (rs all : List Solved) → IsDone F plan Q rs → ((r : Solved) → Contains rs r → Contains all r) → (R : List Literal) → IsCubeOf F plan Q R → IsSettled all R
+  done-settled : (Q : List Literal) (rs all : List Solved) → IsDone F (by_plan F plan) Q rs → ((r : Solved) → Contains rs r → Contains all r) → (R : List Literal) → IsCubeOf F plan Q R → IsSettled all R
   done-settled Q rs all d among R c =
       let found = tree-settled Q c.path d.tree c.splits d.of_cube d.none in
       let there : Solved = record { cube = Q ++ c.path; what = done found.0 } in
@@ -108,16 +108,16 @@ module _ (F : Formula) (plan : Plan) where
         (subst (λ Q. All IsFair (results_of Q l)) (sym (append_assoc H p (negative x ∷ []))) left)
         (subst (λ Q. All IsFair (results_of Q r)) (sym (append_assoc H p (positive x ∷ []))) right))
 
-    done-fair : (rs : List Solved) → IsDone F plan H rs → All IsFair rs
+    done-fair : (rs : List Solved) → IsDone F (by_plan F plan) H rs → All IsFair rs
     done-fair rs d =
         subst (All IsFair) (sym d.results)
         (subst (λ Q. All IsFair (results_of Q d.tree)) (append-nil H) (tree-fair [] d.tree tt (subst (λ Q. IsTree F plan Q d.tree) (sym (append-nil H)) d.of_cube) d.none))
 
-    pub reached-fair : {T : Type 0} (ss : List (Split T)) (rs : List Solved) → IsReached F plan H ss rs → All IsFair rs
+    pub reached-fair : {T : Type 0} (ss : List (Split T)) (rs : List Solved) → IsReached F (by_plan F plan) H ss rs → All IsFair rs
     reached-fair [] rs h = rw h (All-nil IsFair)
     reached-fair {T} (s ∷ ss) rs h =
         subst (All IsFair) (sym h.2.results)
-        (All-append IsFair h.0 (here ∷ h.1) (reached-fair ss h.0 h.3) (All-cons IsFair here h.1 (fair (path ss) (exhausted s.var) leads h.2.runs (λ m. m)) (left s.left h.2.is_left)))
+        (All-append IsFair h.0 (here ∷ h.1) (reached-fair ss h.0 h.3) (All-cons IsFair here h.1 (fair (path ss) (exhausted s.var) leads h.2.splits (λ m. m)) (left s.left h.2.is_left)))
       where
         here : Solved
         here = record { cube = H ++ path ss; what = done (exhausted s.var) }
@@ -125,16 +125,16 @@ module _ (F : Formula) (plan : Plan) where
         leads : LeadsOn F plan H (path ss)
         leads = IsReached-leads F plan H ss h.0 h.3
 
-        left : (o : Option T) → IsLeftDone F plan (H ++ path ss) s.var o h.1 → All IsFair h.1
+        left : (o : Option T) → IsLeftDone F (by_plan F plan) (H ++ path ss) s.var o h.1 → All IsFair h.1
         left None e = rw e (All-nil IsFair)
         left (Some d) l =
             subst (All IsFair) (sym l.results)
             (subst (λ Q. All IsFair (results_of Q l.tree)) (sym (append_assoc H (path ss) (negative s.var ∷ [])))
-            (tree-fair (path ss ++ negative s.var ∷ []) l.tree (LeadsOn-append F plan H (path ss) (negative s.var ∷ []) leads (h.2.runs, tt))
+            (tree-fair (path ss ++ negative s.var ∷ []) l.tree (LeadsOn-append F plan H (path ss) (negative s.var ∷ []) leads (h.2.splits, tt))
             (subst (λ Q. IsTree F plan Q l.tree) (append_assoc H (path ss) (negative s.var ∷ [])) l.of_cube) l.none))
 
     -- where all of a place's cubes are settled, and a model lies there, all of H's are
-    above-settled : {T : Type 0} (ss : List (Split T)) (rs all : List Solved) (m : Solved) (ls : List Literal) → IsReached F plan H ss rs → ((r : Solved) → Contains rs r → Contains all r) → Contains all m → IsModel m.what
+    above-settled : {T : Type 0} (ss : List (Split T)) (rs all : List Solved) (m : Solved) (ls : List Literal) → IsReached F (by_plan F plan) H ss rs → ((r : Solved) → Contains rs r → Contains all r) → Contains all m → IsModel m.what
         → m.cube ≡ H ++ path ss ++ ls → ((R : List Literal) → IsCubeOf F plan (H ++ path ss) R → IsSettled all R) → (R : List Literal) → IsCubeOf F plan H R → IsSettled all R
     above-settled [] rs all m ls h among there is_model at here = λ R c. here R (subst (λ Q. IsCubeOf F plan Q R) (sym (append-nil H)) c)
     above-settled {T} (s ∷ ss) rs all m ls h among there is_model at here =
@@ -161,7 +161,7 @@ module _ (F : Formula) (plan : Plan) where
         at_place : (R : List Literal) (o : Option T) → s.left ≡ o → IsCubeOf F plan (H ++ path ss ++ half s.var o ∷ []) R → IsSettled all R
         at_place R o e c = here R (subst (λ Q. IsCubeOf F plan Q R) (append_assoc H (path ss) (half s.var s.left ∷ [])) (subst (λ p. IsCubeOf F plan (H ++ path ss ++ half s.var p ∷ []) R) (sym e) c))
 
-        by_side : (R ks : List Literal) (k : Literal) (o : Option T) → s.left ≡ o → IsLeftDone F plan (H ++ path ss) s.var o h.1 → s.var ≡ k.var → (k.positive ≡ true) ⊎ (k.positive ≡ false) → R ≡ H ++ path ss ++ k ∷ ks
+        by_side : (R ks : List Literal) (k : Literal) (o : Option T) → s.left ≡ o → IsLeftDone F (by_plan F plan) (H ++ path ss) s.var o h.1 → s.var ≡ k.var → (k.positive ≡ true) ⊎ (k.positive ≡ false) → R ≡ H ++ path ss ++ k ∷ ks
             → LeadsOn F plan (H ++ path ss ++ k ∷ []) ks → IsSettled all R
         by_side R ks k None f l v (inl p) e t =
             let right = right-of-half (H ++ path ss) ks ls s.var in
@@ -174,7 +174,7 @@ module _ (F : Formula) (plan : Plan) where
 
         on : (R p : List Literal) → R ≡ H ++ path ss ++ p → LeadsOn F plan (H ++ path ss) p → IsSettled all R
         on R [] e t = subst (IsSettled all) (sym (e ∙ append-nil (H ++ path ss))) (has-result all (H ++ path ss) (exhausted s.var) (inside split_here (Contains-append_right h.0 (split_here ∷ h.1) split_here (Contains-here split_here h.1))))
-        on R (k ∷ ks) e t = by_side R ks k s.left refl h.2.is_left (let o = Runs-unique F plan (H ++ path ss) _ _ h.2.runs t.0 in cc) (true_or_false k.positive) e t.1
+        on R (k ∷ ks) e t = by_side R ks k s.left refl h.2.is_left (let o = Runs-unique F plan (H ++ path ss) _ _ h.2.splits t.0 in cc) (true_or_false k.positive) e t.1
 
     -- what a hand leaves that called nothing: short of memory on the way, or with all settled
     nothing-called : (ok : Bool) (rs : List Solved) → All IsFair rs → (ok ≡ true → (R : List Literal) → IsCubeOf F plan H R → IsSettled rs R) → IsHandOn F plan ok H (only_calls []) rs
@@ -195,11 +195,11 @@ module _ (F : Formula) (plan : Plan) where
     pub carried-short : (ok : Bool) (rs : List Solved) → ok ≡ false → All IsFair rs → IsHandOn F plan ok H (only_calls []) rs
     carried-short ok rs o all = nothing-called ok rs all (λ e. absurd (cc))
 
-    pub carried-whole : (rs : List Solved) → IsDone F plan H rs → IsHandOn F plan true H (only_calls []) rs
+    pub carried-whole : (rs : List Solved) → IsDone F (by_plan F plan) H rs → IsHandOn F plan true H (only_calls []) rs
     carried-whole rs d = nothing-called true rs (done-fair rs d) (λ e. done-settled H rs rs d (λ r c. c))
 
     -- or at a model: then what isn't settled lies right of it
-    pub carried-model : {T : Type 0} (ss : List (Split T)) (rs : List Solved) (M : Assignment) → IsReached F plan H ss rs → Runs F plan (H ++ path ss) (model M)
+    pub carried-model : {T : Type 0} (ss : List (Split T)) (rs : List Solved) (M : Assignment) → IsReached F (by_plan F plan) H ss rs → Runs F plan (H ++ path ss) (model M)
         → IsHandOn F plan true H (only_calls (offer (place_of (H ++ path ss)) ∷ [])) (rs ++ record { cube = H ++ path ss; what = done (model M) } ∷ [])
     carried-model ss rs M h runs =
         record {

@@ -20,14 +20,14 @@ use Rattle.cubes.specs.CubeWalks.{IsBelow, Enters, GoesOn}
 use Rattle.cubes.specs.Hands.{Settles, AddsCarried}
 use Rattle.cubes.specs.Traversal.{path, behind}
 use Rattle.cubes.proofs.Carrying.{IsFair, fair, reached-fair, carried-short, carried-whole, carried-model}
-use Rattle.cubes.proofs.Walks.{to_come, to_come-enter, to_come-behind, IsDone-refuted, IsReached, IsReached-enter, IsReached-behind, IsReached-leads, IsReached-over, IsReached-short, ComesTo}
+use Rattle.cubes.proofs.Walks.{by_plan, to_come, to_come-enter, to_come-behind, IsDone-refuted, IsReached, IsReached-enter, IsReached-behind, IsReached-leads, IsReached-over, IsReached-short, ComesTo}
 
 -- while the half H is carried on: a place below it is reached, and the results since then are those
 -- of the cubes before it
 pub record IsCarrying (F : Formula) (plan : Plan) (H : List Literal) (w : CubeWalk) (before now : List Solved) : Type 0 where
   pub results : List results.Solved
   pub below : IsBelow H w
-  pub reached : IsReached F plan H w.walk results
+  pub reached : IsReached F (by_plan F plan) H w.walk results
   pub is_now : now ≡ before ++ results
 
 module _ (F : Formula) (plan : Plan) (H : List Literal) where
@@ -36,10 +36,10 @@ module _ (F : Formula) (plan : Plan) (H : List Literal) where
 
   module _ (w : CubeWalk) (before now : List Solved) (at : IsCarrying F plan H w before now) where
     pub carrying-over : IsCube H → IsOver F.vars H → IsOver F.vars w.cube
-    carrying-over cube over = IsReached-over F plan H w.walk at.results w.cube at.below cube over at.reached
+    carrying-over cube over = IsReached-over F (by_plan F plan) H w.walk at.results w.cube at.below cube over at.reached
 
     pub carrying-short : IsCube H → IsOver F.vars H → length w.walk < F.vars + 1
-    carrying-short cube over = let most = IsReached-short F plan H w.walk at.results w.cube at.below cube over at.reached in omega arith
+    carrying-short cube over = let most = IsReached-short F (by_plan F plan) H w.walk at.results w.cube at.below cube over at.reached in omega arith
 
     -- memory ran short at a cube
     pub short-here : (ok : Bool) (l : Ledger) (after : List Solved) → ok ≡ false → after ≡ now → AddsCarried F plan ok H l l before after
@@ -90,7 +90,7 @@ module _ (F : Formula) (plan : Plan) (H : List Literal) where
     carrying-enter x v after settles enters = record {
       results = at.results ++ record { cube = H ++ path w.walk; what = results.done (search.exhausted x) } ∷ [];
       below = rw enters.walk (enters.cube ∙ ap (λ Q. false_half Q x) at.below ∙ append_assoc H (path w.walk) _);
-      reached = rw enters.walk (IsReached-enter F plan H w.walk at.results x at.reached (runs (ending.Exhausted x) after (search.exhausted x) settles settles.ends.0));
+      reached = rw enters.walk (IsReached-enter F (by_plan F plan) H w.walk at.results x at.reached (runs (ending.Exhausted x) after (search.exhausted x) settles settles.ends.0));
       is_now = is_after (ending.Exhausted x) after (search.exhausted x) settles settles.ends.0;
     }
 
@@ -99,14 +99,14 @@ module _ (F : Formula) (plan : Plan) (H : List Literal) where
 
     -- the cube is refuted: on to the next one,
     module _ (v : CubeWalk) (after : List Solved) (settles : Settles F plan w.cube ending.Refuted now after) where
-      comes : ComesTo F plan H (behind tt w.walk) (at.results ++ record { cube = H ++ path w.walk; what = results.done (search.refuted settles.ends.0) } ∷ [])
-      comes = IsReached-behind F plan H tt w.walk at.results _ at.reached (IsDone-refuted F plan (H ++ path w.walk) settles.ends.0 (runs ending.Refuted after (search.refuted settles.ends.0) settles settles.ends.1))
+      comes : ComesTo F (by_plan F plan) H (behind tt w.walk) (at.results ++ record { cube = H ++ path w.walk; what = results.done (search.refuted settles.ends.0) } ∷ [])
+      comes = IsReached-behind F (by_plan F plan) H tt w.walk at.results _ at.reached (IsDone-refuted F (by_plan F plan) (H ++ path w.walk) settles.ends.0 (runs ending.Refuted after (search.refuted settles.ends.0) settles settles.ends.1))
 
       pub carrying-on : GoesOn w true v → IsCarrying F plan H v before after
       carrying-on goes = record {
         results = at.results ++ record { cube = H ++ path w.walk; what = results.done (search.refuted settles.ends.0) } ∷ [];
         below = goes.1 H at.below;
-        reached = subst (λ o. ComesTo F plan H o (at.results ++ record { cube = H ++ path w.walk; what = results.done (search.refuted settles.ends.0) } ∷ [])) goes.0 comes;
+        reached = subst (λ o. ComesTo F (by_plan F plan) H o (at.results ++ record { cube = H ++ path w.walk; what = results.done (search.refuted settles.ends.0) } ∷ [])) goes.0 comes;
         is_now = is_after ending.Refuted after (search.refuted settles.ends.0) settles settles.ends.1;
       }
 
@@ -117,7 +117,7 @@ module _ (F : Formula) (plan : Plan) (H : List Literal) where
         results = at.results ++ record { cube = H ++ path w.walk; what = results.done (search.refuted settles.ends.0) } ∷ [];
         is_new = sym (joined-empty l);
         is_after = is_after ending.Refuted after (search.refuted settles.ends.0) settles settles.ends.1;
-        is_part = (refl, carried-whole F plan H _ (subst (λ o. ComesTo F plan H o (at.results ++ record { cube = H ++ path w.walk; what = results.done (search.refuted settles.ends.0) } ∷ [])) goes comes));
+        is_part = (refl, carried-whole F plan H _ (subst (λ o. ComesTo F (by_plan F plan) H o (at.results ++ record { cube = H ++ path w.walk; what = results.done (search.refuted settles.ends.0) } ∷ [])) goes comes));
       }
 
     pub next-less : (n : ℕ) (v : CubeWalk) → length w.walk < n → GoesOn w true v → to_come n v.walk < to_come n w.walk

@@ -8,20 +8,24 @@ use Rattle.std.specs.Map.{KeepsOthers}
 use Rattle.std.proofs.Math.Dec.{leb-zero}
 use Rattle.std.proofs.lemmas.Bool.Decides.{Decides-int_eq}
 use Rattle.std.proofs.lemmas.Cmp.{int_eq_equiv, lists_equiv}
-use Rattle.std.proofs.lemmas.List.Elements.{All-head, All-tail, Contains-append_left, Contains-push, Contains-push_cases, All-contains}
+use Rattle.std.proofs.lemmas.List.Elements.{All-head, All-tail, Contains-append_left, Contains-push, Contains-push_cases, All-contains, All-weaker}
 use Rattle.theory.specs.Literals.{Literal}
-use Rattle.theory.specs.Truth.{Formula}
-use Rattle.theory.specs.Plans.{Plan}
+use Rattle.theory.specs.Truth.{Formula, IsFormula}
+use Rattle.theory.specs.Plans.{Search, Plan}
 use Rattle.theory.specs.Learning.{Line}
 use Rattle.theory.specs.Search as search
 use Rattle.theory.specs.Results.{done, skipped, Solved, IsTrueOf}
+use Rattle.theory.specs.Checked.{IsCheckedOf}
+use Rattle.theory.proofs.trees.CheckedTrees.{IsCheckedOf-IsTrueOf}
 use Rattle.cnf.specs.Lits.{literal_of, number_of, signed}
 use Rattle.cnf.specs.contracts.lit.LitPartialEq.TheImpl.{ghosts}
 use Rattle.trail.specs.Cubes.{AreOfVariables}
 use Rattle.cdcl.specs.Outcome.{outcome_by}
 use Rattle.cdcl.specs.declared.outcome.Outcome.{Outcome}
 use Rattle.cubes.specs.declared.known.Known.{Known}
-use Rattle.cubes.specs.Known.{AreKnown, AreOutcomes, known_of}
+use Rattle.cubes.specs.declared.solved.Solved as made
+use Rattle.cubes.specs.Solved.{what_by, AreTrueBy, AreCheckedBy}
+use Rattle.cubes.specs.Known.{AreKnown, AreOutcomes, AreCheckedOutcomes, known_of}
 
 not-negative : (v : ℕ) → int_le (pos 0) (pos v) ≡ true
 not-negative v = leb-zero v
@@ -117,3 +121,13 @@ module _ {L : Type 0} (lines : L → List Line) (rs : List Solved) (k n : Known 
 -- of true results, what is known is so
 pub AreOutcomes-known : {L : Type 0} (lines : L → List Line) (F : Formula) (plan : Plan) (rs : List Solved) (k : Known L) → All (λ r. IsTrueOf F plan r.cube r.what) rs → AreKnown lines rs k → AreOutcomes lines F plan k
 AreOutcomes-known lines F plan rs k all known Q o q h = All-contains (λ (r : Solved). IsTrueOf F plan r.cube r.what) rs (record { cube = Q; what = done (outcome_by lines o) }) all (known.found Q o q h)
+
+-- and of checked ones it is checked
+pub AreCheckedOutcomes-known : {L : Type 0} (lines : L → List Line) (F : Formula) (by : Search) (rs : List Solved) (k : Known L) → All (λ r. IsCheckedOf by F r.cube r.what) rs → AreKnown lines rs k
+    → AreCheckedOutcomes lines by F k
+AreCheckedOutcomes-known lines F by rs k all known Q o q h = All-contains (λ (r : Solved). IsCheckedOf by F r.cube r.what) rs (record { cube = Q; what = done (outcome_by lines o) }) all (known.found Q o q h)
+
+-- what is true is checked
+pub AreCheckedBy-true : {L : Type 0} (lines : L → List Line) (F : Formula) (plan : Plan) (rs : List (made.Solved L)) → IsFormula F → AreTrueBy lines F plan rs → AreCheckedBy lines plan.search F rs
+AreCheckedBy-true {L} lines F plan rs formed all =
+    All-weaker (λ (s : made.Solved L). IsTrueOf F plan s.cube (what_by lines s.what)) (λ s. IsCheckedOf plan.search F s.cube (what_by lines s.what)) (λ s h. IsCheckedOf-IsTrueOf F plan s.cube (what_by lines s.what) formed h) rs all

@@ -8,7 +8,6 @@ use Rattle.theory.specs.Truth.{Formula}
 use Rattle.theory.specs.Plans.{Plan}
 use Rattle.theory.specs.Learning.{Line}
 use Rattle.theory.specs.Search as search
-use Rattle.theory.specs.Runs.{Runs}
 use Rattle.theory.specs.Trees.{false_half}
 use Rattle.theory.specs.Results.{done, Solved, IsWhole}
 use Rattle.theory.proofs.literals.Membership.{Contains-none, Contains-cases}
@@ -27,8 +26,8 @@ use Rattle.cubes.specs.CubeWalks.{IsBelow}
 use Rattle.cubes.specs.Gathering.{GoesOnWith}
 use Rattle.cubes.specs.Traversal.{half, path, beside, behind}
 use Rattle.cubes.proofs.KnownLemmas.{AreOutcomes-known}
-use Rattle.cubes.proofs.Walks.{IsReached, IsLeftDone, length-path}
-use Rattle.cubes.proofs.GatheringLemmas.{IsGathered}
+use Rattle.cubes.proofs.Walks.{by_plan, IsReached, IsLeftDone, length-path}
+use Rattle.cubes.proofs.GatheringLemmas.{IsGathered, IsKnown, IsKnown-Runs}
 
 -- R lies in the left half of a split of the cube Q, which is done
 abbrev IsInLeft : {T : Type 0} → List Literal → ℕ → Option T → List Literal → Type 0
@@ -83,15 +82,15 @@ goes_later lines g h (outcome.Refuted kept) goes R (inl p) = passed-behind tt g.
 goes_later lines g h (outcome.Refuted kept) goes R (inr e) = passed-behind tt g.at.walk h.at.walk R goes.0.0 (inr ([], e ∙ sym (append-nil (path g.at.walk))))
 
 -- a reached cube is one that an assembly comes to
-reached-come : {T : Type 0} (F : Formula) (plan : Plan) (ss : List (Split T)) (rs : List Solved) → IsReached F plan [] ss rs → IsComeTo F plan (path ss)
+reached-come : {T : Type 0} (F : Formula) (plan : Plan) (ss : List (Split T)) (rs : List Solved) → IsReached F (by_plan F plan) [] ss rs → IsComeTo F plan (path ss)
 reached-come F plan [] rs h = IsComeTo-root F plan
 reached-come {T} F plan (s ∷ ss) rs h = go s.left h.2.is_left (reached-come F plan ss h.0 h.3)
   where
-    go : (o : Option T) → IsLeftDone F plan (path ss) s.var o h.1 → IsComeTo F plan (path ss) → IsComeTo F plan (path ss ++ half s.var o ∷ [])
-    go None l c = IsComeTo-left F plan (path ss) s.var c h.2.runs
-    go (Some t) l c = IsComeTo-right F plan (path ss) s.var l.tree c h.2.runs l.of_cube l.none
+    go : (o : Option T) → IsLeftDone F (by_plan F plan) (path ss) s.var o h.1 → IsComeTo F plan (path ss) → IsComeTo F plan (path ss ++ half s.var o ∷ [])
+    go None l c = IsComeTo-left F plan (path ss) s.var c h.2.splits
+    go (Some t) l c = IsComeTo-right F plan (path ss) s.var l.tree c h.2.splits l.of_cube l.none
 
-reached-in : {L : Type 0} (lines : L → List Line) (F : Formula) (plan : Plan) (rs : List Solved) (g : Gathering L) → IsWhole F plan rs → IsGathered lines F plan g → (o : search.Outcome) × Contains rs (record { cube = g.at.cube; what = done o })
+reached-in : {L : Type 0} (lines : L → List Line) (F : Formula) (plan : Plan) (rs : List Solved) (g : Gathering L) → IsWhole F plan rs → IsGathered lines F (by_plan F plan) g → (o : search.Outcome) × Contains rs (record { cube = g.at.cube; what = done o })
 reached-in lines F plan rs g whole r =
     let o = IsComeTo-outcome F plan rs g.at.cube whole (rw r.below (reached-come F plan g.at.walk r.results r.reached)) in
     (o.0, outcome_in-result rs g.at.cube o.0 o.1)
@@ -116,7 +115,7 @@ still-here : {L : Type 0} (first now : Known L) (g : Gathering L) → AreOfVaria
 still-here first now g named still = still.1 g.at.cube named (λ p. not_passed g.at.walk [] (subst (IsPassed g.at.walk) (still.0 ∙ sym (append-nil (path g.at.walk))) p))
 
 -- a cube that is reached is handed out
-pub is_there : {L : Type 0} (lines : L → List Line) (F : Formula) (plan : Plan) (rs : List Solved) (first now : Known L) (g : Gathering L) → IsWhole F plan rs → IsGathered lines F plan g → AreOfVariables g.at.cube → AreKnown lines rs first → AreStillThere first now g
+pub is_there : {L : Type 0} (lines : L → List Line) (F : Formula) (plan : Plan) (rs : List Solved) (first now : Known L) (g : Gathering L) → IsWhole F plan rs → IsGathered lines F (by_plan F plan) g → AreOfVariables g.at.cube → AreKnown lines rs first → AreStillThere first now g
     → known_of now g.at.cube ≢ None
 is_there lines F plan rs first now g whole r named known still none =
     let there = reached-in lines F plan rs g whole r in
@@ -124,9 +123,9 @@ is_there lines F plan rs first now g whole r named known still none =
 
 -- and it is its outcome
 pub is_outcome : {L : Type 0} (lines : L → List Line) (F : Formula) (plan : Plan) (rs : List Solved) (first now : Known L) (g : Gathering L) (o : Outcome L) → IsWhole F plan rs → AreOfVariables g.at.cube → AreKnown lines rs first → AreStillThere first now g
-    → known_of now g.at.cube ≡ Some o → Runs F plan g.at.cube (outcome_by lines o)
+    → known_of now g.at.cube ≡ Some o → IsKnown F (by_plan F plan) g.at.cube (outcome_by lines o)
 is_outcome lines F plan rs first now g o whole named known still some =
-    AreOutcomes-known lines F plan rs first whole.true_of known g.at.cube o named (sym (still-here first now g named still) ∙ some)
+    IsKnown-Runs F plan g.at.cube (outcome_by lines o) (AreOutcomes-known lines F plan rs first whole.true_of known g.at.cube o named (sym (still-here first now g named still) ∙ some))
 
 length-among : (rs : List Solved) (r : Solved) → Contains rs r → length r.cube ≤ sum_by (λ r. length r.cube) rs
 length-among [] r h = absurd (Contains-none r h)
@@ -137,7 +136,7 @@ length-among (y ∷ rs) r h = go (Contains-cases y rs r h) (length-among rs r)
     go (inr there) more = let all = sum_by-cons (λ (r : Solved). length r.cube) y rs in let less = more there in omega arith
 
 -- the way to a reached cube is no longer than all cubes of the list together
-pub length-there : {L : Type 0} (lines : L → List Line) (F : Formula) (plan : Plan) (rs : List Solved) (g : Gathering L) → IsWhole F plan rs → IsGathered lines F plan g → length g.at.walk < suc (sum_by (λ r. length r.cube) rs)
+pub length-there : {L : Type 0} (lines : L → List Line) (F : Formula) (plan : Plan) (rs : List Solved) (g : Gathering L) → IsWhole F plan rs → IsGathered lines F (by_plan F plan) g → length g.at.walk < suc (sum_by (λ r. length r.cube) rs)
 length-there lines F plan rs g whole r =
     let there = reached-in lines F plan rs g whole r in
     let less = length-among rs (record { cube = g.at.cube; what = done there.0 }) there.1 in

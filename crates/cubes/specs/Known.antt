@@ -7,9 +7,10 @@ use Rattle.theory.specs.Learning.{Line}
 use Rattle.theory.specs.Search as search
 use Rattle.theory.specs.Runs.{Runs}
 use Rattle.theory.specs.Truth.{Formula}
-use Rattle.theory.specs.Plans.{Plan}
+use Rattle.theory.specs.Plans.{Search, Plan}
 use Rattle.theory.specs.Results.{done}
 use Rattle.theory.specs.Results as results
+use Rattle.theory.specs.Checked.{IsCheckedOf}
 use Rattle.cnf.specs.contracts.lit.LitPartialEq.TheImpl.{ghosts}
 use Rattle.trail.specs.Cubes.{AreOfVariables}
 use Rattle.cdcl.specs.Outcome.{outcome_by}
@@ -29,3 +30,7 @@ pub record AreKnown {L : Type 0} (lines : L → List Line) (rs : List results.So
 -- what is known is so
 abbrev pub AreOutcomes : {L : Type 0} → (L → List Line) → Formula → Plan → Known L → Type 0
 AreOutcomes {L} lines F plan k = (Q : List Literal) (o : Outcome L) → AreOfVariables Q → known_of k Q ≡ Some o → Runs F plan Q (outcome_by lines o)
+
+-- what is known is checked
+abbrev pub AreCheckedOutcomes : {L : Type 0} → (L → List Line) → Search → Formula → Known L → Type 0
+AreCheckedOutcomes {L} lines search F k = (Q : List Literal) (o : Outcome L) → AreOfVariables Q → known_of k Q ≡ Some o → IsCheckedOf search F Q (done (outcome_by lines o))

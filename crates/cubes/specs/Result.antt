@@ -5,6 +5,7 @@ use Rattle.theory.specs.Plans.{Search, Plan}
 use Rattle.theory.specs.FirstModel.{IsFound}
 use Rattle.theory.specs.Learning.{Line}
 use Rattle.theory.specs.Trees as trees
+use Rattle.theory.specs.Checked.{IsCheckedResult}
 use Rattle.cubes.specs.declared.tree.Node.{Node}
 use Rattle.cubes.specs.declared.tree.Node.TheVariants.{Split, Leaf}
 use Rattle.cubes.specs.declared.tree.Tree.{Tree}
@@ -42,6 +43,15 @@ IsResultBy lines F plan (Refuted nodes) = (t : trees.Tree) × trees.IsResult F p
 -- and where it keeps its lines
 abbrev pub IsResultOf : Formula → Plan → LinesTree → Type 0
 IsResultOf F plan t = IsResultBy (λ lines. lines) F plan t
+
+-- the same of a result that is checked
+abbrev pub IsCheckedResultBy : {L : Type 0} → (L → List Line) → Search → Formula → Tree L → Type 0
+IsCheckedResultBy lines search F (Model values) = IsCheckedResult search F (trees.model_of values.items)
+IsCheckedResultBy lines search F (Refuted nodes) = (t : trees.Tree) × IsCheckedResult search F (trees.tree_of t) × (map (node_by lines) nodes.items ≡ trees.nodes_of t)
+
+-- and where it keeps its lines
+abbrev pub IsCheckedResultOf : Search → Formula → LinesTree → Type 0
+IsCheckedResultOf search F t = IsCheckedResultBy (λ lines. lines) search F t
 
 -- what a result says of its formula: a model is one of its models, by the ordered search the first
 -- one; without a model, the formula isn't satisfiable

@@ -1,9 +1,10 @@
 -- Results of cubes, as the definitions have them.
 use Rattle.std.specs.Prelude.{List, All, map}
 use Rattle.theory.specs.Truth as truth
-use Rattle.theory.specs.Plans.{Plan}
+use Rattle.theory.specs.Plans.{Search, Plan}
 use Rattle.theory.specs.Learning.{Line}
 use Rattle.theory.specs.Results as results
+use Rattle.theory.specs.Checked.{IsCheckedOf}
 use Rattle.cdcl.specs.Outcome.{outcome_by}
 use Rattle.cubes.specs.declared.solved.What.{What}
 use Rattle.cubes.specs.declared.solved.What.TheVariants.{Done, Skipped}
@@ -35,3 +36,11 @@ AreTrueBy lines F plan rs = All (λ s. results.IsTrueOf F plan s.cube (what_by l
 
 abbrev pub AreTrueResults : truth.Formula → Plan → List LinesSolved → Type 0
 AreTrueResults F plan rs = AreTrueBy (λ lines. lines) F plan rs
+
+-- each result is checked, if its cube is one over the formula's variables
+abbrev pub AreCheckedBy : {L : Type 0} → (L → List Line) → Search → truth.Formula → List (Solved L) → Type 0
+AreCheckedBy lines search F rs = All (λ s. IsCheckedOf search F s.cube (what_by lines s.what)) rs
+
+-- and where they keep their lines
+abbrev pub AreCheckedResults : Search → truth.Formula → List LinesSolved → Type 0
+AreCheckedResults search F rs = AreCheckedBy (λ lines. lines) search F rs

@@ -4,7 +4,7 @@ use Rattle.theory.specs.Truth.{Formula}
 use Rattle.theory.specs.Plans.{Plan}
 use Rattle.theory.specs.Learning.{Line}
 use Rattle.cdcl.specs.Solving.{IsSolverOf, IsRootOf}
-use Rattle.cubes.specs.Known.{AreOutcomes}
+use Rattle.cubes.specs.Known.{AreCheckedOutcomes}
 use Rattle.cubes.specs.declared.results.OwnSolver.{OwnSolver}
 use Rattle.cubes.specs.declared.results.Source.{Source}
 
@@ -12,6 +12,6 @@ use Rattle.cubes.specs.declared.results.Source.{Source}
 abbrev pub IsOwnSolver : Formula → Plan → OwnSolver → Type 0
 IsOwnSolver F plan s = IfSome s.solver (IsSolverOf F plan) × IsRootOf F plan s.root
 
--- what is known is so, and the solver is the formula's, by the plan
+-- what is known is checked, and the solver is the formula's, by the plan
 abbrev pub IsSource : {L : Type 0} → (L → List Line) → Formula → Plan → Source L → Type 0
-IsSource lines F plan s = AreOutcomes lines F plan s.known × IsOwnSolver F plan s.solver
+IsSource lines F plan s = AreCheckedOutcomes lines plan.search F s.known × IsOwnSolver F plan s.solver

@@ -41,7 +41,8 @@ pub fn work<R: Wait + Clock, G: Gate>(
     work_in(rt, alloc, hand, formula, plan, Root::Unknown, gate)
 }
 
-/// `gather_by_plan` by the ordered search, with a budget of 1 to 100,000 conflicts for the root.
+/// `gather_by_plan` by the ordered search, with a budget of 1 to 100,000 conflicts for the root,
+/// from results that are true.
 pub fn gather(
     alloc: Global,
     formula: &Formula,
@@ -53,6 +54,7 @@ pub fn gather(
     ensures result { IfOk result (λ t. IsResultOf formula.now (ordered_within budget) t) }
     ensures says { IfOk result (λ t. Says ordered formula.now t) }
 {
+    let _vars = formula.vars(); // it ensures what the proof needs of the formula
     let rows = packed(alloc, results)?;
     let tree = gather_by_plan(alloc, formula, Plan::ordered(budget), rows)?;
     tree.unpacked(alloc)

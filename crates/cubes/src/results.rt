@@ -3,12 +3,14 @@ ghost use Rattle.std.specs.Prelude.{◌≡◌, ◌≤◌, ◌<◌, ◌^◌, ℕ,
 ghost use Rattle.theory.specs.Truth.{Formula, IsOver};
 ghost use Rattle.theory.specs.Plans as plans;
 ghost use Rattle.theory.specs.Runs.{Runs};
-ghost use Rattle.theory.specs.Results.{OutcomeSays, IsWhole};
+ghost use Rattle.theory.specs.Results.{OutcomeSays, IsWhole, done};
+ghost use Rattle.theory.specs.Checked.{IsCheckedOf};
 ghost use Rattle.cdcl.specs.Outcome.{outcome_of, outcome_by};
 ghost use Rattle.cdcl.specs.Solving.{IsRootOf};
-ghost use Rattle.cubes.specs.Solved.{AreTrueBy, AreTrueResults, results_by, solved_of};
+ghost use Rattle.cubes.specs.Solved.{AreTrueBy, AreTrueResults, AreCheckedBy, AreCheckedResults, results_by, solved_of};
+ghost use Rattle.cubes.specs.Known.{AreOutcomes};
 ghost use Rattle.cubes.specs.Source.{IsOwnSolver, IsSource};
-ghost use Rattle.cubes.specs.Result.{IsResultBy, IsResultOf, Says};
+ghost use Rattle.cubes.specs.Result.{IsResultBy, IsResultOf, IsCheckedResultBy, IsCheckedResultOf, Says};
 
 use crate::gate::{Gate, OpenGate, Watched, tell_refuted};
 use crate::gathering::Gathering;
@@ -97,8 +99,10 @@ impl<L: KeepsLines> Source<L> {
     ) -> Result<Outcome<L>, AllocError>
         requires over { IsOver formula.now.vars cube.now }
         requires source { IsSource L.lines formula.now plan self.old }
-        ensures runs { IfOk result (λ o. Runs formula.now plan cube.now (outcome_by L.lines o)) }
+        ensures checked { IfOk result (λ o. IsCheckedOf plan.search formula.now cube.now (done (outcome_by L.lines o))) }
+        ensures runs { AreOutcomes L.lines formula.now plan self.old.known → IfOk result (λ o. Runs formula.now plan cube.now (outcome_by L.lines o)) }
         ensures kept { OnOk result (IsSource L.lines formula.now plan self.new) }
+        ensures still { AreOutcomes L.lines formula.now plan self.old.known → OnOk result (AreOutcomes L.lines formula.now plan self.new.known) }
     {
         match self.known.take(cube) {
             Some(outcome) => Ok(outcome),
@@ -122,9 +126,10 @@ pub(crate) fn gather_in<L: KeepsLines, G: Gate>(
     results: Vec<Solved<L>>,
     gate: &G,
 ) -> Result<Tree<L>, AllocError>
-    requires results { AreTrueBy L.lines formula.now plan results.items }
+    requires results { AreCheckedBy L.lines plan.search formula.now results.items }
     requires root { IsRootOf formula.now plan root }
-    ensures result { IfOk result (λ t. IsResultBy L.lines formula.now plan t) }
+    ensures checked { IfOk result (λ t. IsCheckedResultBy L.lines plan.search formula.now t) }
+    ensures result { AreTrueBy L.lines formula.now plan results.items → IfOk result (λ t. IsResultBy L.lines formula.now plan t) }
     ensures says { IfOk result (λ t. Says plan.search formula.now t) }
 {
     let _vars = formula.vars(); // it ensures what the proof needs of the formula
@@ -141,18 +146,21 @@ pub(crate) fn gather_in<L: KeepsLines, G: Gate>(
     }
 }
 
-/// The result of the formula by the plan, from results of cubes that are true: in any order, with
-/// cubes missing, skipped, repeated or foreign to the tree. It goes through the cubes from left to
-/// right and solves those on the spot that it needs and that have no outcome among the results, all
-/// by one solver. It fails only where a request for memory is refused.
+/// A checked result of the formula, from results of cubes that are checked: in any order, with
+/// cubes missing, skipped, repeated or foreign to the tree. Where they are true it is the formula's
+/// result by the plan; and true ones are checked, by `true_results_are_checked` of `theory`. It goes
+/// through the cubes from left to right and solves those on the spot that it needs and that have no
+/// outcome among the results, all by one solver. It fails only where a request for memory is
+/// refused.
 pub fn gather_by_plan(
     alloc: Global,
     formula: &Formula,
     plan: Plan,
     results: Vec<Solved<Row>>,
 ) -> Result<Tree<Row>, AllocError>
-    requires results { AreTrueResults formula.now plan results.items }
-    ensures result { IfOk result (λ t. IsResultOf formula.now plan t) }
+    requires results { AreCheckedResults plan.search formula.now results.items }
+    ensures checked { IfOk result (λ t. IsCheckedResultOf plan.search formula.now t) }
+    ensures result { AreTrueResults formula.now plan results.items → IfOk result (λ t. IsResultOf formula.now plan t) }
     ensures says { IfOk result (λ t. Says plan.search formula.now t) }
 {
     gather_in(alloc, formula, plan, Root::Unknown, results, &OpenGate)

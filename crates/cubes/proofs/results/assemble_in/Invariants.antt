@@ -4,7 +4,7 @@ use Rattle.theory.specs.Plans.{Plan}
 use Rattle.theory.specs.Results.{IsWhole}
 use Rattle.cubes.specs.Solved.{results_by}
 use Rattle.cubes.proofs.GatheringLemmas.{IsGathered}
-use Rattle.cubes.proofs.Walks.{to_come}
+use Rattle.cubes.proofs.Walks.{by_plan, to_come}
 use Rattle.cubes.proofs.WholeWalks.{AreStillThere}
 use Rattle.cubes.proofs.results.assemble_in.Given as goal
 
@@ -12,7 +12,7 @@ use Rattle.cubes.proofs.results.assemble_in.Given as goal
 -- it; and what is needed from here on is still there
 abbrev pub invariant-cubes : goal.invariant-cubes
 invariant-cubes g l = record {
-  reached : (F : Formula) (plan : Plan) → IsWhole F plan (results_by g.L.KeepsLines.lines l.fn.results.items) → IsGathered g.L.KeepsLines.lines F plan l.gathering;
+  reached : (F : Formula) (plan : Plan) → IsWhole F plan (results_by g.L.KeepsLines.lines l.fn.results.items) → IsGathered g.L.KeepsLines.lines F (by_plan F plan) l.gathering;
   still : AreStillThere l.initial.known l.known l.gathering;
 }
 

@@ -1,14 +1,19 @@
 use Rattle.std.proofs.Common.{◌+◌}
+use Rattle.cubes.specs.Known.{AreOutcomes}
+use Rattle.cubes.specs.Solved.{AreTrueBy}
 use Rattle.cubes.specs.Source.{IsSource}
 use Rattle.cubes.proofs.GatheringLemmas.{IsGathered}
-use Rattle.cubes.proofs.Walks.{to_come}
+use Rattle.cubes.proofs.Walks.{by_plan, by_checks, to_come}
 use Rattle.cubes.proofs.results.gather_in.Given as goal
 
--- what is known is so, and the cube is reached, with the nodes before it
+-- what is known is checked, and the cube is reached, with the nodes before it; and by the plan where
+-- the results are true
 abbrev pub invariant-cubes : goal.invariant-cubes
 invariant-cubes g l = record {
   source : IsSource g.L.KeepsLines.lines l.formula l.plan l.source;
-  reached : IsGathered g.L.KeepsLines.lines l.formula l.plan l.gathering;
+  reached : IsGathered g.L.KeepsLines.lines l.formula (by_checks l.formula l.plan.search) l.gathering;
+  known_true : AreTrueBy g.L.KeepsLines.lines l.formula l.plan l.fn.results.items → AreOutcomes g.L.KeepsLines.lines l.formula l.plan l.source.known;
+  reached_true : AreTrueBy g.L.KeepsLines.lines l.formula l.plan l.fn.results.items → IsGathered g.L.KeepsLines.lines l.formula (by_plan l.formula l.plan) l.gathering;
 }
 
 abbrev pub decreases-cubes : goal.decreases-cubes
