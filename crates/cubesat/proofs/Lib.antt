@@ -1,12 +1,1 @@
-pub mod WrittenLemmas
-pub mod TextLemmas
-pub mod RunLemmas
-pub mod OneRun
-pub mod RightAnswers
-pub mod AnsweredLemmas
-pub mod CheckLemmas
-pub mod SaidLines
-pub mod CheckRuns
-pub mod StreamedLemmas
-pub mod ProofLemmas
 pub mod StatusLemmas

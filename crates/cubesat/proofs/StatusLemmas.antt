@@ -10,18 +10,19 @@ use Rattle.theory.specs.Checking.{checks, accepted, refused, no_empty_clause}
 use Rattle.theory.specs.Checking as theory
 use Rattle.theory.proofs.checker.Soundness.{accepted-unsatisfiable}
 use Rattle.lrat_text.proofs.ProofTexts.{ProofReads-only}
-use Rattle.cubesat.specs.declared.fault.RunFault.{RunFault}
-use Rattle.cubesat.specs.declared.verdict.Verdict.{Verdict}
-use Rattle.cubesat.specs.declared.verdict.Verdict.TheVariants.{Satisfiable, Unsatisfiable}
-use Rattle.cubesat.specs.declared.checked_line.Checked.{Checked}
-use Rattle.cubesat.specs.declared.checked_line.Checked.TheVariants.{Accepted, Refused}
-use Rattle.cubesat.specs.Run.{WritesBoth}
-use Rattle.cubesat.specs.Answered.{WritesAnswer}
+use Rattle.runs.specs.declared.fault.RunFault.{RunFault}
+use Rattle.runs.specs.declared.verdict.Verdict.{Verdict}
+use Rattle.runs.specs.declared.verdict.Verdict.TheVariants.{Satisfiable, Unsatisfiable}
+use Rattle.runs.specs.declared.checked_line.Checked.{Checked}
+use Rattle.runs.specs.declared.checked_line.Checked.TheVariants.{Accepted, Refused}
+use Rattle.runs.specs.Run.{WritesBoth}
+use Rattle.runs.specs.Answered.{WritesAnswer}
+use Rattle.runs.specs.Limited.{LimitedSays}
+use Rattle.runs.specs.Check.{checked_of, verdict_of, CheckSays, WritesLine}
+use Rattle.runs.proofs.RightAnswers.{texts-right}
 use Rattle.cubesat.specs.Status.{solve_status, Answers, IsSolveStatus}
-use Rattle.cubesat.specs.Limited.{LimitedSays}
-use Rattle.cubesat.specs.Check.{checked_of, verdict_of, end_of, CheckSays, WritesLine}
 use Rattle.cubesat.specs.CheckStatus.{IsProofOf, AreRead, IsCheckEnd}
-use Rattle.cubesat.proofs.RightAnswers.{texts-right}
+use Rattle.cubesat.specs.Ends.{end_of}
 
 -- an answer with its proof, and one without
 both-answers : (L : Limits) (known : Option (List ℕ)) (plan : Plan) (p q a b : Option (List ℕ)) (verdict : Verdict) → WritesBoth L known plan p q a b verdict → Answers L plan.search known a b verdict

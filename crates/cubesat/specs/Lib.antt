@@ -1,14 +1,7 @@
--- The numbers of faults, when an answer is right, what a status says, what a run has read and
--- written, and what the command line asks for.
-pub mod Faults
-pub mod Answer
+-- What a status says, what the program has written by it, what the command line asks for, and what
+-- is left of what a command reads.
 pub mod Status
-pub mod Run
-pub mod Answered
-pub mod Limited
+pub mod CheckStatus
+pub mod Ends
 pub mod Arguments
 pub mod Inputs
-pub mod Check
-pub mod CheckStatus
-pub mod Streamed
-pub mod Written

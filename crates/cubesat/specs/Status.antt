@@ -4,10 +4,10 @@ use Rattle.std.specs.Io.KnownBytes.{Appends}
 use Rattle.theory.specs.Truth.{Formula}
 use Rattle.theory.specs.Plans.{Search}
 use Rattle.theory.specs.Reading.{Limits, ReadsWithin, formula, max_bytes}
-use Rattle.cubesat.specs.Answer.{unknown_text, IsRight}
-use Rattle.cubesat.specs.declared.fault.RunFault.{RunFault}
-use Rattle.cubesat.specs.declared.verdict.Verdict.{Verdict}
-use Rattle.cubesat.specs.declared.verdict.Verdict.TheVariants.{Satisfiable, Unsatisfiable}
+use Rattle.runs.specs.Answer.{unknown_text, IsRight}
+use Rattle.runs.specs.declared.fault.RunFault.{RunFault}
+use Rattle.runs.specs.declared.verdict.Verdict.{Verdict}
+use Rattle.runs.specs.declared.verdict.Verdict.TheVariants.{Satisfiable, Unsatisfiable}
 
 abbrev pub verdict_status : Verdict → ℕ
 verdict_status Satisfiable = 10

@@ -2,13 +2,11 @@
 ghost use Rattle.std.specs.Prelude.{◌≡◌, Ok};
 ghost use Rattle.std.specs.Thread.{IsSync};
 ghost use Rattle.cnf.specs.Limits.{limits_of};
-ghost use Rattle.cubesat.specs.Check.{end_of, checked_by, CheckSays, CheckEnds};
+ghost use Rattle.runs.specs.Check.{checked_by, CheckSays};
 ghost use Rattle.cubesat.specs.CheckStatus.{check_status, IsCheckEnd};
+ghost use Rattle.cubesat.specs.Ends.{end_of, CheckEnds};
 
 use crate::arguments::Shown;
-use crate::check::{Told, check_told};
-use crate::checked_line::Checked;
-use crate::fault::RunFault;
 use crate::fault_lines::{FAILED, Screen, print_fault_of, print_not_opened};
 use crate::input::{open_input, size_of};
 use crate::notes::{note_check, note_number};
@@ -17,6 +15,7 @@ use crate::worded::{Known, Opened, say_refused};
 use cnf::Limits;
 use messages::Refused;
 use noticed::{NoticedReader, NoticedWriter};
+use runs::{Checked, RunFault, Told, check_told};
 use statistics::{Board, Showing, Unobserved, print_check_statistics, show_progress};
 use std::alloc::Global;
 use std::fs::Files;

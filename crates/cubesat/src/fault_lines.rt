@@ -1,11 +1,11 @@
 //! The lines of faults.
 ghost use Rattle.std.specs.Prelude.{◌≡◌};
 
-use crate::fault::RunFault;
 use crate::input::shown_name;
 use crate::notes::{note_file, note_files, note_number};
 use crate::worded::{Known, say_fault};
 use messages::{say_no_memory, say_not_created, say_not_read};
+use runs::RunFault;
 use statistics::Manner;
 use std::fs::Files;
 use std::io;

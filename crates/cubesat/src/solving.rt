@@ -2,26 +2,24 @@
 ghost use Rattle.std.specs.Prelude.{◌≡◌, IsSome, option_map};
 ghost use Rattle.std.specs.Thread.{IsSync};
 ghost use Rattle.cnf.specs.Limits.{limits_of};
+ghost use Rattle.runs.specs.Limited.{LimitedSays};
 ghost use Rattle.cubesat.specs.Status.{solve_status, IsSolveStatus};
-ghost use Rattle.cubesat.specs.Limited.{LimitedSays, SolveEnds};
+ghost use Rattle.cubesat.specs.Ends.{SolveEnds};
 
 use crate::arguments::Shown;
-use crate::fault::RunFault;
 use crate::fault_lines::{
     FAILED, Screen, print_fault_of, print_no_memory, print_not_created, print_not_opened,
 };
 use crate::input::open_input;
-use crate::limit::TimeLimit;
-use crate::limited::{answer_limited_within, run_limited_within};
 use crate::notes::{note_files, note_number, note_solve};
 use crate::placed_proof::{NotBegun, begin_proof};
-use crate::verdict::Verdict;
 use crate::watched::{Effort, run_counted};
 use crate::worded::{Known, Opened};
 use cdcl::{Plan, Search};
 use cubes::OpenGate;
 use messages::say_same_file;
 use noticed::{NoticedReader, NoticedWriter};
+use runs::{RunFault, TimeLimit, Verdict, answer_limited_within, run_limited_within};
 use statistics::{Board, Showing, print_statistics, show_progress};
 use std::alloc::Global;
 use std::fs::Files;

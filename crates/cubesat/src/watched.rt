@@ -1,16 +1,14 @@
 //! Runs that are watched: they write what `run_limited` and `check_run` write.
 ghost use Rattle.std.specs.Prelude.{◌≤◌, IsSome, option_map};
 ghost use Rattle.cnf.specs.Limits.{limits_of};
-ghost use Rattle.cubesat.specs.Check.{CheckSays, checked_by};
-ghost use Rattle.cubesat.specs.Limited.{LimitedSays};
+ghost use Rattle.runs.specs.Check.{CheckSays, checked_by};
+ghost use Rattle.runs.specs.Limited.{LimitedSays};
 
-use crate::check::{Told, check_told};
-use crate::fault::RunFault;
-use crate::limit::TimeLimit;
-use crate::limited::{answer_limited_observed, run_limited_observed};
-use crate::verdict::Verdict;
 use cdcl::Plan;
 use cnf::Limits;
+use runs::{
+    RunFault, TimeLimit, Told, Verdict, answer_limited_observed, check_told, run_limited_observed,
+};
 use statistics::{Board, CountedReader, CountedWriter, TextWatch, Watch};
 use std::alloc::Global;
 use std::fs::Files;

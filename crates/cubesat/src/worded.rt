@@ -1,13 +1,13 @@
 //! What is said in words of a run's fault, and of a proof that is refused.
 
 use crate::anew::excerpt_of;
-use crate::fault::RunFault;
 use crate::input::shown_name;
 use cnf::{Limits, Place, ReadFault};
 use messages::{
     Refused, say_answer_not_written, say_formula_refused, say_no_memory, say_not_read,
     say_proof_not_written, say_proof_refused,
 };
+use runs::RunFault;
 use std::fs::Files;
 use std::io;
 use std::io::Write;

@@ -1,9 +1,9 @@
 //! What `check` prints and its exit status at each of its ends, and the status where a fault is to
 //! have one of its own.
-use crate::faulty::{Limited, Limits};
 use crate::sessions::{Paths, Wanted, put_texts, says};
-use crate::texts::{FOUR, FOUR_PROOF};
 use cubesat::command;
+use samples::faulty::{Limited, Limits};
+use samples::strings::{FOUR, FOUR_PROOF};
 use std::rt::Files;
 use std::sync::Wait;
 use std::test::Fail;

@@ -2,10 +2,10 @@
 //! fault.
 use crate::clocks::Meeting;
 use crate::fake::Fake;
-use crate::faulty::{Limited, UNFLUSHED};
 use crate::sessions::{Paths, put_texts, run_words};
-use crate::texts::{FOUR, FOUR_PROOF};
 use cubesat::command;
+use samples::faulty::{Limited, UNFLUSHED};
+use samples::strings::{FOUR, FOUR_PROOF};
 use std::rt::Files;
 use std::sync::Wait;
 use std::test::Fail;

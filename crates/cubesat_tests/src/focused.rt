@@ -1,13 +1,6 @@
-//! Worked rows of the focused search that divides nothing, and examples from end to end by it.
-ghost use Rattle.std.specs.Prelude.{◌≤◌};
-
-use crate::examples::{MITER, is_accepted, pigeonhole};
+//! Worked rows of the focused search that divides nothing, by the program.
 use crate::sessions::{Paths, Row, Wanted, check_rows, run};
-use crate::texts::{EIGHT, FOUR};
-use cdcl::Plan;
-use cubesat::{RunFault, Verdict, run_one_by_plan};
-use std::alloc::Global;
-use std::process::Abort;
+use samples::strings::{EIGHT, FOUR};
 use std::test::Fail;
 
 /// A formula, a budget, the answer, and the proof.
@@ -109,35 +102,4 @@ fn the_budget_is_the_greatest_where_none_is_asked_for(rt: HostRuntime) -> Result
     let wanted = "\nc solving it by the focused search, hands 1, budget 100000 conflicts\n";
     assert!(rt; str::from_utf8(&printed.faults)?.contains(wanted));
     Ok(())
-}
-
-/// Whether an unsatisfiable formula is refuted by a run without threads, with a proof that is
-/// accepted.
-fn is_refuted(alloc: Global, text: &str, budget: u32) -> Result<bool, RunFault>
-    requires { (1 ≤ budget) × (budget ≤ 100000) }
-{
-    let mut proof = Vec::new(alloc);
-    let mut answer = Vec::new(alloc);
-    let plan = Plan::focused(budget);
-    let verdict = run_one_by_plan(alloc, text.as_bytes(), &mut answer, &mut proof, plan)?;
-    Ok(verdict == Verdict::Unsatisfiable && is_accepted(alloc, text, &proof)?)
-}
-
-/// Checks that a formula is refuted, at each of some budgets.
-fn check_budgets(rt: &impl Abort, alloc: Global, text: &str) -> Result<(), Fail> {
-    for budget in [1, 2, 10, 1000] {
-        assert!(rt; is_refuted(alloc, text, budget)?, "budget {budget}");
-    }
-    Ok(())
-}
-
-#[test]
-fn pigeons(rt: HostRuntime) -> Result<(), Fail> {
-    let text = pigeonhole(rt.alloc())?;
-    check_budgets(&rt, rt.alloc(), text.as_str())
-}
-
-#[test]
-fn circuits(rt: HostRuntime) -> Result<(), Fail> {
-    check_budgets(&rt, rt.alloc(), MITER)
 }

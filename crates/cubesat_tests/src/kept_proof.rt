@@ -1,9 +1,9 @@
 //! An old proof stays until a new one is whole, and an answer comes only behind its proof.
-use crate::faulty::{Limited, Limits};
 use crate::same_file::is_refused;
 use crate::sessions::{Paths, Row, Wanted, check_rows, path_of, says};
-use crate::texts::{FOUR, FOUR_PROOF};
 use cubesat::command;
+use samples::faulty::{Limited, Limits};
+use samples::strings::{FOUR, FOUR_PROOF};
 use std::io::Write;
 use std::rt::{Env, Files};
 use std::sync::Wait;

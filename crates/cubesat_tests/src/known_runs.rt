@@ -1,9 +1,9 @@
 //! What `--stats` prints of known figures, and speed by the time since the formula was read.
 use crate::figures::some_figures;
-use crate::texts::FOUR;
 use cdcl::Search;
 use cnf::{Formula, read_formula};
 use cubesat::{Manner, Stage, print_line};
+use samples::strings::FOUR;
 use statistics::{FormulaSize, StageEnd, TreeSize, print_statistics};
 use std::alloc::Global;
 use std::test::Fail;

@@ -1,8 +1,8 @@
 //! The command line: each option does what it says, and each thing printed goes where it belongs.
-use crate::faulty::{Limited, Limits};
 use crate::sessions::{Paths, Row, Wanted, check_rows, prints, run};
-use crate::texts::EIGHT;
 use cubesat::command;
+use samples::faulty::{Limited, Limits};
+use samples::strings::EIGHT;
 use std::rt::Files;
 use std::sync::Wait;
 use std::test::Fail;

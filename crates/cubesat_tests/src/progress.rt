@@ -4,8 +4,8 @@ use crate::clocks::{LONG, Pace};
 use crate::fake::Fake;
 use crate::sessions::Paths;
 use crate::slow_runs::{SOLVED, SlowRun, holds};
-use crate::texts::{EIGHT, FOUR, FOUR_PROOF};
 use cubesat::Screen;
+use samples::strings::{EIGHT, FOUR, FOUR_PROOF};
 use std::alloc::Global;
 use std::test::Fail;
 

@@ -1,11 +1,11 @@
 //! `--seconds`: a run by a clock that jumps ends where the limit is reached, and nowhere else.
 use crate::clocks::{Readings, UNREAD};
 use crate::fake::Fake;
-use crate::faulty::{Full, Limited, Limits, UNFLUSHED};
 use crate::kept_proof::Parts;
 use crate::sessions::{Wanted, prints, put_texts};
-use crate::texts::{FOUR, FOUR_PROOF};
 use cubesat::command;
+use samples::faulty::{Full, Limited, Limits, UNFLUSHED};
+use samples::strings::{FOUR, FOUR_PROOF};
 use std::alloc::{AllocError, Global};
 use std::fmt::Write;
 use std::rt::Files;

@@ -1,9 +1,9 @@
 //! Where what is shown of a run can't be printed, all else stays as it is.
-use crate::faulty::{Limited, Limits};
 use crate::options::SPLIT;
 use crate::sessions::{Paths, put_texts};
-use crate::texts::EIGHT;
 use cubesat::{Screen, command_on};
+use samples::faulty::{Limited, Limits};
+use samples::strings::EIGHT;
 use std::fs;
 use std::rt::Files;
 use std::sync::Wait;

@@ -3,8 +3,8 @@
 use crate::clocks::{LONG, Pace};
 use crate::fake::{Fake, FakeFile, STATUS};
 use crate::sessions::Paths;
-use crate::texts::FOUR;
 use cubesat::{Screen, command_with_input};
+use samples::strings::FOUR;
 use std::alloc::Global;
 use std::io::{ErrorKind, Write};
 use std::rt::Files;

@@ -1,8 +1,8 @@
 //! `-` is standard input, of either command.
-use crate::faulty::Trickle;
 use crate::sessions::{Paths, Printed, Wanted, is_filled, put_texts, run};
-use crate::texts::{FOUR, FOUR_PROOF, WIDE, WIDE_PROOF};
 use cubesat::{Screen, command_with_input};
+use samples::faulty::Trickle;
+use samples::strings::{FOUR, FOUR_PROOF, WIDE, WIDE_PROOF};
 use std::fs;
 use std::io::Read;
 use std::rt::Files;

@@ -2,10 +2,10 @@
 //! runs that fail.
 use crate::clocks::{Readings, UNREAD};
 use crate::fake::Fake;
-use crate::faulty::{Limited, Limits};
 use crate::sessions::{Paths, path_of};
-use crate::texts::{EIGHT, FOUR, FOUR_PROOF};
 use cubesat::command;
+use samples::faulty::{Limited, Limits};
+use samples::strings::{EIGHT, FOUR, FOUR_PROOF};
 use std::fs;
 use std::rt::Files;
 use std::sync::Wait;

@@ -1,10 +1,10 @@
 //! What a gate is told of two hands is counted of the hand that did it.
-use crate::texts::FOUR;
 use cdcl::Counts;
 use cnf::read_formula;
 use cubes::Gate;
 use cubesat::{Board, Manner, Stage, print_line};
 use samples::cube_of;
+use samples::strings::FOUR;
 use statistics::{FormulaSize, StageEnd, Watch, print_statistics};
 use std::alloc::{AllocError, Global};
 use std::sync::Wait;

@@ -1,7 +1,7 @@
 //! What the program says of a fault in words, from the files on.
-use crate::faulty::{Limited, Limits};
 use crate::sessions::{Paths, Wanted, put_texts, says};
 use cubesat::command;
+use samples::faulty::{Limited, Limits};
 use std::rt::Files;
 use std::sync::Wait;
 use std::test::Fail;

@@ -1,7 +1,10 @@
-//! What tests of several crates begin with: texts of formulas, and cubes of numbers.
+//! What tests of several crates begin with: texts of formulas and proofs, cubes of numbers, and
+//! readers and writers that fail.
 #![tactic(auto)]
 
 mod cubes;
+pub mod faulty;
+pub mod strings;
 mod texts;
 
 pub use cubes::{cube_of, has_var, reads};

@@ -1,6 +1,6 @@
 use Rattle.std.proofs.Common.{ap}
 use Rattle.cnf.specs.Limits.{limits_of}
-use Rattle.cubesat.specs.Check.{checked_by}
+use Rattle.runs.specs.Check.{checked_by}
 use Rattle.cubesat.proofs.StatusLemmas.{check-end, checked-on}
 use Rattle.cubesat.proofs.checking.check_files.Goals as goal
 

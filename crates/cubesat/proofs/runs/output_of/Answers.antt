@@ -1,9 +1,0 @@
-use Rattle.join.specs.Walking.{lines_left}
-use Rattle.cnf.specs.Limits.{limits_of}
-use Rattle.cubesat.proofs.TextLemmas.{result-texts}
-use Rattle.cubesat.proofs.runs.output_of.Goals as goal
-
-pub returns-clause-texts : goal.returns-clause-texts
-returns-clause-texts c =
-    result-texts (limits_of c.args.limits) c.args.formula.now c.args.plan c.args.tree _ (lines_left c.in_ok-lines.lines) _ c.requires.result c.requires.says c.in_ok-verdict.ensures
-    c.in_ok-lines.ensures.steps c.in_ok-lines.ensures.within c.in_ok-lines.ensures.accepted

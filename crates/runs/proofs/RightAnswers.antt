@@ -1,0 +1,31 @@
+-- What a run that ended well has written is a right answer.
+use Rattle.std.proofs.Common.{ℕ, List, Option, Result, Ok, Err, IfOk}
+use Rattle.theory.specs.Reading.{Limits}
+use Rattle.theory.specs.Truth.{Formula}
+use Rattle.theory.specs.Plans.{Plan}
+use Rattle.runs.specs.Answer.{IsRight, IsRightAnswer}
+use Rattle.runs.specs.Run.{AreTexts, WritesBoth, RunSays}
+use Rattle.runs.specs.declared.fault.RunFault.{RunFault}
+use Rattle.runs.specs.declared.verdict.Verdict.{Verdict}
+use Rattle.runs.specs.declared.verdict.Verdict.TheVariants.{Satisfiable, Unsatisfiable}
+
+pub texts-right : (L : Limits) (F : Formula) (plan : Plan) (verdict : Verdict) (proof answer : List ℕ) → AreTexts L F plan verdict proof answer → IsRight L plan.search F verdict proof answer
+texts-right L F plan Satisfiable proof answer t = (t.model, t.found, t.answer_is)
+texts-right L F plan Unsatisfiable proof answer t = (t.0.unsatisfiable, t.1, t.0.answer_is)
+
+written-right : (L : Limits) (known : Option (List ℕ)) (plan : Plan) (p q a b : Option (List ℕ)) (verdict : Verdict) → WritesBoth L known plan p q a b verdict → IsRightAnswer L plan.search known p q a b verdict
+written-right L known plan p q a b verdict w = record {
+  bytes = w.run.bytes;
+  are = w.run.are;
+  value = w.run.value;
+  reads = w.run.reads;
+  proof = w.proof;
+  answer = w.answer;
+  right = texts-right L w.run.value plan verdict w.proof w.answer w.run.texts;
+  proof_written = w.proof_written;
+  answer_written = w.answer_written;
+}
+
+pub says-right : (L : Limits) (known : Option (List ℕ)) (plan : Plan) (p q a b : Option (List ℕ)) (r : Result Verdict RunFault) → RunSays L known plan p q a b r → IfOk r (IsRightAnswer L plan.search known p q a b)
+says-right L known plan p q a b (Ok verdict) says = written-right L known plan p q a b verdict says
+says-right L known plan p q a b (Err fault) says = tt

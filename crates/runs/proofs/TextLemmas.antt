@@ -1,0 +1,35 @@
+-- The texts that a formula's result gives.
+use Rattle.std.proofs.Common.{ℕ, ◌≤◌, List, length, ap, sym, arith}
+use Rattle.theory.specs.Reading.{Limits, large}
+use Rattle.theory.specs.Truth.{Formula}
+use Rattle.theory.specs.Plans.{Plan}
+use Rattle.theory.specs.Steps.{Step}
+use Rattle.theory.specs.Texts.{proof_text}
+use Rattle.theory.specs.ProofReading.{max_proof_bytes}
+use Rattle.theory.proofs.reading.LimitLemmas.{few-proof_bytes}
+use Rattle.theory.specs.Written.{IsUnsatisfiableText}
+use Rattle.cubes.specs.declared.tree.Tree.TheVariants.{Model, Refuted}
+use Rattle.cubes.specs.Result.{LinesTree, IsResultOf, Says}
+use Rattle.join.specs.Numbered.{AreStepsOf, AreAccepted, AreWithin}
+use Rattle.lrat_text.proofs.WrittenTexts.{proof_text-ProofReads}
+use Rattle.runs.specs.declared.verdict.Verdict.{Verdict}
+use Rattle.runs.specs.Run.{AreTexts}
+use Rattle.runs.specs.Written.{IsAnswer}
+
+-- a proof within limits is within the large ones
+pub short-large : (L : Limits) (n : ℕ) → n ≤ max_proof_bytes L → n ≤ max_proof_bytes large
+short-large L n short = let few = few-proof_bytes L in omega arith
+
+pub result-texts : (L : Limits) (F : Formula) (plan : Plan) (tree : LinesTree) (verdict : Verdict) (steps : List Step) (answer : List ℕ) → IsResultOf F plan tree → Says plan.search F tree → IsAnswer tree verdict answer
+    → AreStepsOf F tree steps → AreWithin steps → AreAccepted F tree steps → AreTexts L F plan verdict (proof_text steps) answer
+result-texts L F plan (Model values) verdict steps answer result says is are within accepts =
+    rw is.0 (record { model = values.items; found = says; is_result = result; proof_is = ap proof_text are; answer_is = is.1 })
+result-texts L F plan (Refuted nodes) verdict steps answer result says is are within accepts =
+    let text : IsUnsatisfiableText F plan (proof_text steps) answer = record {
+      unsatisfiable = says;
+      tree = result.0;
+      is_tree = result.1.0;
+      proof_is = ap proof_text (are result.0 result.1.1 (sym result.2));
+      answer_is = is.1;
+    } in
+    rw is.0 (text, λ short. (steps, proof_text-ProofReads L steps (within (short-large L (length (proof_text steps)) short)) short, accepts))

@@ -1,0 +1,9 @@
+use Rattle.join.specs.Walking.{lines_left}
+use Rattle.cnf.specs.Limits.{limits_of}
+use Rattle.runs.proofs.TextLemmas.{result-texts}
+use Rattle.runs.proofs.alone.output_of.Goals as goal
+
+pub returns-clause-texts : goal.returns-clause-texts
+returns-clause-texts c =
+    result-texts (limits_of c.args.limits) c.args.formula.now c.args.plan c.args.tree _ (lines_left c.in_ok-lines.lines) _ c.requires.result c.requires.says c.in_ok-verdict.ensures
+    c.in_ok-lines.ensures.steps c.in_ok-lines.ensures.within c.in_ok-lines.ensures.accepted

@@ -1,0 +1,9 @@
+-- The numbers of faults, when an answer is right, and what a run has read and written.
+pub mod Faults
+pub mod Answer
+pub mod Run
+pub mod Answered
+pub mod Limited
+pub mod Check
+pub mod Streamed
+pub mod Written

@@ -1,0 +1,24 @@
+-- A line that is put into a buffer, and the answer of a result.
+use Rattle.std.specs.Prelude.{◌≡◌, ℕ, Bool, true, false, List, [], ◌∷◌, ◌++◌, Some, None}
+use Rattle.theory.specs.Steps.{Step}
+use Rattle.theory.specs.Texts.{step_text, answer_text}
+use Rattle.cubes.specs.Result.{LinesTree}
+use Rattle.cubes.specs.declared.tree.Tree.TheVariants.{Model, Refuted}
+use Rattle.runs.specs.declared.verdict.Verdict.{Verdict}
+use Rattle.runs.specs.declared.verdict.Verdict.TheVariants.{Satisfiable, Unsatisfiable}
+
+-- the first of the lines stands in the buffer, and the others are left
+pub record PutsLine (old new : List Step) (before after : List ℕ) : Type 0 where
+  pub step : Step
+  pub lines : old ≡ step ∷ new
+  pub text : after ≡ before ++ step_text step
+
+-- whether there was one
+abbrev pub Puts : List Step → List Step → List ℕ → List ℕ → Bool → Type 0
+Puts old new before after true = PutsLine old new before after
+Puts old new before after false = (old ≡ []) × (after ≡ before)
+
+-- the verdict and the answer's text of a result
+abbrev pub IsAnswer : LinesTree → Verdict → List ℕ → Type 0
+IsAnswer (Model values) verdict answer = (verdict ≡ Satisfiable) × (answer ≡ answer_text (Some values.items))
+IsAnswer (Refuted nodes) verdict answer = (verdict ≡ Unsatisfiable) × (answer ≡ answer_text None)

@@ -1,0 +1,123 @@
+//! A run that writes an answer and no proof.
+ghost use Rattle.std.specs.Prelude.{◌≤◌, IfOk, MatchOption};
+ghost use Rattle.theory.specs.Reading.{standard};
+ghost use Rattle.cnf.specs.Limits.{limits_of};
+ghost use Rattle.cubes.specs.Decided.{IsModelOf, IsRefuted};
+ghost use Rattle.runs.specs.Answered.{AnswerSays, IsAnswerFor};
+
+use crate::fault::RunFault;
+use crate::output::write_text;
+use crate::verdict::Verdict;
+use cdcl::Plan;
+use cnf::{Formula, Limits, read_from_within};
+use cubes::{Gate, decide_by_plan};
+use join::answer_bytes;
+use statistics::{Observer, Unobserved};
+use std::alloc::{AllocError, Global};
+use std::io::{Read, Write};
+use std::sync::Wait;
+use std::thread::Threads;
+use std::time::Clock;
+
+/// The verdict, and the text of the answer, where the formula has this model, or none.
+fn text_of(
+    alloc: Global,
+    formula: &Formula,
+    limits: Limits,
+    plan: Plan,
+    found: Option<Vec<bool>>,
+) -> Result<(Verdict, Vec<u8>), AllocError>
+    requires { MatchOption found (IsRefuted formula.now plan) (λ values. IsModelOf formula.now plan values.items) }
+    ensures { IfOk result (λ p. IsAnswerFor (limits_of limits) formula.now plan p.0 p.1.items) }
+{
+    let (_limits, _plan) = (limits, plan); // they are there for the contract alone
+    let _vars = formula.vars(); // it ensures what the proof needs of the formula
+    match found {
+        Some(values) => {
+            let answer = answer_bytes(alloc, formula, Some(&values))?;
+            Ok((Verdict::Satisfiable, answer))
+        }
+        None => {
+            let answer = answer_bytes(alloc, formula, None)?;
+            Ok((Verdict::Unsatisfiable, answer))
+        }
+    }
+}
+
+/// `answer_by_plan`, where an observer is told as the formula is read, and as it is decided.
+pub(crate) fn answer_observed<
+    T: Threads + Wait + Clock + Sync,
+    R: Read + Drop,
+    W: Write,
+    G: Gate + Sync,
+    O: Observer,
+>(
+    rt: &T,
+    alloc: Global,
+    input: R,
+    limits: Limits,
+    answer: &mut W,
+    plan: Plan,
+    hands: usize,
+    gate: &G,
+    observer: &O,
+) -> Result<Verdict, RunFault>
+    requires { (1 ≤ hands) × (hands ≤ 16) }
+    ensures { AnswerSays (limits_of limits) (R.remaining input) plan (W.contents answer.old) (W.contents answer.new) result }
+{
+    let formula = match read_from_within(alloc, input, limits) {
+        Ok(formula) => formula,
+        Err(fault) => return Err(RunFault::of_read(fault)),
+    };
+    observer.read(&formula);
+    let Ok(found) = decide_by_plan(rt, alloc, &formula, plan, hands, gate) else {
+        return Err(RunFault::NoMemory);
+    };
+    observer.decided();
+    let (verdict, text) = match text_of(alloc, &formula, limits, plan, found) {
+        Ok(pair) => pair,
+        Err(_) => return Err(RunFault::NoMemory),
+    };
+    observer.answers();
+    write_text(answer, &text, RunFault::AnswerWriteFailed)?;
+    Ok(verdict)
+}
+
+/// Decides the formula of a DIMACS text by the plan, by 1 to 16 hands, and writes and flushes the
+/// answer: the bytes that `run_within` writes. No proof is made of it, and none of its lines is
+/// kept.
+pub fn answer_within<T: Threads + Wait + Clock + Sync, R: Read + Drop, W: Write, G: Gate + Sync>(
+    rt: &T,
+    alloc: Global,
+    input: R,
+    limits: Limits,
+    answer: &mut W,
+    plan: Plan,
+    hands: usize,
+    gate: &G,
+) -> Result<Verdict, RunFault>
+    requires { (1 ≤ hands) × (hands ≤ 16) }
+    ensures { AnswerSays (limits_of limits) (R.remaining input) plan (W.contents answer.old) (W.contents answer.new) result }
+{
+    let observer = Unobserved;
+    answer_observed(
+        rt, alloc, input, limits, answer, plan, hands, gate, &observer,
+    )
+}
+
+/// `answer_within` the standard limits.
+pub fn answer_by_plan<T: Threads + Wait + Clock + Sync, R: Read + Drop, W: Write, G: Gate + Sync>(
+    rt: &T,
+    alloc: Global,
+    input: R,
+    answer: &mut W,
+    plan: Plan,
+    hands: usize,
+    gate: &G,
+) -> Result<Verdict, RunFault>
+    requires { (1 ≤ hands) × (hands ≤ 16) }
+    ensures { AnswerSays standard (R.remaining input) plan (W.contents answer.old) (W.contents answer.new) result }
+{
+    let limits = Limits::Standard;
+    answer_within(rt, alloc, input, limits, answer, plan, hands, gate)
+}

@@ -1,0 +1,129 @@
+//! A run of the checker of proofs.
+ghost use Rattle.std.specs.Prelude.{MatchResult};
+ghost use Rattle.theory.specs.Reading.{standard};
+ghost use Rattle.cnf.specs.Limits.{limits_of};
+ghost use Rattle.runs.specs.Check.{CheckSays, checked_by};
+ghost use Rattle.runs.specs.Streamed.{Judges, IsStop};
+
+use crate::checked_line::{Checked, checked_line};
+use crate::fault::RunFault;
+use crate::output::write_text;
+use crate::proof_input::feed_all;
+use cnf::{Formula, Limits, read_from_within};
+use lrat::{ProofStream, Refusal};
+use messages::Refused;
+use statistics::{Observer, Unobserved};
+use std::alloc::Global;
+use std::io::{Read, Write};
+
+/// What the checker says of a proof, and why it is refused, if it is.
+#[derive(Clone, Copy)]
+pub struct Told {
+    pub checked: Checked,
+    pub why: Option<Refused>,
+}
+
+/// Why a proof is refused, whose step at fault names this clause wrongly, if it is that.
+fn why_refused(verdict: Result<(), Refusal>, named: Option<u64>) -> Option<Refused> {
+    match verdict {
+        Ok(()) => None,
+        Err(Refusal::Text(fault)) => Some(Refused {
+            number: fault.number(),
+            line: fault.line(),
+            named: None,
+        }),
+        Err(Refusal::Steps(fault)) => Some(Refused {
+            number: fault.number(),
+            line: fault.step(),
+            named,
+        }),
+    }
+}
+
+/// The checker's verdict on a proof, and the clause that its step at fault names wrongly, if it is
+/// that.
+#[derive(Clone, Copy)]
+struct Judged {
+    verdict: Result<(), Refusal>,
+    named: Option<u64>,
+}
+
+/// What the checker says of a reader's bytes as the proof of a formula. `RunFault` says when each
+/// fault comes.
+fn judge<P: Read>(
+    alloc: Global,
+    formula: Formula,
+    proof: &mut P,
+    limits: Limits,
+) -> Result<Judged, RunFault>
+    ensures { MatchResult result (λ j. Judges (limits_of limits) formula (P.remaining proof.old) j.verdict) IsStop }
+{
+    let mut stream = match ProofStream::new(alloc, &formula) {
+        Ok(stream) => stream,
+        Err(_) => return Err(RunFault::NoMemory),
+    };
+    drop(formula);
+    feed_all(alloc, proof, &mut stream, limits)?;
+    let verdict = stream.verdict_within(limits);
+    let named = stream.named_wrongly();
+    Ok(Judged { verdict, named })
+}
+
+/// What `check_run_within` does, and why the proof is refused. An observer is told of the answer.
+pub fn check_told<R: Read + Drop, P: Read + Drop, W: Write, O: Observer>(
+    alloc: Global,
+    formula: R,
+    mut proof: P,
+    limits: Limits,
+    answer: &mut W,
+    observer: &O,
+) -> Result<Told, RunFault>
+    ensures { CheckSays (limits_of limits) (R.remaining formula) (P.remaining proof) (W.contents answer.old) (W.contents answer.new) (checked_by result) }
+{
+    let formula = match read_from_within(alloc, formula, limits) {
+        Ok(formula) => formula,
+        Err(fault) => return Err(RunFault::of_read(fault)),
+    };
+    let judged = judge(alloc, formula, &mut proof, limits)?;
+    let line = match checked_line(alloc, judged.verdict) {
+        Ok(line) => line,
+        Err(_) => return Err(RunFault::NoMemory),
+    };
+    observer.answers();
+    write_text(answer, &line.text, RunFault::AnswerWriteFailed)?;
+    let checked = line.checked;
+    let why = why_refused(judged.verdict, judged.named);
+    Ok(Told { checked, why })
+}
+
+/// Checks a proof against the formula of a DIMACS text, by the checker of `lrat`: reads the
+/// formula, then the proof until there is one byte more than it may have, and writes and flushes one line,
+/// `accepted` or why it is refused. Each step is checked as its line ends, so it takes memory for
+/// the clauses that are there, and none for the text. `RunFault` says when each fault comes and
+/// what is written then.
+pub fn check_run_within<R: Read + Drop, P: Read + Drop, W: Write>(
+    alloc: Global,
+    formula: R,
+    proof: P,
+    limits: Limits,
+    answer: &mut W,
+) -> Result<Checked, RunFault>
+    ensures { CheckSays (limits_of limits) (R.remaining formula) (P.remaining proof) (W.contents answer.old) (W.contents answer.new) result }
+{
+    match check_told(alloc, formula, proof, limits, answer, &Unobserved) {
+        Ok(told) => Ok(told.checked),
+        Err(fault) => Err(fault),
+    }
+}
+
+/// `check_run_within` the standard limits: of the proof it reads 4,294,967,297 bytes at most.
+pub fn check_run<R: Read + Drop, P: Read + Drop, W: Write>(
+    alloc: Global,
+    formula: R,
+    proof: P,
+    answer: &mut W,
+) -> Result<Checked, RunFault>
+    ensures { CheckSays standard (R.remaining formula) (P.remaining proof) (W.contents answer.old) (W.contents answer.new) result }
+{
+    check_run_within(alloc, formula, proof, Limits::Standard, answer)
+}

@@ -1,0 +1,31 @@
+//! Runs of the solver and of the checker: from the bytes of a formula to the bytes of its proof and
+//! answer, and from those of a formula and a proof to the line on it.
+#![tactic(auto)]
+
+mod alone;
+mod answered;
+mod check;
+mod checked_line;
+mod fault;
+mod laws;
+mod limit;
+mod limited;
+mod output;
+mod proof_input;
+mod proof_output;
+mod threaded;
+mod verdict;
+
+pub use alone::{run_one, run_one_by_plan};
+pub use answered::{answer_by_plan, answer_within};
+pub use check::{Told, check_run, check_run_within, check_told};
+pub use checked_line::Checked;
+pub use fault::RunFault;
+pub use laws::runs_write_the_same;
+pub use limit::{Limit, TimeLimit};
+pub use limited::{
+    answer_limited, answer_limited_observed, answer_limited_within, run_limited,
+    run_limited_observed, run_limited_within,
+};
+pub use threaded::{run, run_by_plan, run_within};
+pub use verdict::Verdict;

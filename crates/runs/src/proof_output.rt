@@ -1,0 +1,76 @@
+//! The text of a proof, as it is written: line by line through one buffer.
+ghost use Rattle.std.specs.Prelude.{◌≡◌, ℕ, [], ◌++◌, take, IfOk, OnOk, MatchResult};
+ghost use Rattle.std.specs.Io.KnownBytes.{Appends};
+ghost use Rattle.theory.specs.Texts.{proof_text, step_text};
+ghost use Rattle.join.specs.Walking.{line_of, lines_left, IsBetweenLines, OnMore};
+ghost use Rattle.runs.specs.Written.{Puts};
+
+use crate::fault::RunFault;
+use crate::output::{write_bytes, write_text};
+use join::{Kind, Lines, ProofLine};
+use lrat::{write_clause, write_deletion};
+use std::alloc::{AllocError, Global};
+use std::io::Write;
+
+/// How many bytes are written at once, or a few more: whole lines.
+const ENOUGH: usize = 65_536;
+
+/// Room for lines on their way to a writer. No more is asked for while they are written.
+pub(crate) fn room(alloc: Global, lines: &Lines) -> Result<Vec<u8>, AllocError>
+    ensures { IfOk result (λ buffer. buffer.items ≡ []) }
+{
+    Vec::with_capacity(alloc, lines.line_size().saturating_add(ENOUGH))
+}
+
+/// Puts a line behind the buffer's text.
+fn put_text(line: &ProofLine, buffer: &mut Vec<u8>) -> Result<(), AllocError>
+    ensures { OnOk result (buffer.new.items ≡ buffer.old.items ++ step_text (line_of line.now)) }
+{
+    match line.kind {
+        Kind::Addition => write_clause(line.id, &line.clause, &line.numbers, buffer)?,
+        Kind::Deletion => write_deletion(line.id, &line.numbers, buffer)?,
+    }
+    Ok(())
+}
+
+/// Puts the next line into the buffer; it answers whether there was one more.
+fn put_line(lines: &mut Lines, buffer: &mut Vec<u8>) -> Result<bool, AllocError>
+    requires { IsBetweenLines lines.old }
+    ensures puts { IfOk result (λ more. Puts (lines_left lines.old) (lines_left lines.new) buffer.old.items buffer.new.items more) }
+    ensures lawful { IfOk result (λ more. OnMore (IsBetweenLines lines.new) more) }
+{
+    if !lines.next_line()? {
+        return Ok(false);
+    }
+    put_text(lines.line(), buffer)?;
+    Ok(true)
+}
+
+/// Writes the text of lines through a buffer, which is their `room`, and flushes the writer. A
+/// write or a flush fails as in `write_text`; then a beginning of the text is written. So it would
+/// be where there were no memory for a line.
+pub(crate) fn write_proof<W: Write>(
+    writer: &mut W,
+    lines: &mut Lines,
+    buffer: &mut Vec<u8>,
+) -> Result<(), RunFault>
+    requires buffer { buffer.old.items ≡ [] }
+    requires lines { IsBetweenLines lines.old }
+    ensures { MatchResult result (λ _. Appends (W.contents writer.old) (W.contents writer.new) (proof_text (lines_left lines.old)))
+        (λ e. (e ≡ RunFault.ProofWriteFailed) × (count : ℕ) × Appends (W.contents writer.old) (W.contents writer.new) (take count (proof_text (lines_left lines.old)))) }
+{
+    'lines: loop {
+        let Ok(more) = put_line(lines, buffer) else {
+            return Err(RunFault::ProofWriteFailed);
+        };
+        if !more {
+            return write_text(writer, buffer, RunFault::ProofWriteFailed);
+        }
+        if buffer.len() >= ENOUGH {
+            let Ok(()) = write_bytes(writer, buffer, RunFault::ProofWriteFailed) else {
+                return Err(RunFault::ProofWriteFailed);
+            };
+            buffer.clear();
+        }
+    }
+}

@@ -1,0 +1,141 @@
+//! A run by several hands.
+ghost use Rattle.std.specs.Prelude.{◌≤◌, IfOk};
+ghost use Rattle.theory.specs.Reading.{standard};
+ghost use Rattle.theory.specs.Plans.{ordered, ordered_within};
+ghost use Rattle.cnf.specs.Limits.{limits_of};
+ghost use Rattle.runs.specs.Answer.{IsRightAnswer};
+ghost use Rattle.runs.specs.Run.{RunSays};
+
+use crate::alone::output_of;
+use crate::fault::RunFault;
+use crate::output::write_text;
+use crate::proof_output::write_proof;
+use crate::verdict::Verdict;
+use cdcl::Plan;
+use cnf::{Limits, read_from_within};
+use cubes::{Gate, solve_by_plan};
+use statistics::{Observer, Unobserved};
+use std::alloc::Global;
+use std::io::{Read, Write};
+use std::sync::Wait;
+use std::thread::Threads;
+use std::time::Clock;
+
+/// The stages of `run_by_plan`, each of which an observer is told of as it ends.
+pub(crate) fn run_observed<
+    T: Threads + Wait + Clock + Sync,
+    R: Read + Drop,
+    W: Write,
+    P: Write,
+    G: Gate + Sync,
+    O: Observer,
+>(
+    rt: &T,
+    alloc: Global,
+    input: R,
+    limits: Limits,
+    answer: &mut W,
+    proof: &mut P,
+    plan: Plan,
+    hands: usize,
+    gate: &G,
+    observer: &O,
+) -> Result<Verdict, RunFault>
+    requires hands { (1 ≤ hands) × (hands ≤ 16) }
+    ensures says { RunSays (limits_of limits) (R.remaining input) plan (P.contents proof.old) (P.contents proof.new) (W.contents answer.old) (W.contents answer.new) result }
+    ensures answer_is_right { IfOk result (IsRightAnswer (limits_of limits) plan.search (R.remaining input) (P.contents proof.old) (P.contents proof.new) (W.contents answer.old) (W.contents answer.new)) }
+{
+    let formula = match read_from_within(alloc, input, limits) {
+        Ok(formula) => formula,
+        Err(fault) => return Err(RunFault::of_read(fault)),
+    };
+    observer.read(&formula);
+    let Ok(tree) = solve_by_plan(rt, alloc, &formula, plan, hands, gate) else {
+        return Err(RunFault::NoMemory);
+    };
+    observer.solved(&tree);
+    let mut output = match output_of(alloc, &formula, limits, plan, tree) {
+        Ok(output) => output,
+        Err(_) => return Err(RunFault::NoMemory),
+    };
+    observer.joined();
+    write_proof(proof, &mut output.lines, &mut output.buffer)?;
+    observer.written();
+    observer.answers();
+    write_text(answer, &output.answer, RunFault::AnswerWriteFailed)?;
+    Ok(output.verdict)
+}
+
+/// What `run_one_by_plan` does within these limits, by 1 to 16 hands, each in a thread of its own where one can be
+/// started. Whatever the hands, the gate and the schedule, the same bytes are written.
+pub fn run_within<
+    T: Threads + Wait + Clock + Sync,
+    R: Read + Drop,
+    W: Write,
+    P: Write,
+    G: Gate + Sync,
+>(
+    rt: &T,
+    alloc: Global,
+    input: R,
+    limits: Limits,
+    answer: &mut W,
+    proof: &mut P,
+    plan: Plan,
+    hands: usize,
+    gate: &G,
+) -> Result<Verdict, RunFault>
+    requires hands { (1 ≤ hands) × (hands ≤ 16) }
+    ensures says { RunSays (limits_of limits) (R.remaining input) plan (P.contents proof.old) (P.contents proof.new) (W.contents answer.old) (W.contents answer.new) result }
+    ensures answer_is_right { IfOk result (IsRightAnswer (limits_of limits) plan.search (R.remaining input) (P.contents proof.old) (P.contents proof.new) (W.contents answer.old) (W.contents answer.new)) }
+{
+    let observer = Unobserved;
+    run_observed(
+        rt, alloc, input, limits, answer, proof, plan, hands, gate, &observer,
+    )
+}
+
+/// `run_within` the standard limits.
+pub fn run_by_plan<
+    T: Threads + Wait + Clock + Sync,
+    R: Read + Drop,
+    W: Write,
+    P: Write,
+    G: Gate + Sync,
+>(
+    rt: &T,
+    alloc: Global,
+    input: R,
+    answer: &mut W,
+    proof: &mut P,
+    plan: Plan,
+    hands: usize,
+    gate: &G,
+) -> Result<Verdict, RunFault>
+    requires hands { (1 ≤ hands) × (hands ≤ 16) }
+    ensures says { RunSays standard (R.remaining input) plan (P.contents proof.old) (P.contents proof.new) (W.contents answer.old) (W.contents answer.new) result }
+    ensures answer_is_right { IfOk result (IsRightAnswer standard plan.search (R.remaining input) (P.contents proof.old) (P.contents proof.new) (W.contents answer.old) (W.contents answer.new)) }
+{
+    let limits = Limits::Standard;
+    run_within(rt, alloc, input, limits, answer, proof, plan, hands, gate)
+}
+
+/// `run_by_plan` by the ordered search, with a budget of 1 to 100,000 conflicts for the root.
+pub fn run<T: Threads + Wait + Clock + Sync, R: Read + Drop, W: Write, P: Write, G: Gate + Sync>(
+    rt: &T,
+    alloc: Global,
+    input: R,
+    answer: &mut W,
+    proof: &mut P,
+    budget: u32,
+    hands: usize,
+    gate: &G,
+) -> Result<Verdict, RunFault>
+    requires budget { (1 ≤ budget) × (budget ≤ 100000) }
+    requires hands { (1 ≤ hands) × (hands ≤ 16) }
+    ensures says { RunSays standard (R.remaining input) (ordered_within budget) (P.contents proof.old) (P.contents proof.new) (W.contents answer.old) (W.contents answer.new) result }
+    ensures answer_is_right { IfOk result (IsRightAnswer standard ordered (R.remaining input) (P.contents proof.old) (P.contents proof.new) (W.contents answer.old) (W.contents answer.new)) }
+{
+    let plan = Plan::ordered(budget);
+    run_by_plan(rt, alloc, input, answer, proof, plan, hands, gate)
+}

@@ -1,0 +1,147 @@
+//! Worked rows of checking: the line written for the bytes of a formula and a proof.
+use cnf::{Place, ReadFault};
+use runs::{Checked, RunFault, check_run};
+use samples::faulty::Trickle;
+use samples::strings::{FOUR, FOUR_PROOF, WIDE, WIDE_PROOF};
+use std::alloc::Global;
+use std::process::Abort;
+use std::test::Fail;
+
+const ACCEPTED: &str = "accepted\n";
+
+/// How many bytes of a proof its reader gives a call: so that words and lines are cut everywhere,
+/// and all at once.
+static PIECES: [usize; 5] = [1, 2, 3, 7, 1000];
+
+/// A formula, a proof and its line.
+type Row = (&'static str, &'static str, &'static str);
+
+/// Whether the proof has its line, and the verdict that it says, where it comes in pieces of so
+/// many bytes.
+fn has_line(alloc: Global, row: &Row, count: usize) -> Result<bool, Fail> {
+    let (formula, proof, line) = *row;
+    let mut answer = Vec::new(alloc);
+    let reader = Trickle::pieces(proof.as_bytes(), count);
+    let checked = check_run(alloc, formula.as_bytes(), reader, &mut answer)?;
+    let is_accepted = checked == Checked::Accepted;
+    Ok(answer.as_slice() == line.as_bytes() && is_accepted == (line == ACCEPTED))
+}
+
+/// Checks a row's proof in whatever pieces it comes.
+fn check_row(rt: &impl Abort, alloc: Global, row: &Row) -> Result<(), Fail> {
+    for count in &PIECES {
+        assert!(rt; has_line(alloc, row, *count)?, "{} by {count}", row.1);
+    }
+    Ok(())
+}
+
+fn check_rows(rt: &impl Abort, alloc: Global, rows: &[Row]) -> Result<(), Fail> {
+    for row in rows {
+        check_row(rt, alloc, row)?;
+    }
+    Ok(())
+}
+
+static ACCEPTED_PROOFS: [Row; 9] = [
+    ("p cnf 0 1\n0\n", "2 0 1 0\n", ACCEPTED),
+    ("p cnf 1 2\n1 0\n-1 0\n", "3 0 1 2 0\n", ACCEPTED),
+    (FOUR, FOUR_PROOF, ACCEPTED),
+    (FOUR, "5 1 0 1 2 0\n6 0 5 3 4 0\n", ACCEPTED),
+    // two candidates, in either order
+    (FOUR, "5 1 0 -3 1 -4 2 0\n6 0 5 3 4 0\n", ACCEPTED),
+    (FOUR, "5 1 0 -4 2 -3 1 0\n6 0 5 3 4 0\n", ACCEPTED),
+    (FOUR, "5 1 0 1 2 0\n5 d 1 2 0\n6 0 5 3 4 0\n", ACCEPTED),
+    // a closed candidate, named and left out
+    (WIDE, WIDE_PROOF, ACCEPTED),
+    (
+        WIDE,
+        "5 3 1 0 0\n6 -3 -1 0 0\n7 1 0 1 2 0\n8 0 7 3 4 0\n",
+        ACCEPTED,
+    ),
+];
+
+#[test]
+fn proofs_that_are_accepted(rt: HostRuntime) -> Result<(), Fail> {
+    check_rows(&rt, rt.alloc(), &ACCEPTED_PROOFS)
+}
+
+static REFUSED_STEPS: [Row; 17] = [
+    (FOUR, "4 1 0 1 2 0\n", "refused 21 step 1\n"),
+    (FOUR, "5 3 0 0\n", "refused 31 step 1\n"),
+    (FOUR, "5 2147483647 0 0\n", "refused 31 step 1\n"),
+    (FOUR, "5 1 -1 0 0\n", "refused 22 step 1\n"),
+    (FOUR, "5 1 0 9 0\n", "refused 23 step 1\n"),
+    // clause 1 is satisfied
+    (FOUR, "5 1 0 1 2 0\n6 0 5 1 3 4 0\n", "refused 24 step 2\n"),
+    // two open literals
+    (FOUR, "5 0 1 0\n", "refused 24 step 1\n"),
+    (FOUR, "5 1 0 2 1 0\n6 0 5 3 4 4 0\n", "refused 25 step 2\n"),
+    (FOUR, "5 0 0\n", "refused 26 step 1\n"),
+    (FOUR, "5 1 0 -3 -4 2 0\n", "refused 26 step 1\n"),
+    // clause 4 is missing
+    (FOUR, "5 1 0 1 0\n", "refused 27 step 1\n"),
+    (FOUR, "5 1 0 -3 1 -3 1 -4 2 0\n", "refused 28 step 1\n"),
+    // clause 1 lacks the negated pivot
+    (FOUR, "5 1 0 1 -1 0\n", "refused 28 step 1\n"),
+    (FOUR, "5 1 0 1 2 0\n5 d 1 1 0\n", "refused 29 step 2\n"),
+    (
+        FOUR,
+        "5 1 0 1 2 0\n5 d 1 0\n6 0 5 3 1 0\n",
+        "refused 23 step 3\n",
+    ),
+    (FOUR, "5 1 0 1 2 0\n", "refused 30\n"),
+    (FOUR, "", "refused 30\n"),
+];
+
+#[test]
+fn steps_that_are_refused(rt: HostRuntime) -> Result<(), Fail> {
+    check_rows(&rt, rt.alloc(), &REFUSED_STEPS)
+}
+
+static REFUSED_CANDIDATES: [Row; 2] = [
+    (
+        WIDE,
+        "5 3 1 0 0\n6 -3 0 0\n7 1 0 1 2 0\n8 0 7 3 4 0\n",
+        "refused 27 step 2\n",
+    ),
+    // a closed candidate with a hint
+    (
+        WIDE,
+        "5 3 1 0 0\n6 -3 -1 0 -5 1 0\n7 1 0 1 2 0\n8 0 7 3 4 0\n",
+        "refused 28 step 2\n",
+    ),
+];
+
+#[test]
+fn candidates_that_are_refused(rt: HostRuntime) -> Result<(), Fail> {
+    check_rows(&rt, rt.alloc(), &REFUSED_CANDIDATES)
+}
+
+static REFUSED_TEXTS: [Row; 8] = [
+    (FOUR, "5 1 0 1 2 0", "refused 42 line 1\n"),
+    (FOUR, "5 1 0 1 2\n", "refused 43 line 1\n"),
+    (FOUR, "\n", "refused 43 line 1\n"),
+    (FOUR, "5 01 0 0\n", "refused 41 line 1\n"),
+    (FOUR, "5 1 0 1 2 0\n-6 0 0\n", "refused 43 line 2\n"),
+    (FOUR, "5 2147483648 0 0\n", "refused 41 line 1\n"),
+    (FOUR, "5 1 0 1 2 0 7\n", "refused 43 line 1\n"),
+    (FOUR, "5 1 0 -3 -0 0\n", "refused 41 line 1\n"),
+];
+
+#[test]
+fn texts_that_are_refused(rt: HostRuntime) -> Result<(), Fail> {
+    check_rows(&rt, rt.alloc(), &REFUSED_TEXTS)
+}
+
+#[test]
+fn a_formula_that_is_refused(rt: HostRuntime) {
+    let mut answer = Vec::new(rt.alloc());
+    let formula = "p cnf 2 1\n1 3 0\n".as_bytes();
+    let result = check_run(rt.alloc(), formula, WIDE_PROOF.as_bytes(), &mut answer);
+    let place = Place { line: 2, column: 3 };
+    assert_eq!(rt;
+        result,
+        Err(RunFault::Read(ReadFault::VariableOutOfRange(place)))
+    );
+    assert!(rt; answer.is_empty());
+}

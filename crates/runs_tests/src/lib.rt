@@ -1,0 +1,32 @@
+//! Worked rows: the bytes of the proof and the answer for the bytes of a formula, by both searches,
+//! and the line for those of a proof; what failing readers and writers leave; two hands at a gate;
+//! proofs of many steps, and those with one byte changed; examples from end to end; and runs that
+//! end where a limit is reached.
+#![tactic(auto)]
+
+#[cfg(test)]
+mod check;
+#[cfg(test)]
+mod check_faults;
+#[cfg(test)]
+mod divided;
+#[cfg(test)]
+mod examples;
+#[cfg(test)]
+mod faults;
+#[cfg(test)]
+mod focused;
+#[cfg(test)]
+mod gates;
+#[cfg(test)]
+mod large;
+#[cfg(test)]
+mod limited_runs;
+#[cfg(test)]
+mod long_proofs;
+#[cfg(test)]
+mod one_byte;
+#[cfg(test)]
+mod other_solvers;
+#[cfg(test)]
+mod rows;
