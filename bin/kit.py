@@ -15,7 +15,7 @@ def load():
     """The command `rt` as a module. It loads the kit's library, which knows the crates and the prover's words."""
     found = shutil.which("rt")
     if not found:
-        sys.exit("there is no rt on the PATH")
+        sys.exit("there is no rt on the PATH: README.md says where it comes from")
     loader = importlib.machinery.SourceFileLoader("rt", os.path.realpath(found))
     made = importlib.util.module_from_spec(importlib.util.spec_from_loader("rt", loader))
     loader.exec_module(made)
