@@ -20,7 +20,7 @@ pub struct Counts {
     /// Cubes that were looked at.
     pub looks: u64,
     /// Failed literals: decisions of looks whose propagation met a conflict.
-    pub failed: u64,
+    pub failed_literals: u64,
 }
 
 impl Counts {
@@ -34,7 +34,7 @@ impl Counts {
             learnt: 0,
             forgotten: 0,
             looks: 0,
-            failed: 0,
+            failed_literals: 0,
         }
     }
 
@@ -48,7 +48,7 @@ impl Counts {
             learnt: kernel.learnt,
             forgotten: kernel.forgotten,
             looks: 0,
-            failed: 0,
+            failed_literals: 0,
         }
     }
 
@@ -62,7 +62,7 @@ impl Counts {
             learnt: self.learnt.saturating_add(other.learnt),
             forgotten: self.forgotten.saturating_add(other.forgotten),
             looks: self.looks.saturating_add(other.looks),
-            failed: self.failed.saturating_add(other.failed),
+            failed_literals: self.failed_literals.saturating_add(other.failed_literals),
         }
     }
 }

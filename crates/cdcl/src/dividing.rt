@@ -190,8 +190,9 @@ impl DividingSearch {
         }
     }
 
-    /// What the first search has come to, where so many conflicts were met before it.
-    fn found(&self, first: &First, before: u64) -> FirstSearch {
+    /// What a watcher is told of the first search, which has come to this, where so many conflicts
+    /// were met before it.
+    fn figures_of_first(&self, first: &First, before: u64) -> FirstSearch {
         let answer = match first {
             First::Ended(_) => FirstAnswer::Ended,
             First::FewDecisions => FirstAnswer::Divided(self.divide),
@@ -214,7 +215,7 @@ impl DividingSearch {
     {
         let before = self.search.counts().conflicts;
         let first = self.search.first(self.asked, watcher)?;
-        watcher.asked(self.found(&first, before));
+        watcher.asked(self.figures_of_first(&first, before));
         self.division = self.search.division_by(&first)?;
         Ok(first)
     }

@@ -16,6 +16,8 @@ pub enum FirstAnswer {
 pub struct FirstSearch {
     /// Literals that were decided, also those that were taken back.
     pub decisions: u64,
+    /// Conflicts that were met. Where the search was asked, that was at the last of them.
     pub conflicts: u64,
+    /// Whether the formula is divided, if the search was asked.
     pub answer: FirstAnswer,
 }

@@ -10,8 +10,8 @@ use std::marker::Model;
 pub(crate) struct Tally {
     /// Cubes that were looked at.
     looks: u64,
-    /// Decisions of looks that met a conflict.
-    failed: u64,
+    /// Failed literals: decisions of looks whose propagation met a conflict.
+    failed_literals: u64,
     /// How often a search went on from a conflict at which it had stopped, and met it again.
     resumed: u64,
 }
@@ -27,7 +27,7 @@ impl Tally {
     pub(crate) fn none() -> Tally {
         Tally {
             looks: 0,
-            failed: 0,
+            failed_literals: 0,
             resumed: 0,
         }
     }
@@ -37,7 +37,7 @@ impl Tally {
     pub(crate) fn add_look(&mut self, outcome: &Outcome<Row>, conflicts: u64) {
         self.looks = self.looks.saturating_add(1);
         if let Outcome::Exhausted(_) = outcome {
-            self.failed = self.failed.saturating_add(conflicts);
+            self.failed_literals = self.failed_literals.saturating_add(conflicts);
         }
     }
 
@@ -52,7 +52,7 @@ impl Tally {
         Counts {
             conflicts: done.conflicts.saturating_sub(self.resumed),
             looks: self.looks,
-            failed: self.failed,
+            failed_literals: self.failed_literals,
             ..done
         }
     }

@@ -123,7 +123,7 @@ fn numbers_of(counts: Counts) -> Done {
         counts.propagations,
         counts.learnt,
         counts.looks,
-        counts.failed,
+        counts.failed_literals,
     ]
 }
 

@@ -190,7 +190,7 @@ fn shows_done(alloc: Global, cubes: u32, refuted: &[usize], wanted: &str) -> Res
         conflicts: 20_000,
         answer: FirstAnswer::Divided(cubes),
     };
-    figures.division.ask(first, 0);
+    figures.division.set_first(first, 0);
     for literals in refuted {
         figures.division.close(*literals);
     }

@@ -50,7 +50,7 @@ fn some_counts() -> SearchCounts {
                 learnt,
                 forgotten: 20_000,
                 looks: 10,
-                failed: 2,
+                failed_literals: 2,
             },
         );
     }

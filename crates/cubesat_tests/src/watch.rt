@@ -21,7 +21,7 @@ fn counts_of(conflicts: u64) -> Counts {
         learnt: 2,
         forgotten: 0,
         looks: 0,
-        failed: 0,
+        failed_literals: 0,
     }
 }
 

@@ -1,4 +1,5 @@
 //! How far a formula that was divided by lookahead is.
+ghost use Rattle.std.specs.Prelude.{◌≤◌, IfSome};
 
 use cdcl::{FirstAnswer, FirstSearch};
 use std::fmt;
@@ -10,17 +11,22 @@ const PARTS: u32 = 62;
 /// What the first search answered, which part of the tree is refuted, and how long the looks took.
 #[derive(Clone, Copy)]
 pub struct DivisionCounts {
+    /// The first search, once it was asked or has ended.
     first: Option<FirstSearch>,
     /// How many parts of 2^62 are refuted.
     closed: u64,
-    /// When the look at the cube without literals began, in milliseconds since the run did.
-    look: Option<u64>,
+    /// When the look at the cube without literals began, in milliseconds since the run did, while it
+    /// goes on.
+    look_began: Option<u64>,
     /// The milliseconds of all looks, by all hands together.
-    looking: u64,
+    look_time: u64,
 }
 
-/// The least depth at which there are as many cubes as are wanted.
-fn depth_of(cubes: u32) -> u32 {
+/// The least depth at which there are as many cubes as are wanted; 17 where that is more than
+/// 65,536.
+fn depth_of(cubes: u32) -> u32
+    ensures { result ≤ 17 }
+{
     for depth in 0..17u32 {
         if 1u32 << depth >= cubes {
             return depth;
@@ -35,23 +41,23 @@ impl DivisionCounts {
         DivisionCounts {
             first: None,
             closed: 0,
-            look: None,
-            looking: 0,
+            look_began: None,
+            look_time: 0,
         }
     }
 
-    /// The first search was asked, so many milliseconds after the run began. Where the formula is
-    /// divided, a look at the cube without literals begins.
-    pub fn ask(&mut self, first: FirstSearch, now: u64) {
+    /// The first search was asked or ended before, so many milliseconds after the run began. Where
+    /// the formula is divided, a look at the cube without literals begins.
+    pub fn set_first(&mut self, first: FirstSearch, now: u64) {
         self.first = Some(first);
         if let FirstAnswer::Divided(_) = first.answer {
-            self.look = Some(now);
+            self.look_began = Some(now);
         }
     }
 
     /// What was done before the hands began has ended.
     pub(crate) fn end_preparing(&mut self, now: u64) {
-        if let Some(began) = self.look.take() {
+        if let Some(began) = self.look_began.take() {
             self.add_look(began, now);
         }
     }
@@ -59,10 +65,11 @@ impl DivisionCounts {
     /// A look has taken from this time to that.
     pub fn add_look(&mut self, began: u64, now: u64) {
         let time = now.saturating_sub(began);
-        self.looking = self.looking.saturating_add(time);
+        self.look_time = self.look_time.saturating_add(time);
     }
 
-    /// A cube of so many literals is refuted.
+    /// A cube of so many literals is refuted. One of more than 62 is less than a part, and isn't
+    /// counted.
     pub fn close(&mut self, literals: usize) {
         if literals <= PARTS as usize {
             let part = 1u64 << (PARTS - literals as u32);
@@ -76,16 +83,18 @@ impl DivisionCounts {
 
     /// Whether the look at the cube without literals goes on.
     pub(crate) fn is_looking(&self) -> bool {
-        self.look.is_some()
+        self.look_began.is_some()
     }
 
     /// The milliseconds of all looks.
-    pub(crate) fn looking(&self) -> u64 {
-        self.looking
+    pub(crate) fn look_time(&self) -> u64 {
+        self.look_time
     }
 
     /// The depth at which the formula's cubes are searched, where it is divided.
-    pub(crate) fn depth(&self) -> Option<u32> {
+    pub(crate) fn depth(&self) -> Option<u32>
+        ensures { IfSome result (λ depth. depth ≤ 17) }
+    {
         match self.first?.answer {
             FirstAnswer::Divided(cubes) => Some(depth_of(cubes)),
             _ => None,
@@ -104,7 +113,7 @@ impl DivisionCounts {
     /// How many cubes the formula is divided into, how many of them are done with, and which part
     /// that is in hundredths, where it is divided.
     pub(crate) fn done(&self) -> Option<Done> {
-        let depth = self.depth()?.min(17);
+        let depth = self.depth()?;
         Some(Done {
             wanted: 1u64 << depth,
             done: self.closed >> (PARTS - depth),

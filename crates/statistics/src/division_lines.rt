@@ -38,12 +38,13 @@ fn solved_of(figures: &Figures) -> u64 {
     }
 }
 
-/// Prints how many cubes were looked at and searched, and what the looks met and took.
+/// Prints how many cubes were looked at, how many literals failed there and how long that took, and
+/// how many cubes were searched: each one that was solved and not looked at.
 fn print_looks<E: Write>(out: &mut E, figures: &Figures) {
     let counts = figures.counts.sum();
-    let (looks, failed) = (counts.looks, counts.failed);
+    let (looks, failed) = (counts.looks, counts.failed_literals);
     let searched = solved_of(figures).saturating_sub(looks);
-    let time = figures.division.looking();
+    let time = figures.division.look_time();
     let (seconds, milliseconds) = (time / 1000, time % 1000);
     let _ = writeln!(
         out,
@@ -51,7 +52,8 @@ fn print_looks<E: Write>(out: &mut E, figures: &Figures) {
     );
 }
 
-/// Prints what the first search answered, if it was asked, and what the division came to.
+/// Prints whether the formula is divided and by which figures of the first search, and of a divided
+/// one what came of that; nothing where there was no first search.
 pub(crate) fn print_division<E: Write>(out: &mut E, figures: &Figures) {
     let Some(first) = figures.division.first() else {
         return;

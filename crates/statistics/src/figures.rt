@@ -15,10 +15,12 @@ use std::fmt::{Display, Formatter};
 pub struct FormulaSize {
     pub(crate) vars: u32,
     pub(crate) clauses: usize,
+    /// The literals of all clauses, each as often as it stands there.
     pub(crate) literals: usize,
 }
 
 impl FormulaSize {
+    /// The size of this formula. It takes no longer for a large one.
     pub fn of(formula: &Formula) -> FormulaSize {
         FormulaSize {
             vars: formula.vars(),
@@ -79,9 +81,13 @@ pub struct StageEnd {
 /// What a run is at.
 #[derive(Clone, Copy, Debug, PartialEq, Eq)]
 pub enum Stage {
+    /// The formula is read.
     Reading,
+    /// It is solved, or decided where no proof is written.
     Solving,
+    /// The answer is made, and all that the proof's lines are made of.
     Joining,
+    /// The proof is written, and then the answer.
     Writing,
     /// `check` reads the formula, and then the proof.
     Checking,
@@ -90,6 +96,7 @@ pub enum Stage {
 /// All that is counted in a run; none of what it didn't come to.
 #[derive(Clone, Copy)]
 pub struct Figures {
+    /// What it is at.
     pub(crate) stage: Stage,
     /// By which search the formula is solved.
     pub search: Search,
@@ -97,26 +104,37 @@ pub struct Figures {
     pub(crate) is_ended: bool,
     /// Whether a line of progress stands on the terminal.
     pub(crate) is_drawn: bool,
+    /// The formula's size, once it is read.
     pub(crate) formula: Option<FormulaSize>,
-    /// How many hands solve it.
+    /// How many hands solve it, 1 to 16.
     pub hands: usize,
+    /// Which cubes hands have begun and solved.
     pub cubes: CubeCounts,
+    /// What is known of the formula's division.
     pub division: DivisionCounts,
+    /// When hands began and ended cubes.
     pub times: HandTimes,
     /// What the hands' solvers have done.
     pub counts: SearchCounts,
+    /// The size of the tree, once the formula is solved with a proof and has no model.
     pub(crate) tree: Option<TreeSize>,
     /// The formula's text, as far as `check` has read it.
     pub(crate) text: TextSize,
+    /// The proof's text, as far as it is written, or as `check` has read it.
     pub(crate) proof: TextSize,
     /// Whether it is known that no proof is written.
     pub(crate) has_no_proof: bool,
     /// How many bytes the proof that is checked has, if that is known.
     pub whole: Option<u64>,
+    /// How reading ended.
     pub(crate) read: Option<StageEnd>,
+    /// How solving ended, or deciding where no proof is written.
     pub(crate) solved: Option<StageEnd>,
+    /// How joining ended.
     pub(crate) joined: Option<StageEnd>,
+    /// How writing the proof ended.
     pub(crate) written: Option<StageEnd>,
+    /// How the check ended.
     pub(crate) checked: Option<StageEnd>,
 }
 
@@ -153,11 +171,13 @@ impl Figures {
         self.hands >= 2 || self.division.depth().is_some()
     }
 
+    /// A hand begins a cube of so many literals, the last one with this sign.
     pub(crate) fn begin_cube(&mut self, hand: usize, depth: usize, last: Option<bool>, now: u64) {
         self.cubes.begin(hand, depth, last);
         self.times.begin(hand, now);
     }
 
+    /// A hand is done with a cube of so many literals.
     pub(crate) fn end_cube(&mut self, hand: usize, depth: usize, now: u64) {
         self.cubes.end(hand, depth);
         self.times.end(hand, now);
@@ -167,8 +187,8 @@ impl Figures {
     }
 
     /// The first search was asked whether the formula is divided, or ended before.
-    pub(crate) fn ask(&mut self, first: FirstSearch, now: u64) {
-        self.division.ask(first, now);
+    pub(crate) fn set_first(&mut self, first: FirstSearch, now: u64) {
+        self.division.set_first(first, now);
     }
 
     /// A cube of so many literals is refuted.

@@ -119,7 +119,7 @@ impl<R: Wait + Clock> Gate for Watch<'_, R> {
 
     fn asked(&self, first: FirstSearch) {
         let now = self.answer_time(first);
-        self.board.figures().lock(self.rt).ask(first, now);
+        self.board.figures().lock(self.rt).set_first(first, now);
     }
 
     fn refuted(&self, _hand: usize, cube: &Cube) {
