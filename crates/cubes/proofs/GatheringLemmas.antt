@@ -10,7 +10,7 @@ use Rattle.theory.specs.Trees as trees
 use Rattle.theory.specs.Trees.{here}
 use Rattle.theory.specs.Results.{Solved, What, done, skipped}
 use Rattle.theory.specs.Checked.{IsCheckedOutcome, IsCheckedOf, found_here}
-use Rattle.theory.proofs.trees.ResultLemmas.{IsResult-says, IsCheckedResult-says}
+use Rattle.theory.proofs.trees.ResultLemmas.{IsCheckedResult-IsResult, IsCheckedResult-says}
 use Rattle.cdcl.specs.Outcome.{outcome_by}
 use Rattle.cdcl.specs.declared.outcome.Outcome.{Outcome}
 use Rattle.cdcl.specs.declared.outcome.Outcome.TheVariants as outcome
@@ -142,14 +142,18 @@ fewer {L} lines n g h (outcome.Model values) short goes = absurd (let e : ◌≡
 fewer lines n g h (outcome.Exhausted x) short goes = rw goes.1.walk (to_come-enter n x g.at.walk short)
 fewer lines n g h (outcome.Refuted kept) short goes = to_come-behind n tt g.at.walk h.at.walk (omega arith) goes.0.0
 
--- what a result says of a formula
-pub says : {L : Type 0} (lines : L → List Line) (F : Formula) (plan : Plan) (t : Tree L) → IsFormula F → IsResultBy lines F plan t → Says plan.search F t
-says lines F plan (tree.Model values) formed result = IsResult-says F plan (trees.model_of values.items) formed result
-says lines F plan (tree.Refuted nodes) formed result = IsResult-says F plan (trees.tree_of result.0) formed result.1
+-- a formula's result is a checked one
+pub IsCheckedResultBy-IsResultBy : {L : Type 0} (lines : L → List Line) (F : Formula) (plan : Plan) (t : Tree L) → IsFormula F → IsResultBy lines F plan t → IsCheckedResultBy lines plan.search F t
+IsCheckedResultBy-IsResultBy lines F plan (tree.Model values) formed result = IsCheckedResult-IsResult F plan (trees.model_of values.items) formed result
+IsCheckedResultBy-IsResultBy lines F plan (tree.Refuted nodes) formed result = (result.0, IsCheckedResult-IsResult F plan (trees.tree_of result.0) formed result.1, result.2)
 
+-- what a result says of a formula
 pub says-checked : {L : Type 0} (lines : L → List Line) (F : Formula) (by : Search) (t : Tree L) → IsFormula F → IsCheckedResultBy lines by F t → Says by F t
 says-checked lines F by (tree.Model values) formed result = IsCheckedResult-says by F (trees.model_of values.items) formed result
 says-checked lines F by (tree.Refuted nodes) formed result = IsCheckedResult-says by F (trees.tree_of result.0) formed result.1
+
+pub says : {L : Type 0} (lines : L → List Line) (F : Formula) (plan : Plan) (t : Tree L) → IsFormula F → IsResultBy lines F plan t → Says plan.search F t
+says lines F plan t formed result = says-checked lines F plan.search t formed (IsCheckedResultBy-IsResultBy lines F plan t formed result)
 
 -- the same tree is the same result
 pub IsResultOf-same : (F : Formula) (plan : Plan) (t u : LinesTree) → IsSameTree t u → IsResultOf F plan t → IsResultOf F plan u

@@ -4,8 +4,8 @@ use Rattle.std.proofs.Common.{◌≡◌, ℕ, ◌+◌, ◌-◌, ◌≤◌, List,
 use Rattle.std.proofs.lemmas.List.Elements.{All-nil}
 use Rattle.std.specs.Vec.Iter.{into_iter_items}
 use Rattle.theory.specs.Literals.{Literal}
-use Rattle.theory.specs.Truth.{Formula, IsFormula}
-use Rattle.theory.specs.Plans.{Plan}
+use Rattle.theory.specs.Truth.{Formula}
+use Rattle.theory.specs.Plans.{Search}
 use Rattle.theory.specs.Pure.{pure_literals}
 use Rattle.theory.specs.Reading.{large, IsWithinLimits, max_vars, max_clauses}
 use Rattle.theory.specs.Search.{first_clauses}
@@ -15,11 +15,11 @@ use Rattle.theory.specs.Steps.{Step}
 use Rattle.theory.specs.Proofs.{unit_steps, proof}
 use Rattle.theory.specs.ProofReading.{IsStep}
 use Rattle.theory.specs.Checking.{checks}
-use Rattle.theory.proofs.checker.AcceptedProofs.{checks-proof}
+use Rattle.theory.proofs.checker.AcceptedProofs.{checks-checked}
 use Rattle.theory.proofs.searching.PureVariables.{length-first_clauses, length-pure_literals}
 use Rattle.cubes.specs.declared.tree.Node.{Node}
 use Rattle.cubes.specs.declared.tree.Tree.TheVariants.{Model, Refuted}
-use Rattle.cubes.specs.Result.{LinesTree, node_of, IsResultOf}
+use Rattle.cubes.specs.Result.{LinesTree, node_of, IsCheckedResultOf}
 use Rattle.join.specs.declared.line.Due.TheVariants.{Nothing}
 use Rattle.join.specs.Joining.{Joined, lines_below, lines_from}
 use Rattle.join.specs.declared.proof_lines.Lines.{Lines}
@@ -41,11 +41,11 @@ first-count : (F : Formula) (units : List Literal) (C N : ℕ) → C ≡ length 
 first-count F units C N clauses count are = let all = ap (λ (ls : List Literal). length ls) are in let first = length-first_clauses F in omega arith
 
 -- the nodes of a formula's result are within their limits
-result-nodes : (F : Formula) (plan : Plan) (C N : ℕ) (tree : LinesTree) (units : List Literal) (nodes : List (Node (List Line))) → IsWithinLimits large F → C ≡ length F.clauses → N ≡ C + length units → AreUnitsOf F tree units → IsResultOf F plan tree → AreNodesOf tree nodes
+result-nodes : (F : Formula) (search : Search) (C N : ℕ) (tree : LinesTree) (units : List Literal) (nodes : List (Node (List Line))) → IsWithinLimits large F → C ≡ length F.clauses → N ≡ C + length units → AreUnitsOf F tree units → IsCheckedResultOf search F tree → AreNodesOf tree nodes
     → AreNodes N (map node_of nodes)
-result-nodes F plan C N (Model values) units nodes within clauses count are r same = rw same tt
-result-nodes F plan C N (Refuted ns) units nodes within clauses count are r same =
-    rw (same, first-count F units C N clauses count are, r.2) (tree-nodes F plan [] r.0 within refl (λ l a. absurd (cc)) r.1.0)
+result-nodes F search C N (Model values) units nodes within clauses count are r same = rw same tt
+result-nodes F search C N (Refuted ns) units nodes within clauses count are r same =
+    rw (same, first-count F units C N clauses count are, r.2) (tree-nodes F [] r.0 within r.1.0)
 
 -- the lines from the first one on are the tree's proof
 whole-proof : (F : Formula) (N : ℕ) (t : trees.Tree) (units : List Literal) (nodes : List (Node (List Line))) → units ≡ pure_literals F → N ≡ length (first_clauses F) → trees.first_model t ≡ None → trees.nodes_of t ≡ map node_of nodes
@@ -68,16 +68,16 @@ begun-steps l F N (Refuted ns) units nodes unit here due begun count are same = 
     (whole-proof F N t units nodes are (first-count F units (length F.clauses) N refl count are) none (of_tree ∙ ap (map node_of) (sym same)))
 
 -- the checker accepts the steps of a result that is no model
-pub accepted-steps : (F : Formula) (plan : Plan) (tree : LinesTree) (steps : List Step) → IsFormula F → IsResultOf F plan tree → AreStepsOf F tree steps → AreAccepted F tree steps
-accepted-steps F plan (Model values) steps is_formula result are = record {}
-accepted-steps F plan (Refuted nodes) steps is_formula result are =
-    ap (checks F) (are result.0 result.1.1 (sym result.2)) ∙ checks-proof F plan result.0 is_formula result.1.0 result.1.1
+pub accepted-steps : (F : Formula) (search : Search) (tree : LinesTree) (steps : List Step) → IsCheckedResultOf search F tree → AreStepsOf F tree steps → AreAccepted F tree steps
+accepted-steps F search (Model values) steps result are = record {}
+accepted-steps F search (Refuted nodes) steps result are =
+    ap (checks F) (are result.0 result.1.1 (sym result.2)) ∙ checks-checked F result.0 result.1.0 result.1.1
 
 -- their numbers are within the limits
-pub within-steps : (F : Formula) (plan : Plan) (tree : LinesTree) (steps : List Step) → IsWithinLimits large F → IsResultOf F plan tree → AreStepsOf F tree steps → AreWithin steps
-within-steps F plan (Model values) steps within result are = λ short. rw are (All-nil IsStep)
-within-steps F plan (Refuted nodes) steps within result are =
-    rw (are result.0 result.1.1 (sym result.2)) (λ short. proof-within F plan result.0 within result.1.0 result.1.1 short)
+pub within-steps : (F : Formula) (search : Search) (tree : LinesTree) (steps : List Step) → IsWithinLimits large F → IsCheckedResultOf search F tree → AreStepsOf F tree steps → AreWithin steps
+within-steps F search (Model values) steps within result are = λ short. rw are (All-nil IsStep)
+within-steps F search (Refuted nodes) steps within result are =
+    rw (are result.0 result.1.1 (sym result.2)) (λ short. proof-within F result.0 within result.1.0 result.1.1 short)
 
 -- what is kept before the first line
 walk-begun : (w : TreeWalk) (N : ℕ) (nodes : List (Node (List Line))) → IsBegun N nodes w → N ≤ max_clauses large + max_vars large → AreNodes N (map node_of nodes) → IsAt w w.next
@@ -95,15 +95,15 @@ walk-begun w N nodes begun few are =
       nodes = rw (begun.nodes, begun.clauses) are;
     }
 
-pub IsBetweenLines-begun : (l : Lines) (F : Formula) (plan : Plan) (N : ℕ) (tree : LinesTree) (units : List Literal) (nodes : List (Node (List Line))) → IsWithinLimits large F → l.unit ≡ length F.clauses + 1 → into_iter_items l.units ≡ units → l.due ≡ Nothing
-    → IsBegun N nodes l.walk → N ≡ length F.clauses + length units → AreUnitsOf F tree units → IsResultOf F plan tree → AreNodesOf tree nodes → IsBetweenLines l
-IsBetweenLines-begun l F plan N tree units nodes within unit here due begun count are result same =
+pub IsBetweenLines-begun : (l : Lines) (F : Formula) (search : Search) (N : ℕ) (tree : LinesTree) (units : List Literal) (nodes : List (Node (List Line))) → IsWithinLimits large F → l.unit ≡ length F.clauses + 1 → into_iter_items l.units ≡ units → l.due ≡ Nothing
+    → IsBegun N nodes l.walk → N ≡ length F.clauses + length units → AreUnitsOf F tree units → IsCheckedResultOf search F tree → AreNodesOf tree nodes → IsBetweenLines l
+IsBetweenLines-begun l F search N tree units nodes within unit here due begun count are result same =
     let few = few-units F tree units within are in
     let clauses = within.clauses in
     let next = begun.next in
     let long = ap (λ (ls : List Literal). length ls) here in
     record {
-      walk = walk-begun l.walk N nodes begun (omega arith) (result-nodes F plan (length F.clauses) N tree units nodes within refl count are result same);
+      walk = walk-begun l.walk N nodes begun (omega arith) (result-nodes F search (length F.clauses) N tree units nodes within refl count are result same);
       fits = omega arith;
       due = rw due tt;
       unit = omega arith;

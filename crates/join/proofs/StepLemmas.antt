@@ -1,29 +1,27 @@
 -- The numbers in a tree's proof are within their limits, where its text is no longer than a proof
 -- may be.
-use Rattle.std.proofs.Common.{◌≡◌, ℕ, suc, ◌+◌, ◌-◌, ◌<◌, ◌≤◌, true, List, [], ◌∷◌, ◌++◌, length, length-append, map, None, refl, ap, sym, subst, ◌∙◌, append_assoc, arith, All}
+use Rattle.std.proofs.Common.{◌≡◌, ℕ, suc, ◌+◌, ◌-◌, ◌<◌, ◌≤◌, List, [], ◌∷◌, ◌++◌, length, length-append, map, None, refl, ap, sym, subst, ◌∙◌, append_assoc, arith, All}
 use Rattle.std.proofs.lemmas.List.Elements.{All-nil, All-cons, All-push, All-append, All-weaker, All-map}
 use Rattle.std.proofs.lemmas.List.{map-append}
 use Rattle.lrat_text.specs.declared.step.Step as steps
 use Rattle.lrat_text.specs.Steps.{step_of}
-use Rattle.theory.specs.Literals.{Literal, IsVariable, positive, negative, negated, negations, are_distinct}
+use Rattle.theory.specs.Literals.{Literal, IsVariable, positive, negative, negated, negations}
 use Rattle.theory.specs.Truth.{Formula, IsOver}
-use Rattle.theory.specs.Plans.{Plan}
 use Rattle.theory.specs.Reading.{large, IsWithinLimits, max_vars}
 use Rattle.theory.specs.Learning.{Line}
-use Rattle.theory.specs.Search.{refuted, exhausted, first_clauses}
+use Rattle.theory.specs.Search.{first_clauses}
 use Rattle.theory.specs.Steps.{Step, delete}
 use Rattle.std.specs.List.{join_with_byte}
 use Rattle.theory.specs.Texts.{lf, space, step_words, step_text, proof_text}
-use Rattle.theory.specs.Trees.{Tree, satisfied, refutation, split, IsTree, first_model, false_half, true_half}
+use Rattle.theory.specs.Trees.{Tree, satisfied, refutation, split, first_model, false_half, true_half}
+use Rattle.theory.specs.Checked.{IsCheckedTree}
 use Rattle.theory.specs.Proofs.{additions, renumbered, leaf_steps, refuted_steps, tree_steps, split_steps, deletion, numbers_from, prelude, proof}
 use Rattle.theory.proofs.checker.PreludeSteps.{IsStep-prelude}
 use Rattle.theory.proofs.searching.PureVariables.{length-first_clauses, length-pure_literals}
 use Rattle.theory.proofs.checker.DeletedNumbers.{numbers_from-All}
 use Rattle.theory.specs.ProofReading.{IsStep, IsNumber, max_number, max_proof_bytes}
 use Rattle.theory.proofs.checker.AcceptedProofs.{or_else-none}
-use Rattle.theory.proofs.searching.OutcomeLemmas.{Runs-says}
 use Rattle.theory.proofs.literals.OverVariables.{AreOver, IsOver-from_AreOver, AreOver-snoc}
-use Rattle.theory.proofs.trails.TrailEntries.{are_distinct-push}
 use Rattle.join.specs.Joining.{split_line, learnt_line}
 use Rattle.join.specs.Numbered.{AreUpTo, AreLines}
 use Rattle.join.proofs.NumberLemmas.{AreUpTo-renumbered, IsAddition-line}
@@ -97,19 +95,18 @@ split-steps n left right Q fits some before more behind over =
     (deletion-within Q n (left ∷ right ∷ []) (omega arith, fits) (All-weaker (λ h. (1 ≤ h) × (h ≤ n - 1)) IsNumber (λ h w. let from = w.0 in let to = w.1 in (from, omega arith)) (left ∷ right ∷ []) hints))
 
 -- the lines of a tree without a model, of which there is one at least
-tree-steps : (F : Formula) (plan : Plan) (n : ℕ) (Q : List Literal) (t : Tree) → IsWithinLimits large F → are_distinct Q ≡ true → AreOver F.vars Q → IsTree F plan Q t → first_model t ≡ None → length (first_clauses F) < n
+tree-steps : (F : Formula) (n : ℕ) (Q : List Literal) (t : Tree) → IsWithinLimits large F → AreOver F.vars Q → IsCheckedTree F Q t → first_model t ≡ None → length (first_clauses F) < n
     → n + additions t ≤ max_number + 1 → All IsStep (tree_steps (length (first_clauses F)) n Q t) × (1 ≤ additions t)
-tree-steps F plan n Q (satisfied M) within distinct over h none low fits = absurd (cc)
-tree-steps F plan n Q (refutation lines) within distinct over h none low fits =
-    let are = refutation-lines F Q lines within (Runs-says F plan Q (refuted lines) within.formula distinct (IsOver-from_AreOver F.vars Q over) h).1 in (
+tree-steps F n Q (satisfied M) within over h none low fits = absurd (cc)
+tree-steps F n Q (refutation lines) within over h none low fits =
+    let are = refutation-lines F Q lines within h in (
       refuted-steps (length (first_clauses F)) n Q lines low are.0 fits (IsOver-opposites F.vars Q within.vars (IsOver-from_AreOver F.vars Q over)) are.1,
       are.0,
     )
-tree-steps F plan n Q (split x l r) within distinct over h none low fits =
+tree-steps F n Q (split x l r) within over h none low fits =
     let both = or_else-none (first_model l) (first_model r) none in
-    let says = Runs-says F plan Q (exhausted x) within.formula distinct (IsOver-from_AreOver F.vars Q over) h.0 in
-    let left = tree-steps F plan n (false_half Q x) l within (are_distinct-push Q (negative x) distinct says.1) (AreOver-snoc F.vars Q (negative x) over says.0) h.1 both.0 low (omega arith) in
-    let right = tree-steps F plan (n + additions l) (true_half Q x) r within (are_distinct-push Q (positive x) distinct says.1) (AreOver-snoc F.vars Q (positive x) over says.0) h.2 both.1 (omega arith) (omega arith) in
+    let left = tree-steps F n (false_half Q x) l within (AreOver-snoc F.vars Q (negative x) over h.0.0) h.1 both.0 low (omega arith) in
+    let right = tree-steps F (n + additions l) (true_half Q x) r within (AreOver-snoc F.vars Q (positive x) over h.0.0) h.2 both.1 (omega arith) (omega arith) in
     let some = left.1 in
     let more = right.1 in
     let last = split-steps (n + additions l + additions r) (n + additions l - 1) (n + additions l + additions r - 1) Q (omega arith) (omega arith) (omega arith) (omega arith) (omega arith)
@@ -120,8 +117,8 @@ tree-steps F plan n Q (split x l r) within distinct over h none low fits =
       omega arith,
     )
 
-pub proof-within : (F : Formula) (plan : Plan) (t : Tree) → IsWithinLimits large F → IsTree F plan [] t → first_model t ≡ None → length (proof_text (proof F t)) ≤ max_proof_bytes large → All IsStep (proof F t)
-proof-within F plan t within h none short =
+pub proof-within : (F : Formula) (t : Tree) → IsWithinLimits large F → IsCheckedTree F [] t → first_model t ≡ None → length (proof_text (proof F t)) ≤ max_proof_bytes large → All IsStep (proof F t)
+proof-within F t within h none short =
     let N = length (first_clauses F) in
     let few = few-steps (proof F t) in
     let whole = length-append (prelude F) (tree_steps N (N + 1) [] t) in
@@ -130,7 +127,7 @@ proof-within F plan t within h none short =
     let vars = within.vars in
     let first = length-first_clauses F in
     let units = length-pure_literals F in
-    All-append IsStep (prelude F) (tree_steps N (N + 1) [] t) (IsStep-prelude F within) (tree-steps F plan (N + 1) [] t within refl (λ l a. absurd (cc)) h none (omega arith) (omega arith)).0
+    All-append IsStep (prelude F) (tree_steps N (N + 1) [] t) (IsStep-prelude F within) (tree-steps F (N + 1) [] t within (λ l a. absurd (cc)) h none (omega arith) (omega arith)).0
 
 -- a line more in the list of steps
 pub steps-more : (old new : List steps.Step) (step : steps.Step) (line : Step) (before after whole : List Step) → All IsStep (map step_of old) → map step_of old ++ before ≡ whole → before ≡ line ∷ after → IsStep line

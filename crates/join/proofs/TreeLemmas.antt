@@ -1,18 +1,16 @@
--- The numbers and variables in a tree that is a formula's.
-use Rattle.std.proofs.Common.{◌≡◌, ℕ, ◌+◌, ◌<◌, ◌≤◌, true, List, [], ◌∷◌, ◌++◌, length, length-append, Option, Some, None, refl, ap, subst, ◌∙◌, arith}
+-- The numbers and variables in a formula's checked tree.
+use Rattle.std.proofs.Common.{◌≡◌, ℕ, ◌+◌, ◌<◌, ◌≤◌, List, [], ◌∷◌, ◌++◌, length, length-append, Option, Some, None, refl, ap, subst, ◌∙◌, arith}
 use Rattle.std.proofs.lemmas.List.Elements.{All-nil, All-cons, All-weaker}
-use Rattle.theory.specs.Literals.{Literal, Clause, IsVariable, positive, negative, negations, are_distinct}
+use Rattle.theory.specs.Literals.{Literal, Clause, IsVariable, negations}
 use Rattle.theory.specs.Truth.{Formula}
-use Rattle.theory.specs.Plans.{Plan}
 use Rattle.theory.specs.Reading.{large, IsWithinLimits, max_vars}
 use Rattle.theory.specs.Learning.{Line}
-use Rattle.theory.specs.Search.{refuted, exhausted, first_clauses}
-use Rattle.theory.specs.Trees.{Tree, satisfied, refutation, split, IsTree, Node, nodes_of, false_half, true_half}
+use Rattle.theory.specs.Search.{first_clauses}
+use Rattle.theory.specs.Checked.{IsCheckedTree}
+use Rattle.theory.specs.Trees.{Tree, satisfied, refutation, split, Node, nodes_of, false_half, true_half}
 use Rattle.theory.specs.Checking.{clause_of, Hint, missing, false_clause, not_unit, unit_in, hint, conflicts, fails, end_at_conflict, no_such_clause, hint_not_unit, take_hints}
 use Rattle.theory.specs.Replaying.{carrying_from, AreReplayed, AreRefutation}
-use Rattle.theory.proofs.literals.OverVariables.{AreOver, IsOver-from_AreOver, AreOver-snoc, IsOver-left}
-use Rattle.theory.proofs.searching.OutcomeLemmas.{Runs-says}
-use Rattle.theory.proofs.trails.TrailEntries.{are_distinct-push}
+use Rattle.theory.proofs.literals.OverVariables.{IsOver-left}
 use Rattle.join.specs.Numbered.{AreUpTo, AreLines, AreNodes}
 use Rattle.theory.proofs.checker.AcceptedSteps.{clause_of-carrying_within}
 
@@ -68,17 +66,13 @@ nodes-append N [] ms h k = k
 nodes-append N (n ∷ ns) ms h k = (h.0, nodes-append N ns ms h.1 k)
 
 -- the nodes of a cube's tree
-pub tree-nodes : (F : Formula) (plan : Plan) (Q : List Literal) (t : Tree) → IsWithinLimits large F → are_distinct Q ≡ true → AreOver F.vars Q → IsTree F plan Q t → AreNodes (length (first_clauses F)) (nodes_of t)
-tree-nodes F plan Q (satisfied M) within distinct over h = tt
-tree-nodes F plan Q (refutation lines) within distinct over h =
-    (refutation-lines F Q lines within (Runs-says F plan Q (refuted lines) within.formula distinct (IsOver-from_AreOver F.vars Q over) h).1, tt)
-tree-nodes F plan Q (split x l r) within distinct over h =
-    let says = Runs-says F plan Q (exhausted x) within.formula distinct (IsOver-from_AreOver F.vars Q over) h.0 in
-    let low = says.0.0 in
-    let high = says.0.1 in
+pub tree-nodes : (F : Formula) (Q : List Literal) (t : Tree) → IsWithinLimits large F → IsCheckedTree F Q t → AreNodes (length (first_clauses F)) (nodes_of t)
+tree-nodes F Q (satisfied M) within h = tt
+tree-nodes F Q (refutation lines) within h = (refutation-lines F Q lines within h, tt)
+tree-nodes F Q (split x l r) within h =
+    let low = h.0.0.0 in
+    let high = h.0.0.1 in
     let few = within.vars in (
       (low, omega arith),
-      nodes-append (length (first_clauses F)) (nodes_of l) (nodes_of r)
-          (tree-nodes F plan (false_half Q x) l within (are_distinct-push Q (negative x) distinct says.1) (AreOver-snoc F.vars Q (negative x) over says.0) h.1)
-          (tree-nodes F plan (true_half Q x) r within (are_distinct-push Q (positive x) distinct says.1) (AreOver-snoc F.vars Q (positive x) over says.0) h.2),
+      nodes-append (length (first_clauses F)) (nodes_of l) (nodes_of r) (tree-nodes F (false_half Q x) l within h.1) (tree-nodes F (true_half Q x) r within h.2),
     )

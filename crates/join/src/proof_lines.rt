@@ -4,9 +4,9 @@
 ghost use Rattle.std.specs.Prelude.{◌≡◌, ℕ, ◌+◌, ◌≤◌, [], IfOk};
 ghost use Rattle.std.specs.Bool.{OnFalse};
 ghost use Rattle.std.specs.Vec.Iter.{into_iter_items};
-ghost use Rattle.theory.specs.Plans.{Plan};
+ghost use Rattle.theory.specs.Plans.{Search};
 ghost use Rattle.theory.specs.ProofReading.{IsStep, max_number};
-ghost use Rattle.cubes.specs.Result.{IsResultOf};
+ghost use Rattle.cubes.specs.Result.{IsCheckedResultOf};
 ghost use Rattle.join.specs.Numbered.{AreNodesOf, AreUnitsOf, AreStepsOf, AreAccepted, AreWithin};
 ghost use Rattle.join.specs.Walking.{line_of, lines_left, HasNextLine, IsBetweenLines, Makes, OnMore};
 
@@ -64,10 +64,11 @@ fn nodes_of(alloc: Global, tree: Tree<Row>) -> Vec<Node<Row>>
 }
 
 impl Lines {
-    /// The lines for a formula's result: those of its pure literals and of its tree, and none for a
-    /// model. All memory that they need is asked for here; it fails only where that is refused.
+    /// The lines for a formula's result, which may be one that nobody vouches for and that was
+    /// checked: those of its pure literals and of its tree, and none for a model. All memory that
+    /// they need is asked for here; it fails only where that is refused.
     pub fn of(alloc: Global, formula: &Formula, tree: Tree<Row>) -> Result<Lines, AllocError>
-        requires { (plan : Plan) × IsResultOf formula.now plan tree }
+        requires { (search : Search) × IsCheckedResultOf search formula.now tree }
         ensures steps { IfOk result (λ l. AreStepsOf formula.now tree (lines_left l)) }
         ensures within { IfOk result (λ l. AreWithin (lines_left l)) }
         ensures accepted { IfOk result (λ l. AreAccepted formula.now tree (lines_left l)) }

@@ -26,6 +26,7 @@ const EIGHT_HALVES: &[u8] =
 fn proof_of(alloc: Global, formula: &Formula, budget: u32) -> Result<Vec<u8>, AllocError>
     requires { (1 ≤ budget) × (budget ≤ 100000) }
 {
+    let _vars = formula.vars(); // it ensures what the proof needs of the formula
     let tree = solve_one(alloc, formula, budget)?;
     let steps = join(alloc, formula, tree)?;
     proof_bytes(alloc, &steps)
@@ -132,6 +133,7 @@ fn has_room(alloc: Global, text: &[u8], budget: u32) -> Result<bool, Fail> {
     if budget < 1 || budget > 100_000 {
         return Err("budget".into());
     }
+    let _vars = formula.vars(); // it ensures what the proof needs of the formula
     let tree = solve_one_by_plan(alloc, &formula, Plan::ordered(budget))?;
     let mut lines = Lines::of(alloc, &formula, tree)?;
     let size = lines.line_size();

@@ -6,7 +6,9 @@ use Rattle.theory.specs.Reading.{Limits, large, IsWithinLimits}
 use Rattle.theory.specs.Proofs.{proof}
 use Rattle.theory.specs.Texts.{proof_text, answer_text}
 use Rattle.theory.specs.Written.{IsUnsatisfiableText}
-use Rattle.theory.proofs.checker.AcceptedProofs.{checks-proof}
+use Rattle.theory.specs.Trees.{tree_of}
+use Rattle.theory.proofs.checker.AcceptedProofs.{checks-checked}
+use Rattle.theory.proofs.trees.ResultLemmas.{IsCheckedResult-IsResult}
 use Rattle.cnf.specs.declared.fault.ReadFault.{ReadFault}
 use Rattle.cnf.specs.declared.fault.ReadFault.TheVariants as reading
 use Rattle.cnf.specs.Faults.{IsReadOf}
@@ -27,11 +29,12 @@ use Rattle.runs.proofs.WrittenLemmas.{Keeps-same}
 
 pub refuted-answer : (L : Limits) (F : Formula) (plan : Plan) (answer : List ℕ) → IsWithinLimits large F → IsRefuted F plan → answer ≡ answer_text None → IsAnswerFor L F plan Unsatisfiable answer
 refuted-answer L F plan answer within is same =
-    let text : IsUnsatisfiableText F plan (proof_text (proof F is.0)) answer = record { unsatisfiable = is.2; tree = is.0; is_tree = is.1.0; proof_is = refl; answer_is = same } in (
+    let text : IsUnsatisfiableText F plan (proof_text (proof F is.0)) answer = record { unsatisfiable = is.2; tree = is.0; is_tree = is.1.0; proof_is = refl; answer_is = same } in
+    let checked = IsCheckedResult-IsResult F plan (tree_of is.0) within.formula is.1 in (
       proof_text (proof F is.0),
       (
         text,
-        λ short. (proof F is.0, proof_text-ProofReads L (proof F is.0) (proof-within F plan is.0 within is.1.0 is.1.1 (short-large L (length (proof_text (proof F is.0))) short)) short, checks-proof F plan is.0 within.formula is.1.0 is.1.1),
+        λ short. (proof F is.0, proof_text-ProofReads L (proof F is.0) (proof-within F is.0 within checked.0 checked.1 (short-large L (length (proof_text (proof F is.0))) short)) short, checks-checked F is.0 checked.0 checked.1),
       ),
     )
 

@@ -84,6 +84,7 @@ pub(crate) fn output_of(
     ensures buffer { IfOk result (λ o. o.buffer.items ≡ []) }
 {
     let (_limits, _plan) = (limits, plan); // they are there for the contract alone
+    let _vars = formula.vars(); // it ensures what the proof needs of the formula
     let (verdict, answer) = answer_of(alloc, formula, &tree)?;
     let lines = Lines::of(alloc, formula, tree)?;
     let buffer = room(alloc, &lines)?;

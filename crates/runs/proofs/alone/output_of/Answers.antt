@@ -1,7 +1,13 @@
 use Rattle.join.specs.Walking.{lines_left}
 use Rattle.cnf.specs.Limits.{limits_of}
+use Rattle.cubes.proofs.GatheringLemmas.{IsCheckedResultBy-IsResultBy}
 use Rattle.runs.proofs.TextLemmas.{result-texts}
 use Rattle.runs.proofs.alone.output_of.Goals as goal
+
+-- the formula's result is a checked one
+pub of-requires : goal.of-requires
+of-requires c =
+    (c.args.plan.search, IsCheckedResultBy-IsResultBy (λ lines. lines) c.args.formula.now c.args.plan c.args.tree c.vars-vars.ensures.within.formula c.requires.result)
 
 pub returns-clause-texts : goal.returns-clause-texts
 returns-clause-texts c =

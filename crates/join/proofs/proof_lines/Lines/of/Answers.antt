@@ -21,7 +21,7 @@ returns-clause-within c =
 
 pub returns-clause-accepted : goal.returns-clause-accepted
 returns-clause-accepted c =
-    accepted-steps c.args.formula.now c.requires.0 c.args.tree _ c.vars-vars.ensures.within.formula c.requires.1 (returns-clause-steps c)
+    accepted-steps c.args.formula.now c.requires.0 c.args.tree _ c.requires.1 (returns-clause-steps c)
 
 pub returns-clause-lawful : goal.returns-clause-lawful
 returns-clause-lawful c =
