@@ -6,24 +6,24 @@ use std::alloc::Global;
 use std::process::Abort;
 use std::test::Fail;
 
-const FIVE: &[u8] = b"p cnf 2 5\n1 2 0\n1 -2 0\n-1 2 0\n-1 -2 0\n1 0\n";
+const FIVE: &str = "p cnf 2 5\n1 2 0\n1 -2 0\n-1 2 0\n-1 -2 0\n1 0\n";
 
 // the clauses learnt so far stand behind the eight
-const NINE: &[u8] =
-    b"p cnf 3 9\n1 2 3 0\n1 2 -3 0\n1 -2 3 0\n1 -2 -3 0\n-1 2 3 0\n-1 2 -3 0\n-1 -2 3 0\n-1 -2 -3 0\n1 2 0\n";
+const NINE: &str =
+    "p cnf 3 9\n1 2 3 0\n1 2 -3 0\n1 -2 3 0\n1 -2 -3 0\n-1 2 3 0\n-1 2 -3 0\n-1 -2 3 0\n-1 -2 -3 0\n1 2 0\n";
 
-const TEN: &[u8] =
-    b"p cnf 3 10\n1 2 3 0\n1 2 -3 0\n1 -2 3 0\n1 -2 -3 0\n-1 2 3 0\n-1 2 -3 0\n-1 -2 3 0\n-1 -2 -3 0\n1 2 0\n1 0\n";
+const TEN: &str =
+    "p cnf 3 10\n1 2 3 0\n1 2 -3 0\n1 -2 3 0\n1 -2 -3 0\n-1 2 3 0\n-1 2 -3 0\n-1 -2 3 0\n-1 -2 -3 0\n1 2 0\n1 0\n";
 
-const ELEVEN: &[u8] =
-    b"p cnf 3 11\n1 2 3 0\n1 2 -3 0\n1 -2 3 0\n1 -2 -3 0\n-1 2 3 0\n-1 2 -3 0\n-1 -2 3 0\n-1 -2 -3 0\n1 2 0\n1 0\n2 0\n";
+const ELEVEN: &str =
+    "p cnf 3 11\n1 2 3 0\n1 2 -3 0\n1 -2 3 0\n1 -2 -3 0\n-1 2 3 0\n-1 2 -3 0\n-1 -2 3 0\n-1 -2 -3 0\n1 2 0\n1 0\n2 0\n";
 
 // what a half learns stands behind the eight
-const NINE_OF_A_HALF: &[u8] =
-    b"p cnf 3 9\n1 2 3 0\n1 2 -3 0\n1 -2 3 0\n1 -2 -3 0\n-1 2 3 0\n-1 2 -3 0\n-1 -2 3 0\n-1 -2 -3 0\n2 0\n";
+const NINE_OF_A_HALF: &str =
+    "p cnf 3 9\n1 2 3 0\n1 2 -3 0\n1 -2 3 0\n1 -2 -3 0\n-1 2 3 0\n-1 2 -3 0\n-1 -2 3 0\n-1 -2 -3 0\n2 0\n";
 
 /// A name, a formula, a cube, how many decisions come before the conflict, and its number.
-type Place<'a> = (&'a str, &'a [u8], &'a [i32], u32, u64);
+type Place<'a> = (&'a str, &'a str, &'a [i32], u32, u64);
 
 /// The clause that a conflict teaches, its hints, and the level to go back to.
 type Lesson<'a> = (&'a [i32], &'a [u64], u32);

@@ -60,12 +60,12 @@ fn learnt_after(
 /// What the conflict teaches that follows the decisions of this number of variables in a cube.
 pub fn taught(
     alloc: Global,
-    text: &[u8],
+    text: &str,
     cube: &[i32],
     decisions: u32,
     conflict: u64,
 ) -> Result<Option<Learnt>, Fail> {
-    let formula = read_formula(alloc, text)?;
+    let formula = read_formula(alloc, text.as_bytes())?;
     let cube = cube_of(alloc, formula.vars(), cube)?;
     let mut kernel = Kernel::open(alloc, &formula, &cube)?;
     Ok(learnt_after(alloc, &mut kernel, decisions, conflict)?)

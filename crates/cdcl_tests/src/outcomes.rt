@@ -9,7 +9,7 @@ use std::process::Abort;
 use std::test::Fail;
 
 // the first conflict leaves out a level
-pub const LEVEL_LEFT_OUT: &[u8] = b"p cnf 4 2\n1 3 4 0\n1 3 -4 0\n";
+pub const LEVEL_LEFT_OUT: &str = "p cnf 4 2\n1 3 4 0\n1 3 -4 0\n";
 
 /// A line's clause and its hints.
 pub type WantedLine<'a> = (&'a [i32], &'a [u64]);
@@ -26,23 +26,23 @@ pub enum Wanted<'a> {
 }
 
 /// The outcome of a cube, by a plan.
-pub fn cube_by(alloc: Global, text: &[u8], cube: &[i32], plan: Plan) -> Result<Outcome, Fail> {
-    let formula = read_formula(alloc, text)?;
+pub fn cube_by(alloc: Global, text: &str, cube: &[i32], plan: Plan) -> Result<Outcome, Fail> {
+    let formula = read_formula(alloc, text.as_bytes())?;
     let cube = cube_of(alloc, formula.vars(), cube)?;
     let outcome = solve_cube_by_plan(alloc, &formula, &cube, plan)?;
     Ok(outcome.unpacked(alloc)?)
 }
 
 /// The outcome of the root, by a plan.
-pub fn outcome_by(alloc: Global, text: &[u8], plan: Plan) -> Result<Outcome, Fail> {
+pub fn outcome_by(alloc: Global, text: &str, plan: Plan) -> Result<Outcome, Fail> {
     cube_by(alloc, text, &[], plan)
 }
 
 /// The outcome of a cube.
-pub fn outcome(alloc: Global, text: &[u8], cube: &[i32], budget: u32) -> Result<Outcome, Fail>
+pub fn outcome(alloc: Global, text: &str, cube: &[i32], budget: u32) -> Result<Outcome, Fail>
     requires { (1 ≤ budget) × (budget ≤ 100000) }
 {
-    let formula = read_formula(alloc, text)?;
+    let formula = read_formula(alloc, text.as_bytes())?;
     let cube = cube_of(alloc, formula.vars(), cube)?;
     Ok(solve_cube(alloc, &formula, &cube, budget)?)
 }
@@ -70,7 +70,7 @@ pub fn is_wanted(outcome: &Outcome, wanted: Wanted) -> bool {
 }
 
 /// A name, a formula, a cube, the root's budget, and what the cube is to come to.
-pub type Row<'a> = (&'a str, &'a [u8], &'a [i32], u32, Wanted<'a>);
+pub type Row<'a> = (&'a str, &'a str, &'a [i32], u32, Wanted<'a>);
 
 fn comes(alloc: Global, row: &Row) -> Result<bool, Fail> {
     let (_, text, cube, budget, wanted) = *row;

@@ -58,14 +58,14 @@ static ROWS: [Row; 11] = [
     ("root, negated", FOUR_PURE, &[], 1, Wanted::Exhausted),
     (
         "a model of a clause",
-        b"p cnf 2 1\n1 -2 0\n",
+        "p cnf 2 1\n1 -2 0\n",
         &[],
         1,
         Wanted::Model(&[false, false]),
     ),
     (
         "a model of no clause",
-        b"p cnf 3 0\n",
+        "p cnf 3 0\n",
         &[],
         1,
         Wanted::Model(&[false, false, false]),

@@ -9,7 +9,7 @@ use std::alloc::{AllocError, Global};
 use std::test::Fail;
 
 // without the last clause the second variable would be pure, and no level left out
-const NO_PURE_VARIABLE: &[u8] = b"p cnf 4 3\n1 3 4 0\n1 3 -4 0\n2 -2 0\n";
+const NO_PURE_VARIABLE: &str = "p cnf 4 3\n1 3 4 0\n1 3 -4 0\n2 -2 0\n";
 
 // all eight clauses over three variables: the root with four conflicts, and its halves with two
 const ROOT_LINES: [WantedLine; 4] = [
@@ -24,31 +24,31 @@ const LEFT_LINES: [WantedLine; 2] = [(&[2], &[1, 2]), (&[], &[9, 3, 4])];
 const RIGHT_LINES: [WantedLine; 2] = [(&[2], &[5, 6]), (&[], &[9, 7, 8])];
 
 static ROWS: [Row; 29] = [
-    ("no clause", b"p cnf 0 0\n", &[], 1, Wanted::Model(&[])),
+    ("no clause", "p cnf 0 0\n", &[], 1, Wanted::Model(&[])),
     (
         "an empty clause",
-        b"p cnf 0 1\n0\n",
+        "p cnf 0 1\n0\n",
         &[],
         1,
         Wanted::Refuted(&[(&[], &[1])]),
     ),
     (
         "two clauses of one literal",
-        b"p cnf 1 2\n1 0\n-1 0\n",
+        "p cnf 1 2\n1 0\n-1 0\n",
         &[],
         1,
         Wanted::Refuted(&[(&[], &[1, 2])]),
     ),
     (
         "the first model",
-        b"p cnf 2 1\n1 2 0\n",
+        "p cnf 2 1\n1 2 0\n",
         &[],
         1,
         Wanted::Model(&[false, true]),
     ),
     (
         "the first model beside a clause of both signs",
-        b"p cnf 2 2\n1 -1 0\n2 2 0\n",
+        "p cnf 2 2\n1 -1 0\n2 2 0\n",
         &[],
         1,
         Wanted::Model(&[false, true]),
@@ -248,11 +248,11 @@ fn first_failed(
 /// The same of a text, by a plan.
 fn failed_turn(
     alloc: Global,
-    text: &[u8],
+    text: &str,
     plan: Plan,
     turns: &[Turn],
 ) -> Result<Option<usize>, Fail> {
-    let formula = read_formula(alloc, text)?;
+    let formula = read_formula(alloc, text.as_bytes())?;
     let mut solver = Solver::open(alloc, &formula, plan)?;
     first_failed(alloc, &formula, &mut solver, turns)
 }

@@ -8,11 +8,11 @@ use std::process::Abort;
 use std::test::Fail;
 
 /// A text, a budget and its tree.
-type Row = (&'static [u8], u32, WantedTree);
+type Row = (&'static str, u32, WantedTree);
 
 /// Whether a row's text has the row's tree.
 fn has_tree(alloc: Global, row: &Row) -> Result<bool, Fail> {
-    let formula = read_formula(alloc, row.0)?;
+    let formula = read_formula(alloc, row.0.as_bytes())?;
     if row.1 < 1 || row.1 > 100_000 {
         return Ok(false);
     }
@@ -83,17 +83,13 @@ fn trees_of_more_conflicts(rt: HostRuntime) -> Result<(), Fail> {
 
 static MODELS: [Row; 3] = [
     (
-        b"p cnf 2 1\n1 2 0\n",
+        "p cnf 2 1\n1 2 0\n",
         1000,
         WantedTree::Model(&[false, true]),
     ),
+    ("p cnf 2 1\n1 -2 0\n", 1, WantedTree::Model(&[false, false])),
     (
-        b"p cnf 2 1\n1 -2 0\n",
-        1,
-        WantedTree::Model(&[false, false]),
-    ),
-    (
-        b"p cnf 2 2\n1 2 0\n1 -2 0\n",
+        "p cnf 2 2\n1 2 0\n1 -2 0\n",
         1,
         WantedTree::Model(&[true, false]),
     ),

@@ -13,7 +13,7 @@ use std::alloc::{AllocError, Global};
 use std::test::Fail;
 
 /// A text, the cubes that are solved before, and how many nodes the tree then has.
-type Row = (&'static [u8], &'static [&'static [i32]], usize);
+type Row = (&'static str, &'static [&'static [i32]], usize);
 
 static ROWS: [Row; 5] = [
     // nothing is given
@@ -57,8 +57,8 @@ fn gathered(
 }
 
 /// How many nodes a text's tree has, gathered so; none where there is a model.
-fn nodes_of(alloc: Global, text: &[u8], cubes: &[&[i32]]) -> Result<usize, Fail> {
-    let formula = read_formula(alloc, text)?;
+fn nodes_of(alloc: Global, text: &str, cubes: &[&[i32]]) -> Result<usize, Fail> {
+    let formula = read_formula(alloc, text.as_bytes())?;
     match gathered(alloc, &formula, cubes)? {
         Tree::Model(_) => Ok(0),
         Tree::Refuted(nodes) => Ok(nodes.len()),

@@ -1,6 +1,7 @@
 //! What a gate is told of what the hands have done.
 ghost use Rattle.std.specs.Prelude.{◌≤◌};
 
+use crate::plans::plan_of;
 use cdcl::{Counts, Plan, Search};
 use cnf::{Formula, read_formula};
 use cubes::{Gate, solve_by_plan};
@@ -18,13 +19,13 @@ type Done = [u64; 6];
 
 /// A text, a search, a budget for the root, how many cubes are wanted, what is done before the hands
 /// begin, and what all hands do.
-type Row = (&'static [u8], Search, u32, u32, Done, Done);
+type Row = (&'static str, Search, u32, u32, Done, Done);
 
 /// Nothing is done.
 const NONE: Done = [0, 0, 0, 0, 0, 0];
 
 /// A formula with two models; both have 1 true.
-const ONE: &[u8] = b"p cnf 2 2\n1 2 0\n1 -2 0\n";
+const ONE: &str = "p cnf 2 2\n1 2 0\n1 -2 0\n";
 
 static ROWS: [Row; 11] = [
     // -1 is decided and gives 2, which makes the second clause false; 1 is learnt and gives 2,
@@ -147,22 +148,11 @@ fn done_by<R: Threads + Wait + Clock + Sync>(
     Ok((numbers_of(before), numbers_of(gate.sum())))
 }
 
-/// The plan of a search, with this budget for the root, that wants so many cubes.
-pub fn plan_of(search: Search, budget: u32, divide: u32) -> Plan
-    requires { (1 ≤ budget) × (budget ≤ 100000) × (divide ≤ 65536) }
-{
-    match search {
-        Search::Ordered => Plan::ordered(budget),
-        Search::Focused => Plan::focused(budget).divided(divide),
-    }
-}
-
 #[test]
 fn a_gate_is_told_what_is_done(rt: HostRuntime) -> Result<(), Fail> {
     for (text, search, budget, divide, before, wanted) in &ROWS {
-        let formula = read_formula(rt.alloc(), text)?;
-        let budget = (*budget).max(1).min(100_000);
-        let plan = plan_of(*search, budget, (*divide).min(65_536));
+        let formula = read_formula(rt.alloc(), text.as_bytes())?;
+        let plan = plan_of(*search, *budget, *divide);
         for hands in [1, 2, 4] {
             let found = done_by(&rt, rt.alloc(), &formula, plan, hands)?;
             assert!(rt;

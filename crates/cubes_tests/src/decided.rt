@@ -13,11 +13,11 @@ use std::thread::Threads;
 use std::time::Clock;
 
 /// A text, and the model that the ordered search finds, if there is one.
-type Row = (&'static [u8], Option<&'static [bool]>);
+type Row = (&'static str, Option<&'static [bool]>);
 
 static ROWS: [Row; 6] = [
-    (b"p cnf 0 0\n", Some(&[])),
-    (b"p cnf 1 1\n0\n", None),
+    ("p cnf 0 0\n", Some(&[])),
+    ("p cnf 1 1\n0\n", None),
     (FOUR_PURE, None),
     (EIGHT, None),
     (SIXTEEN, None),
@@ -52,7 +52,7 @@ fn decides<R: Threads + Wait + Clock + Sync>(
     requires { (1 ≤ hands) × (hands ≤ 16) }
 {
     let (text, wanted) = *row;
-    let formula = read_formula(alloc, text)?;
+    let formula = read_formula(alloc, text.as_bytes())?;
     let found = decide_by_plan(rt, alloc, &formula, plan, hands, &OpenGate)?;
     if found.as_deref() != wanted {
         return Ok(false);

@@ -5,37 +5,39 @@ use cdcl::{Counts, Outcome};
 use cubes::{Gate, Solved, What, Worked};
 use kernel::Cube;
 use std::alloc::{AllocError, Global};
+use std::fmt::Write;
 use std::sync::atomic::{AtomicU64, Ordering};
 use std::test::Fail;
 
 // each assignment but those with all of the first 39 variables false
-const DEEP: &[u8] = b"p cnf 40 2
+const DEEP: &str = "p cnf 40 2
 1 2 3 4 5 6 7 8 9 10 11 12 13 14 15 16 17 18 19 20 21 22 23 24 25 26 27 28 29 30 31 32 33 34 35 36 37 38 39 40 0
 1 2 3 4 5 6 7 8 9 10 11 12 13 14 15 16 17 18 19 20 21 22 23 24 25 26 27 28 29 30 31 32 33 34 35 36 37 38 39 -40 0
 ";
 
 // where the first 33 variables are false, so is the last one
-const HARD_FRONT: &[u8] = b"p cnf 41 129
+const HARD_FRONT: &str = "p cnf 41 129
 1 2 3 4 5 6 7 8 9 10 11 12 13 14 15 16 17 18 19 20 21 22 23 24 25 26 27 28 29 30 31 32 33 -41 0
 ";
 
 /// Adds a clause over the variables 34 to 40, of which those with a set bit are negated, and the
 /// last one.
-fn add_clause(alloc: Global, text: &mut Vec<u8>, signs: u32) -> Result<(), AllocError> {
+fn add_clause(text: &mut String, signs: u32) -> Result<(), AllocError> {
     for index in 0..7u32 {
         let sign = if (signs >> index) & 1 == 1 { "-" } else { "" };
-        text.extend_from_slice(format!(in alloc; "{sign}{} ", 34 + index)?.as_bytes())?;
+        let var = 34 + index;
+        write!(text, "{sign}{var} ")?;
     }
-    text.extend_from_slice(b"41 0\n")
+    write!(text, "41 0\n")
 }
 
 /// A text: where the first 33 variables are false, so is the last one, and then all 128 clauses
 /// over the seven between them are to be satisfied. That takes 64 conflicts to refute, more than
 /// any of the cubes of up to 33 literals has.
-fn hard_text(alloc: Global) -> Result<Vec<u8>, AllocError> {
-    let mut text = Vec::from_slice(alloc, HARD_FRONT)?;
+fn hard_text(alloc: Global) -> Result<String, AllocError> {
+    let mut text = String::from_str(alloc, HARD_FRONT)?;
     for signs in 0..128u32 {
-        add_clause(alloc, &mut text, signs)?;
+        add_clause(&mut text, signs)?;
     }
     Ok(text)
 }
@@ -101,7 +103,8 @@ fn has_hard_model(worked: &Worked) -> bool {
 
 #[test]
 fn carries_deep_cubes_on(rt: HostRuntime) -> Result<(), Fail> {
-    let worked = worked(&rt, rt.alloc(), &hard_text(rt.alloc())?)?;
+    let text = hard_text(rt.alloc())?;
+    let worked = worked(&rt, rt.alloc(), text.as_str())?;
     let is_right = !worked.short_of_memory && has_hard_model(&worked);
     assert!(rt; is_right);
     assert_eq!(rt; deepest(&worked), 34);
@@ -146,7 +149,8 @@ fn a_gate_is_told_at_the_end_of_cubes_that_are_carried_on_too(rt: HostRuntime) -
         passed: AtomicU64::new(0),
         told: AtomicU64::new(0),
     };
-    let worked = worked_at(&rt, rt.alloc(), &hard_text(rt.alloc())?, &calls)?;
+    let text = hard_text(rt.alloc())?;
+    let worked = worked_at(&rt, rt.alloc(), text.as_str(), &calls)?;
     let (passed, told) = (
         calls.passed.load(Ordering::SeqCst),
         calls.told.load(Ordering::SeqCst),

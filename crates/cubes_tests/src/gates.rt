@@ -1,7 +1,7 @@
 //! A gate that counts: each cube of a tree is solved once, whatever the hands.
 ghost use Rattle.std.specs.Prelude.{◌≤◌};
 
-use crate::counted::plan_of;
+use crate::plans::plan_of;
 use cdcl::{Plan, Search};
 use cnf::{Formula, read_formula};
 use cubes::{Gate, solve_by_plan};
@@ -18,7 +18,7 @@ use std::time::Clock;
 type Cubes = &'static [&'static [i32]];
 
 /// A text, a search, a budget for the root, how many cubes are wanted, and the cubes of its tree.
-type Row = (&'static [u8], Search, u32, u32, Cubes);
+type Row = (&'static str, Search, u32, u32, Cubes);
 
 static TREES: [Row; 3] = [
     (EIGHT, Search::Ordered, 1, 0, &[&[], &[-1], &[1]]),
@@ -120,14 +120,14 @@ fn is_solved_once<R: Threads + Wait + Clock + Sync>(
 fn is_solved_once_each_time<R: Threads + Wait + Clock + Sync>(
     rt: &R,
     alloc: Global,
-    text: &[u8],
+    text: &str,
     plan: Plan,
     hands: usize,
     cubes: Cubes,
 ) -> Result<bool, Fail>
     requires { (1 ≤ hands) × (hands ≤ 16) }
 {
-    let formula = read_formula(alloc, text)?;
+    let formula = read_formula(alloc, text.as_bytes())?;
     for _ in 0..20 {
         if !is_solved_once(rt, alloc, &formula, plan, hands, cubes)? {
             return Ok(false);
@@ -139,8 +139,7 @@ fn is_solved_once_each_time<R: Threads + Wait + Clock + Sync>(
 #[test]
 fn each_cube_is_solved_once(rt: HostRuntime) -> Result<(), Fail> {
     for (text, search, budget, divide, cubes) in &TREES {
-        let budget = (*budget).max(1).min(100_000);
-        let plan = plan_of(*search, budget, (*divide).min(65_536));
+        let plan = plan_of(*search, *budget, *divide);
         for hands in [1, 2, 4] {
             let is_once = is_solved_once_each_time(&rt, rt.alloc(), text, plan, hands, *cubes)?;
             assert!(rt; is_once, "{hands} hands at {text:?}");

@@ -29,15 +29,15 @@ fn worked_alone<R: Wait + Clock, G: Gate>(
 pub fn worked_at<R: Wait + Clock, G: Gate>(
     rt: &R,
     alloc: Global,
-    text: &[u8],
+    text: &str,
     gate: &G,
 ) -> Result<Worked, Fail> {
-    let formula = read_formula(alloc, text)?;
+    let formula = read_formula(alloc, text.as_bytes())?;
     Ok(worked_alone(rt, alloc, &formula, gate)?.ok_or("no hand")?)
 }
 
 /// What the one hand of a pool leaves behind of a text.
-pub fn worked<R: Wait + Clock>(rt: &R, alloc: Global, text: &[u8]) -> Result<Worked, Fail> {
+pub fn worked<R: Wait + Clock>(rt: &R, alloc: Global, text: &str) -> Result<Worked, Fail> {
     worked_at(rt, alloc, text, &OpenGate)
 }
 
@@ -62,7 +62,7 @@ pub fn are_results(worked: &Worked, wanted: &[(&[i32], Given)]) -> bool {
 }
 
 /// A text, and the results of its one hand.
-type Row = (&'static [u8], &'static [(&'static [i32], Given)]);
+type Row = (&'static str, &'static [(&'static [i32], Given)]);
 
 static ROWS: [Row; 3] = [
     // the hand skips what is right of a model

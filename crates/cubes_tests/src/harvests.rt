@@ -77,7 +77,7 @@ fn are_these(results: &[Solved<LineRow>], rows: &[Row]) -> bool {
 /// A text, how many hands solve it, what they bring home, and the tree of that.
 #[derive(Clone, Copy)]
 struct Harvest {
-    text: &'static [u8],
+    text: &'static str,
     hands: usize,
     rows: &'static [Row],
     tree: WantedTree,
@@ -109,7 +109,7 @@ fn brings_each_time<R: Threads + Wait + Clock + Sync>(
     if wanted.hands < 1 || wanted.hands > 16 {
         return Ok(false);
     }
-    let formula = read_formula(alloc, wanted.text)?;
+    let formula = read_formula(alloc, wanted.text.as_bytes())?;
     for _ in 0..20 {
         if !brings(rt, alloc, &formula, wanted)? {
             return Ok(false);

@@ -21,6 +21,8 @@ mod harvests;
 #[cfg(test)]
 mod places;
 #[cfg(test)]
+mod plans;
+#[cfg(test)]
 mod refuted;
 #[cfg(test)]
 mod results;

@@ -1,7 +1,8 @@
 //! What a gate is told of the first search, and of cubes that are refuted.
 ghost use Rattle.std.specs.Prelude.{◌≤◌};
 
-use cdcl::{FirstAnswer, FirstSearch, Plan};
+use crate::plans::plan_of;
+use cdcl::{FirstAnswer, FirstSearch, Plan, Search};
 use cnf::{Formula, read_formula};
 use cubes::{Gate, solve_by_plan};
 use kernel::Cube;
@@ -19,7 +20,7 @@ const WHOLE: u64 = 1024;
 type First = Option<(u64, u64, FirstAnswer)>;
 
 /// A text, a budget for the root, how many cubes are wanted, and the first search, if there is one.
-type Row = (&'static [u8], u32, u32, First);
+type Row = (&'static str, u32, u32, First);
 
 static ROWS: [Row; 6] = [
     // no division is wanted
@@ -85,9 +86,8 @@ fn told_by<R: Threads + Wait + Clock + Sync>(
 #[test]
 fn all_of_a_tree_without_a_model_is_refuted(rt: HostRuntime) -> Result<(), Fail> {
     for (text, budget, divide, first) in &ROWS {
-        let formula = read_formula(rt.alloc(), text)?;
-        let budget = (*budget).max(1).min(100_000);
-        let plan = Plan::focused(budget).divided((*divide).min(65_536));
+        let formula = read_formula(rt.alloc(), text.as_bytes())?;
+        let plan = plan_of(Search::Focused, *budget, *divide);
         for hands in [1, 2, 4] {
             let found = told_by(&rt, rt.alloc(), &formula, plan, hands)?;
             assert!(rt;

@@ -31,11 +31,11 @@ static OF_EIGHT: WantedTree = WantedTree::Refuted(&NODES);
 /// is wanted.
 fn gathers(
     alloc: Global,
-    text: &[u8],
+    text: &str,
     rows: &[(&[i32], Given)],
     wanted: WantedTree,
 ) -> Result<bool, Fail> {
-    let formula = read_formula(alloc, text)?;
+    let formula = read_formula(alloc, text.as_bytes())?;
     match gathered(alloc, &formula, rows)? {
         Some(tree) => Ok(is_tree(&tree, wanted)),
         None => Ok(false),
@@ -54,14 +54,14 @@ fn gathers_a_refuted_tree(rt: HostRuntime) -> Result<(), Fail> {
 
 /// Texts with a model, the results that are given, and the first model of each.
 type Satisfied = (
-    &'static [u8],
+    &'static str,
     &'static [(&'static [i32], Given)],
     &'static [bool],
 );
 
 static SATISFIED: [Satisfied; 2] = [
     (
-        b"p cnf 2 2\n1 2 0\n1 -2 0\n",
+        "p cnf 2 2\n1 2 0\n1 -2 0\n",
         &[
             (&[1], Given::Model(&[true, false])),
             (&[-1], Given::Skipped(0)),
@@ -69,7 +69,7 @@ static SATISFIED: [Satisfied; 2] = [
         &[true, false],
     ),
     (
-        b"p cnf 3 2\n1 2 3 0\n1 2 -3 0\n",
+        "p cnf 3 2\n1 2 3 0\n1 2 -3 0\n",
         &[(&[1], Given::Model(&[true, false, false]))],
         &[false, true, false],
     ),
@@ -88,13 +88,13 @@ fn gathers_the_first_model(rt: HostRuntime) -> Result<(), Fail> {
 fn is_solved_by<R: Threads + Wait + Clock + Sync>(
     rt: &R,
     alloc: Global,
-    text: &[u8],
+    text: &str,
     hands: usize,
     wanted: WantedTree,
 ) -> Result<bool, Fail>
     requires { (1 ≤ hands) × (hands ≤ 16) }
 {
-    let formula = read_formula(alloc, text)?;
+    let formula = read_formula(alloc, text.as_bytes())?;
     for _ in 0..20 {
         let tree = solve_with(rt, alloc, &formula, 1, hands, &OpenGate)?;
         if !is_tree(&tree, wanted) {
@@ -104,10 +104,10 @@ fn is_solved_by<R: Threads + Wait + Clock + Sync>(
     Ok(true)
 }
 
-static TREES: [(&[u8], WantedTree); 2] = [
+static TREES: [(&str, WantedTree); 2] = [
     (EIGHT, WantedTree::Refuted(&NODES)),
     (
-        b"p cnf 3 2\n1 2 3 0\n1 2 -3 0\n",
+        "p cnf 3 2\n1 2 3 0\n1 2 -3 0\n",
         WantedTree::Model(&[false, true, false]),
     ),
 ];

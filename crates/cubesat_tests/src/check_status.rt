@@ -3,7 +3,7 @@
 use crate::sessions::{Paths, Wanted, put_texts, says};
 use cubesat::command;
 use samples::faulty::{Limited, Limits};
-use samples::strings::{FOUR, FOUR_PROOF};
+use samples::{FOUR, FOUR_PROOF};
 use std::rt::Files;
 use std::sync::Wait;
 use std::test::Fail;

@@ -1,7 +1,7 @@
 //! `--divide`: what it writes, its range and its default, and that the ordered search refuses it.
 //! The proofs are worked out by hand.
 use crate::sessions::{Paths, Row, Wanted, check_rows, run};
-use samples::strings::{EIGHT, FOUR};
+use samples::{EIGHT, FOUR};
 use std::fs;
 use std::test::Fail;
 

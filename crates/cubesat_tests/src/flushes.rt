@@ -5,7 +5,7 @@ use crate::fake::Fake;
 use crate::sessions::{Paths, put_texts, run_words};
 use cubesat::command;
 use samples::faulty::{Limited, UNFLUSHED};
-use samples::strings::{FOUR, FOUR_PROOF};
+use samples::{FOUR, FOUR_PROOF};
 use std::rt::Files;
 use std::sync::Wait;
 use std::test::Fail;

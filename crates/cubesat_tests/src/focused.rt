@@ -1,6 +1,6 @@
 //! Worked rows of the focused search that divides nothing, by the program.
 use crate::sessions::{Paths, Row, Wanted, check_rows, run};
-use samples::strings::{EIGHT, FOUR};
+use samples::{EIGHT, FOUR};
 use std::test::Fail;
 
 /// A formula, a budget, the answer, and the proof.

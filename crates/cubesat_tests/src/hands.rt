@@ -2,7 +2,7 @@
 use crate::clocks::{LONG, Meeting, SHORT};
 use crate::fake::Fake;
 use crate::sessions::{Paths, run};
-use samples::strings::EIGHT;
+use samples::EIGHT;
 use std::fs;
 use std::rt::Files;
 use std::sync::Wait;

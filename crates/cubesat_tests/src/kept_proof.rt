@@ -3,7 +3,7 @@ use crate::same_file::is_refused;
 use crate::sessions::{Paths, Row, Wanted, check_rows, path_of, says};
 use cubesat::command;
 use samples::faulty::{Limited, Limits};
-use samples::strings::{FOUR, FOUR_PROOF};
+use samples::{FOUR, FOUR_PROOF};
 use std::io::Write;
 use std::rt::{Env, Files};
 use std::sync::Wait;

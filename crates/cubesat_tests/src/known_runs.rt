@@ -3,7 +3,7 @@ use crate::figures::some_figures;
 use cdcl::Search;
 use cnf::{Formula, read_formula};
 use cubesat::{Manner, Stage, print_line};
-use samples::strings::FOUR;
+use samples::FOUR;
 use statistics::{FormulaSize, StageEnd, TreeSize, print_statistics};
 use std::alloc::Global;
 use std::test::Fail;

@@ -1,8 +1,8 @@
 //! The command line: each option does what it says, and each thing printed goes where it belongs.
 use crate::sessions::{Paths, Row, Wanted, check_rows, prints, run};
 use cubesat::command;
+use samples::EIGHT;
 use samples::faulty::{Limited, Limits};
-use samples::strings::EIGHT;
 use std::rt::Files;
 use std::sync::Wait;
 use std::test::Fail;

@@ -1,6 +1,6 @@
 //! The program: what is printed, the statuses, and what stands in the files.
 use crate::sessions::{Row, Wanted, check_rows, run};
-use samples::strings::{FOUR, FOUR_PROOF, WIDE, WIDE_PROOF};
+use samples::{FOUR, FOUR_PROOF, WIDE, WIDE_PROOF};
 use std::test::Fail;
 
 /// A formula that is refused, since it names a variable that it doesn't have.

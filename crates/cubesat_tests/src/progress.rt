@@ -5,7 +5,7 @@ use crate::fake::Fake;
 use crate::sessions::Paths;
 use crate::slow_runs::{SOLVED, SlowRun, holds};
 use cubesat::Screen;
-use samples::strings::{EIGHT, FOUR, FOUR_PROOF};
+use samples::{EIGHT, FOUR, FOUR_PROOF};
 use std::alloc::Global;
 use std::test::Fail;
 

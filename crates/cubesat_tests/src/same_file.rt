@@ -1,6 +1,6 @@
 //! A proof that would be written over its formula, by whatever name.
 use crate::sessions::{Wanted, path_of, prints, run};
-use samples::strings::FOUR;
+use samples::FOUR;
 use std::fs;
 use std::rt::{Env, Files};
 use std::sync::Wait;

@@ -5,7 +5,7 @@ use crate::kept_proof::Parts;
 use crate::sessions::{Wanted, prints, put_texts};
 use cubesat::command;
 use samples::faulty::{Full, Limited, Limits, UNFLUSHED};
-use samples::strings::{FOUR, FOUR_PROOF};
+use samples::{FOUR, FOUR_PROOF};
 use std::alloc::{AllocError, Global};
 use std::fmt::Write;
 use std::rt::Files;

@@ -2,8 +2,8 @@
 use crate::options::SPLIT;
 use crate::sessions::{Paths, put_texts};
 use cubesat::{Screen, command_on};
+use samples::EIGHT;
 use samples::faulty::{Limited, Limits};
-use samples::strings::EIGHT;
 use std::fs;
 use std::rt::Files;
 use std::sync::Wait;

@@ -1,7 +1,7 @@
 //! What `--verbose` prints, and that a fault's lines and the answer stay as they are.
 use crate::sessions::{Paths, Wanted, is_printed, put_texts, run_words};
 use cubesat::explanation;
-use samples::strings::{WIDE, WIDE_PROOF};
+use samples::{WIDE, WIDE_PROOF};
 use std::alloc::{AllocError, Global};
 use std::fmt::Write;
 use std::rt::Files;

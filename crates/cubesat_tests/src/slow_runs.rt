@@ -4,7 +4,7 @@ use crate::clocks::{LONG, Pace};
 use crate::fake::{Fake, FakeFile, STATUS};
 use crate::sessions::Paths;
 use cubesat::{Screen, command_with_input};
-use samples::strings::FOUR;
+use samples::FOUR;
 use std::alloc::Global;
 use std::io::{ErrorKind, Write};
 use std::rt::Files;

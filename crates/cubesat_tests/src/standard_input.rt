@@ -2,7 +2,7 @@
 use crate::sessions::{Paths, Printed, Wanted, is_filled, put_texts, run};
 use cubesat::{Screen, command_with_input};
 use samples::faulty::Trickle;
-use samples::strings::{FOUR, FOUR_PROOF, WIDE, WIDE_PROOF};
+use samples::{FOUR, FOUR_PROOF, WIDE, WIDE_PROOF};
 use std::fs;
 use std::io::Read;
 use std::rt::Files;

@@ -5,7 +5,7 @@ use crate::fake::Fake;
 use crate::sessions::{Paths, path_of};
 use cubesat::command;
 use samples::faulty::{Limited, Limits};
-use samples::strings::{EIGHT, FOUR, FOUR_PROOF};
+use samples::{EIGHT, FOUR, FOUR_PROOF};
 use std::fs;
 use std::rt::Files;
 use std::sync::Wait;

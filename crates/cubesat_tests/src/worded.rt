@@ -8,7 +8,8 @@ use std::test::Fail;
 use std::thread::Threads;
 use std::time::Clock;
 
-/// All four clauses over two variables, and over four.
+/// All four clauses over two variables, and over four, as bytes, since some of the files beside them
+/// are no text.
 const FOUR: &[u8] = b"p cnf 2 4\n1 2 0\n1 -2 0\n-1 2 0\n-1 -2 0\n";
 
 const WIDE: &[u8] = b"p cnf 4 4\n1 2 0\n1 -2 0\n-1 2 0\n-1 -2 0\n";

@@ -11,12 +11,12 @@ use std::alloc::{AllocError, Global};
 use std::test::Fail;
 
 // all eight clauses over three variables, with a fourth that no clause has
-const EIGHT_UNUSED: &[u8] =
-    b"p cnf 4 8\n1 2 3 0\n1 2 -3 0\n1 -2 3 0\n1 -2 -3 0\n-1 2 3 0\n-1 2 -3 0\n-1 -2 3 0\n-1 -2 -3 0\n";
+const EIGHT_UNUSED: &str =
+    "p cnf 4 8\n1 2 3 0\n1 2 -3 0\n1 -2 3 0\n1 -2 -3 0\n-1 2 3 0\n-1 2 -3 0\n-1 -2 3 0\n-1 -2 -3 0\n";
 
 // all thirty-two clauses over five variables
-const THIRTY_TWO: &[u8] =
-    b"p cnf 5 32\n1 2 3 4 5 0\n1 2 3 4 -5 0\n1 2 3 -4 5 0\n1 2 3 -4 -5 0\n1 2 -3 4 5 0\n1 2 -3 4 -5 0\n1 2 -3 -4 5 0\n1 2 -3 -4 -5 0\n1 -2 3 4 5 0\n1 -2 3 4 -5 0\n1 -2 3 -4 5 0\n1 -2 3 -4 -5 0\n1 -2 -3 4 5 0\n1 -2 -3 4 -5 0\n1 -2 -3 -4 5 0\n1 -2 -3 -4 -5 0\n-1 2 3 4 5 0\n-1 2 3 4 -5 0\n-1 2 3 -4 5 0\n-1 2 3 -4 -5 0\n-1 2 -3 4 5 0\n-1 2 -3 4 -5 0\n-1 2 -3 -4 5 0\n-1 2 -3 -4 -5 0\n-1 -2 3 4 5 0\n-1 -2 3 4 -5 0\n-1 -2 3 -4 5 0\n-1 -2 3 -4 -5 0\n-1 -2 -3 4 5 0\n-1 -2 -3 4 -5 0\n-1 -2 -3 -4 5 0\n-1 -2 -3 -4 -5 0\n";
+const THIRTY_TWO: &str =
+    "p cnf 5 32\n1 2 3 4 5 0\n1 2 3 4 -5 0\n1 2 3 -4 5 0\n1 2 3 -4 -5 0\n1 2 -3 4 5 0\n1 2 -3 4 -5 0\n1 2 -3 -4 5 0\n1 2 -3 -4 -5 0\n1 -2 3 4 5 0\n1 -2 3 4 -5 0\n1 -2 3 -4 5 0\n1 -2 3 -4 -5 0\n1 -2 -3 4 5 0\n1 -2 -3 4 -5 0\n1 -2 -3 -4 5 0\n1 -2 -3 -4 -5 0\n-1 2 3 4 5 0\n-1 2 3 4 -5 0\n-1 2 3 -4 5 0\n-1 2 3 -4 -5 0\n-1 2 -3 4 5 0\n-1 2 -3 4 -5 0\n-1 2 -3 -4 5 0\n-1 2 -3 -4 -5 0\n-1 -2 3 4 5 0\n-1 -2 3 4 -5 0\n-1 -2 3 -4 5 0\n-1 -2 3 -4 -5 0\n-1 -2 -3 4 5 0\n-1 -2 -3 4 -5 0\n-1 -2 -3 -4 5 0\n-1 -2 -3 -4 -5 0\n";
 
 // each half of the eight clauses learns one clause, which is deleted
 const EIGHT_HALVES: &[u8] =
@@ -33,8 +33,8 @@ fn proof_of(alloc: Global, formula: &Formula, budget: u32) -> Result<Vec<u8>, Al
 }
 
 /// Whether the proof of a formula's result reads so.
-fn has_proof(alloc: Global, text: &[u8], budget: u32, wanted: &[u8]) -> Result<bool, Fail> {
-    let formula = read_formula(alloc, text)?;
+fn has_proof(alloc: Global, text: &str, budget: u32, wanted: &[u8]) -> Result<bool, Fail> {
+    let formula = read_formula(alloc, text.as_bytes())?;
     if budget < 1 || budget > 100_000 {
         return Err("budget".into());
     }
@@ -43,9 +43,9 @@ fn has_proof(alloc: Global, text: &[u8], budget: u32, wanted: &[u8]) -> Result<b
 
 #[test]
 fn proofs_of_the_root_alone(rt: HostRuntime) -> Result<(), Fail> {
-    let rows: [(&[u8], u32, &[u8]); 4] = [
-        (b"p cnf 0 1\n0\n", 1000, b"2 0 1 0\n"),
-        (b"p cnf 1 2\n1 0\n-1 0\n", 1000, b"3 0 1 2 0\n"),
+    let rows: [(&str, u32, &[u8]); 4] = [
+        ("p cnf 0 1\n0\n", 1000, b"2 0 1 0\n"),
+        ("p cnf 1 2\n1 0\n-1 0\n", 1000, b"3 0 1 2 0\n"),
         (FOUR, 2, b"5 1 0 1 2 0\n6 0 5 3 4 0\n"),
         (
             EIGHT,
@@ -61,7 +61,7 @@ fn proofs_of_the_root_alone(rt: HostRuntime) -> Result<(), Fail> {
 
 #[test]
 fn proofs_of_halves(rt: HostRuntime) -> Result<(), Fail> {
-    let rows: [(&[u8], u32, &[u8]); 5] = [
+    let rows: [(&str, u32, &[u8]); 5] = [
         (FOUR, 1, b"5 1 0 1 2 0\n6 -1 0 3 4 0\n7 0 5 6 0\n"),
         (EIGHT, 2, EIGHT_HALVES),
         (EIGHT, 1, EIGHT_HALVES),
@@ -86,7 +86,7 @@ fn proofs_of_halves(rt: HostRuntime) -> Result<(), Fail> {
 
 #[test]
 fn proofs_with_pure_variables(rt: HostRuntime) -> Result<(), Fail> {
-    let rows: [(&[u8], u32, &[u8]); 5] = [
+    let rows: [(&str, u32, &[u8]); 5] = [
         (FOUR_UNUSED, 2, b"5 -3 0 0\n6 1 0 1 2 0\n7 0 6 3 4 0\n"),
         (
             FOUR_UNUSED,
@@ -99,7 +99,7 @@ fn proofs_with_pure_variables(rt: HostRuntime) -> Result<(), Fail> {
             b"6 -3 0 0\n7 1 0 2 3 0\n8 -1 0 4 5 0\n9 0 7 8 0\n",
         ),
         // two of them, and the empty clause
-        (b"p cnf 2 1\n0\n", 1, b"2 -1 0 0\n3 -2 0 0\n4 0 1 0\n"),
+        ("p cnf 2 1\n0\n", 1, b"2 -1 0 0\n3 -2 0 0\n4 0 1 0\n"),
         // their lines are not deleted
         (
             EIGHT_UNUSED,
@@ -115,10 +115,10 @@ fn proofs_with_pure_variables(rt: HostRuntime) -> Result<(), Fail> {
 
 #[test]
 fn a_model_has_no_proof(rt: HostRuntime) -> Result<(), Fail> {
-    let rows: [(&[u8], u32); 2] = [
-        (b"p cnf 2 1\n1 2 0\n", 1000),
+    let rows: [(&str, u32); 2] = [
+        ("p cnf 2 1\n1 2 0\n", 1000),
         // with pure variables
-        (b"p cnf 2 1\n1 -2 0\n", 1),
+        ("p cnf 2 1\n1 -2 0\n", 1),
     ];
     for (text, budget) in rows {
         assert!(rt; has_proof(rt.alloc(), text, budget, b"")?);
@@ -128,8 +128,8 @@ fn a_model_has_no_proof(rt: HostRuntime) -> Result<(), Fail> {
 
 /// Whether the room that is made before the first line holds each line of the proof of a formula's
 /// result: no line makes a vector grow.
-fn has_room(alloc: Global, text: &[u8], budget: u32) -> Result<bool, Fail> {
-    let formula = read_formula(alloc, text)?;
+fn has_room(alloc: Global, text: &str, budget: u32) -> Result<bool, Fail> {
+    let formula = read_formula(alloc, text.as_bytes())?;
     if budget < 1 || budget > 100_000 {
         return Err("budget".into());
     }
@@ -147,8 +147,8 @@ fn has_room(alloc: Global, text: &[u8], budget: u32) -> Result<bool, Fail> {
 
 #[test]
 fn lines_have_room(rt: HostRuntime) -> Result<(), Fail> {
-    let rows: [(&[u8], u32); 8] = [
-        (b"p cnf 2 1\n0\n", 1),
+    let rows: [(&str, u32); 8] = [
+        ("p cnf 2 1\n0\n", 1),
         (FOUR, 1),
         (FOUR_PURE, 2),
         (EIGHT, 4),

@@ -239,7 +239,7 @@ pub struct Row<'a>(pub Act<'a>, pub Closed, pub &'a [(i32, u64, u32)]);
 #[derive(Clone, Copy)]
 pub struct Case<'a> {
     pub name: &'a str,
-    pub text: &'a [u8],
+    pub text: &'a str,
     pub numbers: &'a [i32],
     pub rows: &'a [Row<'a>],
 }
@@ -260,12 +260,12 @@ fn first_failed(alloc: Global, kernel: &mut Kernel, rows: &[Row]) -> Result<Opti
 }
 
 fn failed_row(alloc: Global, case: &Case) -> Result<Option<usize>, Fail> {
-    let mut kernel = opened(alloc, case.text, case.numbers)?;
+    let mut kernel = opened(alloc, case.text.as_bytes(), case.numbers)?;
     first_failed(alloc, &mut kernel, case.rows)
 }
 
 fn failed_row_with_units(alloc: Global, case: &Case) -> Result<Option<usize>, Fail> {
-    let mut kernel = opened_with(alloc, case.text, case.numbers, &[])?;
+    let mut kernel = opened_with(alloc, case.text.as_bytes(), case.numbers, &[])?;
     first_failed(alloc, &mut kernel, case.rows)
 }
 

@@ -105,7 +105,7 @@ static CASES: [Case; 2] = [
     // another cube begins with none.
     Case {
         name: "a clause that is forgotten",
-        text: b"p cnf 4 1\n1 2 3 4 0\n",
+        text: "p cnf 4 1\n1 2 3 4 0\n",
         numbers: &[],
         rows: &[
             Row(Act::Decide(-1), Closed::Quiet, &[(-1, 0, 1)]),
@@ -131,7 +131,7 @@ static CASES: [Case; 2] = [
     // Of three learnt clauses the middle one is forgotten; the other two stay as they were.
     Case {
         name: "a clause between two others",
-        text: b"p cnf 5 1\n1 2 3 4 5 0\n",
+        text: "p cnf 5 1\n1 2 3 4 5 0\n",
         numbers: &[],
         rows: &[
             Row(Act::Decide(-1), Closed::Quiet, &[(-1, 0, 1)]),

@@ -48,7 +48,7 @@ static CASES: [Case; 2] = [
     },
     Case {
         name: "from a decision to a cube",
-        text: b"p cnf 3 2\n2 3 0\n1 -3 0\n",
+        text: "p cnf 3 2\n2 3 0\n1 -3 0\n",
         numbers: &[-2],
         rows: &[
             Row(

@@ -25,7 +25,7 @@ static DECISIONS: [Case; 5] = [
     },
     Case {
         name: "a level that no clause names",
-        text: b"p cnf 4 2\n1 3 4 0\n1 3 -4 0\n",
+        text: "p cnf 4 2\n1 3 4 0\n1 3 -4 0\n",
         numbers: &[],
         rows: &[
             Row(Act::Decide(-1), Closed::Quiet, &[(-1, 0, 1)]),
@@ -150,7 +150,7 @@ static AT_THE_ROOT: [Case; 10] = [
     },
     Case {
         name: "the least unit clause comes first",
-        text: b"p cnf 3 2\n2 3 0\n1 -3 0\n",
+        text: "p cnf 3 2\n2 3 0\n1 -3 0\n",
         numbers: &[-1, -2],
         rows: &[Row(
             Act::Nothing,
@@ -160,31 +160,31 @@ static AT_THE_ROOT: [Case; 10] = [
     },
     Case {
         name: "a false clause comes before a unit one",
-        text: b"p cnf 3 2\n2 3 0\n1 2 0\n",
+        text: "p cnf 3 2\n2 3 0\n1 2 0\n",
         numbers: &[-1, -2],
         rows: &[Row(Act::Nothing, Closed::Conflict(2), &[(-1, 0, 0), (-2, 0, 0)])],
     },
     Case {
         name: "an empty clause behind a unit one",
-        text: b"p cnf 1 2\n1 0\n0\n",
+        text: "p cnf 1 2\n1 0\n0\n",
         numbers: &[],
         rows: &[Row(Act::Nothing, Closed::Conflict(2), &[])],
     },
     Case {
         name: "an empty clause alone",
-        text: b"p cnf 0 1\n0\n",
+        text: "p cnf 0 1\n0\n",
         numbers: &[],
         rows: &[Row(Act::Nothing, Closed::Conflict(1), &[])],
     },
     Case {
         name: "repeated literals",
-        text: b"p cnf 2 2\n1 1 0\n-1 2 -1 2 2 0\n",
+        text: "p cnf 2 2\n1 1 0\n-1 2 -1 2 2 0\n",
         numbers: &[],
         rows: &[Row(Act::Nothing, Closed::Quiet, &[(1, 1, 0), (2, 2, 0)])],
     },
     Case {
         name: "literals of both signs",
-        text: b"p cnf 2 3\n1 -1 0\n2 -1 1 0\n-2 2 1 0\n",
+        text: "p cnf 2 3\n1 -1 0\n2 -1 1 0\n-2 2 1 0\n",
         numbers: &[],
         rows: &[
             Row(Act::Nothing, Closed::Quiet, &[]),

@@ -8,7 +8,7 @@ static CASES: [Case; 6] = [
     // at level 0, so a decision has one level less than without the unit.
     Case {
         name: "a level less",
-        text: b"p cnf 4 2\n1 3 4 0\n1 3 -4 0\n",
+        text: "p cnf 4 2\n1 3 4 0\n1 3 -4 0\n",
         numbers: &[-2],
         rows: &[
             Row(Act::Nothing, Closed::Quiet, &[(-2, 3, 0)]),
@@ -41,7 +41,7 @@ static CASES: [Case; 6] = [
     // All four clauses over two variables, and a third variable that no clause has.
     Case {
         name: "an unused variable",
-        text: b"p cnf 3 4\n1 2 0\n1 -2 0\n-1 2 0\n-1 -2 0\n",
+        text: "p cnf 3 4\n1 2 0\n1 -2 0\n-1 2 0\n-1 -2 0\n",
         numbers: &[-3],
         rows: &[
             Row(Act::Nothing, Closed::Quiet, &[(-3, 5, 0)]),
@@ -68,7 +68,7 @@ static CASES: [Case; 6] = [
     // clauses of one literal.
     Case {
         name: "units in their order",
-        text: b"p cnf 4 2\n1 2 3 0\n4 4 0\n",
+        text: "p cnf 4 2\n1 2 3 0\n4 4 0\n",
         numbers: &[-3, -1],
         rows: &[
             Row(
@@ -91,7 +91,7 @@ static CASES: [Case; 6] = [
     },
     Case {
         name: "units alone",
-        text: b"p cnf 2 0\n",
+        text: "p cnf 2 0\n",
         numbers: &[-1, 2],
         rows: &[
             Row(Act::Nothing, Closed::Quiet, &[(-1, 1, 0), (2, 2, 0)]),
@@ -100,7 +100,7 @@ static CASES: [Case; 6] = [
     },
     Case {
         name: "a unit behind an empty clause",
-        text: b"p cnf 1 1\n0\n",
+        text: "p cnf 1 1\n0\n",
         numbers: &[-1],
         rows: &[
             Row(Act::Nothing, Closed::Conflict(1), &[]),
@@ -109,7 +109,7 @@ static CASES: [Case; 6] = [
     },
     Case {
         name: "a unit against a clause of one literal",
-        text: b"p cnf 1 1\n1 0\n",
+        text: "p cnf 1 1\n1 0\n",
         numbers: &[-1],
         rows: &[
             Row(Act::Nothing, Closed::Conflict(2), &[(1, 1, 0)]),

@@ -1,17 +1,14 @@
 //! Worked rows of the checker, each from the bytes of a formula and of a proof.
 use cnf::read_formula;
 use lrat::{CheckFault, check, read_proof};
-use samples::FOUR;
+use samples::{FOUR, WIDE};
 use std::alloc::Global;
 use std::process::Abort;
 use std::test::Fail;
 
-/// The four clauses over two variables, where there are four.
-const FOUR_OVER_FOUR: &[u8] = b"p cnf 4 4\n1 2 0\n1 -2 0\n-1 2 0\n-1 -2 0\n";
-
 /// A name, a formula, a proof, and what checking comes to: the number of the fault and its step, or
 /// 0 and 0.
-type Row<'a> = (&'a str, &'a [u8], &'a [u8], (u32, u64));
+type Row<'a> = (&'a str, &'a str, &'a [u8], (u32, u64));
 
 const ACCEPTED: (u32, u64) = (0, 0);
 
@@ -105,45 +102,45 @@ static ROWS: [Row; 30] = [
     // clauses over new variables
     (
         "a clause over a new variable",
-        FOUR_OVER_FOUR,
+        WIDE,
         b"5 3 1 0 0\n6 -3 -1 0 -5 0\n7 1 0 1 2 0\n8 0 7 3 4 0\n",
         ACCEPTED,
     ),
     (
         "a closed candidate left out",
-        FOUR_OVER_FOUR,
+        WIDE,
         b"5 3 1 0 0\n6 -3 -1 0 0\n7 1 0 1 2 0\n8 0 7 3 4 0\n",
         ACCEPTED,
     ),
     (
         "a closed candidate with a hint",
-        FOUR_OVER_FOUR,
+        WIDE,
         b"5 3 1 0 0\n6 -3 -1 0 -5 1 0\n7 1 0 1 2 0\n8 0 7 3 4 0\n",
         (28, 2),
     ),
     (
         "a candidate that is missing",
-        FOUR_OVER_FOUR,
+        WIDE,
         b"5 3 1 0 0\n6 -3 0 0\n7 1 0 1 2 0\n8 0 7 3 4 0\n",
         (27, 2),
     ),
     (
         "one of two candidates named",
-        FOUR_OVER_FOUR,
+        WIDE,
         b"5 3 1 0 0\n6 3 2 0 0\n7 -3 -1 0 -5 0\n",
         (27, 3),
     ),
     (
         "the one candidate named that wasn't deleted",
-        FOUR_OVER_FOUR,
+        WIDE,
         b"5 3 1 0 0\n6 3 2 0 0\n6 d 6 0\n7 -3 -1 0 -5 0\n8 1 0 1 2 0\n9 0 8 3 4 0\n",
         ACCEPTED,
     ),
     // written proofs
-    ("an empty clause", b"p cnf 0 1\n0\n", b"2 0 1 0\n", ACCEPTED),
+    ("an empty clause", "p cnf 0 1\n0\n", b"2 0 1 0\n", ACCEPTED),
     (
         "two clauses of one literal",
-        b"p cnf 1 2\n1 0\n-1 0\n",
+        "p cnf 1 2\n1 0\n-1 0\n",
         b"3 0 1 2 0\n",
         ACCEPTED,
     ),
@@ -157,8 +154,8 @@ static ROWS: [Row; 30] = [
 
 /// What checking comes to: 0 where the proof is accepted, else the fault's number, and its step, or
 /// 0.
-fn checked(alloc: Global, formula: &[u8], proof: &[u8]) -> Result<(u32, u64), Fail> {
-    let formula = read_formula(alloc, formula)?;
+fn checked(alloc: Global, formula: &str, proof: &[u8]) -> Result<(u32, u64), Fail> {
+    let formula = read_formula(alloc, formula.as_bytes())?;
     let steps = read_proof(alloc, proof)?;
     Ok(match check(alloc, &formula, &steps) {
         Ok(()) => (0, 0),

@@ -315,7 +315,7 @@ fn compare_all(
 
 #[test]
 fn plain_checker_answers_the_same(rt: HostRuntime) -> Result<(), Fail> {
-    let formula = read_formula(rt.alloc(), FOUR_UNUSED)?;
+    let formula = read_formula(rt.alloc(), FOUR_UNUSED.as_bytes())?;
     let proofs = [
         "5 1 0 1 2 0\n",
         "5 1 0 1 2 0\n6 0 5 3 4 0\n",

@@ -2,7 +2,7 @@
 use cnf::{Place, ReadFault};
 use runs::{Checked, RunFault, check_run};
 use samples::faulty::Trickle;
-use samples::strings::{FOUR, FOUR_PROOF, WIDE, WIDE_PROOF};
+use samples::{FOUR, FOUR_PROOF, WIDE, WIDE_PROOF};
 use std::alloc::Global;
 use std::process::Abort;
 use std::test::Fail;

@@ -2,7 +2,7 @@
 use cnf::ReadFault;
 use runs::{Checked, RunFault, check_run};
 use samples::faulty::{Full, Limited, Limits, ROOMY, Trickle, UNFLUSHED};
-use samples::strings::{FOUR, FOUR_PROOF};
+use samples::{FOUR, FOUR_PROOF};
 use std::alloc::Global;
 
 /// Proofs over the four clauses, with their lines and verdicts.

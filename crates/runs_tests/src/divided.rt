@@ -5,7 +5,7 @@ ghost use Rattle.std.specs.Prelude.{◌≤◌};
 use cdcl::Plan;
 use cubes::OpenGate;
 use runs::{RunFault, run_by_plan, run_one_by_plan};
-use samples::strings::{EIGHT, FOUR};
+use samples::{EIGHT, FOUR};
 use std::alloc::Global;
 use std::process::Abort;
 use std::sync::Wait;

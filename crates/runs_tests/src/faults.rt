@@ -5,7 +5,7 @@ use cnf::{Place, ReadFault};
 use cubes::OpenGate;
 use runs::{RunFault, Verdict, run, run_one};
 use samples::faulty::{Full, Limited, Limits, ROOMY, Trickle, UNFLUSHED};
-use samples::strings::{FOUR, FOUR_PROOF};
+use samples::{FOUR, FOUR_PROOF};
 use std::alloc::Global;
 use std::sync::Wait;
 use std::thread::Threads;

@@ -3,7 +3,7 @@
 use cubes::Gate;
 use kernel::Cube;
 use runs::{RunFault, Verdict, run};
-use samples::strings::{FOUR, FOUR_PROOF};
+use samples::{FOUR, FOUR_PROOF};
 use std::alloc::Global;
 use std::sync::Wait;
 use std::sync::atomic::{AtomicU64, Ordering};

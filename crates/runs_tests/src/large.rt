@@ -8,7 +8,7 @@ use runs::{
     Checked, RunFault, Verdict, answer_by_plan, answer_within, check_run, check_run_within,
     run_within,
 };
-use samples::strings::{FOUR, FOUR_PROOF};
+use samples::{FOUR, FOUR_PROOF};
 use std::alloc::Global;
 use std::sync::Wait;
 use std::thread::Threads;

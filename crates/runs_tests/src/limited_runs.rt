@@ -7,7 +7,7 @@ use cnf::{Place, ReadFault};
 use cubes::OpenGate;
 use runs::{Limit, RunFault, Verdict, run_limited};
 use samples::faulty::{Limited, Limits};
-use samples::strings::{FOUR, FOUR_PROOF};
+use samples::{FOUR, FOUR_PROOF};
 use std::alloc::Global;
 use std::sync::Wait;
 use std::sync::atomic::{AtomicU64, Ordering};

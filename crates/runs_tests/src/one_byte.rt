@@ -4,7 +4,7 @@ use cnf::{Formula, read_formula};
 use lrat::{check, read_proof};
 use runs::check_run;
 use samples::faulty::Trickle;
-use samples::strings::{FOUR, WIDE, WIDE_PROOF};
+use samples::{FOUR, WIDE, WIDE_PROOF};
 use std::alloc::{AllocError, Global};
 use std::process::Abort;
 use std::test::Fail;

@@ -3,7 +3,7 @@ ghost use Rattle.std.specs.Prelude.{◌≤◌};
 
 use cubes::OpenGate;
 use runs::{RunFault, Verdict, run, run_one, runs_write_the_same};
-use samples::strings::{EIGHT, FOUR, FOUR_PROOF};
+use samples::{EIGHT, FOUR, FOUR_PROOF};
 use std::alloc::Global;
 use std::process::Abort;
 use std::sync::Wait;

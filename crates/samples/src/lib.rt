@@ -4,8 +4,9 @@
 
 mod cubes;
 pub mod faulty;
-pub mod strings;
 mod texts;
 
 pub use cubes::{cube_of, has_var, reads};
-pub use texts::{EIGHT, FOUR, FOUR_PURE, FOUR_UNUSED, SIXTEEN, TWO_MODELS};
+pub use texts::{
+    EIGHT, FOUR, FOUR_PROOF, FOUR_PURE, FOUR_UNUSED, SIXTEEN, TWO_MODELS, WIDE, WIDE_PROOF,
+};
