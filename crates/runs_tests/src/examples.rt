@@ -1,7 +1,8 @@
 //! Examples from end to end: refuted at budgets from the least on, and each proof accepted.
 ghost use Rattle.std.specs.Prelude.{◌≤◌};
 
-use runs::{Checked, RunFault, Verdict, check_run, run_one};
+use cdcl::{Plan, Search};
+use runs::{Checked, RunFault, Verdict, check_run, run_one_by_plan};
 use std::alloc::{AllocError, Global};
 use std::fmt::Write;
 use std::process::Abort;
@@ -72,13 +73,21 @@ pub fn pigeonhole(alloc: Global) -> Result<String, AllocError> {
     Ok(text)
 }
 
-/// The proof of an unsatisfiable formula, or none where something else is answered.
-fn proof_of(alloc: Global, text: &str, budget: u32) -> Result<Option<Vec<u8>>, RunFault>
+/// The plan of a search that divides nothing, with this budget for the root.
+fn plan_of(search: Search, budget: u32) -> Plan
     requires { (1 ≤ budget) × (budget ≤ 100000) }
 {
+    match search {
+        Search::Ordered => Plan::ordered(budget),
+        Search::Focused => Plan::focused(budget),
+    }
+}
+
+/// The proof of an unsatisfiable formula, or none where something else is answered.
+fn proof_of(alloc: Global, text: &str, plan: Plan) -> Result<Option<Vec<u8>>, RunFault> {
     let mut proof = Vec::new(alloc);
     let mut answer = Vec::new(alloc);
-    let verdict = run_one(alloc, text.as_bytes(), &mut answer, &mut proof, budget)?;
+    let verdict = run_one_by_plan(alloc, text.as_bytes(), &mut answer, &mut proof, plan)?;
     if verdict != Verdict::Unsatisfiable || answer.as_slice() != b"s UNSATISFIABLE\n".as_slice() {
         return Ok(None);
     }
@@ -86,26 +95,30 @@ fn proof_of(alloc: Global, text: &str, budget: u32) -> Result<Option<Vec<u8>>, R
 }
 
 /// Whether a proof is accepted, and the line says so.
-pub fn is_accepted(alloc: Global, text: &str, proof: &[u8]) -> Result<bool, RunFault> {
+fn is_accepted(alloc: Global, text: &str, proof: &[u8]) -> Result<bool, RunFault> {
     let mut line = Vec::new(alloc);
     let checked = check_run(alloc, text.as_bytes(), proof, &mut line)?;
     Ok(checked == Checked::Accepted && line.as_slice() == b"accepted\n".as_slice())
 }
 
-/// Whether an unsatisfiable formula is refuted, by a proof that is accepted.
-fn is_refuted(alloc: Global, text: &str, budget: u32) -> Result<bool, RunFault>
-    requires { (1 ≤ budget) × (budget ≤ 100000) }
-{
-    match proof_of(alloc, text, budget)? {
+/// Whether an unsatisfiable formula is refuted by a plan, with a proof that is accepted.
+fn is_refuted(alloc: Global, text: &str, plan: Plan) -> Result<bool, RunFault> {
+    match proof_of(alloc, text, plan)? {
         Some(proof) => is_accepted(alloc, text, &proof),
         None => Ok(false),
     }
 }
 
-/// Checks that a formula is refuted, at each of some budgets.
-fn check_budgets(rt: &impl Abort, alloc: Global, text: &str) -> Result<(), Fail> {
+/// Checks that a formula is refuted by a search, at each of some budgets.
+pub fn check_budgets(
+    rt: &impl Abort,
+    alloc: Global,
+    text: &str,
+    search: Search,
+) -> Result<(), Fail> {
     for budget in [1, 2, 10, 1000] {
-        assert!(rt; is_refuted(alloc, text, budget)?, "budget {budget}");
+        let plan = plan_of(search, budget);
+        assert!(rt; is_refuted(alloc, text, plan)?, "budget {budget}");
     }
     Ok(())
 }
@@ -113,10 +126,10 @@ fn check_budgets(rt: &impl Abort, alloc: Global, text: &str) -> Result<(), Fail>
 #[test]
 fn pigeons(rt: HostRuntime) -> Result<(), Fail> {
     let text = pigeonhole(rt.alloc())?;
-    check_budgets(&rt, rt.alloc(), text.as_str())
+    check_budgets(&rt, rt.alloc(), text.as_str(), Search::Ordered)
 }
 
 #[test]
 fn circuits(rt: HostRuntime) -> Result<(), Fail> {
-    check_budgets(&rt, rt.alloc(), MITER)
+    check_budgets(&rt, rt.alloc(), MITER, Search::Ordered)
 }
