@@ -23,11 +23,15 @@ pub trait Gate {
     /// told as `counted` is.
     fn prepared(&self, _counts: Counts) {}
 
-    /// Before the hands begin, the first search was asked whether the formula is divided, or ended
-    /// before.
+    /// The first search was asked whether the formula is divided, or ended before: this is what it
+    /// had done by then, and its answer. The thread that called for the result tells it, at most
+    /// once, before the hands begin; it is never told where the plan can't divide a formula.
     fn asked(&self, _first: FirstSearch) {}
 
-    /// The hand has refuted a cube, one that it carries on too. It is told before `after`.
+    /// The hand of this number has refuted the cube. Its thread tells it once for each cube of the
+    /// tree that is refuted: of a cube from the pool between `before` and `after`, of one that the
+    /// hand carries on as soon as it is solved. What the thread that called for the result solves
+    /// itself, it tells as the hand 0.
     fn refuted(&self, _hand: usize, _cube: &Cube) {}
 
     /// Whether the hands are to stop before all is solved. A solver asks before each cube, and

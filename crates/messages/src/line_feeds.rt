@@ -1,9 +1,9 @@
-//! How many lines end in a piece of a text.
+//! The number of line feeds in a piece of a text.
 ghost use Rattle.std.specs.Prelude.{◌≡◌};
 ghost use Rattle.messages.specs.Lines.{line_feeds};
 
-/// How many line feeds there are. A whole piece of a text is counted several times as fast as its
-/// bytes are looked at one by one.
+/// How many line feeds the piece has. To count them takes a fraction of the time in which `Excerpt`
+/// would take the piece byte by byte.
 pub(crate) fn line_feeds(piece: &[u8]) -> u64
     ensures { result ≡ line_feeds piece.now }
 {
