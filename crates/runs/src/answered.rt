@@ -44,7 +44,8 @@ fn text_of(
     }
 }
 
-/// `answer_by_plan`, where an observer is told as the formula is read, and as it is decided.
+/// What `answer_within` does. An observer is told once the formula is read, once it is decided, and
+/// before the answer is written.
 pub(crate) fn answer_observed<
     T: Threads + Wait + Clock + Sync,
     R: Read + Drop,
@@ -85,7 +86,7 @@ pub(crate) fn answer_observed<
 
 /// Decides the formula of a DIMACS text by the plan, by 1 to 16 hands, and writes and flushes the
 /// answer: the bytes that `run_within` writes. No proof is made of it, and none of its lines is
-/// kept.
+/// kept. `RunFault` says when each fault comes and what is written then.
 pub fn answer_within<T: Threads + Wait + Clock + Sync, R: Read + Drop, W: Write, G: Gate + Sync>(
     rt: &T,
     alloc: Global,

@@ -16,10 +16,12 @@ use statistics::{Observer, Unobserved};
 use std::alloc::Global;
 use std::io::{Read, Write};
 
-/// What the checker says of a proof, and why it is refused, if it is.
+/// The checker's verdict on a proof, and what words of a refusal need.
 #[derive(Clone, Copy)]
 pub struct Told {
+    /// The verdict that the line tells.
     pub checked: Checked,
+    /// The fault and its place, where the proof is refused; else none.
     pub why: Option<Refused>,
 }
 
@@ -69,7 +71,8 @@ fn judge<P: Read>(
     Ok(Judged { verdict, named })
 }
 
-/// What `check_run_within` does, and why the proof is refused. An observer is told of the answer.
+/// What `check_run_within` does, with the same faults; the answer also says why the proof is refused,
+/// if it is. An observer is told once, before the line is written.
 pub fn check_told<R: Read + Drop, P: Read + Drop, W: Write, O: Observer>(
     alloc: Global,
     formula: R,
@@ -97,10 +100,10 @@ pub fn check_told<R: Read + Drop, P: Read + Drop, W: Write, O: Observer>(
 }
 
 /// Checks a proof against the formula of a DIMACS text, by the checker of `lrat`: reads the
-/// formula, then the proof until there is one byte more than it may have, and writes and flushes one line,
-/// `accepted` or why it is refused. Each step is checked as its line ends, so it takes memory for
-/// the clauses that are there, and none for the text. `RunFault` says when each fault comes and
-/// what is written then.
+/// formula, then the proof until there is one byte more than it may have, and writes and flushes
+/// one line, `accepted` or why it is refused. Each step is checked as its line ends, so it takes
+/// memory for the clauses that are there, and none for the text. `RunFault` says when each fault
+/// comes and what is written then.
 pub fn check_run_within<R: Read + Drop, P: Read + Drop, W: Write>(
     alloc: Global,
     formula: R,

@@ -38,7 +38,8 @@ fn end_unsolved<W: Write, L: Limit, O: Observer>(
     Ok(None)
 }
 
-/// `run_limited`, whose stages an observer is told of.
+/// What `run_limited_within` does. An observer is told of each stage as it ends, and before the
+/// answer is written. `RunFault` says when each fault comes and what is written then.
 pub fn run_limited_observed<
     T: Threads + Wait + Clock + Sync,
     R: Read + Drop,
@@ -74,7 +75,8 @@ pub fn run_limited_observed<
     }
 }
 
-/// `answer_limited`, whose stages an observer is told of.
+/// What `answer_limited_within` does. An observer is told of each stage as it ends, and before the
+/// answer is written. `RunFault` says when each fault comes and what is written then.
 pub fn answer_limited_observed<
     T: Threads + Wait + Clock + Sync,
     R: Read + Drop,
@@ -108,7 +110,8 @@ pub fn answer_limited_observed<
 }
 
 /// What `answer_within` does, unless the limit is reached before the formula is decided: then it
-/// writes `s UNKNOWN` as the answer, and there is no verdict.
+/// writes `s UNKNOWN` as the answer, and there is no verdict. `RunFault` says when each fault comes
+/// and what is written then.
 pub fn answer_limited_within<
     T: Threads + Wait + Clock + Sync,
     R: Read + Drop,
@@ -169,7 +172,8 @@ pub fn answer_limited<
 
 /// What `run_within` does, unless the limit is reached before the formula is solved: then it
 /// writes `s UNKNOWN` as the answer and no proof, and there is no verdict. Where the limit isn't
-/// reached, it writes the same bytes as without one.
+/// reached, it writes the same bytes as without one. `RunFault` says when each fault comes and what
+/// is written then.
 pub fn run_limited_within<
     T: Threads + Wait + Clock + Sync,
     R: Read + Drop,

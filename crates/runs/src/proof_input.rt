@@ -50,8 +50,8 @@ fn feed_chunk<P: Read>(
 }
 
 /// Feeds the check with a reader's bytes, until a read gives none, until an error, or until there
-/// is one byte more than the limits allow. Any error of the reader is `ProofReadFailed`, and no read is
-/// tried again.
+/// is one byte more than the limits allow. Any error of the reader is `ProofReadFailed`, and no
+/// read is tried again.
 pub(crate) fn feed_all<P: Read>(
     alloc: Global,
     proof: &mut P,

@@ -21,7 +21,8 @@ use std::sync::Wait;
 use std::thread::Threads;
 use std::time::Clock;
 
-/// The stages of `run_by_plan`, each of which an observer is told of as it ends.
+/// What `run_within` does. An observer is told of each stage as it ends, and before the answer is
+/// written.
 pub(crate) fn run_observed<
     T: Threads + Wait + Clock + Sync,
     R: Read + Drop,
@@ -66,8 +67,9 @@ pub(crate) fn run_observed<
     Ok(output.verdict)
 }
 
-/// What `run_one_by_plan` does within these limits, by 1 to 16 hands, each in a thread of its own where one can be
-/// started. Whatever the hands, the gate and the schedule, the same bytes are written.
+/// What `run_one_by_plan` does within these limits, by 1 to 16 hands, each in a thread of its own
+/// where one can be started. Whatever the hands, the gate and the schedule, the same bytes are
+/// written. `RunFault` says when each fault comes and what is written then.
 pub fn run_within<
     T: Threads + Wait + Clock + Sync,
     R: Read + Drop,
