@@ -1,7 +1,6 @@
 //! The command line.
-ghost use Rattle.std.specs.Prelude.{◌≤◌, IfOk};
-ghost use Rattle.cubesat.specs.Arguments.{IsRequest, IsWithin};
 
+use crate::effort::Asked;
 use crate::refusals::refusal_of;
 use cdcl::Search;
 use clap::error::ErrorKind;
@@ -20,9 +19,6 @@ const FOCUSED_BUDGET: u32 = 100_000;
 
 /// The most cubes that a formula may be divided into.
 const MAX_DIVIDE: u32 = 65_536;
-
-/// Into how many cubes the focused search divides a formula, where no number is asked for.
-pub(crate) const FOCUSED_DIVIDE: u32 = 64;
 
 /// The names of the searches.
 static SEARCHES: [&str; 2] = ["ordered", "focused"];
@@ -68,13 +64,7 @@ pub(crate) struct Shown {
 pub(crate) enum Request<'a> {
     /// Decide the formula in `file`, and write its proof to `proof`, if there is to be one.
     Solve {
-        search: Search,
-        budget: u32,
-        /// Into how many cubes the formula is to be divided, if that is asked for.
-        divide: Option<u32>,
-        hands: usize,
-        seconds: Option<u32>,
-        limits: Limits,
+        asked: Asked,
         proof: Option<&'a str>,
         file: &'a str,
         shown: Shown,
@@ -160,7 +150,7 @@ fn proof_option<'a>(alloc: Global) -> Arg<'a> {
         )
 }
 
-/// A word without an option before it, which isn't left out.
+/// A word without an option before it, which must be given.
 fn word<'a>(alloc: Global, name: &'a str, help: &'a str) -> Arg<'a> {
     Arg::new(alloc, name).required(true).help(help)
 }
@@ -286,11 +276,18 @@ fn default_budget(search: Search) -> u32 {
     }
 }
 
-/// The request of a subcommand's matches. The command has been built so that each value is there
-/// and in its range; this is tested again, since no clause of the parser's says it of a subcommand.
-fn solve_request<'a>(matches: &ArgMatches<'a>) -> Option<Request<'a>>
-    ensures { IsWithin result }
-{
+/// What is to be shown of a run.
+fn shown_of(matches: &ArgMatches<'_>) -> Shown {
+    Shown {
+        stats: matches.get_flag("stats"),
+        progress: matches.get_flag("progress"),
+        verbose: matches.get_flag("verbose"),
+    }
+}
+
+/// How a formula is to be solved. The command has been built so that each value is there and in its
+/// range; this is tested again, since no clause of the parser's says it of a subcommand.
+fn asked_in(matches: &ArgMatches<'_>) -> Option<Asked> {
     let search = search_named(matches.get_str("search")?)?;
     let budget = match matches.get_one::<u32>("budget") {
         Some(budget) => budget,
@@ -301,61 +298,50 @@ fn solve_request<'a>(matches: &ArgMatches<'a>) -> Option<Request<'a>>
         divide => divide,
     };
     let hands = matches.get_one::<u32>("hands")?;
-    let seconds = matches.get_one::<u32>("seconds");
-    let proof = matches.get_str("proof");
-    let file = matches.get_str("FILE")?;
-    let shown = Shown {
-        stats: matches.get_flag("stats"),
-        progress: matches.get_flag("progress"),
-        verbose: matches.get_flag("verbose"),
-    };
     if budget < 1 || budget > MAX_BUDGET || hands < 1 || hands > MAX_HANDS {
         return None;
     }
-    Some(Request::Solve {
+    Some(Asked {
         search,
         budget,
         divide,
         hands: hands as usize,
-        seconds,
+        seconds: matches.get_one::<u32>("seconds"),
         limits: limits_of(matches),
-        proof,
-        file,
-        shown,
     })
 }
 
-fn check_request<'a>(matches: &ArgMatches<'a>) -> Option<Request<'a>>
-    ensures { IsWithin result }
-{
+fn solve_request<'a>(matches: &ArgMatches<'a>) -> Option<Request<'a>> {
+    let asked = asked_in(matches)?;
+    let file = matches.get_str("FILE")?;
+    Some(Request::Solve {
+        asked,
+        proof: matches.get_str("proof"),
+        file,
+        shown: shown_of(matches),
+    })
+}
+
+fn check_request<'a>(matches: &ArgMatches<'a>) -> Option<Request<'a>> {
     let formula = matches.get_str("FORMULA")?;
     let proof = matches.get_str("PROOF")?;
-    let shown = Shown {
-        stats: matches.get_flag("stats"),
-        progress: matches.get_flag("progress"),
-        verbose: matches.get_flag("verbose"),
-    };
     Some(Request::Check {
         formula,
         proof,
         limits: limits_of(matches),
         distinct_status: matches.get_flag("distinct-status"),
-        shown,
+        shown: shown_of(matches),
     })
 }
 
-fn explain_request<'a>(matches: &ArgMatches<'a>) -> Option<Request<'a>>
-    ensures { IsWithin result }
-{
+fn explain_request<'a>(matches: &ArgMatches<'a>) -> Option<Request<'a>> {
     let number = matches.get_one::<u32>("NUMBER")?;
     let behind = matches.get_one::<u32>("REFUSAL");
     Some(Request::Explain { number, behind })
 }
 
 /// The request of what matched the words, if it is one.
-fn request_in<'a>(matches: &ArgMatches<'a>) -> Option<Request<'a>>
-    ensures { IsWithin result }
-{
+fn request_in<'a>(matches: &ArgMatches<'a>) -> Option<Request<'a>> {
     let (name, matches) = matches.subcommand()?;
     match name {
         "check" => check_request(matches),
@@ -364,18 +350,17 @@ fn request_in<'a>(matches: &ArgMatches<'a>) -> Option<Request<'a>>
     }
 }
 
-/// The same of the words.
-fn parsed<'a>(command: &mut Command<'a>, words: &'a [&'a str]) -> Result<Option<Request<'a>>, Error>
-    ensures { IfOk result IsWithin }
-{
+/// The request that these words make of the command, if they make one.
+fn parsed<'a>(
+    command: &mut Command<'a>,
+    words: &'a [&'a str],
+) -> Result<Option<Request<'a>>, Error> {
     let matches = command.try_get_matches_from_mut(words)?;
     Ok(request_in(&matches))
 }
 
 /// What the words ask for by this command.
-fn request_by<'a>(command: &mut Command<'a>, words: &'a [&'a str]) -> Result<Request<'a>, Error>
-    ensures { IfOk result IsRequest }
-{
+fn request_by<'a>(command: &mut Command<'a>, words: &'a [&'a str]) -> Result<Request<'a>, Error> {
     let Some(request) = parsed(command, words)? else {
         return Err(command.error(ErrorKind::InvalidValue, "no request")?);
     };
@@ -387,9 +372,7 @@ fn request_by<'a>(command: &mut Command<'a>, words: &'a [&'a str]) -> Result<Req
 
 /// What the words ask for; the program's name is the first one. An error is the parser's, with its
 /// message.
-pub(crate) fn request_of<'a>(alloc: Global, words: &'a [&'a str]) -> Result<Request<'a>, Error>
-    ensures { IfOk result IsRequest }
-{
+pub(crate) fn request_of<'a>(alloc: Global, words: &'a [&'a str]) -> Result<Request<'a>, Error> {
     let mut command = whole_command(alloc)?;
     request_by(&mut command, words)
 }

@@ -5,6 +5,7 @@
 mod anew;
 mod arguments;
 mod checking;
+mod effort;
 mod explanations;
 mod fault_lines;
 mod input;

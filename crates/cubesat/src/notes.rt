@@ -1,8 +1,8 @@
 //! What `--verbose` prints: lines that begin with `c`, of what is done, and of what a fault means.
 
+use crate::effort::Effort;
 use crate::explanations::explanation;
 use crate::input::shown_name;
-use crate::watched::Effort;
 use cdcl::Search;
 use std::io::Write;
 

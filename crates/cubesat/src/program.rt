@@ -1,14 +1,10 @@
 //! The program: a command line, and what is done for it.
-ghost use Rattle.std.specs.Prelude.{◌≡◌, ◌≤◌, IfSome};
-ghost use Rattle.cubesat.specs.Arguments.{plan_asked, IsRequest};
 
-use crate::arguments::{FOCUSED_DIVIDE, Request, request_of};
+use crate::arguments::{Request, request_of};
 use crate::checking::check;
 use crate::explanations::explanation;
 use crate::fault_lines::{FAILED, Screen, print_fault};
 use crate::solving::solve;
-use crate::watched::Effort;
-use cdcl::{Plan, Search};
 use clap::Error;
 use clap::error::ErrorKind;
 use messages::say_no_memory;
@@ -55,21 +51,9 @@ fn explain<W: Write, E: Write>(
     if is_known { SHOWN } else { FAILED }
 }
 
-/// The plan that is asked for: a search, with this budget for the root, and for the focused one into
-/// how many cubes a formula is divided, if a number is given.
-fn plan_of(search: Search, budget: u32, divide: Option<u32>) -> Plan
-    requires { (1 ≤ budget) × (budget ≤ 100000) × IfSome divide (λ cubes. cubes ≤ 65536) }
-    ensures { result ≡ plan_asked search budget divide }
-{
-    match search {
-        Search::Ordered => Plan::ordered(budget),
-        Search::Focused => Plan::focused(budget).divided(divide.unwrap_or(FOCUSED_DIVIDE)),
-    }
-}
-
-/// Prints what the parser answered in place of a request: help or the version, or what is wrong; the
-/// status.
-fn print_parsed<W: Write, E: Write>(error: Error, answer: &mut W, faults: &mut E) -> u8 {
+/// Prints what the parser answered in place of a request, help or the version or what is wrong, and
+/// answers the exit status.
+fn print_unparsed<W: Write, E: Write>(error: Error, answer: &mut W, faults: &mut E) -> u8 {
     if error.kind() == ErrorKind::OutOfMemory {
         print_fault(faults, RunFault::NoMemory);
         say_no_memory(faults, "the command line");
@@ -92,28 +76,15 @@ fn serve<R: Files + Threads + Wait + Clock + Sync, I: Read + Drop, W: Write, E: 
     answer: &mut W,
     faults: &mut E,
     screen: Screen,
-) -> u8
-    requires { IsRequest request }
-{
+) -> u8 {
     match request {
         Request::Solve {
-            search,
-            budget,
-            divide,
-            hands,
-            seconds,
-            limits,
+            asked,
             proof,
             file,
             shown,
         } => {
-            let plan = plan_of(search, budget, divide);
-            let effort = Effort {
-                limits,
-                plan,
-                hands,
-                seconds,
-            };
+            let effort = asked.effort();
             solve(
                 rt, alloc, effort, proof, file, input, shown, answer, faults, screen,
             )
@@ -139,8 +110,8 @@ fn serve<R: Files + Threads + Wait + Clock + Sync, I: Read + Drop, W: Write, E: 
 /// answer to `answer`, faults and what is shown of the run to `faults`, and answers the exit
 /// status: 10 satisfiable, 20 unsatisfiable, 0 for a formula that isn't decided in time, for a
 /// proof that is accepted, for help and for an explanation, 1 for a proof that is refused, on a
-/// fault or a wrong command line. A failed write to
-/// `faults` changes nothing else. `screen` says where `faults` leads.
+/// fault or a wrong command line. A failed write to `faults` changes nothing else. `screen` says
+/// where `faults` leads.
 pub fn command_with_input<
     R: Files + Threads + Wait + Clock + Sync,
     I: Read + Drop,
@@ -157,7 +128,7 @@ pub fn command_with_input<
 ) -> u8 {
     match request_of(alloc, words) {
         Ok(request) => serve(rt, alloc, request, input, answer, faults, screen),
-        Err(error) => print_parsed(error, answer, faults),
+        Err(error) => print_unparsed(error, answer, faults),
     }
 }
 

@@ -1,6 +1,7 @@
 //! Command lines that are refused, though each of their words is right by itself.
 
 use crate::arguments::Request;
+use crate::effort::Asked;
 use crate::input::STANDARD_INPUT;
 use cdcl::Search;
 
@@ -8,8 +9,11 @@ use cdcl::Search;
 pub(crate) fn refusal_of(request: &Request) -> Option<&'static str> {
     match request {
         Request::Solve {
-            search: Search::Ordered,
-            divide: Some(_),
+            asked: Asked {
+                search: Search::Ordered,
+                divide: Some(_),
+                ..
+            },
             ..
         } => Some(
             "only the focused search divides formulas; give --search focused too, or leave --divide out",

@@ -7,13 +7,14 @@ ghost use Rattle.cubesat.specs.Status.{solve_status, IsSolveStatus};
 ghost use Rattle.cubesat.specs.Ends.{SolveEnds};
 
 use crate::arguments::Shown;
+use crate::effort::Effort;
 use crate::fault_lines::{
     FAILED, Screen, print_fault_of, print_no_memory, print_not_created, print_not_opened,
 };
 use crate::input::open_input;
 use crate::notes::{note_files, note_number, note_solve};
 use crate::placed_proof::{NotBegun, begin_proof};
-use crate::watched::{Effort, run_counted};
+use crate::watched::run_counted;
 use crate::worded::{Known, Opened};
 use cdcl::{Plan, Search};
 use cubes::OpenGate;

@@ -1,10 +1,11 @@
-//! Runs that are watched: they write what `run_limited` and `check_run` write.
-ghost use Rattle.std.specs.Prelude.{◌≤◌, IsSome, option_map};
+//! Runs that are watched: they write what `run_limited_within`, `answer_limited_within` and
+//! `check_run_within` write.
+ghost use Rattle.std.specs.Prelude.{IsSome, option_map};
 ghost use Rattle.cnf.specs.Limits.{limits_of};
 ghost use Rattle.runs.specs.Check.{CheckSays, checked_by};
 ghost use Rattle.runs.specs.Limited.{LimitedSays};
 
-use cdcl::Plan;
+use crate::effort::Effort;
 use cnf::Limits;
 use runs::{
     RunFault, TimeLimit, Told, Verdict, answer_limited_observed, check_told, run_limited_observed,
@@ -16,17 +17,6 @@ use std::io::{Read, Write};
 use std::sync::Wait;
 use std::thread::Threads;
 use std::time::Clock;
-
-/// How a formula is to be solved.
-#[derive(Clone, Copy)]
-pub(crate) struct Effort {
-    pub(crate) limits: Limits,
-    pub(crate) plan: Plan,
-    pub(crate) hands: usize,
-    /// After how many seconds a run ends without a verdict, if it isn't solved by then.
-    pub(crate) seconds: Option<u32>,
-    ghost hands_fit: { (1 ≤ hands) × (hands ≤ 16) },
-}
 
 /// A run that is counted on a board. Without a writer for the proof, none is made.
 fn run_on_board<
