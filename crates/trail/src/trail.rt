@@ -59,33 +59,33 @@ fn count_up_to(entries: &[Entry], level: u32) -> usize
     0
 }
 
-/// Makes the variables of entries free in the tables.
-fn free_all(truths: &mut [Truth], places: &mut [u32], vars: u32, dropped: &[Entry])
+/// Makes the variables of entries free in the tables. The answer is the least of them and of a
+/// bound.
+fn free_all(
+    truths: &mut [Truth],
+    places: &mut [u32],
+    vars: u32,
+    dropped: &[Entry],
+    bound: u32,
+) -> u32
     requires within { (v : ℕ) → has_var (literals dropped.now) v ≡ true → IsVariable vars v × (v < length places.old) }
     requires long { length truths.old ≡ 2 * vars + 1 }
     ensures truths { (l : Literal) → l.var ≤ vars → slice_index_or truths.new (spot vars l) Unassigned ≡
         (if has_var (literals dropped.now) l.var then Unassigned else slice_index_or truths.old (spot vars l) Unassigned) }
     ensures places { (v : ℕ) → slice_index places.new v ≡
         (if has_var (literals dropped.now) v then 0 else slice_index places.old v) }
-{
-    let free = Truth::Unassigned;
-    for entry in dropped {
-        let entry = *entry;
-        put_truths(truths, vars, entry.lit, free, free);
-        places[entry.lit.var() as usize] = 0;
-    }
-}
-
-/// The least of a bound and the variables of entries.
-fn least_var(dropped: &[Entry], bound: u32) -> u32
     ensures most { result ≤ bound }
     ensures least { (v : ℕ) → has_var (literals dropped.now) v ≡ true → result ≤ v }
     ensures there { (result ≡ bound) ⊎ (has_var (literals dropped.now) result ≡ true) }
 {
+    let free = Truth::Unassigned;
     let mut least = bound;
     for entry in dropped {
         let entry = *entry;
-        least = least.min(entry.lit.var());
+        let var = entry.lit.var();
+        put_truths(truths, vars, entry.lit, free, free);
+        places[var as usize] = 0;
+        least = least.min(var);
     }
     least
 }
@@ -275,8 +275,13 @@ impl Trail {
         ensures vars { self.new.vars ≡ self.old.vars }
     {
         let dropped = &self.entries[count..];
-        free_all(&mut self.truths, &mut self.places, self.vars, dropped);
-        self.next_free = least_var(dropped, self.next_free);
+        self.next_free = free_all(
+            &mut self.truths,
+            &mut self.places,
+            self.vars,
+            dropped,
+            self.next_free,
+        );
         self.entries.truncate(count);
     }
 }
