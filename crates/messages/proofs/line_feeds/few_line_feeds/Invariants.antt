@@ -1,6 +1,6 @@
 use Rattle.std.proofs.Common.{◌≡◌, ◌≤◌, ◌+◌, drop}
 use Rattle.messages.specs.Lines.{line_feeds}
-use Rattle.messages.proofs.line_feeds.line_feeds.Given as goal
+use Rattle.messages.proofs.line_feeds.few_line_feeds.Given as goal
 
 -- the line feeds so far, and no more than there are bytes
 abbrev pub invariant-loop-byte : goal.invariant-loop-byte
