@@ -6,7 +6,7 @@ use Rattle.std.proofs.lemmas.List.Elements.{Contains-append_left, Contains-push,
 use Rattle.std.specs.List.{Contains}
 use Rattle.theory.specs.Literals.{Literal, Clause, same, has, has_both_signs}
 use Rattle.theory.specs.Trails.{Trail, literals, current_level, up_to}
-use Rattle.kernel.specs.Watching.{At, IsPair, IsWatched, apart, first_true, second_true, other_true, both_signs, Reached, Good, held, waits, reached, Tending, list_at, IsFull, IsListed, Tends, AllGood, WasUnit, code, listed_at, listed_both, IsExact, IsServed}
+use Rattle.kernel.specs.Watching.{At, IsPair, IsWatched, apart, first_true, second_true, other_true, both_signs, Reached, Good, held, waits, reached, spared, Tending, list_at, IsFull, IsListed, Tends, AllGood, WasUnit, code, listed_at, listed_both, IsExact, IsServed}
 use Rattle.kernel.specs.declared.watch.Watched.{Watched}
 use Rattle.theory.proofs.literals.LiteralLemmas.{same-eq, same-refl}
 use Rattle.kernel.proofs.LiteralFacts.{true_false}
@@ -42,6 +42,7 @@ pub Good-longer : (K : List Clause) (c : Clause) (S P : List Literal) (H : List 
 Good-longer K c S P H f w n (held h) = held (IsWatched-longer K c n S P w h)
 Good-longer K c S P H f w n (waits m z) = waits m z
 Good-longer K c S P H f w n (reached r) = reached r
+Good-longer K c S P H f w n (spared m r z) = spared m r z
 
 old-at : (K : List Clause) (c d : Clause) (m : ℕ) → m < length K → At (K ++ c ∷ []) m d → At K m d
 old-at K c d m h a = go (At-push K c m d a)

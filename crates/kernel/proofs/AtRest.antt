@@ -4,7 +4,7 @@ use Rattle.std.specs.List.{Contains}
 use Rattle.theory.specs.Literals.{Literal, Clause, same, has, has_var, has_both_signs, negated}
 use Rattle.theory.specs.Status.{is_false, others_false}
 use Rattle.theory.proofs.literals.LiteralLemmas.{or-cases, same-eq, same-refl}
-use Rattle.kernel.specs.Watching.{IsConsistent, IsPair, apart, first_true, second_true, other_true, both_signs, At, Reached, Good, held, waits, reached}
+use Rattle.kernel.specs.Watching.{IsConsistent, IsPair, apart, first_true, second_true, other_true, both_signs, At, Reached, Good, held, waits, reached, spared}
 use Rattle.kernel.specs.declared.watch.Watched.{Watched}
 use Rattle.kernel.proofs.Places.{At-one}
 use Rattle.kernel.proofs.BothSigns.{both_signs-false, both_signs-unit}
@@ -29,6 +29,8 @@ false-reached K P H f c w n at ok pair all good = go good
     go (waits m (inl a)) = absurd (true_false (has P (negated w.first)) first_false a)
     go (waits m (inr b)) = absurd (true_false (has P (negated w.second)) second_false b)
     go (reached r) = r
+    go (spared m r (inl a)) = absurd (true_false (has P (negated w.first)) first_false a)
+    go (spared m r (inr b)) = absurd (true_false (has P (negated w.second)) second_false b)
 
 -- a literal of a clause that is unit in y is y or false
 pub other-false : (P : List Literal) (c : Clause) (y k : Literal) → others_false P c y ≡ true → has c k ≡ true → (y ≡ k) ⊎ (has P (negated k) ≡ true)
@@ -65,3 +67,4 @@ unit-waits K P H c w n y at ok pair free all good = go good
     go (held (both_signs d a b)) = absurd (both_signs-unit P c y ok (subst (λ (x : Clause). has_both_signs x ≡ true) (At-one K n d c a at) b) free all)
     go (waits m z) = m
     go (reached r) = absurd r
+    go (spared m r z) = absurd r

@@ -6,7 +6,7 @@ use Rattle.std.specs.List.{Contains}
 use Rattle.theory.specs.Literals.{Literal, Clause, same, has, has_var, negated}
 use Rattle.theory.specs.Trails.{Entry, Trail, literals, current_level, level_at, up_to}
 use Rattle.theory.proofs.literals.LiteralLemmas.{or-cases, or-left, or-right, true_or_false}
-use Rattle.kernel.specs.Watching.{At, IsWatched, Reached, Good, held, waits, reached, Tending, Includes, AreWatchedIn, Tends, AllGood, IsServed, other_true, both_signs, apart, first_true, second_true, WasUnit}
+use Rattle.kernel.specs.Watching.{At, IsWatched, Reached, Good, held, waits, reached, spared, Tending, Includes, AreWatchedIn, Tends, AllGood, IsServed, other_true, both_signs, apart, first_true, second_true, WasUnit}
 use Rattle.kernel.specs.declared.watch.Watched.{Watched}
 use Rattle.trail.specs.TrailOver.{IsRisingFrom}
 use Rattle.trail.proofs.Ordered.{rising-at}
@@ -75,14 +75,15 @@ rest-held floor K T served t none_false none_unit s n c w a b = (nonempty, go (s
             let f : unit_literal (literals T) c ≡ None = none_unit n c a in
             absurd (cc)
 
+    unreached : (m : ℕ) (o : Option ℕ) → t.least ≡ o → Reached o m → ⊥
+    unreached m None e x = x
+    unreached m (Some i) e x = let f = s.tends.found.least i e in (not_false i (get_or K i []) (At-get K i [] f.0) (f.1 (get_or K i []) (At-get K i [] f.0)))
+
     go : Good K (literals (take served T)) (literals T) t.units t.least w n → IsWatched K n (literals (take served T)) (literals T) w
     go (held h) = h
     go (waits m z) = true_one ((s.tends.found.units n m).1 c a)
-    go (reached r) = by t.least refl r
-      where
-        by : (o : Option ℕ) → t.least ≡ o → Reached o n → IsWatched K n (literals (take served T)) (literals T) w
-        by None e x = absurd x
-        by (Some i) e x = let f = s.tends.found.least i e in absurd (not_false i (get_or K i []) (At-get K i [] f.0) (f.1 (get_or K i []) (At-get K i [] f.0)))
+    go (reached r) = absurd (unreached n t.least refl r)
+    go (spared m r z) = absurd (unreached m t.least refl r)
 
 -- less was served
 IsWatched-less : (K : List Clause) (n : ℕ) (R S P : List Literal) (w : Watched) → Includes S R → IsWatched K n S P w → IsWatched K n R P w

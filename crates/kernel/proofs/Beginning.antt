@@ -13,7 +13,7 @@ use Rattle.theory.specs.Trails.{Trail, literals, current_level}
 use Rattle.theory.proofs.literals.LiteralLemmas.{or-cases, or-left, same-eq, same-refl}
 use Rattle.kernel.specs.declared.watch.Watched.{Watched}
 use Rattle.kernel.specs.declared.watch.Watch.{Watch}
-use Rattle.kernel.specs.Watching.{At, IsPair, apart, Reached, Good, held, waits, reached, Tending, IsServed, WasUnit, code, list_at, listed_both, lesser}
+use Rattle.kernel.specs.Watching.{At, IsPair, apart, Reached, Good, held, waits, reached, spared, Tending, IsServed, WasUnit, code, list_at, listed_both, lesser}
 use Rattle.kernel.specs.Visiting.{WatchLists, places, tending, AreEntries, entries_at, IsEntry}
 use Rattle.kernel.specs.Attaching.{attached, IsWatching}
 use Rattle.kernel.proofs.LiteralFacts.{true_false, all-member}
@@ -282,4 +282,5 @@ module _ (V : ℕ) (K : List Clause) (k u : WatchLists) (single : List ℕ) (e :
           weaker (held x) = held x
           weaker (waits x y) = waits x y
           weaker (reached x) = reached (lesser-reached e (length K) n (subst (λ o. Reached o n) old_least x))
+          weaker (spared m x y) = spared m (lesser-reached e (length K) m (subst (λ o. Reached o m) old_least x)) y
       good n v (inr (f, _)) = rw (units, least) (reached (rw (f ∙ s.served.tends.listed.length_pairs) (lesser-self e (length K))))

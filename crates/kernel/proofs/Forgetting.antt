@@ -14,7 +14,7 @@ use Rattle.theory.proofs.searching.ForgettingNumbers.{length-forget}
 use Rattle.theory.proofs.literals.LiteralLemmas.{true_or_false}
 use Rattle.kernel.specs.declared.watch.Watched.{Watched}
 use Rattle.kernel.specs.declared.watch.Watch.{Watch}
-use Rattle.kernel.specs.Watching.{At, IsPair, IsWatched, both_signs, Good, held, waits, reached, IsFull, code, list_at}
+use Rattle.kernel.specs.Watching.{At, IsPair, IsWatched, both_signs, Good, held, waits, reached, spared, IsFull, code, list_at}
 use Rattle.kernel.specs.Visiting.{WatchLists, IsEntry, places, entries_at, tending}
 use Rattle.kernel.specs.Attaching.{IsWatching}
 use Rattle.kernel.specs.Forgetting.{is_numbered, Tells, places_left, entries_left, watched_forgotten, ArePairsLeft}
@@ -137,6 +137,7 @@ module _ (V first at floor : ℕ) (K : List Clause) (T : Trail) (k u : WatchList
       go (held h) = held (IsWatched-stays ns K n (literals (take at T)) (literals T) w e h)
       go (waits m z) = waits (still-waits n e m) z
       go (reached r) = reached (rw least r)
+      go (spared m r z) = spared m (rw least r) z
 
   pub forget-watching : IsWatching V first (forget ns 1 K) T at floor u single empty
   forget-watching = record {

@@ -10,7 +10,6 @@ pub mod Falling
 pub mod Filtering
 pub mod Forgetting
 pub mod ForgottenAt
-pub mod GivenBack
 pub mod InOrder
 pub mod KernelSteps
 pub mod LastFalse
@@ -22,6 +21,7 @@ pub mod Levels
 pub mod LiteralFacts
 pub mod NearestClauses
 pub mod NextServed
+pub mod NumberStacks
 pub mod Placed
 pub mod Places
 pub mod Popping

@@ -1,6 +1,6 @@
 -- Clauses that wait elsewhere, or in another order; and what waits with the place of its last false
 -- literal.
-use Rattle.std.proofs.Common.{◌≡◌, ℕ, suc, zero, ◌+◌, ◌<◌, Bool, true, false, ◌||◌, List, [], ◌∷◌, ◌++◌, length, map, take, nat_eq, eq-eqb, Option, Some, None, option_map, refl, ap, sym, subst, ◌∙◌, ◌⊎◌, inl, inr, append-nil, arith, All}
+use Rattle.std.proofs.Common.{◌≡◌, ℕ, suc, zero, ◌+◌, ◌<◌, ◌≤◌, Bool, true, false, ◌||◌, List, [], ◌∷◌, ◌++◌, length, map, take, nat_eq, eq-eqb, Option, Some, None, option_map, refl, ap, sym, subst, ◌∙◌, ◌⊎◌, inl, inr, append-nil, arith, All}
 use Rattle.std.specs.List.{AllByRecursion, Contains}
 use Rattle.std.specs.List.Sorted.{IsPermutation}
 use Rattle.std.specs.Ordering.{is_lt, nat_cmp, ordering_then}
@@ -11,7 +11,7 @@ use Rattle.std.proofs.lemmas.Map.Keys.{ge_from_not_lt}
 use Rattle.std.proofs.lemmas.Cmp.{ranked}
 use Rattle.std.proofs.lemmas.List.{length-map}
 use Rattle.std.proofs.Math.ListN.{get_or-map}
-use Rattle.std.proofs.lemmas.List.Elements.{All-from_recursion, All-contains}
+use Rattle.std.proofs.lemmas.List.Elements.{All-from_recursion, All-contains, Contains-append_right}
 use Rattle.std.proofs.lemmas.List.Sorted.{Contains-permutation, IsPermutation-sym, IsPermutation-trans, IsPermutation-middle, IsPermutation-append_right, IsPermutation-append_left, IsPermutation-map}
 use Rattle.theory.specs.Literals.{Literal, Clause, same, has, has_var, negated}
 use Rattle.theory.specs.Status.{unit_literal, others_false}
@@ -21,7 +21,8 @@ use Rattle.theory.proofs.literals.LiteralLemmas.{or-left, or-right}
 use Rattle.theory.proofs.searching.Rules.{IsRule-by_number, IsRule-by_place}
 use Rattle.theory.proofs.literals.LiteralSets.{false_unless}
 use Rattle.kernel.specs.declared.line.Waiting.{Waiting}
-use Rattle.kernel.specs.Watching.{At, Tending, IsServed}
+use Rattle.kernel.specs.Watching.{At, Good, held, waits, reached, spared, Reached, Tending, IsServed}
+use Rattle.kernel.specs.declared.watch.Watched.{Watched}
 use Rattle.kernel.specs.Visiting.{WatchLists, tending}
 use Rattle.kernel.proofs.LiteralFacts.{true_false, free-not, free-not_negated, negated-negated, has-push}
 use Rattle.kernel.proofs.TrailFacts.{literals-push}
@@ -98,7 +99,7 @@ number-of ws w h = (h.0, subst (λ m. h.0 < m) (sym (length-map ws (λ (v : Wait
 
 -- one more
 pub AreInLine-push : (o : Order) (K : List Clause) (T : Trail) (ws vs : List Waiting) (w : Waiting) → ((c : Clause) → At K w.clause c → IsLastOf (literals T) c w.lit × (w.place ≡ place_in o T c)) → IsPermutation (w ∷ ws) vs → AreInLine o K T ws → AreInLine o K T vs
-AreInLine-push o K T ws vs w waits perm all = record {
+AreInLine-push o K T ws vs w lined perm all = record {
   last = λ v d m a. last v d (there v m) a;
   placed = λ v d l m a u. placed v d l (there v m) a u;
 }
@@ -107,11 +108,11 @@ AreInLine-push o K T ws vs w waits perm all = record {
     there v m = Contains-permutation vs (w ∷ ws) v (IsPermutation-sym (w ∷ ws) vs perm) m
 
     last : (v : Waiting) (d : Clause) → Contains (w ∷ ws) v → At K v.clause d → IsLastOf (literals T) d v.lit
-    last v d (zero, x, e) a = subst (λ (y : Waiting). IsLastOf (literals T) d y.lit) e (waits d (subst (λ (y : Waiting). At K y.clause d) (sym e) a)).0
+    last v d (zero, x, e) a = subst (λ (y : Waiting). IsLastOf (literals T) d y.lit) e (lined d (subst (λ (y : Waiting). At K y.clause d) (sym e) a)).0
     last v d (suc p, x, e) a = all.last v d (p, (let z : p < length ws = omega (arith, x) in z), e) a
 
     placed : (v : Waiting) (d : Clause) (l : Literal) → Contains (w ∷ ws) v → At K v.clause d → unit_literal (literals T) d ≡ Some l → place_in o T d ≡ v.place
-    placed v d l (zero, x, e) a u = sym (waits d (subst (λ (y : Waiting). At K y.clause d) (sym e) a)).1 ∙ ap (λ (y : Waiting). y.place) e
+    placed v d l (zero, x, e) a u = sym (lined d (subst (λ (y : Waiting). At K y.clause d) (sym e) a)).1 ∙ ap (λ (y : Waiting). y.place) e
     placed v d l (suc p, x, e) a u = all.placed v d l (p, (let z : p < length ws = omega (arith, x) in z), e) a u
 
 -- one less
@@ -243,12 +244,35 @@ module _ (floor : ℕ) (K : List Clause) (T : Trail) (n : ℕ) (k : WatchLists) 
   pub IsServed-also : IsServed floor K T n (record (tending k) { units = ns }) → IsServed floor K T n (tending (also ns k))
   IsServed-also s = subst (λ (us : List ℕ). IsServed floor K T n (record (tending k) { units = us })) (sym alone) s
 
--- and one of the line is given back
-pub given_back : (all line found shorter more : List ℕ) (n : ℕ) → IsPermutation all (line ++ found) → IsPermutation line (n ∷ shorter) → IsPermutation (n ∷ found) more → IsPermutation all (shorter ++ more)
-given_back all line found shorter more n h k m =
-    IsPermutation-trans all (line ++ found) (shorter ++ more) h
-    (IsPermutation-trans (line ++ found) (n ∷ (shorter ++ found)) (shorter ++ more) (IsPermutation-append_left found line (n ∷ shorter) k)
-    (IsPermutation-trans (n ∷ (shorter ++ found)) (shorter ++ n ∷ found) (shorter ++ more) (IsPermutation-sym (shorter ++ n ∷ found) (n ∷ (shorter ++ found)) (IsPermutation-middle shorter n found)) (IsPermutation-append_right shorter (n ∷ found) more m)))
+-- once a clause is false, none has to wait in line
+pub IsServed-clashed : (floor : ℕ) (K : List Clause) (T : Trail) (n : ℕ) (k : WatchLists) (ns : List ℕ) (m : ℕ) → k.least ≡ Some m → IsServed floor K T n (tending (also ns k)) → IsServed floor K T n (tending k)
+IsServed-clashed floor K T n k ns m least s = record {
+  tends = record {
+    listed = record {
+      length_pairs = s.tends.listed.length_pairs;
+      pairs = s.tends.listed.pairs;
+      listed = s.tends.listed.listed;
+      within = s.tends.listed.within;
+    };
+    exact = s.tends.exact;
+    found = record {
+      units = λ i h. s.tends.found.units i (Contains-append_right ns k.units i h);
+      least = s.tends.found.least;
+      empties = s.tends.found.empties;
+    };
+    earlier = s.tends.earlier;
+  };
+  good = λ i w a. go i w (s.good i w a);
+}
+  where
+    false_one : Reached k.least m
+    false_one = subst (λ o. Reached o m) (sym least) (let z : m ≤ m = omega arith in z)
+
+    go : (i : ℕ) (w : Watched) → Good K (literals (take n T)) (literals T) (ns ++ k.units) k.least w i → Good K (literals (take n T)) (literals T) k.units k.least w i
+    go i w (held h) = held h
+    go i w (waits h z) = spared m false_one z
+    go i w (reached r) = reached r
+    go i w (spared j r z) = spared j r z
 
 pub taken-there : (ns rest : List ℕ) (n : ℕ) → IsPermutation ns (n ∷ rest) → Contains ns n
 taken-there ns rest n h = Contains-permutation (n ∷ rest) ns n (IsPermutation-sym ns (n ∷ rest) h) (0, (let z : 0 < length (n ∷ rest) = omega arith in z), refl)

@@ -10,7 +10,7 @@ use Rattle.theory.specs.Status.{is_false, unit_literal}
 use Rattle.theory.specs.Trails.{Entry, Trail, literals, current_level}
 use Rattle.theory.specs.Propagation.{least_false, least_unit}
 use Rattle.theory.proofs.literals.LiteralLemmas.{and-left, and-right, or-cases, or-left, or-right, true_or_false, same-refl}
-use Rattle.kernel.specs.Watching.{IsConsistent, IsPair, IsWatched, apart, first_true, second_true, other_true, both_signs, Reached, Good, held, waits, reached, At, Tending, Includes, Tends, WasUnit, AllGood, IsServed}
+use Rattle.kernel.specs.Watching.{IsConsistent, IsPair, IsWatched, apart, first_true, second_true, other_true, both_signs, Reached, Good, held, waits, reached, spared, At, Tending, Includes, Tends, WasUnit, AllGood, IsServed}
 use Rattle.kernel.specs.declared.watch.Watched.{Watched}
 use Rattle.kernel.specs.Placing.{IsLastOf}
 use Rattle.kernel.proofs.LastLiterals.{all-false-but, all-false}
@@ -120,6 +120,7 @@ Good-grow K S P Q H f w n more (held (other_true c y a m t)) = held (other_true 
 Good-grow K S P Q H f w n more (held (both_signs c a b)) = held (both_signs c a b)
 Good-grow K S P Q H f w n more (waits m z) = waits m z
 Good-grow K S P Q H f w n more (reached r) = reached r
+Good-grow K S P Q H f w n more (spared m r z) = spared m r z
 
 pub all-more : (p q : Literal → Bool) (c : Clause) → ((l : Literal) → p l ≡ true → q l ≡ true) → list_all p c ≡ true → list_all q c ≡ true
 all-more p q [] more h = refl
@@ -220,6 +221,7 @@ module _ (floor : ℕ) (K : List Clause) (T : Trail) (t u : Tending) (n : ℕ) (
   less S Q f v m ne (held h) = held h
   less S Q f v m ne (waits h z) = waits (still-wait m ne h) z
   less S Q f v m ne (reached r) = reached r
+  less S Q f v m ne (spared i r z) = spared i r z
 
   pop-good : (Q : List Literal) → Includes Q (literals T) → IsWatched K n (literals T) Q w → AllGood K (literals T) Q u
   pop-good Q more h m v a = go (cases_eq m n)

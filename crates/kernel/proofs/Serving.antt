@@ -4,7 +4,7 @@ use Rattle.std.specs.List.{Contains, swap_remove}
 use Rattle.std.proofs.lemmas.Bool.{cases_eq}
 use Rattle.theory.specs.Literals.{Literal, Clause, same, has, has_both_signs, negated}
 use Rattle.theory.proofs.literals.LiteralLemmas.{same-eq}
-use Rattle.kernel.specs.Watching.{apart, first_true, second_true, other_true, both_signs, Reached, Good, held, waits, reached, At, StandsFrom, Tending, GoodBut, AllGood, list_at, IsListed, IsFound}
+use Rattle.kernel.specs.Watching.{apart, first_true, second_true, other_true, both_signs, Reached, Good, held, waits, reached, spared, At, StandsFrom, Tending, GoodBut, AllGood, list_at, IsListed, IsFound}
 use Rattle.kernel.specs.declared.watch.Watched.{Watched}
 use Rattle.kernel.proofs.LiteralFacts.{or_false, has-push, same-negated, negated-negated}
 use Rattle.kernel.proofs.Places.{At-one, At-get, At-set, swap_remove-place}
@@ -17,6 +17,7 @@ pub Good-more : (K : List Clause) (S P : List Literal) (H J : List ℕ) (f g : O
 Good-more K S P H J f g w n units least (held h) = held h
 Good-more K S P H J f g w n units least (waits m s) = waits (units n m) s
 Good-more K S P H J f g w n units least (reached r) = reached (least n r)
+Good-more K S P H J f g w n units least (spared m r s) = spared m (least m r) s
 
 -- a literal that isn't the negation of l is false as little as before
 pub not-served : (S : List Literal) (l k : Literal) → same k (negated l) ≡ false → has S (negated k) ≡ false → has (S ++ l ∷ []) (negated k) ≡ false
@@ -34,6 +35,8 @@ Good-untouched K S P l H f w n d e (held (both_signs c a b)) = held (both_signs 
 Good-untouched K S P l H f w n d e (waits m (inl a)) = waits m (inl (not-served S l w.first d a))
 Good-untouched K S P l H f w n d e (waits m (inr b)) = waits m (inr (not-served S l w.second e b))
 Good-untouched K S P l H f w n d e (reached r) = reached r
+Good-untouched K S P l H f w n d e (spared m r (inl a)) = spared m r (inl (not-served S l w.first d a))
+Good-untouched K S P l H f w n d e (spared m r (inr b)) = spared m r (inr (not-served S l w.second e b))
 
 -- the clause at the place j is good now, and the others only found more
 pub GoodBut-pass : (K : List Clause) (S : List Literal) (l : Literal) (P : List Literal) (t u : Tending) (ns : List ℕ) (j n : ℕ) (w : Watched) → u.pairs ≡ t.pairs → ((m : ℕ) → Contains t.units m → Contains u.units m) → ((m : ℕ) → Reached t.least m → Reached u.least m)

@@ -43,11 +43,12 @@ module _ (K : List Clause) (P : List Literal) (g : Literal) (e : Watch) (s : Wat
       satisfied (looked-stays K P g e s v pair k long (seen-beside k sight.0)) sight.1 (λ i. record { pairs = (same-pairs t.pairs u pairs sight.2) i; lists = lists i; units = units i; least = least i })
 
   pub sees-last : (k : Literal) (status : Truth) (t : WatchLists) (u : Watched) → IsSight P g clause pair u (Last k status)
-      → (value_of status ≡ None → IsPermutation (e.clause ∷ s.units) t.units × (t.least ≡ s.least)) → ((x : Bool) → value_of status ≡ Some x → (t.units ≡ s.units) × (t.least ≡ Some (lesser s.least e.clause)))
+      → (value_of status ≡ None → s.least ≡ None → IsPermutation (e.clause ∷ s.units) t.units × (t.least ≡ s.least)) → ((m : ℕ) → value_of status ≡ None → s.least ≡ Some m → (t.units ≡ s.units) × (t.least ≡ s.least))
+      → ((x : Bool) → value_of status ≡ Some x → (t.units ≡ s.units) × (t.least ≡ Some (lesser s.least e.clause)))
       → t.pairs ≡ set s.pairs e.clause u → t.lists ≡ s.lists → IsVisit K P g e s t (Some k)
-  sees-last k status t u sight free_one false_one pairs lists =
+  sees-last k status t u sight free_one spared_one false_one pairs lists =
       let l = seen-beside k sight.0 in
-      noted K P g e s v t k (value_of status) (looked-stays K P g e s v pair k long l) (looked-last K P g e s v pair k clause l clause-at sight.3) sight.1 sight.2 free_one false_one (same-pairs t.pairs u pairs sight.4) lists
+      noted K P g e s v t k (value_of status) (looked-stays K P g e s v pair k long l) (looked-last K P g e s v pair k clause l clause-at sight.3) sight.1 sight.2 free_one spared_one false_one (same-pairs t.pairs u pairs sight.4) lists
 
   pub last-seen : (k : Literal) (status : Truth) (u : Watched) → IsSight P g clause pair u (Last k status) → (d : Clause) → At K e.clause d → IsLastOf P d k
   last-seen k status u sight d a =

@@ -8,7 +8,7 @@ use Rattle.theory.specs.Literals.{Literal, Clause, same, has, has_both_signs, ne
 use Rattle.theory.specs.Status.{is_false}
 use Rattle.theory.specs.Trails.{Trail, literals, current_level, up_to}
 use Rattle.theory.proofs.literals.LiteralLemmas.{true_or_false, same-eq, same-refl}
-use Rattle.kernel.specs.Watching.{IsConsistent, IsPair, IsWatched, apart, first_true, second_true, other_true, both_signs, Reached, Good, held, waits, reached, At, Tending, list_at, code, IsExact, Includes, Tends, IsBeside, lesser, WasUnit, moved, IsFull}
+use Rattle.kernel.specs.Watching.{IsConsistent, IsPair, IsWatched, apart, first_true, second_true, other_true, both_signs, Reached, Good, held, waits, reached, spared, At, Tending, list_at, code, IsExact, Includes, Tends, IsBeside, lesser, WasUnit, moved, IsFull}
 use Rattle.kernel.specs.declared.watch.Watched.{Watched}
 use Rattle.kernel.proofs.LiteralFacts.{true_false, all-member, same-sym, same-sym-false}
 use Rattle.kernel.proofs.Places.{At-one, At-get, At-set, code-one, Contains-of_swap_remove, Contains-swap_remove, At-push, swap_remove-gone, swap_remove-once}
@@ -25,6 +25,11 @@ not-in P Q k sub h = go (true_or_false (has Q k))
 pub Good-unit : (K : List Clause) (S P : List Literal) (H : List ℕ) (f : Option ℕ) (w : Watched) (g k : Literal) (n : ℕ) → IsBeside w g k → Includes P S → has P (negated k) ≡ false → Contains H n → Good K S P H f w n
 Good-unit K S P H f w g k n (inl (a, b)) sub free m = waits m (inr (rw b (not-in P S (negated k) sub free)))
 Good-unit K S P H f w g k n (inr (a, b)) sub free m = waits m (inl (rw b (not-in P S (negated k) sub free)))
+
+-- the same, and another clause is false
+pub Good-spared : (K : List Clause) (S P : List Literal) (H : List ℕ) (f : Option ℕ) (w : Watched) (g k : Literal) (n m : ℕ) → IsBeside w g k → Includes P S → has P (negated k) ≡ false → Reached f m → Good K S P H f w n
+Good-spared K S P H f w g k n m (inl (a, b)) sub free r = spared m r (inr (rw b (not-in P S (negated k) sub free)))
+Good-spared K S P H f w g k n m (inr (a, b)) sub free r = spared m r (inl (rw b (not-in P S (negated k) sub free)))
 
 -- another literal z is watched in place of g
 pub Good-move : (K : List Clause) (R S P : List Literal) (H : List ℕ) (f : Option ℕ) (w : Watched) (g k z : Literal) (n : ℕ) → IsConsistent P → IsBeside w g k → Includes P S → has P (negated g) ≡ true → has P (negated z) ≡ false → same k z ≡ false
@@ -45,6 +50,7 @@ Good-move K R S P H f w g k z n ok beside sub gone free apart_z more good = go b
     go b (held (both_signs c a x)) = held (both_signs c a x)
     go b (waits m s) = waits m (inr z_free)
     go b (reached r) = reached r
+    go b (spared m r s) = spared m r (inr z_free)
 
 -- the same of what is held
 pub IsWatched-move : (K : List Clause) (n : ℕ) (R Q P : List Literal) (w : Watched) (g k z : Literal) → IsConsistent P → IsBeside w g k → Includes P Q → has P (negated g) ≡ true → has P (negated z) ≡ false → same k z ≡ false

@@ -13,11 +13,11 @@ use Rattle.theory.proofs.literals.LiteralLemmas.{same-eq, same-refl, true_or_fal
 use Rattle.kernel.specs.declared.watch.Watched.{Watched}
 use Rattle.kernel.specs.declared.watch.Watch.{Watch}
 use Rattle.kernel.specs.Watching.{At, IsConsistent, IsBeside, IsFull, code, lesser, list_at, moved, Walks, IsNext, Tending, held, other_true, reached, Reached}
-use Rattle.kernel.specs.Visiting.{WatchLists, places, entries_at, tending, with_list, IsEntry, AreEntriesOf, AreEntries, Replaces, CanVisit, IsStay, IsVisit, satisfied, behind, unit, clashes, moves}
+use Rattle.kernel.specs.Visiting.{WatchLists, places, entries_at, tending, with_list, IsEntry, AreEntriesOf, AreEntries, Replaces, CanVisit, IsStay, IsVisit, satisfied, behind, unit, needless, clashes, moves}
 use Rattle.kernel.proofs.LiteralFacts.{true_false}
 use Rattle.kernel.proofs.LastLiterals.{all-false-but, all-false}
 use Rattle.kernel.proofs.Places.{At-one, At-get, At-set, At-push, code-one}
-use Rattle.kernel.proofs.Steps.{both}
+use Rattle.kernel.proofs.Steps.{both, Good-spared}
 use Rattle.kernel.proofs.Walking.{Visits, Walks-good, Walks-unit, Walks-false, Walks-move, gone-true}
 
 -- a write is forgotten where a later one goes over it
@@ -168,6 +168,11 @@ module _ (floor : ℕ) (K : List Clause) (T : Trail) (n : ℕ) (g : Literal) (k 
   stays-walk u b (unit stay last free perm pairs lists least) =
       Walks-unit floor K T n g b (tending (with_list k g ws)) (tending (with_list u g ws)) j e.clause (get_or K e.clause []) w-at.0 pairs (ap (λ (ls : List (List Watch)). map places (set ls (code g) ws)) lists) least perm next visits
       (last (get_or K e.clause []) w-at.0 c-at w-at.1).0 free (stay.blocker_in (get_or K e.clause []) c-at) (all-false-but (literals T) (get_or K e.clause []) b (last (get_or K e.clause []) w-at.0 c-at w-at.1).1) s
+  stays-walk u b (needless {m = m} stay last free least is) =
+      subst (λ (x : WatchLists). Walks floor K T n g (tending (with_list x g ws)) (j + 1)) (sym is)
+      (Walks-good floor K T n g (tending (with_list k g ws)) j e.clause (get_or K e.clause []) w-at.0 visits
+      (Good-spared K (literals (take n T) ++ negated g ∷ []) (literals T) k.units k.least w-at.0 g b e.clause m (last (get_or K e.clause []) w-at.0 c-at w-at.1).0 next free
+      (subst (λ o. Reached o m) (sym least) (let z : m ≤ m = omega arith in z))) s)
   stays-walk u b (clashes stay last gone is) =
       subst (λ (x : WatchLists). Walks floor K T n g (tending (with_list x g ws)) (j + 1)) (sym is)
       (Walks-false floor K T n g b (tending (with_list k g ws)) (tending (with_list (record k { least = Some (lesser k.least e.clause) }) g ws)) j e.clause (get_or K e.clause []) w-at.0 refl refl refl refl visits
@@ -181,6 +186,7 @@ module _ (floor : ℕ) (K : List Clause) (T : Trail) (n : ℕ) (g : Literal) (k 
   same-kept u b (satisfied stay t is) = (stay, ap (λ (x : WatchLists). x.pairs) is, ap (λ (x : WatchLists). x.lists) is)
   same-kept u b (behind stay least le is) = (stay, ap (λ (x : WatchLists). x.pairs) is, ap (λ (x : WatchLists). x.lists) is)
   same-kept u b (unit stay last free perm pairs lists least) = (stay, pairs, lists)
+  same-kept u b (needless stay last free least is) = (stay, ap (λ (x : WatchLists). x.pairs) is, ap (λ (x : WatchLists). x.lists) is)
   same-kept u b (clashes stay last gone is) = (stay, ap (λ (x : WatchLists). x.pairs) is, ap (λ (x : WatchLists). x.lists) is)
 
   new-entry : (b : Literal) → IsStay K e b → IsEntry K k.pairs g (record e { blocker = b })

@@ -7,7 +7,7 @@ use Rattle.std.specs.declared.cmp.Reverse.{Reverse}
 use Rattle.std.proofs.lemmas.Bool.{cases_lt, ltb-false}
 use Rattle.std.proofs.lemmas.List.{get_or_append_left, get_or_push, get_or-drop, length-drop, length_push}
 use Rattle.std.proofs.lemmas.List.Elements.{All-from_recursion, All-append, All-weaker}
-use Rattle.std.proofs.lemmas.List.Sorted.{IsPermutation-trans, IsPermutation-sym, IsPermutation-middle, IsPermutation-append_right}
+use Rattle.std.proofs.lemmas.List.Sorted.{IsPermutation-trans, IsPermutation-sym, IsPermutation-middle, IsPermutation-append_right, IsPermutation-append_left}
 use Rattle.std.proofs.lemmas.Map.Keys.{ge_from_not_lt}
 use Rattle.kernel.specs.Waiting.{NeverFallsFrom}
 
@@ -79,3 +79,8 @@ taken-unheaped (Some n) q h u p = unheaped-units q h u n p
 -- no number of the heap is less than one that its least isn't less than
 pub none-less : (number least : ℕ) (ns : List ℕ) → nat_lt least number ≡ false → All (λ k. least ≤ k) ns → All (λ k. number ≤ k) ns
 none-less number least ns h all = let low = ltb-false least number h in All-weaker (λ k. least ≤ k) (λ k. number ≤ k) (λ k f. omega (arith, f, low)) ns all
+
+-- one taken out of the queue, in whatever order the others stand then
+pub taken-queued : {X : Type 0} (o : Option X) (q h u : List X) → IfSome o (λ n. IsPermutation q (n ∷ u)) → IfSome o (λ n. IsPermutation (q ++ h) (n ∷ (u ++ h)))
+taken-queued None q h u p = tt
+taken-queued (Some n) q h u p = IsPermutation-append_left h q (n ∷ u) p

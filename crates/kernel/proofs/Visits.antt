@@ -15,7 +15,7 @@ use Rattle.std.specs.Option.{option_eq}
 use Rattle.std.specs.List.Sorted.{IsPermutation}
 use Rattle.theory.proofs.literals.ClauseWalks.{beq-same, beq-other}
 use Rattle.trail.specs.Tables.{IsTruth}
-use Rattle.kernel.specs.Visiting.{IsLast, Replaces, CanVisit, IsStay, IsVisit, unit, clashes, moves, WatchLists, entries_at}
+use Rattle.kernel.specs.Visiting.{IsLast, Replaces, CanVisit, IsStay, IsVisit, unit, needless, clashes, moves, WatchLists, entries_at}
 use Rattle.kernel.specs.Placing.{IsLastOf}
 use Rattle.kernel.proofs.LiteralFacts.{all-member, has-var}
 use Rattle.theory.proofs.literals.LiteralSets.{false_unless}
@@ -237,12 +237,16 @@ module _ (K : List Clause) (P : List Literal) (g : Literal) (e : Watch) (s : Wat
 
   -- all literals but one are false, and that one isn't true
   pub noted : (u : WatchLists) (b : Literal) (o : Option Bool) → IsStay K e b → ((c : Clause) (w : Watched) → At K e.clause c → At s.pairs e.clause w → IsBeside w g b × IsLast P c b) → IsTruth P b o → o ≢ Some true
-      → (o ≡ None → IsPermutation (e.clause ∷ s.units) u.units × (u.least ≡ s.least)) → ((x : Bool) → o ≡ Some x → (u.units ≡ s.units) × (u.least ≡ Some (lesser s.least e.clause)))
-      → u.pairs ≡ s.pairs → u.lists ≡ s.lists → IsVisit K P g e s u (Some b)
-  noted u b o stay last says ne free_one false_one pairs lists = go o refl says
+      → (o ≡ None → s.least ≡ None → IsPermutation (e.clause ∷ s.units) u.units × (u.least ≡ s.least)) → ((m : ℕ) → o ≡ None → s.least ≡ Some m → (u.units ≡ s.units) × (u.least ≡ s.least))
+      → ((x : Bool) → o ≡ Some x → (u.units ≡ s.units) × (u.least ≡ Some (lesser s.least e.clause))) → u.pairs ≡ s.pairs → u.lists ≡ s.lists → IsVisit K P g e s u (Some b)
+  noted u b o stay last says ne free_one spared_one false_one pairs lists = go o refl says
     where
+      unassigned : o ≡ None → has P (negated b) ≡ false → (f : Option ℕ) → s.least ≡ f → IsVisit K P g e s u (Some b)
+      unassigned h free None e = let r = free_one h e in unit stay last free r.0 pairs lists r.1
+      unassigned h free (Some m) e = let r = spared_one m h e in needless {m = m} stay last free e (λ i. record { pairs = pairs i; lists = lists i; units = r.0 i; least = r.1 i })
+
       go : (x : Option Bool) → o ≡ x → IsTruth P b x → IsVisit K P g e s u (Some b)
-      go None f t = let r = free_one f in unit stay last (false_unless (has P (negated b)) (λ h. free-not_negated P b t h)) r.0 pairs lists r.1
+      go None f t = unassigned f (false_unless (has P (negated b)) (λ h. free-not_negated P b t h)) s.least refl
       go (Some true) f t = absurd (ne f)
       go (Some false) f t =
           let r = false_one false f in

@@ -8,9 +8,8 @@ use Rattle.std.proofs.lemmas.Map.Keys.{ge_from_not_lt}
 use Rattle.std.proofs.lemmas.List.Elements.{All-from_recursion, All-append, All-weaker, All-map}
 use Rattle.std.proofs.lemmas.List.Sorted.{All-permutation, IsPermutation-append_left, IsPermutation-map}
 use Rattle.kernel.specs.declared.line.Waiting.{Waiting}
-use Rattle.kernel.specs.declared.waiting_heap.Numbered.{Numbered}
-use Rattle.kernel.specs.Placing.{GoesFirst, at_start, clauses_of}
-use Rattle.kernel.proofs.GivenBack.{given-both}
+use Rattle.kernel.specs.declared.numbered.Numbered.{Numbered}
+use Rattle.kernel.specs.Placing.{GoesFirst, at_start}
 
 -- what a heap by number answers goes first
 go-after : (x : Reverse Numbered) (xs : List (Reverse Numbered)) → AllByRecursion (λ y. is_lt (nat_cmp y.0.clause x.0.clause) ≡ false) xs → AllByRecursion (λ v. GoesFirst (at_start x.0) v) (map (λ r. at_start r.0) xs)
@@ -42,13 +41,3 @@ placed-more x xs new some p all = All-permutation (λ (r : Reverse Waiting). 0 <
     more : All (λ (r : Reverse Waiting). 0 < r.0.place) (x ∷ xs)
     more zero d l = omega (arith, some)
     more (suc k) d l = all k d (omega (arith, l))
-
--- those of both heaps are put among the units
-pub given-heaps : (xs : List (Reverse Numbered)) (ys : List (Reverse Waiting)) (us vs new : List ℕ) → IsPermutation (map (λ r. r.0.clause) ys ++ us) vs → IsPermutation (map (λ r. r.0.clause) xs ++ vs) new
-    → IsPermutation (clauses_of (map (λ r. at_start r.0) xs ++ map (λ r. r.0) ys) ++ us) new
-given-heaps xs ys us vs new p q = subst (λ (ns : List ℕ). IsPermutation (ns ++ us) new) (sym (numbers xs ys)) (given-both (map (λ r. r.0.clause) xs) (map (λ r. r.0.clause) ys) us vs new p q)
-  where
-    numbers : (xs : List (Reverse Numbered)) (ys : List (Reverse Waiting)) → clauses_of (map (λ r. at_start r.0) xs ++ map (λ r. r.0) ys) ≡ map (λ r. r.0.clause) xs ++ map (λ r. r.0.clause) ys
-    numbers [] [] = refl
-    numbers [] (y ∷ ys) = ap (λ (ns : List ℕ). y.0.clause ∷ ns) (numbers [] ys)
-    numbers (x ∷ xs) ys = ap (λ (ns : List ℕ). x.0.clause ∷ ns) (numbers xs ys)

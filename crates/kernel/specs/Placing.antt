@@ -7,7 +7,7 @@ use Rattle.theory.specs.Status.{unit_literal}
 use Rattle.theory.specs.Trails.{Trail, literals}
 use Rattle.theory.specs.Propagation.{last_false}
 use Rattle.kernel.specs.declared.line.Waiting.{Waiting}
-use Rattle.kernel.specs.declared.waiting_heap.Numbered.{Numbered}
+use Rattle.kernel.specs.declared.numbered.Numbered.{Numbered}
 use Rattle.kernel.specs.declared.order.Order.{Order}
 use Rattle.kernel.specs.declared.order.Order.TheVariants.{ByNumber, ByPlace}
 use Rattle.kernel.specs.declared.propagator.Propagator.{Propagator}
@@ -29,6 +29,11 @@ GoesFirst a b = (a.place < b.place) ⊎ ((a.place ≡ b.place) × (a.clause ≤ 
 abbrev pub AreInOrder : List Waiting → Type 0
 AreInOrder [] = Unit {0}
 AreInOrder (w ∷ ws) = All (λ v. GoesFirst w v) ws × AreInOrder ws
+
+-- each is of no lesser number than those behind it
+abbrev pub AreFalling : List Numbered → Type 0
+AreFalling [] = Unit {0}
+AreFalling (u ∷ us) = All (λ v. v.clause ≤ u.clause) us × AreFalling us
 
 -- the place that a clause has in an order; by number all have the same
 abbrev pub place_in : Order → Trail → Clause → ℕ

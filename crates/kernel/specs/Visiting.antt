@@ -78,6 +78,9 @@ pub data IsVisit (K : List Clause) (P : List Literal) (g : Literal) (e : Watch) 
   -- all literals but b are false, and b is free
   unit : {b : Literal} → IsStay K e b → ((c : Clause) (w : Watched) → At K e.clause c → At s.pairs e.clause w → IsBeside w g b × IsLast P c b) → has P (negated b) ≡ false
       → IsPermutation (e.clause ∷ s.units) u.units → u.pairs ≡ s.pairs → u.lists ≡ s.lists → u.least ≡ s.least → IsVisit K P g e s u (Some b)
+  -- the same, and another clause is false, so this one needn't wait
+  needless : {b : Literal} {m : ℕ} → IsStay K e b → ((c : Clause) (w : Watched) → At K e.clause c → At s.pairs e.clause w → IsBeside w g b × IsLast P c b) → has P (negated b) ≡ false
+      → s.least ≡ Some m → u ≡ s → IsVisit K P g e s u (Some b)
   -- all literals are false
   clashes : {b : Literal} → IsStay K e b → ((c : Clause) → At K e.clause c → IsLast P c b) → has P (negated b) ≡ true → u ≡ record s { least = Some (lesser s.least e.clause) } → IsVisit K P g e s u (Some b)
   -- z is watched in place of g

@@ -53,11 +53,13 @@ abbrev pub Reached : Option ℕ → ℕ → Type 0
 Reached None n = ⊥
 Reached (Some m) n = m ≤ n
 
--- a clause is held, or waits among the units, or stands at or behind a false one
+-- a clause is held, or waits among the units, or stands at or behind a false one; once one is
+-- false, none has to wait
 pub data Good (K : List Clause) (S P : List Literal) (H : List ℕ) (f : Option ℕ) (w : Watched) (n : ℕ) : Type 0 where
   held : IsWatched K n S P w → Good K S P H f w n
   waits : Contains H n → (has S (negated w.first) ≡ false) ⊎ (has S (negated w.second) ≡ false) → Good K S P H f w n
   reached : Reached f n → Good K S P H f w n
+  spared : (m : ℕ) → Reached f m → (has S (negated w.first) ≡ false) ⊎ (has S (negated w.second) ≡ false) → Good K S P H f w n
 
 -- a clause that waits among the units had all literals but one false
 abbrev pub WasUnit : List Literal → Clause → Type 0

@@ -64,16 +64,6 @@ impl Propagator {
         Ok(())
     }
 
-    /// Takes the clauses out of the line, which then wait as they were found.
-    fn give_back(&mut self, line: &mut Line) -> Result<(), AllocError>
-        ensures waiting { OnOk result (IsPermutation (clauses_of line.old ++ self.old.units) self.new.units) }
-        ensures line { OnOk result (line.new ≡ []) }
-        ensures kept { (self.new.clauses.given ≡ self.old.clauses.given) × (self.new.clauses.pairs ≡ self.old.clauses.pairs) × (self.new.lists ≡ self.old.lists) × (self.new.conflict ≡ self.old.conflict) }
-    {
-        line.give_to(&mut self.units)?;
-        Ok(())
-    }
-
     /// The unit clause that goes first, taken out of the line; stale ones are dropped.
     fn next_in_line(&self, trail: &Trail, line: &mut Line) -> Option<Unit>
         requires none { self.now.conflict ≡ None }
@@ -133,7 +123,7 @@ impl Propagator {
             self.serve_from(order, trail, served, line)?;
             served = trail.entries().len();
             if let Some(clause) = self.conflict {
-                self.give_back(line)?;
+                line.clear();
                 return Ok(Closed::Conflict(clause as u64 + 1));
             }
             match self.next_in_line(trail, line) {

@@ -8,8 +8,7 @@ ghost use Rattle.std.specs.List.Sorted.{IsPermutation};
 ghost use Rattle.kernel.specs.Placing.{GoesFirst, clauses_of};
 ghost use Rattle.kernel.specs.declared.line.Waiting.{Waiting};
 
-use crate::units::Units;
-use crate::waiting_heap::WaitingHeap;
+use crate::pile::Pile;
 use crate::waiting_queue::WaitingQueue;
 use cnf::Lit;
 use std::alloc::{AllocError, Global};
@@ -79,7 +78,7 @@ impl Ord for Waiting {
 #[derive(Drop)]
 pub struct Line {
     queue: WaitingQueue,
-    heap: WaitingHeap,
+    pile: Pile,
 }
 
 impl Model for Line {
@@ -88,7 +87,7 @@ impl Model for Line {
 
     ghost Value = { List Waiting };
 
-    ghost view = { λ l. l.queue ++ l.heap };
+    ghost view = { λ l. l.queue ++ l.pile };
 }
 
 impl Line {
@@ -98,7 +97,7 @@ impl Line {
     {
         Line {
             queue: WaitingQueue::new(alloc),
-            heap: WaitingHeap::new(alloc),
+            pile: Pile::new(alloc),
         }
     }
 
@@ -109,7 +108,7 @@ impl Line {
         if self.queue.takes(&waiting) {
             self.queue.push(waiting)?;
         } else if waiting.place == 0 {
-            self.heap.push(waiting)?;
+            self.pile.push(waiting)?;
         } else {
             self.push_before(waiting)?;
         }
@@ -123,7 +122,7 @@ impl Line {
         if self.queue.put(&waiting)? {
             return Ok(());
         }
-        self.heap.push(waiting)?;
+        self.pile.push(waiting)?;
         Ok(())
     }
 
@@ -134,23 +133,20 @@ impl Line {
         ensures first { IfSome result (λ w. All (λ v. GoesFirst w v) self.old) }
     {
         let Some(first) = self.queue.first() else {
-            return self.heap.pop();
+            return self.pile.pop();
         };
-        if self.heap.has_before(first) {
-            self.heap.pop()
+        if self.pile.has_before(&first) {
+            self.pile.pop()
         } else {
             self.queue.pop()
         }
     }
 
-    /// Puts the clauses among the units, in any order: it takes a step for each. Nothing is in line
-    /// then.
-    pub fn give_to(&mut self, units: &mut Units) -> Result<(), AllocError>
-        ensures given { OnOk result (IsPermutation (clauses_of self.old ++ units.old) units.new) }
-        ensures empty { OnOk result (self.new ≡ []) }
+    /// Takes all clauses out.
+    pub fn clear(&mut self)
+        ensures { self.new ≡ [] }
     {
-        self.heap.give_to(units)?;
-        self.queue.give_to(units)?;
-        Ok(())
+        self.queue.clear();
+        self.pile.clear();
     }
 }

@@ -89,9 +89,10 @@ impl Propagator {
         }
     }
 
-    /// Notes a clause all of whose literals but one are false. Where that one has no value, the
-    /// clause waits as a unit, with the place that is given or else that of its last false literal;
-    /// and else it is false.
+    /// Notes a clause all of whose literals but one are false. Where that one has a value, the
+    /// clause is false; else it waits as a unit, with the place that is given or else that of its
+    /// last false literal. Once a clause is false none has to wait: what made them unit is taken
+    /// back before the next propagation.
     // A call, since most visits end without it and their loop needs the registers.
     #[inline(never)]
     fn note(
@@ -105,7 +106,8 @@ impl Propagator {
     ) -> Result<(), AllocError>
         requires within { clause < length self.old.clauses.given }
         requires over { All (IsOver trail.now.vars) self.old.clauses.given }
-        ensures unit { OnOk result (value_of status ≡ None → IsPermutation (clause ∷ clauses_of line.old) (clauses_of line.new) × (self.new.conflict ≡ self.old.conflict)) }
+        ensures unit { OnOk result (value_of status ≡ None → self.old.conflict ≡ None → IsPermutation (clause ∷ clauses_of line.old) (clauses_of line.new) × (self.new.conflict ≡ self.old.conflict)) }
+        ensures spared { OnOk result ((m : ℕ) → value_of status ≡ None → self.old.conflict ≡ Some m → (line.new ≡ line.old) × (self.new.conflict ≡ self.old.conflict)) }
         ensures clashes { OnOk result ((b : Bool) → value_of status ≡ Some b → (clauses_of line.new ≡ clauses_of line.old) × (self.new.conflict ≡ Some (lesser self.old.conflict clause))) }
         ensures line { OnOk result ((o : Order) → ((c : Clause) → At self.old.clauses.given clause c → HasPlace o trail.now.entries c place × IsLastOf (literals trail.now.entries) c lit)
             → AreInLine o self.old.clauses.given trail.now.entries line.old → AreInLine o self.old.clauses.given trail.now.entries line.new) }
@@ -113,6 +115,9 @@ impl Propagator {
     {
         match status {
             Truth::Unassigned => {
+                if self.conflict.is_some() {
+                    return Ok(());
+                }
                 let place = self.place_of(trail, clause, place);
                 line.push(Waiting { place, clause, lit })?;
                 Ok(())

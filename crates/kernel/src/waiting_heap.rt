@@ -1,84 +1,19 @@
 //! Unit clauses that wait in any order, of which the one that goes first is taken out.
-ghost use Rattle.std.specs.Prelude.{◌≡◌, ◌<◌, nat_eq, [], ◌∷◌, ◌++◌, true, false, All, OnOk, IfSome, IfNone, map};
+ghost use Rattle.std.specs.Prelude.{◌≡◌, ◌<◌, [], ◌∷◌, ◌++◌, true, false, All, OnOk, IfSome, IfNone, map};
 ghost use Rattle.std.specs.BinaryHeap.{IsHeap, heap_items};
 ghost use Rattle.std.specs.List.{Contains};
 ghost use Rattle.std.specs.List.Sorted.{IsPermutation};
-ghost use Rattle.std.proofs.Common.{rules};
-ghost use Rattle.std.specs.Cmp.{partial_order_from_own_ties};
-ghost use Rattle.std.specs.Cmp.Rules.{comparing};
-ghost use Rattle.std.specs.Ordering.{nat_cmp, ordering_then, on, as_partial_cmp};
+ghost use Rattle.std.specs.Ordering.{nat_cmp, ordering_then};
 ghost use Rattle.kernel.specs.declared.line.Waiting.{Waiting};
-ghost use Rattle.kernel.specs.Placing.{GoesFirst, clauses_of, at_start};
+ghost use Rattle.kernel.specs.Placing.{GoesFirst, at_start};
 
 use crate::line::Waiting;
-use crate::units::Units;
+use crate::numbered::Numbered;
 use crate::waiting_queue::goes_first;
-use cnf::Lit;
 use std::alloc::{AllocError, Global};
-use std::cmp::{Ordering, Reverse};
+use std::cmp::Reverse;
 use std::collections::BinaryHeap;
 use std::marker::Model;
-
-/// A clause that waits at place 0, with the literal that it was unit in. Its number alone says
-/// which one goes first.
-#[derive(Clone, Copy)]
-pub struct Numbered {
-    /// The place of the clause.
-    pub clause: u32,
-    /// The literal that it was unit in.
-    pub lit: Lit,
-}
-
-impl PartialEq for Numbered {
-    ghost eq = { on (λ u. u.clause) nat_eq };
-
-    ghost laws = { Prim.search (comparing, rules) };
-
-    fn eq(&self, other: &Numbered) -> bool {
-        self.clause == other.clause
-    }
-}
-
-impl Eq for Numbered {
-    ghost laws = { Prim.search (comparing, rules) };
-}
-
-impl PartialOrd for Numbered {
-    ghost partial_cmp = { as_partial_cmp (on (λ u. u.clause) nat_cmp) };
-
-    ghost laws = { partial_order_from_own_ties (Prim.search (comparing, rules)) (Prim.search (comparing, rules)) };
-
-    fn partial_cmp(&self, other: &Numbered) -> Option<Ordering> {
-        Some(self.cmp(other))
-    }
-}
-
-impl Ord for Numbered {
-    ghost cmp = { on (λ u. u.clause) nat_cmp };
-
-    ghost total = { Prim.search (comparing, rules) };
-
-    ghost matches_partial_cmp = { Prim.search (comparing, rules) };
-
-    ghost matches_eq = { Prim.search (comparing, rules) };
-
-    fn cmp(&self, other: &Numbered) -> Ordering {
-        self.clause.cmp(&other.clause)
-    }
-}
-
-impl Numbered {
-    /// The clause as it waits.
-    fn waiting(&self) -> Waiting
-        ensures { result ≡ at_start self.now }
-    {
-        Waiting {
-            place: 0,
-            clause: self.clause,
-            lit: self.lit,
-        }
-    }
-}
 
 /// Clauses that wait. Those of place 0, which are all of them where clauses go by number, are
 /// compared by number alone and take half of the memory, since a search by number may keep very
@@ -137,28 +72,6 @@ fn take_first(heap: &mut BinaryHeap<Reverse<Waiting>>) -> Option<Waiting>
     }
 }
 
-/// Puts the clauses of a heap among the units.
-fn give_numbered(heap: &BinaryHeap<Reverse<Numbered>>, units: &mut Units) -> Result<(), AllocError>
-    ensures { OnOk result (IsPermutation (map (λ r. r.0.clause) (heap_items heap.now) ++ units.old) units.new) }
-{
-    for item in heap.as_slice() {
-        let numbered = item.0;
-        units.push(numbered.clause)?;
-    }
-    Ok(())
-}
-
-/// The same of clauses with a place.
-fn give_placed(heap: &BinaryHeap<Reverse<Waiting>>, units: &mut Units) -> Result<(), AllocError>
-    ensures { OnOk result (IsPermutation (map (λ r. r.0.clause) (heap_items heap.now) ++ units.old) units.new) }
-{
-    for item in heap.as_slice() {
-        let waiting = item.0;
-        units.push(waiting.clause)?;
-    }
-    Ok(())
-}
-
 impl WaitingHeap {
     /// Nothing waits.
     pub fn new(alloc: Global) -> WaitingHeap
@@ -198,13 +111,13 @@ impl WaitingHeap {
     }
 
     /// Whether one of these goes before a clause.
-    pub fn has_before(&self, waiting: Waiting) -> bool
-        ensures before { result ≡ true → (w : Waiting) × Contains self.now w × GoesFirst w waiting }
-        ensures none { result ≡ false → All (λ w. GoesFirst waiting w) self.now }
+    pub fn has_before(&self, waiting: &Waiting) -> bool
+        ensures before { result ≡ true → (w : Waiting) × Contains self.now w × GoesFirst w waiting.now }
+        ensures none { result ≡ false → All (λ w. GoesFirst waiting.now w) self.now }
     {
         match self.first() {
             None => false,
-            Some(first) => !goes_first(waiting, first),
+            Some(first) => !goes_first(*waiting, first),
         }
     }
 
@@ -220,16 +133,11 @@ impl WaitingHeap {
         }
     }
 
-    /// Puts the clauses among the units, in any order: it takes a step for each. Nothing waits here
-    /// then.
-    pub fn give_to(&mut self, units: &mut Units) -> Result<(), AllocError>
-        ensures given { OnOk result (IsPermutation (clauses_of self.old ++ units.old) units.new) }
-        ensures empty { OnOk result (self.new ≡ []) }
+    /// Takes all clauses out.
+    pub fn clear(&mut self)
+        ensures { self.new ≡ [] }
     {
-        give_placed(&self.placed, units)?;
-        give_numbered(&self.numbered, units)?;
-        self.placed.clear();
         self.numbered.clear();
-        Ok(())
+        self.placed.clear();
     }
 }

@@ -6,7 +6,6 @@ ghost use Rattle.std.specs.List.{Contains};
 ghost use Rattle.kernel.specs.Placing.{GoesFirst, AreInOrder, clauses_of};
 
 use crate::line::Waiting;
-use crate::units::Units;
 use std::alloc::{AllocError, Global};
 use std::marker::Model;
 
@@ -61,17 +60,6 @@ fn place_near(items: &[Waiting], head: usize, waiting: &Waiting) -> Option<usize
         at -= 1;
     }
     if at == head { Some(at) } else { None }
-}
-
-/// Puts clauses among the units.
-fn give(items: &[Waiting], units: &mut Units) -> Result<(), AllocError>
-    ensures { OnOk result (IsPermutation (clauses_of items.now ++ units.old) units.new) }
-{
-    for waiting in items {
-        let waiting = *waiting;
-        units.push(waiting.clause)?;
-    }
-    Ok(())
 }
 
 impl WaitingQueue {
@@ -152,18 +140,8 @@ impl WaitingQueue {
         Some(first)
     }
 
-    /// Puts the clauses among the units. Nothing waits here then.
-    pub fn give_to(&mut self, units: &mut Units) -> Result<(), AllocError>
-        ensures given { OnOk result (IsPermutation (clauses_of self.old ++ units.old) units.new) }
-        ensures empty { OnOk result (self.new ≡ []) }
-    {
-        give(&self.items[self.head..], units)?;
-        self.clear();
-        Ok(())
-    }
-
     /// Takes all clauses out.
-    fn clear(&mut self)
+    pub fn clear(&mut self)
         ensures { self.new ≡ [] }
     {
         self.items.clear();

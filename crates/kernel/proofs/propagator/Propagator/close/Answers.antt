@@ -9,7 +9,7 @@ use Rattle.kernel.specs.Placing.{clauses_of, kept_with}
 use Rattle.kernel.proofs.TrailFacts.{distinct-consistent}
 use Rattle.kernel.proofs.Falling.{Grew, Grew-Propagates, Grew-lawful, Grew-falls, unit-free, unit-over}
 use Rattle.kernel.proofs.Popping.{is-conflict, none-false}
-use Rattle.kernel.proofs.Placed.{IsRule-by, IsServed-permuted, IsServed-line, IsServed-also, AreInLine-none}
+use Rattle.kernel.proofs.Placed.{IsRule-by, IsServed-permuted, IsServed-clashed, IsServed-line, IsServed-also, AreInLine-none}
 use Rattle.kernel.proofs.propagator.Propagator.close.Goals as goal
 use Rattle.kernel.proofs.propagator.Propagator.close.Goals.{After-push}
 
@@ -49,9 +49,7 @@ pub returns-in-Some-clause-served : goal.returns-in-Some-clause-served
 returns-in-Some-clause-served c floor served =
     let s : IsServed floor c.args.self.now.clauses.given c.steps.trail.entries (length c.steps.trail.entries) (tending (kept_with c.serve_from.new.self c.serve_from.new.line)) =
     rw (← c.steps.invariant.clauses) (c.in_ok-serve_from.ensures.served floor (rw c.steps.invariant.clauses (c.steps.invariant.served floor served))) in
-    let e = c.in_ok-give_back.ensures in
-    IsServed-permuted floor c.args.self.now.clauses.given c.steps.trail.entries (length c.steps.trail.entries) (tending (kept_with c.serve_from.new.self c.serve_from.new.line)) (tending (kept_of c.give_back.new.self))
-    e.kept.1 (ap (λ v. map places (map (λ w. w.items) v.items)) e.kept.2) e.kept.3 e.waiting s
+    IsServed-clashed floor c.args.self.now.clauses.given c.steps.trail.entries (length c.steps.trail.entries) (kept_of c.serve_from.new.self) (clauses_of c.serve_from.new.line) c.in-Some.clause c.in-Some.is s
 
 pub next_in_line-requires-clause-line : goal.next_in_line-requires-clause-line
 next_in_line-requires-clause-line c =

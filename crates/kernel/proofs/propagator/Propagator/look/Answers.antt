@@ -42,7 +42,7 @@ returns-in_ok-note-in-Last-clause-visit c =
     let long = c.requires.long in
     let seen = c.in-Last.ensures.seen (clause _ _ _ _ _ v long) (pair _ _ _ _ _ v long) (clause-at _ _ _ _ _ v long) (pair-at _ _ _ _ _ v long) in
     let e = c.in_ok-note-in-Last.ensures in
-    sees-last _ _ _ _ _ v long c.in-Last.other c.in-Last.status (kept_with c.note.new.self c.note.new.line) seen.0 seen.2 (λ f. (lengthened _ _ _ _ _ e.kept.3 (e.unit f).0, (e.unit f).1)) (λ b f. (joined _ _ _ _ (e.clashes b f).0 e.kept.3, (e.clashes b f).1)) (rw e.kept.1 seen.1) (rw e.kept.2 refl)
+    sees-last _ _ _ _ _ v long c.in-Last.other c.in-Last.status (kept_with c.note.new.self c.note.new.line) seen.0 seen.2 (λ f n. (lengthened _ _ _ _ _ e.kept.3 (e.unit f n).0, (e.unit f n).1)) (λ m f n. (joined _ _ _ _ (ap clauses_of (e.spared m f n).0) e.kept.3, (e.spared m f n).1)) (λ b f. (joined _ _ _ _ (e.clashes b f).0 e.kept.3, (e.clashes b f).1)) (rw e.kept.1 seen.1) (rw e.kept.2 refl)
 
 pub returns-in_ok-note-in-Last-clause-line : goal.returns-in_ok-note-in-Last-clause-line
 returns-in_ok-note-in-Last-clause-line c o places h =

@@ -5,7 +5,7 @@ use Rattle.kernel.proofs.propagator.Propagator.note.Goals as goal
 
 pub returns-in_ok-push-in-Unassigned-clause-unit :
     goal.returns-in_ok-push-in-Unassigned-clause-unit
-returns-in_ok-push-in-Unassigned-clause-unit c h = (IsPermutation-map (λ w. w.clause) _ _ c.in_ok-push-in-Unassigned.ensures, refl)
+returns-in_ok-push-in-Unassigned-clause-unit c h n = (IsPermutation-map (λ w. w.clause) _ _ c.in_ok-push-in-Unassigned.ensures, refl)
 
 pub returns-in_ok-push-in-Unassigned-clause-line :
     goal.returns-in_ok-push-in-Unassigned-clause-line

@@ -1,7 +1,7 @@
-use Rattle.std.proofs.Common.{refl}
+use Rattle.std.proofs.Common.{refl, ap}
 use Rattle.trail.specs.Tables.{value_of}
 use Rattle.kernel.specs.Visiting.{satisfied, behind}
-use Rattle.kernel.specs.Placing.{kept_with}
+use Rattle.kernel.specs.Placing.{clauses_of, kept_with}
 use Rattle.kernel.proofs.Placed.{lengthened, joined}
 use Rattle.kernel.proofs.Visits.{over-of, stay-same, short-last, short-in, gone-in, noted}
 use Rattle.kernel.proofs.propagator.Propagator.visit.Goals as goal
@@ -20,7 +20,8 @@ returns-then-watch-clause-visit c =
     let kept = c.in_ok-note.ensures.kept in
     noted _ _ _ _ _ c.requires.visit (kept_with c.note.new.self c.note.new.line) c.args.watch.blocker (value_of c.status-status.result) (stay-same _ _ _ _ _ c.requires.visit)
     (short-last _ _ _ _ _ c.requires.visit c.if-watch.true) c.status-status.ensures.truth (c.is_satisfied.ensures.no c.if-is_satisfied.false)
-    (λ f. (lengthened _ _ _ _ _ kept.3 (c.in_ok-note.ensures.unit f).0, (c.in_ok-note.ensures.unit f).1)) (λ b f. (joined _ _ _ _ (c.in_ok-note.ensures.clashes b f).0 kept.3, (c.in_ok-note.ensures.clashes b f).1)) (rw kept.1 refl) (rw kept.2 refl)
+    (λ f n. (lengthened _ _ _ _ _ kept.3 (c.in_ok-note.ensures.unit f n).0, (c.in_ok-note.ensures.unit f n).1))
+    (λ m f n. (joined _ _ _ _ (ap clauses_of (c.in_ok-note.ensures.spared m f n).0) kept.3, (c.in_ok-note.ensures.spared m f n).1)) (λ b f. (joined _ _ _ _ (c.in_ok-note.ensures.clashes b f).0 kept.3, (c.in_ok-note.ensures.clashes b f).1)) (rw kept.1 refl) (rw kept.2 refl)
 
 pub returns-then-watch-clause-line : goal.returns-then-watch-clause-line
 returns-then-watch-clause-line c o places h =

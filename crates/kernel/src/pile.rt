@@ -1,0 +1,91 @@
+//! Unit clauses that wait and come in any order, of which the one that goes first is taken out.
+ghost use Rattle.std.specs.Prelude.{◌≡◌, true, false, [], ◌∷◌, ◌++◌, All, OnOk, IfSome, IfNone};
+ghost use Rattle.std.specs.List.{Contains};
+ghost use Rattle.std.specs.List.Sorted.{IsPermutation};
+ghost use Rattle.kernel.specs.declared.line.Waiting.{Waiting};
+ghost use Rattle.kernel.specs.Placing.{GoesFirst};
+
+use crate::line::Waiting;
+use crate::number_stack::NumberStack;
+use crate::waiting_heap::WaitingHeap;
+use std::alloc::{AllocError, Global};
+use std::marker::Model;
+
+/// Clauses that wait. Where they go by number mostly a dozen of them do, and one more goes behind
+/// a few: to move these takes a third of the steps that a heap takes to put it in and out again.
+/// What would have to move more goes into a heap.
+#[derive(Drop)]
+pub struct Pile {
+    stack: NumberStack,
+    heap: WaitingHeap,
+}
+
+impl Model for Pile {
+    ghost use Rattle.std.specs.Prelude.{List, ◌++◌};
+    ghost use Rattle.kernel.specs.declared.line.Waiting.{Waiting};
+
+    ghost Value = { List Waiting };
+
+    ghost view = { λ p. p.stack ++ p.heap };
+}
+
+impl Pile {
+    /// Nothing waits. It takes no memory.
+    pub fn new(alloc: Global) -> Pile
+        ensures { result ≡ [] }
+    {
+        Pile {
+            stack: NumberStack::new(alloc),
+            heap: WaitingHeap::new(alloc),
+        }
+    }
+
+    /// Puts a clause in. It fails where a request for memory is refused.
+    pub fn push(&mut self, waiting: Waiting) -> Result<(), AllocError>
+        ensures { OnOk result (IsPermutation (waiting ∷ self.old) self.new) }
+    {
+        if waiting.place != 0 {
+            self.heap.push(waiting)?;
+            return Ok(());
+        }
+        if !self.stack.put(&waiting)? {
+            self.heap.push(waiting)?;
+        }
+        Ok(())
+    }
+
+    /// Whether one of these goes before a clause.
+    pub fn has_before(&self, waiting: &Waiting) -> bool
+        ensures before { result ≡ true → (w : Waiting) × Contains self.now w × GoesFirst w waiting.now }
+        ensures none { result ≡ false → All (λ w. GoesFirst waiting.now w) self.now }
+    {
+        if self.stack.has_before(waiting) {
+            return true;
+        }
+        self.heap.has_before(waiting)
+    }
+
+    /// Takes the clause out that goes first.
+    pub fn pop(&mut self) -> Option<Waiting>
+        ensures none { IfNone result ((self.old ≡ []) × (self.new ≡ [])) }
+        ensures taken { IfSome result (λ w. IsPermutation self.old (w ∷ self.new)) }
+        ensures first { IfSome result (λ w. All (λ v. GoesFirst w v) self.old) }
+    {
+        let Some(first) = self.stack.first() else {
+            return self.heap.pop();
+        };
+        if self.heap.has_before(&first) {
+            self.heap.pop()
+        } else {
+            self.stack.pop()
+        }
+    }
+
+    /// Takes all clauses out.
+    pub fn clear(&mut self)
+        ensures { self.new ≡ [] }
+    {
+        self.stack.clear();
+        self.heap.clear();
+    }
+}
