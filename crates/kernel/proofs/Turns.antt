@@ -158,7 +158,7 @@ module _ (floor : ℕ) (K : List Clause) (T : Trail) (n : ℕ) (g : Literal) (k 
       map-set places u.lists (code g) (set ws j (record e { blocker = b })) ∙ ap (λ ns. set (map places u.lists) (code g) ns) (kept-places b) ∙ sym (map-set places u.lists (code g) ws) in
       (λ i. record { pairs = u.pairs; lists = one i; units = u.units; least = u.least })
 
-  stays-walk : (u : WatchLists) (b : Literal) → IsVisit K (literals T) g e k u (Some b) → Walks floor K T n g (tending (with_list u g ws)) (j + 1)
+  pub stays-walk : (u : WatchLists) (b : Literal) → IsVisit K (literals T) g e k u (Some b) → Walks floor K T n g (tending (with_list u g ws)) (j + 1)
   stays-walk u b (satisfied stay t is) =
       subst (λ (x : WatchLists). Walks floor K T n g (tending (with_list x g ws)) (j + 1)) (sym is)
       (Walks-good floor K T n g (tending (with_list k g ws)) j e.clause (get_or K e.clause []) w-at.0 visits (held (other_true (get_or K e.clause []) b c-at (stay.blocker_in (get_or K e.clause []) c-at) t)) s)

@@ -5,7 +5,7 @@
 //! only the clauses in that literal's list are visited: each finds another literal to watch, or is
 //! satisfied, or is unit and waits in line, or is false. Going back to an earlier level changes
 //! nothing here. Source: Moskewicz et al., 'Chaff' (DAC 2001).
-ghost use Rattle.std.specs.Prelude.{◌^◌, ◌≡◌, ◌+◌, ◌<◌, ◌≤◌, ◌*◌, ◌∷◌, [], ◌++◌, All, IfOk, OnOk, IfSome, IfNone, Some, None, length, map, Bool, true, false, slice_set, slice_index_or, min, take, ℕ, List};
+ghost use Rattle.std.specs.Prelude.{◌^◌, ◌≡◌, ◌≢◌, ◌+◌, ◌<◌, ◌≤◌, ◌*◌, ◌∷◌, [], ◌++◌, All, IfOk, OnOk, IfSome, IfNone, Some, None, length, map, Bool, true, false, slice_set, slice_index_or, min, take, ℕ, List};
 ghost use Rattle.std.specs.List.Sorted.{IsPermutation};
 ghost use Rattle.theory.specs.Literals.{Literal, Clause, same, has, negated};
 ghost use Rattle.theory.specs.Truth.{IsOver};
@@ -28,7 +28,7 @@ use crate::watch::{PackedWatch, Watch, Watched, code};
 use cnf::Lit;
 use std::alloc::{AllocError, Global};
 use std::mem;
-use trail::{Trail, Truth};
+use trail::{Trail, Truth, status_in};
 
 /// Clauses with their watches, and what was found of them. Clauses are named by their places, from
 /// 0 on.
@@ -174,8 +174,8 @@ impl Propagator {
         }
     }
 
-    /// Visits a clause in the list of a literal that became false. The answer is the entry's
-    /// blocker from now on, or none where the entry leaves the list, since another literal is
+    /// Visits a clause in the list of a literal that became false, whose blocker isn't true but as
+    /// `status` says. The answer is the entry's blocker from now on, or none where the entry leaves the list, since another literal is
     /// watched. Behind the least false clause nothing is looked for, since only an earlier one can
     /// be the answer, and the literal is taken back before the next propagation.
     fn visit(
@@ -183,10 +183,12 @@ impl Propagator {
         trail: &Trail,
         gone: Lit,
         watch: Watch,
+        status: Truth,
         place: Option<usize>,
         line: &mut Line,
     ) -> Result<Option<Lit>, AllocError>
         requires small { watch.clause < 2 ^ 31 }
+        requires status { IsTruth (literals trail.now.entries) watch.blocker (value_of status) × (value_of status ≢ Some true) }
         requires visit { CanVisit self.old.clauses.given (literals trail.now.entries) gone watch (kept_with self.old line.old) }
         requires over { All (IsOver trail.now.vars) self.old.clauses.given }
         requires lists { length self.old.lists.items ≡ 2 * trail.now.vars + 2 }
@@ -194,10 +196,6 @@ impl Propagator {
         ensures line { OnOk result ((o : Order) → PlacesOf o trail.now.entries gone place → AreInLine o self.old.clauses.given trail.now.entries line.old → AreInLine o self.old.clauses.given trail.now.entries line.new) }
         ensures kept { (self.new.clauses.given ≡ self.old.clauses.given) × (length self.new.lists.items ≡ length self.old.lists.items) × (self.new.units ≡ self.old.units) }
     {
-        let status = trail.status(watch.blocker);
-        if status.is_satisfied() {
-            return Ok(Some(watch.blocker));
-        }
         if let Some(least) = self.conflict {
             if least <= watch.clause {
                 return Ok(Some(watch.blocker));
@@ -235,17 +233,25 @@ impl Propagator {
         ensures entries { IfOk result (λ m. AreEntries self.old.clauses.given (with_list (kept_of self.new) gone (take m list.new))) }
         ensures kept { (self.new.clauses.given ≡ self.old.clauses.given) × (length self.new.lists.items ≡ length self.old.lists.items) × (self.new.units ≡ self.old.units) }
     {
+        let truths = trail.truths();
+        let vars = trail.vars();
         let mut end = list.len();
         let mut place = 0;
         while place < end {
-            match self.visit(trail, gone, list[place].watch(), found, line)? {
-                Some(blocker) => {
-                    list[place].set_blocker(blocker);
-                    place += 1;
-                }
-                None => {
-                    end -= 1;
-                    list[place] = list[end];
+            let watch = list[place].watch();
+            let status = status_in(truths, vars, watch.blocker);
+            if status.is_satisfied() {
+                place += 1;
+            } else {
+                match self.visit(trail, gone, watch, status, found, line)? {
+                    Some(blocker) => {
+                        list[place].set_blocker(blocker);
+                        place += 1;
+                    }
+                    None => {
+                        end -= 1;
+                        list[place] = list[end];
+                    }
                 }
             }
         }

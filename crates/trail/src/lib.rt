@@ -10,4 +10,4 @@ mod truth;
 pub use cube::Cube;
 pub use entry::Entry;
 pub use trail::Trail;
-pub use truth::Truth;
+pub use truth::{Truth, status_in};

@@ -182,6 +182,15 @@ impl Trail {
         self.truths[spot(self.vars, lit)]
     }
 
+    /// What is said of each literal, by its place among them. It is for `status_in`, where many are
+    /// asked for and the trail stays: so the table isn't looked for again each time.
+    pub fn truths(&self) -> &[Truth]
+        ensures long { length result.now ≡ 2 * self.now.vars + 1 }
+        ensures truth { (l : Literal) → l.var ≤ self.now.vars → IsTruth (literals self.now.entries) l (value_of (slice_index_or result.now (spot self.now.vars l) Unassigned)) }
+    {
+        &self.truths
+    }
+
     /// The level of a literal's variable, or 0 while it is free.
     pub fn level_of(&self, lit: Lit) -> u32
         requires { lit.var ≤ self.now.vars }

@@ -1,6 +1,7 @@
 //! What a trail says of literals, in a table by literal.
-ghost use Rattle.std.specs.Prelude.{◌≡◌, ◌≢◌, ◌<◌, ◌≤◌, ◌+◌, ◌*◌, true, false, Some, length};
+ghost use Rattle.std.specs.Prelude.{◌≡◌, ◌≢◌, ◌<◌, ◌≤◌, ◌+◌, ◌*◌, true, false, Some, length, slice_index_or};
 ghost use Rattle.trail.specs.Tables.{value_of, spot, with_truths};
+ghost use Rattle.trail.specs.declared.truth.Truth.TheVariants.{Unassigned};
 
 use cnf::Lit;
 
@@ -58,6 +59,15 @@ pub fn spot(vars: u32, lit: Lit) -> usize
     ensures { result ≡ spot vars lit }
 {
     (vars as i64 + lit.number() as i64) as usize
+}
+
+/// What is said of a literal in the table of a trail of so many variables.
+pub fn status_in(truths: &[Truth], vars: u32, lit: Lit) -> Truth
+    requires inside { lit.var ≤ vars }
+    requires long { length truths.now ≡ 2 * vars + 1 }
+    ensures { result ≡ slice_index_or truths.now (spot vars lit) Unassigned }
+{
+    truths[spot(vars, lit)]
 }
 
 /// Writes what is said of a literal, and of its negation.

@@ -1,16 +1,10 @@
 use Rattle.std.proofs.Common.{refl, ap}
 use Rattle.trail.specs.Tables.{value_of}
-use Rattle.kernel.specs.Visiting.{satisfied, behind}
+use Rattle.kernel.specs.Visiting.{behind}
 use Rattle.kernel.specs.Placing.{clauses_of, kept_with}
 use Rattle.kernel.proofs.Placed.{lengthened, joined}
-use Rattle.kernel.proofs.Visits.{over-of, stay-same, short-last, short-in, gone-in, noted}
+use Rattle.kernel.proofs.Visits.{stay-same, short-last, short-in, gone-in, noted}
 use Rattle.kernel.proofs.propagator.Propagator.visit.Goals as goal
-
-pub status-status-requires : goal.status-status-requires
-status-status-requires c = over-of _ _ _ _ _ c.requires.visit c.args.trail.now.vars c.args.watch.blocker c.requires.over c.requires.visit.entry.blocker_in
-
-pub returns-then-is_satisfied-clause-visit : goal.returns-then-is_satisfied-clause-visit
-returns-then-is_satisfied-clause-visit c = satisfied (stay-same _ _ _ _ _ c.requires.visit) (rw (c.is_satisfied.ensures.yes c.if-is_satisfied.true) at c.status-status.ensures.truth) refl
 
 pub returns-then-least-watch-clause-visit : goal.returns-then-least-watch-clause-visit
 returns-then-least-watch-clause-visit c = behind (stay-same _ _ _ _ _ c.requires.visit) c.in-Some.is c.if-least-watch.true refl
@@ -18,8 +12,8 @@ returns-then-least-watch-clause-visit c = behind (stay-same _ _ _ _ _ c.requires
 pub returns-then-watch-clause-visit : goal.returns-then-watch-clause-visit
 returns-then-watch-clause-visit c =
     let kept = c.in_ok-note.ensures.kept in
-    noted _ _ _ _ _ c.requires.visit (kept_with c.note.new.self c.note.new.line) c.args.watch.blocker (value_of c.status-status.result) (stay-same _ _ _ _ _ c.requires.visit)
-    (short-last _ _ _ _ _ c.requires.visit c.if-watch.true) c.status-status.ensures.truth (c.is_satisfied.ensures.no c.if-is_satisfied.false)
+    noted _ _ _ _ _ c.requires.visit (kept_with c.note.new.self c.note.new.line) c.args.watch.blocker (value_of c.args.status) (stay-same _ _ _ _ _ c.requires.visit)
+    (short-last _ _ _ _ _ c.requires.visit c.if-watch.true) c.requires.status.0 c.requires.status.1
     (λ f n. (lengthened _ _ _ _ _ kept.3 (c.in_ok-note.ensures.unit f n).0, (c.in_ok-note.ensures.unit f n).1))
     (λ m f n. (joined _ _ _ _ (ap clauses_of (c.in_ok-note.ensures.spared m f n).0) kept.3, (c.in_ok-note.ensures.spared m f n).1)) (λ b f. (joined _ _ _ _ (c.in_ok-note.ensures.clashes b f).0 kept.3, (c.in_ok-note.ensures.clashes b f).1)) (rw kept.1 refl) (rw kept.2 refl)
 
