@@ -1,5 +1,5 @@
 -- Unit clauses in the falling order of their numbers.
-use Rattle.std.proofs.Common.{◌≡◌, ℕ, suc, zero, ◌+◌, ◌-◌, ◌<◌, ◌≤◌, List, [], ◌∷◌, ◌++◌, length, map, get_or, set, take, drop, All, refl, ap, sym, subst, ◌∙◌, ◌⊎◌, inl, inr, arith, append-nil, Option, Some, None, option_to_list}
+use Rattle.std.proofs.Common.{◌≡◌, ℕ, suc, zero, ◌+◌, ◌-◌, ◌<◌, ◌≤◌, List, [], ◌∷◌, ◌++◌, length, map, get_or, set, take, drop, All, refl, ap, sym, subst, ◌∙◌, inl, inr, arith, append-nil, Option, Some, None, option_to_list}
 use Rattle.std.specs.Prelude.{insert}
 use Rattle.std.specs.List.{Contains}
 use Rattle.std.specs.List.Sorted.{IsPermutation}

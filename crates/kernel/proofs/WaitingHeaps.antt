@@ -1,5 +1,5 @@
 -- Unit clauses that wait in two heaps, where those of place 0 go before the others.
-use Rattle.std.proofs.Common.{◌≡◌, ◌≢◌, ℕ, suc, zero, ◌<◌, false, List, [], ◌∷◌, ◌++◌, map, All, refl, ap, sym, subst, inl, inr, arith}
+use Rattle.std.proofs.Common.{◌≡◌, ◌≢◌, suc, zero, ◌<◌, false, List, [], ◌∷◌, ◌++◌, map, All, refl, sym, subst, inl, inr, arith}
 use Rattle.std.specs.List.{AllByRecursion}
 use Rattle.std.specs.List.Sorted.{IsPermutation}
 use Rattle.std.specs.Ordering.{is_lt, nat_cmp}

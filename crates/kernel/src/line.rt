@@ -69,12 +69,11 @@ impl Ord for Waiting {
 
 /// Clauses that wait, of which the one of least place goes first, and of several the one of least
 /// number. One that goes behind those of the queue goes there, and one with a place that goes
-/// before a few of them alone; the others go into a heap. Clauses that one entry of the trail made
-/// unit come with its place, which is the greatest so far, so of these the heap is touched only
+/// before a few of them alone; the others go onto a pile. Clauses that one entry of the trail made
+/// unit come with its place, which is the greatest so far, so of these the pile is touched only
 /// where an entry makes many clauses unit in another order than that of their numbers, and where
 /// several entries were served at once. With a heap alone a quarter of the time of some searches
-/// went into it. Where clauses go by number they have no place and come in no order, and to look
-/// for one's place among the last ones takes longer than the heap.
+/// went into it. Where clauses go by number they come in no order, and most go onto the pile.
 #[derive(Drop)]
 pub struct Line {
     queue: WaitingQueue,

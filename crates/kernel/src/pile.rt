@@ -11,9 +11,10 @@ use crate::waiting_heap::WaitingHeap;
 use std::alloc::{AllocError, Global};
 use std::marker::Model;
 
-/// Clauses that wait. Where they go by number mostly a dozen of them do, and one more goes behind
-/// a few: to move these takes a third of the steps that a heap takes to put it in and out again.
-/// What would have to move more goes into a heap.
+/// Clauses that wait. Where they go by number it is mostly a dozen, and one more goes in front of a
+/// few: to move these takes half of the steps in which a heap takes it in and gives it out again, a
+/// fifteenth of all steps of a search of random formulas. What goes in front of more goes into a
+/// heap, since propagation in a large formula makes thousands wait.
 #[derive(Drop)]
 pub struct Pile {
     stack: NumberStack,

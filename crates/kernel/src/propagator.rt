@@ -209,9 +209,10 @@ impl Propagator {
     }
 
     /// Visits each clause that watches a literal which became false, in a list that was taken out.
-    /// Entries leave it by the last one taking their place, so that those that stay are written to
-    /// only for a new blocker. The answer is how many entries stay. Those that are found unit wait
-    /// in line, with the place that is given.
+    /// Most visits end at a blocker that is true; they read the trail's table itself and write
+    /// nothing. Entries leave the list by the last one taking their place, so that those that stay
+    /// are written to only for a new blocker. The answer is how many entries stay. Those that are
+    /// found unit wait in line, with the place that is given.
     fn visit_all(
         &mut self,
         trail: &Trail,

@@ -1,5 +1,5 @@
 -- The least of a bound and the variables of entries.
-use Rattle.std.proofs.Common.{◌≡◌, ℕ, ◌+◌, ◌<◌, ◌≤◌, true, ◌||◌, length, take, get_or, nat_eq, eqb-true, eq-eqb, min, refl, sym, subst, ◌∙◌, inl, inr, ◌⊎◌, arith}
+use Rattle.std.proofs.Common.{◌≡◌, ℕ, ◌+◌, ◌<◌, ◌≤◌, true, length, take, get_or, nat_eq, eqb-true, eq-eqb, min, refl, sym, subst, ◌∙◌, inl, inr, ◌⊎◌, arith}
 use Rattle.std.proofs.lemmas.Bool.{cases_lt}
 use Rattle.theory.specs.Literals.{has_var}
 use Rattle.theory.specs.Trails.{Entry, Trail, literals}

@@ -14,8 +14,10 @@ loop-at-preserved c =
     let front = take (length c.args.items.now - 1) c.args.items.now in
     record {
       within = omega (arith, i.within);
-      items = (get_or front (c.loop-at.at - 1) c.index-items-at-in-loop-at-2.result,
-          gap-moved front c.loop-at.items c.loop-at.at i.items.0 i.items.1 c.loop-at-test.true i.within c.index-items-at-in-loop-at-2.result c.index-items-at-in-loop-at-2.is);
+      items = (
+        get_or front (c.loop-at.at - 1) c.index-items-at-in-loop-at-2.result,
+        gap-moved front c.loop-at.items c.loop-at.at i.items.0 i.items.1 c.loop-at-test.true i.within c.index-items-at-in-loop-at-2.result c.index-items-at-in-loop-at-2.is,
+      );
       lesser = gap-lesser front c.loop-at.items c.loop-at.at i.items.0 i.items.1 c.loop-at-test.true i.within c.index-items-at-in-loop-at.result c.index-items-at.result c.if-items-at.true i.lesser;
     }
 

@@ -1,4 +1,4 @@
-use Rattle.std.proofs.Common.{◌≡◌, ◌≤◌, ◌∙◌, length, arith}
+use Rattle.std.proofs.Common.{◌≤◌, ◌∙◌, length, arith}
 use Rattle.messages.proofs.LineFeeds.{part-counted, part-few}
 use Rattle.messages.proofs.line_feeds.line_feeds.Goals as goal
 

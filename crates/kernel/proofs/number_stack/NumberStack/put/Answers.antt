@@ -1,4 +1,4 @@
-use Rattle.std.proofs.Common.{◌≡◌, ◌∙◌, ◌++◌, ◌∷◌, [], length, drop, refl, subst, sym, ap}
+use Rattle.std.proofs.Common.{◌≡◌, ◌∙◌, length, drop, subst, sym, ap}
 use Rattle.std.specs.List.Sorted.{IsPermutation}
 use Rattle.kernel.specs.declared.numbered.Numbered.{Numbered}
 use Rattle.kernel.proofs.NumberStacks.{put-in, refilled}

@@ -1,4 +1,4 @@
-use Rattle.std.proofs.Common.{◌≡◌, ◌<◌, ◌∙◌, length, get_or, refl, sym, ap}
+use Rattle.std.proofs.Common.{◌≡◌, ◌<◌, length, get_or, refl}
 use Rattle.std.proofs.lemmas.List.{get_or_default}
 use Rattle.trail.specs.Tables.{spot}
 use Rattle.trail.specs.declared.truth.Truth.{Truth}
