@@ -27,7 +27,12 @@ pub enum Wanted<'a> {
 
 /// The outcome of a cube, by a plan.
 pub fn cube_by(alloc: Global, text: &str, cube: &[i32], plan: Plan) -> Result<Outcome, Fail> {
-    let formula = read_formula(alloc, text.as_bytes())?;
+    cube_in(alloc, text.as_bytes(), cube, plan)
+}
+
+/// The outcome of a cube of the formula in these bytes, by a plan.
+pub fn cube_in(alloc: Global, text: &[u8], cube: &[i32], plan: Plan) -> Result<Outcome, Fail> {
+    let formula = read_formula(alloc, text)?;
     let cube = cube_of(alloc, formula.vars(), cube)?;
     let outcome = solve_cube_by_plan(alloc, &formula, &cube, plan)?;
     Ok(outcome.unpacked(alloc)?)
