@@ -12,6 +12,7 @@ pub mod MarkedSets
 pub mod JoinedSets
 pub mod TakenClauses
 pub mod SeenVariables
+pub mod MetVariables
 pub mod Beginnings
 pub mod NumberSets
 pub mod GlueCounts

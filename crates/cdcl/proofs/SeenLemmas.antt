@@ -6,14 +6,10 @@ use Rattle.theory.specs.Literals.{Clause, IsVariable, has_var}
 use Rattle.theory.specs.Truth.{IsOver}
 use Rattle.theory.specs.Plans.{Constants}
 use Rattle.theory.specs.Trails.{Trail, Entry, literals, entry_of, level_at}
-use Rattle.theory.specs.Propagation.{clause_at, least_false}
-use Rattle.theory.specs.Lawful.{IsLawful}
-use Rattle.theory.specs.Learning.{learn, with_literals}
+use Rattle.theory.specs.Propagation.{clause_at}
 use Rattle.theory.specs.Scores.{Scores, is_seen, scores_after}
 use Rattle.theory.proofs.literals.LiteralLemmas.{and-left}
-use Rattle.theory.proofs.trails.LawfulTrails.{least_false-at}
 use Rattle.theory.proofs.literals.OverVariables.{AreOver-from_IsOver}
-use Rattle.theory.proofs.searching.Walks.{walk-all, grounded-place}
 use Rattle.heuristics.specs.Rankings.{AreDistinct}
 use Rattle.cdcl.specs.Numbers.{is_one_of, StandOnce}
 use Rattle.cdcl.proofs.NumberSets.{count-cons, one-counted}
@@ -68,15 +64,3 @@ AreDistinct-once xs once i j less inside same =
 -- the same variables gain
 pub scores_after-same : (c : Constants) (V : ℕ) (f g : ℕ → Bool) (s : Scores) → ((v : ℕ) → f v ≡ g v) → scores_after c V f s ≡ scores_after c V g s
 scores_after-same c V f g s h = ap (λ (seen : ℕ → Bool). scores_after c V seen s) (λ i v. h v i)
-
--- the hints are numbers of clauses
-AreNumbered : List Clause → List ℕ → Type 0
-AreNumbered K hints = All (λ k. (1 ≤ k) × (k ≤ length K)) hints
-
-pub hints-numbered : (K : List Clause) (T : Trail) (n : ℕ) → IsLawful K T → least_false (literals T) K ≡ Some n → All (λ k. (1 ≤ k) × (k ≤ length K)) (learn K T n).hints
-unfolding AreNumbered
-hints-numbered K T n lawful clash =
-    walk-all K T (λ before w. AreNumbered K w.1) (λ before e es w place none h. h)
-    (λ before e es w m place used h. All-cons (λ k. (1 ≤ k) × (k ≤ length K)) m w.1 (grounded-place K T before e es w.0 m lawful place used).1.numbered h)
-    (with_literals (clause_at K n) []) (n ∷ [])
-    (let at = least_false-at (literals T) K n clash in All-cons (λ k. (1 ≤ k) × (k ≤ length K)) n [] (at.0, at.1) (All-nil (λ k. (1 ≤ k) × (k ≤ length K))))

@@ -9,6 +9,8 @@ use Rattle.theory.specs.Trails.{Trail, Entry, literals, current_level, is_given}
 use Rattle.theory.specs.Lawful.{IsLawful}
 use Rattle.theory.specs.Learning.{IsRising, at_current_level, resolved_by, reason_used}
 use Rattle.kernel.specs.State.{State}
+use Rattle.theory.specs.Propagation.{clause_at}
+use Rattle.cdcl.specs.Numbers.{is_one_of}
 use Rattle.cdcl.specs.declared.marks.Marks.{Marks}
 
 -- the marks and the count of literals of the current level stand for the set S
@@ -42,6 +44,14 @@ pub record IsSet (k : State) (S : Clause) (bound : ℕ) (m : Marks) : Type 0 whe
   pub is : IsMarked k S m.marked.items m.current
   pub seen : AreSeen k.vars S m.seen.items
   pub pending : ArePending k.trail S bound m.pending
+
+-- the variables of c were seen in addition
+abbrev pub Meets : Marks → Clause → Marks → Type 0
+Meets before c after = (v : ℕ) → is_one_of after.seen.items v ≡ (has_var c v || is_one_of before.seen.items v)
+
+-- the variables of the clauses of these numbers were seen, and no others
+abbrev pub HaveMet : List Clause → List ℕ → Marks → Type 0
+HaveMet K numbers m = (v : ℕ) → is_one_of m.seen.items v ≡ list_any (λ n. has_var (clause_at K n) v) numbers
 
 -- no literal is in the set
 pub record IsClear (m : Marks) : Type 0 where

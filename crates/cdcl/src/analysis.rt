@@ -4,7 +4,7 @@ ghost use Rattle.theory.specs.Literals.{Clause};
 ghost use Rattle.theory.specs.Trails.{literals, entry_of};
 ghost use Rattle.theory.specs.Propagation.{least_false, clause_at};
 ghost use Rattle.theory.specs.Learning.{with_literals, walk, learn, is_of_cube, back_level};
-ghost use Rattle.cdcl.specs.Marks.{IsSet, IsClear, CanLookAt, Resolves, is_open, negation_of};
+ghost use Rattle.cdcl.specs.Marks.{IsSet, IsClear, CanLookAt, Resolves, HaveMet, is_open, negation_of};
 ghost use Rattle.cdcl.specs.Learnt.{line_of};
 
 use crate::level::back_level;
@@ -46,6 +46,7 @@ fn marks_of(
     requires { least_false (literals kernel.now.trail) kernel.now.clauses ≡ Some conflict }
     ensures few { OnOk result (kernel.now.vars < 2 ^ 32) }
     ensures set { IfOk result (IsSet kernel.now (with_literals (clause_at kernel.now.clauses conflict) []) (length kernel.now.trail)) }
+    ensures met { IfOk result (HaveMet kernel.now.clauses (conflict ∷ [])) }
 {
     let mut marks = room.take(alloc, kernel.vars())?;
     let _trail = kernel.trail(); // it ensures what the proof needs of the trail
@@ -62,8 +63,9 @@ fn look_at(
     entry: Entry,
 ) -> Result<(), AllocError>
     requires { CanLookAt kernel.now entry marks.old }
-    ensures { OnOk result ((S : Clause) → (bound : ℕ) → slice_get kernel.now.trail bound ≡ Some entry → is_open kernel.now.trail S (Some entry) ≡ true
+    ensures set { OnOk result ((S : Clause) → (bound : ℕ) → slice_get kernel.now.trail bound ≡ Some entry → is_open kernel.now.trail S (Some entry) ≡ true
         → IsSet kernel.now S bound marks.old → Resolves kernel.now entry S bound hints.old.items marks.new hints.new.items) }
+    ensures met { OnOk result (HaveMet kernel.now.clauses hints.old.items marks.old → HaveMet kernel.now.clauses hints.new.items marks.new) }
 {
     if let Some(number) = reason_used(marks, entry) {
         resolve(kernel, marks, entry, kernel.clause(number))?;
@@ -88,6 +90,7 @@ fn walk(
     ensures done { OnOk result (marks.new.pending ≡ []) }
     ensures hints { OnOk result (reverse hints.new.items
         ≡ (walk kernel.now.clauses kernel.now.trail kernel.now.trail (with_literals (clause_at kernel.now.clauses conflict) []) (conflict ∷ [])).1) }
+    ensures met { OnOk result (HaveMet kernel.now.clauses hints.old.items marks.old → HaveMet kernel.now.clauses hints.new.items marks.new) }
 {
     let trail = kernel.trail();
     while let Some(place) = marks.pending.pop() {
@@ -152,6 +155,51 @@ fn take_clause(kernel: &Kernel, marks: &mut Marks, clause: &mut Vec<Lit>) -> Res
     Ok(())
 }
 
+/// What is left of the set of a conflict's literals after resolution, which has seen the variables
+/// of the clauses that the hints name.
+pub(crate) fn resolve_conflict(
+    kernel: &Kernel,
+    room: &mut Room,
+    conflict: u64,
+    hints: &mut Vec<u64>,
+) -> Result<Marks, AllocError>
+    requires { least_false (literals kernel.now.trail) kernel.now.clauses ≡ Some conflict }
+    ensures set { IfOk result (IsSet kernel.now
+        (walk kernel.now.clauses kernel.now.trail kernel.now.trail (with_literals (clause_at kernel.now.clauses conflict) []) (conflict ∷ [])).0 0) }
+    ensures done { IfOk result (λ m. m.pending ≡ []) }
+    ensures hints { OnOk result (hints.new.items ≡ (learn kernel.now.clauses kernel.now.trail conflict).hints) }
+    ensures met { IfOk result (HaveMet kernel.now.clauses hints.new.items) }
+{
+    let alloc = *hints.allocator();
+    let mut marks = marks_of(alloc, kernel, room, conflict)?;
+    hints.clear();
+    hints.push(conflict)?;
+    walk(kernel, &mut marks, hints, conflict)?;
+    hints.reverse();
+    Ok(marks)
+}
+
+/// Takes up the clause that is left, and the level to go back to. The marks go back into the room.
+pub(crate) fn take_up(
+    kernel: &Kernel,
+    room: &mut Room,
+    marks: Marks,
+    learnt: &mut Learnt,
+) -> Result<(), AllocError>
+    requires set { (S : Clause) × (bound : ℕ) × IsSet kernel.now S bound marks }
+    requires done { marks.pending ≡ [] }
+    ensures clause { OnOk result ((S : Clause) → (bound : ℕ) → IsSet kernel.now S bound marks
+        → learnt.new.clause.items ≡ filter (λ l. not (is_of_cube kernel.now.trail l)) S) }
+    ensures level { OnOk result (learnt.new.level ≡ back_level kernel.now.trail learnt.new.clause.items) }
+    ensures hints { learnt.new.hints.items ≡ learnt.old.hints.items }
+{
+    let mut marks = marks;
+    take_clause(kernel, &mut marks, &mut learnt.clause)?;
+    room.put_back(marks);
+    learnt.level = back_level(kernel, &learnt.clause);
+    Ok(())
+}
+
 /// What `analyze` answers, in room and in lists that are used again.
 pub(crate) fn analyze_in(
     kernel: &Kernel,
@@ -163,15 +211,8 @@ pub(crate) fn analyze_in(
     ensures line { OnOk result (line_of learnt.new ≡ learn kernel.now.clauses kernel.now.trail conflict) }
     ensures level { OnOk result (learnt.new.level ≡ back_level kernel.now.trail (learn kernel.now.clauses kernel.now.trail conflict).clause) }
 {
-    let alloc = *learnt.clause.allocator();
-    let mut marks = marks_of(alloc, kernel, room, conflict)?;
-    learnt.hints.clear();
-    learnt.hints.push(conflict)?;
-    walk(kernel, &mut marks, &mut learnt.hints, conflict)?;
-    learnt.hints.reverse();
-    take_clause(kernel, &mut marks, &mut learnt.clause)?;
-    room.put_back(marks);
-    learnt.level = back_level(kernel, &learnt.clause);
+    let marks = resolve_conflict(kernel, room, conflict, &mut learnt.hints)?;
+    take_up(kernel, room, marks, learnt)?;
     Ok(())
 }
 

@@ -8,11 +8,11 @@ ghost use Rattle.theory.specs.Restarts.{glue};
 ghost use Rattle.cdcl.specs.Learnt.{line_of};
 ghost use Rattle.cdcl.specs.Numbers.{is_one_of};
 
-use crate::analysis::{Learnt, analyze_in};
+use crate::analysis::{Learnt, resolve_conflict, take_up};
 use crate::glue::glue;
 use crate::marks::Room;
 use crate::numbers::Numbers;
-use crate::seen::see_clauses;
+use crate::seen::see_all;
 use kernel::Kernel;
 use std::alloc::{AllocError, Global};
 
@@ -37,6 +37,28 @@ impl Drop for Analysis {
             levels: _,
         } = self;
     }
+}
+
+/// What `analyze_in` does, and takes up which variables the conflict has seen.
+fn analyze_seeing(
+    kernel: &Kernel,
+    room: &mut Room,
+    conflict: u64,
+    learnt: &mut Learnt,
+    seen: &mut Numbers,
+) -> Result<(), AllocError>
+    requires conflict { least_false (literals kernel.now.trail) kernel.now.clauses ≡ Some conflict }
+    requires seen { kernel.now.vars < seen.old.bound }
+    ensures line { OnOk result (line_of learnt.new ≡ learn kernel.now.clauses kernel.now.trail conflict) }
+    ensures level { OnOk result (learnt.new.level ≡ back_level kernel.now.trail (learn kernel.now.clauses kernel.now.trail conflict).clause) }
+    ensures seen { OnOk result ((v : ℕ) → is_one_of seen.new.numbers v
+        ≡ is_seen kernel.now.clauses kernel.now.trail (learn kernel.now.clauses kernel.now.trail conflict).hints v) }
+    ensures bound { seen.new.bound ≡ seen.old.bound }
+{
+    let marks = resolve_conflict(kernel, room, conflict, &mut learnt.hints)?;
+    see_all(kernel, seen, &marks.seen)?;
+    take_up(kernel, room, marks, learnt)?;
+    Ok(())
 }
 
 impl Analysis {
@@ -70,9 +92,13 @@ impl Analysis {
             ≡ is_seen kernel.now.clauses kernel.now.trail (learn kernel.now.clauses kernel.now.trail conflict).hints v) }
         ensures bounds { (self.new.seen.bound ≡ self.old.seen.bound) × (self.new.levels.bound ≡ self.old.levels.bound) }
     {
-        let _trail = kernel.trail(); // it ensures what the proof needs of the hints
-        analyze_in(kernel, &mut self.room, conflict, &mut self.learnt)?;
-        see_clauses(kernel, &mut self.seen, &self.learnt.hints)?;
+        analyze_seeing(
+            kernel,
+            &mut self.room,
+            conflict,
+            &mut self.learnt,
+            &mut self.seen,
+        )?;
         let glue = glue(kernel, &mut self.levels, &self.learnt.clause)?;
         Ok(glue)
     }

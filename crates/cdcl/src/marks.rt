@@ -7,7 +7,7 @@ ghost use Rattle.theory.specs.Status.{is_false};
 ghost use Rattle.theory.specs.Lawful.{IsLawful};
 ghost use Rattle.theory.specs.Learning.{with_literal, with_literals, resolved, reason_used};
 ghost use Rattle.kernel.specs.State.{State};
-ghost use Rattle.cdcl.specs.Marks.{IsMarked, IsSet, IsClear, CanJoin, CanResolve, is_open};
+ghost use Rattle.cdcl.specs.Marks.{IsMarked, IsSet, IsClear, CanJoin, CanResolve, Meets, is_open};
 
 use crate::places::Places;
 use cnf::Lit;
@@ -60,8 +60,9 @@ fn put_at(kernel: &Kernel, marks: &mut Marks, place: usize) -> Result<(), AllocE
     requires marks { CanJoin kernel.now [] marks.old }
     requires inside { place < length kernel.now.trail }
     requires is_new { (e : Entry) → slice_get kernel.now.trail place ≡ Some e → slice_index_or marks.old.marked.items e.lit.var false ≡ false }
-    ensures { OnOk result ((S : Clause) → (bound : ℕ) → (e : Entry) → slice_get kernel.now.trail place ≡ Some e → place < bound
+    ensures set { OnOk result ((S : Clause) → (bound : ℕ) → (e : Entry) → slice_get kernel.now.trail place ≡ Some e → place < bound
         → IsSet kernel.now S bound marks.old → IsSet kernel.now (with_literal (negated e.lit) S) bound marks.new) }
+    ensures met { OnOk result ((e : Entry) → slice_get kernel.now.trail place ≡ Some e → Meets marks.old (negated e.lit ∷ []) marks.new) }
 {
     let entry = kernel.trail()[place];
     let var = entry.lit.var();
@@ -79,8 +80,9 @@ fn put_at(kernel: &Kernel, marks: &mut Marks, place: usize) -> Result<(), AllocE
 /// Puts a literal into the set.
 fn put(kernel: &Kernel, marks: &mut Marks, lit: Lit) -> Result<(), AllocError>
     requires { CanJoin kernel.now (lit ∷ []) marks.old }
-    ensures { OnOk result ((S : Clause) → (bound : ℕ) → has (literals (take bound kernel.now.trail)) (negated lit) ≡ true
+    ensures set { OnOk result ((S : Clause) → (bound : ℕ) → has (literals (take bound kernel.now.trail)) (negated lit) ≡ true
         → IsSet kernel.now S bound marks.old → IsSet kernel.now (with_literal lit S) bound marks.new) }
+    ensures met { OnOk result (Meets marks.old (lit ∷ []) marks.new) }
 {
     let var = lit.var();
     if marks.marked[var as usize] {
@@ -95,8 +97,9 @@ fn put(kernel: &Kernel, marks: &mut Marks, lit: Lit) -> Result<(), AllocError>
 /// Puts the literals of a clause into the set.
 pub(crate) fn put_all(kernel: &Kernel, marks: &mut Marks, clause: &[Lit]) -> Result<(), AllocError>
     requires { CanJoin kernel.now clause.now marks.old }
-    ensures { OnOk result ((S : Clause) → (bound : ℕ) → is_false (literals (take bound kernel.now.trail)) clause.now ≡ true
+    ensures set { OnOk result ((S : Clause) → (bound : ℕ) → is_false (literals (take bound kernel.now.trail)) clause.now ≡ true
         → IsSet kernel.now S bound marks.old → IsSet kernel.now (with_literals clause.now S) bound marks.new) }
+    ensures met { OnOk result (Meets marks.old clause.now marks.new) }
 {
     let count = clause.len();
     for done in 0..count {
@@ -113,8 +116,9 @@ fn put_others(
     except: Lit,
 ) -> Result<(), AllocError>
     requires { CanJoin kernel.now (without clause.now except) marks.old }
-    ensures { OnOk result ((S : Clause) → (bound : ℕ) → is_false (literals (take bound kernel.now.trail)) (without clause.now except) ≡ true
+    ensures set { OnOk result ((S : Clause) → (bound : ℕ) → is_false (literals (take bound kernel.now.trail)) (without clause.now except) ≡ true
         → IsSet kernel.now S bound marks.old → IsSet kernel.now (with_literals (without clause.now except) S) bound marks.new) }
+    ensures met { OnOk result (Meets marks.old (without clause.now except) marks.new) }
 {
     let count = clause.len();
     for done in 0..count {
@@ -129,8 +133,9 @@ fn put_others(
 /// Takes the negation of an entry's literal out of the set, which has it.
 fn take(kernel: &Kernel, marks: &mut Marks, entry: Entry)
     requires { CanResolve kernel.now entry [] marks.old }
-    ensures { (S : Clause) → (bound : ℕ) → slice_get kernel.now.trail bound ≡ Some entry → IsSet kernel.now S bound marks.old
+    ensures set { (S : Clause) → (bound : ℕ) → slice_get kernel.now.trail bound ≡ Some entry → IsSet kernel.now S bound marks.old
         → IsSet kernel.now (without S (negated entry.lit)) bound marks.new }
+    ensures seen { marks.new.seen ≡ marks.old.seen }
 {
     marks.marked[entry.lit.var() as usize] = false;
     if entry.level == kernel.level() {
@@ -147,9 +152,10 @@ pub(crate) fn resolve(
     reason: &[Lit],
 ) -> Result<(), AllocError>
     requires { CanResolve kernel.now entry (without reason.now entry.lit) marks.old }
-    ensures { OnOk result ((S : Clause) → (bound : ℕ) → slice_get kernel.now.trail bound ≡ Some entry
+    ensures set { OnOk result ((S : Clause) → (bound : ℕ) → slice_get kernel.now.trail bound ≡ Some entry
         → is_false (literals (take bound kernel.now.trail)) (without reason.now entry.lit) ≡ true → IsSet kernel.now S bound marks.old
         → IsSet kernel.now (resolved S entry.lit reason.now) bound marks.new) }
+    ensures met { OnOk result (Meets marks.old (without reason.now entry.lit) marks.new) }
 {
     take(kernel, marks, entry);
     put_others(kernel, marks, reason, entry.lit)

@@ -47,14 +47,6 @@ impl Numbers {
         })
     }
 
-    /// Whether a number is in.
-    pub(crate) fn has(&self, number: u32) -> bool
-        requires { number < self.now.bound }
-        ensures { result ≡ is_one_of self.now.numbers number }
-    {
-        self.flags[number as usize]
-    }
-
     /// Puts a number in, unless it is in.
     pub(crate) fn insert(&mut self, number: u32) -> Result<(), AllocError>
         requires { number < self.old.bound }

@@ -21,6 +21,10 @@ put_all-requires c =
 
 pub returns-clause-set : goal.returns-clause-set
 returns-clause-set c =
-    rw c.clause.ensures at (c.in_ok-put_all.ensures [] (length c.args.kernel.now.trail)
+    rw c.clause.ensures at (c.in_ok-put_all.ensures.set [] (length c.args.kernel.now.trail)
     (false-whole c.args.kernel.now.trail _ (rw c.clause.ensures (least_false-at _ _ _ c.requires).2))
     (IsSet-clear c.args.kernel.now _ c.in_ok-marks.marks (rw c.vars.ensures at c.in_ok-marks.ensures.long) c.in_ok-marks.ensures.clear))
+
+pub returns-clause-met : goal.returns-clause-met
+returns-clause-met c v =
+    rw c.clause.ensures at (rw c.in_ok-marks.ensures.clear.unseen at (c.in_ok-put_all.ensures.met v))

@@ -1,10 +1,12 @@
 use Rattle.std.proofs.Common.{◌≡◌, ◌∙◌, true, false, slice_set, ap, sym, nat_eq, eq-eqb, eqb-true, ◌++◌, ◌∷◌, [], arith}
+use Rattle.theory.specs.Literals.{negated}
 use Rattle.theory.specs.Trails.{Entry, current_level}
 use Rattle.theory.proofs.literals.LiteralSets.{false_unless}
 use Rattle.cdcl.proofs.PlaceLemmas.{placed-there, entry-read, entry_of-placed}
 use Rattle.cdcl.proofs.Pending.{pending-pushed, pending-kept}
 use Rattle.cdcl.proofs.MarkedSets.{entry-inside, count-most, resolvable-current, resolvable-zero, resolvable-neither}
 use Rattle.cdcl.proofs.JoinedSets.{IsSet-more}
+use Rattle.cdcl.proofs.MetVariables.{met-pushed}
 use Rattle.cdcl.proofs.marks.put_at.Goals as goal
 
 pub index_mut-requires : goal.index_mut-requires
@@ -21,8 +23,8 @@ overflow_add-marks c =
     let few = c.requires.marks.few in
     omega arith
 
-pub returns-in_ok-push_near : goal.returns-in_ok-push_near
-returns-in_ok-push_near c S bound e at below h =
+pub returns-in_ok-push_near-clause-set : goal.returns-in_ok-push_near-clause-set
+returns-in_ok-push_near-clause-set c S bound e at below h =
     let entry = c.entry.view_is ∙ entry-read c.args.kernel.now.trail _ c.args.place c.index-trail-place.result e c.trail.ensures.trail c.index-trail-place.is at in
     let v = c.var-var.ensures.var ∙ ap (λ (x : Entry). x.lit.var) entry in
     let current : nat_eq e.level (current_level c.args.kernel.now.trail) ≡ true =
@@ -33,8 +35,8 @@ returns-in_ok-push_near c S bound e at below h =
     (rw current (omega arith))
     (pending-pushed _ c.args.place _ _ (resolvable-current c.args.kernel.now.trail e current) c.in_ok-push_near.ensures)
 
-pub returns-in_ok-push_far : goal.returns-in_ok-push_far
-returns-in_ok-push_far c S bound e at below h =
+pub returns-in_ok-push_far-clause-set : goal.returns-in_ok-push_far-clause-set
+returns-in_ok-push_far-clause-set c S bound e at below h =
     let entry = c.entry.view_is ∙ entry-read c.args.kernel.now.trail _ c.args.place c.index-trail-place.result e c.trail.ensures.trail c.index-trail-place.is at in
     let v = c.var-var.ensures.var ∙ ap (λ (x : Entry). x.lit.var) entry in
     let level = ap (λ (x : Entry). x.level) entry in
@@ -47,8 +49,8 @@ returns-in_ok-push_far c S bound e at below h =
     (rw current (omega arith))
     (pending-pushed _ c.args.place _ _ (resolvable-zero c.args.kernel.now.trail e zero) c.in_ok-push_far.ensures)
 
-pub returns-else-entry-eq0 : goal.returns-else-entry-eq0
-returns-else-entry-eq0 c S bound e at below h =
+pub returns-else-entry-eq0-clause-set : goal.returns-else-entry-eq0-clause-set
+returns-else-entry-eq0-clause-set c S bound e at below h =
     let entry = c.entry.view_is ∙ entry-read c.args.kernel.now.trail _ c.args.place c.index-trail-place.result e c.trail.ensures.trail c.index-trail-place.is at in
     let v = c.var-var.ensures.var ∙ ap (λ (x : Entry). x.lit.var) entry in
     let level = ap (λ (x : Entry). x.level) entry in
@@ -60,3 +62,21 @@ returns-else-entry-eq0 c S bound e at below h =
     (c.in_ok-push.ensures.items ∙ ap (λ x. c.args.marks.now.seen.items ++ x ∷ []) v)
     (rw current (omega arith))
     (pending-kept _ c.args.place c.args.marks.now.pending (resolvable-neither c.args.kernel.now.trail e zero current))
+
+pub returns-in_ok-push_near-clause-met : goal.returns-in_ok-push_near-clause-met
+returns-in_ok-push_near-clause-met c e at v =
+    let entry = c.entry.view_is ∙ entry-read c.args.kernel.now.trail _ c.args.place c.index-trail-place.result e c.trail.ensures.trail c.index-trail-place.is at in
+    let var = c.var-var.ensures.var ∙ ap (λ (x : Entry). x.lit.var) entry in
+    met-pushed (negated e.lit) _ _ v (c.in_ok-push.ensures.items ∙ ap (λ x. c.args.marks.now.seen.items ++ x ∷ []) var)
+
+pub returns-in_ok-push_far-clause-met : goal.returns-in_ok-push_far-clause-met
+returns-in_ok-push_far-clause-met c e at v =
+    let entry = c.entry.view_is ∙ entry-read c.args.kernel.now.trail _ c.args.place c.index-trail-place.result e c.trail.ensures.trail c.index-trail-place.is at in
+    let var = c.var-var.ensures.var ∙ ap (λ (x : Entry). x.lit.var) entry in
+    met-pushed (negated e.lit) _ _ v (c.in_ok-push.ensures.items ∙ ap (λ x. c.args.marks.now.seen.items ++ x ∷ []) var)
+
+pub returns-else-entry-eq0-clause-met : goal.returns-else-entry-eq0-clause-met
+returns-else-entry-eq0-clause-met c e at v =
+    let entry = c.entry.view_is ∙ entry-read c.args.kernel.now.trail _ c.args.place c.index-trail-place.result e c.trail.ensures.trail c.index-trail-place.is at in
+    let var = c.var-var.ensures.var ∙ ap (λ (x : Entry). x.lit.var) entry in
+    met-pushed (negated e.lit) _ _ v (c.in_ok-push.ensures.items ∙ ap (λ x. c.args.marks.now.seen.items ++ x ∷ []) var)

@@ -3,7 +3,7 @@ use Rattle.std.proofs.lemmas.Result.{on_ok_weaker}
 use Rattle.theory.specs.Literals.{Literal, negated, without}
 use Rattle.theory.specs.Trails.{Entry}
 use Rattle.theory.specs.Learning.{with_literals}
-use Rattle.cdcl.specs.Marks.{IsSet, CanJoin}
+use Rattle.cdcl.specs.Marks.{IsSet, CanJoin, Meets}
 use Rattle.cdcl.proofs.JoinedSets.{CanResolve-none, CanJoin-taken}
 use Rattle.cdcl.proofs.marks.resolve.Goals as goal
 
@@ -13,13 +13,21 @@ take-requires c = CanResolve-none _ c.args.entry _ _ c.requires
 pub put_others-requires : goal.put_others-requires
 put_others-requires c =
     subst (λ (e : Entry). CanJoin c.args.kernel.now (without c.args.reason.now e.lit) c.take.new.marks) (sym c.entry.view_is)
-    (CanJoin-taken _ c.args.entry _ _ c.take.new.marks c.requires (c.take.ensures c.requires.joins.set c.requires.joins.bound c.requires.at c.requires.joins.is))
+    (CanJoin-taken _ c.args.entry _ _ c.take.new.marks c.requires (c.take.ensures.set c.requires.joins.set c.requires.joins.bound c.requires.at c.requires.joins.is))
 
-pub returns : goal.returns
-returns c = on_ok_weaker c.put_others.result
+pub returns-clause-set : goal.returns-clause-set
+returns-clause-set c = on_ok_weaker c.put_others.result
     (λ made S bound at f h. (
     let lit = ap (λ (e : Entry). e.lit) c.entry.view_is in
     subst (λ (l : Literal). IsSet c.args.kernel.now (with_literals (without c.args.reason.now l) (without S (negated c.args.entry.lit))) bound c.put_others.new.marks) lit
-    (made (without S (negated c.args.entry.lit)) bound (rw (← lit) at f) (c.take.ensures S bound at h))
+    (made (without S (negated c.args.entry.lit)) bound (rw (← lit) at f) (c.take.ensures.set S bound at h))
     ))
-    c.put_others.ensures
+    c.put_others.ensures.set
+
+pub returns-clause-met : goal.returns-clause-met
+returns-clause-met c = on_ok_weaker c.put_others.result
+    (λ made. (
+    let lit = ap (λ (e : Entry). e.lit) c.entry.view_is in
+    rw (← c.take.ensures.seen) (subst (λ (l : Literal). Meets c.take.new.marks (without c.args.reason.now l) c.put_others.new.marks) lit made)
+    ))
+    c.put_others.ensures.met

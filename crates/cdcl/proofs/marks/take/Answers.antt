@@ -21,8 +21,8 @@ overflow_sub-marks c =
     (is_in _ _ _ _ (negated c.args.entry.lit) c.requires.joins.lawful c.requires.joins.is.is (entry-false _ c.args.entry there) (c.requires.joins.is.is.marks c.args.entry.lit.var ∙ c.requires.is_in))
     (ap level_at there ∙ (sym (ap (λ (e : Entry). e.level) c.entry.view_is) ∙ (c.if-entry-level.true ∙ c.level.ensures)))
 
-pub returns-then-entry-level : goal.returns-then-entry-level
-returns-then-entry-level c S bound at h =
+pub returns-then-entry-level-clause-set : goal.returns-then-entry-level-clause-set
+returns-then-entry-level-clause-set c S bound at h =
     let there = entry_of-placed _ _ bound c.args.entry c.requires.joins.lawful at in
     let marked = c.requires.joins.is.is.marks c.args.entry.lit.var ∙ c.requires.is_in in
     let v = c.var.ensures.var ∙ ap (λ (e : Entry). e.lit.var) c.entry.view_is in
@@ -32,8 +32,8 @@ returns-then-entry-level c S bound at h =
     (is_in _ S _ _ (negated c.args.entry.lit) c.requires.joins.lawful h.is (entry-false _ c.args.entry there) marked) h
     (ap (λ x. slice_set c.args.marks.now.marked.items x false) v) (rw one refl) refl refl
 
-pub returns-else-entry-level : goal.returns-else-entry-level
-returns-else-entry-level c S bound at h =
+pub returns-else-entry-level-clause-set : goal.returns-else-entry-level-clause-set
+returns-else-entry-level-clause-set c S bound at h =
     let there = entry_of-placed _ _ bound c.args.entry c.requires.joins.lawful at in
     let marked = c.requires.joins.is.is.marks c.args.entry.lit.var ∙ c.requires.is_in in
     let v = c.var.ensures.var ∙ ap (λ (e : Entry). e.lit.var) c.entry.view_is in
