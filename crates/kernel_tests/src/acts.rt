@@ -6,10 +6,9 @@ ghost use Rattle.theory.specs.Trails.{literals, entry_of};
 
 use crate::forgetting::forget;
 use cnf::{Lit, read_formula};
-use kernel::{Closed, Entry, Kernel};
+use kernel::{Closed, Cube, Entry, Kernel};
 use samples::{cube_of, reads};
 use std::alloc::{AllocError, Global};
-use std::process::Abort;
 use std::test::Fail;
 
 pub fn opened(alloc: Global, text: &[u8], numbers: &[i32]) -> Result<Kernel, Fail> {
@@ -18,27 +17,35 @@ pub fn opened(alloc: Global, text: &[u8], numbers: &[i32]) -> Result<Kernel, Fai
     Ok(Kernel::open(alloc, &formula, &cube)?)
 }
 
-fn opened_with(alloc: Global, text: &[u8], units: &[i32], numbers: &[i32]) -> Result<Kernel, Fail> {
+/// A kernel at the root, with these units behind the clauses.
+fn opened_with(alloc: Global, text: &[u8], units: &[i32]) -> Result<Kernel, Fail> {
     let formula = read_formula(alloc, text)?;
     let units = cube_of(alloc, formula.vars(), units)?;
-    let cube = cube_of(alloc, formula.vars(), numbers)?;
-    Ok(Kernel::open_with(alloc, &formula, units.lits(), &cube)?)
+    let kernel = Kernel::open_with(alloc, &formula, units.lits(), &Cube::root(alloc))?;
+    Ok(kernel)
 }
 
-/// Whether the trail has these entries: number, reason or 0, level.
+/// Whether an entry has this number, this reason or 0, and this level.
+fn is_entry(entry: Entry, wanted: (i32, u64, u32)) -> bool {
+    (entry.lit.number(), entry.reason.unwrap_or(0), entry.level) == wanted
+}
+
+/// Whether the trail has these entries.
 fn stands(kernel: &Kernel, wanted: &[(i32, u64, u32)]) -> bool {
     let trail = kernel.trail();
     if trail.len() != wanted.len() {
         return false;
     }
     for (entry, want) in trail.iter().zip(wanted) {
-        let entry = *entry;
-        let same = entry.lit.number() == want.0 && entry.reason.unwrap_or(0) == want.1;
-        if !same || entry.level != want.2 {
+        if !is_entry(*entry, *want) {
             return false;
         }
     }
     true
+}
+
+fn is_same(one: Entry, other: Entry) -> bool {
+    one.lit.same(&other.lit) && one.reason == other.reason && one.level == other.level
 }
 
 /// Whether two trails are the same.
@@ -47,9 +54,7 @@ pub fn are_same(left: &[Entry], right: &[Entry]) -> bool {
         return false;
     }
     for (one, other) in left.iter().zip(right) {
-        let one = *one;
-        let other = *other;
-        if !one.lit.same(&other.lit) || one.reason != other.reason || one.level != other.level {
+        if !is_same(*one, *other) {
             return false;
         }
     }
@@ -199,7 +204,8 @@ pub fn learn_three(kernel: &mut Kernel, numbers: [i32; 3]) -> Result<bool, Alloc
     Ok(reads(kernel.clause(learnt), &numbers))
 }
 
-fn restart(alloc: Global, kernel: &mut Kernel, numbers: &[i32]) -> Result<(), AllocError> {
+/// Goes over to the cube of these numbers.
+pub fn restart(alloc: Global, kernel: &mut Kernel, numbers: &[i32]) -> Result<(), AllocError> {
     let cube = cube_of(alloc, kernel.vars(), numbers)?;
     kernel.restart(&cube)
 }
@@ -234,13 +240,19 @@ pub fn acts(alloc: Global, kernel: &mut Kernel, act: Act) -> Result<bool, AllocE
 #[derive(Clone, Copy)]
 pub struct Row<'a>(pub Act<'a>, pub Closed, pub &'a [(i32, u64, u32)]);
 
-/// A formula, the cube or the units that a kernel is opened with, and rows that it is to go
-/// through.
+/// What a kernel is opened with: a cube, or units at the root.
+#[derive(Clone, Copy)]
+pub enum Opening<'a> {
+    Cube(&'a [i32]),
+    Units(&'a [i32]),
+}
+
+/// A formula, what a kernel is opened with, and rows that it is to go through.
 #[derive(Clone, Copy)]
 pub struct Case<'a> {
     pub name: &'a str,
     pub text: &'a str,
-    pub numbers: &'a [i32],
+    pub opening: Opening<'a>,
     pub rows: &'a [Row<'a>],
 }
 
@@ -259,31 +271,15 @@ fn first_failed(alloc: Global, kernel: &mut Kernel, rows: &[Row]) -> Result<Opti
     Ok(None)
 }
 
-fn failed_row(alloc: Global, case: &Case) -> Result<Option<usize>, Fail> {
-    let mut kernel = opened(alloc, case.text.as_bytes(), case.numbers)?;
-    first_failed(alloc, &mut kernel, case.rows)
-}
-
-fn failed_row_with_units(alloc: Global, case: &Case) -> Result<Option<usize>, Fail> {
-    let mut kernel = opened_with(alloc, case.text.as_bytes(), case.numbers, &[])?;
-    first_failed(alloc, &mut kernel, case.rows)
-}
-
-/// Kernels that are opened with the cubes of cases go through their rows.
-pub fn all_go(rt: &impl Abort, alloc: Global, cases: &[Case]) -> Result<(), Fail> {
-    for case in cases {
-        assert_eq!(rt; (case.name, failed_row(alloc, case)?), (case.name, None));
+fn opened_by(alloc: Global, case: &Case) -> Result<Kernel, Fail> {
+    match case.opening {
+        Opening::Cube(numbers) => opened(alloc, case.text.as_bytes(), numbers),
+        Opening::Units(numbers) => opened_with(alloc, case.text.as_bytes(), numbers),
     }
-    Ok(())
 }
 
-/// Kernels that are opened with the units of cases, at the root, go through their rows.
-pub fn all_go_with_units(rt: &impl Abort, alloc: Global, cases: &[Case]) -> Result<(), Fail> {
-    for case in cases {
-        assert_eq!(rt;
-            (case.name, failed_row_with_units(alloc, case)?),
-            (case.name, None)
-        );
-    }
-    Ok(())
+/// The place of the first row that a case's kernel doesn't go through, if there is one.
+pub fn failed_row(alloc: Global, case: &Case) -> Result<Option<usize>, Fail> {
+    let mut kernel = opened_by(alloc, case)?;
+    first_failed(alloc, &mut kernel, case.rows)
 }

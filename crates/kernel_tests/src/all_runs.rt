@@ -4,7 +4,9 @@
 //! The runs are gone through like the words of a dictionary. A kernel can't be copied, so each run
 //! is replayed from its first operation; operations that aren't lawful where a run stands change
 //! nothing, and are passed over on the same kernel.
-use crate::acts::{are_same, back_to, decide, learn_pair, learn_turned_pair, learn_unit, lits_of};
+use crate::acts::{
+    are_same, back_to, decide, learn_pair, learn_turned_pair, learn_unit, lits_of, restart,
+};
 use crate::scan::Scan;
 use crate::visits::thousand;
 use cnf::{Formula, Lit, read_formula};
@@ -91,8 +93,7 @@ impl Twins {
     /// Works on a cube, up to a clause that is learnt where a conflict comes, and goes over to the
     /// whole formula.
     fn use_for(&mut self, alloc: Global, numbers: &[i32]) -> Result<(), AllocError> {
-        let cube = cube_of(alloc, self.kernel.vars(), numbers)?;
-        self.kernel.restart(&cube)?;
+        restart(alloc, &mut self.kernel, numbers)?;
         for number in LITERALS {
             decide(&mut self.kernel, number)?;
         }
@@ -100,7 +101,7 @@ impl Twins {
         for number in LITERALS {
             learn_unit(&mut self.kernel, number)?;
         }
-        self.kernel.restart(&Cube::root(alloc))
+        restart(alloc, &mut self.kernel, &[])
     }
 
     fn close(&mut self) -> Result<bool, AllocError> {
@@ -327,9 +328,20 @@ fn first_disagreement(alloc: Global, units: &[i32], before: &[i32]) -> Result<Op
     Ok(None)
 }
 
+/// Units behind the clauses, and another cube that the kernel worked on before.
+static STARTS: [(&[i32], &[i32]); 4] = [
+    (&[], &[]),
+    (&[], &[-1, 2]),
+    (&[-2], &[]),
+    (&[3, -1], &[-1, 2]),
+];
+
 #[test]
 fn all_runs_of_six_operations(rt: HostRuntime) -> Result<(), Fail> {
-    assert_eq!(rt; first_disagreement(rt.alloc(), &[], &[])?, None);
+    for (units, before) in &STARTS {
+        let apart = first_disagreement(rt.alloc(), units, before)?;
+        assert!(rt; apart.is_none(), "{apart:?} with {units:?}");
+    }
     Ok(())
 }
 
@@ -337,23 +349,5 @@ fn all_runs_of_six_operations(rt: HostRuntime) -> Result<(), Fail> {
 fn all_runs_over_a_thousand_clauses(rt: HostRuntime) -> Result<(), Fail> {
     let text = thousand(rt.alloc())?;
     assert!(rt; agree(rt.alloc(), &text, &[], &[])?);
-    Ok(())
-}
-
-#[test]
-fn all_runs_behind_other_cubes(rt: HostRuntime) -> Result<(), Fail> {
-    assert_eq!(rt; first_disagreement(rt.alloc(), &[], &[-1, 2])?, None);
-    Ok(())
-}
-
-#[test]
-fn all_runs_with_a_unit(rt: HostRuntime) -> Result<(), Fail> {
-    assert_eq!(rt; first_disagreement(rt.alloc(), &[-2], &[])?, None);
-    Ok(())
-}
-
-#[test]
-fn all_runs_with_units_behind_other_cubes(rt: HostRuntime) -> Result<(), Fail> {
-    assert_eq!(rt; first_disagreement(rt.alloc(), &[3, -1], &[-1, 2])?, None);
     Ok(())
 }

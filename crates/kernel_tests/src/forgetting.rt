@@ -7,11 +7,10 @@ ghost use Rattle.theory.specs.Trails.{literals};
 ghost use Rattle.theory.specs.Propagation.{least_false};
 ghost use Rattle.theory.specs.Forgetting.{is_number, is_reason};
 
-use crate::acts::{Act, Case, Row, all_go};
+use crate::acts::{Act, Case, Opening, Row};
 use cnf::Lit;
 use kernel::{Closed, Entry, Kernel};
 use std::alloc::AllocError;
-use std::test::Fail;
 
 fn is_number(number: u64, reason: Option<u64>) -> bool
     ensures { result ≡ is_number number reason }
@@ -100,13 +99,13 @@ pub fn forget(kernel: &mut Kernel, numbers: &[u64]) -> Result<bool, AllocError> 
     Ok(true)
 }
 
-static CASES: [Case; 2] = [
+pub static CASES: [Case; 2] = [
     // A learnt clause propagates until it is forgotten; the next one has the next number, and
     // another cube begins with none.
     Case {
         name: "a clause that is forgotten",
         text: "p cnf 4 1\n1 2 3 4 0\n",
-        numbers: &[],
+        opening: Opening::Cube(&[]),
         rows: &[
             Row(Act::Decide(-1), Closed::Quiet, &[(-1, 0, 1)]),
             Row(Act::Decide(-2), Closed::Quiet, &[(-1, 0, 1), (-2, 0, 2)]),
@@ -132,7 +131,7 @@ static CASES: [Case; 2] = [
     Case {
         name: "a clause between two others",
         text: "p cnf 5 1\n1 2 3 4 5 0\n",
-        numbers: &[],
+        opening: Opening::Cube(&[]),
         rows: &[
             Row(Act::Decide(-1), Closed::Quiet, &[(-1, 0, 1)]),
             Row(Act::Decide(-2), Closed::Quiet, &[(-1, 0, 1), (-2, 0, 2)]),
@@ -171,8 +170,3 @@ static CASES: [Case; 2] = [
         ],
     },
 ];
-
-#[test]
-fn a_forgotten_clause_does_nothing(rt: HostRuntime) -> Result<(), Fail> {
-    all_go(&rt, rt.alloc(), &CASES)
-}

@@ -74,17 +74,10 @@ static NO_VARIABLES: [Seen; 1] = [Seen {
     values: &[None, None],
 }];
 
-/// The number of variables, and the value of one that no formula has.
-fn vars_and_last_value(alloc: Global, text: &[u8]) -> Result<(u32, Option<bool>), Fail> {
-    let kernel = opened(alloc, text, &[])?;
-    Ok((kernel.vars(), kernel.value(u32::MAX)))
-}
-
-#[test]
-fn no_variables(rt: HostRuntime) -> Result<(), Fail> {
-    assert!(rt; failed_row(rt.alloc(), b"p cnf 0 0\n", &NO_VARIABLES)?.is_none());
-    assert!(rt; vars_and_last_value(rt.alloc(), b"p cnf 0 0\n")? == (0, None));
-    Ok(())
+/// Whether a formula without variables has none, and no value of one that no formula has.
+fn has_no_variables(alloc: Global) -> Result<bool, Fail> {
+    let kernel = opened(alloc, b"p cnf 0 0\n", &[])?;
+    Ok(kernel.vars() == 0 && kernel.value(u32::MAX).is_none())
 }
 
 const YES: Option<bool> = Some(true);
@@ -131,7 +124,9 @@ static THERE_AND_BACK: [Seen; 5] = [
 #[test]
 fn looks_up_and_goes_back(rt: HostRuntime) -> Result<(), Fail> {
     let text = b"p cnf 4 2\n2 -1 0\n-4 3 0\n";
-    assert_eq!(rt; failed_row(rt.alloc(), text, &THERE_AND_BACK)?, None);
+    assert!(rt; failed_row(rt.alloc(), text, &THERE_AND_BACK)?.is_none());
+    assert!(rt; failed_row(rt.alloc(), b"p cnf 0 0\n", &NO_VARIABLES)?.is_none());
+    assert!(rt; has_no_variables(rt.alloc())?);
     Ok(())
 }
 
@@ -161,18 +156,18 @@ fn levels(alloc: Global, text: &[u8]) -> Result<Option<u32>, Fail> {
     decide_all(&mut kernel)
 }
 
-#[test]
-fn decides_each_of_many_variables(rt: HostRuntime) -> Result<(), Fail> {
-    assert_eq!(rt; levels(rt.alloc(), b"p cnf 262143 0\n")?, Some(262143));
-    Ok(())
+/// Whether a cube is what is pushed into it, and a pop takes the last literal.
+fn is_popped(alloc: Global) -> Result<bool, AllocError> {
+    let mut cube = cube_of(alloc, 9, &[3, -1, 3, 10])?;
+    let is_pushed = reads(cube.lits(), &[3, -1]);
+    let is_last = matches!(cube.pop(), Some(lit) if lit.number() == -1);
+    Ok(is_pushed && is_last && reads(cube.lits(), &[3]))
 }
 
 #[test]
-fn cubes(rt: HostRuntime) -> Result<(), Fail> {
-    let mut cube = cube_of(rt.alloc(), 9, &[3, -1, 3, 10])?;
-    assert!(rt; reads(cube.lits(), &[3, -1]));
-    assert!(rt; matches!(cube.pop(), Some(lit) if lit.number() == -1));
-    assert!(rt; reads(cube.lits(), &[3]));
+fn many_variables_and_cubes(rt: HostRuntime) -> Result<(), Fail> {
+    assert!(rt; levels(rt.alloc(), b"p cnf 262143 0\n")? == Some(262143));
+    assert!(rt; is_popped(rt.alloc())?);
     assert!(rt; Cube::root(rt.alloc()).lits().is_empty());
     Ok(())
 }

@@ -1,16 +1,15 @@
 //! Going over to another cube: what propagation then answers is as if the kernel were opened anew.
-use crate::acts::{Act, Case, Row, all_go};
+use crate::acts::{Act, Case, Opening, Row};
 use kernel::Closed;
 use samples::FOUR;
-use std::test::Fail;
 
-static CASES: [Case; 2] = [
+pub static CASES: [Case; 2] = [
     // The search of the root, a decision, a conflict, and a clause learnt as the fifth; the two
     // halves; and the root again.
     Case {
         name: "from cube to cube",
         text: FOUR,
-        numbers: &[],
+        opening: Opening::Cube(&[]),
         rows: &[
             Row(Act::Nothing, Closed::Quiet, &[]),
             Row(
@@ -49,7 +48,7 @@ static CASES: [Case; 2] = [
     Case {
         name: "from a decision to a cube",
         text: "p cnf 3 2\n2 3 0\n1 -3 0\n",
-        numbers: &[-2],
+        opening: Opening::Cube(&[-2]),
         rows: &[
             Row(
                 Act::Nothing,
@@ -70,8 +69,3 @@ static CASES: [Case; 2] = [
         ],
     },
 ];
-
-#[test]
-fn as_if_opened_anew(rt: HostRuntime) -> Result<(), Fail> {
-    all_go(&rt, rt.alloc(), &CASES)
-}

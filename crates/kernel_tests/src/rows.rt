@@ -1,14 +1,17 @@
 //! Worked rows: what propagation answers, and the whole trail after it.
-use crate::acts::{Act, Case, Row, all_go};
+use crate::acts::{Act, Case, Opening, Row, failed_row};
+use crate::{forgetting, restarts, units};
 use kernel::Closed;
 use samples::{EIGHT, FOUR};
+use std::alloc::Global;
+use std::process::Abort;
 use std::test::Fail;
 
 static DECISIONS: [Case; 5] = [
     Case {
         name: "two variables",
         text: FOUR,
-        numbers: &[],
+        opening: Opening::Cube(&[]),
         rows: &[
             Row(Act::Nothing, Closed::Quiet, &[]),
             Row(
@@ -26,7 +29,7 @@ static DECISIONS: [Case; 5] = [
     Case {
         name: "a level that no clause names",
         text: "p cnf 4 2\n1 3 4 0\n1 3 -4 0\n",
-        numbers: &[],
+        opening: Opening::Cube(&[]),
         rows: &[
             Row(Act::Decide(-1), Closed::Quiet, &[(-1, 0, 1)]),
             Row(Act::Decide(-2), Closed::Quiet, &[(-1, 0, 1), (-2, 0, 2)]),
@@ -45,7 +48,7 @@ static DECISIONS: [Case; 5] = [
     Case {
         name: "four conflicts",
         text: EIGHT,
-        numbers: &[],
+        opening: Opening::Cube(&[]),
         rows: &[
             Row(Act::Decide(-1), Closed::Quiet, &[(-1, 0, 1)]),
             Row(
@@ -74,7 +77,7 @@ static DECISIONS: [Case; 5] = [
     Case {
         name: "the negative half",
         text: EIGHT,
-        numbers: &[-1],
+        opening: Opening::Cube(&[-1]),
         rows: &[
             Row(
                 Act::Decide(-2),
@@ -91,7 +94,7 @@ static DECISIONS: [Case; 5] = [
     Case {
         name: "the positive half",
         text: EIGHT,
-        numbers: &[1],
+        opening: Opening::Cube(&[1]),
         rows: &[
             Row(
                 Act::Decide(-2),
@@ -111,7 +114,7 @@ static AT_THE_ROOT: [Case; 10] = [
     Case {
         name: "cube -1 -2",
         text: EIGHT,
-        numbers: &[-1, -2],
+        opening: Opening::Cube(&[-1, -2]),
         rows: &[Row(
             Act::Nothing,
             Closed::Conflict(2),
@@ -121,7 +124,7 @@ static AT_THE_ROOT: [Case; 10] = [
     Case {
         name: "cube -1 2",
         text: EIGHT,
-        numbers: &[-1, 2],
+        opening: Opening::Cube(&[-1, 2]),
         rows: &[Row(
             Act::Nothing,
             Closed::Conflict(4),
@@ -131,7 +134,7 @@ static AT_THE_ROOT: [Case; 10] = [
     Case {
         name: "cube 1 -2",
         text: EIGHT,
-        numbers: &[1, -2],
+        opening: Opening::Cube(&[1, -2]),
         rows: &[Row(
             Act::Nothing,
             Closed::Conflict(6),
@@ -141,7 +144,7 @@ static AT_THE_ROOT: [Case; 10] = [
     Case {
         name: "cube 1 2",
         text: EIGHT,
-        numbers: &[1, 2],
+        opening: Opening::Cube(&[1, 2]),
         rows: &[Row(
             Act::Nothing,
             Closed::Conflict(8),
@@ -151,7 +154,7 @@ static AT_THE_ROOT: [Case; 10] = [
     Case {
         name: "the least unit clause comes first",
         text: "p cnf 3 2\n2 3 0\n1 -3 0\n",
-        numbers: &[-1, -2],
+        opening: Opening::Cube(&[-1, -2]),
         rows: &[Row(
             Act::Nothing,
             Closed::Conflict(2),
@@ -161,31 +164,31 @@ static AT_THE_ROOT: [Case; 10] = [
     Case {
         name: "a false clause comes before a unit one",
         text: "p cnf 3 2\n2 3 0\n1 2 0\n",
-        numbers: &[-1, -2],
+        opening: Opening::Cube(&[-1, -2]),
         rows: &[Row(Act::Nothing, Closed::Conflict(2), &[(-1, 0, 0), (-2, 0, 0)])],
     },
     Case {
         name: "an empty clause behind a unit one",
         text: "p cnf 1 2\n1 0\n0\n",
-        numbers: &[],
+        opening: Opening::Cube(&[]),
         rows: &[Row(Act::Nothing, Closed::Conflict(2), &[])],
     },
     Case {
         name: "an empty clause alone",
         text: "p cnf 0 1\n0\n",
-        numbers: &[],
+        opening: Opening::Cube(&[]),
         rows: &[Row(Act::Nothing, Closed::Conflict(1), &[])],
     },
     Case {
         name: "repeated literals",
         text: "p cnf 2 2\n1 1 0\n-1 2 -1 2 2 0\n",
-        numbers: &[],
+        opening: Opening::Cube(&[]),
         rows: &[Row(Act::Nothing, Closed::Quiet, &[(1, 1, 0), (2, 2, 0)])],
     },
     Case {
         name: "literals of both signs",
         text: "p cnf 2 3\n1 -1 0\n2 -1 1 0\n-2 2 1 0\n",
-        numbers: &[],
+        opening: Opening::Cube(&[]),
         rows: &[
             Row(Act::Nothing, Closed::Quiet, &[]),
             Row(Act::Decide(-1), Closed::Quiet, &[(-1, 0, 1)]),
@@ -194,12 +197,20 @@ static AT_THE_ROOT: [Case; 10] = [
     },
 ];
 
-#[test]
-fn propagation_behind_decisions(rt: HostRuntime) -> Result<(), Fail> {
-    all_go(&rt, rt.alloc(), &DECISIONS)
+/// The kernels of cases go through their rows.
+fn all_go(rt: &impl Abort, alloc: Global, cases: &[Case]) -> Result<(), Fail> {
+    for case in cases {
+        let failed = failed_row(alloc, case)?;
+        assert!(rt; failed.is_none(), "row {failed:?} of {}", case.name);
+    }
+    Ok(())
 }
 
 #[test]
-fn propagation_at_the_root(rt: HostRuntime) -> Result<(), Fail> {
-    all_go(&rt, rt.alloc(), &AT_THE_ROOT)
+fn kernels_go_through_their_rows(rt: HostRuntime) -> Result<(), Fail> {
+    all_go(&rt, rt.alloc(), &DECISIONS)?;
+    all_go(&rt, rt.alloc(), &AT_THE_ROOT)?;
+    all_go(&rt, rt.alloc(), &units::CASES)?;
+    all_go(&rt, rt.alloc(), &restarts::CASES)?;
+    all_go(&rt, rt.alloc(), &forgetting::CASES)
 }

@@ -1,15 +1,14 @@
 //! Worked rows of kernels that are opened with units behind the formula's clauses.
-use crate::acts::{Act, Case, Row, all_go_with_units};
+use crate::acts::{Act, Case, Opening, Row};
 use kernel::Closed;
-use std::test::Fail;
 
-static CASES: [Case; 6] = [
+pub static CASES: [Case; 6] = [
     // A unit has the number behind the last clause, and a learnt clause the next one. Variable 2 is
     // at level 0, so a decision has one level less than without the unit.
     Case {
         name: "a level less",
         text: "p cnf 4 2\n1 3 4 0\n1 3 -4 0\n",
-        numbers: &[-2],
+        opening: Opening::Units(&[-2]),
         rows: &[
             Row(Act::Nothing, Closed::Quiet, &[(-2, 3, 0)]),
             Row(Act::Decide(-1), Closed::Quiet, &[(-2, 3, 0), (-1, 0, 1)]),
@@ -42,7 +41,7 @@ static CASES: [Case; 6] = [
     Case {
         name: "an unused variable",
         text: "p cnf 3 4\n1 2 0\n1 -2 0\n-1 2 0\n-1 -2 0\n",
-        numbers: &[-3],
+        opening: Opening::Units(&[-3]),
         rows: &[
             Row(Act::Nothing, Closed::Quiet, &[(-3, 5, 0)]),
             Row(
@@ -69,7 +68,7 @@ static CASES: [Case; 6] = [
     Case {
         name: "units in their order",
         text: "p cnf 4 2\n1 2 3 0\n4 4 0\n",
-        numbers: &[-3, -1],
+        opening: Opening::Units(&[-3, -1]),
         rows: &[
             Row(
                 Act::Nothing,
@@ -92,7 +91,7 @@ static CASES: [Case; 6] = [
     Case {
         name: "units alone",
         text: "p cnf 2 0\n",
-        numbers: &[-1, 2],
+        opening: Opening::Units(&[-1, 2]),
         rows: &[
             Row(Act::Nothing, Closed::Quiet, &[(-1, 1, 0), (2, 2, 0)]),
             Row(Act::Restart(&[-2]), Closed::Conflict(2), &[(-2, 0, 0)]),
@@ -101,7 +100,7 @@ static CASES: [Case; 6] = [
     Case {
         name: "a unit behind an empty clause",
         text: "p cnf 1 1\n0\n",
-        numbers: &[-1],
+        opening: Opening::Units(&[-1]),
         rows: &[
             Row(Act::Nothing, Closed::Conflict(1), &[]),
             Row(Act::Restart(&[1]), Closed::Conflict(1), &[(1, 0, 0)]),
@@ -110,15 +109,10 @@ static CASES: [Case; 6] = [
     Case {
         name: "a unit against a clause of one literal",
         text: "p cnf 1 1\n1 0\n",
-        numbers: &[-1],
+        opening: Opening::Units(&[-1]),
         rows: &[
             Row(Act::Nothing, Closed::Conflict(2), &[(1, 1, 0)]),
             Row(Act::Restart(&[-1]), Closed::Conflict(1), &[(-1, 0, 0)]),
         ],
     },
 ];
-
-#[test]
-fn units_behind_clauses(rt: HostRuntime) -> Result<(), Fail> {
-    all_go_with_units(&rt, rt.alloc(), &CASES)
-}
