@@ -1,2 +1,3 @@
 -- Lines as bytes.
 pub mod Rows
+pub mod Scanning

@@ -2,10 +2,13 @@
 #![tactic(auto)]
 
 mod coding;
+mod cursor;
 mod line;
 mod number;
 mod reader;
 mod row;
+mod scan;
 
+pub use cursor::Cursor;
 pub use reader::Reader;
 pub use row::Row;

@@ -42,7 +42,7 @@ struct Number {
 }
 
 /// The number with seven bits more.
-fn with_bits(number: u64, bits: u8) -> u64
+pub(crate) fn with_bits(number: u64, bits: u8) -> u64
     requires { bits < 128 }
     ensures { result ≡ rows.with_bits number bits }
 {
@@ -117,7 +117,7 @@ fn read_hints(bytes: &[u8], at: usize, hints: &mut Vec<u64>) -> Result<usize, Al
 }
 
 /// The line that begins at a place, into lists that it clears; the place behind it.
-fn read_line(
+pub(crate) fn read_line(
     bytes: &[u8],
     at: usize,
     clause: &mut Vec<Lit>,

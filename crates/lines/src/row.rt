@@ -1,8 +1,10 @@
 //! A row of lines.
-ghost use Rattle.std.specs.Prelude.{◌≡◌, ◌≤◌, ◌∷◌, ◌++◌, [], ◌↔◌, All, IsTrue, length, IfOk, OnOk, OnErr};
+ghost use Rattle.std.specs.Prelude.{◌≡◌, ◌≤◌, ◌∷◌, ◌++◌, [], ◌↔◌, All, IsTrue, IsNone, length, IfOk, IfSome, OnOk, OnErr};
 ghost use Rattle.lines.specs.Rows.{row, IsWhole};
 
+use crate::cursor::Cursor;
 use crate::line::push_line;
+use crate::scan::Scan;
 use cnf::Lit;
 use std::alloc::{AllocError, Global};
 use std::marker::Model;
@@ -145,6 +147,39 @@ impl Row {
     /// Where the lines' memory comes from.
     pub fn allocator(&self) -> Global {
         *self.bytes.allocator()
+    }
+
+    /// The row of these bytes, if they are whole lines. They may be any: it goes over them once,
+    /// and takes no memory.
+    pub fn from_bytes(bytes: Vec<u8>) -> Option<Row>
+        ensures some { IfSome result (λ r. IsWhole bytes.items × (r ≡ (row bytes.items).lines)) }
+        ensures none { IsNone result → ¬ (IsWhole bytes.items) }
+    {
+        let scan = Scan::of(&bytes);
+        if !scan.is_whole() {
+            return None;
+        }
+        Some(Row {
+            bytes,
+            count: scan.lines,
+            literals: scan.most_literals,
+            hints: scan.most_hints,
+        })
+    }
+
+    /// The bytes that the lines are.
+    pub fn bytes(&self) -> &[u8]
+        ensures whole { IsWhole result.now }
+        ensures lines { (row result.now).lines ≡ self.now }
+    {
+        &self.bytes
+    }
+
+    /// The lines, from the first one on, to be read while the row stays. It takes no memory.
+    pub fn lines(&self) -> Cursor<'_>
+        ensures { result ≡ self.now }
+    {
+        Cursor::of(&self.bytes, self.count)
     }
 
     /// The bytes.

@@ -80,7 +80,7 @@ pub IsAssumed-held : (P : List Literal) (q : Literal) (c : Clause) (Q : List Lit
 IsAssumed-held P q c Q l apart there free h = more P q c Q Q l apart h (λ k a. a) there (λ k a. inr a) h.not_held free
 
 -- a clause with a literal and its negation has both signs of a variable
-both-signs : (c : Clause) (l : Literal) → has c l ≡ true → has c (negated l) ≡ true → has_both_signs c ≡ true
+pub both-signs : (c : Clause) (l : Literal) → has c l ≡ true → has c (negated l) ≡ true → has_both_signs c ≡ true
 both-signs c l a b = any (λ k. has c (negated k)) c l a b
   where
     any : (p : Literal → Bool) (d : Clause) (l : Literal) → has d l ≡ true → p l ≡ true → list_any p d ≡ true

@@ -8,9 +8,10 @@ use cnf::Lit;
 use std::alloc::{AllocError, Global};
 use std::marker::Model;
 
-/// Literals of distinct variables, each one of 1 to `vars`.
+/// Literals of distinct variables, each one of 1 to `vars`, the latest first. It takes two bytes a
+/// variable, and 4 a literal.
 #[derive(Drop)]
-pub(crate) struct Held {
+pub struct Held {
     vars: u32,
     // in the order in which they came
     trail: Vec<Lit>,
@@ -31,8 +32,8 @@ impl Model for Held {
 }
 
 impl Held {
-    /// No literals.
-    pub(crate) fn new(alloc: Global, vars: u32) -> Result<Held, AllocError>
+    /// No literals, over so many variables. It fails where a request for memory is refused.
+    pub fn new(alloc: Global, vars: u32) -> Result<Held, AllocError>
         ensures { IfOk result (λ h. h ≡ record { vars = vars; literals = [] }) }
     {
         Ok(Held {
@@ -43,21 +44,21 @@ impl Held {
     }
 
     /// The number of variables.
-    pub(crate) fn vars(&self) -> u32
+    pub fn vars(&self) -> u32
         ensures { result ≡ self.now.vars }
     {
         self.vars
     }
 
     /// How many literals there are.
-    pub(crate) fn len(&self) -> usize
+    pub fn len(&self) -> usize
         ensures { result ≡ length self.now.literals }
     {
         self.trail.len()
     }
 
-    /// The truth value of a variable, and none while it is free.
-    pub(crate) fn value(&self, var: u32) -> Option<bool>
+    /// The truth value of a variable, and none while it is free. It is one look-up.
+    pub fn value(&self, var: u32) -> Option<bool>
         requires { var ≤ self.now.vars }
         ensures value { result ≡ value_in self.now.literals var }
         ensures distinct { are_distinct self.now.literals ≡ true }
@@ -65,9 +66,9 @@ impl Held {
         self.values[var as usize]
     }
 
-    /// Puts a literal of a free variable. Where a request for memory is refused, nothing has
-    /// changed.
-    pub(crate) fn push(&mut self, lit: Lit) -> Result<(), AllocError>
+    /// Puts a literal of a free variable before the others. It fails where a request for memory is
+    /// refused: nothing has changed then.
+    pub fn push(&mut self, lit: Lit) -> Result<(), AllocError>
         requires is_variable { IsVariable self.old.vars lit.var }
         requires is_free { has_var self.old.literals lit.var ≡ false }
         ensures ok { OnOk result (self.new.literals ≡ lit ∷ self.old.literals) }
@@ -89,8 +90,9 @@ impl Held {
         Some(lit)
     }
 
-    /// Takes the latest literals away, until `count` are left. It takes time by those taken away.
-    pub(crate) fn go_back(&mut self, count: usize)
+    /// Takes the latest literals away, until `count` are left; where there are no more, none. It
+    /// takes time by those taken away, and no memory.
+    pub fn go_back(&mut self, count: usize)
         ensures left { (P : List Literal) → length P ≡ count → Extends P self.old.literals → self.new.literals ≡ P }
         ensures vars { self.new.vars ≡ self.old.vars }
     {

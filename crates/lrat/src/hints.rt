@@ -13,8 +13,8 @@ use crate::held::Held;
 use cnf::Lit;
 use std::alloc::AllocError;
 
-/// What a clause is: false, unit in a literal, or neither.
-pub(crate) enum Hint {
+/// What a clause is under literals that are held true: false, unit in a literal, or neither.
+pub enum Hint {
     False,
     Implies(Lit),
     NotUnit,
@@ -27,8 +27,8 @@ pub(crate) enum Taken {
     Fails(Fault),
 }
 
-/// What a clause is, in one walk over its literals.
-fn status_of(held: &Held, clause: &[Lit]) -> Hint
+/// What a clause is under literals that are held true, in one walk over its own.
+pub fn status_of(held: &Held, clause: &[Lit]) -> Hint
     requires { IsOver held.now.vars clause.now }
     ensures { hint_of result ≡ hint held.now.literals (Some clause.now) }
 {

@@ -1,5 +1,6 @@
 //! The checker of proofs in LRAT, of a list of steps and of a text in pieces; the steps and their
-//! text come from `lrat_text`.
+//! text come from `lrat_text`. What it is made of serves other checks by hints too: literals that
+//! are held true, and what a clause is under them.
 #![tactic(auto)]
 
 mod assume;
@@ -18,6 +19,8 @@ mod stream;
 
 pub use check_fault::CheckFault;
 pub use checker::check;
+pub use held::Held;
+pub use hints::{Hint, status_of};
 pub use laws::{deletion_is_accepted, stream_is_whole};
 pub use lrat_text::{
     Addition, Deletion, Group, MAX_BYTES, MAX_NUMBER, Step, TextFault, line_size, one_reading,

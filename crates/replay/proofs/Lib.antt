@@ -1,0 +1,3 @@
+pub mod KnownLemmas
+pub mod HoldingLemmas
+pub mod ReplayedLemmas
