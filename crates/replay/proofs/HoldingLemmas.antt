@@ -21,7 +21,7 @@ back c P h l a = ap (λ (f : Literal → Bool). f l) h ∙ a
 pub AreHeld-holding : (Q P : List Literal) → IsHolding Q P → AreHeld Q P
 AreHeld-holding Q P h = there Q P h.same
 
-free-same : (c P : List Literal) (v : ℕ) → AreSame c P → has_var c v ≡ false → has_var P v ≡ false
+pub free-same : (c P : List Literal) (v : ℕ) → AreSame c P → has_var c v ≡ false → has_var P v ≡ false
 free-same c P v h free = has_var-none P v (λ l a e. true_false (has_var c v) (subst (λ n. has_var c n ≡ true) e (has_var-has c l (back c P h l a))) free)
 
 distinct-more : (P : List Literal) (l : Literal) → are_distinct P ≡ true → has_var P l.var ≡ false → are_distinct (l ∷ P) ≡ true
@@ -36,7 +36,7 @@ cube-free Q P i l cube less at h =
     free-same (take i Q) P l.var h.same
     (subst (λ (x : Literal). has_var (take i Q) x.var ≡ false) (sym at) (rw (literals-cube (take i Q)) at (cube_trail-free Q i l cube less)))
 
-IsHolding-more : (Q P : List Literal) (l : Literal) → has_var P l.var ≡ false → IsHolding Q P → IsHolding (Q ++ l ∷ []) (l ∷ P)
+pub IsHolding-more : (Q P : List Literal) (l : Literal) → has_var P l.var ≡ false → IsHolding Q P → IsHolding (Q ++ l ∷ []) (l ∷ P)
 IsHolding-more Q P l free h = record {
   same = AreSame-by (Q ++ l ∷ []) (l ∷ P)
       (λ k a. elim (has-append_cases Q (l ∷ []) k a) [

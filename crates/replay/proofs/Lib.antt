@@ -1,3 +1,4 @@
 pub mod KnownLemmas
 pub mod HoldingLemmas
 pub mod ReplayedLemmas
+pub mod SplitLemmas

@@ -9,8 +9,8 @@ use cnf::Lit;
 use lrat::Held;
 use std::alloc::AllocError;
 
-/// Whether each variable is one of the first `vars`.
-pub(crate) fn is_over(vars: u32, clause: &[Lit]) -> bool
+/// Whether each literal is of one of the variables 1 to `vars`. It is one walk over the literals.
+pub fn is_over(vars: u32, clause: &[Lit]) -> bool
     ensures over { result ≡ true → IsOver vars clause.now }
     ensures beyond { result ≡ false → ¬ (IsOver vars clause.now) }
 {

@@ -1,5 +1,7 @@
-//! Worked rows of lines that are replayed.
+//! Worked rows of lines that are replayed, and of splits.
 #![tactic(auto)]
 
 #[cfg(test)]
 mod rows;
+#[cfg(test)]
+mod splits;
