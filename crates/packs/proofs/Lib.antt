@@ -1,0 +1,3 @@
+pub mod FrameLemmas
+pub mod FactLemmas
+pub mod PackLemmas
