@@ -1,3 +1,4 @@
 pub mod FrameLemmas
 pub mod FactLemmas
 pub mod PackLemmas
+pub mod CheckedSplits

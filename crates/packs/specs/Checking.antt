@@ -1,0 +1,36 @@
+-- Which facts are checked, and what checks them.
+use Rattle.std.specs.Prelude.{◌≡◌, List, Option, Some, None}
+use Rattle.theory.specs.Literals.{Literal}
+use Rattle.theory.specs.Truth.{Formula, IsOver}
+use Rattle.theory.specs.Plans.{Search, ordered, focused}
+use Rattle.theory.specs.Checked.{IsCheckedSplit, AreCheckedLines}
+use Rattle.replay.specs.Opened.{opened}
+use Rattle.replay.specs.Splits.{IsReady}
+use Rattle.replay.specs.declared.splits.LeastSplits.{LeastSplits}
+use Rattle.packs.specs.declared.fact.Claim.{Claim}
+use Rattle.packs.specs.declared.fact.Claim.TheVariants.{Split, Refuted, Model}
+use Rattle.packs.specs.declared.fact.Fact.{Fact}
+use Rattle.packs.specs.declared.checker.FactChecker.{FactChecker}
+
+-- a split is checked by the search, and lines by replaying them; a model is claimed only
+abbrev pub IsCheckedClaim : Search → Formula → List Literal → Claim → Type 0
+IsCheckedClaim search F Q (Split x) = IsCheckedSplit search F Q x
+IsCheckedClaim search F Q (Refuted lines) = AreCheckedLines F Q lines
+IsCheckedClaim search F Q Model = ⊥
+
+-- and the cube is one over the formula's variables
+pub record IsCheckedFact (search : Search) (F : Formula) (f : Fact) : Type 0 where
+  pub over : IsOver F.vars f.cube
+  pub claim : IsCheckedClaim search F f.cube f.claim
+
+-- the least splits are looked for by the ordered search alone
+abbrev pub IsSplitting : Search → Formula → Option LeastSplits → Type 0
+IsSplitting ordered F (Some s) = IsReady F s
+IsSplitting ordered F None = ⊥
+IsSplitting (focused c) F (Some s) = ⊥
+IsSplitting (focused c) F None = Unit {0}
+
+-- it checks facts of the formula, by the search
+pub record IsChecking (search : Search) (F : Formula) (c : FactChecker) : Type 0 where
+  pub replayer : c.replayer ≡ opened F
+  pub splits : IsSplitting search F c.splits
