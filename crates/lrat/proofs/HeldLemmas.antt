@@ -9,7 +9,7 @@ use Rattle.lrat.specs.Held.{value_in, IsTable, Extends}
 pub reverse-push : (P : List Literal) (l : Literal) → reverse (P ++ l ∷ []) ≡ l ∷ reverse P
 reverse-push P l = reverse-append P (l ∷ [])
 
-pub free-none : (P : List Literal) (v : ℕ) → has_var P v ≡ false → value_in P v ≡ None
+free-none : (P : List Literal) (v : ℕ) → has_var P v ≡ false → value_in P v ≡ None
 free-none [] v h = refl
 free-none (l ∷ P) v h =
     let other : nat_eq l.var v ≡ false = ne_eqb l.var v (λ e. true_false (nat_eq v l.var) (eq-eqb v l.var (sym e)) (or-false_left (nat_eq v l.var) (has_var P v) h)) in

@@ -2,3 +2,4 @@ pub mod FrameLemmas
 pub mod FactLemmas
 pub mod PackLemmas
 pub mod CheckedSplits
+pub mod UnheldVariables

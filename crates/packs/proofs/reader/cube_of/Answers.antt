@@ -6,9 +6,9 @@ use Rattle.theory.specs.Truth.{IsOver}
 use Rattle.trail.proofs.Cubes.{IsCube-push}
 use Rattle.lrat.specs.Held.{value_in}
 use Rattle.lrat.proofs.Values.{value-none}
-use Rattle.lrat.proofs.HeldLemmas.{free-none}
 use Rattle.replay.specs.Known.{IsHolding}
 use Rattle.replay.proofs.HoldingLemmas.{cube-free, IsHolding-more, free-same}
+use Rattle.packs.proofs.UnheldVariables.{unheld}
 use Rattle.packs.proofs.reader.cube_of.Goals as goal
 
 none_from : (o : Option Bool) → is_some o ≡ false → o ≡ None
@@ -18,7 +18,7 @@ none_from (Some b) h = absurd (cc)
 pub returns-then-is_some-clause-cube : goal.returns-then-is_some-clause-cube
 returns-then-is_some-clause-cube c = λ cube over.
     let free = cube-free c.args.literals.now c.loop-lit.held.literals c.loop-lit.lit-index c.lit-item.result cube c.loop-lit-test.true c.lit-item.is c.loop-lit.invariant.held in
-    let none : c.value.result ≡ None = c.value.ensures.value ∙ (ap (value_in c.loop-lit.held.literals) c.var-in-loop-lit.ensures.var ∙ free-none c.loop-lit.held.literals c.lit-item.result.var free) in
+    let none : c.value.result ≡ None = c.value.ensures.value ∙ (ap (value_in c.loop-lit.held.literals) c.var-in-loop-lit.ensures.var ∙ unheld c.loop-lit.held.literals c.lit-item.result.var free) in
     let both : true ≡ false = sym c.if-is_some.true ∙ (c.is_some.ensures ∙ ap is_some none) in
     absurd (cc)
 
