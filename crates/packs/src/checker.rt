@@ -1,5 +1,5 @@
 //! Facts that nobody vouches for, one after the other.
-ghost use Rattle.std.specs.Prelude.{◌≡◌, ◌↔◌, IsTrue, IfOk};
+ghost use Rattle.std.specs.Prelude.{◌↔◌, IsTrue, IfOk};
 ghost use Rattle.theory.specs.Truth.{IsOver};
 ghost use Rattle.theory.specs.Plans.{Search, Constants, ordered, focused};
 ghost use Rattle.theory.specs.Checked.{IsCheckedSplit};

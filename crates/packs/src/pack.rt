@@ -1,5 +1,5 @@
 //! Whole packs.
-ghost use Rattle.std.specs.Prelude.{◌≡◌, ◌<◌, ◌^◌, ◌+◌, ◌++◌, ◌∷◌, [], true, ℕ, List, All, IfOk, OnOk, MatchOption};
+ghost use Rattle.std.specs.Prelude.{◌≡◌, ◌<◌, ◌^◌, ◌+◌, ◌++◌, ◌∷◌, [], true, List, All, IfOk, OnOk, MatchOption};
 ghost use Rattle.packs.specs.declared.fact.Fact as facts;
 ghost use Rattle.packs.specs.Facts.{IsFactOver};
 ghost use Rattle.packs.specs.Packs.{IsPackOf, Reads};

@@ -1,5 +1,5 @@
 //! Facts from bytes that nobody vouches for.
-ghost use Rattle.std.specs.Prelude.{◌≡◌, ◌≤◌, ℕ, [], IfOk, MatchOption, false};
+ghost use Rattle.std.specs.Prelude.{◌≡◌, ℕ, [], IfOk, MatchOption};
 ghost use Rattle.theory.specs.Literals.{IsCube};
 ghost use Rattle.theory.specs.Truth.{IsOver};
 ghost use Rattle.packs.specs.declared.fact.Claim as claims;

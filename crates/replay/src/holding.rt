@@ -1,6 +1,6 @@
 //! The literals of a cube, and the negations of a clause's, as they are put to those held true.
 ghost use Rattle.std.specs.Prelude.{◌≡◌, [], ◌++◌, List, true, false, IfOk};
-ghost use Rattle.theory.specs.Literals.{Literal, IsCube, has_both_signs, negations, are_distinct};
+ghost use Rattle.theory.specs.Literals.{Literal, IsCube, has_both_signs, negations};
 ghost use Rattle.theory.specs.Truth.{IsOver};
 ghost use Rattle.lrat.specs.Held.{Extends};
 ghost use Rattle.replay.specs.Known.{IsHolding};

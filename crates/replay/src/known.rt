@@ -1,5 +1,5 @@
 //! The clauses that hints can name, by their numbers.
-ghost use Rattle.std.specs.Prelude.{◌≡◌, ◌<◌, [], ◌∷◌, All, length, slice_get, Some, MatchOption};
+ghost use Rattle.std.specs.Prelude.{◌≡◌, ◌<◌, All, length, slice_get, Some, MatchOption};
 ghost use Rattle.std.specs.Option.{option_map};
 ghost use Rattle.theory.specs.Truth.{IsOver};
 ghost use Rattle.theory.specs.Pure.{unit_clauses};

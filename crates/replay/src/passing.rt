@@ -1,6 +1,6 @@
 //! One line of a cube, and lines one behind the other.
 ghost use Rattle.std.specs.Prelude.{◌≡◌, ◌↔◌, ℕ, List, ◌++◌, [], All, IsTrue, IfOk, true};
-ghost use Rattle.theory.specs.Literals.{Literal, Clause, IsCube};
+ghost use Rattle.theory.specs.Literals.{Literal};
 ghost use Rattle.theory.specs.Truth.{IsOver};
 ghost use Rattle.theory.specs.Pure.{unit_clauses};
 ghost use Rattle.theory.specs.Replaying.{IsReplayed, AreRefutation};

@@ -1,5 +1,5 @@
 //! Whether a cube is split on a variable that its search, or another one, may split it on.
-ghost use Rattle.std.specs.Prelude.{◌≡◌, ◌↔◌, IsTrue, IfOk, OnOk, false};
+ghost use Rattle.std.specs.Prelude.{◌≡◌, ◌↔◌, IsTrue, IfOk, false};
 ghost use Rattle.theory.specs.Literals.{has_var};
 ghost use Rattle.theory.specs.Truth.{IsOver};
 ghost use Rattle.theory.specs.Checked.{IsFitSplit, IsLeastSplit};
