@@ -1,16 +1,15 @@
-//! A folder of a test's own.
+//! A folder of a test's own, and what is written in it.
+use sessions::path_of;
 use std::alloc::AllocError;
 use std::io::Write;
 use std::rt::{Env, Files};
 use std::test::Fail;
-use std::{env, fs, io};
+use std::{fs, io};
 use whole_file::{Destination, WholeFile};
 
 /// The path of a folder that is made anew for the test of this name.
 pub(crate) fn folder<R: Env + Files + AllocGlobal>(rt: &R, name: &str) -> Result<String, Fail> {
-    let above = env::temp_dir(rt)?;
-    let above = above.as_path().display();
-    let folder = format!(in rt.alloc(); "{above}/whole_file_{name}")?;
+    let folder = path_of(rt, name)?;
     let _ = fs::remove_dir_all(rt, folder.as_str());
     fs::create_dir(rt, folder.as_str())?;
     Ok(folder)
@@ -25,12 +24,35 @@ pub(crate) fn within<R: AllocGlobal>(
     format!(in rt.alloc(); "{folder}/{name}")
 }
 
+/// Puts a text into a file; for none, takes away what is there.
+pub(crate) fn put<R: Files>(rt: &R, path: &str, text: Option<&str>) -> io::Result<()> {
+    let _ = fs::remove_file(rt, path);
+    match text {
+        Some(text) => fs::write(rt, path, text),
+        None => Ok(()),
+    }
+}
+
 /// Whether the file is there with just this text; or, for none, whether nothing is there.
 pub(crate) fn is_left<R: Files + AllocGlobal>(rt: &R, path: &str, text: Option<&str>) -> bool {
-    match (fs::read(rt, path), text) {
-        (Ok(bytes), Some(text)) => bytes.as_slice() == text.as_bytes(),
-        (Err(_), None) => rt.symlink_metadata(path).is_err(),
-        _ => false,
+    match text {
+        Some(text) => has_text(rt, path, text),
+        None => rt.symlink_metadata(path).is_err(),
+    }
+}
+
+fn has_text<R: Files + AllocGlobal>(rt: &R, path: &str, text: &str) -> bool {
+    match fs::read(rt, path) {
+        Ok(bytes) => bytes.as_slice() == text.as_bytes(),
+        Err(_) => false,
+    }
+}
+
+/// Whether a symbolic link is there.
+pub(crate) fn is_link<R: Files>(rt: &R, path: &str) -> bool {
+    match rt.symlink_metadata(path) {
+        Ok(there) => there.is_symlink(),
+        Err(_) => false,
     }
 }
 

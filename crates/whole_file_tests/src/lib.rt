@@ -7,8 +7,10 @@ mod folder;
 #[cfg(test)]
 mod links;
 #[cfg(test)]
+mod place;
+#[cfg(test)]
 mod places;
 #[cfg(test)]
 mod refusals;
 #[cfg(test)]
-mod refusing;
+mod writes;

@@ -1,149 +1,196 @@
-//! What stands at a place, and in the part beside it, before, while and behind a file is written.
-use crate::folder::{begin, folder, is_left, within, write_some, write_whole};
-use std::fs;
+//! What stands at a place, and in the part beside it, while a file is written; and places of other
+//! kinds.
+use crate::folder::{begin, folder, is_link, within, write_whole};
+use crate::links::{names_linked_part, refuses_circle};
+use crate::place::{Place, link};
+use crate::refusals::goes_without_modes;
 use std::fs::Permissions;
 use std::io::Write;
 use std::os::unix::fs::{FileTypeExt, PermissionsExt};
-use std::rt::Files;
+use std::rt::{Env, Files};
 use std::test::Fail;
-use whole_file::Destination;
+use std::{fs, io};
+use whole_file::{Destination, WholeFile};
 
-/// A file's path and its part's, and whether just these texts stand there.
-#[derive(Drop)]
-struct Pair {
-    file: String,
-    part: String,
-}
-
-impl Pair {
-    fn of<R: AllocGlobal>(rt: &R, folder: &str) -> Result<Pair, Fail> {
-        Ok(Pair {
-            file: within(rt, folder, "f")?,
-            part: within(rt, folder, "f.part")?,
-        })
-    }
-
-    fn are<R: Files + AllocGlobal>(&self, rt: &R, file: Option<&str>, part: Option<&str>) -> bool {
-        is_left(rt, self.file.as_str(), file) && is_left(rt, self.part.as_str(), part)
-    }
-}
-
-#[test]
-fn a_new_file(rt: HostRuntime) -> Result<(), Fail> {
-    let pair = Pair::of(&rt, folder(&rt, "new")?.as_str())?;
-    let mut file = begin(&rt, pair.file.as_str())?;
+/// Whether a new file stands in its part until it is ended, and then in its place.
+fn is_put<R: Files + AllocGlobal>(
+    rt: &R,
+    place: &Place,
+    file: &mut WholeFile<R>,
+) -> Result<bool, Fail> {
     file.write_all(b"whole")?;
     file.flush()?;
-    assert!(rt; pair.are(&rt, None, Some("whole")));
+    let is_in_part = place.has(rt, None, Some("whole"));
     file.end()?;
-    assert!(rt; pair.are(&rt, Some("whole"), None));
+    Ok(is_in_part && place.has(rt, Some("whole"), None))
+}
+
+/// The same, and whether it stays there when it is let go.
+fn stays<R: Files + AllocGlobal>(rt: &R, place: &Place) -> Result<bool, Fail> {
+    let mut file = begin(rt, place.name.as_str())?;
+    let is_put = is_put(rt, place, &mut file)?;
     drop(file);
-    assert!(rt; pair.are(&rt, Some("whole"), None));
-    Ok(())
+    Ok(is_put && place.has(rt, Some("whole"), None))
 }
 
-#[test]
-fn an_old_file(rt: HostRuntime) -> Result<(), Fail> {
-    let pair = Pair::of(&rt, folder(&rt, "old")?.as_str())?;
-    fs::write(&rt, pair.file.as_str(), "old")?;
-    write_some(&rt, pair.file.as_str(), "a beginning")?;
-    assert!(rt; pair.are(&rt, Some("old"), None));
-    write_whole(&rt, pair.file.as_str(), "new")?;
-    assert!(rt; pair.are(&rt, Some("new"), None));
-    Ok(())
+/// Whether a part that is a link is left, with what it leads to.
+fn keeps_link<R: Files + AllocGlobal>(rt: &R, place: &Place, other: &str) -> Result<bool, Fail> {
+    fs::write(rt, other, "other")?;
+    rt.symlink(other, place.part.as_str())?;
+    let is_refused = write_whole(rt, place.name.as_str(), "new").is_err();
+    Ok(is_refused && place.has(rt, None, Some("other")))
 }
 
-#[test]
-fn no_file_is_left_of_a_beginning(rt: HostRuntime) -> Result<(), Fail> {
-    let pair = Pair::of(&rt, folder(&rt, "none")?.as_str())?;
-    write_some(&rt, pair.file.as_str(), "a beginning")?;
-    assert!(rt; pair.are(&rt, None, None));
-    Ok(())
+/// Whether a part that is a folder is left.
+fn keeps_folder<R: Files + AllocGlobal>(rt: &R, place: &Place) -> Result<bool, Fail> {
+    fs::remove_file(rt, place.part.as_str())?;
+    fs::create_dir(rt, place.part.as_str())?;
+    let is_refused = write_whole(rt, place.name.as_str(), "new").is_err();
+    Ok(is_refused && rt.metadata(place.part.as_str())?.is_dir())
 }
 
-#[test]
-fn a_part_of_an_earlier_run(rt: HostRuntime) -> Result<(), Fail> {
-    let pair = Pair::of(&rt, folder(&rt, "stale")?.as_str())?;
-    fs::write(&rt, pair.part.as_str(), "a long text that was cut off")?;
-    write_whole(&rt, pair.file.as_str(), "new")?;
-    assert!(rt; pair.are(&rt, Some("new"), None));
-    Ok(())
-}
-
-/// A folder isn't taken away, and neither is a link.
-#[test]
-fn a_part_that_is_no_file(rt: HostRuntime) -> Result<(), Fail> {
-    let folder = folder(&rt, "taken")?;
-    let pair = Pair::of(&rt, folder.as_str())?;
-    let other = within(&rt, folder.as_str(), "other")?;
-    fs::write(&rt, other.as_str(), "other")?;
-    rt.symlink(other.as_str(), pair.part.as_str())?;
-    assert!(rt; write_whole(&rt, pair.file.as_str(), "new").is_err());
-    assert!(rt; pair.are(&rt, None, Some("other")));
-    fs::remove_file(&rt, pair.part.as_str())?;
-    fs::create_dir(&rt, pair.part.as_str())?;
-    assert!(rt; write_whole(&rt, pair.file.as_str(), "new").is_err());
-    assert!(rt; rt.metadata(pair.part.as_str())?.is_dir());
-    Ok(())
+/// Whether both are left, one after the other.
+fn keeps_both<R: Files + AllocGlobal>(rt: &R, folder: &str, place: &Place) -> Result<bool, Fail> {
+    let other = within(rt, folder, "other")?;
+    Ok(keeps_link(rt, place, other.as_str())? && keeps_folder(rt, place)?)
 }
 
 /// The permissions of the file at this path.
-fn mode_of<R: Files>(rt: &R, path: &str) -> Result<u32, Fail> {
+fn mode_of<R: Files>(rt: &R, path: &str) -> io::Result<u32> {
     Ok(rt.metadata(path)?.permissions().mode() & 0o777)
 }
 
-#[test]
-fn permissions_are_kept(rt: HostRuntime) -> Result<(), Fail> {
-    let pair = Pair::of(&rt, folder(&rt, "modes")?.as_str())?;
+/// Whether a new file has the permissions of the old one.
+fn keeps_mode<R: Files + AllocGlobal>(rt: &R, place: &Place, mode: u32) -> Result<bool, Fail> {
+    let path = place.name.as_str();
+    fs::write(rt, path, "old")?;
+    rt.set_permissions(path, Permissions::from_mode(mode))?;
+    write_whole(rt, path, "new")?;
+    Ok(place.has(rt, Some("new"), None) && mode_of(rt, path)? == mode)
+}
+
+fn keeps_modes<R: Files + AllocGlobal>(rt: &R, place: &Place) -> Result<bool, Fail> {
     for mode in [0o600, 0o666, 0o750] {
-        fs::write(&rt, pair.file.as_str(), "old")?;
-        rt.set_permissions(pair.file.as_str(), Permissions::from_mode(mode))?;
-        write_whole(&rt, pair.file.as_str(), "new")?;
-        assert!(rt; pair.are(&rt, Some("new"), None));
-        assert_eq!(rt; mode_of(&rt, pair.file.as_str())?, mode);
+        if !keeps_mode(rt, place, mode)? {
+            return Ok(false);
+        }
     }
-    Ok(())
+    Ok(true)
 }
 
-/// Who comes later to the same place takes the part's name; then the first one's file doesn't get
-/// there.
-#[test]
-fn two_at_one_place(rt: HostRuntime) -> Result<(), Fail> {
-    let pair = Pair::of(&rt, folder(&rt, "two")?.as_str())?;
-    let mut first = begin(&rt, pair.file.as_str())?;
-    first.write_all(b"first")?;
-    let mut second = begin(&rt, pair.file.as_str())?;
+/// Whether the second one of two files is put where the first one isn't, which is let go before.
+fn is_last_put<R: Files + AllocGlobal>(
+    rt: &R,
+    place: &Place,
+    mut first: WholeFile<R>,
+    second: &mut WholeFile<R>,
+) -> Result<bool, Fail> {
     second.write_all(b"second")?;
-    assert!(rt; first.end().is_err());
+    let is_refused = first.end().is_err();
     drop(first);
-    assert!(rt; pair.are(&rt, None, Some("second")));
+    let is_in_part = place.has(rt, None, Some("second"));
     second.end()?;
-    assert!(rt; pair.are(&rt, Some("second"), None));
-    Ok(())
+    Ok(is_refused && is_in_part && place.has(rt, Some("second"), None))
+}
+
+fn takes_the_name<R: Files + AllocGlobal>(rt: &R, place: &Place) -> Result<bool, Fail> {
+    let mut first = begin(rt, place.name.as_str())?;
+    first.write_all(b"first")?;
+    let mut second = begin(rt, place.name.as_str())?;
+    is_last_put(rt, place, first, &mut second)
+}
+
+/// Whether nothing can be written at an empty path, at a folder's, and in a folder that isn't there.
+fn are_no_places<R: Files + AllocGlobal>(rt: &R, folder: &str) -> Result<bool, Fail> {
+    let missing = within(rt, folder, "no_such_folder/f")?;
+    for path in ["", folder, missing.as_str()] {
+        if write_whole(rt, path, "new").is_ok() {
+            return Ok(false);
+        }
+    }
+    Ok(rt.metadata(folder)?.is_dir())
+}
+
+fn has_part<R: Files + AllocGlobal>(rt: &R, path: &str) -> Result<bool, Fail> {
+    let destination = Destination::of(rt, rt.alloc(), path)?;
+    Ok(destination.part().is_some())
+}
+
+/// Whether a device is written without a part, and stays one.
+fn is_device<R: Files + AllocGlobal>(rt: &R, path: &str) -> Result<bool, Fail> {
+    let has_part = has_part(rt, path)?;
+    write_whole(rt, path, "nothing")?;
+    Ok(!has_part && rt.metadata(path)?.file_type().is_char_device())
+}
+
+/// Whether that holds by a device's name, and by a link to it, which stays.
+fn are_devices<R: Files + AllocGlobal>(rt: &R, folder: &str) -> Result<bool, Fail> {
+    link(rt, folder, "link", "/dev/null")?;
+    let link = within(rt, folder, "link")?;
+    let is_one = is_device(rt, "/dev/null")?;
+    Ok(is_one && is_device(rt, link.as_str())? && is_link(rt, link.as_str()))
+}
+
+/// What is tried in a folder of its own.
+#[derive(Clone, Copy)]
+enum Trial {
+    NewFile,
+    /// A folder isn't taken away, and neither is a link.
+    TakenPart,
+    KeptModes,
+    /// Who comes later to the same place takes the part's name; then the first one's file doesn't
+    /// get there.
+    TwoFiles,
+    NoPlace,
+    Device,
+    LinkedPart,
+    LinkInACircle,
+    NoModes,
+}
+
+/// Each trial, with its folder's name.
+static TRIALS: [(&str, Trial); 9] = [
+    ("new", Trial::NewFile),
+    ("taken", Trial::TakenPart),
+    ("modes", Trial::KeptModes),
+    ("two", Trial::TwoFiles),
+    ("no_place", Trial::NoPlace),
+    ("device", Trial::Device),
+    ("part", Trial::LinkedPart),
+    ("circle", Trial::LinkInACircle),
+    ("no_modes", Trial::NoModes),
+];
+
+/// Whether a trial goes well, in this folder or at this place in it.
+fn goes_well<R: Files + AllocGlobal>(
+    rt: &R,
+    trial: Trial,
+    folder: &str,
+    place: &Place,
+) -> Result<bool, Fail> {
+    match trial {
+        Trial::NewFile => stays(rt, place),
+        Trial::TakenPart => keeps_both(rt, folder, place),
+        Trial::KeptModes => keeps_modes(rt, place),
+        Trial::TwoFiles => takes_the_name(rt, place),
+        Trial::NoPlace => are_no_places(rt, folder),
+        Trial::Device => are_devices(rt, folder),
+        Trial::LinkedPart => names_linked_part(rt, folder),
+        Trial::LinkInACircle => refuses_circle(rt, folder),
+        Trial::NoModes => goes_without_modes(rt, place),
+    }
+}
+
+fn tried<R: Env + Files + AllocGlobal>(rt: &R, name: &str, trial: Trial) -> Result<bool, Fail> {
+    let folder = folder(rt, name)?;
+    let place = Place::of(rt, folder.as_str())?;
+    goes_well(rt, trial, folder.as_str(), &place)
 }
 
 #[test]
-fn no_place(rt: HostRuntime) -> Result<(), Fail> {
-    let folder = folder(&rt, "no_place")?;
-    let missing = within(&rt, folder.as_str(), "no_such_folder/f")?;
-    for path in ["", folder.as_str(), missing.as_str()] {
-        assert!(rt; write_whole(&rt, path, "new").is_err(), "{path}");
+fn places_of_each_kind(rt: HostRuntime) -> Result<(), Fail> {
+    for (name, trial) in &TRIALS {
+        assert!(rt; tried(&rt, name, *trial)?, "{name}");
     }
-    assert!(rt; rt.metadata(folder.as_str())?.is_dir());
-    Ok(())
-}
-
-#[test]
-fn a_device_is_written_directly(rt: HostRuntime) -> Result<(), Fail> {
-    let folder = folder(&rt, "device")?;
-    let link = within(&rt, folder.as_str(), "link")?;
-    rt.symlink("/dev/null", link.as_str())?;
-    for path in ["/dev/null", link.as_str()] {
-        assert!(rt; Destination::of(&rt, rt.alloc(), path)?.part().is_none());
-        write_whole(&rt, path, "nothing")?;
-        let kind = rt.metadata(path)?.file_type();
-        assert!(rt; kind.is_char_device(), "{path}");
-    }
-    assert!(rt; rt.symlink_metadata(link.as_str())?.is_symlink());
     Ok(())
 }

@@ -1,61 +1,61 @@
 //! What is left where a call of the system is refused.
-use crate::folder::{folder, is_left, within, write_whole};
-use crate::refusing::{Call, Refusing};
+use crate::folder::{folder, is_left, put, write_whole};
+use crate::place::Place;
+use sessions::fake::{Call, Fake};
 use std::fs;
 use std::rt::Files;
 use std::test::Fail;
+
+/// Whether a new file is ended where this call is refused.
+fn is_ended<R: Files + AllocGlobal>(rt: &R, path: &str, call: Call) -> bool {
+    let refusing = Fake::refusing(rt, rt, call);
+    write_whole(&refusing, path, "new").is_ok()
+}
 
 /// Whether a file that was there, or none, is as it was, with no part beside it, behind a new one
 /// that the refused call ends.
 fn is_kept<R: Files + AllocGlobal>(
     rt: &R,
-    refused: Call,
-    path: &str,
-    part: &str,
+    folder: &str,
+    call: Call,
     old: Option<&str>,
 ) -> Result<bool, Fail> {
-    let _ = fs::remove_file(rt, path);
-    if let Some(text) = old {
-        fs::write(rt, path, text)?;
-    }
-    let refusing = Refusing { rt, refused };
-    let is_error = write_whole(&refusing, path, "new").is_err();
-    Ok(is_error && is_left(rt, path, old) && is_left(rt, part, None))
+    let place = Place::of(rt, folder)?;
+    put(rt, place.name.as_str(), old)?;
+    let is_ended = is_ended(rt, place.name.as_str(), call);
+    Ok(!is_ended && place.has(rt, old, None))
 }
+
+/// Each call that ends a file, and what stood at its place.
+static REFUSED: [(Call, Option<&str>); 9] = [
+    (Call::Write, None),
+    (Call::Write, Some("old")),
+    (Call::Flush, None),
+    (Call::Flush, Some("old")),
+    (Call::Sync, None),
+    (Call::Sync, Some("old")),
+    (Call::Rename, None),
+    (Call::Rename, Some("old")),
+    // a file that may not be written
+    (Call::Open, Some("old")),
+];
 
 #[test]
 fn each_call_refused(rt: HostRuntime) -> Result<(), Fail> {
     let folder = folder(&rt, "refused")?;
-    let path = within(&rt, folder.as_str(), "f")?;
-    let part = within(&rt, folder.as_str(), "f.part")?;
-    for call in [Call::Write, Call::Flush, Call::Sync, Call::Rename] {
-        for old in [None, Some("old")] {
-            let is_kept = is_kept(&rt, call, path.as_str(), part.as_str(), old)?;
-            assert!(rt; is_kept, "{call:?} with {old:?}");
-        }
+    for (call, old) in &REFUSED {
+        let is_kept = is_kept(&rt, folder.as_str(), *call, *old)?;
+        assert!(rt; is_kept, "{call:?} with {old:?}");
     }
     Ok(())
 }
 
-#[test]
-fn a_file_that_may_not_be_written(rt: HostRuntime) -> Result<(), Fail> {
-    let folder = folder(&rt, "protected")?;
-    let path = within(&rt, folder.as_str(), "f")?;
-    let part = within(&rt, folder.as_str(), "f.part")?;
-    assert!(rt; is_kept(&rt, Call::Open, path.as_str(), part.as_str(), Some("old"))?);
-    Ok(())
-}
-
-#[test]
-fn a_file_system_without_modes(rt: HostRuntime) -> Result<(), Fail> {
-    let folder = folder(&rt, "no_modes")?;
-    let path = within(&rt, folder.as_str(), "f")?;
-    fs::write(&rt, path.as_str(), "old")?;
-    let refusing = Refusing {
-        rt: &rt,
-        refused: Call::SetPermissions,
-    };
-    write_whole(&refusing, path.as_str(), "new")?;
-    assert!(rt; is_left(&rt, path.as_str(), Some("new")));
-    Ok(())
+/// Whether a file takes its place where permissions can't be set.
+pub(crate) fn goes_without_modes<R: Files + AllocGlobal>(
+    rt: &R,
+    place: &Place,
+) -> Result<bool, Fail> {
+    fs::write(rt, place.name.as_str(), "old")?;
+    let is_ended = is_ended(rt, place.name.as_str(), Call::SetPermissions);
+    Ok(is_ended && is_left(rt, place.file.as_str(), Some("new")))
 }
