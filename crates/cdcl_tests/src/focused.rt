@@ -265,41 +265,30 @@ fn comes(
 
 #[test]
 fn usual_numbers(rt: HostRuntime) -> Result<(), Fail> {
-    for row in &USUAL {
-        assert_eq!(rt;
-            (
-                row.0,
-                comes(
-                    rt.alloc(),
-                    row.1.as_bytes(),
-                    row.2,
-                    Constants::default(),
-                    row.3
-                )?
-            ),
-            (row.0, true)
-        );
+    for (name, text, budget, wanted) in &USUAL {
+        let usual = Constants::default();
+        let comes = comes(rt.alloc(), text.as_bytes(), *budget, usual, *wanted)?;
+        assert!(rt; comes, "{name}");
     }
     Ok(())
 }
 
 #[test]
 fn small_numbers(rt: HostRuntime) -> Result<(), Fail> {
-    for row in &SMALL {
-        assert_eq!(rt;
-            (
-                row.0,
-                comes(rt.alloc(), row.1, row.2, small_constants(), row.3)?
-            ),
-            (row.0, true)
-        );
+    for (name, text, budget, wanted) in &SMALL {
+        let comes = comes(rt.alloc(), text, *budget, small_constants(), *wanted)?;
+        assert!(rt; comes, "{name}");
     }
     Ok(())
 }
 
+fn is_usual(alloc: Global) -> Result<bool, Fail> {
+    let outcome = outcome_by(alloc, FOUR, Plan::focused(1))?;
+    Ok(is_wanted(&outcome, Wanted::ExhaustedOn(2)))
+}
+
 #[test]
 fn plan_of_the_usual_numbers(rt: HostRuntime) -> Result<(), Fail> {
-    let outcome = outcome_by(rt.alloc(), FOUR, Plan::focused(1))?;
-    assert!(rt; is_wanted(&outcome, Wanted::ExhaustedOn(2)));
+    assert!(rt; is_usual(rt.alloc())?);
     Ok(())
 }

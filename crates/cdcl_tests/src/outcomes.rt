@@ -5,7 +5,6 @@ use cdcl::{Outcome, Plan, Refutation, solve_cube, solve_cube_by_plan};
 use cnf::read_formula;
 use samples::{cube_of, reads};
 use std::alloc::Global;
-use std::process::Abort;
 use std::test::Fail;
 
 // the first conflict leaves out a level
@@ -77,18 +76,11 @@ pub fn is_wanted(outcome: &Outcome, wanted: Wanted) -> bool {
 /// A name, a formula, a cube, the root's budget, and what the cube is to come to.
 pub type Row<'a> = (&'a str, &'a str, &'a [i32], u32, Wanted<'a>);
 
-fn comes(alloc: Global, row: &Row) -> Result<bool, Fail> {
+/// Whether a row's cube, by itself, comes to what is wanted.
+pub fn comes(alloc: Global, row: &Row) -> Result<bool, Fail> {
     let (_, text, cube, budget, wanted) = *row;
     if budget < 1 || budget > 100_000 {
         return Ok(false);
     }
     Ok(is_wanted(&outcome(alloc, text, cube, budget)?, wanted))
-}
-
-/// Each row's cube, by itself, comes to what is wanted.
-pub fn all_come(rt: &impl Abort, alloc: Global, rows: &[Row]) -> Result<(), Fail> {
-    for row in rows {
-        assert_eq!(rt; (row.0, comes(alloc, row)?), (row.0, true));
-    }
-    Ok(())
 }

@@ -1,10 +1,9 @@
 //! Worked searches of formulas with pure variables: their unit clauses stand behind the formula's
 //! own, and before what is learnt.
-use crate::outcomes::{Row, Wanted, all_come};
+use crate::outcomes::{Row, Wanted};
 use samples::{FOUR_PURE, FOUR_UNUSED};
-use std::test::Fail;
 
-static ROWS: [Row; 11] = [
+pub static ROWS: [Row; 11] = [
     (
         "against a unit",
         FOUR_UNUSED,
@@ -71,8 +70,3 @@ static ROWS: [Row; 11] = [
         Wanted::Model(&[false, false, false]),
     ),
 ];
-
-#[test]
-fn pure_variables(rt: HostRuntime) -> Result<(), Fail> {
-    all_come(&rt, rt.alloc(), &ROWS)
-}

@@ -1,11 +1,13 @@
 //! Worked searches of cubes, and the halves of a cube.
 ghost use Rattle.std.specs.Prelude.{◌≡◌};
 
-use crate::outcomes::{LEVEL_LEFT_OUT, Row, Wanted, WantedLine, all_come, is_wanted, outcome};
-use cdcl::{Outcome, Plan, Solver, split};
+use crate::outcomes::{LEVEL_LEFT_OUT, Row, Wanted, WantedLine, comes, is_wanted, outcome};
+use crate::pure;
+use cdcl::{Outcome, Plan, Search, Solver, split};
 use cnf::{Formula, read_formula};
 use samples::{EIGHT, FOUR, TWO_MODELS, cube_of, has_var, reads};
 use std::alloc::{AllocError, Global};
+use std::process::Abort;
 use std::test::Fail;
 
 // without the last clause the second variable would be pure, and no level left out
@@ -200,9 +202,17 @@ static ROWS: [Row; 29] = [
     ),
 ];
 
+fn all_come(rt: &impl Abort, alloc: Global, rows: &[Row]) -> Result<(), Fail> {
+    for row in rows {
+        assert!(rt; comes(alloc, row)?, "{}", row.0);
+    }
+    Ok(())
+}
+
 #[test]
 fn cubes_by_themselves(rt: HostRuntime) -> Result<(), Fail> {
-    all_come(&rt, rt.alloc(), &ROWS)
+    all_come(&rt, rt.alloc(), &ROWS)?;
+    all_come(&rt, rt.alloc(), &pure::ROWS)
 }
 
 /// A cube, and what it is to come to.
@@ -278,26 +288,9 @@ const REFUTED_ROOT: Turn = Turn {
     wanted: Wanted::Refuted(&ROOT_LINES),
 };
 
-static TURNS_OF_TWO: [Turn; 5] = [LEFT_HALF, RIGHT_HALF, EXHAUSTED_ROOT, LEFT_HALF, RIGHT_HALF];
+const TURNS_OF_TWO: [Turn; 5] = [LEFT_HALF, RIGHT_HALF, EXHAUSTED_ROOT, LEFT_HALF, RIGHT_HALF];
 
-static TURNS_OF_MORE: [Turn; 4] = [LEFT_HALF, REFUTED_ROOT, REFUTED_ROOT, RIGHT_HALF];
-
-#[test]
-fn one_solver_for_all_cubes(rt: HostRuntime) -> Result<(), Fail> {
-    assert_eq!(rt;
-        failed_turn(rt.alloc(), EIGHT, Plan::ordered(2), &TURNS_OF_TWO)?,
-        None
-    );
-    assert_eq!(rt;
-        failed_turn(rt.alloc(), EIGHT, Plan::ordered(4), &TURNS_OF_MORE)?,
-        None
-    );
-    assert_eq!(rt;
-        failed_turn(rt.alloc(), EIGHT, Plan::ordered(1000), &TURNS_OF_MORE)?,
-        None
-    );
-    Ok(())
-}
+const TURNS_OF_MORE: [Turn; 4] = [LEFT_HALF, REFUTED_ROOT, REFUTED_ROOT, RIGHT_HALF];
 
 const REFUTED_QUARTER: Turn = Turn {
     cube: &[-1, -2],
@@ -314,7 +307,7 @@ const ROOT_OF_TWO_MODELS: Turn = Turn {
     wanted: Wanted::Exhausted,
 };
 
-static TURNS_OF_TWO_MODELS: [Turn; 6] = [
+const TURNS_OF_TWO_MODELS: [Turn; 6] = [
     REFUTED_QUARTER,
     SATISFIED_HALF,
     ROOT_OF_TWO_MODELS,
@@ -339,7 +332,7 @@ const ROOT_FOCUSED: Turn = Turn {
     wanted: Wanted::ExhaustedOn(3),
 };
 
-static TURNS_FOCUSED: [Turn; 5] = [
+const TURNS_FOCUSED: [Turn; 5] = [
     LEFT_HALF_FOCUSED,
     ROOT_FOCUSED,
     RIGHT_HALF_FOCUSED,
@@ -347,50 +340,65 @@ static TURNS_FOCUSED: [Turn; 5] = [
     LEFT_HALF_FOCUSED,
 ];
 
-#[test]
-fn one_focused_solver_for_all_cubes(rt: HostRuntime) -> Result<(), Fail> {
-    assert_eq!(rt;
-        failed_turn(rt.alloc(), EIGHT, Plan::focused(2), &TURNS_FOCUSED)?,
-        None
-    );
-    Ok(())
-}
+/// A formula, a search, the root's budget, and cubes in turn.
+type Turns = (&'static str, Search, u32, &'static [Turn<'static>]);
 
-#[test]
-fn models_in_turn(rt: HostRuntime) -> Result<(), Fail> {
-    assert_eq!(rt;
-        failed_turn(
-            rt.alloc(),
-            TWO_MODELS,
-            Plan::ordered(1),
-            &TURNS_OF_TWO_MODELS
-        )?,
-        None
-    );
-    Ok(())
-}
+static TURNS: [Turns; 5] = [
+    (EIGHT, Search::Ordered, 2, &TURNS_OF_TWO),
+    (EIGHT, Search::Ordered, 4, &TURNS_OF_MORE),
+    (EIGHT, Search::Ordered, 1000, &TURNS_OF_MORE),
+    (EIGHT, Search::Focused, 2, &TURNS_FOCUSED),
+    (TWO_MODELS, Search::Ordered, 1, &TURNS_OF_TWO_MODELS),
+];
 
-#[test]
-fn parts_of_a_line(rt: HostRuntime) -> Result<(), Fail> {
-    let Outcome::Refuted(refutation) = outcome(rt.alloc(), FOUR, &[], 2)? else {
-        assert!(rt; false);
-        return Ok(());
+/// Whether one solver comes to what is wanted of all cubes.
+fn comes_in_each(alloc: Global, turns: &Turns) -> Result<bool, Fail> {
+    let (text, search, budget, turns) = *turns;
+    if budget < 1 || budget > 100_000 {
+        return Ok(false);
+    }
+    let plan = match search {
+        Search::Ordered => Plan::ordered(budget),
+        Search::Focused => Plan::focused(budget),
     };
-    let mut lines = refutation.lines;
-    assert_eq!(rt; lines.len(), 2);
-    if let Some(line) = lines.pop() {
-        let (clause, hints) = line.into_parts();
-        assert!(rt; reads(&clause, &[]) && hints.as_slice() == [5, 3, 4].as_slice());
+    Ok(failed_turn(alloc, text, plan, turns)?.is_none())
+}
+
+#[test]
+fn one_solver_for_all_cubes(rt: HostRuntime) -> Result<(), Fail> {
+    for turns in &TURNS {
+        assert!(rt; comes_in_each(rt.alloc(), turns)?, "budget {}", turns.2);
     }
     Ok(())
 }
 
-#[test]
-fn halves(rt: HostRuntime) -> Result<(), Fail> {
-    let cube = cube_of(rt.alloc(), 9, &[3, -1])?;
-    assert!(rt; !has_var(cube.lits(), 2));
+/// Whether the last one of two lines comes apart into its clause and its hints.
+fn comes_apart(alloc: Global) -> Result<bool, Fail> {
+    let Outcome::Refuted(refutation) = outcome(alloc, FOUR, &[], 2)? else {
+        return Ok(false);
+    };
+    let mut lines = refutation.lines;
+    let count = lines.len();
+    let Some(line) = lines.pop() else {
+        return Ok(false);
+    };
+    let (clause, hints) = line.into_parts();
+    Ok(count == 2 && reads(&clause, &[]) && hints.as_slice() == [5, 3, 4].as_slice())
+}
+
+/// Whether a cube is split into its halves.
+fn is_split(alloc: Global) -> Result<bool, Fail> {
+    let cube = cube_of(alloc, 9, &[3, -1])?;
+    if has_var(cube.lits(), 2) {
+        return Ok(false);
+    }
     let (left, right) = split(&cube, 2)?;
-    assert!(rt; reads(left.lits(), &[3, -1, -2]));
-    assert!(rt; reads(right.lits(), &[3, -1, 2]));
+    Ok(reads(left.lits(), &[3, -1, -2]) && reads(right.lits(), &[3, -1, 2]))
+}
+
+#[test]
+fn parts_of_a_line_and_halves(rt: HostRuntime) -> Result<(), Fail> {
+    assert!(rt; comes_apart(rt.alloc())?);
+    assert!(rt; is_split(rt.alloc())?);
     Ok(())
 }
