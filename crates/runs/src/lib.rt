@@ -7,6 +7,7 @@ mod answered;
 mod check;
 mod checked_line;
 mod fault;
+mod gathered;
 mod laws;
 mod limit;
 mod limited;
@@ -21,6 +22,7 @@ pub use answered::{answer_by_plan, answer_within};
 pub use check::{Told, check_run, check_run_within, check_told};
 pub use checked_line::Checked;
 pub use fault::RunFault;
+pub use gathered::{Gathered, PackCounts, gather_within};
 pub use laws::runs_write_the_same;
 pub use limit::{Limit, TimeLimit};
 pub use limited::{

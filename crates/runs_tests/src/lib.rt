@@ -1,7 +1,7 @@
 //! Worked rows: the bytes of the proof and the answer for the bytes of a formula, by both searches,
 //! and the line for those of a proof; what failing readers and writers leave; two hands at a gate;
-//! proofs of many steps, and those with one byte changed; examples from end to end; and runs that
-//! end where a limit is reached.
+//! proofs of many steps, and those with one byte changed; examples from end to end; runs that end
+//! where a limit is reached; and runs over packs.
 #![tactic(auto)]
 
 #[cfg(test)]
@@ -19,6 +19,8 @@ mod focused;
 #[cfg(test)]
 mod gates;
 #[cfg(test)]
+mod gathered;
+#[cfg(test)]
 mod large;
 #[cfg(test)]
 mod limited_runs;
@@ -30,3 +32,5 @@ mod one_byte;
 mod other_solvers;
 #[cfg(test)]
 mod rows;
+#[cfg(test)]
+mod true_packs;

@@ -1,0 +1,134 @@
+//! Runs over packs that solvers made: all that they say is taken, and the bytes are those of a run.
+
+use cdcl::{Plan, Search, Solver};
+use cnf::{Formula, Limits, read_formula};
+use gathering::fact_of;
+use packs::{Claim, write_fact};
+use runs::{Gathered, RunFault, gather_within, run_one_by_plan};
+use samples::{EIGHT, SIXTEEN, TWO_MODELS, cube_of};
+use std::alloc::{AllocError, Global};
+use std::test::Fail;
+
+/// Puts what is so of a cube behind a pack. It answers the variable that the cube is split on.
+fn put_fact(
+    alloc: Global,
+    formula: &Formula,
+    plan: Plan,
+    numbers: &[i32],
+    pack: &mut Vec<u8>,
+) -> Result<Option<u32>, AllocError> {
+    let cube = cube_of(alloc, formula.vars(), numbers)?;
+    let mut solver = Solver::open(alloc, formula, plan)?;
+    let outcome = solver.solve(&cube)?;
+    let fact = fact_of(cube, outcome);
+    write_fact(pack, &fact)?;
+    match fact.claim {
+        Claim::Split(var) => Ok(Some(var)),
+        Claim::Refuted(_) => Ok(None),
+        Claim::Model => Ok(None),
+    }
+}
+
+/// The numbers of a cube with one more.
+fn with_number(alloc: Global, numbers: &[i32], number: i32) -> Result<Vec<i32>, AllocError> {
+    let mut longer = Vec::from_slice(alloc, numbers)?;
+    longer.push(number)?;
+    Ok(longer)
+}
+
+/// A pack of the cubes of a formula's tree, if these are at most a hundred.
+fn pack_of(alloc: Global, formula: &Formula, plan: Plan) -> Result<Vec<u8>, AllocError> {
+    let mut pack = Vec::new(alloc);
+    let mut cubes = Vec::new(alloc);
+    cubes.push(Vec::new(alloc))?;
+    for _ in 0..100 {
+        let Some(numbers) = cubes.pop() else {
+            break;
+        };
+        let Some(var) = put_fact(alloc, formula, plan, &numbers, &mut pack)? else {
+            continue;
+        };
+        if var < 100 {
+            cubes.push(with_number(alloc, &numbers, var as i32)?)?;
+            cubes.push(with_number(alloc, &numbers, -(var as i32))?)?;
+        }
+    }
+    Ok(pack)
+}
+
+/// What a run over a pack, or over none, has written.
+#[derive(Drop)]
+struct Written {
+    gathered: Gathered,
+    proof: Vec<u8>,
+    answer: Vec<u8>,
+}
+
+/// A run over packs.
+fn gathered(alloc: Global, text: &str, packs: &[Vec<u8>], plan: Plan) -> Result<Written, RunFault> {
+    let mut proof = Vec::new(alloc);
+    let mut answer = Vec::new(alloc);
+    let limits = Limits::Standard;
+    let input = text.as_bytes();
+    let gathered = gather_within(alloc, input, limits, packs, &mut answer, &mut proof, plan)?;
+    Ok(Written {
+        gathered,
+        proof,
+        answer,
+    })
+}
+
+/// Whether a run without packs writes the same.
+fn is_written_by_run(
+    alloc: Global,
+    text: &str,
+    plan: Plan,
+    written: &Written,
+) -> Result<bool, RunFault> {
+    let mut proof = Vec::new(alloc);
+    let mut answer = Vec::new(alloc);
+    let verdict = run_one_by_plan(alloc, text.as_bytes(), &mut answer, &mut proof, plan)?;
+    Ok(
+        verdict == written.gathered.verdict
+            && proof.as_slice() == written.proof.as_slice()
+            && answer.as_slice() == written.answer.as_slice(),
+    )
+}
+
+/// A formula, a search, how many facts its tree has, and how many of them are models.
+type Row = (&'static str, Search, u64, u64);
+
+static ROWS: [Row; 4] = [
+    (EIGHT, Search::Ordered, 3, 0),
+    (EIGHT, Search::Focused, 3, 0),
+    (SIXTEEN, Search::Ordered, 7, 0),
+    (TWO_MODELS, Search::Ordered, 3, 2),
+];
+
+/// Whether all that a pack of the tree says is taken, but for models, and the bytes are a run's.
+fn is_taken(alloc: Global, row: &Row) -> Result<bool, Fail> {
+    let (text, search, facts, models) = *row;
+    let plan = match search {
+        Search::Ordered => Plan::ordered(1),
+        Search::Focused => Plan::focused(1),
+    };
+    let formula = read_formula(alloc, text.as_bytes())?;
+    let mut packs = Vec::new(alloc);
+    packs.push(pack_of(alloc, &formula, plan)?)?;
+    let written = gathered(alloc, text, &packs, plan)?;
+    let counts = written.gathered.packs;
+    Ok(
+        counts.facts == facts
+            && counts.checked.saturating_add(models) == facts
+            && is_written_by_run(alloc, text, plan, &written)?,
+    )
+}
+
+#[test]
+fn true_packs_are_taken(rt: HostRuntime) -> Result<(), Fail> {
+    for row in &ROWS {
+        let taken = is_taken(rt.alloc(), row)?;
+        assert_eq!(rt; (row.0, row.2, taken), (row.0, row.2, true));
+    }
+    Ok(())
+}
