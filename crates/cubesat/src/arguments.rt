@@ -2,6 +2,10 @@
 
 use crate::effort::Asked;
 use crate::refusals::refusal_of;
+use crate::spread_arguments::{
+    Spread, conquer_command, conquer_request, divide_command, divide_request, gather_command,
+    gather_request,
+};
 use cdcl::Search;
 use clap::error::ErrorKind;
 use clap::{Arg, ArgAction, ArgMatches, Command, Error};
@@ -9,7 +13,7 @@ use cnf::Limits;
 use std::alloc::{AllocError, Global};
 
 /// The largest budget.
-const MAX_BUDGET: u32 = 100_000;
+pub(crate) const MAX_BUDGET: u32 = 100_000;
 
 /// The budget of the ordered search, where none is asked for.
 const ORDERED_BUDGET: u32 = 1000;
@@ -18,7 +22,7 @@ const ORDERED_BUDGET: u32 = 1000;
 const FOCUSED_BUDGET: u32 = 100_000;
 
 /// The most cubes that a formula may be divided into.
-const MAX_DIVIDE: u32 = 65_536;
+pub(crate) const MAX_DIVIDE: u32 = 65_536;
 
 /// The names of the searches.
 static SEARCHES: [&str; 2] = ["ordered", "focused"];
@@ -83,17 +87,19 @@ pub(crate) enum Request<'a> {
         number: u32,
         behind: Option<u32>,
     },
+    /// Work on a run that is spread over machines.
+    Spread(Spread<'a>),
 }
 
 /// An option that takes no value.
-fn flag<'a>(alloc: Global, name: &'a str, help: &'a str) -> Arg<'a> {
+pub(crate) fn flag<'a>(alloc: Global, name: &'a str, help: &'a str) -> Arg<'a> {
     Arg::new(alloc, name)
         .long(name)
         .action(ArgAction::SetTrue)
         .help(help)
 }
 
-fn search_option<'a>(alloc: Global) -> Arg<'a> {
+pub(crate) fn search_option<'a>(alloc: Global) -> Arg<'a> {
     Arg::new(alloc, "search")
         .long("search")
         .value_name("NAME")
@@ -104,7 +110,7 @@ fn search_option<'a>(alloc: Global) -> Arg<'a> {
         )
 }
 
-fn budget_option<'a>(alloc: Global) -> Arg<'a> {
+pub(crate) fn budget_option<'a>(alloc: Global) -> Arg<'a> {
     Arg::new(alloc, "budget")
         .long("budget")
         .value_name("N")
@@ -151,7 +157,7 @@ fn proof_option<'a>(alloc: Global) -> Arg<'a> {
 }
 
 /// A word without an option before it, which must be given.
-fn word<'a>(alloc: Global, name: &'a str, help: &'a str) -> Arg<'a> {
+pub(crate) fn word<'a>(alloc: Global, name: &'a str, help: &'a str) -> Arg<'a> {
     Arg::new(alloc, name).required(true).help(help)
 }
 
@@ -228,6 +234,7 @@ const EXAMPLES: &str = "Examples:
   cubesat solve --stats --proof f.lrat f.cnf             and what it took
   xz -dc f.cnf.xz | cubesat solve -                      standard input, and no proof
   cubesat check f.cnf f.lrat                             check the proof
+  cubesat divide --into RUN --search focused f.cnf       begin a run on many machines
   cubesat explain 51 5                                   what `fault 51: refusal 5` means";
 
 /// The command with a subcommand, if there was memory for that one.
@@ -247,11 +254,14 @@ fn whole_command<'a>(alloc: Global) -> Result<Command<'a>, AllocError> {
         .subcommand_required(true);
     let command = with_subcommand(command, solve_command(alloc))?;
     let command = with_subcommand(command, check_command(alloc))?;
+    let command = with_subcommand(command, divide_command(alloc))?;
+    let command = with_subcommand(command, conquer_command(alloc))?;
+    let command = with_subcommand(command, gather_command(alloc))?;
     with_subcommand(command, explain_command(alloc))
 }
 
 /// The search of this name.
-fn search_named(name: &str) -> Option<Search> {
+pub(crate) fn search_named(name: &str) -> Option<Search> {
     match name {
         "ordered" => Some(Search::Ordered),
         "focused" => Some(Search::Focused),
@@ -260,7 +270,7 @@ fn search_named(name: &str) -> Option<Search> {
 }
 
 /// How large the formula and the proof may be.
-fn limits_of(matches: &ArgMatches<'_>) -> Limits {
+pub(crate) fn limits_of(matches: &ArgMatches<'_>) -> Limits {
     if matches.get_flag("large") {
         Limits::Large
     } else {
@@ -269,7 +279,7 @@ fn limits_of(matches: &ArgMatches<'_>) -> Limits {
 }
 
 /// The budget of the root where none is asked for.
-fn default_budget(search: Search) -> u32 {
+pub(crate) fn default_budget(search: Search) -> u32 {
     match search {
         Search::Ordered => ORDERED_BUDGET,
         Search::Focused => FOCUSED_BUDGET,
@@ -346,6 +356,9 @@ fn request_in<'a>(matches: &ArgMatches<'a>) -> Option<Request<'a>> {
     match name {
         "check" => check_request(matches),
         "explain" => explain_request(matches),
+        "divide" => Some(Request::Spread(divide_request(matches)?)),
+        "conquer" => Some(Request::Spread(conquer_request(matches)?)),
+        "gather" => Some(Request::Spread(gather_request(matches)?)),
         _ => solve_request(matches),
     }
 }

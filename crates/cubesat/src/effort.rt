@@ -39,7 +39,7 @@ pub(crate) struct Effort {
 
 /// The plan that is asked for: a search, with this budget for the root, and for the focused one into
 /// how many cubes a formula is divided, if a number is given.
-fn plan_of(search: Search, budget: u32, divide: Option<u32>) -> Plan
+pub(crate) fn plan_of(search: Search, budget: u32, divide: Option<u32>) -> Plan
     requires { (1 ≤ budget) × (budget ≤ 100000) × IfSome divide (λ cubes. cubes ≤ 65536) }
     ensures { result ≡ plan_asked search budget divide }
 {

@@ -15,12 +15,14 @@ mod program;
 mod refusals;
 mod same_file;
 mod solving;
+mod spread_arguments;
+mod spreading;
 mod watched;
 mod worded;
 
 pub use explanations::explanation;
 pub use fault_lines::Screen;
-pub use program::{command, command_on, command_with_input};
+pub use program::{command, command_in_folders, command_on, command_with_input};
 pub use runs::{
     Checked, Limit, RunFault, Verdict, answer_by_plan, answer_limited, answer_limited_within,
     answer_within, check_run, check_run_within, run, run_by_plan, run_limited, run_limited_within,

@@ -5,6 +5,7 @@ use crate::checking::check;
 use crate::explanations::explanation;
 use crate::fault_lines::{FAILED, Screen, print_fault};
 use crate::solving::solve;
+use crate::spreading::work_on;
 use clap::Error;
 use clap::error::ErrorKind;
 use messages::say_no_memory;
@@ -102,6 +103,13 @@ fn serve<R: Files + Threads + Wait + Clock + Sync, I: Read + Drop, W: Write, E: 
             end.status(distinct_status)
         }
         Request::Explain { number, behind } => explain(number, behind, answer, faults),
+        Request::Spread(_) => {
+            let _ = writeln!(
+                faults,
+                "cubesat: this call doesn't list folders, which a run needs"
+            );
+            FAILED
+        }
     }
 }
 
@@ -127,6 +135,32 @@ pub fn command_with_input<
     screen: Screen,
 ) -> u8 {
     match request_of(alloc, words) {
+        Ok(request) => serve(rt, alloc, request, input, answer, faults, screen),
+        Err(error) => print_unparsed(error, answer, faults),
+    }
+}
+
+/// What `command_with_input` does, on a system whose folders can be listed: so it also makes runs
+/// that are spread over machines (`divide`), solves their cubes (`conquer`) and gathers their
+/// results (`gather`). `divide` prints how many cubes are open, with status 0, or the answer, with
+/// that of `solve`; the status of `conquer` is 0, or 75 where its time is over; that of `gather` is
+/// that of `solve`.
+pub fn command_in_folders<
+    R: Files + Threads + Wait + Clock + Sync + Alloc + Clone + Drop,
+    I: Read + Drop,
+    W: Write,
+    E: Write + Send,
+>(
+    rt: &R,
+    alloc: Global,
+    words: &[&str],
+    input: I,
+    answer: &mut W,
+    faults: &mut E,
+    screen: Screen,
+) -> u8 {
+    match request_of(alloc, words) {
+        Ok(Request::Spread(asked)) => work_on(rt, alloc, asked, answer, faults),
         Ok(request) => serve(rt, alloc, request, input, answer, faults, screen),
         Err(error) => print_unparsed(error, answer, faults),
     }

@@ -3,6 +3,7 @@
 use crate::arguments::Request;
 use crate::effort::Asked;
 use crate::input::STANDARD_INPUT;
+use crate::spread_arguments::Spread;
 use cdcl::Search;
 
 /// Why a request is refused, if it is. `-` is the name of standard input, and of standard output.
@@ -28,6 +29,15 @@ pub(crate) fn refusal_of(request: &Request) -> Option<&'static str> {
             if *formula == STANDARD_INPUT && *proof == STANDARD_INPUT => {
             Some("standard input can't be both the formula and the proof")
         }
+        Request::Spread(Spread::Conquer { slice: None, .. }) => {
+            Some("a part is K/M, the K-th of M, as --part 3/16 is the third of sixteen")
+        }
+        Request::Spread(Spread::Begin { formula, .. }) if *formula == STANDARD_INPUT => {
+            Some("a run keeps its formula, which can't be standard input; give a file")
+        }
+        Request::Spread(Spread::Gather { proof, .. }) if *proof == STANDARD_INPUT => Some(
+            "the proof can't be written to standard output, where the answer goes; give --proof a file",
+        ),
         _ => None,
     }
 }

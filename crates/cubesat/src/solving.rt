@@ -31,10 +31,10 @@ use std::thread::Threads;
 use std::time::Clock;
 
 /// The status of a satisfiable formula.
-const SATISFIABLE: u8 = 10;
+pub(crate) const SATISFIABLE: u8 = 10;
 
 /// The status of an unsatisfiable formula.
-const UNSATISFIABLE: u8 = 20;
+pub(crate) const UNSATISFIABLE: u8 = 20;
 
 /// The status of a formula that isn't decided within the limit of time.
 const UNKNOWN: u8 = 0;
@@ -272,7 +272,7 @@ fn solve_opened<
 }
 
 /// Prints why the proof's file isn't begun; the status.
-fn print_not_begun<E: Write>(
+pub(crate) fn print_not_begun<E: Write>(
     faults: &mut E,
     why: NotBegun,
     file: &str,

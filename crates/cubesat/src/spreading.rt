@@ -1,0 +1,271 @@
+//! `divide`, `conquer` and `gather`: what is printed of them, and their statuses.
+
+use crate::arguments::{MAX_BUDGET, MAX_DIVIDE};
+use crate::effort::plan_of;
+use crate::fault_lines::{FAILED, print_fault_of, print_no_memory, print_not_opened};
+use crate::input::{Input, open_input};
+use crate::placed_proof::{PlacedProof, begin_proof};
+use crate::solving::{SATISFIABLE, UNSATISFIABLE, print_not_begun};
+use crate::spread_arguments::Spread;
+use crate::worded::{Known, Opened};
+use cdcl::{Plan, Search};
+use cnf::Limits;
+use noticed::{NoticedReader, NoticedWriter};
+use runs::{Gathered, PackCounts, RunFault, Verdict, gather_within};
+use spread::{
+    Ended, Folder, Progress, RunFile, Said, Slice, bodies_in, conquer, divide, divide_again,
+    formula_in, run_in,
+};
+use std::alloc::Global;
+use std::fs::Files;
+use std::io;
+use std::io::{Empty, Read, Write};
+use std::time::Clock;
+
+/// The status where cubes are open, and where a part is solved.
+const DONE: u8 = 0;
+
+/// The status of a part whose time is over: try again, as `sysexits.h` has it.
+const OUT_OF_TIME: u8 = 75;
+
+/// Prints how far a run is; the status.
+fn print_progress<W: Write, E: Write>(
+    answer: &mut W,
+    faults: &mut E,
+    progress: Result<Progress, Said>,
+) -> u8 {
+    let Ok(progress) = progress else {
+        return FAILED;
+    };
+    let (written, status) = match progress {
+        Progress::Open(count) => (writeln!(answer, "{count}"), DONE),
+        Progress::Satisfiable => (writeln!(answer, "s SATISFIABLE"), SATISFIABLE),
+        Progress::Unsatisfiable => (writeln!(answer, "s UNSATISFIABLE"), UNSATISFIABLE),
+    };
+    match written {
+        Ok(()) => status,
+        Err(error) => {
+            let _ = writeln!(faults, "cubesat: standard output: {error}");
+            FAILED
+        }
+    }
+}
+
+fn status_of(ended: Result<Ended, Said>) -> u8 {
+    match ended {
+        Ok(Ended::Done) => DONE,
+        Ok(Ended::OutOfTime) => OUT_OF_TIME,
+        Err(Said) => FAILED,
+    }
+}
+
+/// Prints what the packs of a run had.
+fn print_counts<E: Write>(faults: &mut E, counts: PackCounts) {
+    let PackCounts {
+        facts,
+        checked,
+        passed_over,
+        broken_off,
+    } = counts;
+    let _ = writeln!(
+        faults,
+        "c packs: {facts} facts, {checked} of them checked, {passed_over} passed over, {broken_off} packs break off"
+    );
+}
+
+/// The status of what gathering came to, of which it is said what happened if it came to no verdict.
+fn end_gather<R: Files, E: Write>(
+    rt: &R,
+    faults: &mut E,
+    gathered: Result<Gathered, RunFault>,
+    known: &Known<'_>,
+    stats: bool,
+) -> u8 {
+    let gathered = match gathered {
+        Ok(gathered) => gathered,
+        Err(fault) => return print_fault_of(rt, faults, fault, known, false),
+    };
+    if stats {
+        print_counts(faults, gathered.packs);
+    }
+    match gathered.verdict {
+        Verdict::Satisfiable => SATISFIABLE,
+        Verdict::Unsatisfiable => UNSATISFIABLE,
+    }
+}
+
+/// Gathers the result of a run from what its packs have; the status.
+fn gather_opened<R: Files, I: Read + Drop, W: Write, E: Write>(
+    rt: &R,
+    alloc: Global,
+    run: &RunFile,
+    bodies: &[Vec<u8>],
+    formula: Opened<'_, I>,
+    proof: Opened<'_, PlacedProof<'_, R>>,
+    stats: bool,
+    answer: &mut W,
+    faults: &mut E,
+) -> u8 {
+    let mut input = NoticedReader::of(formula.file);
+    let mut output = NoticedWriter::of(proof.file);
+    let mut answer = NoticedWriter::of(answer);
+    let gathered = gather_within(
+        alloc,
+        &mut input,
+        run.limits,
+        bodies,
+        &mut answer,
+        &mut output,
+        run.plan,
+    );
+    let known = Known {
+        formula: formula.path,
+        proof: proof.path,
+        beginning: input.beginning(),
+        formula_error: input.error(),
+        proof_error: output.error(),
+        answer_error: answer.error(),
+        limits: run.limits,
+    };
+    end_gather(rt, faults, gathered, &known, stats)
+}
+
+/// The run, and what stands in its packs; the formula is the one of the run.
+fn packs_in<R: Files + Alloc + Clone + Drop, E: Write>(
+    rt: &R,
+    alloc: Global,
+    folder: Folder<'_>,
+    faults: &mut E,
+) -> Result<(RunFile, Vec<Vec<u8>>), Said> {
+    let run = run_in(rt, alloc, folder, faults)?;
+    let _ = formula_in(rt, alloc, folder, &run, faults)?;
+    let bodies = bodies_in(rt, alloc, folder, &run, faults)?;
+    Ok((run, bodies))
+}
+
+/// Gathers the result of a run, with its proof written to a file; the status.
+fn gather<R: Files + Alloc + Clone + Drop, W: Write, E: Write>(
+    rt: &R,
+    alloc: Global,
+    folder: Folder<'_>,
+    path: &str,
+    stats: bool,
+    answer: &mut W,
+    faults: &mut E,
+) -> u8 {
+    let Ok((run, bodies)) = packs_in(rt, alloc, folder, faults) else {
+        return FAILED;
+    };
+    let Ok(file) = folder.formula(alloc) else {
+        return print_no_memory(faults, folder.path, false);
+    };
+    let file = file.as_str();
+    let input: Input<R::File, Empty> = match open_input(rt, file, &mut None) {
+        Ok(input) => input,
+        Err(error) => return print_not_opened(faults, file, error, false),
+    };
+    let proof = match begin_proof(rt, alloc, path, &input) {
+        Ok(placed) => Opened { path, file: placed },
+        Err(why) => return print_not_begun(faults, why, file, path, false),
+    };
+    let formula = Opened {
+        path: file,
+        file: input,
+    };
+    gather_opened(
+        rt, alloc, &run, &bodies, formula, proof, stats, answer, faults,
+    )
+}
+
+/// The plan of a run, if its numbers are in their ranges, as those of a command line are.
+fn plan_asked(search: Search, budget: u32, wanted: u32) -> Option<Plan> {
+    if budget < 1 || budget > MAX_BUDGET || wanted > MAX_DIVIDE {
+        return None;
+    }
+    Some(plan_of(search, budget, Some(wanted)))
+}
+
+/// Makes a run; the status.
+fn begin<R: Files, W: Write, E: Write>(
+    rt: &R,
+    alloc: Global,
+    into: &str,
+    formula: &str,
+    plan: Option<Plan>,
+    limits: Limits,
+    wanted: u32,
+    answer: &mut W,
+    faults: &mut E,
+) -> u8 {
+    let Some(plan) = plan else {
+        return FAILED;
+    };
+    let folder = Folder { path: into };
+    let progress = divide(
+        rt,
+        alloc,
+        folder,
+        formula,
+        plan,
+        limits,
+        wanted as usize,
+        faults,
+    );
+    print_progress(answer, faults, progress)
+}
+
+/// Solves a part of a round; the status.
+fn conquer_part<R: Files + Clock + Alloc + Clone + Drop, E: Write>(
+    rt: &R,
+    alloc: Global,
+    run: &str,
+    round: u32,
+    slice: Option<Slice>,
+    minutes: Option<u32>,
+    faults: &mut E,
+) -> u8 {
+    let Some(slice) = slice else {
+        return FAILED; // it is refused before
+    };
+    let folder = Folder { path: run };
+    status_of(conquer(rt, alloc, folder, round, slice, minutes, faults))
+}
+
+/// Does what is asked for of a run that is spread over machines; the status.
+pub(crate) fn work_on<R: Files + Clock + Alloc + Clone + Drop, W: Write, E: Write>(
+    rt: &R,
+    alloc: Global,
+    asked: Spread<'_>,
+    answer: &mut W,
+    faults: &mut E,
+) -> u8 {
+    match asked {
+        Spread::Begin {
+            into,
+            formula,
+            search,
+            budget,
+            limits,
+            wanted,
+        } => {
+            let plan = plan_asked(search, budget, wanted);
+            begin(
+                rt, alloc, into, formula, plan, limits, wanted, answer, faults,
+            )
+        }
+        Spread::Next { into } => {
+            let progress = divide_again(rt, alloc, Folder { path: into }, faults);
+            print_progress(answer, faults, progress)
+        }
+        Spread::Conquer {
+            run,
+            round,
+            slice,
+            minutes,
+        } => conquer_part(rt, alloc, run, round, slice, minutes, faults),
+        Spread::Gather { run, proof, stats } => {
+            let folder = Folder { path: run };
+            gather(rt, alloc, folder, proof, stats, answer, faults)
+        }
+    }
+}

@@ -1,0 +1,205 @@
+//! Making a run, and its next rounds.
+ghost use Rattle.std.specs.Prelude.{All};
+ghost use Rattle.gathering.specs.Facts.{IsTrueFact};
+
+use crate::breadth::{Division, by_breadth};
+use crate::files::{read_file, write_file};
+use crate::folder::Folder;
+use crate::open_cubes::{OpenCubes, open_cubes};
+use crate::pack_file::{bodies_in, facts_of, write_pack};
+use crate::round_file::{next_round, write_round};
+use crate::run_file::{RunFile, formula_in, formula_of, run_in, run_of, run_text};
+use crate::said::{Said, say, say_error, say_no_memory};
+use crate::sums::sum_of;
+use cdcl::Plan;
+use cnf::{Formula, Limits};
+use kernel::Cube;
+use std::alloc::{AllocError, Global};
+use std::fs::Files;
+use std::io::{ErrorKind, Write};
+use std::{fs, io};
+
+/// What is known of the formula of a run.
+#[derive(Clone, Copy, Debug, PartialEq, Eq)]
+pub enum Progress {
+    /// So many cubes are open.
+    Open(usize),
+    /// A model was claimed, and nothing left of it is open.
+    Satisfiable,
+    /// Each cube was refuted, as is claimed.
+    Unsatisfiable,
+}
+
+fn progress_of(open: usize, has_model: bool) -> Progress {
+    if open > 0 {
+        Progress::Open(open)
+    } else if has_model {
+        Progress::Satisfiable
+    } else {
+        Progress::Unsatisfiable
+    }
+}
+
+/// Makes a folder, unless it is there.
+fn make_folder<R: Files>(rt: &R, path: &str) -> io::Result<()> {
+    match fs::create_dir(rt, path) {
+        Err(error) if error.kind() == ErrorKind::AlreadyExists => Ok(()),
+        made => made,
+    }
+}
+
+/// Makes the folders of a run, and copies its formula there.
+fn make_folders<R: Files>(rt: &R, alloc: Global, folder: Folder, bytes: &[u8]) -> io::Result<()> {
+    make_folder(rt, folder.path)?;
+    make_folder(rt, folder.packs(alloc)?.as_str())?;
+    make_folder(rt, folder.rounds(alloc)?.as_str())?;
+    make_folder(rt, folder.models(alloc)?.as_str())?;
+    write_file(rt, alloc, folder.formula(alloc)?.as_str(), bytes)
+}
+
+/// Whether there is a run in a folder.
+fn has_run<R: Files>(rt: &R, alloc: Global, folder: Folder) -> io::Result<bool> {
+    fs::exists(rt, folder.run(alloc)?.as_str())
+}
+
+/// The text of the file that says what the run is.
+fn text_for(
+    alloc: Global,
+    plan: &Plan,
+    limits: Limits,
+    bytes: &[u8],
+) -> Result<String, AllocError> {
+    let sum = sum_of(alloc, bytes)?;
+    run_text(alloc, plan, limits, sum.as_str())
+}
+
+/// The run of a plan, some limits and a formula's bytes, with its text.
+fn new_run(
+    alloc: Global,
+    plan: &Plan,
+    limits: Limits,
+    bytes: &[u8],
+) -> Result<Option<(RunFile, String)>, AllocError> {
+    let text = text_for(alloc, plan, limits, bytes)?;
+    match run_of(alloc, text.as_bytes())? {
+        Some(run) => Ok(Some((run, text))),
+        None => Ok(None),
+    }
+}
+
+/// Writes what the division came to, and the file that says what the run is last: without it there
+/// is no run.
+fn write_run<R: Files, E: Write>(
+    rt: &R,
+    alloc: Global,
+    folder: Folder,
+    run: &RunFile,
+    text: &str,
+    formula: &Formula,
+    division: &mut Division,
+    faults: &mut E,
+) -> Result<Progress, Said>
+    requires { All (IsTrueFact formula.now run.now.plan) division.old.facts.items }
+{
+    write_pack(rt, alloc, folder, run, formula, &division.facts, faults)?;
+    let cubes: Vec<Cube> = match division.open.drain(..).collect(alloc) {
+        Ok(cubes) => cubes,
+        Err(_) => return Err(say_no_memory(faults, folder.path)),
+    };
+    write_round(rt, alloc, folder, 1, &cubes, faults)?;
+    let Ok(path) = folder.run(alloc) else {
+        return Err(say_no_memory(faults, folder.path));
+    };
+    match write_file(rt, alloc, path.as_str(), text.as_bytes()) {
+        Ok(()) => Ok(progress_of(cubes.len(), division.has_model)),
+        Err(error) => Err(say_error(faults, path.as_str(), error)),
+    }
+}
+
+/// Whether a run can be made in the folder; if not, it is said why.
+fn check_free<R: Files, E: Write>(
+    rt: &R,
+    alloc: Global,
+    folder: Folder,
+    faults: &mut E,
+) -> Result<(), Said> {
+    match has_run(rt, alloc, folder) {
+        Ok(false) => Ok(()),
+        Ok(true) => Err(say(
+            faults,
+            folder.path,
+            "there is a run already; its next round is written where no formula is named",
+        )),
+        Err(error) => Err(say_error(faults, folder.path, error)),
+    }
+}
+
+/// Makes the run of a formula: solves its cubes by breadth until at least `wanted` are open, and
+/// writes what was found, the formula and the open cubes into the folder.
+pub fn divide<R: Files, E: Write>(
+    rt: &R,
+    alloc: Global,
+    folder: Folder,
+    path: &str,
+    plan: Plan,
+    limits: Limits,
+    wanted: usize,
+    faults: &mut E,
+) -> Result<Progress, Said> {
+    check_free(rt, alloc, folder, faults)?;
+    let bytes = match read_file(rt, alloc, path) {
+        Ok(bytes) => bytes,
+        Err(error) => return Err(say_error(faults, path, error)),
+    };
+    let formula = formula_of(alloc, path, &bytes, limits, faults)?;
+    if let Err(error) = make_folders(rt, alloc, folder, &bytes) {
+        return Err(say_error(faults, folder.path, error));
+    }
+    let Ok(Some((run, text))) = new_run(alloc, &plan, limits, &bytes) else {
+        return Err(say_no_memory(faults, folder.path));
+    };
+    let Ok(mut division) = by_breadth(alloc, &formula, run.plan, wanted) else {
+        return Err(say_no_memory(faults, path));
+    };
+    write_run(
+        rt,
+        alloc,
+        folder,
+        &run,
+        text.as_str(),
+        &formula,
+        &mut division,
+        faults,
+    )
+}
+
+/// The cubes that the packs of a run leave open.
+fn left_open(
+    alloc: Global,
+    formula: &Formula,
+    bodies: &[Vec<u8>],
+) -> Result<OpenCubes, AllocError> {
+    let facts = facts_of(alloc, formula.vars(), bodies)?;
+    open_cubes(alloc, formula, &facts)
+}
+
+/// Writes the next round of a run: the cubes that its packs leave open. Nothing of what the packs
+/// say is checked; that is what gathering does.
+pub fn divide_again<R: Files + Alloc + Clone + Drop, E: Write>(
+    rt: &R,
+    alloc: Global,
+    folder: Folder,
+    faults: &mut E,
+) -> Result<Progress, Said> {
+    let run = run_in(rt, alloc, folder, faults)?;
+    let formula = formula_in(rt, alloc, folder, &run, faults)?;
+    let bodies = bodies_in(rt, alloc, folder, &run, faults)?;
+    let Ok(open) = left_open(alloc, &formula, &bodies) else {
+        return Err(say_no_memory(faults, folder.path));
+    };
+    if !open.cubes.is_empty() {
+        let number = next_round(rt, alloc, folder, faults)?;
+        write_round(rt, alloc, folder, number, &open.cubes, faults)?;
+    }
+    Ok(progress_of(open.cubes.len(), open.has_model))
+}

@@ -1,0 +1,71 @@
+//! Where models were found, so that parts which have only cubes right of one can end.
+
+use crate::folder::Folder;
+use kernel::Cube;
+use std::alloc::{AllocError, Global};
+use std::fs::Files;
+use std::{fs, io};
+
+/// Of so many literals at most the name of a model tells the signs, since a file's name is bounded.
+const MOST_SIGNS: usize = 200;
+
+/// The name of a cube: its literals' signs, 0 for a negative one. Cubes of one tree lie from left to
+/// right in the order of their names.
+fn name_of(alloc: Global, cube: &Cube) -> Result<String, AllocError> {
+    let mut name = String::from_str(alloc, "m")?;
+    for lit in cube.lits().iter().take(MOST_SIGNS) {
+        name.push(if lit.positive() { '1' } else { '0' })?;
+    }
+    Ok(name)
+}
+
+/// Whether the cube of a name lies left of that of another, and neither is part of the other.
+fn is_left(name: &str, other: &str) -> bool {
+    for (sign, its) in name.bytes().zip(other.bytes()) {
+        if sign != its {
+            return sign < its;
+        }
+    }
+    false
+}
+
+/// Notes that a cube has a model.
+pub(crate) fn note_model<R: Files>(
+    rt: &R,
+    alloc: Global,
+    folder: Folder,
+    cube: &Cube,
+) -> io::Result<()> {
+    let name = name_of(alloc, cube)?;
+    let path = folder.model(alloc, name.as_str())?;
+    fs::create(rt, path.as_str())?;
+    Ok(())
+}
+
+/// Whether a model was noted left of a cube.
+fn found_left<R: Files + Alloc + Clone + Drop>(
+    rt: &R,
+    alloc: Global,
+    folder: Folder,
+    cube: &Cube,
+) -> io::Result<bool> {
+    let name = name_of(alloc, cube)?;
+    for entry in fs::read_dir(rt, folder.models(alloc)?.as_str())? {
+        let entry = entry?;
+        if is_left(entry.file_name(), name.as_str()) {
+            return Ok(true);
+        }
+    }
+    Ok(false)
+}
+
+/// Whether a model was noted left of a cube, so that the cube needn't be solved. Where the notes
+/// can't be read, none was.
+pub(crate) fn is_needless<R: Files + Alloc + Clone + Drop>(
+    rt: &R,
+    alloc: Global,
+    folder: Folder,
+    cube: &Cube,
+) -> bool {
+    found_left(rt, alloc, folder, cube).unwrap_or(false)
+}

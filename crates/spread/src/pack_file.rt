@@ -1,0 +1,203 @@
+//! Packs as files. A pack's name is made of what it holds, so that no other one overwrites it, and
+//! so that one that was cut or changed is known.
+ghost use Rattle.std.specs.Prelude.{All};
+ghost use Rattle.gathering.specs.Facts.{IsTrueFact};
+
+use crate::files::{read_file, write_file};
+use crate::folder::Folder;
+use crate::run_file::RunFile;
+use crate::said::{Said, say, say_error, say_no_memory};
+use crate::sums::sum_of;
+use cnf::Formula;
+use packs::{Fact, Pack, read_pack, write_fact};
+use std::alloc::{AllocError, Global};
+use std::fs::Files;
+use std::io::{ErrorKind, Write};
+use std::{fs, io};
+
+/// What a pack's name ends with.
+const ENDING: &str = ".pack";
+
+/// The first line of the packs of a run.
+fn head_of(alloc: Global, run: &RunFile) -> Result<String, AllocError> {
+    let sum = run.sum.as_str();
+    format!(in alloc; "cubesat pack 1 {sum}\n")
+}
+
+/// The bytes of a pack with these facts.
+fn bytes_of(alloc: Global, run: &RunFile, facts: &[Fact]) -> Result<Vec<u8>, AllocError> {
+    let head = head_of(alloc, run)?;
+    let mut bytes = Vec::from_slice(alloc, head.as_bytes())?;
+    for fact in facts {
+        write_fact(&mut bytes, fact)?;
+    }
+    Ok(bytes)
+}
+
+/// The path of the pack with these bytes.
+fn path_of(alloc: Global, folder: Folder, bytes: &[u8]) -> Result<String, AllocError> {
+    let sum = sum_of(alloc, bytes)?;
+    let sum = sum.as_str();
+    let name = format!(in alloc; "{sum}{ENDING}")?;
+    folder.pack(alloc, name.as_str())
+}
+
+/// Writes a pack with these facts. Two that write the same one at once are in each other's way, and
+/// it is there in the end.
+fn put<R: Files>(
+    rt: &R,
+    alloc: Global,
+    folder: Folder,
+    run: &RunFile,
+    facts: &[Fact],
+) -> io::Result<()> {
+    let bytes = bytes_of(alloc, run, facts)?;
+    let path = path_of(alloc, folder, &bytes)?;
+    match write_file(rt, alloc, path.as_str(), &bytes) {
+        Err(error) if error.kind() == ErrorKind::ResourceBusy => Ok(()),
+        written => written,
+    }
+}
+
+/// Writes a pack with these facts, which are true ones of the run's formula, if there are any, or
+/// says why it can't.
+pub(crate) fn write_pack<R: Files, E: Write>(
+    rt: &R,
+    alloc: Global,
+    folder: Folder,
+    run: &RunFile,
+    formula: &Formula,
+    facts: &[Fact],
+    faults: &mut E,
+) -> Result<(), Said>
+    requires { All (IsTrueFact formula.now run.now.plan) facts.now }
+{
+    let _formula = formula; // it is there for the contract alone
+    if facts.is_empty() {
+        return Ok(());
+    }
+    match put(rt, alloc, folder, run, facts) {
+        Ok(()) => Ok(()),
+        Err(error) => Err(say_error(faults, folder.path, error)),
+    }
+}
+
+/// The names of the packs of a run, in their order.
+fn names_in<R: Files + Alloc + Clone + Drop>(
+    rt: &R,
+    alloc: Global,
+    path: &str,
+) -> io::Result<Vec<String>> {
+    let mut names = Vec::new(alloc);
+    for entry in fs::read_dir(rt, path)? {
+        let entry = entry?;
+        let name = entry.file_name();
+        if name.ends_with(ENDING) {
+            names.push(String::from_str(alloc, name)?)?;
+        }
+    }
+    names.sort_unstable();
+    Ok(names)
+}
+
+/// What stands behind the first line of a pack of the run, if the pack is whole: its name is made of
+/// its bytes.
+fn body_of(
+    alloc: Global,
+    run: &RunFile,
+    name: &str,
+    bytes: &[u8],
+) -> Result<Option<Vec<u8>>, AllocError> {
+    let sum = sum_of(alloc, bytes)?;
+    let head = head_of(alloc, run)?;
+    let is_whole = name.strip_suffix(ENDING) == Some(sum.as_str());
+    match bytes.strip_prefix(head.as_bytes()) {
+        Some(body) if is_whole => Ok(Some(Vec::from_slice(alloc, body)?)),
+        _ => Ok(None),
+    }
+}
+
+/// The body of a pack, if it can be read and is whole; if not, that is said, and it counts as
+/// missing.
+fn read_body<R: Files, E: Write>(
+    rt: &R,
+    alloc: Global,
+    folder: Folder,
+    run: &RunFile,
+    name: &str,
+    faults: &mut E,
+) -> Result<Option<Vec<u8>>, AllocError> {
+    let path = folder.pack(alloc, name)?;
+    let path = path.as_str();
+    let bytes = match read_file(rt, alloc, path) {
+        Ok(bytes) => bytes,
+        Err(error) => {
+            let _ = say_error(faults, path, error);
+            return Ok(None);
+        }
+    };
+    let body = body_of(alloc, run, name, &bytes)?;
+    if body.is_none() {
+        let _ = say(
+            faults,
+            path,
+            "not a whole pack of this run; it counts as missing",
+        );
+    }
+    Ok(body)
+}
+
+fn read_bodies<R: Files, E: Write>(
+    rt: &R,
+    alloc: Global,
+    folder: Folder,
+    run: &RunFile,
+    names: &[String],
+    faults: &mut E,
+) -> Result<Vec<Vec<u8>>, AllocError> {
+    let mut bodies = Vec::new(alloc);
+    for name in names {
+        if let Some(body) = read_body(rt, alloc, folder, run, name.as_str(), faults)? {
+            bodies.push(body)?;
+        }
+    }
+    Ok(bodies)
+}
+
+/// What stands in the packs of a run, in the order of their names. A pack that can't be read, is
+/// damaged or is another run's is named, and counts as missing. It takes memory for all packs.
+pub fn bodies_in<R: Files + Alloc + Clone + Drop, E: Write>(
+    rt: &R,
+    alloc: Global,
+    folder: Folder,
+    run: &RunFile,
+    faults: &mut E,
+) -> Result<Vec<Vec<u8>>, Said> {
+    let Ok(path) = folder.packs(alloc) else {
+        return Err(say_no_memory(faults, folder.path));
+    };
+    let names = match names_in(rt, alloc, path.as_str()) {
+        Ok(names) => names,
+        Err(error) => return Err(say_error(faults, path.as_str(), error)),
+    };
+    match read_bodies(rt, alloc, folder, run, &names, faults) {
+        Ok(bodies) => Ok(bodies),
+        Err(_) => Err(say_no_memory(faults, path.as_str())),
+    }
+}
+
+/// The facts of the bodies of packs, over so many variables. Those that can't be read are left out.
+pub(crate) fn facts_of(
+    alloc: Global,
+    vars: u32,
+    bodies: &[Vec<u8>],
+) -> Result<Vec<Fact>, AllocError> {
+    let mut facts = Vec::new(alloc);
+    for body in bodies {
+        let Pack { facts: read, .. } = read_pack(alloc, vars, body)?;
+        for fact in read {
+            facts.push(fact)?;
+        }
+    }
+    Ok(facts)
+}

@@ -1,0 +1,204 @@
+//! What a run is: the plan, the limits and the formula, in the file `run` of its folder.
+
+use crate::files::read_file;
+use crate::folder::Folder;
+use crate::said::{Said, say, say_error, say_no_memory};
+use crate::sums::sum_of;
+use cdcl::{Plan, Search};
+use cnf::{Formula, Limits, read_formula_within};
+use std::alloc::{AllocError, Global};
+use std::fs::Files;
+use std::io::Write;
+use std::str;
+use std::str::Lines;
+
+/// The largest budget of a root.
+const MAX_BUDGET: u32 = 100_000;
+
+/// The most cubes that a formula may be divided into.
+const MAX_DIVIDE: u32 = 65_536;
+
+/// The plan of these numbers, if they are in their ranges.
+fn plan_of(search: Search, budget: u32, divide: u32) -> Option<Plan> {
+    if budget < 1 || budget > MAX_BUDGET || divide > MAX_DIVIDE {
+        return None;
+    }
+    Some(match search {
+        Search::Ordered => Plan::ordered(budget),
+        Search::Focused => Plan::focused(budget).divided(divide),
+    })
+}
+
+/// What a run is.
+#[derive(Drop)]
+pub struct RunFile {
+    pub plan: Plan,
+    /// How large the formula may be.
+    pub limits: Limits,
+    /// The SHA-256 of the formula's bytes.
+    pub formula_sum: String,
+    /// That of the file's own bytes, by which packs name the run.
+    pub sum: String,
+}
+
+fn name_of(search: Search) -> &'static str {
+    match search {
+        Search::Ordered => "ordered",
+        Search::Focused => "focused",
+    }
+}
+
+fn search_named(name: &str) -> Option<Search> {
+    match name {
+        "ordered" => Some(Search::Ordered),
+        "focused" => Some(Search::Focused),
+        _ => None,
+    }
+}
+
+fn limits_named(name: &str) -> Option<Limits> {
+    match name {
+        "standard" => Some(Limits::Standard),
+        "large" => Some(Limits::Large),
+        _ => None,
+    }
+}
+
+fn limits_name(limits: Limits) -> &'static str {
+    match limits {
+        Limits::Standard => "standard",
+        Limits::Large => "large",
+    }
+}
+
+/// The text of the file for a formula with this sum.
+pub(crate) fn run_text(
+    alloc: Global,
+    plan: &Plan,
+    limits: Limits,
+    formula_sum: &str,
+) -> Result<String, AllocError> {
+    let search = name_of(plan.search());
+    let (budget, divide) = (plan.budget(), plan.divide());
+    let limits = limits_name(limits);
+    format!(in alloc;
+        "cubesat run 1\nsearch {search}\nbudget {budget}\ndivide {divide}\nlimits {limits}\nformula {formula_sum}\n"
+    )
+}
+
+/// What stands behind a name in the next line.
+fn value_of<'a>(lines: &mut Lines<'a>, name: &str) -> Option<&'a str> {
+    lines.next()?.strip_prefix(name)
+}
+
+/// The plan that the next lines say.
+fn plan_in(lines: &mut Lines<'_>) -> Option<Plan> {
+    let search = search_named(value_of(lines, "search ")?)?;
+    let budget = value_of(lines, "budget ")?.parse::<u32>().ok()?;
+    let divide = value_of(lines, "divide ")?.parse::<u32>().ok()?;
+    plan_of(search, budget, divide)
+}
+
+/// The plan, the limits and the formula's sum that the lines of the file say.
+fn parts_of<'a>(lines: &mut Lines<'a>) -> Option<(Plan, Limits, &'a str)> {
+    if lines.next() != Some("cubesat run 1") {
+        return None;
+    }
+    let plan = plan_in(lines)?;
+    let limits = limits_named(value_of(lines, "limits ")?)?;
+    let sum = value_of(lines, "formula ")?;
+    Some((plan, limits, sum))
+}
+
+/// What the bytes of the file say, if they are those of a run.
+pub(crate) fn run_of(alloc: Global, bytes: &[u8]) -> Result<Option<RunFile>, AllocError> {
+    let Ok(text) = str::from_utf8(bytes) else {
+        return Ok(None);
+    };
+    let Some((plan, limits, formula_sum)) = parts_of(&mut text.lines()) else {
+        return Ok(None);
+    };
+    Ok(Some(RunFile {
+        plan,
+        limits,
+        formula_sum: String::from_str(alloc, formula_sum)?,
+        sum: sum_of(alloc, bytes)?,
+    }))
+}
+
+/// The run of a folder, or why there is none, which is said.
+pub fn run_in<R: Files, E: Write>(
+    rt: &R,
+    alloc: Global,
+    folder: Folder,
+    faults: &mut E,
+) -> Result<RunFile, Said> {
+    let Ok(path) = folder.run(alloc) else {
+        return Err(say_no_memory(faults, folder.path));
+    };
+    let bytes = match read_file(rt, alloc, path.as_str()) {
+        Ok(bytes) => bytes,
+        Err(error) => return Err(say_error(faults, path.as_str(), error)),
+    };
+    match run_of(alloc, &bytes) {
+        Ok(Some(run)) => Ok(run),
+        Ok(None) => Err(say(
+            faults,
+            path.as_str(),
+            "not a run that this version makes; make one by `cubesat divide --into`",
+        )),
+        Err(_) => Err(say_no_memory(faults, path.as_str())),
+    }
+}
+
+/// The formula of these bytes, or why there is none, which is said.
+pub(crate) fn formula_of<E: Write>(
+    alloc: Global,
+    path: &str,
+    bytes: &[u8],
+    limits: Limits,
+    faults: &mut E,
+) -> Result<Formula, Said> {
+    let fault = match read_formula_within(alloc, bytes, limits) {
+        Ok(formula) => return Ok(formula),
+        Err(fault) => fault,
+    };
+    let number = fault.number();
+    let _ = match fault.place() {
+        Some(place) => writeln!(
+            faults,
+            "cubesat: {path}: refusal {number} at {place}; `cubesat solve` shows the place"
+        ),
+        None => writeln!(faults, "cubesat: {path}: refusal {number}"),
+    };
+    Err(Said)
+}
+
+/// The formula of a run, or why it can't be read, which is said.
+pub fn formula_in<R: Files, E: Write>(
+    rt: &R,
+    alloc: Global,
+    folder: Folder,
+    run: &RunFile,
+    faults: &mut E,
+) -> Result<Formula, Said> {
+    let Ok(path) = folder.formula(alloc) else {
+        return Err(say_no_memory(faults, folder.path));
+    };
+    let path = path.as_str();
+    let bytes = match read_file(rt, alloc, path) {
+        Ok(bytes) => bytes,
+        Err(error) => return Err(say_error(faults, path, error)),
+    };
+    let Ok(sum) = sum_of(alloc, &bytes) else {
+        return Err(say_no_memory(faults, path));
+    };
+    if sum.as_str() != run.formula_sum.as_str() {
+        return Err(say(
+            faults,
+            path,
+            "it has changed since the run began; put the formula of the run back",
+        ));
+    }
+    formula_of(alloc, path, &bytes, run.limits, faults)
+}

@@ -1,0 +1,60 @@
+//! Command lines one after the other, what each prints, and its status.
+use cubesat::{Screen, command_in_folders};
+use std::alloc::Global;
+use std::io::empty;
+use std::test::Fail;
+use std::{fs, io};
+
+/// A command line.
+#[derive(Clone, Copy)]
+pub struct Row<'a> {
+    pub words: &'a [&'a str],
+    pub status: u8,
+    /// What is printed as the answer.
+    pub answer: &'a str,
+    /// With what the rest that is printed begins; where it is empty, nothing is.
+    pub faults: &'a str,
+}
+
+/// Whether the command line ends and prints as it is to.
+fn is_so(rt: &HostRuntime, alloc: Global, row: &Row) -> bool {
+    let mut answer = Vec::new(alloc);
+    let mut faults = Vec::new(alloc);
+    let status = command_in_folders(
+        rt,
+        alloc,
+        row.words,
+        empty(),
+        &mut answer,
+        &mut faults,
+        Screen::Stream,
+    );
+    let is_silent = faults.is_empty() == row.faults.is_empty();
+    status == row.status
+        && answer.as_slice() == row.answer.as_bytes()
+        && is_silent
+        && faults.starts_with(row.faults.as_bytes())
+}
+
+/// The place of the first command line that doesn't end or print as it is to, if there is one.
+pub fn first_other(rt: &HostRuntime, rows: &[Row]) -> Option<usize> {
+    for place in 0..rows.len() {
+        if !is_so(rt, rt.alloc(), &rows[place]) {
+            return Some(place);
+        }
+    }
+    None
+}
+
+/// Writes the formula of a run, and takes away what an earlier test left of the run.
+pub fn begin(rt: &HostRuntime, run: &str, path: &str, text: &str) -> Result<(), Fail> {
+    let _ = fs::remove_dir_all(rt, run);
+    fs::write(rt, path, text)?;
+    Ok(())
+}
+
+/// Whether a file holds this text.
+pub fn holds(rt: &HostRuntime, path: &str, text: &str) -> io::Result<bool> {
+    let bytes = fs::read(rt, path)?;
+    Ok(bytes.as_slice() == text.as_bytes())
+}
