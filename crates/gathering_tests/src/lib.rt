@@ -1,0 +1,5 @@
+//! Results that are gathered from facts, true ones and others.
+#![tactic(auto)]
+
+#[cfg(test)]
+mod facts;
