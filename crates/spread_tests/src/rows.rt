@@ -1,8 +1,12 @@
 //! Command lines one after the other, what each prints, and its status.
 use cubesat::{Screen, command_in_folders};
 use std::alloc::Global;
+use std::fs::Files;
 use std::io::empty;
+use std::sync::Wait;
 use std::test::Fail;
+use std::thread::Threads;
+use std::time::Clock;
 use std::{fs, io};
 
 /// A command line.
@@ -17,7 +21,11 @@ pub struct Row<'a> {
 }
 
 /// Whether the command line ends and prints as it is to.
-fn is_so(rt: &HostRuntime, alloc: Global, row: &Row) -> bool {
+fn is_so<R: Files + AllocGlobal + Threads + Wait + Clock + Sync + Clone + Drop>(
+    rt: &R,
+    alloc: Global,
+    row: &Row,
+) -> bool {
     let mut answer = Vec::new(alloc);
     let mut faults = Vec::new(alloc);
     let status = command_in_folders(
@@ -37,7 +45,10 @@ fn is_so(rt: &HostRuntime, alloc: Global, row: &Row) -> bool {
 }
 
 /// The place of the first command line that doesn't end or print as it is to, if there is one.
-pub fn first_other(rt: &HostRuntime, rows: &[Row]) -> Option<usize> {
+pub fn first_other<R: Files + AllocGlobal + Threads + Wait + Clock + Sync + Clone + Drop>(
+    rt: &R,
+    rows: &[Row],
+) -> Option<usize> {
     for place in 0..rows.len() {
         if !is_so(rt, rt.alloc(), &rows[place]) {
             return Some(place);
@@ -47,14 +58,19 @@ pub fn first_other(rt: &HostRuntime, rows: &[Row]) -> Option<usize> {
 }
 
 /// Writes the formula of a run, and takes away what an earlier test left of the run.
-pub fn begin(rt: &HostRuntime, run: &str, path: &str, text: &str) -> Result<(), Fail> {
+pub fn begin<R: Files + AllocGlobal>(
+    rt: &R,
+    run: &str,
+    path: &str,
+    text: &str,
+) -> Result<(), Fail> {
     let _ = fs::remove_dir_all(rt, run);
     fs::write(rt, path, text)?;
     Ok(())
 }
 
 /// Whether a file holds this text.
-pub fn holds(rt: &HostRuntime, path: &str, text: &str) -> io::Result<bool> {
+pub fn holds<R: Files + AllocGlobal>(rt: &R, path: &str, text: &str) -> io::Result<bool> {
     let bytes = fs::read(rt, path)?;
     Ok(bytes.as_slice() == text.as_bytes())
 }

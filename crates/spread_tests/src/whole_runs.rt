@@ -3,50 +3,78 @@ use crate::rows::{Row, begin, first_other, holds};
 use samples::{FOUR, FOUR_PROOF, TWO_MODELS};
 use std::test::Fail;
 
-/// A command line that prints an answer and nothing else.
-const fn prints<'a>(words: &'a [&'a str], status: u8, answer: &'a str) -> Row<'a> {
-    Row {
-        words,
-        status,
-        answer,
-        faults: "",
-    }
-}
-
 /// Of two cubes the right one is solved first, and the left one in a second round.
 static UNSATISFIABLE: [Row; 6] = [
-    prints(
-        &[
-            "cubesat", "divide", "--into", "spread_four", "--budget", "1", "--divide", "2",
+    Row {
+        words: &[
+            "cubesat",
+            "divide",
+            "--into",
+            "spread_four",
+            "--budget",
+            "1",
+            "--divide",
+            "2",
             "spread_four.cnf",
         ],
-        0,
-        "2\n",
-    ),
-    prints(
-        &["cubesat", "conquer", "--round", "1", "--part", "2/2", "spread_four"],
-        0,
-        "",
-    ),
-    prints(&["cubesat", "divide", "--into", "spread_four"], 0, "1\n"),
-    prints(
-        &[
-            "cubesat", "conquer", "--round", "2", "--part", "1/1", "--minutes", "5",
+        status: 0,
+        answer: "2\n",
+        faults: "",
+    },
+    Row {
+        words: &[
+            "cubesat",
+            "conquer",
+            "--round",
+            "1",
+            "--part",
+            "2/2",
             "spread_four",
         ],
-        0,
-        "",
-    ),
-    prints(
-        &["cubesat", "divide", "--into", "spread_four"],
-        20,
-        "s UNSATISFIABLE\n",
-    ),
-    prints(
-        &["cubesat", "gather", "--proof", "spread_four.lrat", "spread_four"],
-        20,
-        "s UNSATISFIABLE\n",
-    ),
+        status: 0,
+        answer: "",
+        faults: "",
+    },
+    Row {
+        words: &["cubesat", "divide", "--into", "spread_four"],
+        status: 0,
+        answer: "1\n",
+        faults: "",
+    },
+    Row {
+        words: &[
+            "cubesat",
+            "conquer",
+            "--round",
+            "2",
+            "--part",
+            "1/1",
+            "--minutes",
+            "5",
+            "spread_four",
+        ],
+        status: 0,
+        answer: "",
+        faults: "",
+    },
+    Row {
+        words: &["cubesat", "divide", "--into", "spread_four"],
+        status: 20,
+        answer: "s UNSATISFIABLE\n",
+        faults: "",
+    },
+    Row {
+        words: &[
+            "cubesat",
+            "gather",
+            "--proof",
+            "spread_four.lrat",
+            "spread_four",
+        ],
+        status: 20,
+        answer: "s UNSATISFIABLE\n",
+        faults: "",
+    },
 ];
 
 #[test]
@@ -61,35 +89,74 @@ fn an_unsatisfiable_formula_has_the_proof_of_one_machine(rt: HostRuntime) -> Res
 
 /// A model is found in the right cube, and then one left of it.
 static SATISFIABLE: [Row; 6] = [
-    prints(
-        &[
-            "cubesat", "divide", "--into", "spread_two", "--budget", "1", "--divide", "2",
+    Row {
+        words: &[
+            "cubesat",
+            "divide",
+            "--into",
+            "spread_two",
+            "--budget",
+            "1",
+            "--divide",
+            "2",
             "spread_two.cnf",
         ],
-        0,
-        "2\n",
-    ),
-    prints(
-        &["cubesat", "conquer", "--round", "1", "--part", "2/2", "spread_two"],
-        0,
-        "",
-    ),
-    prints(&["cubesat", "divide", "--into", "spread_two"], 0, "1\n"),
-    prints(
-        &["cubesat", "conquer", "--round", "2", "--part", "1/1", "spread_two"],
-        0,
-        "",
-    ),
-    prints(
-        &["cubesat", "divide", "--into", "spread_two"],
-        10,
-        "s SATISFIABLE\n",
-    ),
-    prints(
-        &["cubesat", "gather", "--proof", "spread_two.lrat", "spread_two"],
-        10,
-        "s SATISFIABLE\nv -1 2 -3 0\n",
-    ),
+        status: 0,
+        answer: "2\n",
+        faults: "",
+    },
+    Row {
+        words: &[
+            "cubesat",
+            "conquer",
+            "--round",
+            "1",
+            "--part",
+            "2/2",
+            "spread_two",
+        ],
+        status: 0,
+        answer: "",
+        faults: "",
+    },
+    Row {
+        words: &["cubesat", "divide", "--into", "spread_two"],
+        status: 0,
+        answer: "1\n",
+        faults: "",
+    },
+    Row {
+        words: &[
+            "cubesat",
+            "conquer",
+            "--round",
+            "2",
+            "--part",
+            "1/1",
+            "spread_two",
+        ],
+        status: 0,
+        answer: "",
+        faults: "",
+    },
+    Row {
+        words: &["cubesat", "divide", "--into", "spread_two"],
+        status: 10,
+        answer: "s SATISFIABLE\n",
+        faults: "",
+    },
+    Row {
+        words: &[
+            "cubesat",
+            "gather",
+            "--proof",
+            "spread_two.lrat",
+            "spread_two",
+        ],
+        status: 10,
+        answer: "s SATISFIABLE\nv -1 2 -3 0\n",
+        faults: "",
+    },
 ];
 
 #[test]
