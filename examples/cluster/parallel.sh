@@ -16,11 +16,10 @@ program=${CUBESAT:-cubesat}
 where=()
 [ -z "${LOGINS:-}" ] || where=(--sshloginfile "$LOGINS" --filter-hosts)
 while true; do
-    # A part whose time is over has status 75, and leaves cubes for the next round; so does one that
-    # failed, on whatever machine, since rounds take the place of retries.
-    parallel ${where[@]+"${where[@]}"} --retries 3 --joblog "$run/joblog.$round" \
-        "$program" conquer --round "$((10#$round))" --part "{}/$parts" --minutes "$minutes" "$run" \
-        ::: $(seq "$parts") || true
+    # A part whose time is over has status 75, and leaves cubes for the next round: it isn't tried again.
+    # One that failed on a machine is, on others; and what is left then is in the next round too.
+    job="$(printf '%q ' "$program" conquer --round "$((10#$round))") --part {}/$parts --minutes $minutes $(printf '%q' "$run") || [ \$? = 75 ]"
+    parallel ${where[@]+"${where[@]}"} --retries 3 --joblog "$run/joblog.$round" "$job" ::: $(seq "$parts") || true
     status=0
     "$program" divide --into "$run" || status=$?
     [ "$status" = 0 ] || exit "$status"
