@@ -7,6 +7,7 @@ pub mod Beginning
 pub mod BothSigns
 pub mod Cutting
 pub mod Falling
+pub mod FilledLists
 pub mod Filtering
 pub mod Forgetting
 pub mod ForgottenAt

@@ -2,6 +2,7 @@
 pub mod Answer
 pub mod Arranging
 pub mod Attaching
+pub mod Listing
 pub mod Cutting
 pub mod Forgetting
 pub mod Shown

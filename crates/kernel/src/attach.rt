@@ -9,8 +9,12 @@ ghost use Rattle.theory.specs.Learnable.{IsLearnable};
 ghost use Rattle.theory.specs.Pure.{unit_clauses};
 ghost use Rattle.kernel.specs.Watching.{code, IsPair, lesser};
 ghost use Rattle.kernel.specs.Visiting.{kept_of};
+ghost use Rattle.kernel.specs.declared.watch.Watched.{Watched};
+ghost use Rattle.kernel.specs.declared.watch.Watch.{Watch};
 ghost use Rattle.kernel.specs.Attaching.{with_entry, attached, IsLater, IsWatching};
+ghost use Rattle.kernel.specs.Listing.{with_clause};
 
+use crate::listing::ListRange;
 use crate::propagator::Propagator;
 use crate::replacement::Starts;
 use crate::store::Store;
@@ -179,26 +183,47 @@ impl Propagator {
         Ok(())
     }
 
-    /// Puts a clause of the formula at the end, before anything is decided: it is watched, and
-    /// noted where it is empty or of one literal.
-    fn attach_first(&mut self, clause: &[Lit], singles: &mut Vec<u32>) -> Result<(), AllocError>
-        requires lists { (V : ℕ) × IsOver V clause.now × (length self.old.lists.items ≡ 2 * V + 2) }
+    /// Puts a clause at the end, before anything is decided, and notes it where it is empty or of
+    /// one literal. It is watched as soon as it is in the lists of what it watches.
+    fn hold(&mut self, clause: &[Lit], singles: &mut Vec<u32>) -> Result<(), AllocError>
         ensures clauses { OnOk result (self.new.clauses.given ≡ self.old.clauses.given ++ clause.now ∷ []) }
-        ensures watching { OnOk result ((V : ℕ) → IsOver V clause.now → IsWatching V (length self.old.clauses.given) self.old.clauses.given [] 0 0 (kept_of self.old) singles.old.items self.old.conflict
-            → IsWatching V (length self.new.clauses.given) self.new.clauses.given [] 0 0 (kept_of self.new) singles.new.items self.new.conflict) }
-        ensures lists { length self.new.lists.items ≡ length self.old.lists.items }
+        ensures watching { OnOk result ((w : Watched) × (self.new.clauses.pairs ≡ self.old.clauses.pairs ++ w ∷ [])
+            × ((clause.now ≡ [] → ⊥) → IsPair clause.now w)
+            × ((V : ℕ) (lists : List (List Watch)) → IsOver V clause.now
+            → IsWatching V (length self.old.clauses.given) self.old.clauses.given [] 0 0 (record (kept_of self.old) { lists = lists }) singles.old.items self.old.conflict
+            → IsWatching V (length self.new.clauses.given) self.new.clauses.given [] 0 0 (record (kept_of self.new) { lists = with_clause lists clause.now w (length self.old.clauses.given) }) singles.new.items self.new.conflict)) }
+        ensures few { OnOk result (length self.new.clauses.given ≤ 2 ^ 31) }
+        ensures lists { self.new.lists ≡ self.old.lists }
     {
+        let number = self.clauses.len();
+        if number >= MOST_CLAUSES {
+            return Err(AllocError);
+        }
         match first_two(clause) {
             None => self.attach_empty()?,
             Some(watched) => {
-                let number = self.clauses.len();
-                self.attach(clause, watched)?;
+                self.clauses.push(clause, watched)?;
                 if watched.first.same(&watched.second) {
                     self.units.push(number as u32)?;
                     singles.push(number as u32)?;
                 }
             }
         }
+        Ok(())
+    }
+
+    /// Puts a clause at the end, before anything is decided: it is watched, and noted where it is
+    /// empty or of one literal.
+    fn attach_first(&mut self, clause: &[Lit], singles: &mut Vec<u32>) -> Result<(), AllocError>
+        requires lists { (V : ℕ) × IsOver V clause.now × (length self.old.lists.items ≡ 2 * V + 2) }
+        ensures clauses { OnOk result (self.new.clauses.given ≡ self.old.clauses.given ++ clause.now ∷ []) }
+        ensures watching { OnOk result ((V : ℕ) → IsOver V clause.now → IsWatching V (length self.old.clauses.given) self.old.clauses.given [] 0 0 (kept_of self.old) singles.old.items self.old.conflict
+            → IsWatching V (length self.new.clauses.given) self.new.clauses.given [] 0 0 (kept_of self.new) singles.new.items self.new.conflict) }
+        ensures lists { OnOk result (length self.new.lists.items ≡ length self.old.lists.items) }
+    {
+        let number = self.clauses.len();
+        self.hold(clause, singles)?;
+        self.list_clause(ListRange::ALL, number)?;
         Ok(())
     }
 
@@ -230,21 +255,24 @@ impl Propagator {
         }
     }
 
-    /// Attaches the formula's clauses, before anything is decided, and notes those of one literal.
+    /// Attaches the formula's clauses, the first ones, before anything is decided, and notes those
+    /// of one literal.
     pub fn attach_all(
         &mut self,
         formula: &Formula,
         singles: &mut Vec<u32>,
     ) -> Result<(), AllocError>
-        requires over { length self.old.lists.items ≡ 2 * formula.now.vars + 2 }
-        ensures clauses { OnOk result (self.new.clauses.given ≡ self.old.clauses.given ++ formula.now.clauses) }
-        ensures watching { OnOk result (IsWatching formula.now.vars (length self.old.clauses.given) self.old.clauses.given [] 0 0 (kept_of self.old) singles.old.items self.old.conflict
-            → IsWatching formula.now.vars (length self.new.clauses.given) self.new.clauses.given [] 0 0 (kept_of self.new) singles.new.items self.new.conflict) }
-        ensures lists { length self.new.lists.items ≡ length self.old.lists.items }
+        requires none { self.old.clauses.given ≡ [] }
+        requires watching { IsWatching formula.now.vars 0 [] [] 0 0 (kept_of self.old) singles.old.items self.old.conflict }
+        ensures clauses { OnOk result (self.new.clauses.given ≡ formula.now.clauses) }
+        ensures watching { OnOk result (IsWatching formula.now.vars (length self.new.clauses.given) self.new.clauses.given [] 0 0 (kept_of self.new) singles.new.items self.new.conflict) }
+        ensures lists { OnOk result (length self.new.lists.items ≡ length self.old.lists.items) }
     {
+        let _vars = formula.vars(); // it ensures what the proof needs of the clauses
         for place in 0..formula.clause_count() {
-            self.attach_first(formula.clause(place), singles)?;
+            self.hold(formula.clause(place), singles)?;
         }
+        self.list_all()?;
         Ok(())
     }
 

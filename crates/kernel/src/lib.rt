@@ -12,6 +12,7 @@ mod forget;
 mod kernel;
 mod last_false;
 mod line;
+mod listing;
 mod named;
 mod number_stack;
 mod numbered;

@@ -59,6 +59,28 @@ number-pushed old mid new n fits e high h =
     let v : (row mid).value ≡ n / 128 = ap (λ (p : Part). p.value) m in
     ap row e ∙ row-push mid (n % 128) ∙ last-byte (row mid) n fits v ∙ ap (λ (p : Part). with_number (between p 0 false) n) m ∙ ap (λ (p : Part). with_number p n) (between-again (row old) h)
 
+-- a number below 128 has no high bits
+none-high : (old : List ℕ) (n : ℕ) → n < 128 → HasHigh old old (n / 128)
+none-high old n small between = go (n / 128) quotient
+  where
+    quotient : n / 128 ≡ 0
+    quotient = omega (arith, small)
+
+    go : (q : ℕ) → q ≡ 0 → row old ≡ record (row old) { value = q; begun = nat_lt 0 q }
+    go q e = rw e (sym (between-again (row old) between))
+
+pub one-high-pushed : (old new : List ℕ) (n : ℕ) → n < 128 → 0 < n → new ≡ old ++ (n + 128) ∷ [] → HasHigh old new n
+one-high-pushed old new n small some e = high-pushed old old new n (omega (arith, small)) some (e ∙ ap (λ b. old ++ (b + 128) ∷ []) (rest n small)) (none-high old n small)
+  where
+    rest : (n : ℕ) → n < 128 → n ≡ n % 128
+    rest n h = omega (arith, h)
+
+pub one-pushed : (old new : List ℕ) (n : ℕ) → n < 128 → new ≡ old ++ n ∷ [] → IsBetween (row old) → row new ≡ with_number (row old) n
+one-pushed old new n small e = number-pushed old old new n (omega (arith, small)) (e ∙ ap (λ b. old ++ b ∷ []) (rest n small)) (none-high old n small)
+  where
+    rest : (n : ℕ) → n < 128 → n ≡ n % 128
+    rest n h = omega (arith, h)
+
 -- a byte ends one line at most
 line-ends : (p : Part) (n : ℕ) → length (with_number p n).lines ≤ length p.lines + 1
 line-ends p n = go (nat_eq n 0) p.in_hints refl refl

@@ -4,4 +4,4 @@ use Rattle.lines.proofs.number.+push_high.Goals as goal
 
 pub returns-clause-value : goal.returns-clause-value
 returns-clause-value t c =
-    high-pushed c.args.bytes.now.items c.push_high.new.bytes.items c.push.new.self.items c.args.number c.ranges.number.fits (omega (arith, c.if-number-eq0.false)) c.in_ok-push.ensures.items c.in_ok-push_high.ensures.value
+    high-pushed c.args.bytes.now.items c.push_high.new.bytes.items c.push.new.self.items c.args.number c.ranges.number.fits (omega (arith, c.if-number-lt128.false)) c.in_ok-push.ensures.items c.in_ok-push_high.ensures.value
