@@ -1,6 +1,7 @@
 pub mod TournamentLemmas
 pub mod RaisedScores
 pub mod RankingLemmas
+pub mod GainsAtOnce
 pub mod WaitingOnes
 pub mod RankingViews
 pub mod RecentGlues

@@ -9,13 +9,13 @@ use Rattle.heuristics.specs.Tournaments.{IsPlayedBut}
 use Rattle.heuristics.specs.Rankings.{AreRanked, AreDistinct}
 
 -- a number that is put at the end
-any-before : (p : ℕ → Bool) (xs ys : List ℕ) → list_any p xs ≡ true → list_any p (xs ++ ys) ≡ true
+pub any-before : (p : ℕ → Bool) (xs ys : List ℕ) → list_any p xs ≡ true → list_any p (xs ++ ys) ≡ true
 any-before p xs ys h = list_any-append p xs ys ∙ or-left (list_any p xs) (list_any p ys) h
 
-any-last : (v : ℕ) (xs : List ℕ) → list_any (nat_eq v) (xs ++ v ∷ []) ≡ true
+pub any-last : (v : ℕ) (xs : List ℕ) → list_any (nat_eq v) (xs ++ v ∷ []) ≡ true
 any-last v xs = list_any-append (nat_eq v) xs (v ∷ []) ∙ or-right (list_any (nat_eq v) xs) (list_any (nat_eq v) (v ∷ [])) (or-left (nat_eq v v) false (eq-eqb v v refl))
 
-within-push : (n v : ℕ) (G : List ℕ) → v < n → ((i : ℕ) → slice_index G i < n) → (i : ℕ) → slice_index (G ++ v ∷ []) i < n
+pub within-push : (n v : ℕ) (G : List ℕ) → v < n → ((i : ℕ) → slice_index G i < n) → (i : ℕ) → slice_index (G ++ v ∷ []) i < n
 within-push n v G less h i = elim (cases_lt i (length G)) [
   | inl before ↦ subst (λ y. y < n) (sym (get_or_append_left G (v ∷ []) 0 i before)) (h i)
   | inr least ↦ elim (cases_eq i (length G)) [
@@ -55,7 +55,7 @@ AreRanked-noted S W G X H v x inside h played e = rw e (record {
 })
 
 -- a list of distinct numbers so far doesn't have the next one
-not-before : (x : ℕ) (xs : List ℕ) (k : ℕ) → ((i : ℕ) → i < k → i < length xs → slice_index xs i ≢ x) → list_any (nat_eq x) (take k xs) ≡ false
+pub not-before : (x : ℕ) (xs : List ℕ) (k : ℕ) → ((i : ℕ) → i < k → i < length xs → slice_index xs i ≢ x) → list_any (nat_eq x) (take k xs) ≡ false
 not-before x xs zero h = refl
 not-before x [] (suc k) h = refl
 not-before x (y ∷ xs) (suc k) h = go (nat_eq x y) refl (not-before x xs k (λ i l m. h (suc i) (omega arith) (omega arith)))

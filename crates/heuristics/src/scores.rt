@@ -1,5 +1,5 @@
 //! The scores of variables, by which the focused search decides and splits.
-ghost use Rattle.std.specs.Prelude.{◌≡◌, ◌<◌, ◌≤◌, ◌+◌, ◌/◌, ◌^◌, ℕ, true, false, map, drop, length, slice_index, slice_set, nat_eq, IfOk, OnOk, if◌then◌else◌};
+ghost use Rattle.std.specs.Prelude.{◌≡◌, ◌≢◌, ◌<◌, ◌≤◌, ◌+◌, ◌/◌, ◌^◌, ℕ, true, false, map, drop, length, slice_index, slice_set, nat_eq, IfOk, OnOk, if◌then◌else◌};
 ghost use Rattle.std.specs.List.{list_any};
 ghost use Rattle.theory.specs.Literals.{IsVariable};
 ghost use Rattle.std.specs.Prelude.{List, All};
@@ -13,6 +13,12 @@ use crate::constants::Constants;
 use crate::tournament::{enter, play_all, raise, rescore};
 use std::alloc::{AllocError, Global};
 use std::marker::Model;
+
+/// Where one in so many variables or more gains, all matches are played once. Seen on a formula of
+/// 45,000 variables, a match then takes some 3 ns, since they go through memory in order, and a gain
+/// by itself some 50, up a path through far places. So both ways take as long at one in sixteen,
+/// and an eighth is well past that.
+const LARGE_PART: usize = 8;
 
 /// The scores of the variables 1 to so many, the step that a score gains, and which variables wait
 /// to be chosen.
@@ -77,9 +83,9 @@ fn gain(
     Ok(())
 }
 
-/// Adds a step to the score of each variable of a list. Where memory runs out, only those before
-/// gain it.
-fn gain_all(
+/// Adds a step to the score of each variable of a list, and plays its matches again, one after the
+/// other. Where memory runs out, only those before gain it.
+fn gain_each(
     scores: &mut [u64],
     winners: &mut [u32],
     gained: &mut Vec<u32>,
@@ -98,6 +104,89 @@ fn gain_all(
 {
     for variable in seen {
         gain(scores, winners, gained, *variable, step)?;
+    }
+    Ok(())
+}
+
+/// Notes each variable of a list that has the score 0 yet. Where memory runs out, only those before
+/// are noted.
+fn note_first_gains(scores: &[u64], gained: &mut Vec<u32>, seen: &[u32]) -> Result<(), AllocError>
+    requires within { (i : ℕ) → slice_index gained.old.items i < length scores.now }
+    requires gained { (v : ℕ) → slice_index scores.now v ≢ 0 → list_any (nat_eq v) gained.old.items ≡ true }
+    requires variables { (i : ℕ) → i < length seen.now → slice_index seen.now i < length scores.now }
+    ensures within { (i : ℕ) → slice_index gained.new.items i < length scores.now }
+    ensures gained { (v : ℕ) → slice_index scores.now v ≢ 0 → list_any (nat_eq v) gained.new.items ≡ true }
+    ensures noted { OnOk result ((v : ℕ) → list_any (nat_eq v) seen.now ≡ true →
+        list_any (nat_eq v) gained.new.items ≡ true) }
+{
+    for variable in seen {
+        if scores[*variable as usize] == 0 {
+            gained.push(*variable)?;
+        }
+    }
+    Ok(())
+}
+
+/// Adds a step to the score of each variable of a list, and plays no match.
+fn add_to_all(scores: &mut [u64], seen: &[u32], step: u64)
+    requires variables { (i : ℕ) → i < length seen.now → slice_index seen.now i < length scores.old }
+    requires distinct { AreDistinct seen.now }
+    requires room { (v : ℕ) → slice_index scores.old v + step < 2 ^ 64 }
+    ensures { (v : ℕ) → v < length scores.old → slice_index scores.new v ≡
+        slice_index scores.old v + (if list_any (nat_eq v) seen.now then step else 0) }
+{
+    for variable in seen {
+        scores[*variable as usize] += step;
+    }
+}
+
+/// Adds a step to the score of each variable of a list, and then plays all matches. Where memory
+/// runs out, none gains it: they are noted before, so that no score changes without its matches.
+fn gain_at_once(
+    scores: &mut [u64],
+    winners: &mut [u32],
+    gained: &mut Vec<u32>,
+    seen: &[u32],
+    step: u64,
+) -> Result<(), AllocError>
+    requires ranked { AreRanked scores.old winners.old gained.old.items }
+    requires variables { (i : ℕ) → i < length seen.now →
+        (1 ≤ slice_index seen.now i) × (slice_index seen.now i < length scores.old) }
+    requires distinct { AreDistinct seen.now }
+    requires room { (v : ℕ) → slice_index scores.old v + step < 2 ^ 64 }
+    ensures ranked { AreRanked scores.new winners.new gained.new.items }
+    ensures leaves { drop (length scores.old) winners.new ≡ drop (length scores.old) winners.old }
+    ensures gained { OnOk result ((v : ℕ) → v < length scores.old → slice_index scores.new v ≡
+        slice_index scores.old v + (if list_any (nat_eq v) seen.now then step else 0)) }
+{
+    note_first_gains(scores, gained, seen)?;
+    add_to_all(scores, seen, step);
+    play_all(scores, winners);
+    Ok(())
+}
+
+/// Adds a step to the score of each variable of a list. Where memory runs out, only some gain it.
+fn gain_all(
+    scores: &mut [u64],
+    winners: &mut [u32],
+    gained: &mut Vec<u32>,
+    seen: &[u32],
+    step: u64,
+) -> Result<(), AllocError>
+    requires ranked { AreRanked scores.old winners.old gained.old.items }
+    requires variables { (i : ℕ) → i < length seen.now →
+        (1 ≤ slice_index seen.now i) × (slice_index seen.now i < length scores.old) }
+    requires distinct { AreDistinct seen.now }
+    requires room { (v : ℕ) → slice_index scores.old v + step < 2 ^ 64 }
+    ensures ranked { AreRanked scores.new winners.new gained.new.items }
+    ensures leaves { drop (length scores.old) winners.new ≡ drop (length scores.old) winners.old }
+    ensures gained { OnOk result ((v : ℕ) → v < length scores.old → slice_index scores.new v ≡
+        slice_index scores.old v + (if list_any (nat_eq v) seen.now then step else 0)) }
+{
+    if seen.len() < scores.len() / LARGE_PART {
+        gain_each(scores, winners, gained, seen, step)?;
+    } else {
+        gain_at_once(scores, winners, gained, seen, step)?;
     }
     Ok(())
 }
@@ -179,7 +268,8 @@ impl Scores {
     /// Takes a conflict that has seen these variables, distinct ones: each one's score gains the
     /// step, which then grows; where it comes to the greatest one, it and all scores are divided.
     /// Where memory runs out, some of them have gained, and which ones wait stays. It takes
-    /// logarithmic time for each of them, and time by all variables where it divides.
+    /// logarithmic time for each of them, or time by all variables where they are an eighth of
+    /// these, and where it divides.
     pub fn learn_from(&mut self, seen: &[u32]) -> Result<(), AllocError>
         requires variables { (i : ℕ) → i < length seen.now → IsVariable (vars_of self.old) (slice_index seen.now i) }
         requires distinct { AreDistinct seen.now }

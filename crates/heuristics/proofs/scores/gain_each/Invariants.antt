@@ -1,7 +1,7 @@
 use Rattle.std.proofs.Common.{◌≡◌, ℕ, ◌+◌, ◌<◌, length, drop, take, slice_index, nat_eq, if◌then◌else◌}
 use Rattle.std.specs.List.{list_any}
 use Rattle.heuristics.specs.Rankings.{AreRanked}
-use Rattle.heuristics.proofs.scores.gain_all.Given as goal
+use Rattle.heuristics.proofs.scores.gain_each.Given as goal
 
 -- those so far gained a step
 abbrev pub invariant-loop-variable : goal.invariant-loop-variable

@@ -1,6 +1,6 @@
 use Rattle.std.proofs.Common.{◌≡◌, ◌^◌, ◌∙◌, length, drop, arith}
 use Rattle.heuristics.proofs.RankingLemmas.{gained-more, room-left}
-use Rattle.heuristics.proofs.scores.gain_all.Goals as goal
+use Rattle.heuristics.proofs.scores.gain_each.Goals as goal
 
 pub gain-requires-clause-room : goal.gain-requires-clause-room
 gain-requires-clause-room c =
