@@ -1,7 +1,9 @@
 //! Packs as files. A pack's name is made of what it holds, so that no other one overwrites it, and
 //! so that one that was cut or changed is known.
-ghost use Rattle.std.specs.Prelude.{All};
+ghost use Rattle.std.specs.Prelude.{◌≡◌, ◌++◌, All, IfOk, IfSome, string_bytes};
+ghost use Rattle.packs.specs.Packs.{IsPackOf};
 ghost use Rattle.gathering.specs.Facts.{IsTrueFact};
+ghost use Rattle.spread.specs.PackFiles.{head, IsPackFile, IsTruePackFile};
 
 use crate::files::{read_file, write_file};
 use crate::folder::Folder;
@@ -19,18 +21,33 @@ use std::{fs, io};
 const ENDING: &str = ".pack";
 
 /// The first line of the packs of a run.
-fn head_of(alloc: Global, run: &RunFile) -> Result<String, AllocError> {
+fn head_of(alloc: Global, run: &RunFile) -> Result<String, AllocError>
+    ensures { IfOk result (λ line. string_bytes line ≡ head (string_bytes run.now.sum)) }
+{
     let sum = run.sum.as_str();
     format!(in alloc; "cubesat pack 1 {sum}\n")
 }
 
-/// The bytes of a pack with these facts.
-fn bytes_of(alloc: Global, run: &RunFile, facts: &[Fact]) -> Result<Vec<u8>, AllocError> {
-    let head = head_of(alloc, run)?;
-    let mut bytes = Vec::from_slice(alloc, head.as_bytes())?;
+/// The bytes of these facts, one behind the other.
+fn bodies_of(alloc: Global, facts: &[Fact]) -> Result<Vec<u8>, AllocError>
+    ensures { IfOk result (λ bytes. IsPackOf bytes.items facts.now) }
+{
+    let mut bytes = Vec::new(alloc);
     for fact in facts {
         write_fact(&mut bytes, fact)?;
     }
+    Ok(bytes)
+}
+
+/// The bytes of a pack with these facts.
+fn bytes_of(alloc: Global, run: &RunFile, facts: &[Fact]) -> Result<Vec<u8>, AllocError>
+    ensures { IfOk result (λ bytes. IsPackFile (string_bytes run.now.sum) bytes.items facts.now) }
+{
+    let line = head_of(alloc, run)?;
+    let line = line.as_bytes();
+    let mut bytes = bodies_of(alloc, facts)?;
+    bytes.extend_from_slice(line)?;
+    bytes.rotate_right(line.len()); // so a pack isn't in memory twice
     Ok(bytes)
 }
 
@@ -42,21 +59,40 @@ fn path_of(alloc: Global, folder: Folder, bytes: &[u8]) -> Result<String, AllocE
     folder.pack(alloc, name.as_str())
 }
 
-/// Writes a pack with these facts. Two that write the same one at once are in each other's way, and
-/// it is there in the end.
+/// Writes a pack, whose facts are true ones of the run's formula. Two that write the same one at once
+/// are in each other's way, and it is there in the end.
+fn put_bytes<R: Files>(
+    rt: &R,
+    alloc: Global,
+    folder: Folder,
+    run: &RunFile,
+    formula: &Formula,
+    bytes: &[u8],
+) -> io::Result<()>
+    requires { IsTruePackFile formula.now run.now.plan (string_bytes run.now.sum) bytes.now }
+{
+    let _run = run; // it is there for the contract alone, and so is the formula
+    let _formula = formula;
+    let path = path_of(alloc, folder, bytes)?;
+    match write_file(rt, alloc, path.as_str(), bytes) {
+        Err(error) if error.kind() == ErrorKind::ResourceBusy => Ok(()),
+        written => written,
+    }
+}
+
+/// Writes a pack with these facts, which are true ones of the run's formula.
 fn put<R: Files>(
     rt: &R,
     alloc: Global,
     folder: Folder,
     run: &RunFile,
+    formula: &Formula,
     facts: &[Fact],
-) -> io::Result<()> {
+) -> io::Result<()>
+    requires { All (IsTrueFact formula.now run.now.plan) facts.now }
+{
     let bytes = bytes_of(alloc, run, facts)?;
-    let path = path_of(alloc, folder, &bytes)?;
-    match write_file(rt, alloc, path.as_str(), &bytes) {
-        Err(error) if error.kind() == ErrorKind::ResourceBusy => Ok(()),
-        written => written,
-    }
+    put_bytes(rt, alloc, folder, run, formula, &bytes)
 }
 
 /// Writes a pack with these facts, which are true ones of the run's formula, if there are any, or
@@ -72,11 +108,10 @@ pub(crate) fn write_pack<R: Files, E: Write>(
 ) -> Result<(), Said>
     requires { All (IsTrueFact formula.now run.now.plan) facts.now }
 {
-    let _formula = formula; // it is there for the contract alone
     if facts.is_empty() {
         return Ok(());
     }
-    match put(rt, alloc, folder, run, facts) {
+    match put(rt, alloc, folder, run, formula, facts) {
         Ok(()) => Ok(()),
         Err(error) => Err(say_error(faults, folder.path, error)),
     }
@@ -107,7 +142,9 @@ fn body_of(
     run: &RunFile,
     name: &str,
     bytes: &[u8],
-) -> Result<Option<Vec<u8>>, AllocError> {
+) -> Result<Option<Vec<u8>>, AllocError>
+    ensures { IfOk result (λ o. IfSome o (λ body. bytes.now ≡ head (string_bytes run.now.sum) ++ body.items)) }
+{
     let sum = sum_of(alloc, bytes)?;
     let head = head_of(alloc, run)?;
     let is_whole = name.strip_suffix(ENDING) == Some(sum.as_str());
