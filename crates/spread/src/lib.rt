@@ -7,6 +7,7 @@ mod cube_text;
 mod dividing;
 mod files;
 mod folder;
+mod left_open;
 mod models;
 mod open_cubes;
 mod pack_file;

@@ -11,7 +11,7 @@ use crate::run_file::RunFile;
 use crate::said::{Said, say, say_error, say_no_memory};
 use crate::sums::sum_of;
 use cnf::Formula;
-use packs::{Fact, Pack, read_pack, write_fact};
+use packs::{Fact, write_fact};
 use std::alloc::{AllocError, Global};
 use std::fs::Files;
 use std::io::{ErrorKind, Write};
@@ -156,7 +156,7 @@ fn body_of(
 
 /// The body of a pack, if it can be read and is whole; if not, that is said, and it counts as
 /// missing.
-fn read_body<R: Files, E: Write>(
+pub(crate) fn read_body<R: Files, E: Write>(
     rt: &R,
     alloc: Global,
     folder: Folder,
@@ -201,6 +201,22 @@ fn read_bodies<R: Files, E: Write>(
     Ok(bodies)
 }
 
+/// The names of the packs of a run, in their order, or why they can't be told, which is said.
+pub(crate) fn packs_of<R: Files + Alloc + Clone + Drop, E: Write>(
+    rt: &R,
+    alloc: Global,
+    folder: Folder,
+    faults: &mut E,
+) -> Result<Vec<String>, Said> {
+    let Ok(path) = folder.packs(alloc) else {
+        return Err(say_no_memory(faults, folder.path));
+    };
+    match names_in(rt, alloc, path.as_str()) {
+        Ok(names) => Ok(names),
+        Err(error) => Err(say_error(faults, path.as_str(), error)),
+    }
+}
+
 /// What stands in the packs of a run, in the order of their names. A pack that can't be read, is
 /// damaged or is another run's is named, and counts as missing. It takes memory for all packs.
 pub fn bodies_in<R: Files + Alloc + Clone + Drop, E: Write>(
@@ -210,31 +226,9 @@ pub fn bodies_in<R: Files + Alloc + Clone + Drop, E: Write>(
     run: &RunFile,
     faults: &mut E,
 ) -> Result<Vec<Vec<u8>>, Said> {
-    let Ok(path) = folder.packs(alloc) else {
-        return Err(say_no_memory(faults, folder.path));
-    };
-    let names = match names_in(rt, alloc, path.as_str()) {
-        Ok(names) => names,
-        Err(error) => return Err(say_error(faults, path.as_str(), error)),
-    };
+    let names = packs_of(rt, alloc, folder, faults)?;
     match read_bodies(rt, alloc, folder, run, &names, faults) {
         Ok(bodies) => Ok(bodies),
-        Err(_) => Err(say_no_memory(faults, path.as_str())),
+        Err(_) => Err(say_no_memory(faults, folder.path)),
     }
-}
-
-/// The facts of the bodies of packs, over so many variables. Those that can't be read are left out.
-pub(crate) fn facts_of(
-    alloc: Global,
-    vars: u32,
-    bodies: &[Vec<u8>],
-) -> Result<Vec<Fact>, AllocError> {
-    let mut facts = Vec::new(alloc);
-    for body in bodies {
-        let Pack { facts: read, .. } = read_pack(alloc, vars, body)?;
-        for fact in read {
-            facts.push(fact)?;
-        }
-    }
-    Ok(facts)
 }
