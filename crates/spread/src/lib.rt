@@ -21,5 +21,5 @@ pub use conquering::{Ended, Slice, conquer};
 pub use dividing::{Progress, divide, divide_again};
 pub use folder::Folder;
 pub use pack_file::bodies_in;
-pub use run_file::{RunFile, formula_in, run_in};
+pub use run_file::{RunFile, formula_bytes_in, run_in};
 pub use said::Said;
