@@ -14,12 +14,12 @@ use noticed::{NoticedReader, NoticedWriter};
 use runs::{Gathered, PackCounts, RunFault, Verdict, gather_within};
 use spread::{
     Ended, Folder, Progress, RunFile, Said, Slice, bodies_in, conquer, divide, divide_again,
-    formula_in, run_in,
+    formula_bytes_in, run_in,
 };
 use std::alloc::Global;
 use std::fs::Files;
 use std::io;
-use std::io::{Empty, Read, Write};
+use std::io::{Empty, Write};
 use std::time::Clock;
 
 /// The status where cubes are open, and where a part is solved.
@@ -94,53 +94,65 @@ fn end_gather<R: Files, E: Write>(
     }
 }
 
+/// What the folder of a run holds.
+#[derive(Drop)]
+struct Held {
+    run: RunFile,
+    /// The formula's bytes, and what stands in the packs.
+    formula: Vec<u8>,
+    bodies: Vec<Vec<u8>>,
+}
+
 /// Gathers the result of a run from what its packs have; the status.
-fn gather_opened<R: Files, I: Read + Drop, W: Write, E: Write>(
+fn gather_opened<R: Files, W: Write, E: Write>(
     rt: &R,
     alloc: Global,
-    run: &RunFile,
-    bodies: &[Vec<u8>],
-    formula: Opened<'_, I>,
+    held: &Held,
+    formula: &str,
     proof: Opened<'_, PlacedProof<'_, R>>,
     stats: bool,
     answer: &mut W,
     faults: &mut E,
 ) -> u8 {
-    let mut input = NoticedReader::of(formula.file);
+    let mut input = NoticedReader::of(held.formula.as_slice());
     let mut output = NoticedWriter::of(proof.file);
     let mut answer = NoticedWriter::of(answer);
     let gathered = gather_within(
         alloc,
         &mut input,
-        run.limits,
-        bodies,
+        held.run.limits,
+        &held.bodies,
         &mut answer,
         &mut output,
-        run.plan,
+        held.run.plan,
     );
     let known = Known {
-        formula: formula.path,
+        formula,
         proof: proof.path,
         beginning: input.beginning(),
         formula_error: input.error(),
         proof_error: output.error(),
         answer_error: answer.error(),
-        limits: run.limits,
+        limits: held.run.limits,
     };
     end_gather(rt, faults, gathered, &known, stats)
 }
 
-/// The run, and what stands in its packs; the formula is the one of the run.
-fn packs_in<R: Files + Alloc + Clone + Drop, E: Write>(
+/// What the folder of a run holds; the formula is the one of the run.
+fn held_in<R: Files + Alloc + Clone + Drop, E: Write>(
     rt: &R,
     alloc: Global,
     folder: Folder<'_>,
     faults: &mut E,
-) -> Result<(RunFile, Vec<Vec<u8>>), Said> {
+) -> Result<Held, Said> {
     let run = run_in(rt, alloc, folder, faults)?;
-    let _ = formula_in(rt, alloc, folder, &run, faults)?;
+    let formula = formula_bytes_in(rt, alloc, folder, &run, faults)?;
     let bodies = bodies_in(rt, alloc, folder, &run, faults)?;
-    Ok((run, bodies))
+    Ok(Held {
+        run,
+        formula,
+        bodies,
+    })
 }
 
 /// Gathers the result of a run, with its proof written to a file; the status.
@@ -153,13 +165,14 @@ fn gather<R: Files + Alloc + Clone + Drop, W: Write, E: Write>(
     answer: &mut W,
     faults: &mut E,
 ) -> u8 {
-    let Ok((run, bodies)) = packs_in(rt, alloc, folder, faults) else {
+    let Ok(held) = held_in(rt, alloc, folder, faults) else {
         return FAILED;
     };
     let Ok(file) = folder.formula(alloc) else {
         return print_no_memory(faults, folder.path, false);
     };
     let file = file.as_str();
+    // it was read; it is opened so that the proof isn't written over it
     let input: Input<R::File, Empty> = match open_input(rt, file, &mut None) {
         Ok(input) => input,
         Err(error) => return print_not_opened(faults, file, error, false),
@@ -168,13 +181,7 @@ fn gather<R: Files + Alloc + Clone + Drop, W: Write, E: Write>(
         Ok(placed) => Opened { path, file: placed },
         Err(why) => return print_not_begun(faults, why, file, path, false),
     };
-    let formula = Opened {
-        path: file,
-        file: input,
-    };
-    gather_opened(
-        rt, alloc, &run, &bodies, formula, proof, stats, answer, faults,
-    )
+    gather_opened(rt, alloc, &held, file, proof, stats, answer, faults)
 }
 
 /// The plan of a run, if its numbers are in their ranges, as those of a command line are.

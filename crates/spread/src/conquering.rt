@@ -3,7 +3,9 @@ ghost use Rattle.std.specs.Prelude.{◌≡◌, All, OnOk};
 ghost use Rattle.gathering.specs.Facts.{IsTrueFact};
 
 use crate::folder::Folder;
+use crate::left_open::left_open;
 use crate::models::{is_needless, note_model};
+use crate::open_cubes::OpenCubes;
 use crate::pack_file::write_pack;
 use crate::round_file::read_round;
 use crate::run_file::{RunFile, formula_in, run_in};
@@ -230,7 +232,7 @@ fn go_on<R: Files + Clock + Alloc + Clone + Drop, E: Write>(
 }
 
 /// The cubes of a part, the last one first.
-fn way_of(alloc: Global, cubes: Vec<Cube>, slice: Slice) -> Result<Vec<Cube>, AllocError> {
+fn part_of(alloc: Global, cubes: Vec<Cube>, slice: Slice) -> Result<Vec<Cube>, AllocError> {
     let parts = slice.parts.max(1);
     let mut way = Vec::new(alloc);
     let mut part = 1;
@@ -244,10 +246,32 @@ fn way_of(alloc: Global, cubes: Vec<Cube>, slice: Slice) -> Result<Vec<Cube>, Al
     Ok(way)
 }
 
-/// Solves the cubes of a part of a round, from left to right, with what their splits leave, and
-/// writes what was found; after so many minutes the cubes that are left stay open. It ends at a
-/// model, and where one is known left of the next cube, since the part's other cubes lie right of
-/// it. It can be stopped at any moment, and started twice.
+/// What the packs leave open of a part of a round, the last cube first, or why that can't be told,
+/// which is said.
+fn left_of_part<R: Files + Alloc + Clone + Drop, E: Write>(
+    rt: &R,
+    alloc: Global,
+    folder: Folder,
+    run: &RunFile,
+    formula: &Formula,
+    round: u32,
+    slice: Slice,
+    faults: &mut E,
+) -> Result<Vec<Cube>, Said> {
+    let cubes = read_round(rt, alloc, folder, round, formula, faults)?;
+    let Ok(part) = part_of(alloc, cubes, slice) else {
+        return Err(say_no_memory(faults, folder.path));
+    };
+    let OpenCubes { mut cubes, .. } = left_open(rt, alloc, folder, run, formula, part, faults)?;
+    cubes.reverse();
+    Ok(cubes)
+}
+
+/// Solves what the packs of a run leave open of a part of a round, from left to right, with what
+/// splits leave, and writes what was found; after so many minutes the cubes that are left stay open.
+/// It ends at a model, and where one is known left of the next cube, since the part's other cubes lie
+/// right of it. It can be stopped at any moment, and started twice: it goes on from what was written.
+/// It reads all packs once, at its beginning.
 pub fn conquer<R: Files + Clock + Alloc + Clone + Drop, E: Write>(
     rt: &R,
     alloc: Global,
@@ -259,10 +283,7 @@ pub fn conquer<R: Files + Clock + Alloc + Clone + Drop, E: Write>(
 ) -> Result<Ended, Said> {
     let run = run_in(rt, alloc, folder, faults)?;
     let formula = formula_in(rt, alloc, folder, &run, faults)?;
-    let cubes = read_round(rt, alloc, folder, round, &formula, faults)?;
-    let Ok(mut way) = way_of(alloc, cubes, slice) else {
-        return Err(say_no_memory(faults, folder.path));
-    };
+    let mut way = left_of_part(rt, alloc, folder, &run, &formula, round, slice, faults)?;
     let seconds = match minutes {
         Some(minutes) => u64::from(minutes) * 60,
         None => u64::MAX,

@@ -5,8 +5,8 @@ ghost use Rattle.gathering.specs.Facts.{IsTrueFact};
 use crate::breadth::{Division, by_breadth};
 use crate::files::{read_file, write_file};
 use crate::folder::Folder;
-use crate::open_cubes::{OpenCubes, open_cubes};
-use crate::pack_file::{bodies_in, facts_of, write_pack};
+use crate::left_open::left_open;
+use crate::pack_file::write_pack;
 use crate::round_file::{next_round, write_round};
 use crate::run_file::{RunFile, formula_in, formula_of, run_in, run_of, run_text};
 use crate::said::{Said, say, say_error, say_no_memory};
@@ -173,14 +173,11 @@ pub fn divide<R: Files, E: Write>(
     )
 }
 
-/// The cubes that the packs of a run leave open.
-fn left_open(
-    alloc: Global,
-    formula: &Formula,
-    bodies: &[Vec<u8>],
-) -> Result<OpenCubes, AllocError> {
-    let facts = facts_of(alloc, formula.vars(), bodies)?;
-    open_cubes(alloc, formula, &facts)
+/// The cube without literals, by itself.
+fn root_alone(alloc: Global) -> Result<Vec<Cube>, AllocError> {
+    let mut way = Vec::new(alloc);
+    way.push(Cube::root(alloc))?;
+    Ok(way)
 }
 
 /// Writes the next round of a run: the cubes that its packs leave open. Nothing of what the packs
@@ -193,10 +190,10 @@ pub fn divide_again<R: Files + Alloc + Clone + Drop, E: Write>(
 ) -> Result<Progress, Said> {
     let run = run_in(rt, alloc, folder, faults)?;
     let formula = formula_in(rt, alloc, folder, &run, faults)?;
-    let bodies = bodies_in(rt, alloc, folder, &run, faults)?;
-    let Ok(open) = left_open(alloc, &formula, &bodies) else {
+    let Ok(root) = root_alone(alloc) else {
         return Err(say_no_memory(faults, folder.path));
     };
+    let open = left_open(rt, alloc, folder, &run, &formula, root, faults)?;
     if !open.cubes.is_empty() {
         let number = next_round(rt, alloc, folder, faults)?;
         write_round(rt, alloc, folder, number, &open.cubes, faults)?;

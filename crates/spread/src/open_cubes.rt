@@ -1,4 +1,4 @@
-//! The cubes of a formula that facts leave open.
+//! The cubes that facts leave open.
 
 use cdcl::split;
 use cnf::{Formula, Lit};
@@ -6,7 +6,7 @@ use kernel::Cube;
 use packs::{Claim, Fact};
 use replay::is_fit_split;
 use std::alloc::{AllocError, Global};
-use std::collections::HashMap;
+use std::collections::{HashMap, HashSet};
 
 /// What is said of a cube, without the lines of a refuted one.
 #[derive(Clone, Copy)]
@@ -16,26 +16,77 @@ enum Word {
     Model,
 }
 
-/// What facts say of cubes, by the cubes' literals.
+fn word_of(claim: &Claim) -> Word {
+    match claim {
+        Claim::Split(var) => Word::Split(*var),
+        Claim::Refuted(_) => Word::Refuted,
+        Claim::Model => Word::Model,
+    }
+}
+
+/// Cubes above which nothing is asked for, by their literals.
 #[derive(Drop)]
-struct Words {
+struct Tops {
+    lits: HashSet<Vec<Lit>>,
+    /// How many literals the shortest and the longest one have.
+    shortest: usize,
+    longest: usize,
+}
+
+impl Tops {
+    fn of(alloc: Global, cubes: &[Cube]) -> Result<Tops, AllocError> {
+        let mut tops = Tops {
+            lits: HashSet::new(alloc),
+            shortest: usize::MAX,
+            longest: 0,
+        };
+        for cube in cubes {
+            let lits = cube.lits();
+            tops.lits.insert(Vec::from_slice(alloc, lits)?)?;
+            tops.shortest = tops.shortest.min(lits.len());
+            tops.longest = tops.longest.max(lits.len());
+        }
+        Ok(tops)
+    }
+
+    /// Whether these are the literals of one of them, or of a cube below one.
+    fn are_above(&self, lits: &[Lit]) -> bool {
+        for count in self.shortest..=self.longest.min(lits.len()) {
+            if self.lits.contains(&lits[..count]) {
+                return true;
+            }
+        }
+        false
+    }
+}
+
+/// What facts say of some cubes and those below them, by the cubes' literals. It takes memory by
+/// these.
+#[derive(Drop)]
+pub(crate) struct Words {
+    tops: Tops,
     by_cube: HashMap<Vec<Lit>, Word>,
 }
 
 impl Words {
-    /// What the facts say. Of two facts of one cube the later one serves.
-    fn of(alloc: Global, facts: &[Fact]) -> Result<Words, AllocError> {
-        let mut by_cube = HashMap::new(alloc);
+    /// Words of these cubes and of those below them, of which nothing is said yet.
+    pub(crate) fn of(alloc: Global, cubes: &[Cube]) -> Result<Words, AllocError> {
+        Ok(Words {
+            tops: Tops::of(alloc, cubes)?,
+            by_cube: HashMap::new(alloc),
+        })
+    }
+
+    /// Takes up what facts say. Of two facts of one cube the later one serves.
+    pub(crate) fn add(&mut self, alloc: Global, facts: &[Fact]) -> Result<(), AllocError> {
         for fact in facts {
-            let lits = Vec::from_slice(alloc, fact.cube.lits())?;
-            let word = match &fact.claim {
-                Claim::Split(var) => Word::Split(*var),
-                Claim::Refuted(_) => Word::Refuted,
-                Claim::Model => Word::Model,
-            };
-            by_cube.insert(lits, word)?;
+            let lits = fact.cube.lits();
+            if self.tops.are_above(lits) {
+                let word = word_of(&fact.claim);
+                self.by_cube.insert(Vec::from_slice(alloc, lits)?, word)?;
+            }
         }
-        Ok(Words { by_cube })
+        Ok(())
     }
 
     fn of_cube(&self, cube: &Cube) -> Option<Word> {
@@ -67,20 +118,20 @@ fn put_halves(
     Ok(true)
 }
 
-/// The cubes that the facts, which may be any, leave open: of the tree that they say, those of which
-/// nothing is said, up to the first model that is claimed. It takes time and memory by the facts.
+/// The cubes that facts, which may be any, leave open of those on the way, of which the last one comes
+/// first: of the trees that they say below these, the cubes of which nothing is said, up to the first
+/// model that is claimed. It takes time and memory by the way, and by the facts of its cubes and of
+/// cubes below these.
 pub(crate) fn open_cubes(
     alloc: Global,
     formula: &Formula,
-    facts: &[Fact],
+    words: &Words,
+    mut way: Vec<Cube>,
 ) -> Result<OpenCubes, AllocError> {
-    let words = Words::of(alloc, facts)?;
     let mut open = OpenCubes {
         cubes: Vec::new(alloc),
         has_model: false,
     };
-    let mut way = Vec::new(alloc);
-    way.push(Cube::root(alloc))?;
     for _ in 0..u64::MAX {
         let Some(cube) = way.pop() else {
             break;

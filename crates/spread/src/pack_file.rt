@@ -1,7 +1,9 @@
 //! Packs as files. A pack's name is made of what it holds, so that no other one overwrites it, and
 //! so that one that was cut or changed is known.
-ghost use Rattle.std.specs.Prelude.{All};
+ghost use Rattle.std.specs.Prelude.{◌≡◌, ◌++◌, All, IfOk, IfSome, string_bytes};
+ghost use Rattle.packs.specs.Packs.{IsPackOf};
 ghost use Rattle.gathering.specs.Facts.{IsTrueFact};
+ghost use Rattle.spread.specs.PackFiles.{head, IsPackFile, IsTruePackFile};
 
 use crate::files::{read_file, write_file};
 use crate::folder::Folder;
@@ -9,7 +11,7 @@ use crate::run_file::RunFile;
 use crate::said::{Said, say, say_error, say_no_memory};
 use crate::sums::sum_of;
 use cnf::Formula;
-use packs::{Fact, Pack, read_pack, write_fact};
+use packs::{Fact, write_fact};
 use std::alloc::{AllocError, Global};
 use std::fs::Files;
 use std::io::{ErrorKind, Write};
@@ -19,18 +21,33 @@ use std::{fs, io};
 const ENDING: &str = ".pack";
 
 /// The first line of the packs of a run.
-fn head_of(alloc: Global, run: &RunFile) -> Result<String, AllocError> {
+fn head_of(alloc: Global, run: &RunFile) -> Result<String, AllocError>
+    ensures { IfOk result (λ line. string_bytes line ≡ head (string_bytes run.now.sum)) }
+{
     let sum = run.sum.as_str();
     format!(in alloc; "cubesat pack 1 {sum}\n")
 }
 
-/// The bytes of a pack with these facts.
-fn bytes_of(alloc: Global, run: &RunFile, facts: &[Fact]) -> Result<Vec<u8>, AllocError> {
-    let head = head_of(alloc, run)?;
-    let mut bytes = Vec::from_slice(alloc, head.as_bytes())?;
+/// The bytes of these facts, one behind the other.
+fn bodies_of(alloc: Global, facts: &[Fact]) -> Result<Vec<u8>, AllocError>
+    ensures { IfOk result (λ bytes. IsPackOf bytes.items facts.now) }
+{
+    let mut bytes = Vec::new(alloc);
     for fact in facts {
         write_fact(&mut bytes, fact)?;
     }
+    Ok(bytes)
+}
+
+/// The bytes of a pack with these facts.
+fn bytes_of(alloc: Global, run: &RunFile, facts: &[Fact]) -> Result<Vec<u8>, AllocError>
+    ensures { IfOk result (λ bytes. IsPackFile (string_bytes run.now.sum) bytes.items facts.now) }
+{
+    let line = head_of(alloc, run)?;
+    let line = line.as_bytes();
+    let mut bytes = bodies_of(alloc, facts)?;
+    bytes.extend_from_slice(line)?;
+    bytes.rotate_right(line.len()); // so a pack isn't in memory twice
     Ok(bytes)
 }
 
@@ -42,21 +59,40 @@ fn path_of(alloc: Global, folder: Folder, bytes: &[u8]) -> Result<String, AllocE
     folder.pack(alloc, name.as_str())
 }
 
-/// Writes a pack with these facts. Two that write the same one at once are in each other's way, and
-/// it is there in the end.
+/// Writes a pack, whose facts are true ones of the run's formula. Two that write the same one at once
+/// are in each other's way, and it is there in the end.
+fn put_bytes<R: Files>(
+    rt: &R,
+    alloc: Global,
+    folder: Folder,
+    run: &RunFile,
+    formula: &Formula,
+    bytes: &[u8],
+) -> io::Result<()>
+    requires { IsTruePackFile formula.now run.now.plan (string_bytes run.now.sum) bytes.now }
+{
+    let _run = run; // it is there for the contract alone, and so is the formula
+    let _formula = formula;
+    let path = path_of(alloc, folder, bytes)?;
+    match write_file(rt, alloc, path.as_str(), bytes) {
+        Err(error) if error.kind() == ErrorKind::ResourceBusy => Ok(()),
+        written => written,
+    }
+}
+
+/// Writes a pack with these facts, which are true ones of the run's formula.
 fn put<R: Files>(
     rt: &R,
     alloc: Global,
     folder: Folder,
     run: &RunFile,
+    formula: &Formula,
     facts: &[Fact],
-) -> io::Result<()> {
+) -> io::Result<()>
+    requires { All (IsTrueFact formula.now run.now.plan) facts.now }
+{
     let bytes = bytes_of(alloc, run, facts)?;
-    let path = path_of(alloc, folder, &bytes)?;
-    match write_file(rt, alloc, path.as_str(), &bytes) {
-        Err(error) if error.kind() == ErrorKind::ResourceBusy => Ok(()),
-        written => written,
-    }
+    put_bytes(rt, alloc, folder, run, formula, &bytes)
 }
 
 /// Writes a pack with these facts, which are true ones of the run's formula, if there are any, or
@@ -72,11 +108,10 @@ pub(crate) fn write_pack<R: Files, E: Write>(
 ) -> Result<(), Said>
     requires { All (IsTrueFact formula.now run.now.plan) facts.now }
 {
-    let _formula = formula; // it is there for the contract alone
     if facts.is_empty() {
         return Ok(());
     }
-    match put(rt, alloc, folder, run, facts) {
+    match put(rt, alloc, folder, run, formula, facts) {
         Ok(()) => Ok(()),
         Err(error) => Err(say_error(faults, folder.path, error)),
     }
@@ -107,7 +142,9 @@ fn body_of(
     run: &RunFile,
     name: &str,
     bytes: &[u8],
-) -> Result<Option<Vec<u8>>, AllocError> {
+) -> Result<Option<Vec<u8>>, AllocError>
+    ensures { IfOk result (λ o. IfSome o (λ body. bytes.now ≡ head (string_bytes run.now.sum) ++ body.items)) }
+{
     let sum = sum_of(alloc, bytes)?;
     let head = head_of(alloc, run)?;
     let is_whole = name.strip_suffix(ENDING) == Some(sum.as_str());
@@ -119,7 +156,7 @@ fn body_of(
 
 /// The body of a pack, if it can be read and is whole; if not, that is said, and it counts as
 /// missing.
-fn read_body<R: Files, E: Write>(
+pub(crate) fn read_body<R: Files, E: Write>(
     rt: &R,
     alloc: Global,
     folder: Folder,
@@ -164,6 +201,22 @@ fn read_bodies<R: Files, E: Write>(
     Ok(bodies)
 }
 
+/// The names of the packs of a run, in their order, or why they can't be told, which is said.
+pub(crate) fn packs_of<R: Files + Alloc + Clone + Drop, E: Write>(
+    rt: &R,
+    alloc: Global,
+    folder: Folder,
+    faults: &mut E,
+) -> Result<Vec<String>, Said> {
+    let Ok(path) = folder.packs(alloc) else {
+        return Err(say_no_memory(faults, folder.path));
+    };
+    match names_in(rt, alloc, path.as_str()) {
+        Ok(names) => Ok(names),
+        Err(error) => Err(say_error(faults, path.as_str(), error)),
+    }
+}
+
 /// What stands in the packs of a run, in the order of their names. A pack that can't be read, is
 /// damaged or is another run's is named, and counts as missing. It takes memory for all packs.
 pub fn bodies_in<R: Files + Alloc + Clone + Drop, E: Write>(
@@ -173,31 +226,9 @@ pub fn bodies_in<R: Files + Alloc + Clone + Drop, E: Write>(
     run: &RunFile,
     faults: &mut E,
 ) -> Result<Vec<Vec<u8>>, Said> {
-    let Ok(path) = folder.packs(alloc) else {
-        return Err(say_no_memory(faults, folder.path));
-    };
-    let names = match names_in(rt, alloc, path.as_str()) {
-        Ok(names) => names,
-        Err(error) => return Err(say_error(faults, path.as_str(), error)),
-    };
+    let names = packs_of(rt, alloc, folder, faults)?;
     match read_bodies(rt, alloc, folder, run, &names, faults) {
         Ok(bodies) => Ok(bodies),
-        Err(_) => Err(say_no_memory(faults, path.as_str())),
+        Err(_) => Err(say_no_memory(faults, folder.path)),
     }
-}
-
-/// The facts of the bodies of packs, over so many variables. Those that can't be read are left out.
-pub(crate) fn facts_of(
-    alloc: Global,
-    vars: u32,
-    bodies: &[Vec<u8>],
-) -> Result<Vec<Fact>, AllocError> {
-    let mut facts = Vec::new(alloc);
-    for body in bodies {
-        let Pack { facts: read, .. } = read_pack(alloc, vars, body)?;
-        for fact in read {
-            facts.push(fact)?;
-        }
-    }
-    Ok(facts)
 }

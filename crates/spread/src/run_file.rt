@@ -174,14 +174,14 @@ pub(crate) fn formula_of<E: Write>(
     Err(Said)
 }
 
-/// The formula of a run, or why it can't be read, which is said.
-pub fn formula_in<R: Files, E: Write>(
+/// The bytes of a run's formula, or why they can't be read or are another one's, which is said.
+pub fn formula_bytes_in<R: Files, E: Write>(
     rt: &R,
     alloc: Global,
     folder: Folder,
     run: &RunFile,
     faults: &mut E,
-) -> Result<Formula, Said> {
+) -> Result<Vec<u8>, Said> {
     let Ok(path) = folder.formula(alloc) else {
         return Err(say_no_memory(faults, folder.path));
     };
@@ -200,5 +200,20 @@ pub fn formula_in<R: Files, E: Write>(
             "it has changed since the run began; put the formula of the run back",
         ));
     }
-    formula_of(alloc, path, &bytes, run.limits, faults)
+    Ok(bytes)
+}
+
+/// The formula of a run, or why it can't be read, which is said.
+pub(crate) fn formula_in<R: Files, E: Write>(
+    rt: &R,
+    alloc: Global,
+    folder: Folder,
+    run: &RunFile,
+    faults: &mut E,
+) -> Result<Formula, Said> {
+    let bytes = formula_bytes_in(rt, alloc, folder, run, faults)?;
+    let Ok(path) = folder.formula(alloc) else {
+        return Err(say_no_memory(faults, folder.path));
+    };
+    formula_of(alloc, path.as_str(), &bytes, run.limits, faults)
 }

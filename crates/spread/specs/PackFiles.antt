@@ -1,0 +1,23 @@
+-- Packs as files.
+use Rattle.std.specs.Prelude.{◌≡◌, ℕ, List, [], ◌∷◌, ◌++◌, All, codes}
+use Rattle.theory.specs.Truth.{Formula}
+use Rattle.theory.specs.Plans.{Plan}
+use Rattle.packs.specs.declared.fact.Fact.{Fact}
+use Rattle.packs.specs.Packs.{IsPackOf}
+use Rattle.gathering.specs.Facts.{IsTrueFact}
+
+-- the first line of a run's packs, where the run's file has this sum
+abbrev pub head : List ℕ → List ℕ
+head sum = codes "cubesat pack 1 " ++ (sum ++ 10 ∷ [])
+
+-- the bytes are that line, and behind it those of the facts
+pub record IsPackFile (sum bytes : List ℕ) (facts : List Fact) : Type 0 where
+  pub behind : List ℕ
+  pub joined : bytes ≡ head sum ++ behind
+  pub pack : IsPackOf behind facts
+
+-- and the facts are true of the formula by the plan
+pub record IsTruePackFile (F : Formula) (plan : Plan) (sum bytes : List ℕ) : Type 0 where
+  pub facts : List Fact
+  pub are_true : All (IsTrueFact F plan) facts
+  pub file : IsPackFile sum bytes facts

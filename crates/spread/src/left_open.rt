@@ -1,0 +1,70 @@
+//! The cubes that the packs of a run leave open.
+
+use crate::folder::Folder;
+use crate::open_cubes::{OpenCubes, Words, open_cubes};
+use crate::pack_file::{packs_of, read_body};
+use crate::run_file::RunFile;
+use crate::said::{Said, say_no_memory};
+use cnf::Formula;
+use kernel::Cube;
+use packs::read_pack;
+use std::alloc::{AllocError, Global};
+use std::fs::Files;
+use std::io::Write;
+
+/// What packs of a run say of these cubes, which are over so many variables, and of those below them.
+fn words_in<R: Files, E: Write>(
+    rt: &R,
+    alloc: Global,
+    folder: Folder,
+    run: &RunFile,
+    names: &[String],
+    vars: u32,
+    cubes: &[Cube],
+    faults: &mut E,
+) -> Result<Words, AllocError> {
+    let mut words = Words::of(alloc, cubes)?;
+    for name in names {
+        if let Some(body) = read_body(rt, alloc, folder, run, name.as_str(), faults)? {
+            let pack = read_pack(alloc, vars, &body)?;
+            words.add(alloc, &pack.facts)?;
+        }
+    }
+    Ok(words)
+}
+
+fn open_by<R: Files, E: Write>(
+    rt: &R,
+    alloc: Global,
+    folder: Folder,
+    run: &RunFile,
+    names: &[String],
+    formula: &Formula,
+    way: Vec<Cube>,
+    faults: &mut E,
+) -> Result<OpenCubes, AllocError> {
+    let vars = formula.vars();
+    let words = words_in(rt, alloc, folder, run, names, vars, &way, faults)?;
+    open_cubes(alloc, formula, &words, way)
+}
+
+/// Of the cubes on a way, the last one first, what the packs of a run leave open, or why that can't be
+/// told, which is said. Nothing of what packs say is checked; that is what gathering does. One that
+/// can't be read, is damaged or is another run's is named, and counts as missing. It takes the time of
+/// reading all packs, and memory for one at a time, and for what is said of cubes on the way and of
+/// those below them.
+pub(crate) fn left_open<R: Files + Alloc + Clone + Drop, E: Write>(
+    rt: &R,
+    alloc: Global,
+    folder: Folder,
+    run: &RunFile,
+    formula: &Formula,
+    way: Vec<Cube>,
+    faults: &mut E,
+) -> Result<OpenCubes, Said> {
+    let names = packs_of(rt, alloc, folder, faults)?;
+    match open_by(rt, alloc, folder, run, &names, formula, way, faults) {
+        Ok(open) => Ok(open),
+        Err(_) => Err(say_no_memory(faults, folder.path)),
+    }
+}
