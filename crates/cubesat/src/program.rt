@@ -158,7 +158,12 @@ pub fn command_in_folders<
     answer: &mut W,
     faults: &mut E,
     screen: Screen,
-) -> u8 {
+) -> u8
+where
+    R::File: Send,
+    R::Dir: Send,
+    R::A: Send,
+{
     match request_of(alloc, words) {
         Ok(Request::Spread(asked)) => work_on(rt, alloc, asked, answer, faults),
         Ok(request) => serve(rt, alloc, request, input, answer, faults, screen),

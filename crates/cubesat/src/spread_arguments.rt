@@ -38,6 +38,8 @@ pub(crate) enum Spread<'a> {
         round: u32,
         slice: Option<Slice>,
         minutes: Option<u32>,
+        /// From 1 to 16.
+        hands: u32,
     },
     /// Put the result together, and write the proof and the answer.
     Gather {
@@ -89,6 +91,15 @@ fn minutes_option<'a>(alloc: Global) -> Arg<'a> {
         .help("End with status 75 after so many minutes; the cubes that are left stay open")
 }
 
+fn hands_option<'a>(alloc: Global) -> Arg<'a> {
+    Arg::new(alloc, "hands")
+        .long("hands")
+        .value_name("H")
+        .value_parser(clap::value_parser!(u32).range(1..=16))
+        .default_value("1")
+        .help("Threads that solve cubes of the part side by side, 1 to 16")
+}
+
 fn proof_option<'a>(alloc: Global) -> Arg<'a> {
     Arg::new(alloc, "proof")
         .long("proof")
@@ -122,6 +133,7 @@ pub(crate) fn conquer_command<'a>(alloc: Global) -> Result<Command<'a>, AllocErr
         .arg(round_option(alloc))?
         .arg(part_option(alloc))?
         .arg(minutes_option(alloc))?
+        .arg(hands_option(alloc))?
         .arg(word(alloc, "RUN", RUN))
 }
 
@@ -171,6 +183,7 @@ pub(crate) fn conquer_request<'a>(matches: &ArgMatches<'a>) -> Option<Spread<'a>
         round: matches.get_one::<u32>("round")?,
         slice: slice_of(matches.get_str("part")?),
         minutes: matches.get_one::<u32>("minutes"),
+        hands: matches.get_one::<u32>("hands")?,
     })
 }
 

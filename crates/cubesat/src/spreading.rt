@@ -20,6 +20,7 @@ use std::alloc::Global;
 use std::fs::Files;
 use std::io;
 use std::io::{Empty, Write};
+use std::thread::Threads;
 use std::time::Clock;
 
 /// The status where cubes are open, and where a part is solved.
@@ -222,30 +223,42 @@ fn begin<R: Files, W: Write, E: Write>(
 }
 
 /// Solves a part of a round; the status.
-fn conquer_part<R: Files + Clock + Alloc + Clone + Drop, E: Write>(
+fn conquer_part<R: Files + Clock + Threads + Sync + Alloc + Clone + Drop, E: Write>(
     rt: &R,
     alloc: Global,
     run: &str,
     round: u32,
     slice: Option<Slice>,
     minutes: Option<u32>,
+    hands: u32,
     faults: &mut E,
-) -> u8 {
+) -> u8
+where
+    R::File: Send,
+    R::Dir: Send,
+    R::A: Send,
+{
     let Some(slice) = slice else {
         return FAILED; // it is refused before
     };
     let folder = Folder { path: run };
-    status_of(conquer(rt, alloc, folder, round, slice, minutes, faults))
+    let hands = hands as usize;
+    status_of(conquer(rt, alloc, folder, round, slice, minutes, hands, faults))
 }
 
 /// Does what is asked for of a run that is spread over machines; the status.
-pub(crate) fn work_on<R: Files + Clock + Alloc + Clone + Drop, W: Write, E: Write>(
+pub(crate) fn work_on<R: Files + Clock + Threads + Sync + Alloc + Clone + Drop, W: Write, E: Write>(
     rt: &R,
     alloc: Global,
     asked: Spread<'_>,
     answer: &mut W,
     faults: &mut E,
-) -> u8 {
+) -> u8
+where
+    R::File: Send,
+    R::Dir: Send,
+    R::A: Send,
+{
     match asked {
         Spread::Begin {
             into,
@@ -269,7 +282,8 @@ pub(crate) fn work_on<R: Files + Clock + Alloc + Clone + Drop, W: Write, E: Writ
             round,
             slice,
             minutes,
-        } => conquer_part(rt, alloc, run, round, slice, minutes, faults),
+            hands,
+        } => conquer_part(rt, alloc, run, round, slice, minutes, hands, faults),
         Spread::Gather { run, proof, stats } => {
             let folder = Folder { path: run };
             gather(rt, alloc, folder, proof, stats, answer, faults)

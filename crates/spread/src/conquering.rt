@@ -1,16 +1,14 @@
-//! Solving the cubes of a round.
+//! Solving the cubes of a part, as one hand does.
 ghost use Rattle.std.specs.Prelude.{◌≡◌, All, OnOk};
 ghost use Rattle.gathering.specs.Facts.{IsTrueFact};
 
 use crate::folder::Folder;
-use crate::left_open::left_open;
 use crate::models::{is_needless, note_model};
-use crate::open_cubes::OpenCubes;
 use crate::pack_file::write_pack;
-use crate::round_file::read_round;
-use crate::run_file::{RunFile, formula_in, run_in};
+use crate::run_file::RunFile;
 use crate::said::{Said, say_no_memory};
 use crate::solving::{Left, solve};
+use crate::way::Way;
 use cdcl::{Plan, Solver};
 use cnf::Formula;
 use kernel::Cube;
@@ -23,16 +21,7 @@ use std::time::{Clock, Instant};
 /// After how many seconds what was found is written.
 const SECONDS_OF_A_PACK: u64 = 600;
 
-/// Which cubes of a round a part solves: of so many parts, each takes every so-manieth cube, the
-/// first one from the first cube on.
-#[derive(Clone, Copy, Debug, PartialEq, Eq)]
-pub struct Slice {
-    /// From 1 to `parts`.
-    pub part: u32,
-    pub parts: u32,
-}
-
-/// How a part ended.
+/// How a part ended, or a hand of it.
 #[derive(Clone, Copy, Debug, PartialEq, Eq)]
 pub enum Ended {
     /// Its cubes are solved, or a model was found, right of which nothing is needed.
@@ -105,8 +94,8 @@ fn note_last<R: Files>(rt: &R, alloc: Global, folder: Folder, facts: &[Fact]) {
     }
 }
 
-/// Solves a cube. Where a model is found or known left of it, nothing is left on the way, which lies
-/// right of that.
+/// Solves a cube. Where a model is found or known left of it, nothing is left on the way, nor for
+/// other hands: all that lies right of that.
 fn solve_next<R: Files + Alloc + Clone + Drop, E: Write>(
     rt: &R,
     alloc: Global,
@@ -115,7 +104,7 @@ fn solve_next<R: Files + Alloc + Clone + Drop, E: Write>(
     plan: Plan,
     solver: &mut Solver,
     cube: Cube,
-    way: &mut Vec<Cube>,
+    way: &mut Way<'_>,
     facts: &mut Vec<Fact>,
     faults: &mut E,
 ) -> Result<(), Said>
@@ -127,14 +116,14 @@ fn solve_next<R: Files + Alloc + Clone + Drop, E: Write>(
     ensures facts { OnOk result (All (IsTrueFact formula.now plan) facts.new.items) }
 {
     if is_needless(rt, alloc, folder, &cube) {
-        way.clear();
+        way.leave();
         return Ok(());
     }
-    match step(formula, plan, solver, cube, way, facts) {
+    match step(formula, plan, solver, cube, &mut way.own, facts) {
         Ok(false) => Ok(()),
         Ok(true) => {
             note_last(rt, alloc, folder, facts);
-            way.clear();
+            way.leave();
             Ok(())
         }
         Err(_) => Err(say_no_memory(faults, folder.path)),
@@ -163,9 +152,21 @@ fn write_where_due<R: Files + Clock, E: Write>(
     Ok(())
 }
 
-/// Solves the cubes on the way, the last one first, with what their splits leave, until all are
-/// solved, a model is found or the time is over. What was found is written about every ten minutes,
-/// and left among the facts since then.
+/// The next cube on the way, if there is one.
+fn next_cube<E: Write>(
+    way: &mut Way<'_>,
+    folder: Folder,
+    faults: &mut E,
+) -> Result<Option<Cube>, Said> {
+    match way.next() {
+        Ok(cube) => Ok(cube),
+        Err(_) => Err(say_no_memory(faults, folder.path)),
+    }
+}
+
+/// Solves the cubes on the way, with what their splits leave, until none is left, a model is found
+/// or the time is over. What was found is written about every ten minutes, and left among the facts
+/// since then.
 fn solve_all<R: Files + Clock + Alloc + Clone + Drop, E: Write>(
     rt: &R,
     alloc: Global,
@@ -173,7 +174,7 @@ fn solve_all<R: Files + Clock + Alloc + Clone + Drop, E: Write>(
     run: &RunFile,
     formula: &Formula,
     solver: &mut Solver,
-    way: &mut Vec<Cube>,
+    way: &mut Way<'_>,
     seconds: u64,
     facts: &mut Vec<Fact>,
     faults: &mut E,
@@ -190,7 +191,7 @@ fn solve_all<R: Files + Clock + Alloc + Clone + Drop, E: Write>(
             return Ok(Ended::OutOfTime);
         }
         write_where_due(rt, alloc, folder, run, formula, facts, &mut written, faults)?;
-        let Some(cube) = way.pop() else {
+        let Some(cube) = next_cube(way, folder, faults)? else {
             return Ok(Ended::Done);
         };
         solve_next(
@@ -200,14 +201,15 @@ fn solve_all<R: Files + Clock + Alloc + Clone + Drop, E: Write>(
     Ok(Ended::Done)
 }
 
-/// Solves the cubes on the way, and writes what was found.
-fn go_on<R: Files + Clock + Alloc + Clone + Drop, E: Write>(
+/// Solves the cubes on the way, and writes what was found; after so many seconds those that are
+/// left stay open.
+pub(crate) fn go_on<R: Files + Clock + Alloc + Clone + Drop, E: Write>(
     rt: &R,
     alloc: Global,
     folder: Folder,
     run: &RunFile,
     formula: &Formula,
-    way: &mut Vec<Cube>,
+    way: &mut Way<'_>,
     seconds: u64,
     faults: &mut E,
 ) -> Result<Ended, Said> {
@@ -229,64 +231,4 @@ fn go_on<R: Files + Clock + Alloc + Clone + Drop, E: Write>(
     )?;
     write_pack(rt, alloc, folder, run, formula, &facts, faults)?;
     Ok(ended)
-}
-
-/// The cubes of a part, the last one first.
-fn part_of(alloc: Global, cubes: Vec<Cube>, slice: Slice) -> Result<Vec<Cube>, AllocError> {
-    let parts = slice.parts.max(1);
-    let mut way = Vec::new(alloc);
-    let mut part = 1;
-    for cube in cubes {
-        if part == slice.part {
-            way.push(cube)?;
-        }
-        part = if part < parts { part + 1 } else { 1 };
-    }
-    way.reverse();
-    Ok(way)
-}
-
-/// What the packs leave open of a part of a round, the last cube first, or why that can't be told,
-/// which is said.
-fn left_of_part<R: Files + Alloc + Clone + Drop, E: Write>(
-    rt: &R,
-    alloc: Global,
-    folder: Folder,
-    run: &RunFile,
-    formula: &Formula,
-    round: u32,
-    slice: Slice,
-    faults: &mut E,
-) -> Result<Vec<Cube>, Said> {
-    let cubes = read_round(rt, alloc, folder, round, formula, faults)?;
-    let Ok(part) = part_of(alloc, cubes, slice) else {
-        return Err(say_no_memory(faults, folder.path));
-    };
-    let OpenCubes { mut cubes, .. } = left_open(rt, alloc, folder, run, formula, part, faults)?;
-    cubes.reverse();
-    Ok(cubes)
-}
-
-/// Solves what the packs of a run leave open of a part of a round, from left to right, with what
-/// splits leave, and writes what was found; after so many minutes the cubes that are left stay open.
-/// It ends at a model, and where one is known left of the next cube, since the part's other cubes lie
-/// right of it. It can be stopped at any moment, and started twice: it goes on from what was written.
-/// It reads all packs once, at its beginning.
-pub fn conquer<R: Files + Clock + Alloc + Clone + Drop, E: Write>(
-    rt: &R,
-    alloc: Global,
-    folder: Folder,
-    round: u32,
-    slice: Slice,
-    minutes: Option<u32>,
-    faults: &mut E,
-) -> Result<Ended, Said> {
-    let run = run_in(rt, alloc, folder, faults)?;
-    let formula = formula_in(rt, alloc, folder, &run, faults)?;
-    let mut way = left_of_part(rt, alloc, folder, &run, &formula, round, slice, faults)?;
-    let seconds = match minutes {
-        Some(minutes) => u64::from(minutes) * 60,
-        None => u64::MAX,
-    };
-    go_on(rt, alloc, folder, &run, &formula, &mut way, seconds, faults)
 }

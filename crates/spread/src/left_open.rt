@@ -12,7 +12,8 @@ use std::alloc::{AllocError, Global};
 use std::fs::Files;
 use std::io::Write;
 
-/// What packs of a run say of these cubes, which are over so many variables, and of those below them.
+/// What packs of a run say of these cubes, which are over so many variables, and of those below
+/// them.
 fn words_in<R: Files, E: Write>(
     rt: &R,
     alloc: Global,
@@ -48,11 +49,11 @@ fn open_by<R: Files, E: Write>(
     open_cubes(alloc, formula, &words, way)
 }
 
-/// Of the cubes on a way, the last one first, what the packs of a run leave open, or why that can't be
-/// told, which is said. Nothing of what packs say is checked; that is what gathering does. One that
-/// can't be read, is damaged or is another run's is named, and counts as missing. It takes the time of
-/// reading all packs, and memory for one at a time, and for what is said of cubes on the way and of
-/// those below them.
+/// Of the cubes on a way, the last one first, what the packs of a run leave open, or why that can't
+/// be told, which is said. Nothing of what packs say is checked; that is what gathering does. One
+/// that can't be read, is damaged or is another run's is named, and counts as missing. It takes the
+/// time of reading all packs, and memory for one at a time, and for what is said of cubes on the
+/// way and of those below them.
 pub(crate) fn left_open<R: Files + Alloc + Clone + Drop, E: Write>(
     rt: &R,
     alloc: Global,

@@ -118,10 +118,10 @@ fn put_halves(
     Ok(true)
 }
 
-/// The cubes that facts, which may be any, leave open of those on the way, of which the last one comes
-/// first: of the trees that they say below these, the cubes of which nothing is said, up to the first
-/// model that is claimed. It takes time and memory by the way, and by the facts of its cubes and of
-/// cubes below these.
+/// The cubes that facts, which may be any, leave open of those on the way, of which the last one
+/// comes first: of the trees that they say below these, the cubes of which nothing is said, up to
+/// the first model that is claimed. It takes time and memory by the way, and by the facts of its
+/// cubes and of cubes below these.
 pub(crate) fn open_cubes(
     alloc: Global,
     formula: &Formula,

@@ -59,8 +59,8 @@ fn path_of(alloc: Global, folder: Folder, bytes: &[u8]) -> Result<String, AllocE
     folder.pack(alloc, name.as_str())
 }
 
-/// Writes a pack, whose facts are true ones of the run's formula. Two that write the same one at once
-/// are in each other's way, and it is there in the end.
+/// Writes a pack, whose facts are true ones of the run's formula. Two that write the same one at
+/// once are in each other's way, and it is there in the end.
 fn put_bytes<R: Files>(
     rt: &R,
     alloc: Global,
@@ -135,8 +135,8 @@ fn names_in<R: Files + Alloc + Clone + Drop>(
     Ok(names)
 }
 
-/// What stands behind the first line of a pack of the run, if the pack is whole: its name is made of
-/// its bytes.
+/// What stands behind the first line of a pack of the run, if the pack is whole: its name is made
+/// of its bytes.
 fn body_of(
     alloc: Global,
     run: &RunFile,

@@ -58,7 +58,11 @@ fn divides<R: Files + AllocGlobal + Threads + Wait + Clock + Sync + Clone + Drop
     run: &str,
     wanted: &str,
     answer: &str,
-) -> bool {
+) -> bool
+where
+    R::File: Send,
+    R::Dir: Send,
+{
     let row = Row {
         words: &[
             "cubesat", "divide", "--into", run, "--budget", "1", "--divide", wanted, FORMULA,
@@ -75,7 +79,11 @@ fn conquers<R: Files + AllocGlobal + Threads + Wait + Clock + Sync + Clone + Dro
     rt: &R,
     run: &str,
     part: &str,
-) -> bool {
+) -> bool
+where
+    R::File: Send,
+    R::Dir: Send,
+{
     let row = Row {
         words: &["cubesat", "conquer", "--round", "1", "--part", part, run],
         status: 0,
@@ -85,8 +93,8 @@ fn conquers<R: Files + AllocGlobal + Threads + Wait + Clock + Sync + Clone + Dro
     first_other(rt, &[row]).is_none()
 }
 
-/// A part that is killed once it has written what it found of its first cube leaves the pack of a part
-/// that has this cube alone.
+/// A part that is killed once it has written what it found of its first cube leaves the pack of a
+/// part that has this cube alone.
 #[test]
 fn a_part_that_was_killed_goes_on_from_its_pack(rt: HostRuntime) -> Result<(), Fail> {
     begin(&rt, "spread_killed", FORMULA, SIXTEEN)?;

@@ -6,6 +6,8 @@ mod again;
 #[cfg(test)]
 mod faults;
 #[cfg(test)]
+mod hands;
+#[cfg(test)]
 mod rows;
 #[cfg(test)]
 mod whole_runs;

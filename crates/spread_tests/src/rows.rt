@@ -25,7 +25,11 @@ fn is_so<R: Files + AllocGlobal + Threads + Wait + Clock + Sync + Clone + Drop>(
     rt: &R,
     alloc: Global,
     row: &Row,
-) -> bool {
+) -> bool
+where
+    R::File: Send,
+    R::Dir: Send,
+{
     let mut answer = Vec::new(alloc);
     let mut faults = Vec::new(alloc);
     let status = command_in_folders(
@@ -48,7 +52,11 @@ fn is_so<R: Files + AllocGlobal + Threads + Wait + Clock + Sync + Clone + Drop>(
 pub fn first_other<R: Files + AllocGlobal + Threads + Wait + Clock + Sync + Clone + Drop>(
     rt: &R,
     rows: &[Row],
-) -> Option<usize> {
+) -> Option<usize>
+where
+    R::File: Send,
+    R::Dir: Send,
+{
     for place in 0..rows.len() {
         if !is_so(rt, rt.alloc(), &rows[place]) {
             return Some(place);

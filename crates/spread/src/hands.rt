@@ -1,0 +1,100 @@
+//! The hands of a part, each in a thread of its own where one can be started.
+
+use crate::conquering::{Ended, go_on};
+use crate::folder::Folder;
+use crate::run_file::RunFile;
+use crate::said::{Said, say_no_memory};
+use crate::way::{Waiting, Way};
+use cnf::Formula;
+use std::alloc::{AllocError, Global};
+use std::fs::Files;
+use std::io::Write;
+use std::thread;
+use std::thread::Threads;
+use std::time::Clock;
+
+/// How a hand ended, and what it said.
+#[derive(Drop)]
+struct Worked {
+    ended: Result<Ended, Said>,
+    said: Vec<u8>,
+}
+
+/// Solves what waits until nothing does, as one hand does.
+fn work<R: Files + Clock + Alloc + Clone + Drop>(
+    rt: &R,
+    alloc: Global,
+    folder: Folder,
+    run: &RunFile,
+    formula: &Formula,
+    waiting: &Waiting,
+    seconds: u64,
+) -> Worked {
+    let mut said = Vec::new(alloc);
+    let mut way = Way::of(alloc, waiting);
+    let ended = go_on(
+        rt, alloc, folder, run, formula, &mut way, seconds, &mut said,
+    );
+    Worked { ended, said }
+}
+
+fn all_work<R: Files + Clock + Threads + Sync + Alloc + Clone + Drop>(
+    rt: &R,
+    alloc: Global,
+    folder: Folder,
+    run: &RunFile,
+    formula: &Formula,
+    waiting: &Waiting,
+    seconds: u64,
+    hands: usize,
+) -> Result<Vec<Worked>, AllocError>
+where
+    R::File: Send,
+    R::Dir: Send,
+    R::A: Send,
+{
+    thread::map_indices(
+        rt,
+        alloc,
+        hands,
+        &|_| { work(rt, alloc, folder, run, formula, waiting, seconds) },
+    )
+}
+
+/// How all hands ended. What they said is printed.
+fn end_of<E: Write>(works: &[Worked], faults: &mut E) -> Result<Ended, Said> {
+    let mut all = Ok(Ended::Done);
+    for worked in works {
+        let _ = faults.write_all(&worked.said);
+        match (all, worked.ended) {
+            (Ok(Ended::Done), ended) => all = ended,
+            (Ok(Ended::OutOfTime), Err(Said)) => all = Err(Said),
+            _ => {}
+        }
+    }
+    all
+}
+
+/// Lets so many hands solve what waits, each with a solver of its own. Each takes whole cubes, and
+/// writes what it found. What one says is printed once all are home.
+pub(crate) fn solve_by_hands<R: Files + Clock + Threads + Sync + Alloc + Clone + Drop, E: Write>(
+    rt: &R,
+    alloc: Global,
+    folder: Folder,
+    run: &RunFile,
+    formula: &Formula,
+    waiting: &Waiting,
+    seconds: u64,
+    hands: usize,
+    faults: &mut E,
+) -> Result<Ended, Said>
+where
+    R::File: Send,
+    R::Dir: Send,
+    R::A: Send,
+{
+    match all_work(rt, alloc, folder, run, formula, waiting, seconds, hands) {
+        Ok(works) => end_of(&works, faults),
+        Err(_) => Err(say_no_memory(faults, folder.path)),
+    }
+}

@@ -1,0 +1,95 @@
+//! Solving the parts of a round.
+
+use crate::conquering::Ended;
+use crate::folder::Folder;
+use crate::hands::solve_by_hands;
+use crate::left_open::left_open;
+use crate::open_cubes::OpenCubes;
+use crate::round_file::read_round;
+use crate::run_file::{RunFile, formula_in, run_in};
+use crate::said::{Said, say_no_memory};
+use crate::way::Waiting;
+use cnf::Formula;
+use kernel::Cube;
+use std::alloc::{AllocError, Global};
+use std::fs::Files;
+use std::io::Write;
+use std::thread::Threads;
+use std::time::Clock;
+
+/// Which cubes of a round a part solves: of so many parts, each takes every so-manieth cube, the
+/// first one from the first cube on.
+#[derive(Clone, Copy, Debug, PartialEq, Eq)]
+pub struct Slice {
+    /// From 1 to `parts`.
+    pub part: u32,
+    pub parts: u32,
+}
+
+/// The cubes of a part, the last one first.
+fn part_of(alloc: Global, cubes: Vec<Cube>, slice: Slice) -> Result<Vec<Cube>, AllocError> {
+    let parts = slice.parts.max(1);
+    let mut way = Vec::new(alloc);
+    let mut part = 1;
+    for cube in cubes {
+        if part == slice.part {
+            way.push(cube)?;
+        }
+        part = if part < parts { part + 1 } else { 1 };
+    }
+    way.reverse();
+    Ok(way)
+}
+
+/// What the packs leave open of a part of a round, from left to right, or why that can't be told,
+/// which is said.
+fn left_of_part<R: Files + Alloc + Clone + Drop, E: Write>(
+    rt: &R,
+    alloc: Global,
+    folder: Folder,
+    run: &RunFile,
+    formula: &Formula,
+    round: u32,
+    slice: Slice,
+    faults: &mut E,
+) -> Result<Vec<Cube>, Said> {
+    let cubes = read_round(rt, alloc, folder, round, formula, faults)?;
+    let Ok(part) = part_of(alloc, cubes, slice) else {
+        return Err(say_no_memory(faults, folder.path));
+    };
+    let OpenCubes { cubes, .. } = left_open(rt, alloc, folder, run, formula, part, faults)?;
+    Ok(cubes)
+}
+
+/// Solves what the packs of a run leave open of a part of a round, with what splits leave, by so
+/// many hands, and writes what was found; after so many minutes the cubes that are left stay open.
+/// Hands take the cubes from left to right. It ends at a model, and where one is known left of the
+/// next cube, since the cubes that wait lie right of it. It can be stopped at any moment, and
+/// started twice: it goes on from what was written. It reads all packs once, at its beginning.
+pub fn conquer<R: Files + Clock + Threads + Sync + Alloc + Clone + Drop, E: Write>(
+    rt: &R,
+    alloc: Global,
+    folder: Folder,
+    round: u32,
+    slice: Slice,
+    minutes: Option<u32>,
+    hands: usize,
+    faults: &mut E,
+) -> Result<Ended, Said>
+where
+    R::File: Send,
+    R::Dir: Send,
+    R::A: Send,
+{
+    let run = run_in(rt, alloc, folder, faults)?;
+    let formula = formula_in(rt, alloc, folder, &run, faults)?;
+    let cubes = left_of_part(rt, alloc, folder, &run, &formula, round, slice, faults)?;
+    let waiting = Waiting::of(cubes);
+    let seconds = match minutes {
+        Some(minutes) => u64::from(minutes) * 60,
+        None => u64::MAX,
+    };
+    solve_by_hands(
+        rt, alloc, folder, &run, &formula, &waiting, seconds, hands, faults,
+    )
+}
