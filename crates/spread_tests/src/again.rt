@@ -53,11 +53,11 @@ fn copy_packs<R: Files + AllocGlobal + Clone + Drop>(
 }
 
 /// Whether the run of the formula is made in a folder, with so many open cubes.
-fn divides<R: Files + AllocGlobal + Threads + Wait + Clock + Sync + Clone + Drop>(
+fn divides<'x, R: Files + AllocGlobal + Threads + Wait + Clock + Sync + Clone + Drop>(
     rt: &R,
-    run: &str,
-    wanted: &str,
-    answer: &str,
+    run: &'x str,
+    wanted: &'x str,
+    answer: &'x str,
 ) -> bool
 where
     R::File: Send,
@@ -75,10 +75,10 @@ where
 }
 
 /// Whether a part of the first round is solved.
-fn conquers<R: Files + AllocGlobal + Threads + Wait + Clock + Sync + Clone + Drop>(
+fn conquers<'x, R: Files + AllocGlobal + Threads + Wait + Clock + Sync + Clone + Drop>(
     rt: &R,
-    run: &str,
-    part: &str,
+    run: &'x str,
+    part: &'x str,
 ) -> bool
 where
     R::File: Send,

@@ -15,12 +15,12 @@ const RUN: &str = "spread_hands";
 const PROOF: &str = "spread_hands.lrat";
 
 /// Whether the run of a formula has this answer, where so many hands solve the cubes of its one part.
-fn is_answered<R: Files + AllocGlobal + Threads + Wait + Clock + Sync + Clone + Drop>(
+fn is_answered<'x, R: Files + AllocGlobal + Threads + Wait + Clock + Sync + Clone + Drop>(
     rt: &R,
     text: &str,
-    hands: &str,
+    hands: &'x str,
     status: u8,
-    answer: &str,
+    answer: &'x str,
 ) -> Result<bool, Fail>
 where
     R::File: Send,
