@@ -4,7 +4,6 @@ use cnf::read_formula;
 use cubes::solve_one;
 use samples::{EIGHT, FOUR, FOUR_PURE, FOUR_UNUSED, SIXTEEN};
 use std::alloc::Global;
-use std::process::Abort;
 use std::test::Fail;
 
 /// A text, a budget and its tree.
@@ -20,18 +19,6 @@ fn has_tree(alloc: Global, row: &Row) -> Result<bool, Fail> {
     Ok(is_tree(&tree, row.2))
 }
 
-fn check_rows(rt: &impl Abort, alloc: Global, rows: &[Row]) -> Result<(), Fail> {
-    for row in rows {
-        assert!(rt;
-            has_tree(alloc, row)?,
-            "at {:?} with budget {}",
-            row.0,
-            row.1
-        );
-    }
-    Ok(())
-}
-
 const OF_FOUR: [Wanted; 3] = [
     Wanted::Split(1),
     Wanted::Leaf(&[(&[], &[1, 2])]),
@@ -44,19 +31,6 @@ const OF_PURE: [Wanted; 3] = [
     Wanted::Leaf(&[(&[], &[4, 5])]),
 ];
 
-static OF_ONE_CONFLICT: [Row; 5] = [
-    (EIGHT, 1, WantedTree::Refuted(&NODES)),
-    (FOUR, 1, WantedTree::Refuted(&OF_FOUR)),
-    (FOUR_UNUSED, 1, WantedTree::Refuted(&OF_FOUR)),
-    (FOUR_PURE, 1, WantedTree::Refuted(&OF_PURE)),
-    (SIXTEEN, 1, WantedTree::Refuted(&NODES_OF_SIXTEEN)),
-];
-
-#[test]
-fn trees_of_one_conflict_at_the_root(rt: HostRuntime) -> Result<(), Fail> {
-    check_rows(&rt, rt.alloc(), &OF_ONE_CONFLICT)
-}
-
 const LEARNT_OF_EIGHT: [Wanted; 1] = [Wanted::Leaf(&[
     (&[1, 2], &[1, 2]),
     (&[1], &[9, 3, 4]),
@@ -68,20 +42,19 @@ const LEARNT_OF_FOUR: [Wanted; 1] = [Wanted::Leaf(&[(&[1], &[1, 2]), (&[], &[5, 
 
 const LEARNT_OF_UNUSED: [Wanted; 1] = [Wanted::Leaf(&[(&[1], &[1, 2]), (&[], &[6, 3, 4])])];
 
-static OF_MORE_CONFLICTS: [Row; 5] = [
+static ROWS: [Row; 13] = [
+    (EIGHT, 1, WantedTree::Refuted(&NODES)),
+    (FOUR, 1, WantedTree::Refuted(&OF_FOUR)),
+    (FOUR_UNUSED, 1, WantedTree::Refuted(&OF_FOUR)),
+    (FOUR_PURE, 1, WantedTree::Refuted(&OF_PURE)),
+    (SIXTEEN, 1, WantedTree::Refuted(&NODES_OF_SIXTEEN)),
+    // more than one conflict at the root
     (EIGHT, 2, WantedTree::Refuted(&NODES)),
     (EIGHT, 4, WantedTree::Refuted(&LEARNT_OF_EIGHT)),
     (EIGHT, 100_000, WantedTree::Refuted(&LEARNT_OF_EIGHT)),
     (FOUR, 2, WantedTree::Refuted(&LEARNT_OF_FOUR)),
     (FOUR_UNUSED, 2, WantedTree::Refuted(&LEARNT_OF_UNUSED)),
-];
-
-#[test]
-fn trees_of_more_conflicts(rt: HostRuntime) -> Result<(), Fail> {
-    check_rows(&rt, rt.alloc(), &OF_MORE_CONFLICTS)
-}
-
-static MODELS: [Row; 3] = [
+    // models
     (
         "p cnf 2 1\n1 2 0\n",
         1000,
@@ -96,6 +69,14 @@ static MODELS: [Row; 3] = [
 ];
 
 #[test]
-fn models(rt: HostRuntime) -> Result<(), Fail> {
-    check_rows(&rt, rt.alloc(), &MODELS)
+fn trees(rt: HostRuntime) -> Result<(), Fail> {
+    for row in &ROWS {
+        assert!(rt;
+            has_tree(rt.alloc(), row)?,
+            "{:?} with budget {}",
+            row.0,
+            row.1
+        );
+    }
+    Ok(())
 }

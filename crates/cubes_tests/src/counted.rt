@@ -148,16 +148,29 @@ fn done_by<R: Threads + Wait + Clock + Sync>(
     Ok((numbers_of(before), numbers_of(gate.sum())))
 }
 
+/// Whether a gate is told what is done of a row by so many hands.
+fn is_told<R: Threads + Wait + Clock + Sync>(
+    rt: &R,
+    alloc: Global,
+    row: &Row,
+    hands: usize,
+) -> Result<bool, Fail>
+    requires { (1 ≤ hands) × (hands ≤ 16) }
+{
+    let (text, search, budget, divide, before, wanted) = *row;
+    let formula = read_formula(alloc, text.as_bytes())?;
+    let plan = plan_of(search, budget, divide);
+    Ok(done_by(rt, alloc, &formula, plan, hands)? == (before, wanted))
+}
+
 #[test]
 fn a_gate_is_told_what_is_done(rt: HostRuntime) -> Result<(), Fail> {
-    for (text, search, budget, divide, before, wanted) in &ROWS {
-        let formula = read_formula(rt.alloc(), text.as_bytes())?;
-        let plan = plan_of(*search, *budget, *divide);
+    for row in &ROWS {
         for hands in [1, 2, 4] {
-            let found = done_by(&rt, rt.alloc(), &formula, plan, hands)?;
             assert!(rt;
-                found == (*before, *wanted),
-                "{hands} hands at {text:?}: {found:?}"
+                is_told(&rt, rt.alloc(), row, hands)?,
+                "{hands} hands at {}",
+                row.0
             );
         }
     }

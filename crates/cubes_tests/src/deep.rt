@@ -6,8 +6,10 @@ use cubes::{Gate, Solved, What, Worked};
 use kernel::Cube;
 use std::alloc::{AllocError, Global};
 use std::fmt::Write;
+use std::sync::Wait;
 use std::sync::atomic::{AtomicU64, Ordering};
 use std::test::Fail;
+use std::time::Clock;
 
 // each assignment but those with all of the first 39 variables false
 const DEEP: &str = "p cnf 40 2
@@ -80,13 +82,6 @@ fn has_model_below(worked: &Worked) -> bool {
         && is_result(right, &[1], Given::Skipped(0))
 }
 
-#[test]
-fn a_model_below_the_root(rt: HostRuntime) -> Result<(), Fail> {
-    let worked = worked(&rt, rt.alloc(), DEEP)?;
-    assert!(rt; has_model_below(&worked));
-    Ok(())
-}
-
 /// Whether one of the results is the hard text's model, and no more.
 fn has_hard_model(worked: &Worked) -> bool {
     let mut found = false;
@@ -99,16 +94,6 @@ fn has_hard_model(worked: &Worked) -> bool {
         }
     }
     found
-}
-
-#[test]
-fn carries_deep_cubes_on(rt: HostRuntime) -> Result<(), Fail> {
-    let text = hard_text(rt.alloc())?;
-    let worked = worked(&rt, rt.alloc(), text.as_str())?;
-    let is_right = !worked.short_of_memory && has_hard_model(&worked);
-    assert!(rt; is_right);
-    assert_eq!(rt; deepest(&worked), 34);
-    Ok(())
 }
 
 /// How often a gate was passed with a cube from the pool, and how often it was told what was done.
@@ -142,21 +127,38 @@ fn solved_up_to(worked: &Worked, depth: usize) -> u64 {
     count
 }
 
-// none of the cubes has a thousand conflicts
-#[test]
-fn a_gate_is_told_at_the_end_of_cubes_that_are_carried_on_too(rt: HostRuntime) -> Result<(), Fail> {
+/// Whether a model is found right below the root.
+fn finds_model<R: Wait + Clock>(rt: &R, alloc: Global) -> Result<bool, Fail> {
+    let worked = worked(rt, alloc, DEEP)?;
+    Ok(has_model_below(&worked))
+}
+
+/// Whether the hard text's model is found, with no cube of more than 34 literals.
+fn carries_on<R: Wait + Clock>(rt: &R, alloc: Global) -> Result<bool, Fail> {
+    let text = hard_text(alloc)?;
+    let worked = worked(rt, alloc, text.as_str())?;
+    Ok(!worked.short_of_memory && has_hard_model(&worked) && deepest(&worked) == 34)
+}
+
+/// Whether a gate is told at the end of cubes that are carried on too; none of the cubes has a
+/// thousand conflicts.
+fn is_gate_told<R: Wait + Clock>(rt: &R, alloc: Global) -> Result<bool, Fail> {
     let calls = Calls {
         passed: AtomicU64::new(0),
         told: AtomicU64::new(0),
     };
-    let text = hard_text(rt.alloc())?;
-    let worked = worked_at(&rt, rt.alloc(), text.as_str(), &calls)?;
-    let (passed, told) = (
-        calls.passed.load(Ordering::SeqCst),
-        calls.told.load(Ordering::SeqCst),
-    );
-    assert_eq!(rt; passed, solved_up_to(&worked, 32));
-    assert_eq!(rt; told, solved_up_to(&worked, 34));
-    assert!(rt; passed < told);
+    let text = hard_text(alloc)?;
+    let worked = worked_at(rt, alloc, text.as_str(), &calls)?;
+    let passed = calls.passed.load(Ordering::SeqCst);
+    let told = calls.told.load(Ordering::SeqCst);
+    let is_told = passed == solved_up_to(&worked, 32) && told == solved_up_to(&worked, 34);
+    Ok(is_told && passed < told)
+}
+
+#[test]
+fn deep_trees(rt: HostRuntime) -> Result<(), Fail> {
+    assert!(rt; finds_model(&rt, rt.alloc())?, "model");
+    assert!(rt; carries_on(&rt, rt.alloc())?, "carried on");
+    assert!(rt; is_gate_told(&rt, rt.alloc())?, "gate");
     Ok(())
 }

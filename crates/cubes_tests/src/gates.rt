@@ -116,18 +116,18 @@ fn is_solved_once<R: Threads + Wait + Clock + Sync>(
     Ok(gate.before.is_once_each() && gate.after.is_once_each())
 }
 
-/// The same of a text, twenty times.
+/// The same of a row, twenty times.
 fn is_solved_once_each_time<R: Threads + Wait + Clock + Sync>(
     rt: &R,
     alloc: Global,
-    text: &str,
-    plan: Plan,
+    row: &Row,
     hands: usize,
-    cubes: Cubes,
 ) -> Result<bool, Fail>
     requires { (1 ≤ hands) × (hands ≤ 16) }
 {
+    let (text, search, budget, divide, cubes) = *row;
     let formula = read_formula(alloc, text.as_bytes())?;
+    let plan = plan_of(search, budget, divide);
     for _ in 0..20 {
         if !is_solved_once(rt, alloc, &formula, plan, hands, cubes)? {
             return Ok(false);
@@ -138,11 +138,10 @@ fn is_solved_once_each_time<R: Threads + Wait + Clock + Sync>(
 
 #[test]
 fn each_cube_is_solved_once(rt: HostRuntime) -> Result<(), Fail> {
-    for (text, search, budget, divide, cubes) in &TREES {
-        let plan = plan_of(*search, *budget, *divide);
+    for row in &TREES {
         for hands in [1, 2, 4] {
-            let is_once = is_solved_once_each_time(&rt, rt.alloc(), text, plan, hands, *cubes)?;
-            assert!(rt; is_once, "{hands} hands at {text:?}");
+            let is_once = is_solved_once_each_time(&rt, rt.alloc(), row, hands)?;
+            assert!(rt; is_once, "{hands} hands at {}", row.0);
         }
     }
     Ok(())

@@ -2,46 +2,23 @@
 use cubes::place_of;
 use samples::cube_of;
 use std::alloc::{AllocError, Global};
-use std::process::Abort;
 use std::test::Fail;
 
-/// The place of the cube of these numbers, over so many variables.
-fn place(alloc: Global, vars: u32, numbers: &[i32]) -> Result<u64, AllocError> {
-    let cube = cube_of(alloc, vars, numbers)?;
-    Ok(place_of(&cube))
-}
+/// How many variables a cube is over, its numbers, and its place.
+type Row = (u32, &'static [i32], u64);
 
-/// Checks the places of cubes over so many variables.
-fn check_rows(
-    rt: &impl Abort,
-    alloc: Global,
-    vars: u32,
-    rows: &[(&[i32], u64)],
-) -> Result<(), Fail> {
-    for row in rows {
-        assert_eq!(rt; place(alloc, vars, row.0)?, row.1, "at {:?}", row.0);
-    }
-    Ok(())
-}
-
-static CUBES: [(&[i32], u64); 8] = [
-    (&[], 0),
-    (&[-1], 0),
-    (&[1], 2_147_483_648),
-    (&[-4, 7], 1_073_741_824),
-    (&[-1, -2], 0),
-    (&[-1, 2], 1_073_741_824),
-    (&[1, -2], 2_147_483_648),
-    (&[1, 2], 3_221_225_472),
-];
-
-#[test]
-fn places(rt: HostRuntime) -> Result<(), Fail> {
-    check_rows(&rt, rt.alloc(), 7, &CUBES)
-}
-
-static DEEP_CUBES: [(&[i32], u64); 3] = [
+static ROWS: [Row; 11] = [
+    (7, &[], 0),
+    (7, &[-1], 0),
+    (7, &[1], 2_147_483_648),
+    (7, &[-4, 7], 1_073_741_824),
+    (7, &[-1, -2], 0),
+    (7, &[-1, 2], 1_073_741_824),
+    (7, &[1, -2], 2_147_483_648),
+    (7, &[1, 2], 3_221_225_472),
+    // deep cubes
     (
+        33,
         &[
             1, 2, 3, 4, 5, 6, 7, 8, 9, 10, 11, 12, 13, 14, 15, 16, 17, 18, 19, 20, 21, 22, 23, 24,
             25, 26, 27, 28, 29, 30, 31,
@@ -49,6 +26,7 @@ static DEEP_CUBES: [(&[i32], u64); 3] = [
         0xffff_fffe,
     ),
     (
+        33,
         &[
             1, 2, 3, 4, 5, 6, 7, 8, 9, 10, 11, 12, 13, 14, 15, 16, 17, 18, 19, 20, 21, 22, 23, 24,
             25, 26, 27, 28, 29, 30, 31, 32,
@@ -56,6 +34,7 @@ static DEEP_CUBES: [(&[i32], u64); 3] = [
         0xffff_ffff,
     ),
     (
+        33,
         &[
             1, 2, 3, 4, 5, 6, 7, 8, 9, 10, 11, 12, 13, 14, 15, 16, 17, 18, 19, 20, 21, 22, 23, 24,
             25, 26, 27, 28, 29, 30, 31, 32, 33,
@@ -64,7 +43,17 @@ static DEEP_CUBES: [(&[i32], u64); 3] = [
     ),
 ];
 
+/// Whether a row's cube has its place.
+fn is_there(alloc: Global, row: &Row) -> Result<bool, AllocError> {
+    let (vars, numbers, place) = *row;
+    let cube = cube_of(alloc, vars, numbers)?;
+    Ok(place_of(&cube) == place)
+}
+
 #[test]
-fn places_of_deep_cubes(rt: HostRuntime) -> Result<(), Fail> {
-    check_rows(&rt, rt.alloc(), 33, &DEEP_CUBES)
+fn places(rt: HostRuntime) -> Result<(), Fail> {
+    for row in &ROWS {
+        assert!(rt; is_there(rt.alloc(), row)?, "{:?}", row.1);
+    }
+    Ok(())
 }

@@ -83,16 +83,29 @@ fn told_by<R: Threads + Wait + Clock + Sync>(
     Ok((first, refuted))
 }
 
+/// Whether so many hands tell a gate of a row's first search, and that all of the tree is refuted.
+fn tell<R: Threads + Wait + Clock + Sync>(
+    rt: &R,
+    alloc: Global,
+    row: &Row,
+    hands: usize,
+) -> Result<bool, Fail>
+    requires { (1 ≤ hands) × (hands ≤ 16) }
+{
+    let (text, budget, divide, first) = *row;
+    let formula = read_formula(alloc, text.as_bytes())?;
+    let plan = plan_of(Search::Focused, budget, divide);
+    Ok(told_by(rt, alloc, &formula, plan, hands)? == (first, WHOLE))
+}
+
 #[test]
 fn all_of_a_tree_without_a_model_is_refuted(rt: HostRuntime) -> Result<(), Fail> {
-    for (text, budget, divide, first) in &ROWS {
-        let formula = read_formula(rt.alloc(), text.as_bytes())?;
-        let plan = plan_of(Search::Focused, *budget, *divide);
+    for row in &ROWS {
         for hands in [1, 2, 4] {
-            let found = told_by(&rt, rt.alloc(), &formula, plan, hands)?;
             assert!(rt;
-                found == (*first, WHOLE),
-                "{hands} hands at {text:?}: {found:?}"
+                tell(&rt, rt.alloc(), row, hands)?,
+                "{hands} hands at {}",
+                row.0
             );
         }
     }

@@ -12,74 +12,102 @@ use std::test::Fail;
 use std::thread::Threads;
 use std::time::Clock;
 
-// cubes below its leaves and beside it, from right to left, behind a result that doesn't serve;
+/// A text, the results that are given, and the tree that is gathered from them.
+type Row = (&'static str, &'static [(&'static [i32], Given)], WantedTree);
+
+// cubes below its leaves and beside it come from right to left, behind a result that doesn't serve;
 // then its leaves
-static ROWS: [(&[i32], Given); 8] = [
-    (&[1], Given::Skipped(0)),
-    (&[1, 2], Given::Refuted),
-    (&[1, -2], Given::Refuted),
-    (&[-1, 2], Given::Refuted),
-    (&[-1, -2], Given::Refuted),
-    (&[3], Given::Refuted),
-    (&[1], Given::Refuted),
-    (&[-1], Given::Refuted),
-];
-
-static OF_EIGHT: WantedTree = WantedTree::Refuted(&NODES);
-
-/// Whether the tree that is gathered from a text's results, which have to be these, is the one that
-/// is wanted.
-fn gathers(
-    alloc: Global,
-    text: &str,
-    rows: &[(&[i32], Given)],
-    wanted: WantedTree,
-) -> Result<bool, Fail> {
-    let formula = read_formula(alloc, text.as_bytes())?;
-    match gathered(alloc, &formula, rows)? {
-        Some(tree) => Ok(is_tree(&tree, wanted)),
-        None => Ok(false),
-    }
-}
-
-#[test]
-fn gathers_a_refuted_tree(rt: HostRuntime) -> Result<(), Fail> {
-    for (start, end) in [(0, 0), (1, 5), (0, 5), (1, 6), (6, 8), (0, 8)] {
-        let rows = ROWS.get(start..end).ok_or("no rows")?;
-        let is_gathered = gathers(rt.alloc(), EIGHT, rows, OF_EIGHT)?;
-        assert!(rt; is_gathered, "results {start} to {end}");
-    }
-    Ok(())
-}
-
-/// Texts with a model, the results that are given, and the first model of each.
-type Satisfied = (
-    &'static str,
-    &'static [(&'static [i32], Given)],
-    &'static [bool],
-);
-
-static SATISFIED: [Satisfied; 2] = [
+static ROWS: [Row; 8] = [
+    (EIGHT, &[], OF_EIGHT),
+    (
+        EIGHT,
+        &[
+            (&[1, 2], Given::Refuted),
+            (&[1, -2], Given::Refuted),
+            (&[-1, 2], Given::Refuted),
+            (&[-1, -2], Given::Refuted),
+        ],
+        OF_EIGHT,
+    ),
+    (
+        EIGHT,
+        &[
+            (&[1], Given::Skipped(0)),
+            (&[1, 2], Given::Refuted),
+            (&[1, -2], Given::Refuted),
+            (&[-1, 2], Given::Refuted),
+            (&[-1, -2], Given::Refuted),
+        ],
+        OF_EIGHT,
+    ),
+    (
+        EIGHT,
+        &[
+            (&[1, 2], Given::Refuted),
+            (&[1, -2], Given::Refuted),
+            (&[-1, 2], Given::Refuted),
+            (&[-1, -2], Given::Refuted),
+            (&[3], Given::Refuted),
+        ],
+        OF_EIGHT,
+    ),
+    (
+        EIGHT,
+        &[(&[1], Given::Refuted), (&[-1], Given::Refuted)],
+        OF_EIGHT,
+    ),
+    (
+        EIGHT,
+        &[
+            (&[1], Given::Skipped(0)),
+            (&[1, 2], Given::Refuted),
+            (&[1, -2], Given::Refuted),
+            (&[-1, 2], Given::Refuted),
+            (&[-1, -2], Given::Refuted),
+            (&[3], Given::Refuted),
+            (&[1], Given::Refuted),
+            (&[-1], Given::Refuted),
+        ],
+        OF_EIGHT,
+    ),
+    // texts with a model, and the first model of each
     (
         "p cnf 2 2\n1 2 0\n1 -2 0\n",
         &[
             (&[1], Given::Model(&[true, false])),
             (&[-1], Given::Skipped(0)),
         ],
-        &[true, false],
+        WantedTree::Model(&[true, false]),
     ),
     (
         "p cnf 3 2\n1 2 3 0\n1 2 -3 0\n",
         &[(&[1], Given::Model(&[true, false, false]))],
-        &[false, true, false],
+        WantedTree::Model(&[false, true, false]),
     ),
 ];
 
+const OF_EIGHT: WantedTree = WantedTree::Refuted(&NODES);
+
+/// Whether the tree that is gathered from a row's results, which have to be these, is the one that
+/// is wanted.
+fn gathers(alloc: Global, row: &Row) -> Result<bool, Fail> {
+    let (text, results, wanted) = *row;
+    let formula = read_formula(alloc, text.as_bytes())?;
+    match gathered(alloc, &formula, results)? {
+        Some(tree) => Ok(is_tree(&tree, wanted)),
+        None => Ok(false),
+    }
+}
+
 #[test]
-fn gathers_the_first_model(rt: HostRuntime) -> Result<(), Fail> {
-    for (text, rows, values) in &SATISFIED {
-        let is_gathered = gathers(rt.alloc(), text, rows, WantedTree::Model(values))?;
-        assert!(rt; is_gathered, "at {text:?}");
+fn gathers_from_results(rt: HostRuntime) -> Result<(), Fail> {
+    for row in &ROWS {
+        assert!(rt;
+            gathers(rt.alloc(), row)?,
+            "{} results of {:?}",
+            row.1.len(),
+            row.0
+        );
     }
     Ok(())
 }

@@ -1,9 +1,8 @@
 //! What `check` prints and its exit status at each of its ends, and the status where a fault is to
 //! have one of its own.
-use crate::sessions::{Paths, Wanted, put_texts, says};
-use cubesat::command;
-use samples::faulty::{Limited, Limits};
+use crate::command_lines::says;
 use samples::{FOUR, FOUR_PROOF};
+use sessions::{Paths, Wanted, put_texts};
 use std::rt::Files;
 use std::sync::Wait;
 use std::test::Fail;
@@ -141,29 +140,5 @@ fn each_end_has_its_status(rt: HostRuntime) -> Result<(), Fail> {
     for row in &ROWS {
         assert!(rt; holds(&rt, &paths, row)?, "{}", row.wanted.faults);
     }
-    Ok(())
-}
-
-/// Whether a check whose line can't be written has the status of a fault.
-fn fails<R: Files + AllocGlobal + Threads + Wait + Clock + Sync>(
-    rt: &R,
-    words: &[&str],
-    status: u8,
-) -> bool {
-    let mut answer = Limited::new(rt.alloc(), Limits::of(3));
-    let mut faults = Vec::new(rt.alloc());
-    let ended = command(rt, rt.alloc(), words, &mut answer, &mut faults);
-    ended == status && faults.starts_with(b"fault 54\nc the answer: ")
-}
-
-#[test]
-fn a_line_that_cannot_be_written(rt: HostRuntime) -> Result<(), Fail> {
-    let paths = Paths::of(&rt, "check_unprinted.cnf")?;
-    put_texts(&rt, &paths, FOUR.as_bytes(), FOUR_PROOF.as_bytes())?;
-    let (formula, proof) = (paths.formula.as_str(), paths.proof.as_str());
-    let words = ["cubesat", "check", formula, proof];
-    assert!(rt; fails(&rt, &words, 1));
-    let words = ["cubesat", "check", "--distinct-status", formula, proof];
-    assert!(rt; fails(&rt, &words, 2));
     Ok(())
 }

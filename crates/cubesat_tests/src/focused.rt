@@ -1,7 +1,12 @@
 //! Worked rows of the focused search that divides nothing, by the program.
-use crate::sessions::{Paths, Row, Wanted, check_rows, run};
+use crate::command_lines::{Row, holds};
 use samples::{EIGHT, FOUR};
+use sessions::{Paths, Wanted};
+use std::rt::Files;
+use std::sync::Wait;
 use std::test::Fail;
+use std::thread::Threads;
+use std::time::Clock;
 
 /// A formula, a budget, the answer, and the proof.
 type Decided = (&'static str, &'static str, &'static str, &'static str);
@@ -70,36 +75,34 @@ fn row_of<'a>(words: &'a [&'a str], formula: &'a str, answer: &'a str, proof: &'
     }
 }
 
-#[test]
-fn formulas_are_decided_by_any_number_of_hands(rt: HostRuntime) -> Result<(), Fail> {
-    for (formula, budget, answer, proof) in &DECIDED {
-        for hands in ["1", "2", "8"] {
-            let words = [
-                "cubesat", "solve", "--search", "focused", "--budget", budget, "--divide", "0",
-                "--hands", hands, "--proof", "PROOF", "FORMULA",
-            ];
-            let row = row_of(&words, formula, answer, proof);
-            check_rows(&rt, "focused.cnf", &[row])?;
-        }
-    }
-    Ok(())
+/// Whether so many hands decide a formula so.
+fn decide<R: Files + AllocGlobal + Threads + Wait + Clock + Sync>(
+    rt: &R,
+    paths: &Paths,
+    decided: &Decided,
+    hands: &'static str,
+) -> Result<bool, Fail> {
+    let (formula, budget, answer, proof) = *decided;
+    let words = [
+        "cubesat", "solve", "--search", "focused", "--budget", budget, "--divide", "0", "--hands",
+        hands, "--proof", "PROOF", "FORMULA",
+    ];
+    let row = row_of(&words, formula, answer, proof);
+    holds(rt, paths, &row)
 }
 
+static HANDS: [&str; 3] = ["1", "2", "8"];
+
 #[test]
-fn the_budget_is_the_greatest_where_none_is_asked_for(rt: HostRuntime) -> Result<(), Fail> {
-    let paths = Paths::of(&rt, "focused_budget.cnf")?;
-    let words = [
-        "cubesat",
-        "solve",
-        "--search",
-        "focused",
-        "--verbose",
-        "--proof",
-        "MISSING",
-        "MISSING",
-    ];
-    let printed = run(&rt, &paths.words(rt.alloc(), &words)?);
-    let wanted = "\nc solving it by the focused search, hands 1, budget 100000 conflicts\n";
-    assert!(rt; str::from_utf8(&printed.faults)?.contains(wanted));
+fn formulas_are_decided_by_any_number_of_hands(rt: HostRuntime) -> Result<(), Fail> {
+    let paths = Paths::of(&rt, "focused.cnf")?;
+    for decided in &DECIDED {
+        for hands in &HANDS {
+            assert!(rt;
+                decide(&rt, &paths, decided, *hands)?,
+                "{hands} {decided:?}"
+            );
+        }
+    }
     Ok(())
 }

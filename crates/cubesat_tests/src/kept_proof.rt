@@ -1,9 +1,8 @@
 //! An old proof stays until a new one is whole, and an answer comes only behind its proof.
-use crate::same_file::is_refused;
-use crate::sessions::{Paths, Row, Wanted, check_rows, path_of, says};
+use crate::command_lines::{REFUTED, Row, check_rows, says};
 use cubesat::command;
-use samples::faulty::{Limited, Limits};
 use samples::{FOUR, FOUR_PROOF};
+use sessions::{Parts, Wanted};
 use std::io::Write;
 use std::rt::{Env, Files};
 use std::sync::Wait;
@@ -12,17 +11,8 @@ use std::thread::Threads;
 use std::time::Clock;
 use std::{fs, io};
 
-const SOLVE: [&str; 7] = [
-    "cubesat", "solve", "--budget", "1", "--proof", "PROOF", "FORMULA",
-];
-
-const REFUTED: Wanted = Wanted {
-    status: 20,
-    answer: "s UNSATISFIABLE\n",
-    faults: "",
-};
-
-/// The formula is refuted, and the old proof's file left as it was.
+/// The formula is refuted, and the old proof's file left as it was, where no proof is asked for, or
+/// none can be written.
 const KEPT: Row = Row {
     formula: FOUR,
     before: Some("old"),
@@ -31,7 +21,7 @@ const KEPT: Row = Row {
     after: "old",
 };
 
-static UNASKED: [Row; 3] = [
+static ROWS: [Row; 4] = [
     KEPT,
     Row {
         words: &["cubesat", "solve", "--hands", "2", "FORMULA"],
@@ -41,70 +31,34 @@ static UNASKED: [Row; 3] = [
         words: &["cubesat", "solve", "--proof", "/dev/null", "FORMULA"],
         ..KEPT
     },
+    Row {
+        words: &["cubesat", "solve", "--proof", "/dev/full", "FORMULA"],
+        wanted: Wanted {
+            status: 1,
+            answer: "",
+            faults: "fault 53\nc /dev/full: no room on the device\nc the proof isn't whole; make room for all of it, or name another place\n",
+        },
+        ..KEPT
+    },
 ];
 
 #[test]
-fn no_proof_is_asked_for(rt: HostRuntime) -> Result<(), Fail> {
-    check_rows(&rt, "unasked.cnf", &UNASKED)
+fn a_proof_that_is_left(rt: HostRuntime) -> Result<(), Fail> {
+    check_rows(&rt, "kept_left.cnf", &ROWS)
 }
 
-static FULL: [Row; 1] = [Row {
-    words: &["cubesat", "solve", "--proof", "/dev/full", "FORMULA"],
-    wanted: Wanted {
-        status: 1,
-        answer: "",
-        faults: "fault 53\nc /dev/full: no room on the device\nc the proof isn't whole; make room for all of it, or name another place\n",
-    },
-    ..KEPT
-}];
+const SOLVE: [&str; 7] = [
+    "cubesat", "solve", "--budget", "1", "--proof", "PROOF", "FORMULA",
+];
 
-#[test]
-fn a_proof_that_cannot_be_written(rt: HostRuntime) -> Result<(), Fail> {
-    check_rows(&rt, "full.cnf", &FULL)
-}
-
-/// The files of a test, and the path of the proof's part.
-pub(crate) struct Parts {
-    pub(crate) paths: Paths,
-    part: String,
-}
-
-// written out, so that proofs of its owners stay short (docs/CHANGING.md)
-impl Drop for Parts {
-    fn drop(self) {
-        let Parts { paths: _, part: _ } = self;
-    }
-}
-
-impl Parts {
-    /// With an old proof.
-    pub(crate) fn of<R: Env + Files + AllocGlobal>(rt: &R, name: &str) -> Result<Parts, Fail> {
-        let paths = Paths::of(rt, name)?;
-        fs::write(rt, paths.formula.as_str(), FOUR)?;
-        fs::write(rt, paths.proof.as_str(), "old")?;
-        let part = format!(in rt.alloc(); "{}.part", paths.proof)?;
-        Ok(Parts { paths, part })
-    }
-
-    /// Whether the proof's file has this text, and there is no part.
-    pub(crate) fn has<R: Files + AllocGlobal>(&self, rt: &R, text: &str) -> bool {
-        match fs::read(rt, self.paths.proof.as_str()) {
-            Ok(proof) => {
-                proof.as_slice() == text.as_bytes()
-                    && rt.symlink_metadata(self.part.as_str()).is_err()
-            }
-            Err(_) => false,
-        }
-    }
-}
-
-#[test]
-fn the_part_of_a_run_that_was_killed(rt: HostRuntime) -> Result<(), Fail> {
-    let parts = Parts::of(&rt, "killed.cnf")?;
-    fs::write(&rt, parts.part.as_str(), "5 1 0 1 2 0\n6 -1 0")?;
-    assert!(rt; says(&rt, &parts.paths, &SOLVE, &REFUTED)?);
-    assert!(rt; parts.has(&rt, FOUR_PROOF));
-    Ok(())
+/// Whether a run writes a proof over the part of one that was killed.
+fn goes_over_part<R: Files + AllocGlobal + Threads + Wait + Clock + Sync>(
+    rt: &R,
+    parts: &Parts,
+) -> Result<bool, Fail> {
+    fs::write(rt, parts.part.as_str(), "5 1 0 1 2 0\n6 -1 0")?;
+    let is_said = says(rt, &parts.paths, &SOLVE, &REFUTED)?;
+    Ok(is_said && parts.has(rt, FOUR_PROOF))
 }
 
 const OCCUPIED: Wanted = Wanted {
@@ -113,36 +67,16 @@ const OCCUPIED: Wanted = Wanted {
     faults: "fault 56\nc |PROOF|: can't be created: the name of its part, with .part behind, is taken by something other than a file\n",
 };
 
-#[test]
-fn a_folder_in_the_place_of_the_part(rt: HostRuntime) -> Result<(), Fail> {
-    let parts = Parts::of(&rt, "occupied.cnf")?;
-    let _ = fs::remove_dir(&rt, parts.part.as_str());
-    fs::create_dir(&rt, parts.part.as_str())?;
-    assert!(rt; says(&rt, &parts.paths, &SOLVE, &OCCUPIED)?);
-    fs::remove_dir(&rt, parts.part.as_str())?;
-    assert!(rt; parts.has(&rt, "old"));
-    Ok(())
-}
-
-/// Whether `solve` has the fault of an answer that can't be written.
-fn is_unanswered<R: Files + AllocGlobal + Threads + Wait + Clock + Sync>(
+/// Whether a run with a folder in the place of the part is refused, and the old proof left.
+fn leaves_folder<R: Files + AllocGlobal + Threads + Wait + Clock + Sync>(
     rt: &R,
-    paths: &Paths,
+    parts: &Parts,
 ) -> Result<bool, Fail> {
-    let words = paths.words(rt.alloc(), &SOLVE)?;
-    let mut answer = Limited::new(rt.alloc(), Limits::of(3));
-    let mut faults = Vec::new(rt.alloc());
-    let status = command(rt, rt.alloc(), &words, &mut answer, &mut faults);
-    Ok(status == 1 && faults.starts_with(b"fault 54\nc the answer: "))
-}
-
-/// The new proof is in its place where the answer fails behind it.
-#[test]
-fn an_answer_that_cannot_be_written(rt: HostRuntime) -> Result<(), Fail> {
-    let parts = Parts::of(&rt, "unanswered.cnf")?;
-    assert!(rt; is_unanswered(&rt, &parts.paths)?);
-    assert!(rt; parts.has(&rt, FOUR_PROOF));
-    Ok(())
+    let _ = fs::remove_dir(rt, parts.part.as_str());
+    fs::create_dir(rt, parts.part.as_str())?;
+    let is_said = says(rt, &parts.paths, &SOLVE, &OCCUPIED)?;
+    fs::remove_dir(rt, parts.part.as_str())?;
+    Ok(is_said && parts.has(rt, "old"))
 }
 
 /// A writer of an answer that looks, as each piece comes, whether the proof is in its place.
@@ -165,35 +99,62 @@ impl<R: Files + AllocGlobal> Write for Looking<'_, R> {
     }
 }
 
-#[test]
-fn an_answer_comes_behind_its_proof(rt: HostRuntime) -> Result<(), Fail> {
-    let parts = Parts::of(&rt, "behind.cnf")?;
+/// Whether an answer comes behind its proof.
+fn comes_behind<R: Files + AllocGlobal + Threads + Wait + Clock + Sync>(
+    rt: &R,
+    parts: &Parts,
+) -> Result<bool, Fail> {
     let words = parts.paths.words(rt.alloc(), &SOLVE)?;
     let mut faults = Vec::new(rt.alloc());
     let mut answer = Looking {
-        rt: &rt,
-        parts: &parts,
+        rt,
+        parts,
         pieces: 0,
         is_in_place: true,
     };
-    let status = command(&rt, rt.alloc(), &words, &mut answer, &mut faults);
+    let status = command(rt, rt.alloc(), &words, &mut answer, &mut faults);
     let Looking {
         rt: _,
         parts: _,
         pieces,
         is_in_place,
     } = answer;
-    assert!(rt; status == 20 && pieces > 0 && is_in_place);
-    Ok(())
+    Ok(status == 20 && pieces > 0 && is_in_place)
 }
 
-/// The part of the proof is the formula's file.
+/// What is tried where an old proof is.
+#[derive(Clone, Copy)]
+enum Trial {
+    PartOfAKilledRun,
+    FolderAsPart,
+    AnswerBehind,
+}
+
+/// Each trial, with its files' name.
+static TRIALS: [(&str, Trial); 3] = [
+    ("kept_killed.cnf", Trial::PartOfAKilledRun),
+    ("kept_folder.cnf", Trial::FolderAsPart),
+    ("kept_behind.cnf", Trial::AnswerBehind),
+];
+
+/// Whether a trial goes well.
+fn goes_well<R: Env + Files + AllocGlobal + Threads + Wait + Clock + Sync>(
+    rt: &R,
+    name: &str,
+    trial: Trial,
+) -> Result<bool, Fail> {
+    let parts = Parts::of(rt, name, FOUR)?;
+    match trial {
+        Trial::PartOfAKilledRun => goes_over_part(rt, &parts),
+        Trial::FolderAsPart => leaves_folder(rt, &parts),
+        Trial::AnswerBehind => comes_behind(rt, &parts),
+    }
+}
+
 #[test]
-fn the_formula_is_no_part(rt: HostRuntime) -> Result<(), Fail> {
-    let proof = path_of(&rt, "whole.lrat")?;
-    let formula = format!(in rt.alloc(); "{proof}.part")?;
-    fs::write(&rt, formula.as_str(), FOUR)?;
-    assert!(rt; is_refused(&rt, formula.as_str(), proof.as_str())?);
-    fs::remove_file(&rt, formula.as_str())?;
+fn a_proof_that_takes_its_place(rt: HostRuntime) -> Result<(), Fail> {
+    for (name, trial) in &TRIALS {
+        assert!(rt; goes_well(&rt, name, *trial)?, "{name}");
+    }
     Ok(())
 }

@@ -1,101 +1,97 @@
-//! The command line: each option does what it says, and each thing printed goes where it belongs.
-use crate::sessions::{Paths, Row, Wanted, check_rows, prints, run};
-use cubesat::command;
+//! The options that change how a formula is solved: each budget, search and number of hands is the
+//! one named. And the numbers that are explained.
+use crate::command_lines::{REFUTED, Row, check_rows, run};
 use samples::EIGHT;
-use samples::faulty::{Limited, Limits};
-use std::rt::Files;
-use std::sync::Wait;
 use std::test::Fail;
-use std::thread::Threads;
-use std::time::Clock;
 
+/// The proof of the eight clauses at budgets that exhaust the root.
 pub const SPLIT: &str =
     "9 2 1 0 1 2 0\n10 1 0 9 3 4 0\n10 d 9 0\n11 2 -1 0 5 6 0\n12 -1 0 11 7 8 0\n12 d 11 0\n13 0 10 12 0\n";
 
-const LEARNT: &str = "9 1 2 0 1 2 0\n10 1 0 9 3 4 0\n11 2 0 10 5 6 0\n12 0 10 11 7 8 0\n";
+/// `solve` on the eight clauses writes a proof into a new file.
+const BUDGET_1: Row = Row {
+    formula: EIGHT,
+    before: None,
+    words: &[
+        "cubesat", "solve", "--budget", "1", "--proof", "PROOF", "FORMULA",
+    ],
+    wanted: REFUTED,
+    after: SPLIT,
+};
 
-/// Their proofs at budgets that exhaust the root, and at 4 and more.
-static BUDGETS: [(&str, &str); 6] = [
-    ("1", SPLIT),
-    ("2", SPLIT),
-    ("4", LEARNT),
-    ("1000", LEARNT),
-    ("99999", LEARNT),
-    ("100000", LEARNT),
-];
+/// At budgets of 4 and more.
+const BUDGET_4: Row = Row {
+    words: &[
+        "cubesat", "solve", "--budget", "4", "--proof", "PROOF", "FORMULA",
+    ],
+    after: "9 1 2 0 1 2 0\n10 1 0 9 3 4 0\n11 2 0 10 5 6 0\n12 0 10 11 7 8 0\n",
+    ..BUDGET_1
+};
 
-/// `solve` on the eight clauses with an option writes this proof into a new file.
-fn solved_with<'a>(words: &'a [&'a str], proof: &'a str) -> Row<'a> {
+static ROWS: [Row; 11] = [
+    BUDGET_1,
     Row {
-        formula: EIGHT,
-        before: None,
-        words,
-        wanted: Wanted {
-            status: 20,
-            answer: "s UNSATISFIABLE\n",
-            faults: "",
-        },
-        after: proof,
-    }
-}
-
-#[test]
-fn each_budget_is_the_one_named(rt: HostRuntime) -> Result<(), Fail> {
-    for (budget, proof) in &BUDGETS {
-        let words = [
-            "cubesat", "solve", "--budget", budget, "--proof", "PROOF", "FORMULA",
-        ];
-        check_rows(&rt, "budgets.cnf", &[solved_with(&words, proof)])?;
-    }
-    Ok(())
-}
-
-#[test]
-fn the_ordered_search_is_the_one_of_no_name(rt: HostRuntime) -> Result<(), Fail> {
-    let words = [
-        "cubesat", "solve", "--search", "ordered", "--proof", "PROOF", "FORMULA",
-    ];
-    check_rows(&rt, "ordered.cnf", &[solved_with(&words, LEARNT)])
-}
-
-#[test]
-fn each_number_of_hands_writes_the_same(rt: HostRuntime) -> Result<(), Fail> {
-    for hands in ["1", "2", "8", "16"] {
-        let words = [
-            "cubesat", "solve", "--hands", hands, "--proof", "PROOF", "FORMULA",
-        ];
-        check_rows(&rt, "hands.cnf", &[solved_with(&words, LEARNT)])?;
-    }
-    Ok(())
-}
-
-/// Whether a command line whose fault can't be printed has the status of a fault, and prints
-/// nothing else.
-fn is_silent<R: Files + AllocGlobal + Threads + Wait + Clock + Sync>(
-    rt: &R,
-    words: &[&str],
-) -> bool {
-    let mut answer = Vec::new(rt.alloc());
-    let mut faults = Limited::new(rt.alloc(), Limits::of(0));
-    let status = command(rt, rt.alloc(), words, &mut answer, &mut faults);
-    status == 1 && answer.is_empty() && faults.refusals > 0
-}
-
-static FAULTY: [&[&str]; 4] = [
-    &["cubesat", "check", "MISSING", "MISSING"],
-    &["cubesat", "solve", "--proof", "MISSING", "MISSING"],
-    &["cubesat", "explain", "99"],
-    &["cubesat"],
+        words: &[
+            "cubesat", "solve", "--budget", "2", "--proof", "PROOF", "FORMULA",
+        ],
+        ..BUDGET_1
+    },
+    BUDGET_4,
+    Row {
+        words: &[
+            "cubesat", "solve", "--budget", "1000", "--proof", "PROOF", "FORMULA",
+        ],
+        ..BUDGET_4
+    },
+    Row {
+        words: &[
+            "cubesat", "solve", "--budget", "99999", "--proof", "PROOF", "FORMULA",
+        ],
+        ..BUDGET_4
+    },
+    Row {
+        words: &[
+            "cubesat", "solve", "--budget", "100000", "--proof", "PROOF", "FORMULA",
+        ],
+        ..BUDGET_4
+    },
+    // the ordered search is the one of no name
+    Row {
+        words: &[
+            "cubesat", "solve", "--search", "ordered", "--proof", "PROOF", "FORMULA",
+        ],
+        ..BUDGET_4
+    },
+    // each number of hands writes the same
+    Row {
+        words: &[
+            "cubesat", "solve", "--hands", "1", "--proof", "PROOF", "FORMULA",
+        ],
+        ..BUDGET_4
+    },
+    Row {
+        words: &[
+            "cubesat", "solve", "--hands", "2", "--proof", "PROOF", "FORMULA",
+        ],
+        ..BUDGET_4
+    },
+    Row {
+        words: &[
+            "cubesat", "solve", "--hands", "8", "--proof", "PROOF", "FORMULA",
+        ],
+        ..BUDGET_4
+    },
+    Row {
+        words: &[
+            "cubesat", "solve", "--hands", "16", "--proof", "PROOF", "FORMULA",
+        ],
+        ..BUDGET_4
+    },
 ];
 
 #[test]
-fn faults_that_cannot_be_printed(rt: HostRuntime) -> Result<(), Fail> {
-    let paths = Paths::of(&rt, "unprinted.cnf")?;
-    for words in &FAULTY {
-        let words = paths.words(rt.alloc(), words)?;
-        assert!(rt; is_silent(&rt, &words), "{words:?}");
-    }
-    Ok(())
+fn each_option_is_the_one_named(rt: HostRuntime) -> Result<(), Fail> {
+    check_rows(&rt, "options.cnf", &ROWS)
 }
 
 /// The numbers that the program prints, and no others.
@@ -114,24 +110,4 @@ fn numbers_are_explained(rt: HostRuntime) {
             && printed.answer.ends_with(b".\n");
         assert!(rt; is_explained, "{number}");
     }
-}
-
-#[test]
-fn one_number_of_two_is_explained(rt: HostRuntime) {
-    let printed = run(&rt, &["cubesat", "explain", "51", "99"]);
-    let wanted = b"cubesat: no fault or refusal has the number 99\n";
-    assert!(rt; printed.status == 1 && printed.faults.as_slice() == wanted.as_slice());
-    assert!(rt; printed.answer.starts_with(b"51: The formula wasn't read"));
-}
-
-#[test]
-fn the_version_is_shown(rt: HostRuntime) {
-    let printed = run(&rt, &["./another_name", "--version"]);
-    assert!(rt; printed.status == 0 && printed.faults.is_empty());
-    assert!(rt;
-        printed
-            .answer
-            .ends_with(b" (rattle-kit-13f logic dac8208d650f15bf)\n")
-    );
-    assert!(rt; printed.answer.starts_with(b"cubesat 0."));
 }

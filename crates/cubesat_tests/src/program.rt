@@ -1,40 +1,53 @@
-//! The program: what is printed, the statuses, and what stands in the files.
-use crate::sessions::{Row, Wanted, check_rows, run};
+//! The program: what is printed, the statuses, and what stands in the files; and command lines that
+//! are wrong.
+use crate::command_lines::{REFUTED, Row, check_rows, run};
 use samples::{FOUR, FOUR_PROOF, WIDE, WIDE_PROOF};
+use sessions::Wanted;
 use std::test::Fail;
 
-/// A formula that is refused, since it names a variable that it doesn't have.
-const REFUSED: &str = "p cnf 2 1\n1 3 0\n";
-
-const SOLVE: [&str; 5] = ["cubesat", "solve", "--proof", "PROOF", "FORMULA"];
-
-const CHECK: [&str; 4] = ["cubesat", "check", "FORMULA", "PROOF"];
-
-/// What is printed of a file that can't be opened.
-const NOT_OPENED: Wanted = Wanted {
-    status: 1,
-    answer: "",
-    faults: "fault 56\nc |MISSING|: no such file\n",
+/// A file that can't be opened is named, and the proof's file is as it was.
+const UNOPENED: Row = Row {
+    formula: "p cnf 0 0\n",
+    before: Some("old"),
+    words: &["cubesat", "solve", "--proof", "PROOF", "MISSING"],
+    wanted: Wanted {
+        status: 1,
+        answer: "",
+        faults: "fault 56\nc |MISSING|: no such file\n",
+    },
+    after: "old",
 };
 
-static DECIDED: [Row; 2] = [
+/// Clause 6 has a candidate that this proof leaves out.
+const CUT: &str = "5 3 1 0 0\n6 -3 0 0\n7 1 0 1 2 0\n8 0 7 3 4 0\n";
+
+/// A proof is checked, and left as it was.
+const ACCEPTED: Row = Row {
+    formula: WIDE,
+    before: Some(WIDE_PROOF),
+    words: &["cubesat", "check", "FORMULA", "PROOF"],
+    wanted: Wanted {
+        status: 0,
+        answer: "accepted\n",
+        faults: "",
+    },
+    after: WIDE_PROOF,
+};
+
+static ROWS: [Row; 8] = [
     Row {
         formula: FOUR,
         before: None,
         words: &[
             "cubesat", "solve", "--budget", "1", "--hands", "4", "--proof", "PROOF", "FORMULA",
         ],
-        wanted: Wanted {
-            status: 20,
-            answer: "s UNSATISFIABLE\n",
-            faults: "",
-        },
+        wanted: REFUTED,
         after: FOUR_PROOF,
     },
     Row {
         formula: "p cnf 2 1\n1 2 0\n",
         before: Some(FOUR_PROOF),
-        words: &SOLVE,
+        words: &["cubesat", "solve", "--proof", "PROOF", "FORMULA"],
         wanted: Wanted {
             status: 10,
             answer: "s SATISFIABLE\nv -1 2 0\n",
@@ -42,102 +55,53 @@ static DECIDED: [Row; 2] = [
         },
         after: "",
     },
-];
-
-#[test]
-fn a_formula_is_decided(rt: HostRuntime) -> Result<(), Fail> {
-    check_rows(&rt, "decided.cnf", &DECIDED)
-}
-
-static CHECKED: [Row; 2] = [
+    ACCEPTED,
     Row {
-        formula: WIDE,
-        before: Some(WIDE_PROOF),
-        words: &CHECK,
-        wanted: Wanted {
-            status: 0,
-            answer: "accepted\n",
-            faults: "",
-        },
-        after: WIDE_PROOF,
-    },
-    Row {
-        formula: WIDE,
-        before: Some("5 3 1 0 0\n6 -3 0 0\n7 1 0 1 2 0\n8 0 7 3 4 0\n"),
-        words: &CHECK,
+        before: Some(CUT),
         wanted: Wanted {
             status: 1,
             answer: "refused 27 step 2\n",
             faults: "c |PROOF|: clause 6 has no hints for one of its candidates (line 2)\n",
         },
-        after: "5 3 1 0 0\n6 -3 0 0\n7 1 0 1 2 0\n8 0 7 3 4 0\n",
+        after: CUT,
+        ..ACCEPTED
     },
-];
-
-#[test]
-fn a_proof_is_checked(rt: HostRuntime) -> Result<(), Fail> {
-    check_rows(&rt, "checked.cnf", &CHECKED)
-}
-
-/// The proof's file is as it was.
-static UNREADABLE: [Row; 1] = [Row {
-    formula: REFUSED,
-    before: Some("old"),
-    words: &SOLVE,
-    wanted: Wanted {
-        status: 1,
-        answer: "",
-        faults: "fault 51: refusal 5 at line 2, column 3\nc |FORMULA|: a variable above the header's number of variables (line 2, column 3)\nc   1 3 0\nc     ^\n",
-    },
-    after: "old",
-}];
-
-#[test]
-fn an_unreadable_formula(rt: HostRuntime) -> Result<(), Fail> {
-    check_rows(&rt, "unreadable.cnf", &UNREADABLE)
-}
-
-static UNOPENED: [Row; 2] = [
+    // a variable that the formula doesn't have
     Row {
-        formula: "p cnf 0 0\n",
-        before: Some("old"),
-        words: &["cubesat", "solve", "--proof", "PROOF", "MISSING"],
-        wanted: NOT_OPENED,
-        after: "old",
+        formula: "p cnf 2 1\n1 3 0\n",
+        words: &["cubesat", "solve", "--proof", "PROOF", "FORMULA"],
+        wanted: Wanted {
+            status: 1,
+            answer: "",
+            faults: "fault 51: refusal 5 at line 2, column 3\nc |FORMULA|: a variable above the header's number of variables (line 2, column 3)\nc   1 3 0\nc     ^\n",
+        },
+        ..UNOPENED
     },
+    UNOPENED,
     Row {
-        formula: "p cnf 0 0\n",
-        before: Some("old"),
         words: &["cubesat", "solve", "--proof", "MISSING", "FORMULA"],
         wanted: Wanted {
+            status: 1,
+            answer: "",
             faults: "fault 56\nc |MISSING|: can't be created: its folder doesn't exist\n",
-            ..NOT_OPENED
         },
-        after: "old",
+        ..UNOPENED
+    },
+    // a folder opens and can't be read
+    Row {
+        words: &["cubesat", "solve", "--proof", "PROOF", "."],
+        wanted: Wanted {
+            status: 1,
+            answer: "",
+            faults: "fault 51: refusal 10\nc .: is a folder\n",
+        },
+        ..UNOPENED
     },
 ];
 
 #[test]
-fn files_that_cannot_be_opened(rt: HostRuntime) -> Result<(), Fail> {
-    check_rows(&rt, "opened.cnf", &UNOPENED)
-}
-
-/// A folder opens and can't be read.
-static FOLDER: [Row; 1] = [Row {
-    formula: "p cnf 0 0\n",
-    before: Some("old"),
-    words: &["cubesat", "solve", "--proof", "PROOF", "."],
-    wanted: Wanted {
-        status: 1,
-        answer: "",
-        faults: "fault 51: refusal 10\nc .: is a folder\n",
-    },
-    after: "old",
-}];
-
-#[test]
-fn a_folder_is_no_formula(rt: HostRuntime) -> Result<(), Fail> {
-    check_rows(&rt, "folder.cnf", &FOLDER)
+fn runs_and_checks(rt: HostRuntime) -> Result<(), Fail> {
+    check_rows(&rt, "program.cnf", &ROWS)
 }
 
 static WRONG: [&[&str]; 27] = [
@@ -224,15 +188,4 @@ fn wrong_command_lines(rt: HostRuntime) {
             && printed.faults.starts_with(b"error: ");
         assert!(rt; is_refused, "{words:?}");
     }
-}
-
-#[test]
-fn help_is_shown(rt: HostRuntime) {
-    let printed = run(&rt, &["./another_name", "--help"]);
-    assert!(rt; printed.status == 0 && printed.faults.is_empty());
-    assert!(rt;
-        printed
-            .answer
-            .starts_with(b"A SAT solver with LRAT proofs\n\nUsage: cubesat")
-    );
 }

@@ -1,6 +1,7 @@
 //! A proof that would be written over its formula, by whatever name.
-use crate::sessions::{Wanted, path_of, prints, run};
+use crate::command_lines::{prints, run};
 use samples::FOUR;
+use sessions::{Wanted, path_of};
 use std::fs;
 use std::rt::{Env, Files};
 use std::sync::Wait;
@@ -9,7 +10,7 @@ use std::thread::Threads;
 use std::time::Clock;
 
 /// Whether `solve` refuses these two names of one file, and leaves its text.
-pub(crate) fn is_refused<R: Files + AllocGlobal + Threads + Wait + Clock + Sync>(
+fn is_refused<R: Files + AllocGlobal + Threads + Wait + Clock + Sync>(
     rt: &R,
     formula: &str,
     proof: &str,
@@ -89,25 +90,6 @@ impl Names {
     }
 }
 
-#[test]
-fn the_formula_is_not_written_over(rt: HostRuntime) -> Result<(), Fail> {
-    let names = Names::of(&rt, "kept.cnf", "kept_link", "kept_name")?;
-    names.make(&rt)?;
-    let formula = names.formula.as_str();
-    for name in [formula, names.link.as_str(), names.other.as_str()] {
-        assert!(rt; are_refused(&rt, formula, name)?, "{name}");
-    }
-    names.remove(&rt)
-}
-
-/// A device isn't a regular file: nothing in it can be written over.
-#[test]
-fn a_device_may_be_both(rt: HostRuntime) {
-    let words = ["cubesat", "solve", "--proof", "/dev/null", "/dev/null"];
-    let printed = run(&rt, &words);
-    assert!(rt; printed.status == 1 && printed.faults.starts_with(b"fault 51: refusal 1"));
-}
-
 /// Whether `solve --verbose` refuses two names of one file and says both.
 fn are_said<R: Files + AllocGlobal + Threads + Wait + Clock + Sync>(
     rt: &R,
@@ -120,12 +102,59 @@ fn are_said<R: Files + AllocGlobal + Threads + Wait + Clock + Sync>(
     Ok(printed.status == 1 && printed.faults.ends_with(wanted.as_bytes()))
 }
 
-/// What `--verbose` says of two names of one file.
+/// Whether `solve` refuses a proof whose part is the formula's file.
+fn is_no_part<R: Env + Files + AllocGlobal + Threads + Wait + Clock + Sync>(
+    rt: &R,
+) -> Result<bool, Fail> {
+    let proof = path_of(rt, "same_part.lrat")?;
+    let formula = format!(in rt.alloc(); "{proof}.part")?;
+    fs::write(rt, formula.as_str(), FOUR)?;
+    let is_refused = is_refused(rt, formula.as_str(), proof.as_str())?;
+    fs::remove_file(rt, formula.as_str())?;
+    Ok(is_refused)
+}
+
+/// Under which name a proof would be written over its formula, and what is tried of that.
+#[derive(Clone, Copy, Debug)]
+enum Trial {
+    Itself,
+    Link,
+    OtherName,
+    /// Each name of the file is said.
+    Said,
+    Part,
+}
+
+static TRIALS: [Trial; 5] = [
+    Trial::Itself,
+    Trial::Link,
+    Trial::OtherName,
+    Trial::Said,
+    Trial::Part,
+];
+
+/// Whether a trial goes well with the names of a file.
+fn goes_well<R: Env + Files + AllocGlobal + Threads + Wait + Clock + Sync>(
+    rt: &R,
+    names: &Names,
+    trial: Trial,
+) -> Result<bool, Fail> {
+    let formula = names.formula.as_str();
+    match trial {
+        Trial::Itself => are_refused(rt, formula, formula),
+        Trial::Link => are_refused(rt, formula, names.link.as_str()),
+        Trial::OtherName => are_refused(rt, formula, names.other.as_str()),
+        Trial::Said => are_said(rt, formula, names.other.as_str()),
+        Trial::Part => is_no_part(rt),
+    }
+}
+
 #[test]
-fn each_name_of_the_file_is_said(rt: HostRuntime) -> Result<(), Fail> {
-    let names = Names::of(&rt, "two.cnf", "two_link", "two_name")?;
+fn the_formula_is_not_written_over(rt: HostRuntime) -> Result<(), Fail> {
+    let names = Names::of(&rt, "same.cnf", "same_link", "same_name")?;
     names.make(&rt)?;
-    let (formula, other) = (names.formula.as_str(), names.other.as_str());
-    assert!(rt; are_said(&rt, formula, other)?);
+    for trial in &TRIALS {
+        assert!(rt; goes_well(&rt, &names, *trial)?, "{trial:?}");
+    }
     names.remove(&rt)
 }

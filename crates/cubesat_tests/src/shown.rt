@@ -1,9 +1,9 @@
 //! Where what is shown of a run can't be printed, all else stays as it is.
 use crate::options::SPLIT;
-use crate::sessions::{Paths, put_texts};
 use cubesat::{Screen, command_on};
 use samples::EIGHT;
 use samples::faulty::{Limited, Limits};
+use sessions::{Paths, put_texts};
 use std::fs;
 use std::rt::Files;
 use std::sync::Wait;

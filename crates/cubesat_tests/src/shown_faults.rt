@@ -1,9 +1,11 @@
 //! What `--verbose` prints, and that a fault's lines and the answer stay as they are.
-use crate::sessions::{Paths, Wanted, is_printed, put_texts, run_words};
+use crate::command_lines::run_words;
 use cubesat::explanation;
 use samples::{WIDE, WIDE_PROOF};
+use sessions::{Paths, Wanted, is_printed, put_texts};
 use std::alloc::{AllocError, Global};
 use std::fmt::Write;
+use std::process::Abort;
 use std::rt::Files;
 use std::sync::Wait;
 use std::test::Fail;
@@ -169,20 +171,6 @@ static CHECKS: [Row; 6] = [
         ..ACCEPTED
     },
 ];
-
-#[test]
-fn a_check_says_what_it_does(rt: HostRuntime) -> Result<(), Fail> {
-    let paths = Paths::of(&rt, "shown_check.cnf")?;
-    for row in &CHECKS {
-        assert!(rt;
-            shows(&rt, &paths, row)?,
-            "{:?} with {}",
-            row.words,
-            row.answer
-        );
-    }
-    Ok(())
-}
 
 /// A run that refutes the formula.
 const REFUTED: Row = Row {
@@ -376,16 +364,25 @@ static RUNS: [Row; 10] = [
     },
 ];
 
-#[test]
-fn a_run_says_what_it_does(rt: HostRuntime) -> Result<(), Fail> {
-    let paths = Paths::of(&rt, "shown_run.cnf")?;
-    for row in &RUNS {
+fn check_rows<R: Abort + Files + AllocGlobal + Threads + Wait + Clock + Sync>(
+    rt: &R,
+    paths: &Paths,
+    rows: &[Row],
+) -> Result<(), Fail> {
+    for row in rows {
         assert!(rt;
-            shows(&rt, &paths, row)?,
+            shows(rt, paths, row)?,
             "{:?} with {}",
             row.words,
             row.answer
         );
     }
     Ok(())
+}
+
+#[test]
+fn a_command_says_what_it_does(rt: HostRuntime) -> Result<(), Fail> {
+    let paths = Paths::of(&rt, "shown_faults.cnf")?;
+    check_rows(&rt, &paths, &CHECKS)?;
+    check_rows(&rt, &paths, &RUNS)
 }

@@ -1,7 +1,7 @@
 //! What the program says of a fault in words, from the files on.
-use crate::sessions::{Paths, Wanted, put_texts, says};
-use cubesat::command;
-use samples::faulty::{Limited, Limits};
+use crate::command_lines::says;
+use sessions::{Paths, Wanted, put_texts};
+use std::process::Abort;
 use std::rt::Files;
 use std::sync::Wait;
 use std::test::Fail;
@@ -55,20 +55,23 @@ fn holds<R: Files + AllocGlobal + Threads + Wait + Clock + Sync>(
     says(rt, paths, row.words, &wanted)
 }
 
-/// The first of the rows that isn't as it is to be.
-fn first_wrong<R: Files + AllocGlobal + Threads + Wait + Clock + Sync>(
+fn check_rows<R: Abort + Files + AllocGlobal + Threads + Wait + Clock + Sync>(
     rt: &R,
     paths: &Paths,
     rows: &[Row],
-) -> Result<Option<usize>, Fail> {
-    for (at, row) in rows.iter().enumerate() {
-        if !holds(rt, paths, row)? {
-            return Ok(Some(at));
-        }
+) -> Result<(), Fail> {
+    for row in rows {
+        assert!(rt;
+            holds(rt, paths, row)?,
+            "{:?} with {}",
+            row.words,
+            row.faults
+        );
     }
-    Ok(None)
+    Ok(())
 }
 
+/// Files that the system refuses.
 static FILES: [Row; 7] = [
     Row {
         words: &["cubesat", "solve", "--proof", "PROOF", "MISSING"],
@@ -107,13 +110,7 @@ static FILES: [Row; 7] = [
     },
 ];
 
-#[test]
-fn files_that_the_system_refuses(rt: HostRuntime) -> Result<(), Fail> {
-    let paths = Paths::of(&rt, "worded_files.cnf")?;
-    assert!(rt; first_wrong(&rt, &paths, &FILES)?.is_none());
-    Ok(())
-}
-
+/// Formulas that are refused.
 static FORMULAS: [Row; 16] = [
     Row {
         formula: b"1 2 0\n",
@@ -199,14 +196,7 @@ static FORMULAS: [Row; 16] = [
     },
 ];
 
-#[test]
-fn formulas_that_are_refused(rt: HostRuntime) -> Result<(), Fail> {
-    let paths = Paths::of(&rt, "worded_formulas.cnf")?;
-    let wrong = first_wrong(&rt, &paths, &FORMULAS)?;
-    assert!(rt; wrong.is_none(), "{wrong:?}");
-    Ok(())
-}
-
+/// Proofs that are refused.
 static PROOFS: [Row; 17] = [
     Row {
         proof: b"4 1 0 1 2 0\n",
@@ -316,35 +306,9 @@ static PROOFS: [Row; 17] = [
 ];
 
 #[test]
-fn proofs_that_are_refused(rt: HostRuntime) -> Result<(), Fail> {
-    let paths = Paths::of(&rt, "worded_proofs.cnf")?;
-    let wrong = first_wrong(&rt, &paths, &PROOFS)?;
-    assert!(rt; wrong.is_none(), "{wrong:?}");
-    Ok(())
-}
-
-const UNWRITTEN: &[u8] =
-    b"fault 54\nc the answer: other error\nc what was printed is only a beginning of it\n";
-
-/// Whether a command line says that its answer's writer, which has room for four bytes, failed.
-fn is_unwritten<R: Files + AllocGlobal + Threads + Wait + Clock + Sync>(
-    rt: &R,
-    paths: &Paths,
-    words: &[&str],
-) -> Result<bool, Fail> {
-    let words = paths.words(rt.alloc(), words)?;
-    let mut answer = Limited::new(rt.alloc(), Limits::of(4));
-    let mut faults = Vec::new(rt.alloc());
-    let _ = command(rt, rt.alloc(), &words, &mut answer, &mut faults);
-    Ok(faults.as_slice() == UNWRITTEN)
-}
-
-#[test]
-fn answers_that_are_not_written(rt: HostRuntime) -> Result<(), Fail> {
-    let paths = Paths::of(&rt, "worded_answers.cnf")?;
-    put_texts(&rt, &paths, FOUR, b"5 1 0 1 2 0\n6 0 5 3 4 0\n")?;
-    for words in [SOLVED.words, CHECKED.words] {
-        assert!(rt; is_unwritten(&rt, &paths, words)?);
-    }
-    Ok(())
+fn faults_in_words(rt: HostRuntime) -> Result<(), Fail> {
+    let paths = Paths::of(&rt, "worded.cnf")?;
+    check_rows(&rt, &paths, &FILES)?;
+    check_rows(&rt, &paths, &FORMULAS)?;
+    check_rows(&rt, &paths, &PROOFS)
 }

@@ -46,12 +46,16 @@ fn leaves(closing: &Closing, cubes: &[&[i32]]) -> bool {
 
 static ONE_HAND: [Call; 3] = [Call::Take(&[]), Call::TakeNone, Call::Put(&[-1, 2])];
 
-#[test]
-fn one_hand(rt: HostRuntime) -> Result<(), Fail> {
-    let closing = one_closed(rt.alloc(), &[], &ONE_HAND)?.ok_or("another answer")?;
-    assert!(rt; leaves(&closing, &[&[-1, 2]]));
-    assert!(rt; closing.least.is_none() && closing.undone == 1);
-    Ok(())
+static LEFT_BY_ONE: [&[i32]; 1] = [&[-1, 2]];
+
+/// Whether the calls of one hand answer and leave what they are to.
+fn one_hand(alloc: Global) -> Result<bool, Fail> {
+    match one_closed(alloc, &[], &ONE_HAND)? {
+        Some(closing) => Ok(
+            leaves(&closing, &LEFT_BY_ONE) && closing.least.is_none() && closing.undone == 1,
+        ),
+        None => Ok(false),
+    }
 }
 
 static WORDS: [(usize, Call); 15] = [
@@ -72,14 +76,12 @@ static WORDS: [(usize, Call); 15] = [
     (0, Call::Halted(true)),
 ];
 
-#[test]
-fn words(rt: HostRuntime) -> Result<(), Fail> {
-    let closing = two_closed(rt.alloc(), 0, &[], &WORDS)?.ok_or("another answer")?;
-    assert_eq!(rt;
-        (closing.left.len(), closing.least, closing.undone),
-        (1, Some(0), 0)
-    );
-    Ok(())
+/// Whether words that two hands share are the same for both.
+fn words(alloc: Global) -> Result<bool, Fail> {
+    match two_closed(alloc, 0, &[], &WORDS)? {
+        Some(closing) => Ok((closing.left.len(), closing.least, closing.undone) == (1, Some(0), 0)),
+        None => Ok(false),
+    }
 }
 
 // with no other thread each steal from a deque that isn't empty succeeds
@@ -92,11 +94,14 @@ static STEALS: [(usize, Call); 6] = [
     (0, Call::Steal(1, &[1, -2])),
 ];
 
-#[test]
-fn steals(rt: HostRuntime) -> Result<(), Fail> {
-    let closing = two_closed(rt.alloc(), 2, &[1], &STEALS)?.ok_or("another answer")?;
-    assert!(rt; leaves(&closing, &[&[-1], &[1, 2]]));
-    Ok(())
+static LEFT_BY_STEALS: [&[i32]; 2] = [&[-1], &[1, 2]];
+
+/// Whether two hands steal from one another, and leave the rest.
+fn steals(alloc: Global) -> Result<bool, Fail> {
+    match two_closed(alloc, 2, &[1], &STEALS)? {
+        Some(closing) => Ok(leaves(&closing, &LEFT_BY_STEALS)),
+        None => Ok(false),
+    }
 }
 
 fn three_closed(alloc: Global) -> Result<Closing, Fail> {
@@ -104,16 +109,21 @@ fn three_closed(alloc: Global) -> Result<Closing, Fail> {
     Ok(pool.close(hands)?)
 }
 
-#[test]
-fn three_hands_closed_at_once(rt: HostRuntime) -> Result<(), Fail> {
-    let closing = three_closed(rt.alloc())?;
-    assert!(rt; leaves(&closing, &[&[]]));
-    assert!(rt; closing.least.is_none() && closing.undone == 1);
-    Ok(())
+static ROOT: [&[i32]; 1] = [&[]];
+
+/// Whether three hands that are closed at once leave the root.
+fn three_hands(alloc: Global) -> Result<bool, Fail> {
+    let closing = three_closed(alloc)?;
+    Ok(leaves(&closing, &ROOT) && closing.least.is_none() && closing.undone == 1)
 }
 
 #[test]
-fn refusals(rt: HostRuntime) {
+fn calls(rt: HostRuntime) -> Result<(), Fail> {
+    assert!(rt; one_hand(rt.alloc())?, "one hand");
+    assert!(rt; words(rt.alloc())?, "words");
+    assert!(rt; steals(rt.alloc())?, "steals");
+    assert!(rt; three_hands(rt.alloc())?, "three hands");
     assert!(rt; PoolRefusal::NoMemory.number() == 61);
     assert!(rt; PoolRefusal::NotOpened.number() == 62);
+    Ok(())
 }

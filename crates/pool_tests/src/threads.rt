@@ -147,15 +147,11 @@ fn closed_after_theft(rt: &impl Threads, alloc: Global) -> Result<(bool, Closing
     Ok((is_as_wanted, close_two(alloc, pool, one, two)?))
 }
 
-#[test]
-fn a_cube_is_stolen(rt: HostRuntime) -> Result<(), Fail> {
-    let (is_as_wanted, closing) = closed_after_theft(&rt, rt.alloc())?;
-    assert!(rt; is_as_wanted);
-    assert_eq!(rt;
-        (closing.left.len(), closing.least, closing.undone),
-        (0, Some(5), 1)
-    );
-    Ok(())
+/// Whether a cube is stolen, and none of the two is left.
+fn is_stolen(rt: &impl Threads, alloc: Global) -> Result<bool, Fail> {
+    let (is_as_wanted, closing) = closed_after_theft(rt, alloc)?;
+    let closed = (closing.left.len(), closing.least, closing.undone);
+    Ok(is_as_wanted && closed == (0, Some(5), 1))
 }
 
 /// The first hand counts twice up while the second one counts once down; and what each then says is
@@ -188,12 +184,6 @@ fn counted(rt: &impl Threads, alloc: Global) -> Result<((u64, u64), u64), Fail> 
     Ok((open, closing.undone))
 }
 
-#[test]
-fn two_count(rt: HostRuntime) -> Result<(), Fail> {
-    assert_eq!(rt; counted(&rt, rt.alloc())?, ((2, 2), 2));
-    Ok(())
-}
-
 /// The closing of a pool whose two hands offered these places.
 fn closed_after_offers<R: Threads + Wait + Sync>(
     rt: &R,
@@ -207,9 +197,18 @@ fn closed_after_offers<R: Threads + Wait + Sync>(
     Ok(close_two(alloc, pool, one, two)?)
 }
 
+static PLACES: [u64; 4] = [9, 5, 4_294_967_296, 7];
+
+/// Whether the least of the places that both hands offered is the one that is kept.
+fn is_least_kept<R: Threads + Wait + Sync>(rt: &R, alloc: Global) -> Result<bool, Fail> {
+    let closing = closed_after_offers(rt, alloc, &PLACES)?;
+    Ok((closing.least, closing.left.len()) == (Some(5), 1))
+}
+
 #[test]
-fn two_offer_in_a_scope(rt: HostRuntime) -> Result<(), Fail> {
-    let closing = closed_after_offers(&rt, rt.alloc(), &[9, 5, 4_294_967_296, 7])?;
-    assert_eq!(rt; (closing.least, closing.left.len()), (Some(5), 1));
+fn two_hands(rt: HostRuntime) -> Result<(), Fail> {
+    assert!(rt; is_stolen(&rt, rt.alloc())?, "stolen");
+    assert!(rt; counted(&rt, rt.alloc())? == ((2, 2), 2), "counted");
+    assert!(rt; is_least_kept(&rt, rt.alloc())?, "offered");
     Ok(())
 }

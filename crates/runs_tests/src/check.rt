@@ -1,10 +1,8 @@
 //! Worked rows of checking: the line written for the bytes of a formula and a proof.
-use cnf::{Place, ReadFault};
-use runs::{Checked, RunFault, check_run};
+use runs::{Checked, check_run};
 use samples::faulty::Trickle;
 use samples::{FOUR, FOUR_PROOF, WIDE, WIDE_PROOF};
 use std::alloc::Global;
-use std::process::Abort;
 use std::test::Fail;
 
 const ACCEPTED: &str = "accepted\n";
@@ -27,22 +25,7 @@ fn has_line(alloc: Global, row: &Row, count: usize) -> Result<bool, Fail> {
     Ok(answer.as_slice() == line.as_bytes() && is_accepted == (line == ACCEPTED))
 }
 
-/// Checks a row's proof in whatever pieces it comes.
-fn check_row(rt: &impl Abort, alloc: Global, row: &Row) -> Result<(), Fail> {
-    for count in &PIECES {
-        assert!(rt; has_line(alloc, row, *count)?, "{} by {count}", row.1);
-    }
-    Ok(())
-}
-
-fn check_rows(rt: &impl Abort, alloc: Global, rows: &[Row]) -> Result<(), Fail> {
-    for row in rows {
-        check_row(rt, alloc, row)?;
-    }
-    Ok(())
-}
-
-static ACCEPTED_PROOFS: [Row; 9] = [
+static ROWS: [Row; 36] = [
     ("p cnf 0 1\n0\n", "2 0 1 0\n", ACCEPTED),
     ("p cnf 1 2\n1 0\n-1 0\n", "3 0 1 2 0\n", ACCEPTED),
     (FOUR, FOUR_PROOF, ACCEPTED),
@@ -58,14 +41,7 @@ static ACCEPTED_PROOFS: [Row; 9] = [
         "5 3 1 0 0\n6 -3 -1 0 0\n7 1 0 1 2 0\n8 0 7 3 4 0\n",
         ACCEPTED,
     ),
-];
-
-#[test]
-fn proofs_that_are_accepted(rt: HostRuntime) -> Result<(), Fail> {
-    check_rows(&rt, rt.alloc(), &ACCEPTED_PROOFS)
-}
-
-static REFUSED_STEPS: [Row; 17] = [
+    // steps
     (FOUR, "4 1 0 1 2 0\n", "refused 21 step 1\n"),
     (FOUR, "5 3 0 0\n", "refused 31 step 1\n"),
     (FOUR, "5 2147483647 0 0\n", "refused 31 step 1\n"),
@@ -91,14 +67,7 @@ static REFUSED_STEPS: [Row; 17] = [
     ),
     (FOUR, "5 1 0 1 2 0\n", "refused 30\n"),
     (FOUR, "", "refused 30\n"),
-];
-
-#[test]
-fn steps_that_are_refused(rt: HostRuntime) -> Result<(), Fail> {
-    check_rows(&rt, rt.alloc(), &REFUSED_STEPS)
-}
-
-static REFUSED_CANDIDATES: [Row; 2] = [
+    // candidates
     (
         WIDE,
         "5 3 1 0 0\n6 -3 0 0\n7 1 0 1 2 0\n8 0 7 3 4 0\n",
@@ -110,14 +79,7 @@ static REFUSED_CANDIDATES: [Row; 2] = [
         "5 3 1 0 0\n6 -3 -1 0 -5 1 0\n7 1 0 1 2 0\n8 0 7 3 4 0\n",
         "refused 28 step 2\n",
     ),
-];
-
-#[test]
-fn candidates_that_are_refused(rt: HostRuntime) -> Result<(), Fail> {
-    check_rows(&rt, rt.alloc(), &REFUSED_CANDIDATES)
-}
-
-static REFUSED_TEXTS: [Row; 8] = [
+    // texts
     (FOUR, "5 1 0 1 2 0", "refused 42 line 1\n"),
     (FOUR, "5 1 0 1 2\n", "refused 43 line 1\n"),
     (FOUR, "\n", "refused 43 line 1\n"),
@@ -128,20 +90,13 @@ static REFUSED_TEXTS: [Row; 8] = [
     (FOUR, "5 1 0 -3 -0 0\n", "refused 41 line 1\n"),
 ];
 
+/// Checks each proof in whatever pieces it comes.
 #[test]
-fn texts_that_are_refused(rt: HostRuntime) -> Result<(), Fail> {
-    check_rows(&rt, rt.alloc(), &REFUSED_TEXTS)
-}
-
-#[test]
-fn a_formula_that_is_refused(rt: HostRuntime) {
-    let mut answer = Vec::new(rt.alloc());
-    let formula = "p cnf 2 1\n1 3 0\n".as_bytes();
-    let result = check_run(rt.alloc(), formula, WIDE_PROOF.as_bytes(), &mut answer);
-    let place = Place { line: 2, column: 3 };
-    assert_eq!(rt;
-        result,
-        Err(RunFault::Read(ReadFault::VariableOutOfRange(place)))
-    );
-    assert!(rt; answer.is_empty());
+fn lines_of_proofs(rt: HostRuntime) -> Result<(), Fail> {
+    for row in &ROWS {
+        for count in &PIECES {
+            assert!(rt; has_line(rt.alloc(), row, *count)?, "{} by {count}", row.1);
+        }
+    }
+    Ok(())
 }

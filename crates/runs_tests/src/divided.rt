@@ -7,7 +7,6 @@ use cubes::OpenGate;
 use runs::{RunFault, run_by_plan, run_one_by_plan};
 use samples::{EIGHT, FOUR};
 use std::alloc::Global;
-use std::process::Abort;
 use std::sync::Wait;
 use std::test::Fail;
 use std::thread::Threads;
@@ -119,19 +118,20 @@ fn hands_write<R: Threads + Wait + Clock + Sync>(
     Ok(are_wanted(row, &answer, &proof))
 }
 
-#[test]
-fn divided_runs(rt: HostRuntime) -> Result<(), Fail> {
-    for row in &ROWS {
-        assert!(rt; writes(rt.alloc(), row)?);
-    }
-    Ok(())
+/// Whether a row's run does, without threads, by one hand and by eight.
+fn holds<R: Threads + Wait + Clock + Sync>(
+    rt: &R,
+    alloc: Global,
+    row: &Row,
+) -> Result<bool, RunFault> {
+    let is_written = writes(alloc, row)? && hands_write(rt, alloc, row, 1)?;
+    Ok(is_written && hands_write(rt, alloc, row, 8)?)
 }
 
 #[test]
-fn divided_runs_of_hands(rt: HostRuntime) -> Result<(), Fail> {
+fn divided_runs(rt: HostRuntime) -> Result<(), Fail> {
     for row in &ROWS {
-        assert!(rt; hands_write(&rt, rt.alloc(), row, 1)?);
-        assert!(rt; hands_write(&rt, rt.alloc(), row, 8)?);
+        assert!(rt; holds(&rt, rt.alloc(), row)?, "{}", row.text);
     }
     Ok(())
 }

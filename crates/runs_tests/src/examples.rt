@@ -1,4 +1,4 @@
-//! Examples from end to end: refuted at budgets from the least on, and each proof accepted.
+//! Examples from end to end: refuted by each search at budgets from the least on, and each proof accepted.
 ghost use Rattle.std.specs.Prelude.{◌≤◌};
 
 use cdcl::{Plan, Search};
@@ -11,7 +11,7 @@ use std::test::Fail;
 const HOLES: u32 = 6;
 
 /// Two circuits that add numbers of four bits, with one output bit different.
-pub const MITER: &str = "p cnf 53 155
+const MITER: &str = "p cnf 53 155
 -1 -5 -9 0 1 5 -9 0 1 -5 9 0 -1 5 9 0 1 -10 0 5 -10 0 -1 -5 10 0 -2 -6 -11 0 2 6 -11 0 2 -6 11 0 -2 6 11 0 -11 -10 -12 0
 11 10 -12 0 11 -10 12 0 -11 10 12 0 2 -13 0 6 -13 0 -2 -6 13 0 11 -14 0 10 -14 0 -11 -10 14 0 -13 15 0 -14 15 0 13 14 -15 0
 -3 -7 -16 0 3 7 -16 0 3 -7 16 0 -3 7 16 0 -16 -15 -17 0 16 15 -17 0 16 -15 17 0 -16 15 17 0 3 -18 0 7 -18 0 -3 -7 18 0 16 -19 0
@@ -60,7 +60,7 @@ fn write_rivals(text: &mut String, hole: u32, pigeon: u32) -> Result<(), AllocEr
 }
 
 /// Seven pigeons in six holes, at most one in each.
-pub fn pigeonhole(alloc: Global) -> Result<String, AllocError> {
+fn pigeonhole(alloc: Global) -> Result<String, AllocError> {
     let mut text = String::from_str(alloc, "p cnf 42 133\n")?;
     for pigeon in 0..=HOLES {
         write_pigeon(&mut text, pigeon)?;
@@ -110,12 +110,7 @@ fn is_refuted(alloc: Global, text: &str, plan: Plan) -> Result<bool, RunFault> {
 }
 
 /// Checks that a formula is refuted by a search, at each of some budgets.
-pub fn check_budgets(
-    rt: &impl Abort,
-    alloc: Global,
-    text: &str,
-    search: Search,
-) -> Result<(), Fail> {
+fn check_budgets(rt: &impl Abort, alloc: Global, text: &str, search: Search) -> Result<(), Fail> {
     for budget in [1, 2, 10, 1000] {
         let plan = plan_of(search, budget);
         assert!(rt; is_refuted(alloc, text, plan)?, "budget {budget}");
@@ -123,13 +118,14 @@ pub fn check_budgets(
     Ok(())
 }
 
-#[test]
-fn pigeons(rt: HostRuntime) -> Result<(), Fail> {
-    let text = pigeonhole(rt.alloc())?;
-    check_budgets(&rt, rt.alloc(), text.as_str(), Search::Ordered)
-}
+static SEARCHES: [Search; 2] = [Search::Ordered, Search::Focused];
 
 #[test]
-fn circuits(rt: HostRuntime) -> Result<(), Fail> {
-    check_budgets(&rt, rt.alloc(), MITER, Search::Ordered)
+fn pigeons_and_circuits(rt: HostRuntime) -> Result<(), Fail> {
+    let pigeons = pigeonhole(rt.alloc())?;
+    for search in &SEARCHES {
+        check_budgets(&rt, rt.alloc(), pigeons.as_str(), *search)?;
+        check_budgets(&rt, rt.alloc(), MITER, *search)?;
+    }
+    Ok(())
 }

@@ -43,52 +43,90 @@ fn leaves(alloc: Global, input: Trickle<'_>, proof: Limits, answer: Limits, left
         && answer.taken.as_slice() == left.answer
 }
 
-#[test]
-fn a_proof_writer_that_fails(rt: HostRuntime) {
+/// Whether a proof's writer with these limits, which has less room than the proof, stops in it.
+fn proof_stops_at(alloc: Global, limits: Limits) -> bool {
+    let Some(taken) = FOUR_PROOF.as_bytes().get(..limits.room) else {
+        return false;
+    };
+    let left = Left {
+        result: Err(RunFault::ProofWriteFailed),
+        proof: taken,
+        answer: b"",
+    };
+    let input = Trickle::at_once(FOUR.as_bytes());
+    leaves(alloc, input, limits, ROOMY, &left)
+}
+
+/// Whether a proof's writer stops in it wherever its room ends, and however.
+fn proof_stops(alloc: Global) -> bool {
     for room in 0..FOUR_PROOF.len() {
-        let left = Left {
-            result: Err(RunFault::ProofWriteFailed),
-            proof: &FOUR_PROOF.as_bytes()[..room],
-            answer: b"",
-        };
         for full in [Full::Fails, Full::TakesNothing] {
             let limits = Limits {
                 full,
                 ..Limits::of(room)
             };
-            let input = Trickle::at_once(FOUR.as_bytes());
-            assert!(rt;
-                leaves(rt.alloc(), input, limits, ROOMY, &left),
-                "room {room}"
-            );
+            if !proof_stops_at(alloc, limits) {
+                return false;
+            }
         }
     }
+    true
 }
 
-#[test]
-fn an_answer_writer_that_fails(rt: HostRuntime) {
-    for room in 0..REFUTED.len() {
-        let left = Left {
-            result: Err(RunFault::AnswerWriteFailed),
-            proof: FOUR_PROOF.as_bytes(),
-            answer: &REFUTED[..room],
-        };
-        let input = Trickle::at_once(FOUR.as_bytes());
-        assert!(rt;
-            leaves(rt.alloc(), input, ROOMY, Limits::of(room), &left),
-            "room {room}"
-        );
-    }
+/// Whether an answer's writer, which has less room than the answer, stops in it, behind this proof.
+fn answer_stops_at(alloc: Global, text: &str, proof: &str, answer: &[u8], room: usize) -> bool {
+    let Some(taken) = answer.get(..room) else {
+        return false;
+    };
     let left = Left {
         result: Err(RunFault::AnswerWriteFailed),
-        proof: b"",
-        answer: b"s S",
+        proof: proof.as_bytes(),
+        answer: taken,
     };
-    let input = Trickle::at_once(SATISFIABLE.as_bytes());
-    assert!(rt;
-        leaves(rt.alloc(), input, ROOMY, Limits::of(3), &left),
-        "satisfiable"
-    );
+    let input = Trickle::at_once(text.as_bytes());
+    leaves(alloc, input, ROOMY, Limits::of(room), &left)
+}
+
+/// Whether an answer's writer stops in it wherever its room ends.
+fn answer_stops(alloc: Global) -> bool {
+    for room in 0..REFUTED.len() {
+        if !answer_stops_at(alloc, FOUR, FOUR_PROOF, REFUTED, room) {
+            return false;
+        }
+    }
+    answer_stops_at(alloc, SATISFIABLE, "", b"s SATISFIABLE\n", 3)
+}
+
+/// Whether all is as ever where bytes come and go one a call.
+fn goes_by_bytes(alloc: Global) -> bool {
+    let left = Left {
+        result: Ok(Verdict::Unsatisfiable),
+        proof: FOUR_PROOF.as_bytes(),
+        answer: REFUTED,
+    };
+    let (proof, answer) = (Limits::of(FOUR_PROOF.len()), Limits::of(REFUTED.len()));
+    let input = Trickle::whole(FOUR.as_bytes());
+    leaves(alloc, input, proof, answer, &left)
+}
+
+/// Whether a reader that fails, behind each number of bytes, leaves nothing.
+fn reader_fails(alloc: Global) -> bool {
+    let left = nothing_but(RunFault::Read(ReadFault::ReadFailed));
+    for count in 0..=FOUR.len() {
+        let input = Trickle::broken(&FOUR.as_bytes()[..count]);
+        if !leaves(alloc, input, ROOMY, ROOMY, &left) {
+            return false;
+        }
+    }
+    true
+}
+
+/// Whether a formula that names a variable beyond its own is refused.
+fn is_refused(alloc: Global) -> bool {
+    let place = Place { line: 2, column: 3 };
+    let left = nothing_but(RunFault::Read(ReadFault::VariableOutOfRange(place)));
+    let input = Trickle::at_once(b"p cnf 2 1\n1 3 0\n");
+    leaves(alloc, input, ROOMY, ROOMY, &left)
 }
 
 /// A formula, the limits of the proof's and the answer's writer, the fault, and what these have
@@ -130,52 +168,28 @@ static FLUSHES: [Unflushed; 3] = [
     ),
 ];
 
-#[test]
-fn a_flush_that_fails(rt: HostRuntime) {
-    for (text, to_proof, to_answer, fault, proof, answer) in &FLUSHES {
-        let left = Left {
-            result: Err(*fault),
-            proof: proof.as_bytes(),
-            answer: *answer,
-        };
-        let input = Trickle::at_once(text.as_bytes());
-        assert!(rt;
-            leaves(rt.alloc(), input, *to_proof, *to_answer, &left),
-            "{fault:?}"
-        );
-    }
-}
-
-#[test]
-fn a_byte_a_call(rt: HostRuntime) {
+/// Whether a row's run leaves what is wanted at writers one of which can't be flushed.
+fn flush_fails(alloc: Global, row: &Unflushed) -> bool {
+    let (text, to_proof, to_answer, fault, proof, answer) = *row;
     let left = Left {
-        result: Ok(Verdict::Unsatisfiable),
-        proof: FOUR_PROOF.as_bytes(),
-        answer: REFUTED,
+        result: Err(fault),
+        proof: proof.as_bytes(),
+        answer,
     };
-    let (proof, answer) = (Limits::of(FOUR_PROOF.len()), Limits::of(REFUTED.len()));
-    let input = Trickle::whole(FOUR.as_bytes());
-    assert!(rt; leaves(rt.alloc(), input, proof, answer, &left));
+    let input = Trickle::at_once(text.as_bytes());
+    leaves(alloc, input, to_proof, to_answer, &left)
 }
 
 #[test]
-fn a_reader_that_fails(rt: HostRuntime) {
-    let left = nothing_but(RunFault::Read(ReadFault::ReadFailed));
-    for count in 0..=FOUR.len() {
-        let input = Trickle::broken(&FOUR.as_bytes()[..count]);
-        assert!(rt;
-            leaves(rt.alloc(), input, ROOMY, ROOMY, &left),
-            "after {count}"
-        );
+fn readers_and_writers(rt: HostRuntime) {
+    assert!(rt; proof_stops(rt.alloc()), "proof");
+    assert!(rt; answer_stops(rt.alloc()), "answer");
+    assert!(rt; goes_by_bytes(rt.alloc()), "bytes");
+    assert!(rt; reader_fails(rt.alloc()), "reader");
+    assert!(rt; is_refused(rt.alloc()), "refused");
+    for row in &FLUSHES {
+        assert!(rt; flush_fails(rt.alloc(), row), "{:?}", row.3);
     }
-}
-
-#[test]
-fn a_formula_that_is_refused(rt: HostRuntime) {
-    let place = Place { line: 2, column: 3 };
-    let left = nothing_but(RunFault::Read(ReadFault::VariableOutOfRange(place)));
-    let input = Trickle::at_once(b"p cnf 2 1\n1 3 0\n");
-    assert!(rt; leaves(rt.alloc(), input, ROOMY, ROOMY, &left));
 }
 
 static NUMBERS: [(RunFault, u32); 5] = [

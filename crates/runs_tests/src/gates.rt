@@ -143,8 +143,8 @@ impl Gate for RightFirst {
 #[derive(Clone, Copy)]
 struct Written<'a> {
     verdict: Verdict,
-    proof: &'a [u8],
-    answer: &'a [u8],
+    proof: &'a str,
+    answer: &'a str,
 }
 
 /// Whether two hands at a gate write this, with a budget of one conflict for the root.
@@ -161,41 +161,48 @@ fn write<R: Threads + Wait + Clock + Sync, G: Gate + Sync>(
     let verdict = run(rt, alloc, text, &mut answer, &mut proof, 1, 2, gate)?;
     Ok(
         verdict == wanted.verdict
-            && proof.as_slice() == wanted.proof
-            && answer.as_slice() == wanted.answer,
+            && proof.as_slice() == wanted.proof.as_bytes()
+            && answer.as_slice() == wanted.answer.as_bytes(),
     )
 }
 
-#[test]
-fn two_hands_are_at_work_at_once(rt: HostRuntime) -> Result<(), Fail> {
-    let wanted = Written {
-        verdict: Verdict::Unsatisfiable,
-        proof: FOUR_PROOF.as_bytes(),
-        answer: b"s UNSATISFIABLE\n",
-    };
-    for _ in 0..20 {
-        let gate = BothHalves::new();
-        assert!(rt; write(&rt, rt.alloc(), FOUR, &gate, &wanted)?);
-        let is_held = gate.let_go.hand() == NOBODY;
-        assert!(rt; is_held && gate.left.hand() != gate.right.hand());
-    }
-    Ok(())
+const REFUTED: Written = Written {
+    verdict: Verdict::Unsatisfiable,
+    proof: FOUR_PROOF,
+    answer: "s UNSATISFIABLE\n",
+};
+
+/// Whether two hands are at work at once.
+fn are_at_work<R: Threads + Wait + Clock + Sync>(rt: &R, alloc: Global) -> Result<bool, RunFault> {
+    let gate = BothHalves::new();
+    let is_written = write(rt, alloc, FOUR, &gate, &REFUTED)?;
+    let is_held = gate.let_go.hand() == NOBODY;
+    Ok(is_written && is_held && gate.left.hand() != gate.right.hand())
 }
 
-/// The model in the right half is found first, and isn't the answer.
+const SATISFIED: Written = Written {
+    verdict: Verdict::Satisfiable,
+    proof: "",
+    answer: "s SATISFIABLE\nv -1 2 -3 0\n",
+};
+
+/// Whether a model in the right half that is found first isn't the answer.
+fn is_left_answered<R: Threads + Wait + Clock + Sync>(
+    rt: &R,
+    alloc: Global,
+) -> Result<bool, RunFault> {
+    let gate = RightFirst::new();
+    let text = "p cnf 3 2\n1 2 3 0\n1 2 -3 0\n";
+    let is_written = write(rt, alloc, text, &gate, &SATISFIED)?;
+    let is_held = gate.let_go.hand() == NOBODY;
+    Ok(is_written && is_held && gate.solved.hand() != NOBODY)
+}
+
 #[test]
-fn a_model_on_the_right_comes_first(rt: HostRuntime) -> Result<(), Fail> {
-    let wanted = Written {
-        verdict: Verdict::Satisfiable,
-        proof: b"",
-        answer: b"s SATISFIABLE\nv -1 2 -3 0\n",
-    };
+fn two_hands_at_a_gate(rt: HostRuntime) -> Result<(), Fail> {
     for _ in 0..20 {
-        let gate = RightFirst::new();
-        let text = "p cnf 3 2\n1 2 3 0\n1 2 -3 0\n";
-        assert!(rt; write(&rt, rt.alloc(), text, &gate, &wanted)?);
-        let is_held = gate.let_go.hand() == NOBODY;
-        assert!(rt; is_held && gate.solved.hand() != NOBODY);
+        assert!(rt; are_at_work(&rt, rt.alloc())?);
+        assert!(rt; is_left_answered(&rt, rt.alloc())?);
     }
     Ok(())
 }

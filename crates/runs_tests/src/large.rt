@@ -11,6 +11,7 @@ use runs::{
 use samples::{FOUR, FOUR_PROOF};
 use std::alloc::Global;
 use std::sync::Wait;
+use std::test::Fail;
 use std::thread::Threads;
 use std::time::Clock;
 
@@ -20,57 +21,62 @@ const WIDE: &[u8] = b"p cnf 262144 2\n1 0\n-1 0\n";
 /// What the standard limits say of it.
 const REFUSED: RunFault = RunFault::Read(ReadFault::OverLimit(Place { line: 1, column: 7 }));
 
-/// A run's verdict, and whether its proof and its answer are these.
-fn runs_to(
-    rt: &(impl Threads + Wait + Clock + Sync),
-    alloc: Global,
-    formula: &[u8],
-    proof: &[u8],
-    answer: &[u8],
-) -> Result<(Verdict, bool), RunFault> {
+/// Whether a run within the large limits writes the four clauses' proof.
+fn runs(rt: &(impl Threads + Wait + Clock + Sync), alloc: Global) -> Result<bool, RunFault> {
     let (limits, plan, gate) = (Limits::Large, Plan::ordered(1), OpenGate);
     let (mut said, mut lines) = (Vec::new(alloc), Vec::new(alloc));
+    let formula = FOUR.as_bytes();
     let verdict = run_within(
         rt, alloc, formula, limits, &mut said, &mut lines, plan, 2, &gate,
     )?;
-    Ok((
-        verdict,
-        lines.as_slice() == proof && said.as_slice() == answer,
-    ))
+    Ok(
+        verdict == Verdict::Unsatisfiable
+            && lines.as_slice() == FOUR_PROOF.as_bytes()
+            && said.as_slice() == b"s UNSATISFIABLE\n".as_slice(),
+    )
 }
 
-#[test]
-fn a_run(rt: HostRuntime) {
-    let wanted = Ok((Verdict::Unsatisfiable, true));
-    let proof = FOUR_PROOF.as_bytes();
-    let run = runs_to(
-        &rt,
-        rt.alloc(),
-        FOUR.as_bytes(),
-        proof,
-        b"s UNSATISFIABLE\n",
-    );
-    assert!(rt; run == wanted);
+/// Whether a fault is what the standard limits say; an error where memory was refused.
+fn is_refusal(fault: RunFault) -> Result<bool, RunFault> {
+    if fault == RunFault::NoMemory {
+        return Err(fault);
+    }
+    Ok(fault == REFUSED)
 }
 
-#[test]
-fn an_answer(rt: HostRuntime) {
+/// Whether the wide formula is refused within the standard limits, and answered within the large
+/// ones.
+fn answers(rt: &(impl Threads + Wait + Clock + Sync), alloc: Global) -> Result<bool, RunFault> {
     let (plan, gate) = (Plan::ordered(1000), OpenGate);
-    let mut said = Vec::new(rt.alloc());
-    let alloc = rt.alloc();
-    let small = answer_by_plan(&rt, alloc, WIDE, &mut said, plan, 1, &gate);
-    assert!(rt; small == Err(REFUSED) && said.is_empty());
-    let large = answer_within(&rt, alloc, WIDE, Limits::Large, &mut said, plan, 1, &gate);
-    assert!(rt; large == Ok(Verdict::Unsatisfiable));
-    assert!(rt; said.as_slice() == b"s UNSATISFIABLE\n".as_slice());
+    let mut said = Vec::new(alloc);
+    let Err(fault) = answer_by_plan(rt, alloc, WIDE, &mut said, plan, 1, &gate) else {
+        return Ok(false);
+    };
+    let is_refused = is_refusal(fault)? && said.is_empty();
+    let verdict = answer_within(rt, alloc, WIDE, Limits::Large, &mut said, plan, 1, &gate)?;
+    Ok(
+        is_refused
+            && verdict == Verdict::Unsatisfiable
+            && said.as_slice() == b"s UNSATISFIABLE\n".as_slice(),
+    )
+}
+
+/// Whether its proof is refused and accepted so.
+fn checks(alloc: Global) -> Result<bool, RunFault> {
+    let mut said = Vec::new(alloc);
+    let proof: &[u8] = b"3 0 1 2 0\n";
+    let Err(fault) = check_run(alloc, WIDE, proof, &mut said) else {
+        return Ok(false);
+    };
+    let is_refused = is_refusal(fault)? && said.is_empty();
+    let checked = check_run_within(alloc, WIDE, proof, Limits::Large, &mut said)?;
+    Ok(is_refused && checked == Checked::Accepted && said.as_slice() == b"accepted\n".as_slice())
 }
 
 #[test]
-fn a_check(rt: HostRuntime) {
-    let mut said = Vec::new(rt.alloc());
-    let proof: &[u8] = b"3 0 1 2 0\n";
-    let small = check_run(rt.alloc(), WIDE, proof, &mut said);
-    assert!(rt; small == Err(REFUSED) && said.is_empty());
-    let large = check_run_within(rt.alloc(), WIDE, proof, Limits::Large, &mut said);
-    assert!(rt; large == Ok(Checked::Accepted) && said.as_slice() == b"accepted\n".as_slice());
+fn large_limits(rt: HostRuntime) -> Result<(), Fail> {
+    assert!(rt; runs(&rt, rt.alloc())?, "run");
+    assert!(rt; answers(&rt, rt.alloc())?, "answer");
+    assert!(rt; checks(rt.alloc())?, "check");
+    Ok(())
 }

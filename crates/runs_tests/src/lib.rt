@@ -15,8 +15,6 @@ mod examples;
 #[cfg(test)]
 mod faults;
 #[cfg(test)]
-mod focused;
-#[cfg(test)]
 mod gates;
 #[cfg(test)]
 mod gathered;

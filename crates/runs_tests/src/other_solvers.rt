@@ -1,5 +1,6 @@
 //! Proofs by other programs: the line written for each.
 use runs::check_run;
+use std::alloc::Global;
 use std::test::Fail;
 
 /// Five pigeons in four holes: the clauses of `examples/pigeonhole_4.cnf`.
@@ -195,17 +196,17 @@ const BY_DRAT_TRIM: &str = "22 d 0
 
 static PROOFS: [(&str, &str); 2] = [(FIVE_PIGEONS, BY_CADICAL), (FOUR_PIGEONS, BY_DRAT_TRIM)];
 
+/// Whether a proof is accepted.
+fn is_accepted(alloc: Global, formula: &str, proof: &str) -> Result<bool, Fail> {
+    let mut answer = Vec::new(alloc);
+    check_run(alloc, formula.as_bytes(), proof.as_bytes(), &mut answer)?;
+    Ok(answer.as_slice() == b"accepted\n".as_slice())
+}
+
 #[test]
 fn proofs_of_other_programs(rt: HostRuntime) -> Result<(), Fail> {
     for (formula, proof) in &PROOFS {
-        let mut answer = Vec::new(rt.alloc());
-        let _ = check_run(
-            rt.alloc(),
-            formula.as_bytes(),
-            proof.as_bytes(),
-            &mut answer,
-        )?;
-        assert_eq!(rt; answer.as_slice(), b"accepted\n".as_slice(), "{formula}");
+        assert!(rt; is_accepted(rt.alloc(), formula, proof)?, "{formula}");
     }
     Ok(())
 }

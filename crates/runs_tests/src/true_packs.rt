@@ -127,8 +127,7 @@ fn is_taken(alloc: Global, row: &Row) -> Result<bool, Fail> {
 #[test]
 fn true_packs_are_taken(rt: HostRuntime) -> Result<(), Fail> {
     for row in &ROWS {
-        let taken = is_taken(rt.alloc(), row)?;
-        assert_eq!(rt; (row.0, row.2, taken), (row.0, row.2, true));
+        assert!(rt; is_taken(rt.alloc(), row)?, "{} of {}", row.2, row.0);
     }
     Ok(())
 }

@@ -8,4 +8,4 @@ mod paths;
 mod printed;
 
 pub use paths::{Parts, Paths, path_of, put_texts};
-pub use printed::{Printed, Wanted, is_filled, is_printed};
+pub use printed::{Known, Printed, Wanted, is_filled, is_printed};

@@ -51,3 +51,39 @@ pub fn is_filled(
     };
     Ok(is_printed(printed, &filled))
 }
+
+/// What is known of a text.
+#[derive(Clone, Copy)]
+pub enum Known<'a> {
+    All(&'a str),
+    Beginning(&'a str),
+    /// Its beginning and its end.
+    Ends(&'a str, &'a str),
+    /// What stands somewhere in it.
+    Piece(&'a str),
+    /// What stands behind the first place of a piece.
+    Behind(&'a str, &'a str),
+}
+
+impl Known<'_> {
+    fn is_in(&self, text: &str) -> bool {
+        match self {
+            Known::All(all) => text == *all,
+            Known::Beginning(beginning) => text.starts_with(*beginning),
+            Known::Ends(beginning, end) => text.starts_with(*beginning) && text.ends_with(*end),
+            Known::Piece(piece) => text.contains(*piece),
+            Known::Behind(piece, wanted) => match text.split_once(*piece) {
+                Some((_, behind)) => behind.starts_with(*wanted),
+                None => false,
+            },
+        }
+    }
+
+    /// Whether these bytes are such a text.
+    pub fn is_of(&self, bytes: &[u8]) -> bool {
+        match str::from_utf8(bytes) {
+            Ok(text) => self.is_in(text),
+            Err(_) => false,
+        }
+    }
+}

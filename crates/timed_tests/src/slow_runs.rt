@@ -1,10 +1,10 @@
 //! Runs by a clock that goes on only while a read waits for lines of progress. So they take seconds
 //! by their clock and no time, and print the same each time.
-use crate::clocks::{LONG, Pace};
-use crate::fake::{Fake, FakeFile, STATUS};
-use crate::sessions::Paths;
 use cubesat::{Screen, command_with_input};
 use samples::FOUR;
+use sessions::Paths;
+use sessions::clocks::{LONG, Pace};
+use sessions::fake::{FakeFile, STATUS};
 use std::alloc::Global;
 use std::io::{ErrorKind, Write};
 use std::rt::Files;

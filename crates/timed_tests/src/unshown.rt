@@ -1,9 +1,9 @@
 //! No progress is shown, and no search is named, where that isn't asked for.
-use crate::clocks::{Pace, SHORT};
-use crate::fake::Fake;
-use crate::sessions::Paths;
 use crate::slow_runs::{SOLVED, SlowRun, printed};
 use cubesat::Screen;
+use sessions::Paths;
+use sessions::clocks::{Pace, SHORT};
+use sessions::fake::Fake;
 use std::rt::Files;
 use std::sync::Wait;
 use std::test::Fail;

@@ -1,11 +1,12 @@
-//! `--stats` by a known clock and a known size of the process: each line to its last byte, also of
+//! `solve --stats` by a known clock and a known size of the process: each line to its last byte, also of
 //! runs that fail.
-use crate::clocks::{Readings, UNREAD};
-use crate::fake::Fake;
-use crate::sessions::{Paths, path_of};
+use crate::{checks, divided};
 use cubesat::command;
 use samples::faulty::{Limited, Limits};
-use samples::{EIGHT, FOUR, FOUR_PROOF};
+use samples::{EIGHT, FOUR};
+use sessions::clocks::{Readings, UNREAD};
+use sessions::fake::Fake;
+use sessions::{Paths, path_of};
 use std::fs;
 use std::rt::Files;
 use std::sync::Wait;
@@ -14,7 +15,7 @@ use std::thread::Threads;
 use std::time::Clock;
 
 /// What the clock shows at a run's beginning and at the end of each stage, in milliseconds.
-const TIMES: [u64; 6] = [5_000, 6_234, 8_284, 8_291, 69_291, UNREAD];
+pub(crate) const TIMES: [u64; 6] = [5_000, 6_234, 8_284, 8_291, 69_291, UNREAD];
 
 /// At a run's beginning, when its limit of ten seconds begins, at the end of reading, before the
 /// first cube and before the second.
@@ -89,7 +90,52 @@ c conflicts a second: 1
     ..SPLIT
 };
 
-static SOLVED: [Row; 7] = [
+/// The root is split after one conflict, as `SPLIT` says of it, and the limit reached before its
+/// first half is solved, which counts as solved by the hand that was at it.
+const CUT_OFF: Row = Row {
+    words: &[
+        "cubesat",
+        "solve",
+        "--stats",
+        "--seconds",
+        "10",
+        "--budget",
+        "1",
+        "--proof",
+        "PROOF",
+        "FORMULA",
+    ],
+    times: &LIMITED,
+    status: 0,
+    lines: "c formula: 3 variables, 8 clauses, 24 literals
+c hands: 1
+c search: 1 conflicts, 2 decisions, 3 propagations, 0 restarts
+c clauses: 0 learnt, 0 forgotten
+c cubes: 2 solved, at least 1 split, skipped unknown
+c solved by each hand: 2
+c proof: 0 lines, 0 bytes
+c reading: 1.234 s, peak memory 4321 KiB
+",
+    ..SPLIT
+};
+
+/// `SPLIT` without a proof: the tree isn't kept, and no proof is joined and written.
+const UNPROVED: Row = Row {
+    words: &["cubesat", "solve", "--stats", "--budget", "1", "FORMULA"],
+    lines: "c formula: 3 variables, 8 clauses, 24 literals
+c hands: 1
+c search: 5 conflicts, 4 decisions, 13 propagations, 0 restarts
+c clauses: 2 learnt, 0 forgotten
+c cubes: 3 solved, at least 1 split, skipped unknown
+c solved by each hand: 3
+c reading: 1.234 s, peak memory 4321 KiB
+c solving: 2.050 s, peak memory 4321 KiB
+c conflicts a second: 2
+",
+    ..SPLIT
+};
+
+const ROWS: [Row; 14] = [
     SPLIT,
     WHOLE,
     Row {
@@ -175,38 +221,6 @@ c conflicts a second: 0
 ",
         ..SPLIT
     },
-];
-
-/// The root is split after one conflict, as `SPLIT` says of it, and the limit reached before its
-/// first half is solved, which counts as solved by the hand that was at it.
-const CUT_OFF: Row = Row {
-    words: &[
-        "cubesat",
-        "solve",
-        "--stats",
-        "--seconds",
-        "10",
-        "--budget",
-        "1",
-        "--proof",
-        "PROOF",
-        "FORMULA",
-    ],
-    times: &LIMITED,
-    status: 0,
-    lines: "c formula: 3 variables, 8 clauses, 24 literals
-c hands: 1
-c search: 1 conflicts, 2 decisions, 3 propagations, 0 restarts
-c clauses: 0 learnt, 0 forgotten
-c cubes: 2 solved, at least 1 split, skipped unknown
-c solved by each hand: 2
-c proof: 0 lines, 0 bytes
-c reading: 1.234 s, peak memory 4321 KiB
-",
-    ..SPLIT
-};
-
-static ENDED: [Row; 3] = [
     CUT_OFF,
     Row {
         room: 3,
@@ -235,25 +249,6 @@ c reading: 1.234 s, peak memory 4321 KiB
 ",
         ..CUT_OFF
     },
-];
-
-/// `SPLIT` without a proof: the tree isn't kept, and no proof is joined and written.
-const UNPROVED: Row = Row {
-    words: &["cubesat", "solve", "--stats", "--budget", "1", "FORMULA"],
-    lines: "c formula: 3 variables, 8 clauses, 24 literals
-c hands: 1
-c search: 5 conflicts, 4 decisions, 13 propagations, 0 restarts
-c clauses: 2 learnt, 0 forgotten
-c cubes: 3 solved, at least 1 split, skipped unknown
-c solved by each hand: 3
-c reading: 1.234 s, peak memory 4321 KiB
-c solving: 2.050 s, peak memory 4321 KiB
-c conflicts a second: 2
-",
-    ..SPLIT
-};
-
-static WITHOUT: [Row; 4] = [
     UNPROVED,
     Row {
         room: 3,
@@ -286,60 +281,6 @@ c conflicts a second: 0
     },
 ];
 
-/// A check of the proof of the four clauses.
-const CHECKED: Row = Row {
-    formula: FOUR,
-    proof: FOUR_PROOF,
-    words: &["cubesat", "check", "--stats", "FORMULA", "PROOF"],
-    times: &TIMES,
-    room: 100,
-    tells: true,
-    status: 0,
-    lines: "c formula: 5 lines, 38 bytes
-c proof: 3 lines, 35 bytes
-c checking: 1.234 s, peak memory 4321 KiB
-",
-    fault: "",
-};
-
-static CHECKS: [Row; 5] = [
-    CHECKED,
-    Row {
-        tells: false,
-        lines: "c formula: 5 lines, 38 bytes
-c proof: 3 lines, 35 bytes
-c checking: 1.234 s
-",
-        ..CHECKED
-    },
-    Row {
-        proof: "5 1 0 1 2 0\n",
-        status: 1,
-        lines: "c formula: 5 lines, 38 bytes
-c proof: 1 lines, 12 bytes
-c checking: 1.234 s, peak memory 4321 KiB
-",
-        fault: "c ",
-        ..CHECKED
-    },
-    Row {
-        formula: "p cnf 2 1\n1 3 0\n",
-        status: 1,
-        lines: "c formula: 2 lines, 16 bytes
-c proof: 0 lines, 0 bytes
-c checking: 1.234 s, peak memory 4321 KiB
-",
-        fault: "fault 51: refusal 5 at line 2, column 3",
-        ..CHECKED
-    },
-    Row {
-        room: 3,
-        status: 1,
-        fault: "fault 54",
-        ..CHECKED
-    },
-];
-
 /// Whether a row's lines are printed, and then the fault.
 fn has_lines(faults: &[u8], row: &Row) -> bool {
     match faults.strip_prefix(row.lines.as_bytes()) {
@@ -351,7 +292,7 @@ fn has_lines(faults: &[u8], row: &Row) -> bool {
 }
 
 /// Whether a row's command line prints what is wanted.
-pub(crate) fn holds<R: Files + AllocGlobal + Threads + Wait + Clock + Sync>(
+fn holds<R: Files + AllocGlobal + Threads + Wait + Clock + Sync>(
     rt: &R,
     paths: &Paths,
     row: &Row,
@@ -365,20 +306,24 @@ pub(crate) fn holds<R: Files + AllocGlobal + Threads + Wait + Clock + Sync>(
     Ok(status == row.status && has_lines(&faults, row))
 }
 
+static TABLES: [&[Row]; 3] = [&ROWS, &checks::ROWS, &divided::ROWS];
+
 #[test]
 fn figures_and_times(rt: HostRuntime) -> Result<(), Fail> {
     let paths = Paths::of(&rt, "timed.cnf")?;
     let process = path_of(&rt, "timed_process")?;
     fs::write(&rt, process.as_str(), PROCESS)?;
-    for row in SOLVED.iter().chain(&ENDED).chain(&WITHOUT).chain(&CHECKS) {
-        let clock = Readings::new(row.times);
-        let tells = if row.tells {
-            process.as_str()
-        } else {
-            paths.missing.as_str()
-        };
-        let fake = Fake::telling(&rt, &clock, tells);
-        assert!(rt; holds(&fake, &paths, row)?, "{} {}", row.lines, row.fault);
+    for rows in &TABLES {
+        for row in *rows {
+            let clock = Readings::new(row.times);
+            let tells = if row.tells {
+                process.as_str()
+            } else {
+                paths.missing.as_str()
+            };
+            let fake = Fake::telling(&rt, &clock, tells);
+            assert!(rt; holds(&fake, &paths, row)?, "{} {}", row.lines, row.fault);
+        }
     }
     Ok(())
 }

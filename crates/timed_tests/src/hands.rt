@@ -1,8 +1,9 @@
 //! As many hands are at work as are asked for, with a proof and without one.
-use crate::clocks::{LONG, Meeting, SHORT};
-use crate::fake::Fake;
-use crate::sessions::{Paths, run};
+use cubesat::command;
 use samples::EIGHT;
+use sessions::Paths;
+use sessions::clocks::{LONG, Meeting, SHORT};
+use sessions::fake::Fake;
 use std::fs;
 use std::rt::Files;
 use std::sync::Wait;
@@ -52,26 +53,18 @@ fn told_in(faults: &[u8]) -> Option<Told> {
 /// A command line without its number of hands.
 type Line = &'static [&'static str];
 
-/// What the command line tells of the eight clauses' hands.
+/// What the command line that the words of a row stand for tells of the eight clauses' hands.
 fn told_by<R: Files + AllocGlobal + Threads + Wait + Clock + Sync>(
     rt: &R,
     paths: &Paths,
-    words: &[&str],
+    line: &[&str],
 ) -> Result<Option<Told>, Fail> {
     fs::write(rt, paths.formula.as_str(), EIGHT)?;
-    Ok(told_in(&run(rt, words).faults))
-}
-
-/// Whether the command line tells of so many hands, which have solved three cubes.
-fn is_named<R: Files + AllocGlobal + Threads + Wait + Clock + Sync>(
-    rt: &R,
-    paths: &Paths,
-    line: &[&str],
-    hands: u64,
-) -> Result<bool, Fail> {
     let words = paths.words(rt.alloc(), line)?;
-    let told = told_by(rt, paths, &words)?;
-    Ok(matches!(told, Some(told) if told.hands == hands && told.cubes == 3))
+    let mut answer = Vec::new(rt.alloc());
+    let mut faults = Vec::new(rt.alloc());
+    let _ = command(rt, rt.alloc(), &words, &mut answer, &mut faults);
+    Ok(told_in(&faults))
 }
 
 /// Each number of hands.
@@ -174,21 +167,30 @@ static NUMBERED: [(Line, u64); 16] = [
     ),
 ];
 
-/// The root of the eight clauses and its halves are solved, by whatever hands.
+/// Whether so many hands are told of, which have solved three cubes: the root of the eight clauses and
+/// its halves.
+fn is_named(told: Option<Told>, hands: u64) -> bool {
+    match told {
+        Some(told) => told.hands == hands && told.cubes == 3,
+        None => false,
+    }
+}
+
 #[test]
 fn each_number_of_hands_is_the_one_named(rt: HostRuntime) -> Result<(), Fail> {
     let paths = Paths::of(&rt, "hands_named.cnf")?;
     for (line, hands) in &NUMBERED {
-        assert!(rt; is_named(&rt, &paths, line, *hands)?, "{line:?}");
+        let told = told_by(&rt, &paths, line)?;
+        assert!(rt; is_named(told, *hands), "{line:?}");
     }
     Ok(())
 }
 
-/// Command lines with a limit of time, and which reading of the clock is the first one at the root's
-/// first half, by one hand and by two. It is read when the limit begins and before each cube; with
+/// Command lines with a limit of time, how many hands they name, and which reading of the clock is the
+/// first one at the root's first half. It is read when the limit begins and before each cube; with
 /// `--stats` before that as the run begins, and as the formula is read, and with several hands also
 /// as each cube begins and ends.
-static LIMITED: [(Line, u64, u64); 4] = [
+static LIMITED: [(Line, u64, u64); 8] = [
     (
         &[
             "cubesat",
@@ -200,6 +202,25 @@ static LIMITED: [(Line, u64, u64); 4] = [
             "--proof",
             "PROOF",
             "FORMULA",
+            "--hands",
+            "1",
+        ],
+        1,
+        2,
+    ),
+    (
+        &[
+            "cubesat",
+            "solve",
+            "--seconds",
+            "10",
+            "--budget",
+            "1",
+            "--proof",
+            "PROOF",
+            "FORMULA",
+            "--hands",
+            "2",
         ],
         2,
         2,
@@ -213,6 +234,23 @@ static LIMITED: [(Line, u64, u64); 4] = [
             "--budget",
             "1",
             "FORMULA",
+            "--hands",
+            "1",
+        ],
+        1,
+        2,
+    ),
+    (
+        &[
+            "cubesat",
+            "solve",
+            "--seconds",
+            "10",
+            "--budget",
+            "1",
+            "FORMULA",
+            "--hands",
+            "2",
         ],
         2,
         2,
@@ -229,8 +267,28 @@ static LIMITED: [(Line, u64, u64); 4] = [
             "--proof",
             "PROOF",
             "FORMULA",
+            "--hands",
+            "1",
         ],
+        1,
         4,
+    ),
+    (
+        &[
+            "cubesat",
+            "solve",
+            "--stats",
+            "--seconds",
+            "10",
+            "--budget",
+            "1",
+            "--proof",
+            "PROOF",
+            "FORMULA",
+            "--hands",
+            "2",
+        ],
+        2,
         6,
     ),
     (
@@ -243,8 +301,26 @@ static LIMITED: [(Line, u64, u64); 4] = [
             "--budget",
             "1",
             "FORMULA",
+            "--hands",
+            "1",
         ],
+        1,
         4,
+    ),
+    (
+        &[
+            "cubesat",
+            "solve",
+            "--stats",
+            "--seconds",
+            "10",
+            "--budget",
+            "1",
+            "FORMULA",
+            "--hands",
+            "2",
+        ],
+        2,
         6,
     ),
 ];
@@ -258,39 +334,18 @@ fn is_of(told: Option<Told>, hands: u64) -> bool {
     }
 }
 
-/// What the command line tells of the eight clauses' hands, of which there are so many.
-fn told_of<R: Files + AllocGlobal + Threads + Wait + Clock + Sync>(
-    rt: &R,
-    paths: &Paths,
-    line: &[&str],
-    hands: &str,
-) -> Result<Option<Told>, Fail> {
-    let words = paths.words_by(rt.alloc(), line, hands)?;
-    told_by(rt, paths, &words)
-}
-
-/// Before it solves the first half, its hand waits until the other half is begun too: by two hands
-/// that comes, by one it can't.
+/// Before it solves the first half, a hand waits until the other half is begun too: by two hands that
+/// comes, by one it can't.
 #[test]
-fn two_hands_are_at_work_at_once(rt: HostRuntime) -> Result<(), Fail> {
-    let paths = Paths::of(&rt, "hands_two.cnf")?;
-    for (line, _, waits) in &LIMITED {
-        let clock = Meeting::at(*waits, LONG);
+fn as_many_hands_are_at_work_at_once(rt: HostRuntime) -> Result<(), Fail> {
+    let paths = Paths::of(&rt, "hands_at_work.cnf")?;
+    for (line, hands, waits) in &LIMITED {
+        let looks = if *hands == 2 { LONG } else { SHORT };
+        let clock = Meeting::at(*waits, looks);
         let fake = Fake::by(&rt, &clock);
-        let told = told_of(&fake, &paths, line, "2")?;
-        assert!(rt; clock.is_met() && is_of(told, 2), "{line:?}");
-    }
-    Ok(())
-}
-
-#[test]
-fn one_hand_is_at_work_alone(rt: HostRuntime) -> Result<(), Fail> {
-    let paths = Paths::of(&rt, "hands_one.cnf")?;
-    for (line, waits, _) in &LIMITED {
-        let clock = Meeting::at(*waits, SHORT);
-        let fake = Fake::by(&rt, &clock);
-        let told = told_of(&fake, &paths, line, "1")?;
-        assert!(rt; !clock.is_met() && is_of(told, 1), "{line:?}");
+        let told = told_by(&fake, &paths, line)?;
+        let is_right = clock.is_met() == (*hands == 2) && is_of(told, *hands);
+        assert!(rt; is_right, "{line:?}");
     }
     Ok(())
 }

@@ -1,15 +1,51 @@
 //! `--progress` of runs that take seconds by their clock: each line, and that none of them stands
 //! on a terminal when the answer comes, with a proof and without one.
-use crate::clocks::{LONG, Pace};
-use crate::fake::Fake;
-use crate::sessions::Paths;
 use crate::slow_runs::{SOLVED, SlowRun, holds};
 use cubesat::Screen;
 use samples::{EIGHT, FOUR, FOUR_PROOF};
-use std::alloc::Global;
+use sessions::Paths;
+use sessions::clocks::{LONG, Pace};
+use sessions::fake::Fake;
 use std::test::Fail;
 
-static RUNS: [SlowRun; 8] = [
+/// No proof is asked for.
+const UNPROVED: SlowRun = SlowRun {
+    words: &["cubesat", "solve", "--progress", "FORMULA"],
+    waits: &[1, 2],
+    log: "c 1 s: reading\nc 2 s: 2 conflicts, 1 cubes solved, at most 2 waiting, depth 0, at least 0.00 % of the tree closed\ns UNSATISFIABLE\n",
+    ..SOLVED
+};
+
+/// The limit of a second is reached while the end of reading waits for a line.
+const CUT_OFF: SlowRun = SlowRun {
+    words: &[
+        "cubesat",
+        "solve",
+        "--progress",
+        "--seconds",
+        "1",
+        "FORMULA",
+    ],
+    screen: Screen::Terminal,
+    waits: &[1],
+    status: 0,
+    log: "\rc 1 s: reading\x1b[K\r\x1b[Ks UNKNOWN\n",
+    ..SOLVED
+};
+
+/// A check of the proof of the four clauses, line under line.
+const CHECKED: SlowRun = SlowRun {
+    formula: FOUR,
+    proof: FOUR_PROOF,
+    words: &["cubesat", "check", "--progress", "FORMULA", "PROOF"],
+    screen: Screen::Stream,
+    slow: "PROOF",
+    waits: &[1, 2],
+    status: 0,
+    log: "c 1 s: 0 lines, 0 bytes of the proof read, 0 %\nc 2 s: 3 lines, 35 bytes of the proof read, 100 %\naccepted\n",
+};
+
+static RUNS: [SlowRun; 20] = [
     SOLVED,
     SlowRun {
         screen: Screen::Terminal,
@@ -98,34 +134,6 @@ static RUNS: [SlowRun; 8] = [
         log: "\rc 1 s: joining\x1b[K\r\x1b[Kfault 53",
         ..SOLVED
     },
-];
-
-/// No proof is asked for.
-const UNPROVED: SlowRun = SlowRun {
-    words: &["cubesat", "solve", "--progress", "FORMULA"],
-    waits: &[1, 2],
-    log: "c 1 s: reading\nc 2 s: 2 conflicts, 1 cubes solved, at most 2 waiting, depth 0, at least 0.00 % of the tree closed\ns UNSATISFIABLE\n",
-    ..SOLVED
-};
-
-/// The limit of a second is reached while the end of reading waits for a line.
-const CUT_OFF: SlowRun = SlowRun {
-    words: &[
-        "cubesat",
-        "solve",
-        "--progress",
-        "--seconds",
-        "1",
-        "FORMULA",
-    ],
-    screen: Screen::Terminal,
-    waits: &[1],
-    status: 0,
-    log: "\rc 1 s: reading\x1b[K\r\x1b[Ks UNKNOWN\n",
-    ..SOLVED
-};
-
-static OTHERS: [SlowRun; 5] = [
     UNPROVED,
     SlowRun {
         screen: Screen::Terminal,
@@ -155,32 +163,14 @@ static OTHERS: [SlowRun; 5] = [
         ],
         ..CUT_OFF
     },
-];
-
-#[test]
-fn progress_of_runs(rt: HostRuntime) -> Result<(), Fail> {
-    let paths = Paths::of(&rt, "progress_run.cnf")?;
-    for row in RUNS.iter().chain(&OTHERS) {
-        let pace = Pace::new(row.waits, LONG);
-        let fake = Fake::slowed(&rt, &pace, paths.word(row.slow));
-        assert!(rt; holds(&fake, &paths, row, &pace)?, "{}", row.log);
-    }
-    Ok(())
-}
-
-/// A check of the proof of the four clauses, line under line.
-const CHECKED: SlowRun = SlowRun {
-    formula: FOUR,
-    proof: FOUR_PROOF,
-    words: &["cubesat", "check", "--progress", "FORMULA", "PROOF"],
-    screen: Screen::Stream,
-    slow: "PROOF",
-    waits: &[1, 2],
-    status: 0,
-    log: "c 1 s: 0 lines, 0 bytes of the proof read, 0 %\nc 2 s: 3 lines, 35 bytes of the proof read, 100 %\naccepted\n",
-};
-
-static CHECKS: [SlowRun; 6] = [
+    // a terminal names the focused search without progress
+    SlowRun {
+        words: &["cubesat", "solve", "--proof", "PROOF", "FORMULA"],
+        screen: Screen::Terminal,
+        waits: &[0, 1],
+        log: "c --search focused decides most large formulas sooner, with a model that need not be the first\ns UNSATISFIABLE\n",
+        ..SOLVED
+    },
     CHECKED,
     SlowRun {
         proof: "5 1 0 1 2 0\n",
@@ -224,79 +214,17 @@ static CHECKS: [SlowRun; 6] = [
 ];
 
 #[test]
-fn progress_of_checks(rt: HostRuntime) -> Result<(), Fail> {
-    let paths = Paths::of(&rt, "progress_check.cnf")?;
-    for row in &CHECKS {
-        let pace = Pace::new(row.waits, LONG);
-        let fake = Fake::slowed(&rt, &pace, paths.word(row.slow));
-        assert!(rt; holds(&fake, &paths, row, &pace)?, "{}", row.log);
+fn progress(rt: HostRuntime) -> Result<(), Fail> {
+    let paths = Paths::of(&rt, "progress.cnf")?;
+    for run in &RUNS {
+        let pace = Pace::new(run.waits, LONG);
+        let fake = Fake::slowed(&rt, &pace, paths.word(run.slow));
+        assert!(rt;
+            holds(&fake, &paths, run, &pace)?,
+            "{:?} {}",
+            run.words,
+            run.log
+        );
     }
-    Ok(())
-}
-
-/// The line that names the focused search.
-const NAMED: &str =
-    "c --search focused decides most large formulas sooner, with a model that need not be the first\n";
-
-/// What a terminal shows of so many seconds of reading, of the ordered search up to the last
-/// second, and of the answer. The focused search is named before the search's first line from the
-/// tenth second on.
-fn seconds_of(alloc: Global, reading: u32, last: u32) -> Result<String, Fail> {
-    let mut text = String::new(alloc);
-    for second in 1..=last {
-        if second <= reading {
-            let line = format!(in alloc; "\rc {second} s: reading\x1b[K")?;
-            text.push_str(line.as_str())?;
-            continue;
-        }
-        if second == last {
-            text.push_str("\r\x1b[K")?;
-            text.push_str(NAMED)?;
-        }
-        let line = format!(in alloc;
-            "\rc {second} s: 2 conflicts, 1 cubes solved, at most 2 waiting, depth 0, at least 0.00 % of the tree closed\x1b[K"
-        )?;
-        text.push_str(line.as_str())?;
-    }
-    text.push_str("\r\x1b[Ks UNSATISFIABLE\n")?;
-    Ok(text)
-}
-
-/// How many seconds the formula is read, the second of the search's first line from the tenth
-/// second on, and how many lines the ends of reading and of solving wait for: the one that names
-/// the focused search counts twice.
-static NAMINGS: [(u32, u32, &[u64]); 2] = [(1, 10, &[1, 12]), (11, 12, &[11, 14])];
-
-#[test]
-fn the_focused_search_is_named_between_lines_of_progress(rt: HostRuntime) -> Result<(), Fail> {
-    let paths = Paths::of(&rt, "progress_named.cnf")?;
-    for (reading, last, waits) in &NAMINGS {
-        let log = seconds_of(rt.alloc(), *reading, *last)?;
-        let row = SlowRun {
-            screen: Screen::Terminal,
-            log: log.as_str(),
-            ..SOLVED
-        };
-        let pace = Pace::new(waits, LONG);
-        let fake = Fake::slowed(&rt, &pace, paths.word(SOLVED.slow));
-        assert!(rt; holds(&fake, &paths, &row, &pace)?, "{reading}");
-    }
-    Ok(())
-}
-
-#[test]
-fn a_terminal_names_the_focused_search_without_progress(rt: HostRuntime) -> Result<(), Fail> {
-    let paths = Paths::of(&rt, "progress_hint.cnf")?;
-    let log = format!(in rt.alloc(); "{NAMED}s UNSATISFIABLE\n")?;
-    let row = SlowRun {
-        words: &["cubesat", "solve", "--proof", "PROOF", "FORMULA"],
-        screen: Screen::Terminal,
-        waits: &[0, 1],
-        log: log.as_str(),
-        ..SOLVED
-    };
-    let pace = Pace::new(row.waits, LONG);
-    let fake = Fake::slowed(&rt, &pace, row.slow);
-    assert!(rt; holds(&fake, &paths, &row, &pace)?);
     Ok(())
 }

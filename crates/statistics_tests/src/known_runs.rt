@@ -1,10 +1,9 @@
-//! What `--stats` prints of known figures, and speed by the time since the formula was read.
+//! What `--stats` prints of known figures.
 use crate::figures::some_figures;
 use cdcl::Search;
 use cnf::{Formula, read_formula};
-use cubesat::{Manner, Stage, print_line};
 use samples::FOUR;
-use statistics::{FormulaSize, StageEnd, TreeSize, print_statistics};
+use statistics::{Figures, FormulaSize, Stage, StageEnd, TreeSize, print_statistics};
 use std::alloc::Global;
 use std::test::Fail;
 
@@ -25,20 +24,22 @@ type End = (u64, Option<u64>);
 /// A hand, and when it began and ended its last cube.
 type Last = (usize, u64, u64);
 
-/// The size of the tree, the ends of the four stages, the last cubes of hands, how many hands there
-/// are, and what is printed.
+/// The search, the size of the tree, the ends of the four stages, if they are ended, the last cubes of
+/// hands, how many hands there are, and what is printed.
 type Row = (
+    Search,
     Option<TreeSize>,
-    [End; 4],
+    &'static [End],
     &'static [Last],
     usize,
     &'static str,
 );
 
-static ROWS: [Row; 3] = [
+static ROWS: [Row; 4] = [
     (
+        Search::Focused,
         None,
-        [
+        &[
             (500, Some(1024)),
             (12_500, Some(4096)),
             (12_750, None),
@@ -62,8 +63,9 @@ c conflicts a second: 29166
 ",
     ),
     (
+        Search::Focused,
         Some(TREE),
-        [(3, None), (1003, None), (1004, Some(1024)), (1024, None)],
+        &[(3, None), (1003, None), (1004, Some(1024)), (1024, None)],
         &[(0, 3, 903), (1, 5, 1003)],
         2,
         "c formula: 2 variables, 4 clauses, 8 literals
@@ -84,8 +86,9 @@ c conflicts a second: 350000
     ),
     // the clock stands still while the formula is solved
     (
+        Search::Focused,
         None,
-        [(500, None), (500, None), (500, None), (510, None)],
+        &[(500, None), (500, None), (500, None), (510, None)],
         &[(0, 500, 500)],
         1,
         "c formula: 2 variables, 4 clauses, 8 literals
@@ -101,6 +104,8 @@ c joining: 0.000 s
 c writing: 0.010 s
 ",
     ),
+    // the formula wasn't read
+    (Search::Ordered, None, &[], &[], 1, ""),
 ];
 
 fn stage_end(end: End) -> StageEnd {
@@ -110,20 +115,26 @@ fn stage_end(end: End) -> StageEnd {
     }
 }
 
+/// All stages of a row are ended.
+fn end_stages(figures: &mut Figures, formula: &Formula, row: &Row) {
+    if let [reading, solving, joining, writing] = row.2 {
+        figures.end_reading(FormulaSize::of(formula), stage_end(*reading));
+        figures.end_solving(row.1, stage_end(*solving));
+        figures.end_joining(stage_end(*joining));
+        figures.end_writing(stage_end(*writing));
+    }
+}
+
 /// What is printed of a row's figures.
 fn printed(alloc: Global, formula: &Formula, row: &Row) -> Vec<u8> {
-    let (tree, ends, hands) = (row.0, row.1, row.3);
-    let mut figures = some_figures(Stage::Reading, Search::Focused);
-    figures.end_reading(FormulaSize::of(formula), stage_end(ends[0]));
-    figures.end_solving(tree, stage_end(ends[1]));
-    figures.end_joining(stage_end(ends[2]));
-    figures.end_writing(stage_end(ends[3]));
-    for (hand, began, ended) in row.2 {
+    let mut figures = some_figures(Stage::Reading, row.0);
+    end_stages(&mut figures, formula, row);
+    for (hand, began, ended) in row.3 {
         figures.times.begin(*hand, *began);
         figures.times.end(*hand, *ended);
     }
     let mut text = Vec::new(alloc);
-    print_statistics(&mut text, &figures, hands);
+    print_statistics(&mut text, &figures, row.4);
     text
 }
 
@@ -132,28 +143,7 @@ fn statistics_of_known_figures(rt: HostRuntime) -> Result<(), Fail> {
     let formula = read_formula(rt.alloc(), FOUR.as_bytes())?;
     for row in &ROWS {
         let text = printed(rt.alloc(), &formula, row);
-        assert!(rt; text.as_slice() == row.4.as_bytes(), "{}", row.4);
+        assert!(rt; text.as_slice() == row.5.as_bytes(), "{}", row.5);
     }
-    Ok(())
-}
-
-#[test]
-fn nothing_is_printed_of_a_formula_that_was_not_read(rt: HostRuntime) {
-    let mut text = Vec::new(rt.alloc());
-    print_statistics(&mut text, &some_figures(Stage::Reading, Search::Ordered), 1);
-    assert!(rt; text.is_empty());
-}
-
-/// Ten of twelve seconds are of solving.
-#[test]
-fn the_speed_counts_from_the_end_of_reading(rt: HostRuntime) -> Result<(), Fail> {
-    let formula = read_formula(rt.alloc(), FOUR.as_bytes())?;
-    let mut figures = some_figures(Stage::Reading, Search::Focused);
-    let read = stage_end((2000, None));
-    figures.end_reading(FormulaSize::of(&formula), read);
-    let mut line = Vec::new(rt.alloc());
-    print_line(&mut line, Manner::Listed, 12, &figures);
-    let wanted = b"c 12 s: 350000 conflicts, 35000 a second, 4 cubes solved\n";
-    assert!(rt; line.as_slice() == wanted.as_slice());
     Ok(())
 }

@@ -1,11 +1,10 @@
 //! `--seconds`: a run by a clock that jumps ends where the limit is reached, and nowhere else.
-use crate::clocks::{Readings, UNREAD};
-use crate::fake::Fake;
-use crate::kept_proof::Parts;
-use crate::sessions::{Wanted, prints, put_texts};
 use cubesat::command;
-use samples::faulty::{Full, Limited, Limits, UNFLUSHED};
+use samples::faulty::{Full, Limited, Limits, ROOMY, UNFLUSHED};
 use samples::{FOUR, FOUR_PROOF};
+use sessions::clocks::{Readings, UNREAD};
+use sessions::fake::Fake;
+use sessions::{Parts, put_texts};
 use std::alloc::{AllocError, Global};
 use std::fmt::Write;
 use std::rt::Files;
@@ -14,13 +13,15 @@ use std::test::Fail;
 use std::thread::Threads;
 use std::time::Clock;
 
-/// A formula, a command line but for its hands, what the clock shows in milliseconds, the status,
-/// the answer, and the text of the proof's file behind a run, where an old one was.
+/// A formula, or all clauses over twelve variables, a command line but for its hands, what the clock shows in milliseconds, what the
+/// writer of the answer refuses, the status, the answer, and the text of the proof's file behind a
+/// run, where an old one was.
 #[derive(Clone, Copy)]
 struct Row<'a> {
-    formula: &'a str,
+    formula: Option<&'a str>,
     words: &'a [&'a str],
     clock: &'a [u64],
+    limits: Limits,
     status: u8,
     answer: &'a str,
     proof: &'a str,
@@ -29,7 +30,7 @@ struct Row<'a> {
 /// The clock is read as the files are open, and before each cube: the root, and its halves. The
 /// limit is reached before the first of these.
 const ENDED: Row = Row {
-    formula: FOUR,
+    formula: Some(FOUR),
     words: &[
         "cubesat",
         "solve",
@@ -42,6 +43,7 @@ const ENDED: Row = Row {
         "FORMULA",
     ],
     clock: &[5_000, 15_000],
+    limits: ROOMY,
     status: 0,
     answer: "s UNKNOWN\n",
     proof: "old",
@@ -80,7 +82,32 @@ const LONGEST: [&str; 9] = [
     "FORMULA",
 ];
 
-static ENDS: [Row; 8] = [
+/// A run that is ended, whose answer a writer refuses.
+const REFUSED: Row = Row {
+    limits: UNFLUSHED,
+    status: 1,
+    ..ENDED
+};
+
+/// By one cube, inside which the limit is reached.
+const ONE_CUBE: Row = Row {
+    formula: None,
+    words: &[
+        "cubesat",
+        "solve",
+        "--seconds",
+        "10",
+        "--budget",
+        "100000",
+        "--proof",
+        "PROOF",
+        "FORMULA",
+    ],
+    clock: &[5_000, 14_999, 15_000],
+    ..ENDED
+};
+
+static ROWS: [Row; 22] = [
     ENDED,
     Row {
         clock: &[5_000, 14_999, 15_000],
@@ -91,7 +118,7 @@ static ENDS: [Row; 8] = [
         ..ENDED
     },
     Row {
-        formula: ONE_CLAUSE,
+        formula: Some(ONE_CLAUSE),
         ..ENDED
     },
     Row {
@@ -126,9 +153,6 @@ static ENDS: [Row; 8] = [
         clock: &[0, 1_000_000_000_000],
         ..ENDED
     },
-];
-
-static GOES_ON: [Row; 9] = [
     DECIDED,
     // it is reached once all is solved
     Row {
@@ -136,7 +160,7 @@ static GOES_ON: [Row; 9] = [
         ..DECIDED
     },
     Row {
-        formula: ONE_CLAUSE,
+        formula: Some(ONE_CLAUSE),
         status: 10,
         answer: "s SATISFIABLE\nv -1 2 0\n",
         proof: "",
@@ -169,41 +193,33 @@ static GOES_ON: [Row; 9] = [
         clock: &[0, 999_999_999_999],
         ..DECIDED
     },
+    REFUSED,
+    Row {
+        limits: Limits {
+            room: 0,
+            full: Full::Fails,
+            flushes: true,
+        },
+        ..REFUSED
+    },
+    Row {
+        limits: Limits {
+            room: 3,
+            full: Full::Fails,
+            flushes: true,
+        },
+        ..REFUSED
+    },
+    Row {
+        limits: Limits {
+            room: 9,
+            full: Full::TakesNothing,
+            flushes: true,
+        },
+        ..REFUSED
+    },
+    ONE_CUBE,
 ];
-
-/// Whether a row's command line, by so many hands, prints what is wanted and nothing else, and
-/// leaves the proof's file as it is wanted, without a part.
-fn holds<R: Files + AllocGlobal + Threads + Wait + Clock + Sync>(
-    rt: &R,
-    parts: &Parts,
-    row: &Row,
-    hands: &str,
-) -> Result<bool, Fail> {
-    put_texts(rt, &parts.paths, row.formula.as_bytes(), b"old")?;
-    let words = parts.paths.words_by(rt.alloc(), row.words, hands)?;
-    let wanted = Wanted {
-        status: row.status,
-        answer: row.answer,
-        faults: "",
-    };
-    Ok(prints(rt, &words, &wanted) && parts.has(rt, row.proof))
-}
-
-static HANDS: [&str; 3] = ["1", "2", "8"];
-
-#[test]
-fn limits_of_time(rt: HostRuntime) -> Result<(), Fail> {
-    let parts = Parts::of(&rt, "seconds.cnf")?;
-    for row in ENDS.iter().chain(&GOES_ON) {
-        for hands in &HANDS {
-            let clock = Readings::new(row.clock);
-            let fake = Fake::by(&rt, &clock);
-            let is_right = holds(&fake, &parts, row, hands)?;
-            assert!(rt; is_right, "{hands} {:?} {:?}", row.words, row.clock);
-        }
-    }
-    Ok(())
-}
 
 /// Writes the clause over twelve variables whose signs are the binary digits of a number.
 fn write_clause(text: &mut String, signs: u32) -> Result<(), AllocError> {
@@ -226,86 +242,56 @@ fn all_clauses(alloc: Global) -> Result<String, AllocError> {
     Ok(text)
 }
 
-/// By one cube, inside which the limit is reached.
-const ONE_CUBE: Row = Row {
-    words: &[
-        "cubesat",
-        "solve",
-        "--seconds",
-        "10",
-        "--budget",
-        "100000",
-        "--proof",
-        "PROOF",
-        "FORMULA",
-    ],
-    clock: &[5_000, 14_999, 15_000],
-    ..ENDED
-};
-
-#[test]
-fn a_limit_that_is_reached_inside_a_cube(rt: HostRuntime) -> Result<(), Fail> {
-    let parts = Parts::of(&rt, "seconds_cube.cnf")?;
-    let text = all_clauses(rt.alloc())?;
-    let row = Row {
-        formula: text.as_str(),
-        ..ONE_CUBE
-    };
-    for hands in &HANDS {
-        let clock = Readings::new(row.clock);
-        let fake = Fake::by(&rt, &clock);
-        assert!(rt; holds(&fake, &parts, &row, hands)?, "{hands}");
+/// Puts a row's formula, and an old proof, into the files.
+fn put<R: Files + AllocGlobal>(rt: &R, parts: &Parts, row: &Row) -> Result<(), Fail> {
+    match row.formula {
+        Some(text) => put_texts(rt, &parts.paths, text.as_bytes(), b"old"),
+        None => {
+            let text = all_clauses(rt.alloc())?;
+            put_texts(rt, &parts.paths, text.as_bytes(), b"old")
+        }
     }
-    Ok(())
 }
 
-/// Writers that refuse a part of the answer.
-static REFUSING: [Limits; 4] = [
-    Limits {
-        room: 0,
-        full: Full::Fails,
-        flushes: true,
-    },
-    Limits {
-        room: 3,
-        full: Full::Fails,
-        flushes: true,
-    },
-    Limits {
-        room: 9,
-        full: Full::TakesNothing,
-        flushes: true,
-    },
-    UNFLUSHED,
-];
+/// Whether a row's answer and nothing else was printed, or of one that is refused, a beginning of
+/// it, and the fault.
+fn is_printed(row: &Row, answer: &[u8], faults: &[u8]) -> bool {
+    if row.status == 1 {
+        return row.answer.as_bytes().starts_with(answer)
+            && faults.starts_with(b"fault 54\nc the answer: ");
+    }
+    answer == row.answer.as_bytes() && faults.is_empty()
+}
 
-/// Whether a row's run, which is ended, has the fault of an answer that a writer of these limits
-/// refuses.
-fn is_refused<R: Files + AllocGlobal + Threads + Wait + Clock + Sync>(
+/// Whether a row's command line, by so many hands, prints what is wanted, and leaves the proof's
+/// file as it is wanted, without a part.
+fn holds<R: Files + AllocGlobal + Threads + Wait + Clock + Sync>(
     rt: &R,
     parts: &Parts,
     row: &Row,
-    limits: Limits,
+    hands: &str,
 ) -> Result<bool, Fail> {
-    put_texts(rt, &parts.paths, row.formula.as_bytes(), b"old")?;
-    let words = parts.paths.words(rt.alloc(), row.words)?;
-    let mut answer = Limited::new(rt.alloc(), limits);
+    put(rt, parts, row)?;
+    let words = parts.paths.words_by(rt.alloc(), row.words, hands)?;
+    let mut answer = Limited::new(rt.alloc(), row.limits);
     let mut faults = Vec::new(rt.alloc());
     let status = command(rt, rt.alloc(), &words, &mut answer, &mut faults);
-    let is_said = faults.starts_with(b"fault 54\nc the answer: ");
-    let is_beginning = row.answer.as_bytes().starts_with(answer.taken.as_slice());
-    Ok(status == 1 && is_said && is_beginning && parts.has(rt, row.proof))
+    let is_printed = is_printed(row, &answer.taken, &faults);
+    Ok(status == row.status && is_printed && parts.has(rt, row.proof))
 }
 
+static HANDS: [&str; 3] = ["1", "2", "8"];
+
 #[test]
-fn an_unknown_answer_that_cannot_be_written(rt: HostRuntime) -> Result<(), Fail> {
-    let parts = Parts::of(&rt, "seconds_refused.cnf")?;
-    let row = ENDED;
-    for limits in &REFUSING {
-        let clock = Readings::new(row.clock);
-        let fake = Fake::by(&rt, &clock);
-        let is_right = is_refused(&fake, &parts, &row, *limits)?;
-        assert!(rt; is_right, "{}", limits.room);
+fn limits_of_time(rt: HostRuntime) -> Result<(), Fail> {
+    let parts = Parts::of(&rt, "seconds.cnf", FOUR)?;
+    for row in &ROWS {
+        for hands in &HANDS {
+            let clock = Readings::new(row.clock);
+            let fake = Fake::by(&rt, &clock);
+            let is_right = holds(&fake, &parts, row, hands)?;
+            assert!(rt; is_right, "{hands} {:?} {:?}", row.words, row.clock);
+        }
     }
     Ok(())
 }

@@ -1,0 +1,14 @@
+//! What is counted of runs, and its lines: those of `--progress` and of `--stats` for known figures,
+//! what is closed of a tree, and what a gate tells of two hands.
+#![tactic(auto)]
+
+#[cfg(test)]
+mod figures;
+#[cfg(test)]
+mod known_runs;
+#[cfg(test)]
+mod lines;
+#[cfg(test)]
+mod trees;
+#[cfg(test)]
+mod watch;

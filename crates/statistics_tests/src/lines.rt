@@ -1,0 +1,233 @@
+//! The lines of `--progress` of known figures, at each stage, as a list has them and a terminal.
+use crate::figures::some_figures;
+use cdcl::{FirstAnswer, FirstSearch, Search};
+use cnf::read_formula;
+use samples::FOUR;
+use statistics::{Figures, FormulaSize, Manner, Stage, StageEnd, print_line};
+use std::alloc::Global;
+use std::test::Fail;
+
+/// What is known of a run beside some figures.
+#[derive(Clone, Copy)]
+enum Beside {
+    Nothing,
+    /// How many bytes a proof has of which 7 are read.
+    Whole(u64),
+    /// How many milliseconds it took to read the formula.
+    Read(u64),
+    /// How many cubes are wanted, and how many literals each refuted cube has.
+    Divided(u32, &'static [usize]),
+}
+
+/// A stage, a search, what is known beside some figures, how many seconds a run takes, and its line.
+type Row = (Stage, Search, Beside, u64, &'static str);
+
+static ROWS: [Row; 21] = [
+    (
+        Stage::Reading,
+        Search::Ordered,
+        Beside::Nothing,
+        12,
+        "c 12 s: reading",
+    ),
+    (
+        Stage::Solving,
+        Search::Ordered,
+        Beside::Nothing,
+        12,
+        "c 12 s: 350000 conflicts, 4 cubes solved, at most 3 waiting, depth 2, at least 0.00 % of the tree closed",
+    ),
+    (
+        Stage::Solving,
+        Search::Focused,
+        Beside::Nothing,
+        12,
+        "c 12 s: 350000 conflicts, 29166 a second, 4 cubes solved",
+    ),
+    (
+        Stage::Joining,
+        Search::Ordered,
+        Beside::Nothing,
+        12,
+        "c 12 s: joining",
+    ),
+    (
+        Stage::Writing,
+        Search::Focused,
+        Beside::Nothing,
+        12,
+        "c 12 s: 2 lines, 7 bytes of the proof written",
+    ),
+    (
+        Stage::Checking,
+        Search::Ordered,
+        Beside::Nothing,
+        12,
+        "c 12 s: 2 lines, 7 bytes of the proof read",
+    ),
+    (
+        Stage::Checking,
+        Search::Ordered,
+        Beside::Whole(700),
+        12,
+        "c 12 s: 2 lines, 7 bytes of the proof read, 1 %",
+    ),
+    (
+        Stage::Checking,
+        Search::Ordered,
+        Beside::Whole(14),
+        12,
+        "c 12 s: 2 lines, 7 bytes of the proof read, 50 %",
+    ),
+    (
+        Stage::Checking,
+        Search::Ordered,
+        Beside::Whole(7),
+        12,
+        "c 12 s: 2 lines, 7 bytes of the proof read, 100 %",
+    ),
+    // the clock stood still
+    (
+        Stage::Solving,
+        Search::Focused,
+        Beside::Nothing,
+        0,
+        "c 0 s: 350000 conflicts, 4 cubes solved",
+    ),
+    // ten of twelve seconds are of solving
+    (
+        Stage::Reading,
+        Search::Focused,
+        Beside::Read(2000),
+        12,
+        "c 12 s: 350000 conflicts, 35000 a second, 4 cubes solved",
+    ),
+    (
+        Stage::Solving,
+        Search::Focused,
+        Beside::Divided(2, &[]),
+        12,
+        "c 12 s: 350000 conflicts, 29166 a second, 0 of at most 2 cubes done, 0 %",
+    ),
+    (
+        Stage::Solving,
+        Search::Focused,
+        Beside::Divided(2, &[1]),
+        12,
+        "c 12 s: 350000 conflicts, 29166 a second, 1 of at most 2 cubes done, 50 %",
+    ),
+    (
+        Stage::Solving,
+        Search::Focused,
+        Beside::Divided(2, &[1, 1]),
+        12,
+        "c 12 s: 350000 conflicts, 29166 a second, 2 of at most 2 cubes done, 100 %",
+    ),
+    (
+        Stage::Solving,
+        Search::Focused,
+        Beside::Divided(3, &[1]),
+        12,
+        "c 12 s: 350000 conflicts, 29166 a second, 2 of at most 4 cubes done, 50 %",
+    ),
+    (
+        Stage::Solving,
+        Search::Focused,
+        Beside::Divided(64, &[0]),
+        12,
+        "c 12 s: 350000 conflicts, 29166 a second, 64 of at most 64 cubes done, 100 %",
+    ),
+    (
+        Stage::Solving,
+        Search::Focused,
+        Beside::Divided(60, &[3, 7, 6]),
+        12,
+        "c 12 s: 350000 conflicts, 29166 a second, 9 of at most 64 cubes done, 14 %",
+    ),
+    (
+        Stage::Solving,
+        Search::Focused,
+        Beside::Divided(64, &[1, 2, 3, 4, 5, 6, 7, 8, 9, 9]),
+        12,
+        "c 12 s: 350000 conflicts, 29166 a second, 64 of at most 64 cubes done, 100 %",
+    ),
+    (
+        Stage::Solving,
+        Search::Focused,
+        Beside::Divided(65_536, &[17]),
+        12,
+        "c 12 s: 350000 conflicts, 29166 a second, 0 of at most 65536 cubes done, 0 %",
+    ),
+    (
+        Stage::Solving,
+        Search::Focused,
+        Beside::Divided(65_536, &[17, 17]),
+        12,
+        "c 12 s: 350000 conflicts, 29166 a second, 1 of at most 65536 cubes done, 0 %",
+    ),
+    (
+        Stage::Solving,
+        Search::Focused,
+        Beside::Divided(65, &[63]),
+        12,
+        "c 12 s: 350000 conflicts, 29166 a second, 0 of at most 128 cubes done, 0 %",
+    ),
+];
+
+/// The formula is read.
+fn end_reading(alloc: Global, figures: &mut Figures, millis: u64) -> Result<(), Fail> {
+    let formula = read_formula(alloc, FOUR.as_bytes())?;
+    let end = StageEnd {
+        at: millis,
+        peak: None,
+    };
+    figures.end_reading(FormulaSize::of(&formula), end);
+    Ok(())
+}
+
+/// The formula is divided, and cubes are refuted.
+fn divide(figures: &mut Figures, cubes: u32, refuted: &[usize]) {
+    let first = FirstSearch {
+        decisions: 25_000,
+        conflicts: 20_000,
+        answer: FirstAnswer::Divided(cubes),
+    };
+    figures.division.set_first(first, 0);
+    for literals in refuted {
+        figures.division.close(*literals);
+    }
+}
+
+/// The figures of a row.
+fn figures_of(alloc: Global, row: &Row) -> Result<Figures, Fail> {
+    let mut figures = some_figures(row.0, row.1);
+    match row.2 {
+        Beside::Nothing => {}
+        Beside::Whole(bytes) => figures.whole = Some(bytes),
+        Beside::Read(millis) => end_reading(alloc, &mut figures, millis)?,
+        Beside::Divided(cubes, refuted) => divide(&mut figures, cubes, refuted),
+    }
+    Ok(figures)
+}
+
+/// Whether this is the line of some figures, as a list has it or a terminal.
+fn has_line(alloc: Global, row: &Row, manner: Manner) -> Result<bool, Fail> {
+    let figures = figures_of(alloc, row)?;
+    let (seconds, text) = (row.3, row.4);
+    let mut line = Vec::new(alloc);
+    print_line(&mut line, manner, seconds, &figures);
+    let wanted = match manner {
+        Manner::Listed => format!(in alloc; "{text}\n")?,
+        Manner::Rewritten => format!(in alloc; "\r{text}\x1b[K")?,
+    };
+    Ok(line.as_slice() == wanted.as_bytes())
+}
+
+#[test]
+fn lines_of_known_figures(rt: HostRuntime) -> Result<(), Fail> {
+    for row in &ROWS {
+        assert!(rt; has_line(rt.alloc(), row, Manner::Listed)?, "{}", row.4);
+        assert!(rt; has_line(rt.alloc(), row, Manner::Rewritten)?, "{}", row.4);
+    }
+    Ok(())
+}

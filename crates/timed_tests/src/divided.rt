@@ -1,0 +1,141 @@
+//! `--stats` of runs that divide a formula, by a clock that a test sets. What the searches and looks
+//! do is worked out in the tests of `cubes`.
+use crate::timed::{Row, SPLIT};
+use samples::{EIGHT, FOUR};
+use sessions::clocks::UNREAD;
+
+/// At a run's beginning, at the end of reading, when the first search is asked and when the look at
+/// the first cube ends; before and after the first cube and its halves, which hands take; and at the
+/// end of each stage.
+const HALVES: [u64; 14] = [
+    5_000, 6_234, 6_300, 6_450, 6_500, 6_500, 6_500, 6_600, 6_600, 6_800, 8_284, 8_291, 69_291,
+    UNREAD,
+];
+
+/// The same with four quarters.
+const QUARTERS: [u64; 22] = [
+    5_000, 6_234, 6_300, 6_450, 6_500, 6_500, 6_500, 6_600, 6_600, 6_800, 7_000, 7_100, 7_100,
+    7_300, 7_300, 7_600, 7_600, 8_000, 8_284, 8_291, 69_291, UNREAD,
+];
+
+/// The first cube is looked at and split, since a literal fails; its halves are searched.
+const DIVIDED: Row = Row {
+    formula: FOUR,
+    words: &[
+        "cubesat", "solve", "--stats", "--search", "focused", "--budget", "1", "--divide", "2",
+        "--proof", "PROOF", "FORMULA",
+    ],
+    times: &HALVES,
+    tells: false,
+    lines: "c formula: 2 variables, 4 clauses, 8 literals
+c hands: 1
+c search: 4 conflicts, 2 decisions, 8 propagations, 0 restarts
+c clauses: 0 learnt, 0 forgotten
+c divided: 1 decisions in 1 conflicts, into at most 2 cubes
+c looked at: 1 cubes, 1 failed literals, 0.150 s
+c searched: 2 cubes
+c cubes: 3 solved, 1 split, 0 skipped
+c learnt: 2 lines in refuted cubes, kept in 8 bytes
+c solved by each hand: 3
+c proof: 3 lines, 35 bytes
+c reading: 1.234 s
+c solving: 2.050 s
+c joining: 0.007 s
+c writing: 61.000 s
+c conflicts a second: 1
+",
+    ..SPLIT
+};
+
+pub(crate) const ROWS: [Row; 5] = [
+    DIVIDED,
+    // halves are looked at too, and a literal fails in each
+    Row {
+        formula: EIGHT,
+        words: &[
+            "cubesat", "solve", "--stats", "--search", "focused", "--budget", "2", "--divide", "3",
+            "--proof", "PROOF", "FORMULA",
+        ],
+        times: &QUARTERS,
+        lines: "c formula: 3 variables, 8 clauses, 24 literals
+c hands: 1
+c search: 8 conflicts, 10 decisions, 29 propagations, 0 restarts
+c clauses: 1 learnt, 0 forgotten
+c divided: 2 decisions in 2 conflicts, into at most 4 cubes
+c looked at: 3 cubes, 2 failed literals, 0.450 s
+c searched: 4 cubes
+c cubes: 7 solved, 3 split, 0 skipped
+c learnt: 4 lines in refuted cubes, kept in 16 bytes
+c solved by each hand: 7
+c proof: 9 lines, 131 bytes
+c reading: 1.234 s
+c solving: 2.050 s
+c joining: 0.007 s
+c writing: 61.000 s
+c conflicts a second: 3
+",
+        ..DIVIDED
+    },
+    // and quarters, which are refuted by that; no tree is kept
+    Row {
+        formula: EIGHT,
+        words: &[
+            "cubesat", "solve", "--stats", "--search", "focused", "--budget", "2", "--divide",
+            "64", "FORMULA",
+        ],
+        times: &QUARTERS,
+        lines: "c formula: 3 variables, 8 clauses, 24 literals
+c hands: 1
+c search: 8 conflicts, 10 decisions, 29 propagations, 0 restarts
+c clauses: 1 learnt, 0 forgotten
+c divided: 2 decisions in 2 conflicts, into at most 64 cubes
+c looked at: 7 cubes, 2 failed literals, 1.450 s
+c searched: 0 cubes
+c cubes: 7 solved, at least 3 split, skipped unknown
+c solved by each hand: 7
+c reading: 1.234 s
+c solving: 2.050 s
+c conflicts a second: 3
+",
+        ..DIVIDED
+    },
+    // the conflict at which it is asked counts once
+    Row {
+        formula: EIGHT,
+        words: &[
+            "cubesat", "solve", "--stats", "--search", "focused", "--budget", "1", "--divide", "2",
+            "FORMULA",
+        ],
+        times: &[5_000, 6_234, 8_284, UNREAD],
+        lines: "c formula: 3 variables, 8 clauses, 24 literals
+c hands: 1
+c search: 5 conflicts, 4 decisions, 13 propagations, 0 restarts
+c clauses: 2 learnt, 0 forgotten
+c not divided: 2 decisions in 1 conflicts
+c cubes: 3 solved, at least 1 split, skipped unknown
+c solved by each hand: 3
+c reading: 1.234 s
+c solving: 2.050 s
+c conflicts a second: 2
+",
+        ..DIVIDED
+    },
+    Row {
+        words: &[
+            "cubesat", "solve", "--stats", "--search", "focused", "FORMULA",
+        ],
+        times: &[5_000, 6_234, 8_284, UNREAD],
+        lines: "c formula: 2 variables, 4 clauses, 8 literals
+c hands: 1
+c search: 2 conflicts, 1 decisions, 4 propagations, 0 restarts
+c clauses: 1 learnt, 0 forgotten
+c not divided: the first search ended after 2 conflicts
+c cubes: 1 solved, at least 0 split, skipped unknown
+c solved by each hand: 1
+c reading: 1.234 s
+c solving: 2.050 s
+c conflicts a second: 0
+",
+        ..DIVIDED
+    },
+];
