@@ -7,7 +7,7 @@ mod figures;
 #[cfg(test)]
 mod known_runs;
 #[cfg(test)]
-mod lines;
+mod printed_lines;
 #[cfg(test)]
 mod trees;
 #[cfg(test)]
