@@ -17,10 +17,9 @@ use Rattle.kernel.specs.Arranging.{front, AreArranged}
 use Rattle.kernel.specs.declared.sight.Sight.{Sight}
 use Rattle.kernel.specs.declared.sight.Sight.TheVariants.{Satisfied, Moved, Last}
 use Rattle.kernel.specs.Visiting.{IsLast, Replaces}
-use Rattle.kernel.specs.Seeing.{CanSee, IsSeen, IsSight, IsFound, other_front}
+use Rattle.kernel.specs.Seeing.{CanSee, IsSeen, IsSight, other_front}
 use Rattle.kernel.proofs.LiteralFacts.{true_false, all-member, same-sym}
 use Rattle.kernel.proofs.Places.{At-get, At-set, At-push}
-use Rattle.kernel.proofs.Replacements.{from_place, found-behind, last-parts}
 use Rattle.kernel.proofs.ForgottenAt.{At-forgotten, At-unforgotten}
 
 has-any : (c : Clause) (l : Literal) → has c l ≡ list_any (same l) c
@@ -226,7 +225,7 @@ set-last [] x y = refl
 set-last (z ∷ xs) x y = ap (λ zs. z ∷ zs) (set-last xs x y)
 
 -- the front literals are false, but for k
-front-last : (V : ℕ) (P : List Literal) (g : Literal) (c : Clause) (k : Literal) → CanSee V P g c → k ≡ other_front (front c) g → IsLast P (take 2 c) k
+pub front-last : (V : ℕ) (P : List Literal) (g : Literal) (c : Clause) (k : Literal) → CanSee V P g c → k ≡ other_front (front c) g → IsLast P (take 2 c) k
 front-last V P g [] k s is l m ne = absurd (let a = s.long in omega (arith, a))
 front-last V P g (a ∷ []) k s is l m ne = absurd (let b = s.long in omega (arith, b))
 front-last V P g (a ∷ b ∷ r) k s is l m ne = two (or-cases (same l a) (has (b ∷ []) l) m)
@@ -251,24 +250,3 @@ front-last V P g (a ∷ b ∷ r) k s is l m ne = two (or-cases (same l a) (has (
     two : (same l a ≡ true) ⊎ (has (b ∷ []) l ≡ true) → has P (negated l) ≡ true
     two (inl e) = here (same a g) refl s.watched is (inl (same-eq l a e))
     two (inr e) = here (same a g) refl s.watched is (inr (one (or-cases (same l b) false e)))
-
--- where none is found behind the front literals, all but k are false
-pub seen-last : (V : ℕ) (P : List Literal) (g : Literal) (c : Clause) (k : Literal) → CanSee V P g c → k ≡ other_front (front c) g → IsLast P (from_place c 2) k → IsLast P c k
-seen-last V P g c k s is none = last-parts P c 2 k none (front-last V P g c k s is)
-
--- a literal found behind them goes in front
-pub seen-moved : (P : List Literal) (g : Literal) (c d : Clause) (k : Literal) (j place : ℕ) (z : Literal) → k ≡ other_front (front c) g → IsFound P (from_place c 2) k j z → place ≡ j + 2 → IsPermutation c d → (front d).first ≡ k → (front d).second ≡ get_or c place k
-    → IsSeen P g c d (Moved record { first = k; second = z })
-seen-moved P g c d k j place z is found at permutes first second = record {
-  sight = (is, (found-behind P c 2 k j z found).replaces, (λ i. record { first = first i; second = read i }));
-  permutes = permutes;
-}
-  where
-    inside : IsFound P c k (2 + j) z
-    inside = found-behind P c 2 k j z found
-
-    same_place : place ≡ 2 + j
-    same_place = omega (arith, at)
-
-    read : (front d).second ≡ z
-    read = second ∙ (ap (λ n. get_or c n k) same_place ∙ (get_or_default c (2 + j) k z inside.at.0 ∙ inside.at.1))

@@ -1,10 +1,11 @@
 -- Another literal of a clause to watch, looked for in one part of the clause and then in the other.
 use Rattle.std.proofs.Common.{◌≡◌, ℕ, ◌+◌, ◌-◌, ◌<◌, ◌≤◌, Bool, true, false, not, List, length, take, drop, get_or, Option, Some, None, IfSome, IfNone, refl, ap, sym, subst, ◌∙◌, ◌⊎◌, inl, inr, arith}
 use Rattle.std.proofs.lemmas.List.{take-append-drop, take_all, length-drop, get_or-drop, get_or-take, length-take-le}
-use Rattle.theory.specs.Literals.{Literal, Clause, has, negated}
+use Rattle.theory.specs.Literals.{Literal, Clause, same, has, negated}
 use Rattle.theory.proofs.literals.LiteralSets.{has-append_left, has-append_right, has-append_cases}
 use Rattle.kernel.specs.Visiting.{IsLast, Replaces}
-use Rattle.kernel.specs.Seeing.{IsFound}
+use Rattle.kernel.specs.Seeing.{IsFirstOpen, IsFound}
+use Rattle.kernel.proofs.Visits.{has-get}
 
 -- the part of a clause from a place on
 abbrev pub from_place : Clause → ℕ → Clause
@@ -28,17 +29,25 @@ replaces-before P c i k z r = record {
   not_false = r.not_false;
 }
 
-pub found-behind : (P : List Literal) (c : Clause) (i : ℕ) (k : Literal) (j : ℕ) (z : Literal) → IsFound P (from_place c i) k j z → IsFound P c k (i + j) z
-found-behind P c i k j z f = record { at = (inside, sym (get_or-drop i c j z) ∙ sym (ap (λ (d : Clause). get_or d j z) (whole c i)) ∙ f.at.1); replaces = replaces-behind P c i k z f.replaces }
+pub found-behind : (P : List Literal) (c : Clause) (i : ℕ) (k : Literal) (j : ℕ) → IsFound P (from_place c i) k j → IsFound P c k (i + j)
+found-behind P c i k j f = record { lit = f.lit; at = (inside, sym (get_or-drop i c j f.lit) ∙ sym (ap (λ (d : Clause). get_or d j f.lit) (whole c i)) ∙ f.at.1); replaces = replaces-behind P c i k f.lit f.replaces }
   where
     inside : i + j < length c
     inside = let a : j < length (drop i c) = subst (λ (d : Clause). j < length d) (whole c i) f.at.0 in let b : length (drop i c) ≡ length c - i = length-drop i c in omega (arith, a, b)
 
-pub found-before : (P : List Literal) (c : Clause) (i : ℕ) (k : Literal) (j : ℕ) (z : Literal) → i ≤ length c → IsFound P (take i c) k j z → IsFound P c k j z
-found-before P c i k j z low f = record { at = (omega (arith, inside, low), sym (get_or-take i c j z inside) ∙ f.at.1); replaces = replaces-before P c i k z f.replaces }
+pub found-before : (P : List Literal) (c : Clause) (i : ℕ) (k : Literal) (j : ℕ) → i ≤ length c → IsFound P (take i c) k j → IsFound P c k j
+found-before P c i k j low f = record { lit = f.lit; at = (omega (arith, inside, low), sym (get_or-take i c j f.lit inside) ∙ f.at.1); replaces = replaces-before P c i k f.lit f.replaces }
   where
     inside : j < i
     inside = let a : length (take i c) ≡ i = length-take-le i c low in let b = f.at.0 in omega (arith, a, b)
+
+-- the first literal that isn't false is found, but where it is k
+pub found-first : (P : List Literal) (c : Clause) (k : Literal) (i j : ℕ) (f : IsFirstOpen P c i j) → same f.lit k ≡ false → IsFound P c k j
+found-first P c k i j f ne = record {
+  lit = f.lit;
+  at = f.at;
+  replaces = record { member = subst (λ (l : Literal). has c l ≡ true) f.at.1 (has-get c j f.lit f.at.0); apart = ne; not_false = f.not_false };
+}
 
 -- where nothing is found in either part, nothing is found in the clause
 pub last-parts : (P : List Literal) (c : Clause) (i : ℕ) (k : Literal) → IsLast P (from_place c i) k → IsLast P (take i c) k → IsLast P c k

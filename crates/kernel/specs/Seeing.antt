@@ -1,5 +1,5 @@
 -- What is seen of a clause one of whose two front literals became false.
-use Rattle.std.specs.Prelude.{◌≡◌, ◌≢◌, ℕ, true, List, Some, if◌then◌else◌, ◌≤◌, ◌⊎◌, length}
+use Rattle.std.specs.Prelude.{◌≡◌, ◌≢◌, ℕ, true, false, List, Some, if◌then◌else◌, ◌≤◌, ◌⊎◌, length, take}
 use Rattle.std.specs.List.Sorted.{IsPermutation}
 use Rattle.theory.specs.Literals.{Literal, Clause, same, has, negated}
 use Rattle.theory.specs.Truth.{IsOver}
@@ -19,10 +19,20 @@ pub record CanSee (V : ℕ) (P : List Literal) (g : Literal) (c : Clause) : Type
   pub gone : has P (negated g) ≡ true
   pub watched : ((front c).first ≡ g) ⊎ ((front c).second ≡ g)
 
--- z stands at a place of c, and can be watched beside k
-pub record IsFound (P : List Literal) (c : Clause) (k : Literal) (place : ℕ) (z : Literal) : Type 0 where
-  pub at : At c place z
-  pub replaces : Replaces P c k z
+-- at a place of c stands a literal that can be watched beside k
+pub record IsFound (P : List Literal) (c : Clause) (k : Literal) (place : ℕ) : Type 0 where
+  pub lit : Literal
+  pub at : At c place lit
+  pub replaces : Replaces P c k lit
+
+-- at a place of c stands the first literal from the start on that isn't false: whichever literal k
+-- is, if all before the start are false but k, then so are all before the place
+pub record IsFirstOpen (P : List Literal) (c : Clause) (start place : ℕ) : Type 0 where
+  pub lit : Literal
+  pub at : At c place lit
+  pub behind : start ≤ place
+  pub not_false : has P (negated lit) ≡ false
+  pub before : (k : Literal) → IsLast P (take start c) k → IsLast P (take place c) k
 
 -- the literal that stands in front beside g
 abbrev pub other_front : Watched → Literal → Literal

@@ -5,12 +5,12 @@
 //! where a literal was found last, and then from its front. Source: Gent, 'Optimal Implementation
 //! of Watched Literals and More General Techniques' (JAIR 2013). On one clause of 262,143 literals
 //! it is the difference between a second and a minute.
-ghost use Rattle.std.specs.Prelude.{◌≡◌, ◌<◌, ◌≤◌, ◌⊎◌, true, false, IfSome, IfNone, length, slice_index_or};
-ghost use Rattle.theory.specs.Literals.{same, has, negated};
+ghost use Rattle.std.specs.Prelude.{◌≡◌, ◌<◌, ◌≤◌, ◌⊎◌, true, false, IfSome, IfNone, length, take};
+ghost use Rattle.theory.specs.Literals.{Literal, same, has, negated};
 ghost use Rattle.theory.specs.Truth.{IsOver};
 ghost use Rattle.theory.specs.Trails.{literals};
 ghost use Rattle.kernel.specs.Visiting.{IsLast};
-ghost use Rattle.kernel.specs.Seeing.{IsFound};
+ghost use Rattle.kernel.specs.Seeing.{IsFirstOpen, IsFound};
 
 use cnf::Lit;
 use std::alloc::{AllocError, Global};
@@ -55,9 +55,24 @@ impl Starts {
     }
 }
 
-/// Whether a literal isn't false, and other than `except`. A clause of the formula may have a
-/// literal more than once.
-fn is_open(trail: &Trail, lit: Lit, except: Lit) -> bool
+/// The place of the first literal from a place on that isn't false. It asks nothing else of a
+/// literal, since propagation passes most of them here.
+fn first_open(trail: &Trail, clause: &[Lit], start: usize) -> Option<usize>
+    requires over { IsOver trail.now.vars clause.now }
+    requires start { start ≤ length clause.now }
+    ensures some { IfSome result (IsFirstOpen (literals trail.now.entries) clause.now start) }
+    ensures none { IfNone result ((k : Literal) → IsLast (literals trail.now.entries) (take start clause.now) k → IsLast (literals trail.now.entries) clause.now k) }
+{
+    for place in start..clause.len() {
+        if !trail.status(clause[place]).is_falsified() {
+            return Some(place);
+        }
+    }
+    None
+}
+
+/// Whether a literal isn't false, and other than `except`.
+fn is_replacement(trail: &Trail, lit: Lit, except: Lit) -> bool
     requires { lit.var ≤ trail.now.vars }
     ensures yes { result ≡ true → (same lit except ≡ false) × (has (literals trail.now.entries) (negated lit) ≡ false) }
     ensures no { result ≡ false → (same lit except ≡ true) ⊎ (has (literals trail.now.entries) (negated lit) ≡ true) }
@@ -68,55 +83,95 @@ fn is_open(trail: &Trail, lit: Lit, except: Lit) -> bool
     !lit.same(&except)
 }
 
-/// The first literal that isn't false, other than `except`, with its place.
-fn first_open(trail: &Trail, clause: &[Lit], except: Lit) -> Option<(usize, Lit)>
-    requires { IsOver trail.now.vars clause.now }
-    ensures some { IfSome result (λ r. IsFound (literals trail.now.entries) clause.now except r.0 r.1) }
+/// The place of the first literal from a place on that isn't false, other than `except`.
+///
+/// Most searches end without it, so it stays out of the loop over clauses.
+#[inline(never)]
+fn next_replacement(trail: &Trail, clause: &[Lit], except: Lit, start: usize) -> Option<usize>
+    requires over { IsOver trail.now.vars clause.now }
+    requires start { start ≤ length clause.now }
+    requires before { IsLast (literals trail.now.entries) (take start clause.now) except }
+    ensures some { IfSome result (λ place. (start ≤ place) × IsFound (literals trail.now.entries) clause.now except place) }
     ensures none { IfNone result (IsLast (literals trail.now.entries) clause.now except) }
 {
-    for place in 0..clause.len() {
-        let lit = clause[place];
-        if is_open(trail, lit, except) {
-            return Some((place, lit));
+    for place in start..clause.len() {
+        if is_replacement(trail, clause[place], except) {
+            return Some(place);
         }
     }
     None
 }
 
-/// A literal that isn't false, other than `except`, of a long clause.
-fn open_from(trail: &Trail, clause: &[Lit], except: Lit, start: usize) -> Option<(usize, Lit)>
+/// The place of a literal that isn't false, other than `except`, looked for from a place on and
+/// then from the front.
+///
+/// Within the loop over clauses it would take the registers that short ones need.
+#[inline(never)]
+fn replacement_from(trail: &Trail, clause: &[Lit], except: Lit, start: usize) -> Option<usize>
     requires over { IsOver trail.now.vars clause.now }
     requires start { start ≤ length clause.now }
-    ensures some { IfSome result (λ r. IsFound (literals trail.now.entries) clause.now except r.0 r.1) }
+    ensures some { IfSome result (IsFound (literals trail.now.entries) clause.now except) }
     ensures none { IfNone result (IsLast (literals trail.now.entries) clause.now except) }
 {
-    match first_open(trail, &clause[start..], except) {
-        Some(found) => Some((start + found.0, found.1)),
-        None => first_open(trail, &clause[..start], except),
+    match next_replacement(trail, &clause[start..], except, 0) {
+        Some(place) => Some(start + place),
+        None => next_replacement(trail, &clause[..start], except, 0),
     }
 }
 
-/// A literal that isn't false, other than `except`, among literals of the clause of a number, with
-/// its place.
+/// `replacement` in a long clause, from where a literal was found last. It is to be inlined: were
+/// it a call whose answer is handed on whole, LLVM would test those for short clauses twice too.
+fn long_replacement(
+    trail: &Trail,
+    clause: &[Lit],
+    except: Lit,
+    starts: &mut Starts,
+    number: usize,
+) -> Option<usize>
+    requires over { IsOver trail.now.vars clause.now }
+    requires long { 2 ≤ length clause.now }
+    requires front { IsLast (literals trail.now.entries) (take 2 clause.now) except }
+    ensures some { IfSome result (λ place. (2 ≤ place) × IsFound (literals trail.now.entries) clause.now except place) }
+    ensures none { IfNone result (IsLast (literals trail.now.entries) clause.now except) }
+{
+    let start = starts.of(number, clause.len() - 2);
+    match replacement_from(trail, &clause[2..], except, start) {
+        None => None,
+        Some(place) => {
+            starts.put(number, place);
+            Some(place + 2)
+        }
+    }
+}
+
+/// The place of a literal that isn't false, other than `except`, behind the two front ones of the
+/// clause of a number. A clause of the formula may have a literal more than once, so `except`
+/// itself may stand there too. The answer is the place alone, which fits into registers, counted in
+/// the whole clause, so that one address serves this search and what is done with the literal.
 pub fn replacement(
     trail: &Trail,
     clause: &[Lit],
     except: Lit,
     starts: &mut Starts,
     number: usize,
-) -> Option<(usize, Lit)>
-    requires { IsOver trail.now.vars clause.now }
-    ensures some { IfSome result (λ r. IsFound (literals trail.now.entries) clause.now except r.0 r.1) }
+) -> Option<usize>
+    requires over { IsOver trail.now.vars clause.now }
+    requires long { 2 ≤ length clause.now }
+    requires front { IsLast (literals trail.now.entries) (take 2 clause.now) except }
+    ensures some { IfSome result (λ place. (2 ≤ place) × IsFound (literals trail.now.entries) clause.now except place) }
     ensures none { IfNone result (IsLast (literals trail.now.entries) clause.now except) }
 {
-    if clause.len() <= LONG {
-        return first_open(trail, clause, except);
+    if clause.len() - 2 > LONG {
+        return long_replacement(trail, clause, except, starts, number);
     }
-    match open_from(trail, clause, except, starts.of(number, clause.len())) {
+    match first_open(trail, clause, 2) {
         None => None,
-        Some((place, lit)) => {
-            starts.put(number, place);
-            Some((place, lit))
+        Some(place) => {
+            if clause[place].same(&except) {
+                next_replacement(trail, clause, except, place)
+            } else {
+                Some(place)
+            }
         }
     }
 }

@@ -34,19 +34,24 @@ fn beside(lits: &[Lit], gone: Lit) -> Lit
 }
 
 /// Puts the literal at a place behind the two front ones in front, beside `other`. The front
-/// literal `gone` takes its place.
-fn bring(lits: &mut [Lit], gone: Lit, other: Lit, place: usize)
+/// literal `gone` takes its place. The answer is the two in front now.
+fn bring(lits: &mut [Lit], gone: Lit, other: Lit, place: usize) -> Watched
     requires inside { (2 ≤ place) × (place < length lits.old) }
     requires front { ((front lits.old).first ≡ gone) ⊎ ((front lits.old).second ≡ gone) }
     requires other { other ≡ other_front (front lits.old) gone }
     ensures permutes { IsPermutation lits.old lits.new }
-    ensures front { (front lits.new).first ≡ other }
-    ensures found { (front lits.new).second ≡ slice_index_or lits.old place other }
+    ensures front { front lits.new ≡ result }
+    ensures other { result.first ≡ other }
+    ensures found { result.second ≡ slice_index_or lits.old place other }
 {
     let found = lits[place];
     lits[0] = other;
     lits[1] = found;
     lits[place] = gone;
+    Watched {
+        first: other,
+        second: found,
+    }
 }
 
 /// Looks at a clause in which `gone`, one of the two front literals, became false.
@@ -65,14 +70,8 @@ pub fn look_at(
     if status.is_satisfied() {
         return Sight::Satisfied(other);
     }
-    match replacement(trail, &lits[2..], other, starts, number) {
+    match replacement(trail, lits, other, starts, number) {
         None => Sight::Last(other, status),
-        Some(found) => {
-            bring(lits, gone, other, found.0 + 2);
-            Sight::Moved(Watched {
-                first: other,
-                second: found.1,
-            })
-        }
+        Some(place) => Sight::Moved(bring(lits, gone, other, place)),
     }
 }

@@ -1,16 +1,15 @@
-use Rattle.std.proofs.Common.{◌≡◌, sym, subst, true}
-use Rattle.theory.specs.Literals.{Literal, has}
-use Rattle.kernel.proofs.Visits.{has-get}
+use Rattle.std.proofs.Common.{sym}
+use Rattle.theory.specs.Trails.{literals}
+use Rattle.trail.specs.Tables.{value_of}
+use Rattle.kernel.proofs.TrailFacts.{distinct-consistent}
+use Rattle.kernel.proofs.Visits.{not-false}
 use Rattle.kernel.proofs.replacement.first_open.Goals as goal
 
-pub returns-then-is_open-clause-some : goal.returns-then-is_open-clause-some
-returns-then-is_open-clause-some c =
-    let found = c.is_open.ensures.yes c.if-is_open.true in
-    record {
-      at = (c.loop-place-test.true, sym c.index-clause-place.is);
-      replaces = record {
-        member = subst (λ (l : Literal). has c.args.clause.now l ≡ true) (sym c.index-clause-place.is) (has-get c.args.clause.now c.loop-place.place c.index-clause-place.result c.loop-place-test.true);
-        apart = found.0;
-        not_false = found.1;
-      };
-    }
+pub returns-then-not-is_falsified-clause-some : goal.returns-then-not-is_falsified-clause-some
+returns-then-not-is_falsified-clause-some c = record {
+  lit = c.index-clause-place.result;
+  at = (c.loop-place-test.true, sym c.index-clause-place.is);
+  behind = c.loop-place.invariant.0;
+  not_false = not-false (literals c.args.trail.now.entries) c.index-clause-place.result (value_of c.status.result) (distinct-consistent (literals c.args.trail.now.entries) c.status.ensures.ordered.distinct) c.status.ensures.truth (c.is_falsified.ensures.no c.if-not-is_falsified.true);
+  before = c.loop-place.invariant.1;
+}

@@ -4,7 +4,7 @@ use Rattle.trail.specs.Tables.{value_of}
 use Rattle.kernel.proofs.TrailFacts.{distinct-consistent}
 use Rattle.kernel.proofs.Visits.{not-false}
 use Rattle.kernel.proofs.Replacements.{turned}
-use Rattle.kernel.proofs.replacement.is_open.Goals as goal
+use Rattle.kernel.proofs.replacement.is_replacement.Goals as goal
 
 pub returns-clause-yes : goal.returns-clause-yes
 returns-clause-yes c found = (
