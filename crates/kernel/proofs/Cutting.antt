@@ -1,6 +1,6 @@
 -- Entries and clauses that are cut off.
-use Rattle.std.proofs.Common.{◌≡◌, ◌≢◌, ℕ, ◌+◌, ◌-◌, ◌<◌, ◌≤◌, List, [], ◌∷◌, ◌++◌, length, get_or, set, take, map, ap, sym, subst, ◌∙◌, ◌⊎◌, inl, inr, arith}
-use Rattle.std.proofs.lemmas.List.{length-map, length-set, length-take-le, get_or-take, take_more, get_or-set_same, get_or-set_other, get_or_default}
+use Rattle.std.proofs.Common.{◌≡◌, ◌≢◌, ℕ, ◌+◌, ◌-◌, ◌<◌, ◌≤◌, List, [], ◌∷◌, ◌++◌, length, get_or, set, take, ap, sym, subst, ◌∙◌, ◌⊎◌, inl, inr, arith}
+use Rattle.std.proofs.lemmas.List.{length-map, length-set, length-take-le, get_or-take, take_more, get_or-set_same, get_or-set_other}
 use Rattle.std.proofs.Math.ListN.{get_or-map}
 use Rattle.std.proofs.lemmas.Bool.{cases_eq}
 use Rattle.std.specs.List.{Contains, swap_remove}
@@ -149,8 +149,3 @@ pub waits-more : (xs us new : List ℕ) (at x : ℕ) → x ≡ get_or xs at x �
 waits-more xs us new at x read inside p q =
     subst (λ (ys : List ℕ). IsPermutation ys new) (sym (take_more xs at x inside ∙ ap (λ y. take at xs ++ y ∷ []) (sym read)))
     (IsPermutation-trans (take at xs ++ x ∷ []) (x ∷ take at xs) new (IsPermutation-append_comm (take at xs) (x ∷ [])) (IsPermutation-trans (x ∷ take at xs) (x ∷ us) new (IsPermutation-cons x (take at xs) us p) q))
-
--- a list that is read, as a program has it
-pub old-list : {V : Type 0} (f : V → List Watch) (vs : List V) (at : ℕ) (v : V) → at < length vs → v ≡ get_or vs at v → f v ≡ get_or (map f vs) at []
-old-list f vs at v inside read =
-    ap f read ∙ sym (get_or-map f vs at v) ∙ get_or_default (map f vs) at (f v) [] (subst (λ n. at < n) (sym (length-map vs f)) inside)

@@ -7,11 +7,11 @@ pub mod Beginning
 pub mod BothSigns
 pub mod Cutting
 pub mod Falling
-pub mod FilledLists
 pub mod Filtering
 pub mod Forgetting
 pub mod ForgottenAt
 pub mod InOrder
+pub mod InPlace
 pub mod KernelSteps
 pub mod LastFalse
 pub mod LastLiterals
@@ -27,6 +27,7 @@ pub mod Placed
 pub mod Places
 pub mod Popping
 pub mod Restarting
+pub mod Rooms
 pub mod Serving
 pub mod Shown
 pub mod Sights

@@ -1,20 +1,25 @@
 -- What is seen of the clause of an entry is a visit of it.
-use Rattle.std.proofs.Common.{◌≡◌, ℕ, Bool, false, List, [], ◌∷◌, get_or, set, Some, None, ap, sym, subst, ◌∙◌}
+use Rattle.std.proofs.Common.{◌≡◌, ◌≢◌, ℕ, Bool, true, false, List, [], ◌∷◌, get_or, set, Some, None, ap, sym, subst, ◌∙◌}
 use Rattle.std.proofs.lemmas.List.{set-get_or}
 use Rattle.std.specs.List.Sorted.{IsPermutation}
-use Rattle.theory.specs.Literals.{Literal, Clause}
+use Rattle.theory.specs.Literals.{Literal, Clause, has, negated}
 use Rattle.trail.specs.Tables.{value_of}
 use Rattle.trail.specs.declared.truth.Truth.{Truth}
 use Rattle.kernel.specs.declared.watch.Watched.{Watched}
 use Rattle.kernel.specs.declared.watch.Watch.{Watch}
 use Rattle.kernel.specs.declared.sight.Sight.TheVariants.{Satisfied, Moved, Last}
-use Rattle.kernel.specs.Watching.{At, lesser}
+use Rattle.kernel.specs.Watching.{At, code, lesser}
 use Rattle.kernel.specs.Visiting.{CanVisit, IsVisit, WatchLists, satisfied, moves, Replaces}
 use Rattle.kernel.specs.Attaching.{with_entry}
 use Rattle.kernel.specs.Seeing.{IsSight, other_front}
 use Rattle.kernel.specs.Placing.{IsLastOf}
-use Rattle.kernel.proofs.Places.{At-get}
+use Rattle.kernel.proofs.LiteralFacts.{true_false}
+use Rattle.kernel.proofs.Places.{At-get, code-one}
 use Rattle.kernel.proofs.Visits.{Looked, pair-inside, looked, looked-stays, looked-last, clause-is, beside-one, noted}
+
+-- a literal that isn't false has another list than one that is
+pub apart-codes : (P : List Literal) (g z : Literal) → has P (negated g) ≡ true → has P (negated z) ≡ false → code g ≢ code z
+apart-codes P g z gone free e = true_false (has P (negated g)) gone (subst (λ (x : Literal). has P (negated x) ≡ false) (sym (code-one g z e)) free)
 
 set-read : {X : Type 0} (xs : List X) (n : ℕ) (x : X) → get_or xs n x ≡ x → set xs n x ≡ xs
 set-read xs n x h = ap (λ y. set xs n y) (sym h) ∙ set-get_or xs n x

@@ -1,8 +1,8 @@
--- One turn of the loop that visits the entries of a list, which was taken out.
+-- One turn of the loop that visits the entries of a list.
 use Rattle.std.proofs.Common.{◌≡◌, ◌≢◌, ℕ, suc, zero, ◌+◌, ◌-◌, ◌*◌, ◌<◌, ◌≤◌, true, false, List, [], ◌∷◌, ◌++◌, length, get_or, set, take, map, Some, None, refl, ap, sym, subst, ◌∙◌, ◌⊎◌, inl, inr, arith, All}
 use Rattle.theory.specs.Truth.{IsOver}
 use Rattle.kernel.proofs.Visits.{code-within, over-var}
-use Rattle.std.proofs.lemmas.List.{map-set, map-append, length-map, length-set, get_or-set_same, get_or-set_other, get_or-take, set-get_or, take-map, length-take-le, get_or_default}
+use Rattle.std.proofs.lemmas.List.{map-set, map-append, length-map, length-set, get_or-set_same, get_or-set_other, get_or-take, take-map, length-take-le, get_or_default}
 use Rattle.std.proofs.Math.Seq.{map-set_same, take-set-lt}
 use Rattle.std.proofs.Math.ListN.{get_or-map}
 use Rattle.std.proofs.lemmas.Bool.{cases_eq}
@@ -105,7 +105,7 @@ left-was ws m j q d x h a = go (At-set ws j (get_or ws m d) q x inner)
 pub At-places : (ws : List Watch) (j : ℕ) (e : Watch) → At ws j e → At (places ws) j e.clause
 At-places ws j e a = (subst (λ n. j < n) (sym (length-map ws (λ (x : Watch). x.clause))) a.0, get_or-map (λ (x : Watch). x.clause) ws j e ∙ ap (λ (x : Watch). x.clause) a.1)
 
--- the list that was taken out, among the others
+-- the list that is gone through, among the others
 pub list-is : (k : WatchLists) (g : Literal) (ws : List Watch) → code g < length k.lists → list_at (tending (with_list k g ws)).lists g ≡ places ws
 list-is k g ws h =
     ap (λ (ls : List (List ℕ)). get_or ls (code g) []) (map-set places k.lists (code g) ws)
@@ -377,31 +377,6 @@ all-visited k g list end place h inside done =
     let size : length (list_at (tending (with_list k g (take end list))).lists g) ≡ end =
     ap length (list-is k g (take end list) h) ∙ length-map (take end list) (λ (e : Watch). e.clause) ∙ length-take-le end list inside in
     omega (arith, size, done)
-
-set-twice : {X : Type 0} (xs : List X) (i : ℕ) (a c : X) → set (set xs i a) i c ≡ set xs i c
-set-twice [] i a c = refl
-set-twice (x ∷ xs) zero a c = refl
-set-twice (x ∷ xs) (suc i) a c = ap (λ ys. x ∷ ys) (set-twice xs i a c)
-
--- a list that was taken out stands beside the others
-pub taken-out : {V : Type 0} (f : V → List Watch) (vs : List V) (g : Literal) (at : ℕ) (empty before : V) (ws : List Watch) → at ≡ code g → code g < length vs → before ≡ get_or vs at before → ws ≡ f before
-    → set (map f (set vs at empty)) (code g) ws ≡ map f vs
-taken-out f vs g at empty before ws is inside read its =
-    (λ i. set (map f (set vs (is i) empty)) (code g) (its i))
-    ∙ ap (λ ys. set ys (code g) (f before)) (map-set f vs (code g) empty)
-    ∙ set-twice (map f vs) (code g) (f empty) (f before)
-    ∙ ap (λ x. set (map f vs) (code g) x) old
-    ∙ set-get_or (map f vs) (code g) []
-  where
-    within : code g < length (map f vs)
-    within = subst (λ n. code g < n) (sym (length-map vs f)) inside
-
-    old : f before ≡ get_or (map f vs) (code g) []
-    old = ap f (subst (λ x. before ≡ get_or vs x before) is read) ∙ sym (get_or-map f vs (code g) before) ∙ get_or_default (map f vs) (code g) (f before) [] within
-
--- and is put back
-pub put-back : {V : Type 0} (f : V → List Watch) (vs : List V) (g : Literal) (at : ℕ) (after : V) (ws : List Watch) → at ≡ code g → f after ≡ ws → map f (set vs at after) ≡ set (map f vs) (code g) ws
-put-back f vs g at after ws is its = map-set f vs at after ∙ (λ i. set (map f vs) (is i) (its i))
 
 pub gone-inside : {V : Type 0} (vs : List V) (n : ℕ) (g : Literal) (T : Trail) (served : ℕ) → length vs ≡ 2 * n + 2 → IsOver n (literals T) → IsNext T served g → code g < length vs
 gone-inside vs n g T served long over next = code-within g n (length vs) (over-var n (literals T) (negated g) over (gone-true T served g next)) long

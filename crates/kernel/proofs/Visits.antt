@@ -1,7 +1,5 @@
 -- What is found in the visit of a clause.
-use Rattle.std.proofs.Common.{◌≡◌, ◌≢◌, ℕ, suc, zero, ◌+◌, ◌*◌, ◌<◌, ◌≤◌, Bool, true, false, List, [], ◌∷◌, ◌++◌, length, get_or, set, map, Option, Some, None, refl, ap, sym, subst, ◌∙◌, ◌⊎◌, inl, inr, arith, cond, All, slice_get, is_some as has_value}
-use Rattle.std.proofs.lemmas.List.{map-set, length-map, get_or_default}
-use Rattle.std.proofs.Math.ListN.{get_or-map}
+use Rattle.std.proofs.Common.{◌≡◌, ◌≢◌, ℕ, suc, zero, ◌+◌, ◌*◌, ◌<◌, ◌≤◌, Bool, true, false, List, [], ◌∷◌, ◌++◌, length, get_or, set, Option, Some, None, refl, ap, sym, subst, ◌∙◌, ◌⊎◌, inl, inr, arith, cond, All, slice_get, is_some as has_value}
 use Rattle.std.proofs.lemmas.Option.{get_or_from_slice_get}
 use Rattle.theory.specs.Literals.{Literal, Clause, same, has, has_var, negated}
 use Rattle.theory.specs.Truth.{IsOver}
@@ -38,21 +36,6 @@ not-false P l o ok says ne = go o says ne (true_or_false (has P (negated l)))
     go None says ne (inl e) = absurd (free-not_negated P l says e)
     go (Some true) says ne (inl e) = absurd (ok l says e)
     go (Some false) says ne (inl e) = absurd (ne refl)
-
--- the list of a literal after an entry was pushed, as a program has it
-pub pushed-entries : {V : Type 0} (f : V → List Watch) (vs : List V) (l : Literal) (cl : ℕ) (before after : V) (e : Watch) → cl ≡ code l → code l < length vs → before ≡ get_or vs cl before → f after ≡ f before ++ e ∷ []
-    → map f (set vs cl after) ≡ set (map f vs) (code l) (entries_at (map f vs) l ++ e ∷ [])
-pushed-entries f vs l cl before after e is inside read push =
-    map-set f vs cl after ∙ (λ i. set (map f vs) (is i) (new i))
-  where
-    within : code l < length (map f vs)
-    within = subst (λ n. code l < n) (sym (length-map vs f)) inside
-
-    old : f before ≡ entries_at (map f vs) l
-    old = ap f (subst (λ x. before ≡ get_or vs x before) is read) ∙ sym (get_or-map f vs (code l) before) ∙ get_or_default (map f vs) (code l) (f before) [] within
-
-    new : f after ≡ entries_at (map f vs) l ++ e ∷ []
-    new = push ∙ ap (λ xs. xs ++ e ∷ []) old
 
 pub is-some : (o : Option Bool) (b : Bool) → option_eq beq o (Some b) ≡ true → o ≡ Some b
 is-some None b h = absurd (cc)

@@ -2,8 +2,8 @@
 pub mod Answer
 pub mod Arranging
 pub mod Attaching
-pub mod Listing
 pub mod Cutting
+pub mod EntryLists
 pub mod Forgetting
 pub mod Shown
 pub mod Placing

@@ -5,6 +5,7 @@ use Rattle.theory.specs.Literals.{Literal, Clause, same, has, negated}
 use Rattle.kernel.specs.declared.watch.Watched.{Watched}
 use Rattle.kernel.specs.declared.watch.Watch.{Watch}
 use Rattle.kernel.specs.declared.propagator.Propagator.{Propagator}
+use Rattle.kernel.specs.EntryLists.{entries_of}
 use Rattle.kernel.specs.Watching.{At, IsPair, IsBeside, Tending, code, lesser}
 
 -- what is kept beside the clauses, with the entries of the lists whole
@@ -23,13 +24,13 @@ abbrev pub entries_at : List (List Watch) → Literal → List Watch
 entries_at lists l = slice_index_or lists (code l) []
 
 abbrev pub kept_of : Propagator → WatchLists
-kept_of p = record { pairs = p.clauses.pairs; lists = map (λ v. v.items) p.lists.items; units = p.units; least = p.conflict }
+kept_of p = record { pairs = p.clauses.pairs; lists = map entries_of p.lists; units = p.units; least = p.conflict }
 
 -- the same without what the entries say beside the clauses' places
 abbrev pub tending : WatchLists → Tending
 tending k = record { pairs = k.pairs; lists = map places k.lists; units = k.units; least = k.least }
 
--- with the entries ws for the list of g, which is taken out while it is gone through
+-- with the entries ws for the list of g, some of which was gone through
 abbrev pub with_list : WatchLists → Literal → List Watch → WatchLists
 with_list k g ws = record k { lists = slice_set k.lists (code g) ws }
 

@@ -1,5 +1,5 @@
 //! Clauses that come to the end and are watched, and those that are cut off again.
-ghost use Rattle.std.specs.Prelude.{◌≡◌, ◌+◌, ◌<◌, ◌≤◌, ◌*◌, ◌∷◌, [], ◌++◌, All, IfOk, OnOk, OnErr, IfSome, IfNone, IsSome, Some, None, length, map, Bool, true, false, nat_le, ℕ, ◌^◌, List, Option, sum_by};
+ghost use Rattle.std.specs.Prelude.{◌≡◌, ◌≢◌, ◌+◌, ◌<◌, ◌≤◌, ◌*◌, ◌∷◌, [], ◌++◌, All, IfOk, OnOk, OnErr, IfSome, IfNone, IsSome, Some, None, length, map, Bool, true, false, nat_le, ℕ, ◌^◌, List, Option, sum_by};
 ghost use Rattle.theory.specs.Literals.{Literal, same, has};
 ghost use Rattle.theory.specs.Status.{unit_literal};
 ghost use Rattle.theory.specs.Trails.{literals, level_of};
@@ -9,12 +9,10 @@ ghost use Rattle.theory.specs.Learnable.{IsLearnable};
 ghost use Rattle.theory.specs.Pure.{unit_clauses};
 ghost use Rattle.kernel.specs.Watching.{code, IsPair, lesser};
 ghost use Rattle.kernel.specs.Visiting.{kept_of};
-ghost use Rattle.kernel.specs.declared.watch.Watched.{Watched};
-ghost use Rattle.kernel.specs.declared.watch.Watch.{Watch};
 ghost use Rattle.kernel.specs.Attaching.{with_entry, attached, IsLater, IsWatching};
-ghost use Rattle.kernel.specs.Listing.{with_clause};
+ghost use Rattle.kernel.specs.EntryLists.{nth_list};
 
-use crate::listing::ListRange;
+use crate::entry_lists::EntryLists;
 use crate::propagator::Propagator;
 use crate::replacement::Starts;
 use crate::store::Store;
@@ -113,14 +111,16 @@ pub fn learnt_watched(trail: &Trail, clause: &[Lit]) -> Option<Watched>
 
 impl Propagator {
     /// Puts an entry into the list of a literal.
+    #[inline]
     pub fn list(&mut self, lit: Lit, watch: Watch) -> Result<(), AllocError>
-        requires lit { code lit < length self.old.lists.items }
+        requires lit { code lit < length self.old.lists }
         requires small { watch.clause < 2 ^ 31 }
         ensures lists { OnOk result ((kept_of self.new).lists ≡ with_entry (kept_of self.old).lists lit watch) }
         ensures kept { (self.new.clauses.given ≡ self.old.clauses.given) × (self.new.clauses.pairs ≡ self.old.clauses.pairs) × (self.new.units ≡ self.old.units) × (self.new.conflict ≡ self.old.conflict)
-            × (length self.new.lists.items ≡ length self.old.lists.items) }
+            × (length self.new.lists ≡ length self.old.lists) }
+        ensures others { (n : ℕ) → n ≢ code lit → nth_list self.new.lists n ≡ nth_list self.old.lists n }
     {
-        self.lists[code(lit)].push(PackedWatch::of(watch))?;
+        self.lists.push(code(lit), PackedWatch::of(watch))?;
         Ok(())
     }
 
@@ -128,14 +128,14 @@ impl Propagator {
     /// for memory is refused, the clauses are as they were. There is room for 2^31 clauses; one
     /// more counts as a request that is refused.
     pub fn attach(&mut self, clause: &[Lit], watched: Watched) -> Result<(), AllocError>
-        requires first { code watched.first < length self.old.lists.items }
-        requires second { code watched.second < length self.old.lists.items }
+        requires first { code watched.first < length self.old.lists }
+        requires second { code watched.second < length self.old.lists }
         requires pair { IsPair clause.now watched }
         ensures clauses { OnOk result (self.new.clauses.given ≡ self.old.clauses.given ++ clause.now ∷ []) }
         ensures pairs { OnOk result (self.new.clauses.pairs ≡ self.old.clauses.pairs ++ watched ∷ []) }
         ensures lists { OnOk result ((kept_of self.new).lists ≡ attached (kept_of self.old).lists watched (length self.old.clauses.given) (nat_le (length clause.now) 2)) }
         ensures small { OnOk result (length self.old.clauses.given < 2 ^ 32) }
-        ensures kept { (self.new.units ≡ self.old.units) × (self.new.conflict ≡ self.old.conflict) × (length self.new.lists.items ≡ length self.old.lists.items) }
+        ensures kept { (self.new.units ≡ self.old.units) × (self.new.conflict ≡ self.old.conflict) × (length self.new.lists ≡ length self.old.lists) }
         ensures refused { OnErr result (self.new.clauses.given ≡ self.old.clauses.given) }
     {
         let number = self.clauses.len();
@@ -183,26 +183,20 @@ impl Propagator {
         Ok(())
     }
 
-    /// Puts a clause at the end, before anything is decided, and notes it where it is empty or of
-    /// one literal. It is watched as soon as it is in the lists of what it watches.
-    fn hold(&mut self, clause: &[Lit], singles: &mut Vec<u32>) -> Result<(), AllocError>
+    /// Puts a clause of the formula at the end, before anything is decided: it is watched, and
+    /// noted where it is empty or of one literal.
+    fn attach_first(&mut self, clause: &[Lit], singles: &mut Vec<u32>) -> Result<(), AllocError>
+        requires lists { (V : ℕ) × IsOver V clause.now × (length self.old.lists ≡ 2 * V + 2) }
         ensures clauses { OnOk result (self.new.clauses.given ≡ self.old.clauses.given ++ clause.now ∷ []) }
-        ensures watching { OnOk result ((w : Watched) × (self.new.clauses.pairs ≡ self.old.clauses.pairs ++ w ∷ [])
-            × ((clause.now ≡ [] → ⊥) → IsPair clause.now w)
-            × ((V : ℕ) (lists : List (List Watch)) → IsOver V clause.now
-            → IsWatching V (length self.old.clauses.given) self.old.clauses.given [] 0 0 (record (kept_of self.old) { lists = lists }) singles.old.items self.old.conflict
-            → IsWatching V (length self.new.clauses.given) self.new.clauses.given [] 0 0 (record (kept_of self.new) { lists = with_clause lists clause.now w (length self.old.clauses.given) }) singles.new.items self.new.conflict)) }
-        ensures few { OnOk result (length self.new.clauses.given ≤ 2 ^ 31) }
-        ensures lists { self.new.lists ≡ self.old.lists }
+        ensures watching { OnOk result ((V : ℕ) → IsOver V clause.now → IsWatching V (length self.old.clauses.given) self.old.clauses.given [] 0 0 (kept_of self.old) singles.old.items self.old.conflict
+            → IsWatching V (length self.new.clauses.given) self.new.clauses.given [] 0 0 (kept_of self.new) singles.new.items self.new.conflict) }
+        ensures lists { length self.new.lists ≡ length self.old.lists }
     {
-        let number = self.clauses.len();
-        if number >= MOST_CLAUSES {
-            return Err(AllocError);
-        }
         match first_two(clause) {
             None => self.attach_empty()?,
             Some(watched) => {
-                self.clauses.push(clause, watched)?;
+                let number = self.clauses.len();
+                self.attach(clause, watched)?;
                 if watched.first.same(&watched.second) {
                     self.units.push(number as u32)?;
                     singles.push(number as u32)?;
@@ -212,28 +206,13 @@ impl Propagator {
         Ok(())
     }
 
-    /// Puts a clause at the end, before anything is decided: it is watched, and noted where it is
-    /// empty or of one literal.
-    fn attach_first(&mut self, clause: &[Lit], singles: &mut Vec<u32>) -> Result<(), AllocError>
-        requires lists { (V : ℕ) × IsOver V clause.now × (length self.old.lists.items ≡ 2 * V + 2) }
-        ensures clauses { OnOk result (self.new.clauses.given ≡ self.old.clauses.given ++ clause.now ∷ []) }
-        ensures watching { OnOk result ((V : ℕ) → IsOver V clause.now → IsWatching V (length self.old.clauses.given) self.old.clauses.given [] 0 0 (kept_of self.old) singles.old.items self.old.conflict
-            → IsWatching V (length self.new.clauses.given) self.new.clauses.given [] 0 0 (kept_of self.new) singles.new.items self.new.conflict) }
-        ensures lists { OnOk result (length self.new.lists.items ≡ length self.old.lists.items) }
-    {
-        let number = self.clauses.len();
-        self.hold(clause, singles)?;
-        self.list_clause(ListRange::ALL, number)?;
-        Ok(())
-    }
-
     /// Puts a learnt clause at the end: one of its literals is free, and the others are false. It
     /// waits as a unit from then on. Where a request for memory is refused, the clauses are as they
     /// were.
     pub fn attach_learnt(&mut self, trail: &Trail, clause: &[Lit]) -> Result<(), AllocError>
         requires over { IsOver trail.now.vars clause.now }
         requires learnable { IsLearnable trail.now.entries clause.now }
-        requires lists { length self.old.lists.items ≡ 2 * trail.now.vars + 2 }
+        requires lists { length self.old.lists ≡ 2 * trail.now.vars + 2 }
         ensures clauses { OnOk result (self.new.clauses.given ≡ self.old.clauses.given ++ clause.now ∷ []) }
         ensures watching { OnOk result ((first at floor : ℕ) (single : List ℕ) (empty : Option ℕ) → first ≤ length self.old.clauses.given
             → IsWatching trail.now.vars first self.old.clauses.given trail.now.entries at floor (kept_of self.old) single empty
@@ -255,31 +234,28 @@ impl Propagator {
         }
     }
 
-    /// Attaches the formula's clauses, the first ones, before anything is decided, and notes those
-    /// of one literal.
+    /// Attaches the formula's clauses, before anything is decided, and notes those of one literal.
     pub fn attach_all(
         &mut self,
         formula: &Formula,
         singles: &mut Vec<u32>,
     ) -> Result<(), AllocError>
-        requires none { self.old.clauses.given ≡ [] }
-        requires watching { IsWatching formula.now.vars 0 [] [] 0 0 (kept_of self.old) singles.old.items self.old.conflict }
-        ensures clauses { OnOk result (self.new.clauses.given ≡ formula.now.clauses) }
-        ensures watching { OnOk result (IsWatching formula.now.vars (length self.new.clauses.given) self.new.clauses.given [] 0 0 (kept_of self.new) singles.new.items self.new.conflict) }
-        ensures lists { OnOk result (length self.new.lists.items ≡ length self.old.lists.items) }
+        requires over { length self.old.lists ≡ 2 * formula.now.vars + 2 }
+        ensures clauses { OnOk result (self.new.clauses.given ≡ self.old.clauses.given ++ formula.now.clauses) }
+        ensures watching { OnOk result (IsWatching formula.now.vars (length self.old.clauses.given) self.old.clauses.given [] 0 0 (kept_of self.old) singles.old.items self.old.conflict
+            → IsWatching formula.now.vars (length self.new.clauses.given) self.new.clauses.given [] 0 0 (kept_of self.new) singles.new.items self.new.conflict) }
+        ensures lists { length self.new.lists ≡ length self.old.lists }
     {
-        let _vars = formula.vars(); // it ensures what the proof needs of the clauses
         for place in 0..formula.clause_count() {
-            self.hold(formula.clause(place), singles)?;
+            self.attach_first(formula.clause(place), singles)?;
         }
-        self.list_all()?;
         Ok(())
     }
 
     /// Attaches a clause of each of these literals, before anything is decided, and notes them as
     /// those of one literal.
     pub fn attach_units(&mut self, units: &[Lit], singles: &mut Vec<u32>) -> Result<(), AllocError>
-        requires over { (V : ℕ) × IsOver V units.now × (length self.old.lists.items ≡ 2 * V + 2) }
+        requires over { (V : ℕ) × IsOver V units.now × (length self.old.lists ≡ 2 * V + 2) }
         ensures clauses { OnOk result (self.new.clauses.given ≡ self.old.clauses.given ++ unit_clauses units.now) }
         ensures watching { OnOk result ((V : ℕ) → IsOver V units.now → IsWatching V (length self.old.clauses.given) self.old.clauses.given [] 0 0 (kept_of self.old) singles.old.items self.old.conflict
             → IsWatching V (length self.new.clauses.given) self.new.clauses.given [] 0 0 (kept_of self.new) singles.new.items self.new.conflict) }
@@ -359,17 +335,6 @@ impl Room {
     }
 }
 
-/// Lists without entries, each with room for so many.
-fn no_entries(alloc: Global, counts: &[u32]) -> Result<Vec<Vec<PackedWatch>>, AllocError>
-    ensures { IfOk result (λ ls. (length ls.items ≡ length counts.now) × All (λ v. v.items ≡ []) ls.items) }
-{
-    let mut lists = Vec::with_capacity(alloc, counts.len())?;
-    for count in counts {
-        lists.push(Vec::with_capacity(alloc, *count as usize)?)?;
-    }
-    Ok(lists)
-}
-
 impl Propagator {
     /// No clauses, with the room of those of a formula and of a clause of each of these literals.
     /// The counts go.
@@ -379,12 +344,12 @@ impl Propagator {
         formula: &Formula,
         units: &[Lit],
     ) -> Result<Propagator, AllocError>
-        ensures none { IfOk result (λ p. (p.clauses.given ≡ []) × (length p.lists.items ≡ length room.entries.items)) }
+        ensures none { IfOk result (λ p. (p.clauses.given ≡ []) × (length p.lists ≡ length room.entries.items)) }
         ensures watching { IfOk result (λ p. (V : ℕ) → length room.entries.items ≡ 2 * V + 2 → IsWatching V 0 [] [] 0 0 (kept_of p) [] p.conflict) }
     {
         Ok(Propagator {
             clauses: Store::with_room(alloc, formula, units)?,
-            lists: no_entries(alloc, &room.entries)?,
+            lists: EntryLists::with_room(alloc, &room.entries)?,
             units: Units::with_room(alloc, room.singles)?,
             conflict: None,
             starts: Starts::with_room(alloc, formula.clause_count() + units.len())?,

@@ -105,7 +105,7 @@ impl Propagator {
         requires line { line.old ≡ [] }
         requires entries { AreEntries self.old.clauses.given (kept_of self.old) }
         requires over { All (IsOver trail.old.vars) self.old.clauses.given }
-        requires lists { length self.old.lists.items ≡ 2 * trail.old.vars + 2 }
+        requires lists { length self.old.lists ≡ 2 * trail.old.vars + 2 }
         requires served { (floor : ℕ) × IsServed floor self.old.clauses.given trail.old.entries served (tending (kept_of self.old)) }
         ensures closes { IfOk result (λ a. Propagates (rule_of order) self.old.clauses.given trail.old.entries (closed_of a) trail.new.entries) }
         ensures onward { (a : closing.Closed) (U : closing_trails.Trail) → Propagates (rule_of order) self.old.clauses.given trail.new.entries a U → Propagates (rule_of order) self.old.clauses.given trail.old.entries a U }
@@ -115,7 +115,7 @@ impl Propagator {
         ensures entries { OnOk result (AreEntries self.old.clauses.given (kept_of self.new)) }
         ensures line { OnOk result (line.new ≡ []) }
         ensures vars { trail.new.vars ≡ trail.old.vars }
-        ensures kept { (self.new.clauses.given ≡ self.old.clauses.given) × (length self.new.lists.items ≡ length self.old.lists.items) }
+        ensures kept { (self.new.clauses.given ≡ self.old.clauses.given) × (length self.new.lists ≡ length self.old.lists) }
     {
         self.line_up(order, trail, line)?;
         let mut served = served;

@@ -18,7 +18,7 @@ use std::alloc::AllocError;
 
 /// Takes the entries of clauses from `first` on out of a list; the answer is how many stay. Their
 /// order isn't kept.
-fn keep_below(list: &mut [PackedWatch], first: usize) -> usize
+pub(crate) fn keep_below(list: &mut [PackedWatch], first: usize) -> usize
     ensures within { result ≤ length list.new }
     ensures kept { IsKeptBelow first list.old (take result list.new) }
 {
@@ -40,11 +40,11 @@ impl Propagator {
     /// stand here twice.
     fn lists_from(&self, first: usize) -> Result<Vec<usize>, AllocError>
         requires first { first ≤ length self.now.clauses.pairs }
-        requires lists { (n : ℕ) (w : Watched) → first ≤ n → At self.now.clauses.pairs n w → (code w.first < length self.now.lists.items) × (code w.second < length self.now.lists.items) }
-        ensures within { IfOk result (λ cs. All (λ n. n < length self.now.lists.items) cs.items) }
+        requires lists { (n : ℕ) (w : Watched) → first ≤ n → At self.now.clauses.pairs n w → (code w.first < length self.now.lists) × (code w.second < length self.now.lists) }
+        ensures within { IfOk result (λ cs. All (λ n. n < length self.now.lists) cs.items) }
         ensures codes { IfOk result (λ cs. AreCodesOf first self.now.clauses.pairs cs.items) }
     {
-        let alloc = *self.lists.allocator();
+        let alloc = self.lists.allocator();
         let mut codes = Vec::new(alloc);
         for index in first..self.clauses.len() {
             let watched = self.clauses.watched(index);
@@ -57,23 +57,21 @@ impl Propagator {
 
     /// Takes the entries of clauses from `first` on out of a list.
     fn drop_list(&mut self, at: usize, first: usize)
-        requires { at < length self.old.lists.items }
+        requires { at < length self.old.lists }
         ensures kept { (self.new.clauses.given ≡ self.old.clauses.given) × (self.new.clauses.pairs ≡ self.old.clauses.pairs) × (self.new.units ≡ self.old.units) × (self.new.conflict ≡ self.old.conflict) }
-        ensures long { length self.new.lists.items ≡ length self.old.lists.items }
+        ensures long { length self.new.lists ≡ length self.old.lists }
         ensures list { (ws : List Watch) × ((kept_of self.new).lists ≡ slice_set (kept_of self.old).lists at ws) × IsKeptBelow first (slice_index_or (kept_of self.old).lists at []) ws }
     {
-        let list = &mut self.lists[at];
-        let end = keep_below(list.as_mut_slice(), first);
-        list.truncate(end);
+        self.lists.drop_from(at, first);
     }
 
     /// Takes the entries of clauses from `first` on out of some lists. A list that is named twice
     /// in a row is gone through once.
     fn drop_from(&mut self, codes: &[usize], first: usize)
-        requires { All (λ n. n < length self.old.lists.items) codes.now }
+        requires { All (λ n. n < length self.old.lists) codes.now }
         ensures kept { (self.new.clauses.given ≡ self.old.clauses.given) × (self.new.clauses.pairs ≡ self.old.clauses.pairs) × (self.new.units ≡ self.old.units) × (self.new.conflict ≡ self.old.conflict) }
         ensures lists { AreKeptBelow first codes.now (kept_of self.old).lists (kept_of self.new).lists }
-        ensures long { length self.new.lists.items ≡ length self.old.lists.items }
+        ensures long { length self.new.lists ≡ length self.old.lists }
     {
         let mut last = None;
         for code in codes {
@@ -97,7 +95,7 @@ impl Propagator {
     ) -> Result<(), AllocError>
         requires inside { first ≤ length self.old.clauses.given }
         requires watching { (V : ℕ) × (T : trails.Trail) × (at : ℕ) × (floor : ℕ) × IsWatching V first self.old.clauses.given T at floor (kept_of self.old) singles.now empty }
-        requires over { (V : ℕ) × All (IsOver V) self.old.clauses.given × (length self.old.lists.items ≡ 2 * V + 2) }
+        requires over { (V : ℕ) × All (IsOver V) self.old.clauses.given × (length self.old.lists ≡ 2 * V + 2) }
         ensures clauses { OnOk result (self.new.clauses.given ≡ take first self.old.clauses.given) }
         ensures watching { OnOk result ((V at floor : ℕ) (T : trails.Trail) → IsWatching V first self.old.clauses.given T at floor (kept_of self.old) singles.now empty
             → IsWatching V first self.new.clauses.given [] 0 0 (kept_of self.new) singles.now empty) }

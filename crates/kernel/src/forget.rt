@@ -1,6 +1,6 @@
 //! Learnt clauses are forgotten. Each keeps its number and becomes `1 -1`, which is never unit and
 //! never false, so no list need have it.
-ghost use Rattle.std.specs.Prelude.{◌≡◌, ◌<◌, ◌≤◌, [], None, All, OnOk, OnErr, length, map, slice_index_or, slice_set, ℕ, List, Option};
+ghost use Rattle.std.specs.Prelude.{◌≡◌, ◌<◌, ◌≤◌, [], None, All, OnOk, OnErr, length, map, take, slice_index_or, slice_set, ℕ, List, Option};
 ghost use Rattle.theory.specs.Trails as trails;
 ghost use Rattle.theory.specs.Propagation.{least_false};
 ghost use Rattle.theory.specs.Forgetting.{forget};
@@ -11,23 +11,41 @@ ghost use Rattle.kernel.specs.Forgetting.{entries_left, names};
 
 use crate::named::Named;
 use crate::propagator::Propagator;
+use crate::watch::PackedWatch;
 use std::alloc::AllocError;
+
+/// Takes the entries of clauses that are named out of a list; the answer is how many stay, in their
+/// order.
+pub(crate) fn keep_unnamed(list: &mut [PackedWatch], named: &Named) -> usize
+    ensures within { result ≤ length list.new }
+    ensures kept { take result list.new ≡ entries_left (names named.now) list.old }
+{
+    let mut end = 0;
+    for place in 0..list.len() {
+        let entry = list[place];
+        if !named.has(entry.watch().clause as usize) {
+            list[end] = entry;
+            end += 1;
+        }
+    }
+    end
+}
 
 impl Propagator {
     /// Takes the entries of clauses that are named out of a list.
     fn drop_entries(&mut self, at: usize, named: &Named)
-        requires { at < length self.old.lists.items }
+        requires { at < length self.old.lists }
         ensures kept { (self.new.clauses.given ≡ self.old.clauses.given) × (self.new.clauses.pairs ≡ self.old.clauses.pairs) × (self.new.units ≡ self.old.units) × (self.new.conflict ≡ self.old.conflict) }
-        ensures long { length self.new.lists.items ≡ length self.old.lists.items }
+        ensures long { length self.new.lists ≡ length self.old.lists }
         ensures list { (kept_of self.new).lists ≡ slice_set (kept_of self.old).lists at (entries_left (names named.now) (slice_index_or (kept_of self.old).lists at [])) }
     {
-        self.lists[at].retain(|watch| !named.has(watch.watch().clause as usize));
+        self.lists.drop_named(at, named);
     }
 
     /// Takes the entries of clauses that are named out of all lists.
     fn drop_all_entries(&mut self, named: &Named)
         ensures kept { (self.new.clauses.given ≡ self.old.clauses.given) × (self.new.clauses.pairs ≡ self.old.clauses.pairs) × (self.new.units ≡ self.old.units) × (self.new.conflict ≡ self.old.conflict) }
-        ensures long { length self.new.lists.items ≡ length self.old.lists.items }
+        ensures long { length self.new.lists ≡ length self.old.lists }
         ensures lists { (kept_of self.new).lists ≡ map (entries_left (names named.now)) (kept_of self.old).lists }
     {
         for at in 0..self.lists.len() {
@@ -49,7 +67,7 @@ impl Propagator {
             → IsWatching V first self.new.clauses.given T at floor (kept_of self.new) single empty) }
         ensures refused { OnErr result (self.new.clauses.given ≡ self.old.clauses.given) }
     {
-        let alloc = *self.lists.allocator();
+        let alloc = self.lists.allocator();
         let named = Named::of(alloc, first, self.clauses.len(), numbers)?;
         self.clauses.forget(first, &named);
         self.drop_all_entries(&named);

@@ -15,8 +15,10 @@ ghost use Rattle.trail.specs.Tables.{IsTruth, value_of};
 ghost use Rattle.kernel.specs.Watching.{code, lesser, At, IsNext, IsServed, Tends, AllGood};
 ghost use Rattle.kernel.specs.declared.order.Order.{Order};
 ghost use Rattle.kernel.specs.Placing.{clauses_of, kept_with, HasPlace, PlacesOf, place_in, IsLastOf, AreInLine};
+ghost use Rattle.kernel.specs.EntryLists.{nth_list};
 ghost use Rattle.kernel.specs.Visiting.{WatchLists, kept_of, entries_at, CanVisit, IsVisit, IsLast, Replaces, tending, with_list, AreEntries};
 
+use crate::entry_lists::{EntryLists, OpenList};
 use crate::last_false::last_place;
 use crate::line::{Line, Waiting};
 use crate::order::Order;
@@ -26,8 +28,7 @@ use crate::store::Store;
 use crate::units::Units;
 use crate::watch::{PackedWatch, Watch, Watched, code};
 use cnf::Lit;
-use std::alloc::{AllocError, Global};
-use std::mem;
+use std::alloc::AllocError;
 use trail::{Trail, Truth, status_in};
 
 /// Clauses with their watches, and what was found of them. Clauses are named by their places, from
@@ -36,9 +37,8 @@ use trail::{Trail, Truth, status_in};
 pub struct Propagator {
     pub clauses: Store,
     /// By literal: the clauses that watch it. They are made with the room that the formula's
-    /// clauses take, so that opening never moves one; each visit of a list takes it out and puts it
-    /// back, so it is a small value.
-    pub lists: Vec<Vec<PackedWatch>>,
+    /// clauses take, so that opening never moves one.
+    pub lists: EntryLists,
     /// The clauses that wait as units between two propagations; while one goes on they are in line.
     pub units: Units,
     /// The least clause that was found false.
@@ -145,10 +145,11 @@ impl Propagator {
         requires long { watch.is_short ≡ false }
         requires visit { CanVisit self.old.clauses.given (literals trail.now.entries) gone watch (kept_with self.old line.old) }
         requires over { All (IsOver trail.now.vars) self.old.clauses.given }
-        requires lists { length self.old.lists.items ≡ 2 * trail.now.vars + 2 }
+        requires lists { length self.old.lists ≡ 2 * trail.now.vars + 2 }
         ensures visit { IfOk result (λ r. IsVisit self.old.clauses.given (literals trail.now.entries) gone watch (kept_with self.old line.old) (kept_with self.new line.new) r) }
         ensures line { OnOk result ((o : Order) → PlacesOf o trail.now.entries gone place → AreInLine o self.old.clauses.given trail.now.entries line.old → AreInLine o self.old.clauses.given trail.now.entries line.new) }
-        ensures kept { (self.new.clauses.given ≡ self.old.clauses.given) × (length self.new.lists.items ≡ length self.old.lists.items) × (self.new.units ≡ self.old.units) }
+        ensures list { nth_list self.new.lists (code gone) ≡ nth_list self.old.lists (code gone) }
+        ensures kept { (self.new.clauses.given ≡ self.old.clauses.given) × (length self.new.lists ≡ length self.old.lists) × (self.new.units ≡ self.old.units) }
     {
         let clause = watch.clause;
         match self
@@ -175,9 +176,10 @@ impl Propagator {
     }
 
     /// Visits a clause in the list of a literal that became false, whose blocker isn't true but as
-    /// `status` says. The answer is the entry's blocker from now on, or none where the entry leaves the list, since another literal is
-    /// watched. Behind the least false clause nothing is looked for, since only an earlier one can
-    /// be the answer, and the literal is taken back before the next propagation.
+    /// `status` says. The answer is the entry's blocker from now on, or none where the entry leaves
+    /// the list, since another literal is watched. Behind the least false clause nothing is looked
+    /// for, since only an earlier one can be the answer, and the literal is taken back before the
+    /// next propagation.
     fn visit(
         &mut self,
         trail: &Trail,
@@ -191,10 +193,11 @@ impl Propagator {
         requires status { IsTruth (literals trail.now.entries) watch.blocker (value_of status) × (value_of status ≢ Some true) }
         requires visit { CanVisit self.old.clauses.given (literals trail.now.entries) gone watch (kept_with self.old line.old) }
         requires over { All (IsOver trail.now.vars) self.old.clauses.given }
-        requires lists { length self.old.lists.items ≡ 2 * trail.now.vars + 2 }
+        requires lists { length self.old.lists ≡ 2 * trail.now.vars + 2 }
         ensures visit { IfOk result (λ r. IsVisit self.old.clauses.given (literals trail.now.entries) gone watch (kept_with self.old line.old) (kept_with self.new line.new) r) }
         ensures line { OnOk result ((o : Order) → PlacesOf o trail.now.entries gone place → AreInLine o self.old.clauses.given trail.now.entries line.old → AreInLine o self.old.clauses.given trail.now.entries line.new) }
-        ensures kept { (self.new.clauses.given ≡ self.old.clauses.given) × (length self.new.lists.items ≡ length self.old.lists.items) × (self.new.units ≡ self.old.units) }
+        ensures list { nth_list self.new.lists (code gone) ≡ nth_list self.old.lists (code gone) }
+        ensures kept { (self.new.clauses.given ≡ self.old.clauses.given) × (length self.new.lists ≡ length self.old.lists) × (self.new.units ≡ self.old.units) }
     {
         if let Some(least) = self.conflict {
             if least <= watch.clause {
@@ -208,55 +211,54 @@ impl Propagator {
         self.look(trail, gone, watch, place, line)
     }
 
-    /// Visits each clause that watches a literal which became false, in a list that was taken out.
-    /// Most visits end at a blocker that is true; they read the trail's table itself and write
-    /// nothing. Entries leave the list by the last one taking their place, so that those that stay
-    /// are written to only for a new blocker. The answer is how many entries stay. Those that are
-    /// found unit wait in line, with the place that is given.
+    /// Visits each clause that watches a literal which became false. Most visits end at a blocker
+    /// that is true; they read the trail's table itself and write nothing. Entries leave the list
+    /// by the last one taking their place, so that those that stay are written to only for a new
+    /// blocker. Clauses that are found unit wait in line, with the place that is given.
     fn visit_all(
         &mut self,
         trail: &Trail,
         gone: Lit,
         found: Option<usize>,
-        list: &mut [PackedWatch],
         line: &mut Line,
-    ) -> Result<usize, AllocError>
+    ) -> Result<(), AllocError>
         requires ordered { IsOrdered trail.now.vars trail.now.entries }
-        requires served { (floor : ℕ) × (n : ℕ) × IsNext trail.now.entries n gone × IsServed floor self.old.clauses.given trail.now.entries n (tending (with_list (kept_with self.old line.old) gone list.old)) }
-        requires entries { AreEntries self.old.clauses.given (with_list (kept_of self.old) gone list.old) }
+        requires served { (floor : ℕ) × (n : ℕ) × IsNext trail.now.entries n gone × IsServed floor self.old.clauses.given trail.now.entries n (tending (kept_with self.old line.old)) }
+        requires entries { AreEntries self.old.clauses.given (kept_of self.old) }
         requires over { All (IsOver trail.now.vars) self.old.clauses.given }
-        requires lists { length self.old.lists.items ≡ 2 * trail.now.vars + 2 }
-        ensures within { IfOk result (λ m. m ≤ length list.new) }
-        ensures served { IfOk result (λ m. (floor n : ℕ) → IsNext trail.now.entries n gone → IsServed floor self.old.clauses.given trail.now.entries n (tending (with_list (kept_with self.old line.old) gone list.old))
-            → Tends floor self.old.clauses.given trail.now.entries (tending (with_list (kept_with self.new line.new) gone (take m list.new)))
-            × AllGood self.old.clauses.given (literals (take n trail.now.entries) ++ negated gone ∷ []) (literals trail.now.entries) (tending (with_list (kept_with self.new line.new) gone (take m list.new)))) }
+        requires lists { length self.old.lists ≡ 2 * trail.now.vars + 2 }
+        ensures served { OnOk result ((floor n : ℕ) → IsNext trail.now.entries n gone → IsServed floor self.old.clauses.given trail.now.entries n (tending (kept_with self.old line.old))
+            → Tends floor self.old.clauses.given trail.now.entries (tending (kept_with self.new line.new))
+            × AllGood self.old.clauses.given (literals (take n trail.now.entries) ++ negated gone ∷ []) (literals trail.now.entries) (tending (kept_with self.new line.new))) }
         ensures line { OnOk result ((o : Order) → PlacesOf o trail.now.entries gone found → AreInLine o self.old.clauses.given trail.now.entries line.old → AreInLine o self.old.clauses.given trail.now.entries line.new) }
-        ensures entries { IfOk result (λ m. AreEntries self.old.clauses.given (with_list (kept_of self.new) gone (take m list.new))) }
-        ensures kept { (self.new.clauses.given ≡ self.old.clauses.given) × (length self.new.lists.items ≡ length self.old.lists.items) × (self.new.units ≡ self.old.units) }
+        ensures entries { OnOk result (AreEntries self.old.clauses.given (kept_of self.new)) }
+        ensures kept { (self.new.clauses.given ≡ self.old.clauses.given) × (length self.new.lists ≡ length self.old.lists) × (self.new.units ≡ self.old.units) }
     {
         let truths = trail.truths();
         let vars = trail.vars();
-        let mut end = list.len();
+        let list = self.open_list(gone);
+        let mut end = list.len;
         let mut place = 0;
         while place < end {
-            let watch = list[place].watch();
+            let watch = self.entry(list, place);
             let status = status_in(truths, vars, watch.blocker);
             if status.is_satisfied() {
                 place += 1;
             } else {
                 match self.visit(trail, gone, watch, status, found, line)? {
                     Some(blocker) => {
-                        list[place].set_blocker(blocker);
+                        self.keep_entry(list, place, blocker);
                         place += 1;
                     }
                     None => {
                         end -= 1;
-                        list[place] = list[end];
+                        self.drop_entry(list, place, end);
                     }
                 }
             }
         }
-        Ok(end)
+        self.shorten(list, end);
+        Ok(())
     }
 
     /// Visits the clauses that watch the negation of the literal of the trail's entry at a place.
@@ -270,24 +272,20 @@ impl Propagator {
         requires inside { place < length trail.now.entries }
         requires entries { AreEntries self.old.clauses.given (kept_of self.old) }
         requires over { All (IsOver trail.now.vars) self.old.clauses.given }
-        requires lists { length self.old.lists.items ≡ 2 * trail.now.vars + 2 }
+        requires lists { length self.old.lists ≡ 2 * trail.now.vars + 2 }
         requires served { (floor : ℕ) × IsServed floor self.old.clauses.given trail.now.entries place (tending (kept_with self.old line.old)) }
         ensures served { OnOk result ((floor : ℕ) → IsServed floor self.old.clauses.given trail.now.entries place (tending (kept_with self.old line.old))
             → IsServed floor self.old.clauses.given trail.now.entries (place + 1) (tending (kept_with self.new line.new))) }
         ensures line { OnOk result (AreInLine order self.old.clauses.given trail.now.entries line.old → AreInLine order self.old.clauses.given trail.now.entries line.new) }
         ensures entries { OnOk result (AreEntries self.old.clauses.given (kept_of self.new)) }
-        ensures kept { (self.new.clauses.given ≡ self.old.clauses.given) × (length self.new.lists.items ≡ length self.old.lists.items) × (self.new.units ≡ self.old.units) }
+        ensures kept { (self.new.clauses.given ≡ self.old.clauses.given) × (length self.new.lists ≡ length self.old.lists) × (self.new.units ≡ self.old.units) }
     {
         let found = found_at(order, trail, place);
         let entry = trail.entries()[place];
         let gone = entry.lit.negated();
-        let at = code(gone);
-        let alloc = *self.lists.allocator();
-        let mut list = mem::replace(&mut self.lists[at], Vec::new(alloc));
-        self.visits = self.visits.saturating_add(list.len() as u64);
-        let end = self.visit_all(trail, gone, found, list.as_mut_slice(), line)?;
-        list.truncate(end);
-        self.lists[at] = list;
+        let count = self.lists.count(code(gone));
+        self.visits = self.visits.saturating_add(count as u64);
+        self.visit_all(trail, gone, found, line)?;
         Ok(())
     }
 
@@ -302,13 +300,13 @@ impl Propagator {
         requires inside { from ≤ length trail.now.entries }
         requires entries { AreEntries self.old.clauses.given (kept_of self.old) }
         requires over { All (IsOver trail.now.vars) self.old.clauses.given }
-        requires lists { length self.old.lists.items ≡ 2 * trail.now.vars + 2 }
+        requires lists { length self.old.lists ≡ 2 * trail.now.vars + 2 }
         requires served { (floor : ℕ) × IsServed floor self.old.clauses.given trail.now.entries from (tending (kept_with self.old line.old)) }
         ensures served { OnOk result ((floor : ℕ) → IsServed floor self.old.clauses.given trail.now.entries from (tending (kept_with self.old line.old))
             → IsServed floor self.old.clauses.given trail.now.entries (length trail.now.entries) (tending (kept_with self.new line.new))) }
         ensures line { OnOk result (AreInLine order self.old.clauses.given trail.now.entries line.old → AreInLine order self.old.clauses.given trail.now.entries line.new) }
         ensures entries { OnOk result (AreEntries self.old.clauses.given (kept_of self.new)) }
-        ensures kept { (self.new.clauses.given ≡ self.old.clauses.given) × (length self.new.lists.items ≡ length self.old.lists.items) × (self.new.units ≡ self.old.units) }
+        ensures kept { (self.new.clauses.given ≡ self.old.clauses.given) × (length self.new.lists ≡ length self.old.lists) × (self.new.units ≡ self.old.units) }
     {
         for place in from..trail.entries().len() {
             self.serve(order, trail, place, line)?;

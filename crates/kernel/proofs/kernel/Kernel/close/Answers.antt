@@ -1,12 +1,13 @@
 use Rattle.std.proofs.Common.{◌∙◌, sym, arith}
 use Rattle.std.proofs.lemmas.List.{length-map}
+use Rattle.kernel.specs.EntryLists.{entries_of}
 use Rattle.kernel.proofs.kernel.Kernel.close.Goals as goal
 
 pub close-requires-clause-entries : goal.close-requires-clause-entries
 close-requires-clause-entries c = (c.self.invariant.3 c.if-self.false).entries
 
 pub close-requires-clause-lists : goal.close-requires-clause-lists
-close-requires-clause-lists c = sym (length-map c.self.inside.propagator.lists.items (λ v. v.items)) ∙ (c.self.invariant.3 c.if-self.false).lists
+close-requires-clause-lists c = sym (length-map c.self.inside.propagator.lists entries_of) ∙ (c.self.invariant.3 c.if-self.false).lists
 
 pub close-requires-clause-served : goal.close-requires-clause-served
 close-requires-clause-served c = (c.self.inside.floor, (c.self.invariant.3 c.if-self.false).served)
@@ -15,7 +16,7 @@ pub invariant_of-self : goal.invariant_of-self
 invariant_of-self c =
     let e = c.in-Ok.ensures in
     let s = c.self.invariant.3 c.if-self.false in
-    let len = length-map c.close.new.self.lists.items (λ v. v.items) ∙ (e.kept.1 ∙ sym (length-map c.self.inside.propagator.lists.items (λ v. v.items))) in (
+    let len = length-map c.close.new.self.lists entries_of ∙ (e.kept.1 ∙ sym (length-map c.self.inside.propagator.lists entries_of)) in (
       rw e.kept.0 (e.lawful c.self.invariant.0),
       rw (e.kept.0, e.vars) c.self.invariant.1,
       rw e.kept.0 c.self.invariant.2,

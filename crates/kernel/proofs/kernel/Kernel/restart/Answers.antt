@@ -7,6 +7,7 @@ use Rattle.theory.specs.Trails.{cube_trail}
 use Rattle.theory.proofs.trails.TrailEntries.{IsLawful-cube}
 use Rattle.theory.proofs.trails.TrailLists.{literals-cube}
 use Rattle.theory.proofs.searching.OpenTrails.{current_level-cube_trail}
+use Rattle.kernel.specs.EntryLists.{entries_of}
 use Rattle.kernel.specs.Visiting.{kept_of}
 use Rattle.kernel.specs.Attaching.{IsWatching}
 use Rattle.kernel.proofs.Beginning.{begun}
@@ -16,7 +17,7 @@ pub cut-requires-clause-watching : goal.cut-requires-clause-watching
 cut-requires-clause-watching c = (c.self.inside.trail.vars, c.self.inside.trail.entries, c.self.inside.served, c.self.inside.floor, rw c.deref.ensures.value (c.self.invariant.3 c.if-self.false))
 
 pub cut-requires-clause-over : goal.cut-requires-clause-over
-cut-requires-clause-over c = (c.self.inside.trail.vars, c.self.invariant.1, sym (length-map c.self.inside.propagator.lists.items (λ v. v.items)) ∙ (c.self.invariant.3 c.if-self.false).lists)
+cut-requires-clause-over c = (c.self.inside.trail.vars, c.self.invariant.1, sym (length-map c.self.inside.propagator.lists entries_of) ∙ (c.self.invariant.3 c.if-self.false).lists)
 
 -- what is left of the clauses where memory was refused
 left : (V first : ℕ) (K new : List Clause) → All (IsOver V) K → first ≤ length K → (new ≡ K) ⊎ (new ≡ take first K) → All (IsOver V) new × (first ≤ length new)

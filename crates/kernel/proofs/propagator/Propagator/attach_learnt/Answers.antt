@@ -1,5 +1,6 @@
 use Rattle.std.proofs.Common.{◌≡◌, ◌∙◌, sym, length}
 use Rattle.std.proofs.lemmas.List.{length-map}
+use Rattle.kernel.specs.EntryLists.{entries_of}
 use Rattle.kernel.specs.Visiting.{kept_of}
 use Rattle.kernel.proofs.Visits.{code-within, over-var}
 use Rattle.kernel.proofs.KernelSteps.{learnt-watching}
@@ -19,7 +20,7 @@ pub returns-clause-watching : goal.returns-clause-watching
 returns-clause-watching c first at floor single empty within s =
     let e = c.in_ok-attach-in-Some.ensures in
     let p = c.in-Some.ensures.pair c.requires.learnable.free c.requires.learnable.unit in
-    let long : length (kept_of c.attach.new.self).lists ≡ length (kept_of c.args.self.now).lists = length-map c.attach.new.self.lists.items (λ v. v.items) ∙ e.kept.2 ∙ sym (length-map c.args.self.now.lists.items (λ v. v.items)) in
+    let long : length (kept_of c.attach.new.self).lists ≡ length (kept_of c.args.self.now).lists = length-map c.attach.new.self.lists entries_of ∙ e.kept.2 ∙ sym (length-map c.args.self.now.lists entries_of) in
     rw e.clauses
     (learnt-watching c.args.trail.now.vars first c.args.self.now.clauses.given c.args.trail.now.entries at floor (kept_of c.args.self.now) (kept_of c.attach.new.self) single empty c.args.clause.now c.in-Some.watched within c.entries-entries.ensures.ordered
     c.requires.over c.requires.learnable p.0 p.1 p.2 e.pairs e.lists long (rw (e.kept.0, ← c.len-number.ensures.given) c.in_ok-push-in-Some.ensures) e.kept.1 s)

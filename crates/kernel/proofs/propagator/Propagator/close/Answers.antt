@@ -2,6 +2,7 @@ use Rattle.std.proofs.Common.{◌≡◌, ◌+◌, ◌∙◌, ◌++◌, ◌∷◌
 use Rattle.std.proofs.lemmas.List.{length_push}
 use Rattle.theory.specs.Trails.{Entry, literals}
 use Rattle.theory.specs.Propagation.{clashes, rests}
+use Rattle.kernel.specs.EntryLists.{entries_of}
 use Rattle.kernel.specs.Rules.{rule_of}
 use Rattle.kernel.specs.Watching.{IsServed}
 use Rattle.kernel.specs.Visiting.{kept_of, tending, places}
@@ -26,13 +27,13 @@ steps-init c =
       inside = c.requires.inside;
       entries = rw (e.kept.1, e.kept.2) c.requires.entries;
       clauses = e.kept.0;
-      lists = ap (λ v. length v.items) e.kept.2;
+      lists = ap (λ v. length v) e.kept.2;
       line = e.line (rw c.requires.line (AreInLine-none c.args.order c.args.self.now.clauses.given c.args.trail.now.entries));
       units = e.units;
       served = λ floor served.
           IsServed-also floor c.args.self.now.clauses.given c.args.trail.now.entries c.args.served (kept_of c.line_up.new.self) (clauses_of c.line_up.new.line) e.units
           (IsServed-permuted floor c.args.self.now.clauses.given c.args.trail.now.entries c.args.served (tending (kept_of c.args.self.now)) (record (tending (kept_of c.line_up.new.self)) { units = clauses_of c.line_up.new.line })
-          e.kept.1 (ap (λ v. map places (map (λ w. w.items) v.items)) e.kept.2) e.kept.3 (rw c.requires.line at e.waiting) served);
+          e.kept.1 (ap (λ v. map places (map entries_of v)) e.kept.2) e.kept.3 (rw c.requires.line at e.waiting) served);
     }
 
 pub serve_from-requires-clause-served : goal.serve_from-requires-clause-served

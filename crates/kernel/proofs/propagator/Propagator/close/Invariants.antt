@@ -18,7 +18,7 @@ invariant-steps l = record {
   inside : l.served ≤ length l.trail.entries;
   entries : AreEntries l.fn.self.clauses.given (kept_of l.self);
   clauses : l.self.clauses.given ≡ l.fn.self.clauses.given;
-  lists : length l.self.lists.items ≡ length l.fn.self.lists.items;
+  lists : length l.self.lists ≡ length l.fn.self.lists;
   line : AreInLine l.order l.fn.self.clauses.given l.trail.entries l.line;
   units : l.self.units ≡ [];
   served : (floor : ℕ) → IsServed floor l.fn.self.clauses.given l.fn.trail.entries l.fn.served (tending (kept_of l.fn.self))

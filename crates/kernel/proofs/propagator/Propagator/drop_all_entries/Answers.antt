@@ -1,5 +1,6 @@
 use Rattle.std.proofs.Common.{◌<◌, ◌∙◌, [], length, sym, subst, arith}
 use Rattle.std.proofs.lemmas.List.{length-map}
+use Rattle.kernel.specs.EntryLists.{entries_of}
 use Rattle.kernel.specs.Visiting.{kept_of}
 use Rattle.kernel.specs.Forgetting.{names, entries_left}
 use Rattle.kernel.proofs.LeftLists.{changed-more}
@@ -10,8 +11,8 @@ loop-at-preserved c =
     let i = c.loop-at.invariant in
     let e = c.drop_entries.ensures in
     let old = (kept_of c.args.self.now).lists in
-    let long = length-map c.args.self.now.lists.items (λ v. v.items) in
-    let inside : c.loop-at.at < length old = subst (λ n. c.loop-at.at < n) (sym long) (let z = c.len-at-end.ensures in let v = c.args.self.now.lists.ok.0 in omega (arith, c.loop-at-test.true, z, v)) in
+    let long = length-map c.args.self.now.lists entries_of in
+    let inside : c.loop-at.at < length old = subst (λ n. c.loop-at.at < n) (sym long) (let z = c.len-at-end.ensures in omega (arith, c.loop-at-test.true, z)) in
     record {
       lists = e.list ∙ changed-more (entries_left (names c.args.named.now)) old (kept_of c.loop-at.self).lists c.loop-at.at [] inside i.lists;
       long = e.long ∙ i.long;

@@ -2,6 +2,7 @@ use Rattle.std.proofs.Common.{◌≡◌, ◌<◌, ◌∙◌, ℕ, List, get_or, 
 use Rattle.std.specs.Option.{option_eq}
 use Rattle.std.proofs.lemmas.List.{get_or_default, take_all, length-map}
 use Rattle.std.specs.List.{Contains}
+use Rattle.kernel.specs.EntryLists.{entries_of}
 use Rattle.kernel.specs.Visiting.{kept_of}
 use Rattle.kernel.specs.Cutting.{AreKeptBelow}
 use Rattle.kernel.proofs.Cutting.{below-more, below-same, front-last, front-longer}
@@ -28,7 +29,7 @@ loop-code-preserved c =
     let read : n ≡ get_or codes at n = get_or_default codes at 0 n inside in
     let i = c.loop-code.invariant in
     let lists = (kept_of c.loop-code.self).lists in
-    let within : n < length lists = subst (λ m. n < m) (sym (i.long) ∙ sym (length-map c.loop-code.self.lists.items (λ v. v.items))) (c.requires at 0 inside) in
+    let within : n < length lists = subst (λ m. n < m) (sym (i.long) ∙ sym (length-map c.loop-code.self.lists entries_of)) (c.requires at 0 inside) in
     elim c.if-ne.branch [
       | then-ne w ↦ rw (w.self-is, w.last-is) (record {
         below = below-more c.args.first codes at n (kept_of c.args.self.now).lists lists (kept_of w.drop_list.new.self).lists w.drop_list.ensures.list.0 read inside within w.drop_list.ensures.list.1 w.drop_list.ensures.list.2 i.below;

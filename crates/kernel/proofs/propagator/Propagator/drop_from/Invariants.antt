@@ -8,7 +8,7 @@ abbrev pub invariant-loop-code : goal.invariant-loop-code
 invariant-loop-code l = record {
   below : AreKeptBelow l.first (take l.code-index l.codes) (kept_of l.initial.self).lists (kept_of l.self).lists;
   last : (n : ℕ) → l.last ≡ Some n → Contains (take l.code-index l.codes) n;
-  long : length l.self.lists.items ≡ length l.initial.self.lists.items;
+  long : length l.self.lists ≡ length l.initial.self.lists;
   clauses : l.self.clauses.given ≡ l.initial.self.clauses.given;
   pairs : l.self.clauses.pairs ≡ l.initial.self.clauses.pairs;
   units : l.self.units ≡ l.initial.self.units;

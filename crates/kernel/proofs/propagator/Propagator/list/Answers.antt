@@ -1,5 +1,9 @@
-use Rattle.kernel.proofs.Visits.{pushed-entries}
+use Rattle.std.proofs.Common.{◌∙◌, ◌++◌, ◌∷◌, [], List, get_or, map, set}
+use Rattle.kernel.specs.declared.watch.Watch.{Watch}
+use Rattle.kernel.specs.EntryLists.{entries_of}
 use Rattle.kernel.proofs.propagator.Propagator.list.Goals as goal
 
 pub returns-clause-lists : goal.returns-clause-lists
-returns-clause-lists c = pushed-entries (λ v. v.items) c.args.self.now.lists.items c.args.lit c.code.result c.index_mut.result.now c.push.new.self _ c.code.ensures c.requires.lit c.index_mut.ensures.value (rw c.of.ensures at c.in_ok-push.ensures.items)
+returns-clause-lists c =
+    let old : List (List Watch) = map entries_of c.args.self.now.lists in
+    c.in_ok-push.ensures.entries ∙ (λ i. set old (c.code.ensures i) (get_or old (c.code.ensures i) [] ++ c.of.ensures i ∷ []))

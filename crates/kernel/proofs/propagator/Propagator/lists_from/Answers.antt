@@ -14,12 +14,12 @@ loop-index-preserved c =
     let items : c.push-in-loop-index.new.self.items ≡ (c.loop-index.codes.items ++ c.code.result ∷ []) ++ c.code-in-loop-index.result ∷ [] = c.in_ok-push-2.ensures.items ∙ ap (λ (ns : List ℕ). ns ++ c.code-in-loop-index.result ∷ []) c.in_ok-push.ensures.items in
     record {
       codes = rw items (codes-more c.args.first c.loop-index.index c.args.self.now.clauses.pairs c.loop-index.codes.items c.watched-watched.result c.code.result c.code-in-loop-index.result inside (sym c.watched-watched.ensures.1) c.code.ensures c.code-in-loop-index.ensures c.loop-index.invariant.codes);
-      within = rw items (All-push (λ n. n < length c.args.self.now.lists.items) (c.loop-index.codes.items ++ c.code.result ∷ []) c.code-in-loop-index.result
-          (All-push (λ n. n < length c.args.self.now.lists.items) c.loop-index.codes.items c.code.result c.loop-index.invariant.within (rw c.code.ensures room.0)) (rw c.code-in-loop-index.ensures room.1));
+      within = rw items (All-push (λ n. n < length c.args.self.now.lists) (c.loop-index.codes.items ++ c.code.result ∷ []) c.code-in-loop-index.result
+          (All-push (λ n. n < length c.args.self.now.lists) c.loop-index.codes.items c.code.result c.loop-index.invariant.within (rw c.code.ensures room.0)) (rw c.code-in-loop-index.ensures room.1));
     }
 
 pub returns-clause-within : goal.returns-clause-within
-returns-clause-within c = All-permutation (λ n. n < length c.args.self.now.lists.items) c.loop-index.codes.items c.sort_unstable.new.self.items c.sort_unstable.ensures.permutation c.loop-index.invariant.within
+returns-clause-within c = All-permutation (λ n. n < length c.args.self.now.lists) c.loop-index.codes.items c.sort_unstable.new.self.items c.sort_unstable.ensures.permutation c.loop-index.invariant.within
 
 pub returns-clause-codes : goal.returns-clause-codes
 returns-clause-codes c =

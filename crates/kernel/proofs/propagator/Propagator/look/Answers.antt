@@ -2,7 +2,9 @@ use Rattle.std.proofs.Common.{◌++◌, List, ℕ, refl, ap}
 use Rattle.kernel.specs.Placing.{clauses_of, kept_with}
 use Rattle.kernel.proofs.Placed.{lengthened, joined}
 use Rattle.kernel.proofs.Visits.{over-var, clause-over, code-within, gone-in}
-use Rattle.kernel.proofs.Sights.{clause, pair, clause-at, pair-at, sees-satisfied, sees-last, sees-moved, last-seen}
+use Rattle.theory.specs.Trails.{literals}
+use Rattle.kernel.specs.Watching.{code}
+use Rattle.kernel.proofs.Sights.{apart-codes, clause, pair, clause-at, pair-at, sees-satisfied, sees-last, sees-moved, last-seen}
 use Rattle.kernel.proofs.propagator.Propagator.look.Goals as goal
 
 pub look-requires-clause-watched : goal.look-requires-clause-watched
@@ -50,3 +52,17 @@ returns-in_ok-note-in-Last-clause-line c o places h =
     let long = c.requires.long in
     let seen = c.in-Last.ensures.seen (clause _ _ _ _ _ v long) (pair _ _ _ _ _ v long) (clause-at _ _ _ _ _ v long) (pair-at _ _ _ _ _ v long) in
     (rw c.look.ensures.given at c.in_ok-note-in-Last.ensures.line) o (λ d a. (places d (gone-in _ _ _ _ _ v d a), last-seen _ _ _ _ _ v long c.in-Last.other c.in-Last.status seen.0 seen.2 d a)) h
+
+pub returns-in_err-list-in-Moved-clause-list : goal.returns-in_err-list-in-Moved-clause-list
+returns-in_err-list-in-Moved-clause-list c =
+    let v = c.requires.visit in
+    let long = c.requires.long in
+    let seen = c.in-Moved.ensures.seen (clause _ _ _ _ _ v long) (pair _ _ _ _ _ v long) (clause-at _ _ _ _ _ v long) (pair-at _ _ _ _ _ v long) in
+    c.list.ensures.others (code c.args.gone) (apart-codes (literals c.args.trail.now.entries) c.args.gone c.in-Moved.watched.second v.gone seen.2.1.not_false)
+
+pub returns-in_ok-list-in-Moved-clause-list : goal.returns-in_ok-list-in-Moved-clause-list
+returns-in_ok-list-in-Moved-clause-list c =
+    let v = c.requires.visit in
+    let long = c.requires.long in
+    let seen = c.in-Moved.ensures.seen (clause _ _ _ _ _ v long) (pair _ _ _ _ _ v long) (clause-at _ _ _ _ _ v long) (pair-at _ _ _ _ _ v long) in
+    c.list.ensures.others (code c.args.gone) (apart-codes (literals c.args.trail.now.entries) c.args.gone c.in-Moved.watched.second v.gone seen.2.1.not_false)

@@ -11,7 +11,7 @@ invariant-loop-place l = record {
       → IsServed floor l.initial.self.clauses.given l.trail.entries l.place (tending (kept_with l.self l.line));
   entries : AreEntries l.initial.self.clauses.given (kept_of l.self);
   clauses : l.self.clauses.given ≡ l.initial.self.clauses.given;
-  lists : length l.self.lists.items ≡ length l.initial.self.lists.items;
+  lists : length l.self.lists ≡ length l.initial.self.lists;
   line : AreInLine l.order l.initial.self.clauses.given l.trail.entries l.initial.line → AreInLine l.order l.initial.self.clauses.given l.trail.entries l.line;
   units : l.self.units ≡ l.initial.self.units;
 }

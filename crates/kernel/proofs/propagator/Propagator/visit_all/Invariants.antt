@@ -1,5 +1,6 @@
 use Rattle.std.proofs.Common.{◌≡◌, ◌-◌, ◌≤◌, ℕ, length, take}
-use Rattle.kernel.specs.Watching.{IsNext, IsServed, Walks}
+use Rattle.kernel.specs.EntryLists.{nth_list}
+use Rattle.kernel.specs.Watching.{IsNext, IsServed, Walks, code}
 use Rattle.kernel.specs.Visiting.{kept_of, tending, with_list, AreEntries}
 use Rattle.kernel.specs.Placing.{kept_with, PlacesOf, AreInLine}
 use Rattle.kernel.specs.declared.order.Order.{Order}
@@ -8,13 +9,14 @@ use Rattle.kernel.proofs.propagator.Propagator.visit_all.Given as goal
 -- the entries before the place were visited
 abbrev pub invariant-loop-place : goal.invariant-loop-place
 invariant-loop-place l = record {
-  walks : (floor n : ℕ) → IsNext l.trail.entries n l.gone → IsServed floor l.initial.self.clauses.given l.trail.entries n (tending (with_list (kept_with l.initial.self l.initial.line) l.gone l.initial.list))
-      → Walks floor l.initial.self.clauses.given l.trail.entries n l.gone (tending (with_list (kept_with l.self l.line) l.gone (take l.end l.list))) l.place;
-  entries : AreEntries l.initial.self.clauses.given (with_list (kept_of l.self) l.gone (take l.end l.list));
+  walks : (floor n : ℕ) → IsNext l.trail.entries n l.gone → IsServed floor l.initial.self.clauses.given l.trail.entries n (tending (kept_with l.initial.self l.initial.line))
+      → Walks floor l.initial.self.clauses.given l.trail.entries n l.gone (tending (with_list (kept_with l.self l.line) l.gone (take l.end (nth_list l.self.lists (code l.gone)).room))) l.place;
+  entries : AreEntries l.initial.self.clauses.given (with_list (kept_of l.self) l.gone (take l.end (nth_list l.self.lists (code l.gone)).room));
   within : l.place ≤ l.end;
-  inside : l.end ≤ length l.list;
+  inside : l.end ≤ length (nth_list l.self.lists (code l.gone)).room;
+  begins : l.list.from ≡ (nth_list l.self.lists (code l.gone)).from;
   clauses : l.self.clauses.given ≡ l.initial.self.clauses.given;
-  lists : length l.self.lists.items ≡ length l.initial.self.lists.items;
+  lists : length l.self.lists ≡ length l.initial.self.lists;
   line : (o : Order) → PlacesOf o l.trail.entries l.gone l.found → AreInLine o l.initial.self.clauses.given l.trail.entries l.initial.line → AreInLine o l.initial.self.clauses.given l.trail.entries l.line;
   units : l.self.units ≡ l.initial.self.units;
 }
