@@ -10,6 +10,7 @@ use cdcl::Search;
 use clap::error::ErrorKind;
 use clap::{Arg, ArgAction, ArgMatches, Command, Error};
 use cnf::Limits;
+use spread::HandCount;
 use std::alloc::{AllocError, Global};
 
 /// The largest budget.
@@ -26,9 +27,6 @@ pub(crate) const MAX_DIVIDE: u32 = 65_536;
 
 /// The names of the searches.
 static SEARCHES: [&str; 2] = ["ordered", "focused"];
-
-/// The most hands.
-const MAX_HANDS: u32 = 16;
 
 const SOLVE_LARGE: &str =
     "Read a formula of up to 100,000,000 variables and 1,000,000,000 clauses, by no fixed limit less";
@@ -307,15 +305,15 @@ fn asked_in(matches: &ArgMatches<'_>) -> Option<Asked> {
         Some(cubes) if cubes > MAX_DIVIDE => return None,
         divide => divide,
     };
-    let hands = matches.get_one::<u32>("hands")?;
-    if budget < 1 || budget > MAX_BUDGET || hands < 1 || hands > MAX_HANDS {
+    let hands = HandCount::new(matches.get_one::<u32>("hands")? as usize)?.get();
+    if budget < 1 || budget > MAX_BUDGET {
         return None;
     }
     Some(Asked {
         search,
         budget,
         divide,
-        hands: hands as usize,
+        hands,
         seconds: matches.get_one::<u32>("seconds"),
         limits: limits_of(matches),
     })

@@ -13,8 +13,8 @@ use cnf::Limits;
 use noticed::{NoticedReader, NoticedWriter};
 use runs::{Gathered, PackCounts, RunFault, Verdict, gather_within};
 use spread::{
-    Ended, Folder, Progress, RunFile, Said, Slice, bodies_in, conquer, divide, divide_again,
-    formula_bytes_in, run_in,
+    Ended, Folder, HandCount, Progress, RunFile, Said, Slice, bodies_in, conquer, divide,
+    divide_again, formula_bytes_in, run_in,
 };
 use std::alloc::Global;
 use std::fs::Files;
@@ -238,11 +238,10 @@ where
     R::Dir: Send,
     R::A: Send,
 {
-    let Some(slice) = slice else {
+    let (Some(slice), Some(hands)) = (slice, HandCount::new(hands as usize)) else {
         return FAILED; // it is refused before
     };
     let folder = Folder { path: run };
-    let hands = hands as usize;
     status_of(conquer(rt, alloc, folder, round, slice, minutes, hands, faults))
 }
 

@@ -2,6 +2,7 @@
 
 use crate::conquering::{Ended, go_on};
 use crate::folder::Folder;
+use crate::hand_count::HandCount;
 use crate::run_file::RunFile;
 use crate::said::{Said, say_no_memory};
 use crate::way::{Waiting, Way};
@@ -46,7 +47,7 @@ fn all_work<R: Files + Clock + Threads + Sync + Alloc + Clone + Drop>(
     formula: &Formula,
     waiting: &Waiting,
     seconds: u64,
-    hands: usize,
+    hands: HandCount,
 ) -> Result<Vec<Worked>, AllocError>
 where
     R::File: Send,
@@ -56,7 +57,7 @@ where
     thread::map_indices(
         rt,
         alloc,
-        hands,
+        hands.get(),
         &|_| { work(rt, alloc, folder, run, formula, waiting, seconds) },
     )
 }
@@ -85,7 +86,7 @@ pub(crate) fn solve_by_hands<R: Files + Clock + Threads + Sync + Alloc + Clone +
     formula: &Formula,
     waiting: &Waiting,
     seconds: u64,
-    hands: usize,
+    hands: HandCount,
     faults: &mut E,
 ) -> Result<Ended, Said>
 where

@@ -2,6 +2,7 @@
 
 use crate::conquering::Ended;
 use crate::folder::Folder;
+use crate::hand_count::HandCount;
 use crate::hands::solve_by_hands;
 use crate::left_open::left_open;
 use crate::open_cubes::OpenCubes;
@@ -73,7 +74,7 @@ pub fn conquer<R: Files + Clock + Threads + Sync + Alloc + Clone + Drop, E: Writ
     round: u32,
     slice: Slice,
     minutes: Option<u32>,
-    hands: usize,
+    hands: HandCount,
     faults: &mut E,
 ) -> Result<Ended, Said>
 where
