@@ -1,1 +1,2 @@
 pub mod PackFileLemmas
+pub mod PartLemmas

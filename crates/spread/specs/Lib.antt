@@ -1,1 +1,2 @@
 pub mod PackFiles
+pub mod Parts

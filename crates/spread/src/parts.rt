@@ -1,4 +1,6 @@
 //! Solving the parts of a round.
+ghost use Rattle.std.specs.Prelude.{◌≡◌, ℕ, ◌+◌, ◌≤◌, [], ◌∷◌, ◌++◌, if◌then◌else◌, IfOk, OnOk, reverse};
+ghost use Rattle.spread.specs.Parts.{part_at, of_part};
 
 use crate::conquering::Ended;
 use crate::folder::Folder;
@@ -27,16 +29,32 @@ pub struct Slice {
     pub parts: u32,
 }
 
+/// Puts a cube behind others, if it is one of them.
+fn put_if(way: &mut Vec<Cube>, cube: Cube, is_one: bool) -> Result<(), AllocError>
+    ensures { OnOk result (way.new.items ≡ (if is_one then way.old.items ++ cube ∷ [] else way.old.items)) }
+{
+    if is_one {
+        way.push(cube)?;
+    }
+    Ok(())
+}
+
+/// The part that the next cube belongs to. Behind the last part comes the first.
+fn next_part(part: u32, parts: u32) -> u32
+    ensures { (number : ℕ) → 1 ≤ parts → part ≡ part_at parts number → result ≡ part_at parts (number + 1) }
+{
+    if part < parts { part + 1 } else { 1 }
+}
+
 /// The cubes of a part, the last one first.
-fn part_of(alloc: Global, cubes: Vec<Cube>, slice: Slice) -> Result<Vec<Cube>, AllocError> {
-    let parts = slice.parts.max(1);
+fn part_of(alloc: Global, cubes: Vec<Cube>, slice: Slice) -> Result<Vec<Cube>, AllocError>
+    ensures { 1 ≤ slice.parts → IfOk result (λ way. way.items ≡ reverse (of_part slice.part slice.parts 0 cubes.items)) }
+{
     let mut way = Vec::new(alloc);
     let mut part = 1;
-    for cube in cubes {
-        if part == slice.part {
-            way.push(cube)?;
-        }
-        part = if part < parts { part + 1 } else { 1 };
+    'cubes: for cube in cubes {
+        put_if(&mut way, cube, part == slice.part)?;
+        part = next_part(part, slice.parts);
     }
     way.reverse();
     Ok(way)
