@@ -1,2 +1,3 @@
 pub mod PackFileLemmas
 pub mod PartLemmas
+pub mod OpenCubeLemmas

@@ -1,2 +1,3 @@
+pub mod OpenCubes
 pub mod PackFiles
 pub mod Parts

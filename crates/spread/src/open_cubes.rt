@@ -1,4 +1,9 @@
 //! The cubes that facts leave open.
+ghost use Rattle.std.specs.Prelude.{◌≡◌, ◌↔◌, true, false, List, [], ◌∷◌, ◌++◌, if◌then◌else◌, reverse, IfOk, IsTrue};
+ghost use Rattle.theory.specs.Literals.{Literal};
+ghost use Rattle.theory.specs.Trees.{false_half, true_half};
+ghost use Rattle.theory.specs.Checked.{IsFitSplit};
+ghost use Rattle.spread.specs.OpenCubes.{said_in, LeavesOpen, IsOnTheWay};
 
 use cdcl::split;
 use cnf::{Formula, Lit};
@@ -89,7 +94,9 @@ impl Words {
         Ok(())
     }
 
-    fn of_cube(&self, cube: &Cube) -> Option<Word> {
+    fn of_cube(&self, cube: &Cube) -> Option<Word>
+        ensures { result ≡ said_in self.now cube.now }
+    {
         self.by_cube.get(cube.lits()).copied()
     }
 }
@@ -107,7 +114,10 @@ fn put_halves(
     way: &mut Vec<Cube>,
     cube: &Cube,
     var: u32,
-) -> Result<bool, AllocError> {
+) -> Result<bool, AllocError>
+    ensures fit { IfOk result (λ fit. IsTrue fit ↔ IsFitSplit formula.now cube.now var) }
+    ensures way { IfOk result (λ fit. way.new.items ≡ (if fit then way.old.items ++ true_half cube.now var ∷ false_half cube.now var ∷ [] else way.old.items)) }
+{
     let _vars = formula.vars(); // it ensures what the proof needs of the variable
     if !is_fit_split(formula, cube, var) {
         return Ok(false);
@@ -116,6 +126,34 @@ fn put_halves(
     way.push(right)?;
     way.push(left)?;
     Ok(true)
+}
+
+/// Takes up what is said of a cube: its halves go on the way, or it is open, or refuted; whether a
+/// model is claimed of it.
+fn take_up(
+    formula: &Formula,
+    words: &Words,
+    way: &mut Vec<Cube>,
+    cube: Cube,
+    left: &mut Vec<Cube>,
+) -> Result<bool, AllocError>
+    ensures model { (cubes : List (List Literal)) → IsOnTheWay formula.now (said_in words.now) cubes left.old.items (cube ∷ reverse way.old.items) →
+        IfOk result (λ has_model. has_model ≡ true → LeavesOpen formula.now (said_in words.now) cubes left.new.items true) }
+    ensures goes_on { (cubes : List (List Literal)) → IsOnTheWay formula.now (said_in words.now) cubes left.old.items (cube ∷ reverse way.old.items) →
+        IfOk result (λ has_model. has_model ≡ false → IsOnTheWay formula.now (said_in words.now) cubes left.new.items (reverse way.new.items)) }
+{
+    match words.of_cube(&cube) {
+        Some(Word::Refuted) => return Ok(false),
+        Some(Word::Model) => return Ok(true),
+        Some(Word::Split(var)) => {
+            if put_halves(formula, way, &cube, var)? {
+                return Ok(false);
+            }
+        }
+        None => {}
+    }
+    left.push(cube)?;
+    Ok(false)
 }
 
 /// The cubes that facts, which may be any, leave open of those on the way, of which the last one
@@ -127,24 +165,21 @@ pub(crate) fn open_cubes(
     formula: &Formula,
     words: &Words,
     mut way: Vec<Cube>,
-) -> Result<OpenCubes, AllocError> {
-    let mut open = OpenCubes {
+) -> Result<OpenCubes, AllocError>
+    ensures { IfOk result (λ left. LeavesOpen formula.now (said_in words.now) (reverse way.items) left.cubes.items left.has_model) }
+{
+    let mut left = OpenCubes {
         cubes: Vec::new(alloc),
         has_model: false,
     };
-    for _ in 0..u64::MAX {
+    'cubes: for _ in 0..u64::MAX {
         let Some(cube) = way.pop() else {
-            break;
+            return Ok(left);
         };
-        match words.of_cube(&cube) {
-            Some(Word::Refuted) => {}
-            Some(Word::Model) => {
-                open.has_model = true;
-                return Ok(open);
-            }
-            Some(Word::Split(var)) if put_halves(formula, &mut way, &cube, var)? => {}
-            _ => open.cubes.push(cube)?,
+        if take_up(formula, words, &mut way, cube, &mut left.cubes)? {
+            left.has_model = true;
+            return Ok(left);
         }
     }
-    Ok(open)
+    Err(AllocError) // no memory holds words of so many cubes
 }
