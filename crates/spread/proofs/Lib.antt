@@ -1,3 +1,4 @@
 pub mod PackFileLemmas
 pub mod PartLemmas
 pub mod OpenCubeLemmas
+pub mod BreadthLemmas

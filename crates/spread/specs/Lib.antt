@@ -1,3 +1,4 @@
 pub mod OpenCubes
 pub mod PackFiles
 pub mod Parts
+pub mod Solving

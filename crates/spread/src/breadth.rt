@@ -1,6 +1,11 @@
 //! Solving cubes by breadth, until so many are open.
-ghost use Rattle.std.specs.Prelude.{◌≡◌, All, IfOk};
+ghost use Rattle.std.specs.Prelude.{◌≡◌, [], ◌++◌, List, All, IfOk, OnOk};
+ghost use Rattle.std.specs.List.Sorted.{IsPermutation};
+ghost use Rattle.theory.specs.Literals.{Literal};
+ghost use Rattle.theory.specs.Truth.{Formula};
+ghost use Rattle.theory.specs.Plans.{Plan};
 ghost use Rattle.gathering.specs.Facts.{IsTrueFact};
+ghost use Rattle.spread.specs.Solving.{IsLeft, IsOfTree};
 
 use crate::solving::{Left, solve};
 use cdcl::{Plan, Solver};
@@ -22,14 +27,16 @@ pub(crate) struct Division {
 
 /// Takes the cubes away that lie right of one with so many literals: they wait before those that lie
 /// left of it, which have one more.
-fn drop_right(open: &mut VecDeque<Cube>, count: usize) -> Result<(), AllocError> {
-    for _ in 0..open.len() {
-        match open.pop_front() {
-            Some(cube) if cube.lits().len() > count => {
-                open.push_front(cube)?;
-                return Ok(());
-            }
-            _ => {}
+fn drop_right(queue: &mut VecDeque<Cube>, count: usize) -> Result<(), AllocError>
+    ensures { OnOk result ((gone : List (List Literal)) × (queue.old.items ≡ gone ++ queue.new.items)) }
+{
+    'cubes: for _ in 0..queue.len() {
+        let Some(cube) = queue.pop_front() else {
+            return Ok(());
+        };
+        if cube.lits().len() > count {
+            queue.push_front(cube)?;
+            return Ok(());
         }
     }
     Ok(())
@@ -37,35 +44,40 @@ fn drop_right(open: &mut VecDeque<Cube>, count: usize) -> Result<(), AllocError>
 
 /// Puts open cubes into their order from left to right: of those that wait, the ones with one
 /// literal more lie left of the others.
-fn put_in_order(open: &mut VecDeque<Cube>) -> Result<(), AllocError> {
-    let count = match open.front() {
+fn put_in_order(queue: &mut VecDeque<Cube>) -> Result<(), AllocError>
+    ensures { OnOk result (IsPermutation queue.old.items queue.new.items) }
+{
+    let count = match queue.front() {
         Some(first) => first.lits().len(),
         None => return Ok(()),
     };
-    for _ in 0..open.len() {
-        match open.pop_front() {
-            Some(cube) if cube.lits().len() > count => {
-                open.push_front(cube)?;
-                return Ok(());
-            }
-            Some(cube) => open.push_back(cube)?,
-            None => {}
+    'cubes: for _ in 0..queue.len() {
+        let Some(next) = queue.pop_front() else {
+            return Ok(());
+        };
+        if next.lits().len() > count {
+            queue.push_front(next)?;
+            return Ok(());
         }
+        queue.push_back(next)?;
     }
     Ok(())
 }
 
 /// Takes up what a cube of so many literals leaves; whether it has a model.
-fn take_up(open: &mut VecDeque<Cube>, left: Left, count: usize) -> Result<bool, AllocError> {
+fn take_up(queue: &mut VecDeque<Cube>, left: Left, count: usize) -> Result<bool, AllocError>
+    ensures { (F : Formula) (plan : Plan) (Q : List Literal) → IsOfTree F plan Q → IsLeft F plan Q left →
+        All (IsOfTree F plan) queue.old.items → OnOk result (All (IsOfTree F plan) queue.new.items) }
+{
     match left {
         Left::Nothing => Ok(false),
         Left::Model => {
-            drop_right(open, count)?;
+            drop_right(queue, count)?;
             Ok(true)
         }
         Left::Halves(left, right) => {
-            open.push_back(left)?;
-            open.push_back(right)?;
+            queue.push_back(left)?;
+            queue.push_back(right)?;
             Ok(false)
         }
     }
@@ -80,30 +92,31 @@ pub(crate) fn by_breadth(
     plan: Plan,
     wanted: usize,
 ) -> Result<Division, AllocError>
-    ensures { IfOk result (λ d. All (IsTrueFact formula.now plan) d.facts.items) }
+    ensures facts { IfOk result (λ d. All (IsTrueFact formula.now plan) d.facts.items) }
+    ensures cubes { IfOk result (λ d. All (IsOfTree formula.now plan) d.open.items) }
 {
     let mut solver = Solver::open(alloc, formula, plan)?;
     let mut facts = Vec::new(alloc);
     let mut has_model = false;
-    let mut open = VecDeque::new(alloc);
-    open.push_back(Cube::root(alloc))?;
+    let mut queue = VecDeque::new(alloc);
+    queue.push_back(Cube::root(alloc))?;
     'cubes: for _ in 0..u64::MAX {
-        if open.len() >= wanted {
+        if queue.len() >= wanted {
             break;
         }
-        let Some(cube) = open.pop_front() else {
+        let Some(cube) = queue.pop_front() else {
             break;
         };
         let count = cube.lits().len();
         let left = solve(formula, plan, &mut solver, cube, &mut facts)?;
-        if take_up(&mut open, left, count)? {
+        if take_up(&mut queue, left, count)? {
             has_model = true;
         }
     }
-    put_in_order(&mut open)?;
+    put_in_order(&mut queue)?;
     Ok(Division {
         facts,
-        open,
+        open: queue,
         has_model,
     })
 }

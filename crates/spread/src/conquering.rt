@@ -1,6 +1,8 @@
 //! Solving the cubes of a part, as one hand does.
-ghost use Rattle.std.specs.Prelude.{◌≡◌, All, OnOk};
+ghost use Rattle.std.specs.Prelude.{◌≡◌, All, IfOk, OnOk};
+ghost use Rattle.theory.specs.Truth.{IsOver};
 ghost use Rattle.gathering.specs.Facts.{IsTrueFact};
+ghost use Rattle.spread.specs.Solving.{IsStep};
 
 use crate::folder::Folder;
 use crate::models::{is_needless, note_model};
@@ -75,6 +77,7 @@ fn step(
     ensures formula { solver.new.formula ≡ formula.now }
     ensures plan { solver.new.plan ≡ plan }
     ensures facts { OnOk result (All (IsTrueFact formula.now plan) facts.new.items) }
+    ensures way { IsOver formula.now.vars cube → IfOk result (λ has_model. IsStep formula.now plan cube has_model way.old.items way.new.items) }
 {
     match solve(formula, plan, solver, cube, facts)? {
         Left::Nothing => Ok(false),

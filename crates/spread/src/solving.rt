@@ -1,14 +1,19 @@
 //! Solving cubes, one after the other, with what is said of them.
 ghost use Rattle.std.specs.Prelude.{◌≡◌, ◌∷◌, ◌++◌, [], All, OnOk, IfOk};
 ghost use Rattle.theory.specs.Truth.{IsOver};
+ghost use Rattle.theory.specs.Trees.{false_half, true_half};
+ghost use Rattle.theory.specs.Checked.{IsFitSplit};
+ghost use Rattle.cdcl.specs.Outcome.{outcome_of};
 ghost use Rattle.gathering.specs.Facts.{IsTrueFact};
+ghost use Rattle.spread.specs.Solving.{IsFitOutcome, IsLeftBy, IsLeft};
 
 use cdcl::{Outcome, Plan, Solver, split};
 use cnf::Formula;
 use gathering::fact_of;
 use kernel::Cube;
+use lines::Row;
 use packs::Fact;
-use replay::{is_fit_split, is_over};
+use replay::is_over;
 use std::alloc::AllocError;
 
 /// What a cube leaves once it is solved.
@@ -22,14 +27,20 @@ pub enum Left {
     Halves(Cube, Cube),
 }
 
-/// The halves of a cube that is split on a variable, if the variable is fit for that.
-fn halves(formula: &Formula, cube: &Cube, var: u32) -> Result<Left, AllocError> {
+/// What a cube with this outcome leaves.
+fn left_by(formula: &Formula, cube: &Cube, outcome: &Outcome<Row>) -> Result<Left, AllocError>
+    requires { IsFitOutcome formula.now cube.now (outcome_of outcome.now) }
+    ensures { IfOk result (λ left. IsLeftBy cube.now (outcome_of outcome.now) left) }
+{
     let _vars = formula.vars(); // it ensures what the proof needs of the variable
-    if !is_fit_split(formula, cube, var) {
-        return Ok(Left::Nothing); // it isn't so: a search splits on a variable that is fit
+    match outcome {
+        Outcome::Model(_) => Ok(Left::Model),
+        Outcome::Refuted(_) => Ok(Left::Nothing),
+        Outcome::Exhausted(var) => {
+            let (left, right) = split(cube, *var)?;
+            Ok(Left::Halves(left, right))
+        }
     }
-    let (left, right) = split(cube, var)?;
-    Ok(Left::Halves(left, right))
 }
 
 /// Solves a cube, puts what is said of it behind the facts, and answers what it leaves. A cube that
@@ -48,17 +59,14 @@ pub fn solve(
     ensures formula { solver.new.formula ≡ formula.now }
     ensures plan { solver.new.plan ≡ plan }
     ensures facts { OnOk result (All (IsTrueFact formula.now plan) facts.new.items) }
+    ensures left { IsOver formula.now.vars cube → IfOk result (IsLeft formula.now plan cube) }
 {
     let _plan = plan; // it is there for the contract alone
     if !is_over(formula.vars(), cube.lits()) {
         return Ok(Left::Nothing);
     }
     let outcome = solver.solve(&cube)?;
-    let left = match &outcome {
-        Outcome::Model(_) => Left::Model,
-        Outcome::Refuted(_) => Left::Nothing,
-        Outcome::Exhausted(var) => halves(formula, &cube, *var)?,
-    };
+    let left = left_by(formula, &cube, &outcome)?;
     facts.push(fact_of(cube, outcome))?;
     Ok(left)
 }
