@@ -20,7 +20,7 @@ use std::collections::VecDeque;
 pub(crate) struct Division {
     pub(crate) facts: Vec<Fact>,
     /// The open cubes, from left to right.
-    pub(crate) open: VecDeque<Cube>,
+    pub(crate) waiting: VecDeque<Cube>,
     /// Whether a model was found right of the open cubes.
     pub(crate) has_model: bool,
 }
@@ -93,7 +93,7 @@ pub(crate) fn by_breadth(
     wanted: usize,
 ) -> Result<Division, AllocError>
     ensures facts { IfOk result (λ d. All (IsTrueFact formula.now plan) d.facts.items) }
-    ensures cubes { IfOk result (λ d. All (IsOfTree formula.now plan) d.open.items) }
+    ensures cubes { IfOk result (λ d. All (IsOfTree formula.now plan) d.waiting.items) }
 {
     let mut solver = Solver::open(alloc, formula, plan)?;
     let mut facts = Vec::new(alloc);
@@ -116,7 +116,7 @@ pub(crate) fn by_breadth(
     put_in_order(&mut queue)?;
     Ok(Division {
         facts,
-        open: queue,
+        waiting: queue,
         has_model,
     })
 }

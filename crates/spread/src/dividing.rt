@@ -102,7 +102,7 @@ fn write_run<R: Files, E: Write>(
     requires { All (IsTrueFact formula.now run.now.plan) division.old.facts.items }
 {
     write_pack(rt, alloc, folder, run, formula, &division.facts, faults)?;
-    let cubes: Vec<Cube> = match division.open.drain(..).collect(alloc) {
+    let cubes: Vec<Cube> = match division.waiting.drain(..).collect(alloc) {
         Ok(cubes) => cubes,
         Err(_) => return Err(say_no_memory(faults, folder.path)),
     };
