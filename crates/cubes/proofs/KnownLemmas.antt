@@ -1,14 +1,11 @@
--- Cubes as keys: the comparison of keys, which is that of the literals' numbers, tells cubes apart.
+-- Cubes as keys: the comparison of keys, which is that of the literals' codes, tells cubes apart.
 -- So looking up is what it says.
-use Rattle.std.proofs.Common.{◌≡◌, ◌≢◌, ℕ, zero, suc, ◌≤◌, Bool, true, false, ◌&&◌, List, [], ◌∷◌, ◌++◌, All, Some, None, Contains, ◌⊎◌, inl, inr, refl, sym, ap, ap₂, ◌∙◌, arith, pos}
+use Rattle.std.proofs.Common.{◌≡◌, ◌≢◌, ℕ, ◌≤◌, Bool, true, false, ◌&&◌, List, [], ◌∷◌, ◌++◌, All, Some, None, Contains, ◌⊎◌, inl, inr, refl, sym, ap, ap₂, ◌∙◌, eqb-true}
 use Rattle.std.specs.Cmp.{IsEquivalence}
 use Rattle.std.specs.Cmp.Lexicographic.{pointwise}
-use Rattle.std.specs.Prelude.{int_le}
 use Rattle.std.specs.Map.{KeepsOthers}
-use Rattle.std.proofs.Math.Dec.{leb-zero}
-use Rattle.std.proofs.lemmas.Bool.Decides.{Decides-int_eq}
-use Rattle.std.proofs.lemmas.Cmp.{int_eq_equiv, lists_equiv}
-use Rattle.std.proofs.lemmas.List.Elements.{All-head, All-tail, Contains-append_left, Contains-push, Contains-push_cases, All-contains, All-weaker}
+use Rattle.std.proofs.lemmas.Cmp.{nat_eq_equiv, lists_equiv}
+use Rattle.std.proofs.lemmas.List.Elements.{All-tail, Contains-append_left, Contains-push, Contains-push_cases, All-contains, All-weaker}
 use Rattle.theory.specs.Literals.{Literal}
 use Rattle.theory.specs.Truth.{Formula, IsFormula}
 use Rattle.theory.specs.Plans.{Search, Plan}
@@ -17,9 +14,10 @@ use Rattle.theory.specs.Search as search
 use Rattle.theory.specs.Results.{done, skipped, Solved, IsTrueOf}
 use Rattle.theory.specs.Checked.{IsCheckedOf}
 use Rattle.theory.proofs.trees.CheckedTrees.{IsCheckedOf-IsTrueOf}
-use Rattle.cnf.specs.Lits.{literal_of, number_of, signed}
+use Rattle.cnf.specs.Lits.{code}
 use Rattle.cnf.specs.contracts.lit.LitPartialEq.TheImpl.{ghosts}
 use Rattle.trail.specs.Cubes.{AreOfVariables}
+use Rattle.trail.proofs.Tables.{code-one}
 use Rattle.cdcl.specs.Outcome.{outcome_by}
 use Rattle.cdcl.specs.declared.outcome.Outcome.{Outcome}
 use Rattle.cubes.specs.declared.known.Known.{Known}
@@ -27,25 +25,14 @@ use Rattle.cubes.specs.declared.solved.Solved as made
 use Rattle.cubes.specs.Solved.{what_by, AreTrueBy, AreCheckedBy}
 use Rattle.cubes.specs.Known.{AreKnown, AreOutcomes, AreCheckedOutcomes, known_of}
 
-not-negative : (v : ℕ) → int_le (pos 0) (pos v) ≡ true
-not-negative v = leb-zero v
-
-numbered : (positive : Bool) (v : ℕ) → 1 ≤ v → literal_of (signed positive v) ≡ record { var = v; positive = positive }
-numbered true v h = let e = not-negative v in rw e refl
-numbered false zero h = absurd (omega arith)
-numbered false (suc n) h = refl
-
-same-number : (k l : Literal) → 1 ≤ k.var → 1 ≤ l.var → number_of k ≡ number_of l → k ≡ l
-same-number k l h i e = sym (numbered k.positive k.var h) ∙ (ap literal_of e ∙ numbered l.positive l.var i)
-
-eq-same : (k l : Literal) → 1 ≤ k.var → 1 ≤ l.var → ghosts.eq k l ≡ true → k ≡ l
-eq-same k l h i e = same-number k l h i ((Decides-int_eq (number_of k) (number_of l)).0 e)
+eq-same : (k l : Literal) → ghosts.eq k l ≡ true → k ≡ l
+eq-same k l e = code-one k l (eqb-true (code k) (code l) e)
 
 eq-equiv : IsEquivalence ghosts.eq
 eq-equiv = record {
-  refl = λ k. int_eq_equiv.refl (number_of k);
-  symm = λ k l. int_eq_equiv.symm (number_of k) (number_of l);
-  congr = λ k l m. int_eq_equiv.congr (number_of k) (number_of l) (number_of m);
+  refl = λ k. nat_eq_equiv.refl (code k);
+  symm = λ k l. nat_eq_equiv.symm (code k) (code l);
+  congr = λ k l m. nat_eq_equiv.congr (code k) (code l) (code m);
 }
 
 keys-equiv : IsEquivalence (pointwise ghosts.eq)
@@ -64,7 +51,7 @@ keys-same [] [] p q h = refl
 keys-same [] (l ∷ Q) p q h = absurd (cc)
 keys-same (k ∷ P) [] p q h = absurd (cc)
 keys-same (k ∷ P) (l ∷ Q) p q h =
-    ap₂ (λ x xs. x ∷ xs) (eq-same k l (All-head (λ (x : Literal). 1 ≤ x.var) k P p) (All-head (λ (x : Literal). 1 ≤ x.var) l Q q) (first _ _ h)) (keys-same P Q (All-tail (λ (x : Literal). 1 ≤ x.var) k P p) (All-tail (λ (x : Literal). 1 ≤ x.var) l Q q) (second (ghosts.eq k l) (pointwise ghosts.eq P Q) h))
+    ap₂ (λ x xs. x ∷ xs) (eq-same k l (first _ _ h)) (keys-same P Q (All-tail (λ (x : Literal). 1 ≤ x.var) k P p) (All-tail (λ (x : Literal). 1 ≤ x.var) l Q q) (second (ghosts.eq k l) (pointwise ghosts.eq P Q) h))
 
 -- what changes at one cube leaves the others
 pub known-others : {L : Type 0} (P Q : List Literal) (k n : Known L) → AreOfVariables P → AreOfVariables Q → Q ≢ P

@@ -6,7 +6,8 @@ use Rattle.std.proofs.lemmas.Bool.{cases_eq, cases_lt, leb-false}
 use Rattle.theory.specs.Literals.{Literal, Clause, same, has}
 use Rattle.kernel.specs.declared.watch.Watched.{Watched}
 use Rattle.kernel.specs.declared.watch.Watch.{Watch}
-use Rattle.kernel.specs.Watching.{At, IsPair, IsBeside, IsListed, code, list_at, listed_at, listed_both}
+use Rattle.cnf.specs.Lits.{code}
+use Rattle.kernel.specs.Watching.{At, IsPair, IsBeside, IsListed, list_at, listed_at, listed_both}
 use Rattle.kernel.specs.Visiting.{WatchLists, places, entries_at, tending, IsEntry, AreEntries, AreEntriesOf}
 use Rattle.kernel.specs.Attaching.{with_entry, attached}
 use Rattle.kernel.proofs.Places.{At-get, At-push, code-one}

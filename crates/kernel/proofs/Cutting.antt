@@ -9,7 +9,8 @@ use Rattle.std.proofs.lemmas.List.Sorted.{Contains-permutation, IsPermutation-tr
 use Rattle.std.proofs.lemmas.List.Elements.{Contains-append_left, Contains-push, Contains-push_cases}
 use Rattle.kernel.specs.declared.watch.Watched.{Watched}
 use Rattle.kernel.specs.declared.watch.Watch.{Watch}
-use Rattle.kernel.specs.Watching.{At, code}
+use Rattle.cnf.specs.Lits.{code}
+use Rattle.kernel.specs.Watching.{At}
 use Rattle.kernel.specs.Visiting.{places}
 use Rattle.kernel.specs.Cutting.{IsKeptBelow, AreKeptBelow, AreCodesOf}
 use Rattle.kernel.proofs.Places.{At-one, At-get, At-set, swap_remove-once, Contains-swap_remove}

@@ -6,7 +6,7 @@ use Rattle.theory.specs.Literals.{Literal}
 use Rattle.kernel.specs.declared.propagator.Propagator.{Propagator}
 use Rattle.kernel.specs.declared.watch.Watch.{Watch}
 use Rattle.kernel.specs.declared.line.Waiting.{Waiting}
-use Rattle.kernel.specs.Watching.{code}
+use Rattle.cnf.specs.Lits.{code}
 use Rattle.kernel.specs.EntryLists.{EntryList, entries_of, nth_list}
 use Rattle.kernel.specs.Visiting.{kept_of, with_list}
 use Rattle.kernel.specs.Placing.{clauses_of, kept_with}

@@ -17,7 +17,8 @@ use Rattle.theory.proofs.literals.LiteralLemmas.{and-left, and-right, or-cases, 
 use Rattle.theory.proofs.literals.LiteralSets.{false_unless}
 use Rattle.kernel.specs.declared.watch.Watched.{Watched}
 use Rattle.trail.specs.TrailOver.{IsOrdered}
-use Rattle.kernel.specs.Watching.{At, IsPair, IsWatched, apart, waits, Includes, WasUnit, code, listed_both}
+use Rattle.cnf.specs.Lits.{code}
+use Rattle.kernel.specs.Watching.{At, IsPair, IsWatched, apart, waits, Includes, WasUnit, listed_both}
 use Rattle.kernel.specs.Visiting.{WatchLists, places, tending}
 use Rattle.kernel.specs.Attaching.{attached, IsWatching}
 use Rattle.kernel.proofs.LiteralFacts.{true_false, all-member, has-var, free-not_negated}

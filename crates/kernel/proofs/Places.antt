@@ -4,7 +4,8 @@ use Rattle.std.proofs.lemmas.List.{get_or_default, get_or-set_same, get_or-set_o
 use Rattle.std.proofs.lemmas.Bool.{cases_eq, cases_lt}
 use Rattle.std.specs.List.{Contains, swap_remove}
 use Rattle.theory.specs.Literals.{Literal}
-use Rattle.kernel.specs.Watching.{At, code}
+use Rattle.cnf.specs.Lits.{code}
+use Rattle.kernel.specs.Watching.{At}
 
 pub At-one : {X : Type 0} (xs : List X) (n : ℕ) (x y : X) → At xs n x → At xs n y → x ≡ y
 At-one xs n x y a b = sym a.1 ∙ get_or_default xs n x y a.0 ∙ b.1

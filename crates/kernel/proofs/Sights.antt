@@ -8,7 +8,8 @@ use Rattle.trail.specs.declared.truth.Truth.{Truth}
 use Rattle.kernel.specs.declared.watch.Watched.{Watched}
 use Rattle.kernel.specs.declared.watch.Watch.{Watch}
 use Rattle.kernel.specs.declared.sight.Sight.TheVariants.{Satisfied, Moved, Last}
-use Rattle.kernel.specs.Watching.{At, code, lesser}
+use Rattle.cnf.specs.Lits.{code}
+use Rattle.kernel.specs.Watching.{At, lesser}
 use Rattle.kernel.specs.Visiting.{CanVisit, IsVisit, WatchLists, satisfied, moves, Replaces}
 use Rattle.kernel.specs.Attaching.{with_entry}
 use Rattle.kernel.specs.Seeing.{IsSight, other_front}

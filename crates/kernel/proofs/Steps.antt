@@ -8,7 +8,8 @@ use Rattle.theory.specs.Literals.{Literal, Clause, same, has, has_both_signs, ne
 use Rattle.theory.specs.Status.{is_false}
 use Rattle.theory.specs.Trails.{Trail, literals, current_level, up_to}
 use Rattle.theory.proofs.literals.LiteralLemmas.{true_or_false, same-eq, same-refl}
-use Rattle.kernel.specs.Watching.{IsConsistent, IsPair, IsWatched, apart, first_true, second_true, other_true, both_signs, Reached, Good, held, waits, reached, spared, At, Tending, list_at, code, IsExact, Includes, Tends, IsBeside, lesser, WasUnit, moved, IsFull}
+use Rattle.cnf.specs.Lits.{code}
+use Rattle.kernel.specs.Watching.{IsConsistent, IsPair, IsWatched, apart, first_true, second_true, other_true, both_signs, Reached, Good, held, waits, reached, spared, At, Tending, list_at, IsExact, Includes, Tends, IsBeside, lesser, WasUnit, moved, IsFull}
 use Rattle.kernel.specs.declared.watch.Watched.{Watched}
 use Rattle.kernel.proofs.LiteralFacts.{true_false, all-member, same-sym, same-sym-false}
 use Rattle.kernel.proofs.Places.{At-one, At-get, At-set, code-one, Contains-of_swap_remove, Contains-swap_remove, At-push, swap_remove-gone, swap_remove-once}

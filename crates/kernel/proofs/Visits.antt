@@ -7,7 +7,8 @@ use Rattle.theory.proofs.literals.LiteralLemmas.{or-cases, or-left, or-right, tr
 use Rattle.theory.proofs.literals.OverVariables.{AreOver-from_IsOver}
 use Rattle.kernel.specs.declared.watch.Watched.{Watched}
 use Rattle.kernel.specs.declared.watch.Watch.{Watch}
-use Rattle.kernel.specs.Watching.{At, IsConsistent, IsPair, IsBeside, code, lesser}
+use Rattle.cnf.specs.Lits.{code}
+use Rattle.kernel.specs.Watching.{At, IsConsistent, IsPair, IsBeside, lesser}
 use Rattle.std.proofs.Math.Bool.{beq}
 use Rattle.std.specs.Option.{option_eq}
 use Rattle.std.specs.List.Sorted.{IsPermutation}

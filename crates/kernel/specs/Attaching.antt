@@ -5,7 +5,8 @@ use Rattle.theory.specs.Literals.{Literal, Clause, same, has}
 use Rattle.theory.specs.Trails.{Trail, level_of}
 use Rattle.kernel.specs.declared.watch.Watched.{Watched}
 use Rattle.kernel.specs.declared.watch.Watch.{Watch}
-use Rattle.kernel.specs.Watching.{At, Reached, WasUnit, IsServed, code}
+use Rattle.cnf.specs.Lits.{code}
+use Rattle.kernel.specs.Watching.{At, Reached, WasUnit, IsServed}
 use Rattle.kernel.specs.Visiting.{WatchLists, entries_at, tending, AreEntries}
 
 -- an entry more in the list of a literal

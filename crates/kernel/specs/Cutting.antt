@@ -3,7 +3,8 @@ use Rattle.std.specs.Prelude.{◌≡◌, ℕ, ◌<◌, ◌≤◌, List, [], ◌�
 use Rattle.std.specs.List.{Contains}
 use Rattle.kernel.specs.declared.watch.Watched.{Watched}
 use Rattle.kernel.specs.declared.watch.Watch.{Watch}
-use Rattle.kernel.specs.Watching.{At, code}
+use Rattle.cnf.specs.Lits.{code}
+use Rattle.kernel.specs.Watching.{At}
 use Rattle.kernel.specs.Visiting.{places}
 
 -- the entries of a list that are of clauses below `first`, in some order

@@ -6,7 +6,8 @@ use Rattle.kernel.specs.declared.watch.Watched.{Watched}
 use Rattle.kernel.specs.declared.watch.Watch.{Watch}
 use Rattle.kernel.specs.declared.propagator.Propagator.{Propagator}
 use Rattle.kernel.specs.EntryLists.{entries_of}
-use Rattle.kernel.specs.Watching.{At, IsPair, IsBeside, Tending, code, lesser}
+use Rattle.cnf.specs.Lits.{code}
+use Rattle.kernel.specs.Watching.{At, IsPair, IsBeside, Tending, lesser}
 
 -- what is kept beside the clauses, with the entries of the lists whole
 pub record WatchLists : Type 0 where

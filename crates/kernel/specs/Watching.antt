@@ -2,16 +2,13 @@
 -- of it that was served: the clauses that watch the negation of an entry's literal were visited. A
 -- clause is named by its place, from 0. Source: Moskewicz et al., 'Chaff' (DAC 2001); Een and
 -- Sorensson, 'An Extensible SAT-solver' (SAT 2003).
-use Rattle.std.specs.Prelude.{◌≡◌, ℕ, ◌+◌, ◌*◌, ◌<◌, ◌≤◌, true, false, List, [], ◌∷◌, ◌++◌, length, Option, Some, None, cond, ◌⊎◌, slice_index_or, slice_set, take, min}
+use Rattle.std.specs.Prelude.{◌≡◌, ℕ, ◌<◌, ◌≤◌, true, false, List, [], ◌∷◌, ◌++◌, length, Option, Some, None, cond, ◌⊎◌, slice_index_or, slice_set, take, min}
 use Rattle.std.specs.List.{list_all, Contains, swap_remove}
 use Rattle.theory.specs.Literals.{Literal, Clause, same, has, negated, has_both_signs}
 use Rattle.theory.specs.Status.{is_false, others_false}
 use Rattle.theory.specs.Trails.{Trail, literals, current_level, up_to}
+use Rattle.cnf.specs.Lits.{code}
 use Rattle.kernel.specs.declared.watch.Watched.{Watched}
-
--- the place of a literal's list among all
-abbrev pub code : Literal → ℕ
-code l = 2 * l.var + cond l.positive 1 0
 
 -- no literal is in P beside its negation
 abbrev pub IsConsistent : List Literal → Type 0

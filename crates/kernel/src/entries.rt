@@ -2,7 +2,7 @@
 ghost use Rattle.std.specs.Prelude.{◌≡◌, ◌+◌, ◌<◌, ◌≤◌, ◌^◌, length, slice_index_or, slice_set};
 ghost use Rattle.kernel.specs.declared.watch.Watch.{Watch};
 ghost use Rattle.kernel.specs.EntryLists.{nth_list};
-ghost use Rattle.kernel.specs.Watching.{code};
+ghost use Rattle.cnf.specs.Lits.{code};
 
 use crate::entry_lists::OpenList;
 use crate::propagator::Propagator;

@@ -12,7 +12,8 @@ ghost use Rattle.theory.specs.Truth.{IsOver};
 ghost use Rattle.theory.specs.Trails.{Entry, literals};
 ghost use Rattle.trail.specs.TrailOver.{IsOrdered};
 ghost use Rattle.trail.specs.Tables.{IsTruth, value_of};
-ghost use Rattle.kernel.specs.Watching.{code, lesser, At, IsNext, IsServed, Tends, AllGood};
+ghost use Rattle.cnf.specs.Lits.{code};
+ghost use Rattle.kernel.specs.Watching.{lesser, At, IsNext, IsServed, Tends, AllGood};
 ghost use Rattle.kernel.specs.declared.order.Order.{Order};
 ghost use Rattle.kernel.specs.Placing.{clauses_of, kept_with, HasPlace, PlacesOf, place_in, IsLastOf, AreInLine};
 ghost use Rattle.kernel.specs.EntryLists.{nth_list};
@@ -235,13 +236,12 @@ impl Propagator {
         ensures kept { (self.new.clauses.given ≡ self.old.clauses.given) × (length self.new.lists ≡ length self.old.lists) × (self.new.units ≡ self.old.units) }
     {
         let truths = trail.truths();
-        let vars = trail.vars();
         let list = self.open_list(gone);
         let mut end = list.len;
         let mut place = 0;
         while place < end {
             let watch = self.entry(list, place);
-            let status = status_in(truths, vars, watch.blocker);
+            let status = status_in(truths, watch.blocker);
             if status.is_satisfied() {
                 place += 1;
             } else {

@@ -1,7 +1,7 @@
 //! Which literals a clause watches, and the entries of the lists of those that watch a literal.
 ghost use Rattle.std.specs.Prelude.{◌≡◌, ◌+◌, ◌*◌, ◌<◌, ◌^◌, true, false};
 ghost use Rattle.theory.specs.Literals.{same};
-ghost use Rattle.kernel.specs.Watching.{code};
+ghost use Rattle.cnf.specs.Lits.{code};
 
 use cnf::Lit;
 use std::marker::Model;
@@ -32,8 +32,7 @@ pub struct Watch {
 pub fn code(lit: Lit) -> usize
     ensures { result ≡ code lit }
 {
-    let double = 2 * lit.var() as usize;
-    if lit.positive() { double + 1 } else { double }
+    lit.code()
 }
 
 /// So many clauses can be watched.

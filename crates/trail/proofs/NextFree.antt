@@ -1,6 +1,6 @@
 -- The next free variable, after one entry more, and after the entries behind a place are taken off.
-use Rattle.std.proofs.Common.{◌≡◌, ℕ, ◌<◌, ◌≤◌, Bool, true, false, List, [], ◌∷◌, ◌++◌, length, slice_index, Option, Some, None, option_map, is_some, nat_eq, refl, ap, sym, subst, ◌∙◌, inl, inr, ◌⊎◌, arith}
-use Rattle.std.proofs.lemmas.List.{map-append}
+use Rattle.std.proofs.Common.{◌≡◌, ◌≢◌, ℕ, ◌<◌, ◌≤◌, Bool, true, false, List, [], ◌∷◌, ◌++◌, length, slice_index, slice_set, Option, Some, None, option_map, is_some, nat_eq, refl, ap, sym, subst, ◌∙◌, inl, inr, ◌⊎◌, arith}
+use Rattle.std.proofs.lemmas.List.{map-append, get_or_past, get_or-set_other}
 use Rattle.std.proofs.lemmas.Bool.{cases_lt}
 use Rattle.theory.specs.Literals.{has_var, IsVariable}
 use Rattle.theory.specs.Truth.{IsOver}
@@ -38,6 +38,13 @@ has_var-beyond V T v over past = false_unless (has_var (literals T) v) (λ there
 
 pub entry_of-beyond : (V : ℕ) (T : Trail) (v : ℕ) → IsOrdered V T → V < v → entry_of T v ≡ None
 entry_of-beyond V T v ordered past = entry_of-none T v (has_var-beyond V T v ordered.over past)
+
+-- another variable than the least free one gets its place
+pub zero-beside : (V n v place : ℕ) (T : Trail) (truths : List Truth) (places : List ℕ) → AreTables V T truths places → IsNextFree V T n → v ≢ n → slice_index (slice_set places v place) n ≡ 0
+zero-beside V n v place T truths places tables h other = get_or-set_other places v n place 0 (λ same. other (sym same)) ∙ elim (cases_lt V n) [
+  | inl past ↦ let long = tables.places_long in get_or_past places n 0 (omega (arith, long, past))
+  | inr most ↦ tables.place_at n most ∙ place_in-none T n h.free
+]
 
 -- one entry more
 pub IsNextFree-push : (V n m : ℕ) (T : Trail) (e : Entry) (truths : List Truth) (places : List ℕ) → IsNextFree V T n → IsOver V (literals (T ++ e ∷ []))

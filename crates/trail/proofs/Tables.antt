@@ -7,9 +7,10 @@ use Rattle.theory.specs.Literals.{Literal, same_sign, has_var, negated, IsVariab
 use Rattle.theory.specs.Trails.{Entry, Trail, literals, entry_of}
 use Rattle.theory.proofs.literals.LiteralLemmas.{and-left, and-right, not_true, or-right, true_or_false}
 use Rattle.theory.proofs.literals.LiteralSets.{true_false, false_unless, or-false_left, or-false_right, or-none, has_var-append_right}
+use Rattle.cnf.specs.Lits.{code}
 use Rattle.trail.specs.declared.truth.Truth.{Truth}
 use Rattle.trail.specs.declared.truth.Truth.TheVariants.{Unassigned, Satisfied, Falsified}
-use Rattle.trail.specs.Tables.{value_in, one_more, place_in, truth_of, spot, with_truths, AreTables}
+use Rattle.trail.specs.Tables.{value_in, one_more, place_in, truth_of, with_truths, AreTables}
 
 nat_eq-swap : (a b : ℕ) → nat_eq a b ≡ nat_eq b a
 nat_eq-swap a b = elim (true_or_false (nat_eq a b)) [
@@ -124,31 +125,38 @@ AreTables-place V T truths places v p h most read =
     sym (h.place_at v most) ∙ sym (read ∙ get_or_default_zero places v p (omega arith))
 
 -- literals have places of their own in the table
-pub spot-below : (V n : ℕ) (l : Literal) → l.var ≤ V → n ≡ 2 * V + 1 → spot V l < n
-spot-below V n l most long = go l.positive
+pub code-below : (V n : ℕ) (l : Literal) → l.var ≤ V → n ≡ 2 * V + 2 → code l < n
+code-below V n l most long = go l.positive
   where
-    go : (b : Bool) → cond b (V + l.var) (V - l.var) < n
+    go : (b : Bool) → 2 * l.var + cond b 1 0 < n
     go true = omega arith
     go false = omega arith
 
-pub spot-one : (V : ℕ) (k l : Literal) → 1 ≤ l.var → l.var ≤ V → k.var ≤ V → spot V k ≡ spot V l → k ≡ l
-spot-one V k l some within inside h = go k.positive l.positive refl refl h
+pub code-within : (n : ℕ) (l : Literal) → 2 * l.var + 1 < n → code l < n
+code-within n l most = go l.positive
   where
-    go : (a b : Bool) → k.positive ≡ a → l.positive ≡ b → ◌≡◌ {A = ℕ} (cond a (V + k.var) (V - k.var)) (cond b (V + l.var) (V - l.var)) → k ≡ l
+    go : (b : Bool) → 2 * l.var + cond b 1 0 < n
+    go true = omega arith
+    go false = omega arith
+
+pub code-one : (k l : Literal) → code k ≡ code l → k ≡ l
+code-one k l h = go k.positive l.positive refl refl h
+  where
+    go : (a b : Bool) → k.positive ≡ a → l.positive ≡ b → 2 * k.var + cond a 1 0 ≡ 2 * l.var + cond b 1 0 → k ≡ l
     go true true e f is = let v : k.var ≡ l.var = omega arith in let s : k.positive ≡ l.positive = e ∙ sym f in λ i. record { var = v i; positive = s i }
     go false false e f is = let v : k.var ≡ l.var = omega arith in let s : k.positive ≡ l.positive = e ∙ sym f in λ i. record { var = v i; positive = s i }
     go true false e f is = absurd (omega arith)
     go false true e f is = absurd (omega arith)
 
-pub AreTables-truth : (V : ℕ) (T : Trail) (truths : List Truth) (places : List ℕ) (l : Literal) (at : ℕ) (t : Truth) → AreTables V T truths places → l.var ≤ V → at ≡ spot V l
+pub AreTables-truth : (V : ℕ) (T : Trail) (truths : List Truth) (places : List ℕ) (l : Literal) (at : ℕ) (t : Truth) → AreTables V T truths places → l.var ≤ V → at ≡ code l
     → t ≡ get_or truths at t → t ≡ truth_of (value_in T l.var) l.positive
 AreTables-truth V T truths places l at t h most here read =
-    read ∙ ap (λ n. get_or truths n t) here ∙ get_or_default truths (spot V l) t Unassigned (spot-below V (length truths) l most h.truths_long) ∙ h.truth_at l most
+    read ∙ ap (λ n. get_or truths n t) here ∙ get_or_default truths (code l) t Unassigned (code-below V (length truths) l most h.truths_long) ∙ h.truth_at l most
 
 -- both literals of a variable written
-pub truths-here : (V : ℕ) (truths : List Truth) (l k : Literal) (a b : Truth) → IsVariable V l.var → length truths ≡ 2 * V + 1 → k.var ≡ l.var
-    → get_or (with_truths V truths l a b) (spot V k) Unassigned ≡ cond (same_sign k.positive l.positive) a b
-truths-here V truths l k a b within long one = go (same_sign k.positive l.positive) refl
+pub truths-here : (truths : List Truth) (l k : Literal) (a b : Truth) → 2 * l.var + 1 < length truths → k.var ≡ l.var
+    → get_or (with_truths truths l a b) (code k) Unassigned ≡ cond (same_sign k.positive l.positive) a b
+truths-here truths l k a b within one = go (same_sign k.positive l.positive) refl
   where
     signs-same : (x y : Bool) → same_sign x y ≡ true → x ≡ y
     signs-same true true s = refl
@@ -166,37 +174,36 @@ truths-here V truths l k a b within long one = go (same_sign k.positive l.positi
     signs-apart true s = absurd (cc)
     signs-apart false s = absurd (cc)
 
-    go : (s : Bool) → same_sign k.positive l.positive ≡ s → get_or (with_truths V truths l a b) (spot V k) Unassigned ≡ cond s a b
+    go : (s : Bool) → same_sign k.positive l.positive ≡ s → get_or (with_truths truths l a b) (code k) Unassigned ≡ cond s a b
     go true s =
         let is : k ≡ l = λ i. record { var = one i; positive = signs-same k.positive l.positive s i } in
-        let inside : k.var ≤ V = let most = within.1 in omega arith in
-        let apart : spot V k ≢ spot V (negated l) = λ h. signs-apart l.positive (ap (λ (x : Literal). x.positive) (sym is ∙ spot-one V k (negated l) within.0 within.1 inside h)) in
-        get_or-set_other (slice_set truths (spot V l) a) (spot V (negated l)) (spot V k) b Unassigned apart
-        ∙ (ap (λ (x : Literal). get_or (slice_set truths (spot V l) a) (spot V x) Unassigned) is ∙ get_or-set_same truths (spot V l) a Unassigned (spot-below V (length truths) l within.1 long))
+        let apart : code k ≢ code (negated l) = λ h. signs-apart l.positive (ap (λ (x : Literal). x.positive) (sym is ∙ code-one k (negated l) h)) in
+        get_or-set_other (slice_set truths (code l) a) (code (negated l)) (code k) b Unassigned apart
+        ∙ (ap (λ (x : Literal). get_or (slice_set truths (code l) a) (code x) Unassigned) is ∙ get_or-set_same truths (code l) a Unassigned (code-within (length truths) l within))
     go false s =
         let is : k ≡ negated l = λ i. record { var = one i; positive = signs-other k.positive l.positive s i } in
-        let set_long : length (slice_set truths (spot V l) a) ≡ 2 * V + 1 = length-set truths (spot V l) a ∙ long in
-        ap (λ (x : Literal). get_or (with_truths V truths l a b) (spot V x) Unassigned) is
-        ∙ get_or-set_same (slice_set truths (spot V l) a) (spot V (negated l)) b Unassigned (spot-below V (length (slice_set truths (spot V l) a)) (negated l) within.1 set_long)
+        let set_long : length (slice_set truths (code l) a) ≡ length truths = length-set truths (code l) a in
+        ap (λ (x : Literal). get_or (with_truths truths l a b) (code x) Unassigned) is
+        ∙ get_or-set_same (slice_set truths (code l) a) (code (negated l)) b Unassigned (code-within (length (slice_set truths (code l) a)) (negated l) (omega (arith, set_long, within)))
 
-pub truths-other : (V : ℕ) (truths : List Truth) (l k : Literal) (a b : Truth) → IsVariable V l.var → k.var ≤ V → k.var ≢ l.var
-    → get_or (with_truths V truths l a b) (spot V k) Unassigned ≡ get_or truths (spot V k) Unassigned
-truths-other V truths l k a b within inside other =
-    get_or-set_other (slice_set truths (spot V l) a) (spot V (negated l)) (spot V k) b Unassigned (λ h. other (ap (λ (x : Literal). x.var) (spot-one V k (negated l) within.0 within.1 inside h)))
-    ∙ get_or-set_other truths (spot V l) (spot V k) a Unassigned (λ h. other (ap (λ (x : Literal). x.var) (spot-one V k l within.0 within.1 inside h)))
+pub truths-other : (truths : List Truth) (l k : Literal) (a b : Truth) → k.var ≢ l.var
+    → get_or (with_truths truths l a b) (code k) Unassigned ≡ get_or truths (code k) Unassigned
+truths-other truths l k a b other =
+    get_or-set_other (slice_set truths (code l) a) (code (negated l)) (code k) b Unassigned (λ h. other (ap (λ (x : Literal). x.var) (code-one k (negated l) h)))
+    ∙ get_or-set_other truths (code l) (code k) a Unassigned (λ h. other (ap (λ (x : Literal). x.var) (code-one k l h)))
 
 -- one entry more
 pub AreTables-push : (V : ℕ) (T : Trail) (e : Entry) (truths : List Truth) (places : List ℕ) (n : ℕ) → AreTables V T truths places → IsVariable V e.lit.var
-    → has_var (literals T) e.lit.var ≡ false → n ≡ length T + 1 → AreTables V (T ++ e ∷ []) (with_truths V truths e.lit Satisfied Falsified) (slice_set places e.lit.var n)
+    → has_var (literals T) e.lit.var ≡ false → n ≡ length T + 1 → AreTables V (T ++ e ∷ []) (with_truths truths e.lit Satisfied Falsified) (slice_set places e.lit.var n)
 AreTables-push V T e truths places n h within free last = record {
-  truths_long = length-set (slice_set truths (spot V e.lit) Satisfied) (spot V (negated e.lit)) Falsified ∙ (length-set truths (spot V e.lit) Satisfied ∙ h.truths_long);
+  truths_long = length-set (slice_set truths (code e.lit) Satisfied) (code (negated e.lit)) Falsified ∙ (length-set truths (code e.lit) Satisfied ∙ h.truths_long);
   places_long = length-set places e.lit.var n ∙ h.places_long;
   truth_at = λ l most. elim (true_or_false (nat_eq l.var e.lit.var)) [
     | inl same ↦
         let one : l.var ≡ e.lit.var = eqb-true l.var e.lit.var same in
-        truths-here V truths e.lit l Satisfied Falsified within h.truths_long one
+        truths-here truths e.lit l Satisfied Falsified truths_within one
         ∙ sym (ap (λ u. truth_of (value_in (T ++ e ∷ []) u) l.positive) one ∙ ap (λ o. truth_of (option_map (λ (x : Entry). x.lit.positive) o) l.positive) (entry_of-last T e free))
-    | inr other ↦ truths-other V truths e.lit l Satisfied Falsified within most (apart l.var other)
+    | inr other ↦ truths-other truths e.lit l Satisfied Falsified (apart l.var other)
         ∙ (h.truth_at l most ∙ sym (ap (λ o. truth_of (option_map (λ (x : Entry). x.lit.positive) o) l.positive) (entry_of-front T (e ∷ []) l.var (alone l.var other))))
   ];
   place_at = λ v most. elim (true_or_false (nat_eq v e.lit.var)) [
@@ -207,6 +214,9 @@ AreTables-push V T e truths places n h within free last = record {
   ];
 }
   where
+    truths_within : 2 * e.lit.var + 1 < length truths
+    truths_within = let long = h.truths_long in let most = within.1 in omega arith
+
     places_within : e.lit.var < length places
     places_within = let long = h.places_long in let most = within.1 in omega arith
 
@@ -218,13 +228,13 @@ AreTables-push V T e truths places n h within free last = record {
 
 -- the same, each part as a call has told it
 pub AreTables-put : (V : ℕ) (T new : Trail) (e : Entry) (l : Literal) (truths new_truths : List Truth) (places : List ℕ) (v n : ℕ) → AreTables V T truths places → IsVariable V e.lit.var
-    → has_var (literals T) e.lit.var ≡ false → l ≡ e.lit → v ≡ e.lit.var → n ≡ length T + 1 → new ≡ T ++ e ∷ [] → new_truths ≡ with_truths V truths l Satisfied Falsified
+    → has_var (literals T) e.lit.var ≡ false → l ≡ e.lit → v ≡ e.lit.var → n ≡ length T + 1 → new ≡ T ++ e ∷ [] → new_truths ≡ with_truths truths l Satisfied Falsified
     → AreTables V new new_truths (slice_set places v n)
 AreTables-put V T new e l truths new_truths places v n h within free lit var last pushed written = rw (written, lit, var, pushed) (AreTables-push V T e truths places n h within free last)
 
 -- the literals of the variables in D are unassigned, and what is said of the others is as it was
-abbrev pub AreUnassigned : ℕ → List Truth → Trail → List Truth → Type 0
-AreUnassigned V old D new = (l : Literal) → l.var ≤ V → get_or new (spot V l) Unassigned ≡ cond (has_var (literals D) l.var) Unassigned (get_or old (spot V l) Unassigned)
+abbrev pub AreUnassigned : List Truth → Trail → List Truth → Type 0
+AreUnassigned old D new = (l : Literal) → get_or new (code l) Unassigned ≡ cond (has_var (literals D) l.var) Unassigned (get_or old (code l) Unassigned)
 
 -- the places of the variables in D have the value d, and the others the old one
 abbrev pub AreFreed : {X : Type 0} → X → List X → Trail → List X → Type 0
@@ -265,11 +275,11 @@ AreFreed-more d old D i e new less within h v = rw (has_var-take D i e v less) (
     kept true other = refl
     kept false other = rw other refl
 
-pub AreUnassigned-more : (V : ℕ) (old : List Truth) (D : Trail) (i : ℕ) (e : Entry) (new : List Truth) → i < length D → IsVariable V (get_or D i e).lit.var → length new ≡ 2 * V + 1
-    → AreUnassigned V old (take i D) new → AreUnassigned V old (take (i + 1) D) (with_truths V new (get_or D i e).lit Unassigned Unassigned)
-AreUnassigned-more V old D i e new less within long h l inside = rw (has_var-take D i e l.var less) (elim (true_or_false (nat_eq l.var w.var)) [
-  | inl same ↦ truths-here V new w l Unassigned Unassigned within long (eqb-true l.var w.var same) ∙ (both (same_sign l.positive w.positive) ∙ sym (freed (has_var (literals (take i D)) l.var) same))
-  | inr other ↦ truths-other V new w l Unassigned Unassigned within inside (λ one. true_false (nat_eq l.var w.var) (eq-eqb l.var w.var one) other) ∙ (h l inside ∙ sym (kept (has_var (literals (take i D)) l.var) other))
+pub AreUnassigned-more : (old : List Truth) (D : Trail) (i : ℕ) (e : Entry) (new : List Truth) → i < length D → 2 * (get_or D i e).lit.var + 1 < length new
+    → AreUnassigned old (take i D) new → AreUnassigned old (take (i + 1) D) (with_truths new (get_or D i e).lit Unassigned Unassigned)
+AreUnassigned-more old D i e new less within h l = rw (has_var-take D i e l.var less) (elim (true_or_false (nat_eq l.var w.var)) [
+  | inl same ↦ truths-here new w l Unassigned Unassigned within (eqb-true l.var w.var same) ∙ (both (same_sign l.positive w.positive) ∙ sym (freed (has_var (literals (take i D)) l.var) same))
+  | inr other ↦ truths-other new w l Unassigned Unassigned (λ one. true_false (nat_eq l.var w.var) (eq-eqb l.var w.var one) other) ∙ (h l ∙ sym (kept (has_var (literals (take i D)) l.var) other))
 ])
   where
     w : Literal
@@ -279,11 +289,11 @@ AreUnassigned-more V old D i e new less within long h l inside = rw (has_var-tak
     both true = refl
     both false = refl
 
-    freed : (b : Bool) → nat_eq l.var w.var ≡ true → cond (b || nat_eq l.var w.var) Unassigned (get_or old (spot V l) Unassigned) ≡ Unassigned
+    freed : (b : Bool) → nat_eq l.var w.var ≡ true → cond (b || nat_eq l.var w.var) Unassigned (get_or old (code l) Unassigned) ≡ Unassigned
     freed true same = refl
     freed false same = rw same refl
 
-    kept : (b : Bool) → nat_eq l.var w.var ≡ false → cond (b || nat_eq l.var w.var) Unassigned (get_or old (spot V l) Unassigned) ≡ cond b Unassigned (get_or old (spot V l) Unassigned)
+    kept : (b : Bool) → nat_eq l.var w.var ≡ false → cond (b || nat_eq l.var w.var) Unassigned (get_or old (code l) Unassigned) ≡ cond b Unassigned (get_or old (code l) Unassigned)
     kept true other = refl
     kept false other = rw other refl
 
@@ -303,11 +313,11 @@ distinct-behind (l ∷ P) Q v h there =
     (distinct-behind P Q v (and-right (not (has_var (P ++ Q) l.var)) (are_distinct (P ++ Q)) h) there)
 
 pub AreTables-front : (V : ℕ) (A B : Trail) (truths new_truths : List Truth) (places new_places : List ℕ) → are_distinct (literals (A ++ B)) ≡ true → AreTables V (A ++ B) truths places
-    → length new_truths ≡ length truths → length new_places ≡ length places → AreUnassigned V truths B new_truths → AreFreed 0 places B new_places → AreTables V A new_truths new_places
+    → length new_truths ≡ length truths → length new_places ≡ length places → AreUnassigned truths B new_truths → AreFreed 0 places B new_places → AreTables V A new_truths new_places
 AreTables-front V A B truths new_truths places new_places distinct h truths_long places_long freed_truths freed_places = record {
   truths_long = truths_long ∙ h.truths_long;
   places_long = places_long ∙ h.places_long;
-  truth_at = λ l most. freed_truths l most ∙ elim (true_or_false (has_var (literals B) l.var)) [
+  truth_at = λ l most. freed_truths l ∙ elim (true_or_false (has_var (literals B) l.var)) [
     | inl there ↦ rw (there, entry_of-none A l.var (gone l.var there)) refl
     | inr none ↦ rw none (h.truth_at l most ∙ ap (λ o. truth_of (option_map (λ (x : Entry). x.lit.positive) o) l.positive) (entry_of-front A B l.var none))
   ];

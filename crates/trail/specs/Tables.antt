@@ -1,8 +1,9 @@
 -- What stands of a trail in tables by literal and by variable.
-use Rattle.std.specs.Prelude.{◌≡◌, ℕ, zero, suc, ◌+◌, ◌-◌, ◌*◌, ◌<◌, ◌≤◌, Bool, true, false, cond, nat_eq, List, [], ◌∷◌, length, Option, Some, None, slice_index, slice_index_or, slice_set}
+use Rattle.std.specs.Prelude.{◌≡◌, ℕ, zero, suc, ◌+◌, ◌*◌, ◌<◌, ◌≤◌, Bool, true, false, cond, nat_eq, List, [], ◌∷◌, length, Option, Some, None, slice_index, slice_index_or, slice_set}
 use Rattle.std.specs.Option.{option_map}
 use Rattle.theory.specs.Literals.{Literal, same_sign, has, has_var, negated}
 use Rattle.theory.specs.Trails.{Trail, literals, entry_of}
+use Rattle.cnf.specs.Lits.{code}
 use Rattle.trail.specs.declared.truth.Truth.{Truth}
 use Rattle.trail.specs.declared.truth.Truth.TheVariants.{Unassigned, Satisfied, Falsified}
 
@@ -27,13 +28,9 @@ abbrev pub truth_of : Option Bool → Bool → Truth
 truth_of None sign = Unassigned
 truth_of (Some b) sign = cond (same_sign sign b) Satisfied Falsified
 
--- where a literal stands in a table over the variables 1 to V: its number, counted from the middle
-abbrev pub spot : ℕ → Literal → ℕ
-spot V l = cond l.positive (V + l.var) (V - l.var)
-
 -- the table by literal, once both literals of a variable are written
-abbrev pub with_truths : ℕ → List Truth → Literal → Truth → Truth → List Truth
-with_truths V truths l truth opposite = slice_set (slice_set truths (spot V l) truth) (spot V (negated l)) opposite
+abbrev pub with_truths : List Truth → Literal → Truth → Truth → List Truth
+with_truths truths l truth opposite = slice_set (slice_set truths (code l) truth) (code (negated l)) opposite
 
 -- how many entries there are up to the variable's own, or 0 where it has none
 abbrev pub one_more : ℕ → ℕ
@@ -46,9 +43,9 @@ place_in (e ∷ T) v = elim (nat_eq e.lit.var v) [ true ↦ 1 | false ↦ one_mo
 
 -- the tables of what is said of literals, and of the places of 0 and the variables 1 to V
 pub record AreTables (V : ℕ) (T : Trail) (truths : List Truth) (places : List ℕ) : Type 0 where
-  pub truths_long : length truths ≡ 2 * V + 1
+  pub truths_long : length truths ≡ 2 * V + 2
   pub places_long : length places ≡ V + 1
-  pub truth_at : (l : Literal) → l.var ≤ V → slice_index_or truths (spot V l) Unassigned ≡ truth_of (value_in T l.var) l.positive
+  pub truth_at : (l : Literal) → l.var ≤ V → slice_index_or truths (code l) Unassigned ≡ truth_of (value_in T l.var) l.positive
   pub place_at : (v : ℕ) → v ≤ V → slice_index places v ≡ place_in T v
 
 -- n is the least of the variables 1 to V that isn't on the trail, or V + 1

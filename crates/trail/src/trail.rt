@@ -1,13 +1,14 @@
 //! The trail, with tables by literal and by variable, so that each look-up is one step.
-ghost use Rattle.std.specs.Prelude.{◌≡◌, ◌≤◌, ◌<◌, ◌^◌, ◌+◌, ◌*◌, ℕ, [], ◌∷◌, ◌++◌, true, false, length, take, IfOk, IfSome, IfNone, None, Some, slice_get, slice_index, slice_index_or, if◌then◌else◌, ◌⊎◌, is_some};
+ghost use Rattle.std.specs.Prelude.{◌≡◌, ◌≢◌, ◌≤◌, ◌<◌, ◌^◌, ◌+◌, ◌*◌, ℕ, [], ◌∷◌, ◌++◌, true, false, length, take, IfOk, IfSome, IfNone, None, Some, slice_get, slice_index, slice_index_or, if◌then◌else◌, ◌⊎◌, is_some};
 ghost use Rattle.theory.specs.Literals.{Literal, IsVariable, has_var};
 ghost use Rattle.theory.specs.Trails.{literals, current_level, entry_of, level_of, least_free, up_to};
 ghost use Rattle.trail.specs.TrailOver.{IsOrdered, IsRisingFrom};
-ghost use Rattle.trail.specs.Tables.{IsTruth, value_in, value_of, spot};
+ghost use Rattle.cnf.specs.Lits.{code};
+ghost use Rattle.trail.specs.Tables.{IsTruth, value_in, value_of};
 ghost use Rattle.trail.specs.declared.truth.Truth.TheVariants.{Unassigned};
 
 use crate::entry::Entry;
-use crate::truth::{Truth, put_truths, spot};
+use crate::truth::{Truth, put_truths, status_in};
 use cnf::Lit;
 use std::alloc::{AllocError, Global};
 use std::marker::Model;
@@ -61,17 +62,10 @@ fn count_up_to(entries: &[Entry], level: u32) -> usize
 
 /// Makes the variables of entries free in the tables. The answer is the least of them and of a
 /// bound.
-fn free_all(
-    truths: &mut [Truth],
-    places: &mut [u32],
-    vars: u32,
-    dropped: &[Entry],
-    bound: u32,
-) -> u32
-    requires within { (v : ℕ) → has_var (literals dropped.now) v ≡ true → IsVariable vars v × (v < length places.old) }
-    requires long { length truths.old ≡ 2 * vars + 1 }
-    ensures truths { (l : Literal) → l.var ≤ vars → slice_index_or truths.new (spot vars l) Unassigned ≡
-        (if has_var (literals dropped.now) l.var then Unassigned else slice_index_or truths.old (spot vars l) Unassigned) }
+fn free_all(truths: &mut [Truth], places: &mut [u32], dropped: &[Entry], bound: u32) -> u32
+    requires { (v : ℕ) → has_var (literals dropped.now) v ≡ true → (2 * v + 1 < length truths.old) × (v < length places.old) }
+    ensures truths { (l : Literal) → slice_index_or truths.new (code l) Unassigned ≡
+        (if has_var (literals dropped.now) l.var then Unassigned else slice_index_or truths.old (code l) Unassigned) }
     ensures places { (v : ℕ) → slice_index places.new v ≡
         (if has_var (literals dropped.now) v then 0 else slice_index places.old v) }
     ensures most { result ≤ bound }
@@ -83,7 +77,7 @@ fn free_all(
     for entry in dropped {
         let entry = *entry;
         let var = entry.lit.var();
-        put_truths(truths, vars, entry.lit, free, free);
+        put_truths(truths, entry.lit, free, free);
         places[var as usize] = 0;
         least = least.min(var);
     }
@@ -106,6 +100,24 @@ fn first_without_entry(places: &[u32], from: u32) -> u32
     var
 }
 
+/// The least free variable once one has an entry, where another one was the least until then. A
+/// search by activity seldom takes the least, and asks for it never, so it is looked for only where
+/// it is taken.
+fn least_free_beside(places: &[u32], least: u32, taken: u32) -> u32
+    requires within { least ≤ length places.now }
+    requires small { length places.now < 2 ^ 32 }
+    requires other { taken ≢ least → slice_index places.now least ≡ 0 }
+    ensures low { least ≤ result }
+    ensures high { result ≤ length places.now }
+    ensures before { (v : ℕ) → least ≤ v → v < result → 1 ≤ slice_index places.now v }
+    ensures found { slice_index places.now result ≡ 0 }
+{
+    if taken != least {
+        return least;
+    }
+    first_without_entry(places, least)
+}
+
 impl Trail {
     /// No entries, and room for one of each variable.
     pub fn with_room(alloc: Global, vars: u32) -> Result<Trail, AllocError>
@@ -116,7 +128,7 @@ impl Trail {
         Ok(Trail {
             vars,
             entries: Vec::with_capacity(alloc, count)?,
-            truths: vec![in alloc; Truth::Unassigned; 2 * count + 1]?,
+            truths: vec![in alloc; Truth::Unassigned; 2 * count + 2]?,
             places: vec![in alloc; 0; count + 1]?,
             next_free: 1,
         })
@@ -159,7 +171,7 @@ impl Trail {
         ensures value { result ≡ value_in self.now.entries var }
         ensures ordered { IsOrdered self.now.vars self.now.entries }
     {
-        self.truths[self.vars as usize + var as usize].value()
+        self.truths[2 * var as usize + 1].value()
     }
 
     /// Whether a literal is true, and none while its variable is free.
@@ -179,14 +191,14 @@ impl Trail {
         ensures truth { IsTruth (literals self.now.entries) lit (value_of result) }
         ensures ordered { IsOrdered self.now.vars self.now.entries }
     {
-        self.truths[spot(self.vars, lit)]
+        status_in(&self.truths, lit)
     }
 
     /// What is said of each literal, by its place among them. It is for `status_in`, where many are
     /// asked for and the trail stays: so the table isn't looked for again each time.
     pub fn truths(&self) -> &[Truth]
-        ensures long { length result.now ≡ 2 * self.now.vars + 1 }
-        ensures truth { (l : Literal) → l.var ≤ self.now.vars → IsTruth (literals self.now.entries) l (value_of (slice_index_or result.now (spot self.now.vars l) Unassigned)) }
+        ensures long { length result.now ≡ 2 * self.now.vars + 2 }
+        ensures truth { (l : Literal) → l.var ≤ self.now.vars → IsTruth (literals self.now.entries) l (value_of (slice_index_or result.now (code l) Unassigned)) }
     {
         &self.truths
     }
@@ -251,13 +263,12 @@ impl Trail {
         let var = entry.lit.var();
         put_truths(
             &mut self.truths,
-            self.vars,
             entry.lit,
             Truth::Satisfied,
             Truth::Falsified,
         );
         self.places[var as usize] = self.entries.len() as u32;
-        self.next_free = first_without_entry(&self.places, self.next_free);
+        self.next_free = least_free_beside(&self.places, self.next_free, var);
     }
 
     /// Takes the entries above a level off. It takes time by them.
@@ -284,13 +295,7 @@ impl Trail {
         ensures vars { self.new.vars ≡ self.old.vars }
     {
         let dropped = &self.entries[count..];
-        self.next_free = free_all(
-            &mut self.truths,
-            &mut self.places,
-            self.vars,
-            dropped,
-            self.next_free,
-        );
+        self.next_free = free_all(&mut self.truths, &mut self.places, dropped, self.next_free);
         self.entries.truncate(count);
     }
 }

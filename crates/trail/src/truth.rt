@@ -1,6 +1,8 @@
 //! What a trail says of literals, in a table by literal.
 ghost use Rattle.std.specs.Prelude.{◌≡◌, ◌≢◌, ◌<◌, ◌≤◌, ◌+◌, ◌*◌, true, false, Some, length, slice_index_or};
-ghost use Rattle.trail.specs.Tables.{value_of, spot, with_truths};
+ghost use Rattle.theory.specs.Literals.{negated};
+ghost use Rattle.cnf.specs.Lits.{code};
+ghost use Rattle.trail.specs.Tables.{value_of, with_truths};
 ghost use Rattle.trail.specs.declared.truth.Truth.TheVariants.{Unassigned};
 
 use cnf::Lit;
@@ -50,32 +52,20 @@ impl Truth {
     }
 }
 
-/// Where what is said of a literal stands in the table: the negations lie before the middle, and
-/// the variables behind it. So a literal's own number leads there by one sum. A place that takes
-/// the number's amount and its sign apart made searches of pigeonhole and parity formulas 7 and 14
-/// % slower.
-pub fn spot(vars: u32, lit: Lit) -> usize
-    requires { lit.var ≤ vars }
-    ensures { result ≡ spot vars lit }
+/// What is said of a literal in the table of a trail, where each literal's place is its code.
+pub fn status_in(truths: &[Truth], lit: Lit) -> Truth
+    requires { code lit < length truths.now }
+    ensures { result ≡ slice_index_or truths.now (code lit) Unassigned }
 {
-    (vars as i64 + lit.number() as i64) as usize
-}
-
-/// What is said of a literal in the table of a trail of so many variables.
-pub fn status_in(truths: &[Truth], vars: u32, lit: Lit) -> Truth
-    requires inside { lit.var ≤ vars }
-    requires long { length truths.now ≡ 2 * vars + 1 }
-    ensures { result ≡ slice_index_or truths.now (spot vars lit) Unassigned }
-{
-    truths[spot(vars, lit)]
+    truths[lit.code()]
 }
 
 /// Writes what is said of a literal, and of its negation.
-pub fn put_truths(truths: &mut [Truth], vars: u32, lit: Lit, truth: Truth, opposite: Truth)
-    requires inside { lit.var ≤ vars }
-    requires long { length truths.old ≡ 2 * vars + 1 }
-    ensures { truths.new ≡ with_truths vars truths.old lit truth opposite }
+pub fn put_truths(truths: &mut [Truth], lit: Lit, truth: Truth, opposite: Truth)
+    requires inside { code lit < length truths.old }
+    requires beside { code (negated lit) < length truths.old }
+    ensures { truths.new ≡ with_truths truths.old lit truth opposite }
 {
-    truths[spot(vars, lit)] = truth;
-    truths[spot(vars, lit.negated())] = opposite;
+    truths[lit.code()] = truth;
+    truths[lit.negated().code()] = opposite;
 }

@@ -2,7 +2,7 @@ use Rattle.std.proofs.Common.{◌≡◌, ◌∙◌, ◌<◌, ℕ, List, take, le
 use Rattle.std.proofs.lemmas.List.{length-map}
 use Rattle.theory.specs.Literals.{Clause}
 use Rattle.kernel.specs.EntryLists.{entries_of}
-use Rattle.kernel.specs.Watching.{code}
+use Rattle.cnf.specs.Lits.{code}
 use Rattle.kernel.specs.Visiting.{kept_of}
 use Rattle.kernel.specs.Cutting.{AreKeptBelow}
 use Rattle.kernel.proofs.Restarting.{learnt-codes, cut-watching}

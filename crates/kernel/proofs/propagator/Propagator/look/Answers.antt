@@ -3,7 +3,7 @@ use Rattle.kernel.specs.Placing.{clauses_of, kept_with}
 use Rattle.kernel.proofs.Placed.{lengthened, joined}
 use Rattle.kernel.proofs.Visits.{over-var, clause-over, code-within, gone-in}
 use Rattle.theory.specs.Trails.{literals}
-use Rattle.kernel.specs.Watching.{code}
+use Rattle.cnf.specs.Lits.{code}
 use Rattle.kernel.proofs.Sights.{apart-codes, clause, pair, clause-at, pair-at, sees-satisfied, sees-last, sees-moved, last-seen}
 use Rattle.kernel.proofs.propagator.Propagator.look.Goals as goal
 

@@ -2,9 +2,11 @@ use Rattle.std.proofs.Common.{◌≡◌, ◌<◌, ◌≤◌, ◌∙◌, ◌-◌,
 use Rattle.std.proofs.lemmas.List.{length-set}
 use Rattle.theory.specs.Trails.{literals}
 use Rattle.kernel.specs.declared.watch.Watch.{Watch}
-use Rattle.kernel.specs.Watching.{Walks, Tends, AllGood, At, code}
+use Rattle.cnf.specs.Lits.{code}
+use Rattle.kernel.specs.Watching.{Walks, Tends, AllGood, At}
 use Rattle.kernel.specs.EntryLists.{EntryList, entries_of, nth_list}
 use Rattle.trail.specs.Tables.{IsTruth, value_of}
+use Rattle.trail.proofs.Tables.{code-below}
 use Rattle.theory.specs.Literals.{has, negated}
 use Rattle.kernel.specs.Visiting.{WatchLists, AreEntries, kept_of, tending, with_list, IsVisit, satisfied}
 use Rattle.kernel.specs.Placing.{kept_with}
@@ -45,8 +47,8 @@ entry-watch-requires-clause-at c =
     let inside = gone-inside c.loop-place.self.lists c.args.trail.now.vars c.args.gone c.args.trail.now.entries c.requires.served.1 (i.lists ∙ c.requires.lists) c.requires.ordered.over c.requires.served.2 in
     rw c.open_list-list.ensures.at inside
 
-pub status_in-status-requires-clause-inside : goal.status_in-status-requires-clause-inside
-status_in-status-requires-clause-inside c =
+pub status_in-status-requires : goal.status_in-status-requires
+status_in-status-requires c =
     let i = c.loop-place.invariant in
     let room = (nth_list c.loop-place.self.lists (code c.args.gone)).room in
     let read : c.entry-watch.result ≡ get_or room c.loop-place.place c.entry-watch.result = c.entry-watch.ensures.is ∙ ap (λ n. get_or (nth_list c.loop-place.self.lists n).room c.loop-place.place c.entry-watch.result) c.open_list-list.ensures.at in
@@ -55,7 +57,7 @@ status_in-status-requires-clause-inside c =
     let can = can-visit c.requires.served.0 c.args.self.now.clauses.given c.args.trail.now.entries c.requires.served.1 c.args.gone (kept_with c.loop-place.self c.loop-place.line) (take c.loop-place.end room) c.loop-place.place c.entry-watch.result inside
     c.requires.served.2 (i.walks c.requires.served.0 c.requires.served.1 c.requires.served.2 c.requires.served.3) i.entries at in
     let within : c.entry-watch.result.blocker.var ≤ c.args.trail.now.vars = over-of _ _ _ _ _ can c.args.trail.now.vars c.entry-watch.result.blocker c.requires.over can.entry.blocker_in in
-    rw c.vars-vars.ensures.vars within
+    code-below c.args.trail.now.vars _ c.entry-watch.result.blocker within c.truths-truths.ensures.long
 
 pub visit-requires-clause-status : goal.visit-requires-clause-status
 visit-requires-clause-status c =
@@ -67,7 +69,7 @@ visit-requires-clause-status c =
     let can = can-visit c.requires.served.0 c.args.self.now.clauses.given c.args.trail.now.entries c.requires.served.1 c.args.gone (kept_with c.loop-place.self c.loop-place.line) (take c.loop-place.end room) c.loop-place.place c.entry-watch.result inside
     c.requires.served.2 (i.walks c.requires.served.0 c.requires.served.1 c.requires.served.2 c.requires.served.3) i.entries at in
     let within : c.entry-watch.result.blocker.var ≤ c.args.trail.now.vars = over-of _ _ _ _ _ can c.args.trail.now.vars c.entry-watch.result.blocker c.requires.over can.entry.blocker_in in
-    (rw (c.status_in-status.ensures, c.vars-vars.ensures.vars) (c.truths-truths.ensures.truth c.entry-watch.result.blocker within), c.is_satisfied.ensures.no c.if-is_satisfied.false)
+    (rw c.status_in-status.ensures (c.truths-truths.ensures.truth c.entry-watch.result.blocker within), c.is_satisfied.ensures.no c.if-is_satisfied.false)
 
 pub loop-place-preserved-then-is_satisfied : goal.loop-place-preserved-then-is_satisfied
 loop-place-preserved-then-is_satisfied c =
@@ -80,7 +82,7 @@ loop-place-preserved-then-is_satisfied c =
     c.requires.served.2 (i.walks c.requires.served.0 c.requires.served.1 c.requires.served.2 c.requires.served.3) i.entries at in
     let within : c.entry-watch.result.blocker.var ≤ c.args.trail.now.vars = over-of _ _ _ _ _ can c.args.trail.now.vars c.entry-watch.result.blocker c.requires.over can.entry.blocker_in in
     let says : IsTruth (literals c.args.trail.now.entries) c.entry-watch.result.blocker (value_of c.status_in-status.result) =
-    rw (c.status_in-status.ensures, c.vars-vars.ensures.vars) (c.truths-truths.ensures.truth c.entry-watch.result.blocker within) in
+    rw c.status_in-status.ensures (c.truths-truths.ensures.truth c.entry-watch.result.blocker within) in
     let true_one : has (literals c.args.trail.now.entries) c.entry-watch.result.blocker ≡ true = rw (c.is_satisfied.ensures.yes c.if-is_satisfied.true) at says in
     record {
       walks = λ floor n next served. stays-walk floor c.args.self.now.clauses.given c.args.trail.now.entries n c.args.gone (kept_with c.loop-place.self c.loop-place.line) (take c.loop-place.end room) c.loop-place.place c.entry-watch.result inside next

@@ -1,6 +1,7 @@
 use Rattle.std.proofs.Common.{◌≡◌, ◌-◌, ◌≤◌, ℕ, length, take}
 use Rattle.kernel.specs.EntryLists.{nth_list}
-use Rattle.kernel.specs.Watching.{IsNext, IsServed, Walks, code}
+use Rattle.cnf.specs.Lits.{code}
+use Rattle.kernel.specs.Watching.{IsNext, IsServed, Walks}
 use Rattle.kernel.specs.Visiting.{kept_of, tending, with_list, AreEntries}
 use Rattle.kernel.specs.Placing.{kept_with, PlacesOf, AreInLine}
 use Rattle.kernel.specs.declared.order.Order.{Order}

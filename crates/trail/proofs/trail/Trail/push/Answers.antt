@@ -3,7 +3,7 @@ use Rattle.theory.specs.Trails.{Entry}
 use Rattle.trail.proofs.Ordered.{IsOrdered-push, length-free}
 use Rattle.trail.proofs.GoingBack.{refilled}
 use Rattle.trail.proofs.Tables.{AreTables-put}
-use Rattle.trail.proofs.NextFree.{IsNextFree-push}
+use Rattle.trail.proofs.NextFree.{IsNextFree-push, zero-beside}
 use Rattle.trail.proofs.trail.Trail.push.Goals as goal
 
 -- there is room, since a variable is free
@@ -24,6 +24,10 @@ overflow_cast-len c =
     let long = c.self.inside.entries.ok.0 in
     omega arith
 
+pub least_free_beside-self-inside-requires-clause-other : goal.least_free_beside-self-inside-requires-clause-other
+least_free_beside-self-inside-requires-clause-other c other =
+    rw c.deref.ensures.value (zero-beside _ _ _ c.len.result _ _ c.self.inside.places.items c.self.invariant.3 c.self.invariant.4 other)
+
 pub invariant_of-self : goal.invariant_of-self
 invariant_of-self c =
     let room = c.self.invariant.1 in
@@ -42,10 +46,10 @@ invariant_of-self c =
     (rw c.deref_mut.ensures.value at c.put_truths.ensures) in
     let truths_long : length c.put_truths.new.truths ≡ length c.self.inside.truths.items = c.put_truths.auto.truths ∙ ap length c.deref_mut.ensures.value in
     let truths_back = refilled c.self.inside.truths.len c.put_truths.new.truths (drop (length c.put_truths.new.truths) c.self.inside.truths.items) (c.self.inside.truths.ok.0 ∙ sym truths_long) in
-    let next = rw c.deref.ensures.value at c.first_without_entry-self-inside.ensures in (
+    let next = rw c.deref.ensures.value at c.least_free_beside-self-inside.ensures in (
       rw c.in-Ok.ensures.items ordered,
       omega arith,
       c.self.invariant.2,
       rw truths_back tables,
-      rw c.in-Ok.ensures.items (IsNextFree-push c.self.inside.vars c.self.inside.next_free c.first_without_entry-self-inside.result T c.args.entry _ _ c.self.invariant.4 ordered.over (rw c.in-Ok.ensures.items at tables) next.low next.high next.before next.found),
+      rw c.in-Ok.ensures.items (IsNextFree-push c.self.inside.vars c.self.inside.next_free c.least_free_beside-self-inside.result T c.args.entry _ _ c.self.invariant.4 ordered.over (rw c.in-Ok.ensures.items at tables) next.low next.high next.before next.found),
     )

@@ -3,13 +3,10 @@ use Rattle.trail.proofs.GoingBack.{drop-range, drop-within, refilled, AreTables-
 use Rattle.trail.proofs.Ordered.{IsOrdered-take}
 use Rattle.trail.proofs.trail.Trail.truncate.Goals as goal
 
-pub free_all-self-inside-requires-clause-within : goal.free_all-self-inside-requires-clause-within
-free_all-self-inside-requires-clause-within c =
-    rw (c.deref.ensures.value, c.deref_mut-2.ensures.value, drop-range)
+pub free_all-self-inside-requires : goal.free_all-self-inside-requires
+free_all-self-inside-requires c =
+    rw (c.deref.ensures.value, c.deref_mut.ensures.value, c.deref_mut-2.ensures.value, drop-range)
     (drop-within _ c.self.inside.entries.items c.args.count _ _ c.self.invariant.0 c.self.invariant.3)
-
-pub free_all-self-inside-requires-clause-long : goal.free_all-self-inside-requires-clause-long
-free_all-self-inside-requires-clause-long c = ap length c.deref_mut.ensures.value ∙ c.self.invariant.3.truths_long
 
 pub invariant_of-self : goal.invariant_of-self
 invariant_of-self c =
