@@ -14,23 +14,24 @@ ghost use Rattle.kernel.specs.Arranging.{front};
 ghost use Rattle.kernel.specs.Seeing.{CanSee, IsSeen};
 
 use crate::arrange::lead;
+use crate::ends::{literals_at, start_of};
 use crate::named::Named;
 use crate::replacement::Starts;
 use crate::sight::{Sight, look_at};
 use crate::watch::Watched;
-use cnf::{Lit, literals_at, start_of};
+use cnf::Lit;
 use std::alloc::{AllocError, Global};
 use std::marker::Model;
 use trail::Trail;
 
 /// Clauses, which are named by their places, from 0 on. One that was forgotten is `1 -1`, and takes
-/// 8 bytes.
+/// 4 bytes.
 #[derive(Drop)]
 pub struct Clauses {
     // the literals of the first clause, then those of the second and so on
     lits: Vec<Lit>,
-    // where the literals of each clause end
-    ends: Vec<usize>,
+    // where the literals of each clause end; in four bytes each, since a visit reads two of them
+    ends: Vec<u32>,
     // behind so many clauses, one without literals was forgotten
     first: usize,
     // what such a one stands for
@@ -51,9 +52,12 @@ impl Model for Clauses {
     ghost invariant = { λ a. AreEnds 0 a.ends.items (length a.lits.items) × (a.tautology ≡ forgotten) };
 }
 
+/// All clauses together have at most so many literals, so that four bytes name each place.
+const MOST_LITERALS: usize = u32::MAX as usize;
+
 /// Moves the literals of the clauses from `first` on together, without those of the clauses that
 /// are named. The answer is how many literals stay.
-fn move_together(lits: &mut [Lit], ends: &mut [usize], first: usize, named: &Named) -> usize
+fn move_together(lits: &mut [Lit], ends: &mut [u32], first: usize, named: &Named) -> usize
     requires ends { AreEnds 0 ends.old (length lits.old) }
     requires within { first ≤ length ends.old }
     requires learnt { (n : ℕ) → n < first → names named.now n ≡ false }
@@ -64,12 +68,12 @@ fn move_together(lits: &mut [Lit], ends: &mut [usize], first: usize, named: &Nam
     let mut start = start_of(ends, first);
     let mut to = start;
     for index in first..ends.len() {
-        let end = ends[index];
+        let end = ends[index] as usize;
         if !named.has(index) {
             lits.copy_within(start..end, to);
             to += end - start;
         }
-        ends[index] = to;
+        ends[index] = to as u32;
         start = end;
     }
     to
@@ -110,7 +114,8 @@ impl Clauses {
     }
 
     /// Puts a clause at the end. Where a request for memory is refused, nothing has changed. An
-    /// empty clause counts as such a request once clauses were forgotten.
+    /// empty clause counts as such a request once clauses were forgotten, and so does a literal
+    /// above the most that there is room for.
     pub fn push(&mut self, clause: &[Lit]) -> Result<(), AllocError>
         ensures ok { OnOk result (self.new ≡ self.old ++ clause.now ∷ []) }
         ensures err { OnErr result (self.new ≡ self.old) }
@@ -119,9 +124,12 @@ impl Clauses {
             return Err(AllocError);
         }
         let count = self.lits.len();
+        if count + clause.len() > MOST_LITERALS {
+            return Err(AllocError);
+        }
         self.lits.extend_from_slice(clause)?;
         let end = self.lits.len();
-        match self.ends.push(end) {
+        match self.ends.push(end as u32) {
             Ok(()) => Ok(()),
             Err(_) => {
                 self.lits.truncate(count);
@@ -138,10 +146,13 @@ impl Clauses {
         ensures err { OnErr result (self.new ≡ self.old) }
     {
         let start = self.lits.len();
+        if start + clause.len() > MOST_LITERALS {
+            return Err(AllocError);
+        }
         self.lits.extend_from_slice(clause)?;
         lead(&mut self.lits[start..], watched);
         let end = self.lits.len();
-        match self.ends.push(end) {
+        match self.ends.push(end as u32) {
             Ok(()) => Ok(()),
             Err(_) => {
                 self.lits.truncate(start);
@@ -158,7 +169,7 @@ impl Clauses {
         ensures { (c : Clause) → At self.old index c → (d : Clause) × (self.new ≡ slice_set self.old index d) × IsSeen (literals trail.now.entries) gone c d result }
     {
         let start = start_of(&self.ends, index);
-        let end = self.ends[index];
+        let end = self.ends[index] as usize;
         look_at(trail, &mut self.lits[start..end], gone, starts, index)
     }
 

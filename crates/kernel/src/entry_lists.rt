@@ -209,14 +209,14 @@ impl EntryLists {
         };
     }
 
-    /// Moves a list that fills its room to one of twice the size, behind all others. Where a
-    /// request for memory is refused, it stays.
+    /// Moves a list that fills its room to one of twice the size, of four entries at least, behind
+    /// all others. Where a request for memory is refused, it stays.
     // A call, since most lists have room and those who put entries into them need the registers.
     #[cold]
     #[inline(never)]
     fn grow(&mut self, at: usize) -> Result<(), AllocError>
         requires { at < length self.old }
-        ensures ok { OnOk result ((from : ℕ) × (ys : List Watch) × (self.new ≡ slice_set self.old at record { from = from; len = (nth_list self.old at).len; room = entries_of (nth_list self.old at) ++ ys }) × (0 < length ys)) }
+        ensures ok { OnOk result ((from : ℕ) × (ys : List Watch) × (self.new ≡ slice_set self.old at record { from = from; len = (nth_list self.old at).len; room = entries_of (nth_list self.old at) ++ ys }) × (0 < length ys) × ((nth_list self.old at).len ≤ length ys) × (length ys ≤ (nth_list self.old at).len + 4)) }
         ensures err { OnErr result (self.new ≡ self.old) }
     {
         let head = self.heads[at];

@@ -8,6 +8,7 @@ mod closed;
 mod closing;
 mod counts;
 mod cut;
+mod ends;
 mod entries;
 mod entry_lists;
 mod forget;

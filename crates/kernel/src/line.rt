@@ -106,8 +106,6 @@ impl Line {
     {
         if self.queue.takes(&waiting) {
             self.queue.push(waiting)?;
-        } else if waiting.place == 0 {
-            self.pile.push(waiting)?;
         } else {
             self.push_before(waiting)?;
         }
@@ -115,9 +113,15 @@ impl Line {
     }
 
     /// Puts a clause in that goes before one of the queue.
+    // A call, so that `push`, which mostly puts it behind the queue, is small enough to be inlined.
+    #[inline(never)]
     fn push_before(&mut self, waiting: Waiting) -> Result<(), AllocError>
         ensures { OnOk result (IsPermutation (waiting ∷ self.old) self.new) }
     {
+        if waiting.place == 0 {
+            self.pile.push(waiting)?;
+            return Ok(());
+        }
         if self.queue.put(&waiting)? {
             return Ok(());
         }

@@ -25,8 +25,8 @@ start_of-start-requires c =
     let inside = among _ _ _ c.args.index _ c.self.view_is c.requires.within in
     rw c.deref.ensures.value (omega (arith, inside))
 
-pub index-end-requires : goal.index-end-requires
-index-end-requires c =
+pub index-requires : goal.index-requires
+index-requires c =
     let inside = among _ _ _ c.args.index _ c.self.view_is c.requires.within in
     omega (arith, inside, c.self.inside.ends.ok.0)
 
@@ -34,11 +34,11 @@ index-end-requires c =
 start : (c : goal.After-deref_mut) → c.start_of-start.result ≡ start_at 0 c.self.inside.ends.items c.args.index
 start c = c.start_of-start.ensures ∙ ap (λ ends. start_at 0 ends c.args.index) c.deref.ensures.value
 
-low : (c : goal.After-deref_mut) → c.start_of-start.result ≤ c.index-end.result.now
-low c = part-low c.self.inside.lits.items c.deref_mut.result.now c.self.inside.ends.items (pieces 0 c.self.inside.lits.items c.self.inside.ends.items) c.args.index c.start_of-start.result c.index-end.result.now refl c.self.invariant.0 (within _ _ _ c.args.index _ c.self.view_is c.requires.within) c.deref_mut.ensures.value (start c) c.index-end.ensures
+low : (c : goal.After-deref_mut) → c.start_of-start.result ≤ c.index.result.now
+low c = part-low c.self.inside.lits.items c.deref_mut.result.now c.self.inside.ends.items (pieces 0 c.self.inside.lits.items c.self.inside.ends.items) c.args.index c.start_of-start.result c.index.result.now refl c.self.invariant.0 (within _ _ _ c.args.index _ c.self.view_is c.requires.within) c.deref_mut.ensures.value (start c) c.index.ensures
 
-high : (c : goal.After-deref_mut) → c.index-end.result.now ≤ length c.deref_mut.result.now
-high c = rw c.deref_mut.ensures.value (part-high c.self.inside.lits.items c.deref_mut.result.now c.self.inside.ends.items (pieces 0 c.self.inside.lits.items c.self.inside.ends.items) c.args.index c.start_of-start.result c.index-end.result.now refl c.self.invariant.0 (within _ _ _ c.args.index _ c.self.view_is c.requires.within) c.deref_mut.ensures.value (start c) c.index-end.ensures)
+high : (c : goal.After-deref_mut) → c.index.result.now ≤ length c.deref_mut.result.now
+high c = rw c.deref_mut.ensures.value (part-high c.self.inside.lits.items c.deref_mut.result.now c.self.inside.ends.items (pieces 0 c.self.inside.lits.items c.self.inside.ends.items) c.args.index c.start_of-start.result c.index.result.now refl c.self.invariant.0 (within _ _ _ c.args.index _ c.self.view_is c.requires.within) c.deref_mut.ensures.value (start c) c.index.ensures)
 
 pub offset_bounds-deref_mut-start : goal.offset_bounds-deref_mut-start
 offset_bounds-deref_mut-start c =
@@ -68,30 +68,30 @@ look_at-requires c =
     let at : At c.args.self.now c.args.index d = At-get c.args.self.now c.args.index [] c.requires.within in
     let raw : At kept c.args.index d = shown-long first c.args.index kept d (subst (λ (K : List Clause). At K c.args.index d) (sym c.self.view_is) at) (c.requires.clause d at).0 in
     let start : c.start_of-start.result ≡ start_at 0 c.self.inside.ends.items c.args.index = c.start_of-start.ensures ∙ ap (λ ends. start_at 0 ends c.args.index) c.deref.ensures.value in
-    let read : take (c.index-end.result.now - c.start_of-start.result) (drop c.start_of-start.result c.deref_mut.result.now) ≡ d = part-read c.self.inside.lits.items c.deref_mut.result.now c.self.inside.ends.items kept c.args.index c.start_of-start.result c.index-end.result.now refl c.self.invariant.0 raw.0 c.deref_mut.ensures.value start c.index-end.ensures d raw.1 in
+    let read : take (c.index.result.now - c.start_of-start.result) (drop c.start_of-start.result c.deref_mut.result.now) ≡ d = part-read c.self.inside.lits.items c.deref_mut.result.now c.self.inside.ends.items kept c.args.index c.start_of-start.result c.index.result.now refl c.self.invariant.0 raw.0 c.deref_mut.ensures.value start c.index.ensures d raw.1 in
     subst (λ (x : Clause). CanSee c.args.trail.now.vars (literals c.args.trail.now.entries) c.args.gone x) (sym read) (c.requires.clause d at).1
 
 begins : (c : goal.After-self-1) → c.start_of-start.result ≡ start_at 0 c.self.inside.ends.items c.args.index
 begins c = c.start_of-start.ensures ∙ ap (λ ends. start_at 0 ends c.args.index) c.deref.ensures.value
 
 -- as many literals stand in the clause as before
-same-length : (c : goal.After-self-1) → length c.look_at.new.lits ≡ c.index-end.result.now - c.start_of-start.result
+same-length : (c : goal.After-self-1) → length c.look_at.new.lits ≡ c.index.result.now - c.start_of-start.result
 same-length c =
     let s = c.start_of-start.result in
-    let e = c.index-end.result.now in
+    let e = c.index.result.now in
     length_permutation (take (e - s) (drop s c.deref_mut.result.now)) c.look_at.new.lits c.look_at.ensures.permutes
-    ∙ part-size c.self.inside.lits.items c.deref_mut.result.now c.self.inside.ends.items (pieces 0 c.self.inside.lits.items c.self.inside.ends.items) c.args.index s e refl c.self.invariant.0 (within _ _ _ c.args.index _ c.self.view_is c.requires.within) c.deref_mut.ensures.value (begins c) c.index-end.ensures
+    ∙ part-size c.self.inside.lits.items c.deref_mut.result.now c.self.inside.ends.items (pieces 0 c.self.inside.lits.items c.self.inside.ends.items) c.args.index s e refl c.self.invariant.0 (within _ _ _ c.args.index _ c.self.view_is c.requires.within) c.deref_mut.ensures.value (begins c) c.index.ensures
 
 -- the literals that are there now
 abbrev now : goal.After-self-1 → List Literal
 now c =
     let s = c.start_of-start.result in
-    let e = c.index-end.result.now in
+    let e = c.index.result.now in
     take s c.deref_mut.result.now ++ (c.look_at.new.lits ++ drop (e - s) (drop s c.deref_mut.result.now))
 
 as-many : (c : goal.After-self-1) → length (now c) ≡ length c.self.inside.lits.items
 as-many c =
-    part-length c.self.inside.lits.items c.deref_mut.result.now c.self.inside.ends.items (pieces 0 c.self.inside.lits.items c.self.inside.ends.items) c.args.index c.start_of-start.result c.index-end.result.now refl c.self.invariant.0 (within _ _ _ c.args.index _ c.self.view_is c.requires.within) c.deref_mut.ensures.value (begins c) c.index-end.ensures c.look_at.new.lits (now c) (same-length c) refl
+    part-length c.self.inside.lits.items c.deref_mut.result.now c.self.inside.ends.items (pieces 0 c.self.inside.lits.items c.self.inside.ends.items) c.args.index c.start_of-start.result c.index.result.now refl c.self.invariant.0 (within _ _ _ c.args.index _ c.self.view_is c.requires.within) c.deref_mut.ensures.value (begins c) c.index.ensures c.look_at.new.lits (now c) (same-length c) refl
 
 items : (c : goal.After-self-1) → (with_items c.self.inside.lits (now c)).items ≡ now c
 items c = with_items_is c.self.inside.lits (now c) (as-many c ∙ sym c.self.inside.lits.ok.0)
@@ -105,11 +105,11 @@ returns c d at =
     let ends = c.self.inside.ends.items in
     let kept = pieces 0 c.self.inside.lits.items ends in
     let s = c.start_of-start.result in
-    let e = c.index-end.result.now in
+    let e = c.index.result.now in
     let new = c.look_at.new.lits in
     let raw : At kept c.args.index d = shown-long first c.args.index kept d (subst (λ (K : List Clause). At K c.args.index d) (sym c.self.view_is) at) (c.requires.clause d at).0 in
-    let read : take (e - s) (drop s c.deref_mut.result.now) ≡ d = part-read c.self.inside.lits.items c.deref_mut.result.now ends kept c.args.index s e refl c.self.invariant.0 raw.0 c.deref_mut.ensures.value (begins c) c.index-end.ensures d raw.1 in
-    let put : pieces 0 (now c) ends ≡ set kept c.args.index new = part-put c.self.inside.lits.items c.deref_mut.result.now ends kept c.args.index s e refl c.self.invariant.0 raw.0 c.deref_mut.ensures.value (begins c) c.index-end.ensures new (now c) (same-length c) refl in
+    let read : take (e - s) (drop s c.deref_mut.result.now) ≡ d = part-read c.self.inside.lits.items c.deref_mut.result.now ends kept c.args.index s e refl c.self.invariant.0 raw.0 c.deref_mut.ensures.value (begins c) c.index.ensures d raw.1 in
+    let put : pieces 0 (now c) ends ≡ set kept c.args.index new = part-put c.self.inside.lits.items c.deref_mut.result.now ends kept c.args.index s e refl c.self.invariant.0 raw.0 c.deref_mut.ensures.value (begins c) c.index.ensures new (now c) (same-length c) refl in
     let long : length new ≡ length d = length_permutation (take (e - s) (drop s c.deref_mut.result.now)) new c.look_at.ensures.permutes ∙ ap length read in
     let some : new ≡ [] → ⊥ = λ z. let n = (c.requires.clause d at).0 in let none : length new ≡ 0 = ap length z in omega (arith, long, n, none) in (
       new,

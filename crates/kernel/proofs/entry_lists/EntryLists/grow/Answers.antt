@@ -1,7 +1,7 @@
 use Rattle.std.proofs.Common.{◌≡◌, ◌≤◌, ◌+◌, ◌-◌, ◌++◌, ◌∙◌, length, take, drop, ap, arith, rules, replicate, ◌*◌}
 use Rattle.std.proofs.lemmas.List.{length-append, length-replicate}
 use Rattle.kernel.specs.EntryLists.{in_rooms}
-use Rattle.kernel.proofs.Rooms.{head-inside, room-inside, its-room, its-room-is, fits, grown, part-long, more-rooms, filled}
+use Rattle.kernel.proofs.Rooms.{head-inside, room-inside, its-room, its-room-is, fits, len-is, grown, part-long, more-rooms, filled}
 use Rattle.kernel.proofs.entry_lists.EntryLists.grow.Goals as goal
 
 pub index-head-requires : goal.index-head-requires
@@ -59,4 +59,5 @@ returns-clause-ok c =
     let sum : length c.copy_behind.new.entries.items ≡ length (es ++ copied) = ap length c.in_ok-copy_behind.ensures.ok in
     let kept = c.copy_behind.new.entries.ok.0 in
     let size : 2 * c.max-room.result ≡ h.len + length rest = omega (arith, many, sum, kept, all, long, begins, room) in
-    (c.len-from.result, rest, grown c.self.inside.entries.items c.self.inside.heads.items c.self.inside.rooms.items c.args.self.now c.self.view_is c.self.invariant.0 c.args.at c.requires c.index-head.result.now c.index-head.ensures (its-room c.self.inside.entries.items c.self.inside.heads.items c.self.inside.rooms.items c.args.self.now c.self.view_is c.self.invariant.0 c.args.at c.requires) (its-room-is c.self.inside.entries.items c.self.inside.heads.items c.self.inside.rooms.items c.args.self.now c.self.view_is c.self.invariant.0 c.args.at c.requires) c.len-from.result (2 * c.max-room.result) c.resize.new.self.items rest begins made size, omega (arith, many, sum, kept, all, long, begins, room))
+    let count = len-is c.self.inside.entries.items c.self.inside.heads.items c.self.inside.rooms.items c.args.self.now c.self.view_is c.self.invariant.0 c.args.at c.requires c.index-head.result.now c.index-head.ensures (its-room c.self.inside.entries.items c.self.inside.heads.items c.self.inside.rooms.items c.args.self.now c.self.view_is c.self.invariant.0 c.args.at c.requires) (its-room-is c.self.inside.entries.items c.self.inside.heads.items c.self.inside.rooms.items c.args.self.now c.self.view_is c.self.invariant.0 c.args.at c.requires) in
+    (c.len-from.result, rest, grown c.self.inside.entries.items c.self.inside.heads.items c.self.inside.rooms.items c.args.self.now c.self.view_is c.self.invariant.0 c.args.at c.requires c.index-head.result.now c.index-head.ensures (its-room c.self.inside.entries.items c.self.inside.heads.items c.self.inside.rooms.items c.args.self.now c.self.view_is c.self.invariant.0 c.args.at c.requires) (its-room-is c.self.inside.entries.items c.self.inside.heads.items c.self.inside.rooms.items c.args.self.now c.self.view_is c.self.invariant.0 c.args.at c.requires) c.len-from.result (2 * c.max-room.result) c.resize.new.self.items rest begins made size, omega (arith, many, sum, kept, all, long, begins, room), omega (arith, size, room, count), omega (arith, size, room, count))

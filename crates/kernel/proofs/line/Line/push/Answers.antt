@@ -1,8 +1,5 @@
-use Rattle.kernel.proofs.UnitLemmas.{queued-units, heaped-units}
+use Rattle.kernel.proofs.UnitLemmas.{queued-units}
 use Rattle.kernel.proofs.line.Line.push.Goals as goal
 
 pub returns-in_ok-push : goal.returns-in_ok-push
 returns-in_ok-push c = rw (← c.self.view_is, c.in_ok-push.ensures) (queued-units _ _ _)
-
-pub returns-in_ok-push-2 : goal.returns-in_ok-push-2
-returns-in_ok-push-2 c = rw (← c.self.view_is) (heaped-units _ _ _ _ c.in_ok-push-2.ensures)
