@@ -29,7 +29,7 @@ pub(crate) fn refusal_of(request: &Request) -> Option<&'static str> {
             if *formula == STANDARD_INPUT && *proof == STANDARD_INPUT => {
             Some("standard input can't be both the formula and the proof")
         }
-        Request::Spread(Spread::Conquer { slice: None, .. }) => {
+        Request::Spread(Spread::Conquer { part: None, .. }) => {
             Some("a part is K/M, the K-th of M, as --part 3/16 is the third of sixteen")
         }
         Request::Spread(Spread::Begin { formula, .. }) if *formula == STANDARD_INPUT => {

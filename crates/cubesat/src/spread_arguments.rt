@@ -36,7 +36,7 @@ pub(crate) enum Spread<'a> {
     Conquer {
         run: &'a str,
         round: u32,
-        slice: Option<Slice>,
+        part: Option<Part>,
         minutes: Option<u32>,
         /// From 1 to 16.
         hands: u32,
@@ -165,23 +165,28 @@ pub(crate) fn divide_request<'a>(matches: &ArgMatches<'a>) -> Option<Spread<'a>>
     })
 }
 
-/// The part of a round that `K/M` names, if it names one.
-fn slice_of(word: &str) -> Option<Slice> {
-    let (part, parts) = word.split_once('/')?;
-    let part = part.parse::<u32>().ok()?;
+/// The numbers of `K/M`. A request holds them as they are, as it does that of the hands, since the
+/// borrow checker follows none that holds a type with an invariant.
+#[derive(Clone, Copy)]
+pub(crate) struct Part {
+    pub(crate) number: u32,
+    pub(crate) parts: u32,
+}
+
+/// The part of a round that `K/M` names, if there is one.
+fn part_of(word: &str) -> Option<Part> {
+    let (number, parts) = word.split_once('/')?;
+    let number = number.parse::<u32>().ok()?;
     let parts = parts.parse::<u32>().ok()?;
-    if 1 <= part && part <= parts {
-        Some(Slice { part, parts })
-    } else {
-        None
-    }
+    Slice::new(number, parts)?;
+    Some(Part { number, parts })
 }
 
 pub(crate) fn conquer_request<'a>(matches: &ArgMatches<'a>) -> Option<Spread<'a>> {
     Some(Spread::Conquer {
         run: matches.get_str("RUN")?,
         round: matches.get_one::<u32>("round")?,
-        slice: slice_of(matches.get_str("part")?),
+        part: part_of(matches.get_str("part")?),
         minutes: matches.get_one::<u32>("minutes"),
         hands: matches.get_one::<u32>("hands")?,
     })

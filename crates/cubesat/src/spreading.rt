@@ -6,7 +6,7 @@ use crate::fault_lines::{FAILED, print_fault_of, print_no_memory, print_not_open
 use crate::input::{Input, open_input};
 use crate::placed_proof::{PlacedProof, begin_proof};
 use crate::solving::{SATISFIABLE, UNSATISFIABLE, print_not_begun};
-use crate::spread_arguments::Spread;
+use crate::spread_arguments::{Part, Spread};
 use crate::worded::{Known, Opened};
 use cdcl::{Plan, Search};
 use cnf::Limits;
@@ -228,7 +228,7 @@ fn conquer_part<R: Files + Clock + Threads + Sync + Alloc + Clone + Drop, E: Wri
     alloc: Global,
     run: &str,
     round: u32,
-    slice: Option<Slice>,
+    part: Option<Part>,
     minutes: Option<u32>,
     hands: u32,
     faults: &mut E,
@@ -238,7 +238,10 @@ where
     R::Dir: Send,
     R::A: Send,
 {
-    let (Some(slice), Some(hands)) = (slice, HandCount::new(hands as usize)) else {
+    let (Some(part), Some(hands)) = (part, HandCount::new(hands as usize)) else {
+        return FAILED; // it is refused before
+    };
+    let Some(slice) = Slice::new(part.number, part.parts) else {
         return FAILED; // it is refused before
     };
     let folder = Folder { path: run };
@@ -279,10 +282,10 @@ where
         Spread::Conquer {
             run,
             round,
-            slice,
+            part,
             minutes,
             hands,
-        } => conquer_part(rt, alloc, run, round, slice, minutes, hands, faults),
+        } => conquer_part(rt, alloc, run, round, part, minutes, hands, faults),
         Spread::Gather { run, proof, stats } => {
             let folder = Folder { path: run };
             gather(rt, alloc, folder, proof, stats, answer, faults)

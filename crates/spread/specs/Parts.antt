@@ -1,6 +1,11 @@
 -- Which cubes of a round a part solves.
 use Rattle.std.specs.Prelude.{ℕ, ◌+◌, ◌%◌, cond, eqb, List, [], ◌∷◌}
 
+-- a part, from 1 on, of so many
+pub record Part : Type 0 where
+  pub number : ℕ
+  pub parts : ℕ
+
 -- the part, from 1 to `parts`, that the cube with this number belongs to; the first cube has 0
 abbrev pub part_at : (parts number : ℕ) → ℕ
 part_at parts number = number % parts + 1

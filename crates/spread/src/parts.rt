@@ -11,6 +11,7 @@ use crate::open_cubes::OpenCubes;
 use crate::round_file::read_round;
 use crate::run_file::{RunFile, formula_in, run_in};
 use crate::said::{Said, say_no_memory};
+use crate::slice::Slice;
 use crate::way::Waiting;
 use cnf::Formula;
 use kernel::Cube;
@@ -19,15 +20,6 @@ use std::fs::Files;
 use std::io::Write;
 use std::thread::Threads;
 use std::time::Clock;
-
-/// Which cubes of a round a part solves: of so many parts, each takes every so-manieth cube, the
-/// first one from the first cube on.
-#[derive(Clone, Copy, Debug, PartialEq, Eq)]
-pub struct Slice {
-    /// From 1 to `parts`.
-    pub part: u32,
-    pub parts: u32,
-}
 
 /// Puts a cube behind others, if it is one of them.
 fn put_if(way: &mut Vec<Cube>, cube: Cube, is_one: bool) -> Result<(), AllocError>
@@ -48,13 +40,15 @@ fn next_part(part: u32, parts: u32) -> u32
 
 /// The cubes of a part, the last one first.
 fn part_of(alloc: Global, cubes: Vec<Cube>, slice: Slice) -> Result<Vec<Cube>, AllocError>
-    ensures { 1 ≤ slice.parts → IfOk result (λ way. way.items ≡ reverse (of_part slice.part slice.parts 0 cubes.items)) }
+    ensures { IfOk result (λ way. way.items ≡ reverse (of_part slice.number slice.parts 0 cubes.items)) }
 {
+    let number = slice.number();
+    let parts = slice.parts();
     let mut way = Vec::new(alloc);
     let mut part = 1;
     'cubes: for cube in cubes {
-        put_if(&mut way, cube, part == slice.part)?;
-        part = next_part(part, slice.parts);
+        put_if(&mut way, cube, part == number)?;
+        part = next_part(part, parts);
     }
     way.reverse();
     Ok(way)
