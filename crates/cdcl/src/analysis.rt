@@ -9,7 +9,7 @@ ghost use Rattle.cdcl.specs.Learnt.{line_of};
 
 use crate::level::back_level;
 use crate::marks::{Marks, Room, put_all, reason_used, resolve};
-use cnf::Lit;
+use cnf::{Lit, put_last};
 use kernel::{Entry, Kernel};
 use std::alloc::{AllocError, Global};
 
@@ -69,7 +69,7 @@ fn look_at(
 {
     if let Some(number) = reason_used(marks, entry) {
         resolve(kernel, marks, entry, kernel.clause(number))?;
-        hints.push(number)?;
+        put_last(hints, number)?;
     }
     Ok(())
 }
@@ -106,7 +106,7 @@ fn put_negation(kernel: &Kernel, clause: &mut Vec<Lit>, var: u32) -> Result<(), 
 {
     if let Some(entry) = kernel.entry(var) {
         if entry.level > 0 || entry.reason.is_some() {
-            clause.push(entry.lit.negated())?;
+            put_last(clause, entry.lit.negated())?;
         }
     }
     Ok(())

@@ -10,7 +10,7 @@ ghost use Rattle.kernel.specs.State.{State};
 ghost use Rattle.cdcl.specs.Marks.{IsMarked, IsSet, IsClear, CanJoin, CanResolve, Meets, is_open};
 
 use crate::places::Places;
-use cnf::Lit;
+use cnf::{Lit, put_last};
 use kernel::{Entry, Kernel};
 use std::alloc::{AllocError, Global};
 use std::marker::Model;
@@ -67,7 +67,7 @@ fn put_at(kernel: &Kernel, marks: &mut Marks, place: usize) -> Result<(), AllocE
     let entry = kernel.trail()[place];
     let var = entry.lit.var();
     marks.marked[var as usize] = true;
-    marks.seen.push(var)?;
+    put_last(&mut marks.seen, var)?;
     if entry.level == kernel.level() {
         marks.current += 1;
         marks.pending.push_near(place)?;

@@ -19,7 +19,7 @@ use crate::named::Named;
 use crate::replacement::Starts;
 use crate::sight::{Sight, look_at};
 use crate::watch::Watched;
-use cnf::Lit;
+use cnf::{Lit, put_literals};
 use std::alloc::{AllocError, Global};
 use std::marker::Model;
 use trail::Trail;
@@ -127,7 +127,7 @@ impl Clauses {
         if count + clause.len() > MOST_LITERALS {
             return Err(AllocError);
         }
-        self.lits.extend_from_slice(clause)?;
+        put_literals(&mut self.lits, clause)?;
         let end = self.lits.len();
         match self.ends.push(end as u32) {
             Ok(()) => Ok(()),
@@ -149,7 +149,7 @@ impl Clauses {
         if start + clause.len() > MOST_LITERALS {
             return Err(AllocError);
         }
-        self.lits.extend_from_slice(clause)?;
+        put_literals(&mut self.lits, clause)?;
         lead(&mut self.lits[start..], watched);
         let end = self.lits.len();
         match self.ends.push(end as u32) {

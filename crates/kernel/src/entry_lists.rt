@@ -201,12 +201,10 @@ impl EntryLists {
         requires room { (nth_list self.old at).len < length (nth_list self.old at).room }
         ensures { self.new ≡ slice_set self.old at record { from = (nth_list self.old at).from; len = (nth_list self.old at).len + 1; room = slice_set (nth_list self.old at).room (nth_list self.old at).len entry } }
     {
-        let head = self.heads[at];
-        self.entries[(head.from + head.len) as usize] = entry;
-        self.heads[at] = Head {
-            from: head.from,
-            len: head.len + 1,
-        };
+        let head = &mut self.heads[at];
+        let place = head.from + head.len;
+        head.len += 1;
+        self.entries[place as usize] = entry;
     }
 
     /// Moves a list that fills its room to one of twice the size, of four entries at least, behind

@@ -6,6 +6,7 @@ ghost use Rattle.std.specs.List.{Contains};
 ghost use Rattle.kernel.specs.Placing.{GoesFirst, AreInOrder, clauses_of};
 
 use crate::line::Waiting;
+use cnf::put_last;
 use std::alloc::{AllocError, Global};
 use std::marker::Model;
 
@@ -90,7 +91,7 @@ impl WaitingQueue {
         requires { All (λ w. GoesFirst w waiting) self.old }
         ensures { OnOk result (self.new ≡ self.old ++ waiting ∷ []) }
     {
-        self.items.push(waiting)?;
+        put_last(&mut self.items, waiting)?;
         Ok(())
     }
 

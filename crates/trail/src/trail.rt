@@ -256,10 +256,7 @@ impl Trail {
         ensures entries { self.new.entries ≡ self.old.entries ++ entry ∷ [] }
         ensures vars { self.new.vars ≡ self.old.vars }
     {
-        match self.entries.push(entry) {
-            Ok(()) => {}
-            Err(_) => unreachable!(),
-        }
+        self.entries.push_reserved(entry);
         let var = entry.lit.var();
         put_truths(
             &mut self.truths,

@@ -31,7 +31,7 @@ returns-in_ok-push_near-clause-set c S bound e at below h =
     eq-eqb _ _ (sym (ap (λ (x : Entry). x.level) entry) ∙ (c.if-entry-level.true ∙ c.level.ensures)) in
     IsSet-more _ S bound c.args.place e _ _ c.requires.marks.lawful c.requires.marks.over at below (c.requires.is_new e at) h
     (ap (λ x. slice_set c.args.marks.now.marked.items x true) v)
-    (c.in_ok-push.ensures.items ∙ ap (λ x. c.args.marks.now.seen.items ++ x ∷ []) v)
+    (c.in_ok-put_last.ensures.ok ∙ ap (λ x. c.args.marks.now.seen.items ++ x ∷ []) v)
     (rw current (omega arith))
     (pending-pushed _ c.args.place _ _ (resolvable-current c.args.kernel.now.trail e current) c.in_ok-push_near.ensures)
 
@@ -45,7 +45,7 @@ returns-in_ok-push_far-clause-set c S bound e at below h =
     let zero : nat_eq e.level 0 ≡ true = eq-eqb _ _ (sym level ∙ c.if-entry-eq0.true) in
     IsSet-more _ S bound c.args.place e _ _ c.requires.marks.lawful c.requires.marks.over at below (c.requires.is_new e at) h
     (ap (λ x. slice_set c.args.marks.now.marked.items x true) v)
-    (c.in_ok-push.ensures.items ∙ ap (λ x. c.args.marks.now.seen.items ++ x ∷ []) v)
+    (c.in_ok-put_last.ensures.ok ∙ ap (λ x. c.args.marks.now.seen.items ++ x ∷ []) v)
     (rw current (omega arith))
     (pending-pushed _ c.args.place _ _ (resolvable-zero c.args.kernel.now.trail e zero) c.in_ok-push_far.ensures)
 
@@ -59,7 +59,7 @@ returns-else-entry-eq0-clause-set c S bound e at below h =
     let zero : nat_eq e.level 0 ≡ false = false_unless _ (λ t. c.if-entry-eq0.false (level ∙ eqb-true _ _ t)) in
     IsSet-more _ S bound c.args.place e _ _ c.requires.marks.lawful c.requires.marks.over at below (c.requires.is_new e at) h
     (ap (λ x. slice_set c.args.marks.now.marked.items x true) v)
-    (c.in_ok-push.ensures.items ∙ ap (λ x. c.args.marks.now.seen.items ++ x ∷ []) v)
+    (c.in_ok-put_last.ensures.ok ∙ ap (λ x. c.args.marks.now.seen.items ++ x ∷ []) v)
     (rw current (omega arith))
     (pending-kept _ c.args.place c.args.marks.now.pending (resolvable-neither c.args.kernel.now.trail e zero current))
 
@@ -67,16 +67,16 @@ pub returns-in_ok-push_near-clause-met : goal.returns-in_ok-push_near-clause-met
 returns-in_ok-push_near-clause-met c e at v =
     let entry = c.entry.view_is ∙ entry-read c.args.kernel.now.trail _ c.args.place c.index-trail-place.result e c.trail.ensures.trail c.index-trail-place.is at in
     let var = c.var-var.ensures.var ∙ ap (λ (x : Entry). x.lit.var) entry in
-    met-pushed (negated e.lit) _ _ v (c.in_ok-push.ensures.items ∙ ap (λ x. c.args.marks.now.seen.items ++ x ∷ []) var)
+    met-pushed (negated e.lit) _ _ v (c.in_ok-put_last.ensures.ok ∙ ap (λ x. c.args.marks.now.seen.items ++ x ∷ []) var)
 
 pub returns-in_ok-push_far-clause-met : goal.returns-in_ok-push_far-clause-met
 returns-in_ok-push_far-clause-met c e at v =
     let entry = c.entry.view_is ∙ entry-read c.args.kernel.now.trail _ c.args.place c.index-trail-place.result e c.trail.ensures.trail c.index-trail-place.is at in
     let var = c.var-var.ensures.var ∙ ap (λ (x : Entry). x.lit.var) entry in
-    met-pushed (negated e.lit) _ _ v (c.in_ok-push.ensures.items ∙ ap (λ x. c.args.marks.now.seen.items ++ x ∷ []) var)
+    met-pushed (negated e.lit) _ _ v (c.in_ok-put_last.ensures.ok ∙ ap (λ x. c.args.marks.now.seen.items ++ x ∷ []) var)
 
 pub returns-else-entry-eq0-clause-met : goal.returns-else-entry-eq0-clause-met
 returns-else-entry-eq0-clause-met c e at v =
     let entry = c.entry.view_is ∙ entry-read c.args.kernel.now.trail _ c.args.place c.index-trail-place.result e c.trail.ensures.trail c.index-trail-place.is at in
     let var = c.var-var.ensures.var ∙ ap (λ (x : Entry). x.lit.var) entry in
-    met-pushed (negated e.lit) _ _ v (c.in_ok-push.ensures.items ∙ ap (λ x. c.args.marks.now.seen.items ++ x ∷ []) var)
+    met-pushed (negated e.lit) _ _ v (c.in_ok-put_last.ensures.ok ∙ ap (λ x. c.args.marks.now.seen.items ++ x ∷ []) var)

@@ -8,16 +8,16 @@ use Rattle.kernel.proofs.clauses.Clauses.push.Goals as goal
 
 -- the end of the clause put behind the others
 end : (c : goal.In-Ok) → c.len-end.result ≡ length c.self.inside.lits.items + length c.args.clause.now
-end c = c.len-end.ensures ∙ (c.extend_from_slice.new.self.ok.0 ∙ (ap length c.in_ok-extend_from_slice.ensures.items ∙ length-append c.self.inside.lits.items c.args.clause.now))
+end c = c.len-end.ensures ∙ (c.put_literals.new.literals.ok.0 ∙ (ap length c.in_ok-put_literals.ensures.ok ∙ length-append c.self.inside.lits.items c.args.clause.now))
 
 pub invariant_of-self-in-Ok : goal.invariant_of-self-in-Ok
 invariant_of-self-in-Ok c =
     let last = end c in
-    rw (c.in-Ok.ensures.items, c.in_ok-extend_from_slice.ensures.items, length-append, ← last) (AreEnds-push _ _ _ _ c.self.invariant.0 (omega arith), c.self.invariant.1)
+    rw (c.in-Ok.ensures.items, c.in_ok-put_literals.ensures.ok, length-append, ← last) (AreEnds-push _ _ _ _ c.self.invariant.0 (omega arith), c.self.invariant.1)
 
 pub returns-in-Ok-clause-ok : goal.returns-in-Ok-clause-ok
 returns-in-Ok-clause-ok c =
-    rw (c.in-Ok.ensures.items, c.in_ok-extend_from_slice.ensures.items, ← c.self.view_is)
+    rw (c.in-Ok.ensures.items, c.in_ok-put_literals.ensures.ok, ← c.self.view_is)
     (ap (shown c.self.inside.first) (pieces-push _ _ _ _ _ c.self.invariant.0 (end c))
     ∙ shown-more c.self.inside.first (length c.self.inside.ends.items) (pieces 0 c.self.inside.lits.items c.self.inside.ends.items) c.args.clause.now (sym (length-pieces _ _ _)) (λ none. elim c.else-is_empty.branch [
       | else-is_empty-via-then-is_empty+else-self-len w ↦ (let long = w.len.ensures in let same = c.self.inside.ends.ok.0 in omega (arith, w.if-self-len.false, long, same))

@@ -18,7 +18,7 @@ abbrev now : goal.In-Ok → List Literal
 now c = take c.len-start.result c.deref_mut.result.now ++ (c.lead.new.lits ++ drop (length c.deref_mut.result.now - c.len-start.result) (drop c.len-start.result c.deref_mut.result.now))
 
 lits-are : (c : goal.In-Ok) → c.deref_mut.result.now ≡ c.self.inside.lits.items ++ c.args.clause.now
-lits-are c = c.deref_mut.ensures.value ∙ c.in_ok-extend_from_slice.ensures.items
+lits-are c = c.deref_mut.ensures.value ∙ c.in_ok-put_literals.ensures.ok
 
 count-is : (c : goal.In-Ok) → c.len-start.result ≡ length c.self.inside.lits.items
 count-is c = c.len-start.ensures ∙ c.self.inside.lits.ok.0
@@ -29,17 +29,17 @@ permutes c = subst (λ (xs : List Literal). IsPermutation xs c.lead.new.lits) (t
 now-is : (c : goal.In-Ok) → now c ≡ c.self.inside.lits.items ++ c.lead.new.lits
 now-is c = tail-written c.deref_mut.result.now c.self.inside.lits.items c.args.clause.now c.lead.new.lits (now c) c.len-start.result (lits-are c) (count-is c) (length_permutation c.args.clause.now c.lead.new.lits (permutes c)) refl
 
-same-length : (c : goal.In-Ok) → length (now c) ≡ length c.extend_from_slice.new.self.items
+same-length : (c : goal.In-Ok) → length (now c) ≡ length c.put_literals.new.literals.items
 same-length c =
     let p = length_permutation c.args.clause.now c.lead.new.lits (permutes c) in
-    ap length (now-is c) ∙ (length-append c.self.inside.lits.items c.lead.new.lits ∙ (ap (λ n. length c.self.inside.lits.items + n) p ∙ (sym (length-append c.self.inside.lits.items c.args.clause.now) ∙ ap length (sym c.in_ok-extend_from_slice.ensures.items))))
+    ap length (now-is c) ∙ (length-append c.self.inside.lits.items c.lead.new.lits ∙ (ap (λ n. length c.self.inside.lits.items + n) p ∙ (sym (length-append c.self.inside.lits.items c.args.clause.now) ∙ ap length (sym c.in_ok-put_literals.ensures.ok))))
 
-items : (c : goal.In-Ok) → (with_items c.extend_from_slice.new.self (now c)).items ≡ c.self.inside.lits.items ++ c.lead.new.lits
-items c = with_items_is c.extend_from_slice.new.self (now c) (same-length c ∙ sym c.extend_from_slice.new.self.ok.0) ∙ now-is c
+items : (c : goal.In-Ok) → (with_items c.put_literals.new.literals (now c)).items ≡ c.self.inside.lits.items ++ c.lead.new.lits
+items c = with_items_is c.put_literals.new.literals (now c) (same-length c ∙ sym c.put_literals.new.literals.ok.0) ∙ now-is c
 
 -- the end of the clause put behind the others
 end : (c : goal.In-Ok) → c.len-end.result ≡ length c.self.inside.lits.items + length c.lead.new.lits
-end c = c.len-end.ensures ∙ (c.extend_from_slice.new.self.ok.0 ∙ (sym (same-length c) ∙ (ap length (now-is c) ∙ length-append c.self.inside.lits.items c.lead.new.lits)))
+end c = c.len-end.ensures ∙ (c.put_literals.new.literals.ok.0 ∙ (sym (same-length c) ∙ (ap length (now-is c) ∙ length-append c.self.inside.lits.items c.lead.new.lits)))
 
 pub invariant_of-self-in-Ok : goal.invariant_of-self-in-Ok
 invariant_of-self-in-Ok c =
