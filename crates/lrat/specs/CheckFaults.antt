@@ -51,6 +51,12 @@ fault_at inner.BadCandidate n = BadCandidate n
 fault_at inner.NoSuchDeletion n = NoSuchDeletion n
 fault_at inner.LiteralOutOfRange n = LiteralOutOfRange n
 
+-- the number of the clause that a fault is of, where it is one's
+abbrev pub named_in : Fault → Option ℕ
+named_in (inner.NoSuchClause id) = Some id
+named_in (inner.HintNotUnit id) = Some id
+named_in f = None
+
 -- the fault, as the definitions have it
 abbrev pub fault_of : Fault → theory.Fault
 fault_of inner.IdNotRising = theory.id_not_rising

@@ -11,7 +11,7 @@ use Rattle.lrat.specs.declared.refusal.Refusal.{Refusal}
 use Rattle.lrat.specs.declared.refusal.Refusal.TheVariants.{Text, Steps}
 use Rattle.lrat.specs.declared.stream.ProofStream.{ProofStream}
 use Rattle.lrat.specs.declared.stream.Stop.{Stop}
-use Rattle.lrat.specs.CheckFaults.{fault_of}
+use Rattle.lrat.specs.CheckFaults.{fault_of, named_in}
 use Rattle.lrat_text.specs.Pieces.{IsText, stream_at}
 use Rattle.lrat_text.specs.Streams.{Progress, goes_on, stopped, Stream, Answer, checked, line_refused, text_too_long}
 use Rattle.lrat.specs.Tested.{checker_of, IsReady}
@@ -22,6 +22,11 @@ progress_of (Some s) c = stopped (fault_of s.fault) s.step
 
 abbrev pub stream_of : ProofStream → Stream
 stream_of s = stream_at s.seen (progress_of s.stopped s.checker) s.text
+
+-- the number of the clause that the first step at fault names wrongly
+abbrev pub named_at : Option Stop → Option ℕ
+named_at None = None
+named_at (Some s) = named_in s.fault
 
 -- the number of the formula's variables
 abbrev pub vars_of : ProofStream → ℕ

@@ -1,6 +1,6 @@
 //! Why a proof is refused.
 ghost use Rattle.std.specs.Prelude.{◌≡◌};
-ghost use Rattle.lrat.specs.CheckFaults.{check_fault_number, check_fault_step, fault_at};
+ghost use Rattle.lrat.specs.CheckFaults.{check_fault_number, check_fault_step, fault_at, named_in};
 
 use thiserror::Error;
 
@@ -75,7 +75,9 @@ pub(crate) enum Fault {
 impl Fault {
     /// The number of the clause that the step names wrongly, where it is that: there is none of
     /// this number, or it is neither false nor unit.
-    pub(crate) fn named(self) -> Option<u64> {
+    pub(crate) fn named(self) -> Option<u64>
+        ensures { result ≡ named_in self }
+    {
         match self {
             Fault::NoSuchClause(id) | Fault::HintNotUnit(id) => Some(id),
             _ => None,

@@ -94,6 +94,7 @@ impl Held {
     /// takes time by those taken away, and no memory.
     pub fn go_back(&mut self, count: usize)
         ensures left { (P : List Literal) → length P ≡ count → Extends P self.old.literals → self.new.literals ≡ P }
+        ensures few { length self.old.literals ≤ count → self.new.literals ≡ self.old.literals }
         ensures vars { self.new.vars ≡ self.old.vars }
     {
         while self.len() > count {

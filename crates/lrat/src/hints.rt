@@ -5,7 +5,7 @@ ghost use Rattle.theory.specs.Truth.{IsOver};
 ghost use Rattle.theory.specs.Checking.{hint, take_hints};
 ghost use Rattle.lrat.specs.Held.{Extends};
 ghost use Rattle.lrat.specs.Slots.{there};
-ghost use Rattle.lrat.specs.Taken.{hint_of, taken_of};
+ghost use Rattle.lrat.specs.Taken.{hint_of, taken_of, NamesOneOf};
 
 use crate::check_fault::Fault;
 use crate::clauses::Clauses;
@@ -66,6 +66,7 @@ pub(crate) fn take_hints(
 ) -> Result<Taken, AllocError>
     requires { clauses.now.vars ≡ held.old.vars }
     ensures taken { IfOk result (λ t. taken_of t held.new.literals ≡ take_hints (there clauses.now) held.old.literals hints.now) }
+    ensures named { IfOk result (λ t. NamesOneOf (there clauses.now) hints.now t) }
     ensures extends { Extends held.old.literals held.new.literals }
     ensures vars { held.new.vars ≡ held.old.vars }
 {

@@ -5,7 +5,7 @@ ghost use Rattle.theory.specs.Reading.{standard};
 ghost use Rattle.theory.specs.Checking.{accepted};
 ghost use Rattle.cnf.specs.Limits.{limits_of};
 ghost use Rattle.lrat_text.specs.Pieces.{IsText, stream_at};
-ghost use Rattle.lrat.specs.Running.{IsReadyUnless, IsRunning, IsSaid, progress_of, stream_of, vars_of};
+ghost use Rattle.lrat.specs.Running.{IsReadyUnless, IsRunning, IsSaid, named_at, progress_of, stream_of, vars_of};
 ghost use Rattle.lrat_text.specs.Steps.{step_of};
 ghost use Rattle.lrat_text.specs.Streams.{begin, checked, checked_step, feed, feed_byte, finish};
 
@@ -127,7 +127,9 @@ impl ProofStream {
 
     /// The number of the clause that the first step at fault names wrongly, by a hint or as a
     /// candidate, where it is that: there is none of this number, or it is neither false nor unit.
-    pub fn named_wrongly(&self) -> Option<u64> {
+    pub fn named_wrongly(&self) -> Option<u64>
+        ensures { result ≡ named_at self.now.stopped }
+    {
         match self.stopped {
             Some(stop) => stop.fault.named(),
             None => None,
