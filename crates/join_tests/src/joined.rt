@@ -4,7 +4,7 @@ ghost use Rattle.std.specs.Prelude.{◌≤◌};
 use cdcl::Plan;
 use cnf::{Formula, read_formula};
 use cubes::{solve_one, solve_one_by_plan};
-use join::{Lines, join, proof_bytes};
+use join::{Lines, ProofLine, join, proof_bytes};
 use lrat::read_proof;
 use samples::{EIGHT, FOUR, FOUR_PURE, FOUR_UNUSED, SIXTEEN};
 use std::alloc::{AllocError, Global};
@@ -126,8 +126,15 @@ fn a_model_has_no_proof(rt: HostRuntime) -> Result<(), Fail> {
     Ok(())
 }
 
+/// The bytes that a line with so many literals and numbers may have, each of them the longest.
+fn most_bytes(line: &ProofLine) -> usize {
+    let literals = line.clause.len().saturating_mul(12);
+    let numbers = line.numbers.len().saturating_mul(21);
+    literals.saturating_add(numbers).saturating_add(25)
+}
+
 /// Whether the room that is made before the first line holds each line of the proof of a formula's
-/// result: no line makes a vector grow.
+/// result: no line makes a vector grow, and none has more bytes than was said.
 fn has_room(alloc: Global, text: &str, budget: u32) -> Result<bool, Fail> {
     let formula = read_formula(alloc, text.as_bytes())?;
     if budget < 1 || budget > 100_000 {
@@ -138,7 +145,7 @@ fn has_room(alloc: Global, text: &str, budget: u32) -> Result<bool, Fail> {
     let mut lines = Lines::of(alloc, &formula, tree)?;
     let size = lines.line_size();
     while lines.next_line()? {
-        if lines.line_size() != size {
+        if lines.line_size() != size || most_bytes(lines.line()) > size {
             return Ok(false);
         }
     }
