@@ -15,3 +15,4 @@ pub mod RoundEndings
 pub mod SameHands
 pub mod FreshHands
 pub mod GoingOn
+pub mod SizeLemmas

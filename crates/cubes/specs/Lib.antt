@@ -7,6 +7,7 @@ pub mod Known
 pub mod Result
 pub mod Preparing
 pub mod Shares
+pub mod Sizes
 pub mod Solved
 pub mod Source
 pub mod Traversal

@@ -1,4 +1,6 @@
 //! How large a tree is.
+ghost use Rattle.std.specs.Prelude.{◌≡◌, ◌+◌, ◌<◌, ◌^◌};
+ghost use Rattle.cubes.specs.Sizes.{FitsLeaf, HasSize, IsNoSmaller, IsSizeOf};
 
 use crate::tree::{Node, Tree};
 use lines::Row;
@@ -22,7 +24,13 @@ pub struct TreeSize {
 
 impl TreeSize {
     /// Takes a refuted cube's lines in.
-    fn add_leaf(&mut self, row: &Row) {
+    fn add_leaf(&mut self, row: &Row)
+        requires { self.old.leaves + 1 < 2 ^ 64 }
+        ensures leaves { self.new.leaves ≡ self.old.leaves + 1 }
+        ensures splits { self.new.splits ≡ self.old.splits }
+        ensures fits { FitsLeaf self.new row.now }
+        ensures kept { IsNoSmaller self.old self.new }
+    {
         self.leaves = self.leaves.saturating_add(1);
         self.learnt = self.learnt.saturating_add(row.len());
         self.bytes = self.bytes.saturating_add(row.size());
@@ -31,7 +39,10 @@ impl TreeSize {
         self.most_hints = self.most_hints.max(row.most_hints());
     }
 
-    fn of_nodes(nodes: &[Node<Row>]) -> TreeSize {
+    fn of_nodes(nodes: &[Node<Row>]) -> TreeSize
+        ensures { IsSizeOf nodes.now result }
+    {
+        let _count = nodes.len(); // it bounds how many splits and leaves there are
         let mut size = TreeSize {
             splits: 0,
             leaves: 0,
@@ -52,7 +63,9 @@ impl TreeSize {
 
     /// The size of the tree; of one with a model only the model is known. It takes time by the
     /// nodes, and none by their lines.
-    pub fn of(tree: &Tree<Row>) -> Option<TreeSize> {
+    pub fn of(tree: &Tree<Row>) -> Option<TreeSize>
+        ensures { HasSize tree.now result }
+    {
         match tree {
             Tree::Model(_) => None,
             Tree::Refuted(nodes) => Some(TreeSize::of_nodes(nodes)),
