@@ -4,3 +4,4 @@ pub mod Joining
 pub mod Numbered
 pub mod Walking
 pub mod Lines
+pub mod Rooms

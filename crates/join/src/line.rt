@@ -1,6 +1,7 @@
 //! A line of a proof: what a pure literal, a leaf's line or a split gives, and what is deleted
 //! behind them.
 ghost use Rattle.std.specs.Prelude.{◌≡◌, ℕ, ◌≤◌, ◌<◌, ◌^◌, ◌+◌, ◌-◌, ◌++◌, map, All, IfOk, OnOk};
+ghost use Rattle.std.specs.Vec.{vec_capacity};
 ghost use Rattle.theory.specs.Literals.{IsVariable, negations};
 ghost use Rattle.theory.specs.Truth.{IsOver};
 ghost use Rattle.theory.specs.Reading.{large, max_vars, max_clauses};
@@ -108,7 +109,9 @@ impl ProofLine {
         alloc: Global,
         literals: usize,
         numbers: usize,
-    ) -> Result<ProofLine, AllocError> {
+    ) -> Result<ProofLine, AllocError>
+        ensures { IfOk result (λ l. (vec_capacity l.clause ≡ literals) × (vec_capacity l.numbers ≡ numbers)) }
+    {
         Ok(ProofLine {
             kind: Kind::Addition,
             id: 0,

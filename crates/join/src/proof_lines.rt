@@ -8,6 +8,7 @@ ghost use Rattle.theory.specs.Plans.{Search};
 ghost use Rattle.theory.specs.ProofReading.{IsStep, max_number};
 ghost use Rattle.cubes.specs.Result.{IsCheckedResultOf};
 ghost use Rattle.join.specs.Numbered.{AreNodesOf, AreUnitsOf, AreStepsOf, AreAccepted, AreWithin};
+ghost use Rattle.join.specs.Rooms.{HasRoom, longest_text};
 ghost use Rattle.join.specs.Walking.{line_of, lines_left, HasNextLine, IsBetweenLines, Makes, OnMore};
 
 use crate::line::{Due, ProofLine};
@@ -73,6 +74,7 @@ impl Lines {
         ensures within { IfOk result (λ l. AreWithin (lines_left l)) }
         ensures accepted { IfOk result (λ l. AreAccepted formula.now tree (lines_left l)) }
         ensures lawful { IfOk result IsBetweenLines }
+        ensures room { IfOk result (λ l. HasRoom tree formula.now.vars l.line) }
     {
         let _vars = formula.vars(); // it ensures what the proof needs of the formula
         let clauses = formula.clause_count() as u64;
@@ -101,7 +103,9 @@ impl Lines {
 
     /// The most bytes that a line's text has: 12 a literal, 21 a hint or a number to be deleted, 25
     /// for the line's own number and the marks. A size stops at the greatest one.
-    pub fn line_size(&self) -> usize {
+    pub fn line_size(&self) -> usize
+        ensures { result ≡ longest_text self.now.line }
+    {
         let literals = self.line.clause.capacity().saturating_mul(12);
         let numbers = self.line.numbers.capacity().saturating_mul(21);
         literals.saturating_add(numbers).saturating_add(25)

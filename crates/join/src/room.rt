@@ -1,4 +1,5 @@
 //! How much memory the lines of a proof need at most, by the tree alone.
+ghost use Rattle.join.specs.Rooms.{IsEnough};
 
 use cubes::TreeSize;
 
@@ -17,7 +18,9 @@ impl Need {
     /// What the lines need of a tree over so many variables: each of them is split on but once on a
     /// way. A pure literal's line has one literal, and a split's line two hints. Behind a half's
     /// last line its others are deleted; of the root's lines none is.
-    pub(crate) fn of(size: TreeSize, vars: usize) -> Need {
+    pub(crate) fn of(size: TreeSize, vars: usize) -> Need
+        ensures { IsEnough size vars result }
+    {
         let splits = size.splits.min(vars as u64) as usize;
         let deleted = if splits > 0 { size.most_lines } else { 0 };
         Need {
