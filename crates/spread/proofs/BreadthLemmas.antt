@@ -1,9 +1,6 @@
 -- Cubes of a tree, and their halves.
-use Rattle.std.proofs.Common.{◌≡◌, List, [], ◌∷◌, ◌++◌, All, length, drop, refl, sym, ap, subst, ◌∙◌, append_assoc}
-use Rattle.std.proofs.Math.Seq.{drop-append_seam}
-use Rattle.std.specs.List.Sorted.{IsPermutation}
-use Rattle.std.proofs.lemmas.List.Sorted.{IsPermutation-trans, IsPermutation-append_comm}
-use Rattle.std.proofs.lemmas.List.Elements.{All-nil, All-push, All-same, All-drop}
+use Rattle.std.proofs.Common.{◌≡◌, List, [], ◌∷◌, ◌++◌, All, refl, sym, ap, subst, append_assoc}
+use Rattle.std.proofs.lemmas.List.Elements.{All-nil, All-push, All-same}
 use Rattle.std.proofs.lemmas.List.{append-nil}
 use Rattle.theory.specs.Literals.{Literal, IsVariable, positive, negative}
 use Rattle.theory.specs.Truth.{Formula}
@@ -13,6 +10,7 @@ use Rattle.theory.specs.Trees.{LeadsOn}
 use Rattle.theory.specs.Runs.{Runs}
 use Rattle.theory.specs.Checked.{IsFitSplit}
 use Rattle.theory.proofs.trees.CheckedTrees.{IsOver-half}
+use Rattle.packs.specs.declared.fact.Fact.{Fact}
 use Rattle.spread.specs.declared.solving.Left.TheVariants.{Halves}
 use Rattle.spread.specs.Solving.{IsFitOutcome, IsLeftBy, IsLeft, IsOfTree}
 
@@ -33,8 +31,8 @@ half F plan Q l here runs fit = record {
   };
 }
 
-pub halves-of : (F : Formula) (plan : Plan) (Q low high : List Literal) → IsOfTree F plan Q → IsLeft F plan Q (Halves low high) → IsOfTree F plan low × IsOfTree F plan high
-halves-of F plan Q low high here left = go left.outcome left.runs left.fit left.leaves
+pub halves-of : (F : Formula) (plan : Plan) (Q low high : List Literal) (before after : List Fact) → IsOfTree F plan Q → IsLeft F plan Q (Halves low high) before after → IsOfTree F plan low × IsOfTree F plan high
+halves-of F plan Q low high before after here left = go left.outcome left.runs left.fit left.leaves
   where
     go : (o : Outcome) → Runs F plan Q o → IsFitOutcome F Q o → IsLeftBy Q o (Halves low high) → IsOfTree F plan low × IsOfTree F plan high
     go (model M) runs fit e = absurd e
@@ -43,20 +41,6 @@ halves-of F plan Q low high here left = go left.outcome left.runs left.fit left.
       subst (λ (P : List Literal). IsOfTree F plan P) (sym e.0) (half F plan Q (negative x) here runs fit),
       subst (λ (P : List Literal). IsOfTree F plan P) (sym e.1) (half F plan Q (positive x) here runs fit),
     )
-
--- what is left behind a front
-pub behind : {A : Type 0} (P : A → Type 0) (xs gone left : List A) → xs ≡ gone ++ left → All P xs → All P left
-behind P xs gone left e h = All-same P left (drop (length gone) xs) (sym (ap (drop (length gone)) e ∙ drop-append_seam gone left)) (All-drop P (length gone) xs h)
-
--- one more is gone
-pub gone-on : {A : Type 0} (xs gone left rest : List A) (x : A) → xs ≡ gone ++ left → left ≡ x ∷ rest → xs ≡ (gone ++ x ∷ []) ++ rest
-gone-on xs gone left rest x e h = e ∙ (ap (λ ys. gone ++ ys) h ∙ sym (append_assoc gone (x ∷ []) rest))
-
--- the first comes behind the others
-pub turned-on : {A : Type 0} (xs ys rest new : List A) (x : A) → IsPermutation xs ys → ys ≡ x ∷ rest → new ≡ rest ++ x ∷ [] → IsPermutation xs new
-turned-on {A} xs ys rest new x before e h =
-    IsPermutation-trans xs ys new before
-    (subst (λ (zs : List A). IsPermutation ys zs) (sym h) (subst (λ (zs : List A). IsPermutation zs (rest ++ x ∷ [])) (sym e) (IsPermutation-append_comm (x ∷ []) rest)))
 
 -- two more at the end
 pub both-pushed : {A : Type 0} (P : A → Type 0) (xs ys zs : List A) (x y : A) → All P xs → P x → P y → ys ≡ xs ++ x ∷ [] → zs ≡ ys ++ y ∷ [] → All P zs

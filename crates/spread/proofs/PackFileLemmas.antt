@@ -1,5 +1,5 @@
 -- Fronts of lists of bytes.
-use Rattle.std.proofs.Common.{◌≡◌, ℕ, ◌-◌, true, List, ◌++◌, length, take, drop, ap, sym, ◌∙◌, arith, length-append}
+use Rattle.std.proofs.Common.{◌≡◌, ℕ, ◌-◌, Bool, true, false, not, refl, List, ◌++◌, length, take, drop, ap, sym, ◌∙◌, arith, length-append}
 use Rattle.std.specs.Str.{bytes_eq}
 use Rattle.std.proofs.lemmas.List.{take-append-drop}
 use Rattle.std.proofs.lemmas.Slice.Eq.{bytes_eq-Decides}
@@ -20,3 +20,15 @@ pub taken_off : (all front rest : List ℕ) → bytes_eq (take (length front) al
 taken_off all front rest h e =
     let same : take (length front) all ≡ front = (bytes_eq-Decides (take (length front) all) front).0 h in
     sym (take-append-drop (length front) all) ∙ (λ i. same i ++ sym e i)
+
+-- texts that aren't told apart
+pub not-other : (r : Bool) (xs ys : List ℕ) → r ≡ not (bytes_eq xs ys) → r ≡ false → xs ≡ ys
+not-other r xs ys e h = by (bytes_eq xs ys) (sym h ∙ e) (bytes_eq-Decides xs ys).0
+  where
+    by : (b : Bool) → false ≡ not b → (b ≡ true → xs ≡ ys) → xs ≡ ys
+    by true f d = d refl
+    by false f d = absurd (cc)
+
+-- a front that is there
+pub stands : (all front rest : List ℕ) → all ≡ front ++ rest → bytes_eq (take (length front) all) front ≡ true
+stands all front rest e = (bytes_eq-Decides (take (length front) all) front).1 (ap (take (length front)) e ∙ take-append_seam front rest)

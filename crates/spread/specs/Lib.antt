@@ -1,4 +1,9 @@
+pub mod Dividing
+pub mod Models
 pub mod OpenCubes
 pub mod PackFiles
 pub mod Parts
+pub mod Progress
+pub mod RunFiles
 pub mod Solving
+pub mod Sums

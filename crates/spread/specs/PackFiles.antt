@@ -5,10 +5,21 @@ use Rattle.theory.specs.Plans.{Plan}
 use Rattle.packs.specs.declared.fact.Fact.{Fact}
 use Rattle.packs.specs.Packs.{IsPackOf}
 use Rattle.gathering.specs.Facts.{IsTrueFact}
+use Rattle.spread.specs.Sums.{sum_of}
 
 -- the first line of a run's packs, where the run's file has this sum
 abbrev pub head : List ℕ → List ℕ
 head sum = codes "cubesat pack 1 " ++ (sum ++ 10 ∷ [])
+
+-- the name of a pack that holds these bytes
+abbrev pub pack_name : List ℕ → List ℕ
+pack_name bytes = sum_of bytes ++ codes ".pack"
+
+-- a whole pack of the run with this sum: its name is made of its bytes, and `body` stands behind
+-- its first line
+pub record IsWholePack (sum name bytes body : List ℕ) : Type 0 where
+  pub named : name ≡ pack_name bytes
+  pub joined : bytes ≡ head sum ++ body
 
 -- the bytes are that line, and behind it those of the facts
 pub record IsPackFile (sum bytes : List ℕ) (facts : List Fact) : Type 0 where

@@ -7,6 +7,8 @@ use Rattle.theory.specs.Search.{Outcome, model, refuted, exhausted}
 use Rattle.theory.specs.Trees.{false_half, true_half, IsCubeOf}
 use Rattle.theory.specs.Runs.{Runs}
 use Rattle.theory.specs.Checked.{IsFitSplit}
+use Rattle.packs.specs.declared.fact.Fact.{Fact}
+use Rattle.gathering.specs.Facts.{claim_of}
 use Rattle.spread.specs.declared.solving.Left.{Left}
 use Rattle.spread.specs.declared.solving.Left.TheVariants.{Nothing, Model, Halves}
 
@@ -23,12 +25,13 @@ IsLeftBy Q (model M) Model = Unit {0}
 IsLeftBy Q (refuted lines) Nothing = Unit {0}
 IsLeftBy Q o left = ⊥
 
--- and by its outcome by the plan
-pub record IsLeft (F : Formula) (plan : Plan) (Q : List Literal) (left : Left) : Type 0 where
+-- and by its outcome by the plan, which is said behind the facts that were said before
+pub record IsLeft (F : Formula) (plan : Plan) (Q : List Literal) (left : Left) (before after : List Fact) : Type 0 where
   pub outcome : Outcome
   pub runs : Runs F plan Q outcome
   pub fit : IsFitOutcome F Q outcome
   pub leaves : IsLeftBy Q outcome left
+  pub said : after ≡ before ++ record { cube = Q; claim = claim_of outcome } ∷ []
 
 -- Q is a cube of the formula's tree, over the formula's variables
 pub record IsOfTree (F : Formula) (plan : Plan) (Q : List Literal) : Type 0 where

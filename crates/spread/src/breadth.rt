@@ -1,10 +1,11 @@
 //! Solving cubes by breadth, until so many are open.
-ghost use Rattle.std.specs.Prelude.{◌≡◌, [], ◌++◌, List, All, IfOk, OnOk};
-ghost use Rattle.std.specs.List.Sorted.{IsPermutation};
+ghost use Rattle.std.specs.Prelude.{◌≡◌, ◌∷◌, Bool, true, if◌then◌else◌, List, All, length, IfOk, OnOk};
 ghost use Rattle.theory.specs.Literals.{Literal};
 ghost use Rattle.theory.specs.Truth.{Formula};
 ghost use Rattle.theory.specs.Plans.{Plan};
+ghost use Rattle.packs.specs.declared.fact.Fact as facts;
 ghost use Rattle.gathering.specs.Facts.{IsTrueFact};
+ghost use Rattle.spread.specs.Dividing.{from_longer, longer_first, IsBreadth, Divides};
 ghost use Rattle.spread.specs.Solving.{IsLeft, IsOfTree};
 
 use crate::solving::{Left, solve};
@@ -28,12 +29,9 @@ pub(crate) struct Division {
 /// Takes the cubes away that lie right of one with so many literals: they wait before those that lie
 /// left of it, which have one more.
 fn drop_right(queue: &mut VecDeque<Cube>, count: usize) -> Result<(), AllocError>
-    ensures { OnOk result ((gone : List (List Literal)) × (queue.old.items ≡ gone ++ queue.new.items)) }
+    ensures { OnOk result (queue.new.items ≡ from_longer count queue.old.items) }
 {
-    'cubes: for _ in 0..queue.len() {
-        let Some(cube) = queue.pop_front() else {
-            return Ok(());
-        };
+    'cubes: while let Some(cube) = queue.pop_front() {
         if cube.lits().len() > count {
             queue.push_front(cube)?;
             return Ok(());
@@ -45,13 +43,13 @@ fn drop_right(queue: &mut VecDeque<Cube>, count: usize) -> Result<(), AllocError
 /// Puts open cubes into their order from left to right: of those that wait, the ones with one
 /// literal more lie left of the others.
 fn put_in_order(queue: &mut VecDeque<Cube>) -> Result<(), AllocError>
-    ensures { OnOk result (IsPermutation queue.old.items queue.new.items) }
+    ensures { OnOk result (queue.new.items ≡ longer_first queue.old.items) }
 {
     let count = match queue.front() {
         Some(first) => first.lits().len(),
         None => return Ok(()),
     };
-    'cubes: for _ in 0..queue.len() {
+    'cubes: for _moved in 0..queue.len() {
         let Some(next) = queue.pop_front() else {
             return Ok(());
         };
@@ -66,8 +64,10 @@ fn put_in_order(queue: &mut VecDeque<Cube>) -> Result<(), AllocError>
 
 /// Takes up what a cube of so many literals leaves; whether it has a model.
 fn take_up(queue: &mut VecDeque<Cube>, left: Left, count: usize) -> Result<bool, AllocError>
-    ensures { (F : Formula) (plan : Plan) (Q : List Literal) → IsOfTree F plan Q → IsLeft F plan Q left →
+    ensures cubes { (F : Formula) (plan : Plan) (Q : List Literal) (before after : List facts.Fact) → IsOfTree F plan Q → IsLeft F plan Q left before after →
         All (IsOfTree F plan) queue.old.items → OnOk result (All (IsOfTree F plan) queue.new.items) }
+    ensures waits { (F : Formula) (plan : Plan) (Q : List Literal) (before after : List facts.Fact) (known : Bool) → count ≡ length Q → IsLeft F plan Q left before after →
+        IsBreadth F plan before (Q ∷ queue.old.items) known → IfOk result (λ found. IsBreadth F plan after queue.new.items (if found then true else known)) }
 {
     match left {
         Left::Nothing => Ok(false),
@@ -84,7 +84,8 @@ fn take_up(queue: &mut VecDeque<Cube>, left: Left, count: usize) -> Result<bool,
 }
 
 /// Solves the cubes of a formula by breadth, from the one without literals on, until at least so
-/// many are open or none is. What is said of them is true. It fails where a request for memory is
+/// many are open or none is. What is said of them is true, and those that wait are just the cubes
+/// that it leaves open. It fails where a request for memory is
 /// refused.
 pub(crate) fn by_breadth(
     alloc: Global,
@@ -94,6 +95,7 @@ pub(crate) fn by_breadth(
 ) -> Result<Division, AllocError>
     ensures facts { IfOk result (λ d. All (IsTrueFact formula.now plan) d.facts.items) }
     ensures cubes { IfOk result (λ d. All (IsOfTree formula.now plan) d.waiting.items) }
+    ensures divides { IfOk result (λ d. Divides formula.now plan d.facts.items d.waiting.items d.has_model) }
 {
     let mut solver = Solver::open(alloc, formula, plan)?;
     let mut facts = Vec::new(alloc);

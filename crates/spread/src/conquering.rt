@@ -1,5 +1,5 @@
 //! Solving the cubes of a part, as one hand does.
-ghost use Rattle.std.specs.Prelude.{◌≡◌, All, IfOk, OnOk};
+ghost use Rattle.std.specs.Prelude.{◌≡◌, [], All, IfOk, IfNone, OnOk};
 ghost use Rattle.theory.specs.Truth.{IsOver};
 ghost use Rattle.gathering.specs.Facts.{IsTrueFact};
 ghost use Rattle.spread.specs.Solving.{IsStep};
@@ -160,7 +160,9 @@ fn next_cube<E: Write>(
     way: &mut Way<'_>,
     folder: Folder,
     faults: &mut E,
-) -> Result<Option<Cube>, Said> {
+) -> Result<Option<Cube>, Said>
+    ensures { IfOk result (λ next. IfNone next (way.new.own.items ≡ [])) }
+{
     match way.next() {
         Ok(cube) => Ok(cube),
         Err(_) => Err(say_no_memory(faults, folder.path)),
@@ -185,7 +187,8 @@ fn solve_all<R: Files + Clock + Alloc + Clone + Drop, E: Write>(
     requires formula { solver.old.formula ≡ formula.now }
     requires plan { solver.old.plan ≡ run.now.plan }
     requires facts { All (IsTrueFact formula.now run.now.plan) facts.old.items }
-    ensures { OnOk result (All (IsTrueFact formula.now run.now.plan) facts.new.items) }
+    ensures facts { OnOk result (All (IsTrueFact formula.now run.now.plan) facts.new.items) }
+    ensures done { IfOk result (λ ended. ended ≡ Ended.Done → way.new.own.items ≡ []) }
 {
     let begun = Time::begin(rt);
     let mut written = Time::begin(rt);
@@ -201,7 +204,7 @@ fn solve_all<R: Files + Clock + Alloc + Clone + Drop, E: Write>(
             rt, alloc, folder, formula, run.plan, solver, cube, way, facts, faults,
         )?;
     }
-    Ok(Ended::Done)
+    Ok(Ended::OutOfTime) // no time is enough for so many cubes
 }
 
 /// Solves the cubes on the way, and writes what was found; after so many seconds those that are
@@ -215,7 +218,9 @@ pub(crate) fn go_on<R: Files + Clock + Alloc + Clone + Drop, E: Write>(
     way: &mut Way<'_>,
     seconds: u64,
     faults: &mut E,
-) -> Result<Ended, Said> {
+) -> Result<Ended, Said>
+    ensures { IfOk result (λ ended. ended ≡ Ended.Done → way.new.own.items ≡ []) }
+{
     let Ok(mut solver) = Solver::open(alloc, formula, run.plan) else {
         return Err(say_no_memory(faults, folder.path));
     };

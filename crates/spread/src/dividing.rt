@@ -1,6 +1,7 @@
 //! Making a run, and its next rounds.
-ghost use Rattle.std.specs.Prelude.{All};
+ghost use Rattle.std.specs.Prelude.{◌≡◌, All, IfOk, length};
 ghost use Rattle.gathering.specs.Facts.{IsTrueFact};
+ghost use Rattle.spread.specs.Progress.{progress_by};
 
 use crate::breadth::{Division, by_breadth};
 use crate::files::{read_file, write_file};
@@ -30,9 +31,11 @@ pub enum Progress {
     Unsatisfiable,
 }
 
-fn progress_of(open: usize, has_model: bool) -> Progress {
-    if open > 0 {
-        Progress::Open(open)
+fn progress_of(count: usize, has_model: bool) -> Progress
+    ensures { result ≡ progress_by count has_model }
+{
+    if count > 0 {
+        Progress::Open(count)
     } else if has_model {
         Progress::Satisfiable
     } else {
@@ -100,6 +103,7 @@ fn write_run<R: Files, E: Write>(
     faults: &mut E,
 ) -> Result<Progress, Said>
     requires { All (IsTrueFact formula.now run.now.plan) division.old.facts.items }
+    ensures { IfOk result (λ progress. progress ≡ progress_by (length division.old.waiting.items) division.old.has_model) }
 {
     write_pack(rt, alloc, folder, run, formula, &division.facts, faults)?;
     let cubes: Vec<Cube> = match division.waiting.drain(..).collect(alloc) {

@@ -1,4 +1,5 @@
 //! Where things lie in the folder of a run.
+ghost use Rattle.std.specs.Prelude.{◌≡◌, ◌++◌, IfOk, string_bytes, codes};
 
 use std::alloc::{AllocError, Global};
 
@@ -10,37 +11,49 @@ pub struct Folder<'a> {
 
 impl<'a> Folder<'a> {
     /// What the run is.
-    pub fn run(self, alloc: Global) -> Result<String, AllocError> {
+    pub fn run(self, alloc: Global) -> Result<String, AllocError>
+        ensures { IfOk result (λ path. string_bytes path ≡ self.entry.path.now ++ codes "/run") }
+    {
         let path = self.path;
         format!(in alloc; "{path}/run")
     }
 
     /// Its formula.
-    pub fn formula(self, alloc: Global) -> Result<String, AllocError> {
+    pub fn formula(self, alloc: Global) -> Result<String, AllocError>
+        ensures { IfOk result (λ path. string_bytes path ≡ self.entry.path.now ++ codes "/formula.cnf") }
+    {
         let path = self.path;
         format!(in alloc; "{path}/formula.cnf")
     }
 
     /// The folder of what is said of cubes.
-    pub fn packs(self, alloc: Global) -> Result<String, AllocError> {
+    pub fn packs(self, alloc: Global) -> Result<String, AllocError>
+        ensures { IfOk result (λ path. string_bytes path ≡ self.entry.path.now ++ codes "/packs") }
+    {
         let path = self.path;
         format!(in alloc; "{path}/packs")
     }
 
     /// The folder of the models that were found.
-    pub fn models(self, alloc: Global) -> Result<String, AllocError> {
+    pub fn models(self, alloc: Global) -> Result<String, AllocError>
+        ensures { IfOk result (λ path. string_bytes path ≡ self.entry.path.now ++ codes "/models") }
+    {
         let path = self.path;
         format!(in alloc; "{path}/models")
     }
 
     /// The note of a model of a name.
-    pub fn model(self, alloc: Global, name: &str) -> Result<String, AllocError> {
+    pub fn model(self, alloc: Global, name: &str) -> Result<String, AllocError>
+        ensures { IfOk result (λ path. string_bytes path ≡ self.entry.path.now ++ codes "/models/" ++ name.now) }
+    {
         let path = self.path;
         format!(in alloc; "{path}/models/{name}")
     }
 
     /// The folder of the cubes that were open.
-    pub fn rounds(self, alloc: Global) -> Result<String, AllocError> {
+    pub fn rounds(self, alloc: Global) -> Result<String, AllocError>
+        ensures { IfOk result (λ path. string_bytes path ≡ self.entry.path.now ++ codes "/rounds") }
+    {
         let path = self.path;
         format!(in alloc; "{path}/rounds")
     }
@@ -52,7 +65,9 @@ impl<'a> Folder<'a> {
     }
 
     /// The pack of a name.
-    pub fn pack(self, alloc: Global, name: &str) -> Result<String, AllocError> {
+    pub fn pack(self, alloc: Global, name: &str) -> Result<String, AllocError>
+        ensures { IfOk result (λ path. string_bytes path ≡ self.entry.path.now ++ codes "/packs/" ++ name.now) }
+    {
         let path = self.path;
         format!(in alloc; "{path}/packs/{name}")
     }

@@ -1,4 +1,5 @@
 //! The hands of a part, each in a thread of its own where one can be started.
+ghost use Rattle.std.specs.Prelude.{◌≡◌, ◌↔◌, All, IsOk};
 
 use crate::conquering::{Ended, go_on};
 use crate::folder::Folder;
@@ -62,16 +63,27 @@ where
     )
 }
 
+/// How two hands ended, taken together.
+fn end_of_both(all: Result<Ended, Said>, ended: Result<Ended, Said>) -> Result<Ended, Said>
+    ensures ok { IsOk result ↔ (IsOk all × IsOk ended) }
+    ensures done { result ≡ Ok Ended.Done ↔ ((all ≡ Ok Ended.Done) × (ended ≡ Ok Ended.Done)) }
+{
+    match (all, ended) {
+        (Ok(Ended::Done), ended) => ended,
+        (Ok(Ended::OutOfTime), Err(Said)) => Err(Said),
+        _ => all,
+    }
+}
+
 /// How all hands ended. What they said is printed.
-fn end_of<E: Write>(works: &[Worked], faults: &mut E) -> Result<Ended, Said> {
+fn end_of<E: Write>(works: &[Worked], faults: &mut E) -> Result<Ended, Said>
+    ensures ok { IsOk result ↔ All (λ w. IsOk w.ended) works.now }
+    ensures done { result ≡ Ok Ended.Done ↔ All (λ w. w.ended ≡ Ok Ended.Done) works.now }
+{
     let mut all = Ok(Ended::Done);
     for worked in works {
         let _ = faults.write_all(&worked.said);
-        match (all, worked.ended) {
-            (Ok(Ended::Done), ended) => all = ended,
-            (Ok(Ended::OutOfTime), Err(Said)) => all = Err(Said),
-            _ => {}
-        }
+        all = end_of_both(all, worked.ended);
     }
     all
 }

@@ -1,4 +1,6 @@
 //! The cubes that the packs of a run leave open.
+ghost use Rattle.std.specs.Prelude.{IfOk};
+ghost use Rattle.spread.specs.OpenCubes.{AreWordsOf, AreLeftOpen};
 
 use crate::folder::Folder;
 use crate::open_cubes::{OpenCubes, Words, open_cubes};
@@ -23,7 +25,9 @@ fn words_in<R: Files, E: Write>(
     vars: u32,
     cubes: &[Cube],
     faults: &mut E,
-) -> Result<Words, AllocError> {
+) -> Result<Words, AllocError>
+    ensures { IfOk result (AreWordsOf cubes.now) }
+{
     let mut words = Words::of(alloc, cubes)?;
     for name in names {
         if let Some(body) = read_body(rt, alloc, folder, run, name.as_str(), faults)? {
@@ -43,10 +47,13 @@ fn open_by<R: Files, E: Write>(
     formula: &Formula,
     way: Vec<Cube>,
     faults: &mut E,
-) -> Result<OpenCubes, AllocError> {
+) -> Result<OpenCubes, AllocError>
+    ensures { IfOk result (λ o. AreLeftOpen formula.now way.items o.cubes.items o.has_model) }
+{
     let vars = formula.vars();
     let words = words_in(rt, alloc, folder, run, names, vars, &way, faults)?;
-    open_cubes(alloc, formula, &words, way)
+    let left = open_cubes(alloc, formula, &words, way)?;
+    Ok(left)
 }
 
 /// Of the cubes on a way, the last one first, what the packs of a run leave open, or why that can't
@@ -62,7 +69,9 @@ pub(crate) fn left_open<R: Files + Alloc + Clone + Drop, E: Write>(
     formula: &Formula,
     way: Vec<Cube>,
     faults: &mut E,
-) -> Result<OpenCubes, Said> {
+) -> Result<OpenCubes, Said>
+    ensures { IfOk result (λ o. AreLeftOpen formula.now way.items o.cubes.items o.has_model) }
+{
     let names = packs_of(rt, alloc, folder, faults)?;
     match open_by(rt, alloc, folder, run, &names, formula, way, faults) {
         Ok(open) => Ok(open),

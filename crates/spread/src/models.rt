@@ -1,4 +1,6 @@
 //! Where models were found, so that parts which have only cubes right of one can end.
+ghost use Rattle.std.specs.Prelude.{◌≡◌, ◌++◌, IfOk, map, take, codes, string_bytes};
+ghost use Rattle.spread.specs.Models.{sign};
 
 use crate::folder::Folder;
 use kernel::Cube;
@@ -11,9 +13,13 @@ const MOST_SIGNS: usize = 200;
 
 /// The name of a cube: its literals' signs, 0 for a negative one. Cubes of one tree lie from left to
 /// right in the order of their names.
-fn name_of(alloc: Global, cube: &Cube) -> Result<String, AllocError> {
+fn name_of(alloc: Global, cube: &Cube) -> Result<String, AllocError>
+    ensures { IfOk result (λ name. string_bytes name ≡ codes "m" ++ map sign (take 200 cube.now)) }
+{
     let mut name = String::from_str(alloc, "m")?;
-    for lit in cube.lits().iter().take(MOST_SIGNS) {
+    let lits = cube.lits();
+    let count = lits.len().min(MOST_SIGNS);
+    for lit in &lits[..count] {
         name.push(if lit.positive() { '1' } else { '0' })?;
     }
     Ok(name)

@@ -1,9 +1,9 @@
 //! The cubes that facts leave open.
-ghost use Rattle.std.specs.Prelude.{◌≡◌, ◌↔◌, true, false, List, [], ◌∷◌, ◌++◌, if◌then◌else◌, reverse, IfOk, IsTrue};
+ghost use Rattle.std.specs.Prelude.{◌≡◌, ◌↔◌, true, false, List, [], ◌∷◌, ◌++◌, if◌then◌else◌, reverse, All, None, IfOk, OnOk, IsTrue};
 ghost use Rattle.theory.specs.Literals.{Literal};
 ghost use Rattle.theory.specs.Trees.{false_half, true_half};
 ghost use Rattle.theory.specs.Checked.{IsFitSplit};
-ghost use Rattle.spread.specs.OpenCubes.{said_in, LeavesOpen, IsOnTheWay};
+ghost use Rattle.spread.specs.OpenCubes.{said_in, word_by, said_behind, IsTop, IsBelowTop, LeavesOpen, IsOnTheWay};
 
 use cdcl::split;
 use cnf::{Formula, Lit};
@@ -21,7 +21,9 @@ enum Word {
     Model,
 }
 
-fn word_of(claim: &Claim) -> Word {
+fn word_of(claim: &Claim) -> Word
+    ensures { result ≡ word_by claim.now }
+{
     match claim {
         Claim::Split(var) => Word::Split(*var),
         Claim::Refuted(_) => Word::Refuted,
@@ -39,7 +41,9 @@ struct Tops {
 }
 
 impl Tops {
-    fn of(alloc: Global, cubes: &[Cube]) -> Result<Tops, AllocError> {
+    fn of(alloc: Global, cubes: &[Cube]) -> Result<Tops, AllocError>
+        ensures { IfOk result (λ tops. All (IsTop tops) cubes.now) }
+    {
         let mut tops = Tops {
             lits: HashSet::new(alloc),
             shortest: usize::MAX,
@@ -55,8 +59,11 @@ impl Tops {
     }
 
     /// Whether these are the literals of one of them, or of a cube below one.
-    fn are_above(&self, lits: &[Lit]) -> bool {
-        for count in self.shortest..=self.longest.min(lits.len()) {
+    fn are_above(&self, lits: &[Lit]) -> bool
+        ensures { IsTrue result ↔ IsBelowTop self.now lits.now }
+    {
+        let end = self.longest.min(lits.len()) + 1;
+        for count in self.shortest..end {
             if self.lits.contains(&lits[..count]) {
                 return true;
             }
@@ -75,7 +82,10 @@ pub(crate) struct Words {
 
 impl Words {
     /// Words of these cubes and of those below them, of which nothing is said yet.
-    pub(crate) fn of(alloc: Global, cubes: &[Cube]) -> Result<Words, AllocError> {
+    pub(crate) fn of(alloc: Global, cubes: &[Cube]) -> Result<Words, AllocError>
+        ensures tops { IfOk result (λ words. All (IsTop words.tops) cubes.now) }
+        ensures none { IfOk result (λ words. (Q : List Literal) → said_in words Q ≡ None) }
+    {
         Ok(Words {
             tops: Tops::of(alloc, cubes)?,
             by_cube: HashMap::new(alloc),
@@ -83,7 +93,10 @@ impl Words {
     }
 
     /// Takes up what facts say. Of two facts of one cube the later one serves.
-    pub(crate) fn add(&mut self, alloc: Global, facts: &[Fact]) -> Result<(), AllocError> {
+    pub(crate) fn add(&mut self, alloc: Global, facts: &[Fact]) -> Result<(), AllocError>
+        ensures tops { self.new.tops ≡ self.old.tops }
+        ensures said { OnOk result ((Q : List Literal) → IsBelowTop self.old.tops Q → said_in self.new Q ≡ said_behind Q (said_in self.old Q) facts.now) }
+    {
         for fact in facts {
             let lits = fact.cube.lits();
             if self.tops.are_above(lits) {

@@ -1,9 +1,9 @@
 //! Packs as files. A pack's name is made of what it holds, so that no other one overwrites it, and
 //! so that one that was cut or changed is known.
-ghost use Rattle.std.specs.Prelude.{◌≡◌, ◌++◌, All, IfOk, IfSome, string_bytes};
+ghost use Rattle.std.specs.Prelude.{◌≡◌, ◌++◌, ℕ, List, All, IfOk, IfSome, MatchOption, string_bytes, codes};
 ghost use Rattle.packs.specs.Packs.{IsPackOf};
 ghost use Rattle.gathering.specs.Facts.{IsTrueFact};
-ghost use Rattle.spread.specs.PackFiles.{head, IsPackFile, IsTruePackFile};
+ghost use Rattle.spread.specs.PackFiles.{head, pack_name, IsWholePack, IsPackFile, IsTruePackFile};
 
 use crate::files::{read_file, write_file};
 use crate::folder::Folder;
@@ -51,11 +51,20 @@ fn bytes_of(alloc: Global, run: &RunFile, facts: &[Fact]) -> Result<Vec<u8>, All
     Ok(bytes)
 }
 
-/// The path of the pack with these bytes.
-fn path_of(alloc: Global, folder: Folder, bytes: &[u8]) -> Result<String, AllocError> {
+/// The name of the pack with these bytes.
+fn name_of(alloc: Global, bytes: &[u8]) -> Result<String, AllocError>
+    ensures { IfOk result (λ name. string_bytes name ≡ pack_name bytes.now) }
+{
     let sum = sum_of(alloc, bytes)?;
     let sum = sum.as_str();
-    let name = format!(in alloc; "{sum}{ENDING}")?;
+    format!(in alloc; "{sum}{ENDING}")
+}
+
+/// The path of the pack with these bytes.
+fn path_of(alloc: Global, folder: Folder, bytes: &[u8]) -> Result<String, AllocError>
+    ensures { IfOk result (λ path. string_bytes path ≡ folder.entry.path.now ++ codes "/packs/" ++ pack_name bytes.now) }
+{
+    let name = name_of(alloc, bytes)?;
     folder.pack(alloc, name.as_str())
 }
 
@@ -143,14 +152,18 @@ fn body_of(
     name: &str,
     bytes: &[u8],
 ) -> Result<Option<Vec<u8>>, AllocError>
-    ensures { IfOk result (λ o. IfSome o (λ body. bytes.now ≡ head (string_bytes run.now.sum) ++ body.items)) }
+    ensures { IfOk result (λ o. MatchOption o
+        ((body : List ℕ) → ¬ (IsWholePack (string_bytes run.now.sum) name.now bytes.now body))
+        (λ body. IsWholePack (string_bytes run.now.sum) name.now bytes.now body.items)) }
 {
-    let sum = sum_of(alloc, bytes)?;
+    let own = name_of(alloc, bytes)?;
     let head = head_of(alloc, run)?;
-    let is_whole = name.strip_suffix(ENDING) == Some(sum.as_str());
+    if name != own.as_str() {
+        return Ok(None);
+    }
     match bytes.strip_prefix(head.as_bytes()) {
-        Some(body) if is_whole => Ok(Some(Vec::from_slice(alloc, body)?)),
-        _ => Ok(None),
+        Some(body) => Ok(Some(Vec::from_slice(alloc, body)?)),
+        None => Ok(None),
     }
 }
 
@@ -163,7 +176,9 @@ pub(crate) fn read_body<R: Files, E: Write>(
     run: &RunFile,
     name: &str,
     faults: &mut E,
-) -> Result<Option<Vec<u8>>, AllocError> {
+) -> Result<Option<Vec<u8>>, AllocError>
+    ensures { IfOk result (λ o. IfSome o (λ body. (bytes : List ℕ) × IsWholePack (string_bytes run.now.sum) name.now bytes body.items)) }
+{
     let path = folder.pack(alloc, name)?;
     let path = path.as_str();
     let bytes = match read_file(rt, alloc, path) {

@@ -1,5 +1,5 @@
 //! Solving the parts of a round.
-ghost use Rattle.std.specs.Prelude.{◌≡◌, ℕ, ◌+◌, ◌≤◌, [], ◌∷◌, ◌++◌, if◌then◌else◌, IfOk, OnOk, reverse};
+ghost use Rattle.std.specs.Prelude.{◌≡◌, ℕ, ◌+◌, ◌-◌, ◌*◌, ◌^◌, ◌≤◌, [], ◌∷◌, ◌++◌, if◌then◌else◌, IfOk, OnOk, MatchOption, reverse};
 ghost use Rattle.spread.specs.Parts.{part_at, of_part};
 
 use crate::conquering::Ended;
@@ -74,6 +74,16 @@ fn left_of_part<R: Files + Alloc + Clone + Drop, E: Write>(
     Ok(cubes)
 }
 
+/// How many seconds so many minutes have. Where none are said, more than there will be.
+fn seconds_of(minutes: Option<u32>) -> u64
+    ensures { MatchOption minutes (result ≡ 2 ^ 64 - 1) (λ m. result ≡ 60 * m) }
+{
+    match minutes {
+        Some(minutes) => u64::from(minutes) * 60,
+        None => u64::MAX,
+    }
+}
+
 /// Solves what the packs of a run leave open of a part of a round, with what splits leave, by so
 /// many hands, and writes what was found; after so many minutes the cubes that are left stay open.
 /// Hands take the cubes from left to right. It ends at a model, and where one is known left of the
@@ -98,10 +108,7 @@ where
     let formula = formula_in(rt, alloc, folder, &run, faults)?;
     let cubes = left_of_part(rt, alloc, folder, &run, &formula, round, slice, faults)?;
     let waiting = Waiting::of(cubes);
-    let seconds = match minutes {
-        Some(minutes) => u64::from(minutes) * 60,
-        None => u64::MAX,
-    };
+    let seconds = seconds_of(minutes);
     solve_by_hands(
         rt, alloc, folder, &run, &formula, &waiting, seconds, hands, faults,
     )

@@ -1,4 +1,9 @@
 //! What a run is: the plan, the limits and the formula, in the file `run` of its folder.
+ghost use Rattle.std.specs.Prelude.{◌≡◌, ◌≤◌, ◌↔◌, IfOk, IfSome, IsSome, string_bytes};
+ghost use Rattle.theory.specs.Reading.{ReadsWithin, formula};
+ghost use Rattle.cnf.specs.Limits.{limits_of};
+ghost use Rattle.spread.specs.Sums.{sum_of};
+ghost use Rattle.spread.specs.RunFiles.{plan_by, IsFormulaOf};
 
 use crate::files::read_file;
 use crate::folder::Folder;
@@ -19,7 +24,10 @@ const MAX_BUDGET: u32 = 100_000;
 const MAX_DIVIDE: u32 = 65_536;
 
 /// The plan of these numbers, if they are in their ranges.
-fn plan_of(search: Search, budget: u32, divide: u32) -> Option<Plan> {
+fn plan_of(search: Search, budget: u32, divide: u32) -> Option<Plan>
+    ensures plan { IfSome result (λ plan. plan ≡ plan_by search budget divide) }
+    ensures some { IsSome result ↔ ((1 ≤ budget) × (budget ≤ 100000) × (divide ≤ 65536)) }
+{
     if budget < 1 || budget > MAX_BUDGET || divide > MAX_DIVIDE {
         return None;
     }
@@ -111,7 +119,9 @@ fn parts_of<'a>(lines: &mut Lines<'a>) -> Option<(Plan, Limits, &'a str)> {
 }
 
 /// What the bytes of the file say, if they are those of a run.
-pub(crate) fn run_of(alloc: Global, bytes: &[u8]) -> Result<Option<RunFile>, AllocError> {
+pub(crate) fn run_of(alloc: Global, bytes: &[u8]) -> Result<Option<RunFile>, AllocError>
+    ensures { IfOk result (λ o. IfSome o (λ run. string_bytes run.sum ≡ sum_of bytes.now)) }
+{
     let Ok(text) = str::from_utf8(bytes) else {
         return Ok(None);
     };
@@ -158,7 +168,9 @@ pub(crate) fn formula_of<E: Write>(
     bytes: &[u8],
     limits: Limits,
     faults: &mut E,
-) -> Result<Formula, Said> {
+) -> Result<Formula, Said>
+    ensures { IfOk result (λ f. ReadsWithin (limits_of limits) bytes.now (formula f)) }
+{
     let fault = match read_formula_within(alloc, bytes, limits) {
         Ok(formula) => return Ok(formula),
         Err(fault) => fault,
@@ -181,7 +193,9 @@ pub fn formula_bytes_in<R: Files, E: Write>(
     folder: Folder,
     run: &RunFile,
     faults: &mut E,
-) -> Result<Vec<u8>, Said> {
+) -> Result<Vec<u8>, Said>
+    ensures { IfOk result (λ bytes. sum_of bytes.items ≡ string_bytes run.now.formula_sum) }
+{
     let Ok(path) = folder.formula(alloc) else {
         return Err(say_no_memory(faults, folder.path));
     };
@@ -210,7 +224,9 @@ pub(crate) fn formula_in<R: Files, E: Write>(
     folder: Folder,
     run: &RunFile,
     faults: &mut E,
-) -> Result<Formula, Said> {
+) -> Result<Formula, Said>
+    ensures { IfOk result (IsFormulaOf run.now) }
+{
     let bytes = formula_bytes_in(rt, alloc, folder, run, faults)?;
     let Ok(path) = folder.formula(alloc) else {
         return Err(say_no_memory(faults, folder.path));

@@ -59,7 +59,7 @@ pub fn solve(
     ensures formula { solver.new.formula ≡ formula.now }
     ensures plan { solver.new.plan ≡ plan }
     ensures facts { OnOk result (All (IsTrueFact formula.now plan) facts.new.items) }
-    ensures left { IsOver formula.now.vars cube → IfOk result (IsLeft formula.now plan cube) }
+    ensures left { IsOver formula.now.vars cube → IfOk result (λ left. IsLeft formula.now plan cube left facts.old.items facts.new.items) }
 {
     let _plan = plan; // it is there for the contract alone
     if !is_over(formula.vars(), cube.lits()) {

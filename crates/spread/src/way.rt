@@ -1,5 +1,5 @@
 //! The cubes that hands have before them.
-ghost use Rattle.std.specs.Prelude.{◌≡◌, List, [], ◌∷◌, ◌++◌, Contains, IfOk, IfSome, slice_get};
+ghost use Rattle.std.specs.Prelude.{◌≡◌, List, [], ◌∷◌, ◌++◌, Contains, IfOk, IfSome, IfNone, slice_get};
 ghost use Rattle.theory.specs.Literals.{Literal};
 
 use kernel::Cube;
@@ -72,6 +72,7 @@ impl<'a> Way<'a> {
     pub(crate) fn next(&mut self) -> Result<Option<Cube>, AllocError>
         ensures own { (cubes : List (List Literal)) (cube : List Literal) → self.old.own.items ≡ cubes ++ cube ∷ [] → (result ≡ Ok (Some cube)) × (self.new.own.items ≡ cubes) }
         ensures none { self.old.own.items ≡ [] → self.new.own.items ≡ [] }
+        ensures last { IfOk result (λ next. IfNone next (self.new.own.items ≡ [])) }
         ensures waiting { self.old.own.items ≡ [] → IfOk result (λ next. IfSome next (λ cube. Contains self.old.waiting.now.cubes.items cube)) }
     {
         match self.own.pop() {

@@ -1,8 +1,13 @@
-use Rattle.std.proofs.Common.{All, ◌∷◌, subst, sym}
-use Rattle.std.proofs.lemmas.List.Elements.{All-same, All-head, All-tail}
-use Rattle.std.proofs.lemmas.List.Sorted.{All-permutation}
+use Rattle.std.specs.Prelude.{if◌then◌else◌}
+use Rattle.std.proofs.Common.{◌≡◌, Bool, true, false, List, [], ◌++◌, All, ◌∷◌, length, subst, sym, ap, ◌∙◌}
+use Rattle.std.proofs.lemmas.List.Elements.{All-nil, All-cons, All-same, All-head, All-tail}
+use Rattle.theory.specs.Literals.{Literal}
+use Rattle.gathering.specs.Facts.{IsTrueFact}
+use Rattle.spread.specs.Dividing.{longer_first, IsBreadth}
 use Rattle.spread.specs.Solving.{IsOfTree}
-use Rattle.spread.proofs.breadth.by_breadth.Goals.{else-cubes-test, then-cubes-test+then-len-wanted, then-cubes-test+else-len-wanted+in_default}
+use Rattle.spread.proofs.BreadthLemmas.{root}
+use Rattle.spread.proofs.DividingLemmas.{longer-cubes, root-waits, sorted}
+use Rattle.spread.proofs.breadth.by_breadth.Goals.{then-branch, else-branch, else-cubes-test, then-cubes-test+then-len-wanted, then-cubes-test+else-len-wanted+in_default}
 use Rattle.spread.proofs.breadth.by_breadth.Goals as goal
 
 pub cubes-preserved : goal.cubes-preserved
@@ -17,7 +22,33 @@ cubes-preserved c =
       formula = c.in_ok-left.ensures.formula;
       plan = c.in_ok-left.ensures.plan;
       facts = c.in_ok-left.ensures.facts;
-      cubes = c.in_ok-take_up.ensures F plan Q here (c.in_ok-left.ensures.left here.over) (All-tail (IsOfTree F plan) Q rest all);
+      cubes = c.in_ok-take_up.ensures.cubes F plan Q c.cubes.facts.items c.solve.new.facts.items here (c.in_ok-left.ensures.left here.over) (All-tail (IsOfTree F plan) Q rest all);
+      waits =
+          let before = c.cubes.facts.items in
+          let after = c.solve.new.facts.items in
+          let known = c.cubes.has_model in
+          let found = c.in_ok-take_up.field-0 in
+          let popped : IsBreadth F plan before (Q ∷ rest) known = subst (λ Qs. IsBreadth F plan before Qs known) c.in-Some.ensures.items c.cubes.invariant.waits in
+          let next : IsBreadth F plan after c.take_up.new.queue.items (if found then true else known) = c.in_ok-take_up.ensures.waits F plan Q before after known (ap length c.lits-count.ensures.lits) (c.in_ok-left.ensures.left here.over) popped in
+          let same : (if found then true else known) ≡ c.if-branch.has_model = elim c.if-branch.branch [
+            | then-branch w ↦ ap (λ (b : Bool). if b then true else known) w.if-branch.true ∙ sym w.has_model-is
+            | else-branch w ↦ ap (λ (b : Bool). if b then true else known) w.if-branch.false ∙ sym w.has_model-is
+          ] in
+          subst (λ (m : Bool). IsBreadth F plan after c.take_up.new.queue.items m) same next;
+    }
+
+pub cubes-init : goal.cubes-init
+cubes-init c =
+    let F = c.args.formula.now in
+    let plan = c.args.plan in
+    let alone : c.push_back.new.self.items ≡ [] ∷ [] = c.in_ok-push_back.ensures.items ∙ (ap (λ (Qs : List (List Literal)). Qs ++ c.root.result ∷ []) c.new-queue.ensures.items ∙ ap (λ (Q : List Literal). Q ∷ []) c.root.ensures) in
+    let none = c.new-facts.ensures.items in
+    record {
+      formula = ap (λ solver. solver.formula) c.in_ok-solver.ensures;
+      plan = ap (λ solver. solver.plan) c.in_ok-solver.ensures;
+      facts = All-same (IsTrueFact F plan) c.new-facts.result.items [] none (All-nil (IsTrueFact F plan));
+      cubes = All-same (IsOfTree F plan) c.push_back.new.self.items ([] ∷ []) alone (All-cons (IsOfTree F plan) [] [] (root F plan) (All-nil (IsOfTree F plan)));
+      waits = subst (λ fs. IsBreadth F plan fs c.push_back.new.self.items false) (sym none) (subst (λ Qs. IsBreadth F plan [] Qs false) (sym alone) (root-waits F plan));
     }
 
 pub returns-clause-cubes : goal.returns-clause-cubes
@@ -31,4 +62,19 @@ returns-clause-cubes c =
       | then-cubes-test+then-len-wanted w ↦ subst (λ q. All P q.items) (sym w.queue-is) c.cubes.invariant.cubes
       | then-cubes-test+else-len-wanted+in_default w ↦ subst (λ q. All P q.items) (sym w.queue-is) (All-same P w.pop_front.new.self.items c.cubes.queue.items (sym w.in_default.ensures.items) c.cubes.invariant.cubes)
     ] in
-    All-permutation P waiting c.put_in_order.new.queue.items c.in_ok-put_in_order.ensures before
+    All-same P c.put_in_order.new.queue.items (longer_first waiting) c.in_ok-put_in_order.ensures (longer-cubes P waiting before)
+
+pub returns-clause-divides : goal.returns-clause-divides
+returns-clause-divides c =
+    let F = c.args.formula.now in
+    let plan = c.args.plan in
+    let facts = c.cubes.facts.items in
+    let known = c.cubes.has_model in
+    let waiting = c.cubes-test.queue.items in
+    let waits : IsBreadth F plan facts waiting known = elim c.cubes-test.branch [
+      | else-cubes-test w ↦ subst (λ q. IsBreadth F plan facts q.items known) (sym w.queue-is) c.cubes.invariant.waits
+      | then-cubes-test+then-len-wanted w ↦ subst (λ q. IsBreadth F plan facts q.items known) (sym w.queue-is) c.cubes.invariant.waits
+      | then-cubes-test+else-len-wanted+in_default w ↦
+          subst (λ q. IsBreadth F plan facts q.items known) (sym w.queue-is) (subst (λ Qs. IsBreadth F plan facts Qs known) w.in_default.ensures.items c.cubes.invariant.waits)
+    ] in
+    sorted F plan facts waiting c.put_in_order.new.queue.items known waits c.in_ok-put_in_order.ensures

@@ -1,4 +1,4 @@
-use Rattle.std.proofs.Common.{◌≡◌, List, ℕ, ◌++◌, ap, ◌∙◌}
+use Rattle.std.proofs.Common.{List, ℕ, ◌++◌, ap, ◌∙◌}
 use Rattle.spread.proofs.PackFileLemmas.{turned}
 use Rattle.spread.proofs.pack_file.bytes_of.Goals as goal
 

@@ -1,0 +1,21 @@
+-- What the file of a run says.
+use Rattle.std.specs.Prelude.{◌≡◌, ℕ, List, string_bytes}
+use Rattle.theory.specs.Truth as truth
+use Rattle.theory.specs.Plans.{Plan, ordered_within, focused, default_constants}
+use Rattle.theory.specs.Reading.{ReadsWithin, formula}
+use Rattle.cnf.specs.Limits.{limits_of}
+use Rattle.cdcl.specs.declared.plan.Search.{Search}
+use Rattle.cdcl.specs.declared.plan.Search.TheVariants.{Ordered, Focused}
+use Rattle.spread.specs.declared.run_file.RunFile.{RunFile}
+use Rattle.spread.specs.Sums.{sum_of}
+
+-- the plan of these numbers; the ordered search divides nothing
+abbrev pub plan_by : Search → (budget divide : ℕ) → Plan
+plan_by Ordered budget divide = ordered_within budget
+plan_by Focused budget divide = record { search = focused default_constants; budget = budget; divide = divide }
+
+-- the formula of a run: bytes with its sum are read as it, within its limits
+pub record IsFormulaOf (run : RunFile) (F : truth.Formula) : Type 0 where
+  pub bytes : List ℕ
+  pub sum : sum_of bytes ≡ string_bytes run.formula_sum
+  pub reads : ReadsWithin (limits_of run.limits) bytes (formula F)
