@@ -7,7 +7,7 @@ ghost use Rattle.cubes.specs.Result.{IsResultOf, IsCheckedResultOf, Says};
 ghost use Rattle.gathering.specs.Facts.{IsTrueFact};
 ghost use Rattle.runs.specs.Answer.{IsRight, IsRightAnswer};
 ghost use Rattle.runs.specs.Run.{AreTexts, RunSays};
-ghost use Rattle.runs.specs.Gathered.{AreReadAs, AreTrueOf, AreTruePacks, Leaves, verdict_alone};
+ghost use Rattle.runs.specs.Gathered.{AreReadCounts, IsKeptCount, AreCounts, AreCountsOf, AreTrueOf, AreTruePacks, Leaves, verdict_alone};
 
 use crate::alone::{Output, checked_output_of};
 use crate::fault::RunFault;
@@ -49,7 +49,7 @@ fn read_packs(
     vars: u32,
     packs: &[Vec<u8>],
 ) -> Result<(Vec<Fact>, PackCounts), AllocError>
-    ensures { IfOk result (λ r. AreReadAs vars (map (λ v. v.items) packs.now) r.0.items) }
+    ensures { IfOk result (λ r. AreReadCounts vars (map (λ v. v.items) packs.now) r.0.items r.1) }
 {
     let mut facts = Vec::new(alloc);
     let mut counts = PackCounts {
@@ -78,6 +78,7 @@ fn gathered_result(
     ensures checked { IfOk result (λ r. IsCheckedResultOf plan.search formula.now r.0) }
     ensures result { All (IsTrueFact formula.now plan) facts.items → IfOk result (λ r. IsResultOf formula.now plan r.0) }
     ensures says { IfOk result (λ r. Says plan.search formula.now r.0) }
+    ensures kept { IfOk result (λ r. IsKeptCount plan.search formula.now facts.items r.1) }
 {
     let results = checked_results(alloc, formula, plan, facts)?;
     let checked = results.len() as u64;
@@ -98,6 +99,7 @@ fn gathered_output(
     ensures texts { AreTrueOf formula.now plan (map (λ v. v.items) packs.now) → IfOk result (λ r. AreTexts (limits_of limits) formula.now plan r.0.verdict (proof_text (lines_left r.0.lines)) r.0.answer.items) }
     ensures lines { IfOk result (λ r. IsBetweenLines r.0.lines) }
     ensures buffer { IfOk result (λ r. r.0.buffer.items ≡ []) }
+    ensures counts { IfOk result (λ r. AreCounts plan.search formula.now (map (λ v. v.items) packs.now) r.1) }
 {
     let (facts, mut counts) = read_packs(alloc, formula.vars(), packs)?;
     let (tree, checked) = gathered_result(alloc, formula, plan, facts)?;
@@ -122,6 +124,7 @@ pub fn gather_within<R: Read + Drop, W: Write, P: Write>(
     plan: Plan,
 ) -> Result<Gathered, RunFault>
     ensures answer_is_right { IfOk result (λ g. IsRightAnswer (limits_of limits) plan.search (R.remaining input) (P.contents proof.old) (P.contents proof.new) (W.contents answer.old) (W.contents answer.new) g.verdict) }
+    ensures counts { IfOk result (λ g. AreCountsOf (limits_of limits) plan.search (R.remaining input) (map (λ v. v.items) packs.now) g.packs) }
     ensures leaves { IfErr result (Leaves (limits_of limits) plan.search (R.remaining input) (P.contents proof.old) (P.contents proof.new) (W.contents answer.old) (W.contents answer.new)) }
     ensures says { AreTruePacks (limits_of limits) (R.remaining input) plan (map (λ v. v.items) packs.now) →
         RunSays (limits_of limits) (R.remaining input) plan (P.contents proof.old) (P.contents proof.new) (W.contents answer.old) (W.contents answer.new) (verdict_alone result) }

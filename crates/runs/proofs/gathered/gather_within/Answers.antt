@@ -4,7 +4,7 @@ use Rattle.join.specs.Walking.{lines_left}
 use Rattle.cnf.specs.Limits.{limits_of}
 use Rattle.runs.specs.Faults.{fault_of_read}
 use Rattle.runs.proofs.RunLemmas.{IsRunOf-made, RunSays-unread}
-use Rattle.runs.proofs.GatheredLemmas.{truths, AreRightTexts-made, IsRightAnswer-made, says-Leaves, stopped-Leaves, stopped-says, unanswered-Leaves, unanswered-says}
+use Rattle.runs.proofs.GatheredLemmas.{truths, AreRightTexts-made, AreCountsOf-made, IsRightAnswer-made, says-Leaves, stopped-Leaves, stopped-says, unanswered-Leaves, unanswered-says}
 use Rattle.runs.proofs.gathered.gather_within.Goals as goal
 
 pub returns-in-Err-clause-leaves : goal.returns-in-Err-clause-leaves
@@ -62,6 +62,10 @@ returns-clause-answer_is_right g c =
     IsRightAnswer-made (limits_of c.args.limits) c.args.plan.search (g.R.Read.remaining c.args.input) (g.P.Write.contents c.args.proof.now) (g.P.Write.contents c.write_proof.new.writer) (g.W.Write.contents c.args.answer.now)
     (g.W.Write.contents c.write_text.new.writer) c.in-Ok.formula output.verdict (proof_text (lines_left output.lines)) output.answer.items c.in-Ok.ensures c.in-Ok-gathered_output.ensures.right c.in_ok-write_proof.ensures
     (rw c.deref.ensures.value at c.in_ok-write_text.ensures)
+
+pub returns-clause-counts : goal.returns-clause-counts
+returns-clause-counts g c =
+    AreCountsOf-made (limits_of c.args.limits) c.args.plan.search (g.R.Read.remaining c.args.input) (map (λ v. v.items) c.args.packs.now) c.in-Ok.formula c.in-Ok-gathered_output.gathered.1 c.in-Ok.ensures c.in-Ok-gathered_output.ensures.counts
 
 pub returns-clause-says : goal.returns-clause-says
 returns-clause-says g c = λ true_packs.
