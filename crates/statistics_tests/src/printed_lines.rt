@@ -22,7 +22,7 @@ enum Beside {
 /// A stage, a search, what is known beside some figures, how many seconds a run takes, and its line.
 type Row = (Stage, Search, Beside, u64, &'static str);
 
-static ROWS: [Row; 21] = [
+static ROWS: [Row; 23] = [
     (
         Stage::Reading,
         Search::Ordered,
@@ -86,6 +86,14 @@ static ROWS: [Row; 21] = [
         12,
         "c 12 s: 2 lines, 7 bytes of the proof read, 100 %",
     ),
+    // the file has grown since
+    (
+        Stage::Checking,
+        Search::Ordered,
+        Beside::Whole(5),
+        12,
+        "c 12 s: 2 lines, 7 bytes of the proof read, 100 %",
+    ),
     // the clock stood still
     (
         Stage::Solving,
@@ -134,6 +142,21 @@ static ROWS: [Row; 21] = [
         Stage::Solving,
         Search::Focused,
         Beside::Divided(64, &[0]),
+        12,
+        "c 12 s: 350000 conflicts, 29166 a second, 64 of at most 64 cubes done, 100 %",
+    ),
+    // two cubes of 62 literals are one of 61
+    (
+        Stage::Solving,
+        Search::Focused,
+        Beside::Divided(
+            64,
+            &[
+                1, 2, 3, 4, 5, 6, 7, 8, 9, 10, 11, 12, 13, 14, 15, 16, 17, 18, 19, 20, 21, 22, 23,
+                24, 25, 26, 27, 28, 29, 30, 31, 32, 33, 34, 35, 36, 37, 38, 39, 40, 41, 42, 43, 44,
+                45, 46, 47, 48, 49, 50, 51, 52, 53, 54, 55, 56, 57, 58, 59, 60, 61, 62, 62,
+            ],
+        ),
         12,
         "c 12 s: 350000 conflicts, 29166 a second, 64 of at most 64 cubes done, 100 %",
     ),
