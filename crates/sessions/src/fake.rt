@@ -1,7 +1,7 @@
 //! The real system, but for its clock, what it tells of memory, files that are read slowly, and a
 //! call that is refused.
 use crate::clocks::Pace;
-use std::alloc::Allocator;
+use std::alloc::{AllocError, Allocator};
 use std::fs::{Files, Metadata, OpenFile, OpenOptions, Permissions};
 use std::io;
 use std::io::{ErrorKind, PipeReader, PipeWriter, Read, Seek, SeekFrom, Write};
@@ -126,6 +126,19 @@ impl<R, C> Drop for Fake<'_, R, C> {
             status: _,
             refused: _,
         } = self;
+    }
+}
+
+// a folder that is listed keeps a copy of the system
+impl<R, C> Clone for Fake<'_, R, C> {
+    fn clone(&self) -> Result<Self, AllocError> {
+        Ok(Fake {
+            rt: self.rt,
+            clock: self.clock,
+            slow: self.slow,
+            status: self.status,
+            refused: self.refused,
+        })
     }
 }
 

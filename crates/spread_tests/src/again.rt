@@ -12,7 +12,7 @@ use std::{fs, io};
 const FORMULA: &str = "spread_again.cnf";
 
 /// The names of the packs of a run, in their order.
-fn packs_of<R: Files + AllocGlobal + Clone + Drop>(
+pub fn packs_of<R: Files + AllocGlobal + Clone + Drop>(
     rt: &R,
     alloc: Global,
     path: &str,

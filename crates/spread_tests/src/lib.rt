@@ -6,8 +6,24 @@ mod again;
 #[cfg(test)]
 mod faults;
 #[cfg(test)]
+mod formats;
+#[cfg(test)]
 mod hands;
 #[cfg(test)]
+mod models;
+#[cfg(test)]
+mod options;
+#[cfg(test)]
+mod plans;
+#[cfg(test)]
+mod refused_files;
+#[cfg(test)]
 mod rows;
+#[cfg(test)]
+mod steps;
+#[cfg(test)]
+mod times;
+#[cfg(test)]
+mod unwritten;
 #[cfg(test)]
 mod whole_runs;

@@ -21,7 +21,7 @@ pub struct Row<'a> {
 }
 
 /// Whether the command line ends and prints as it is to.
-fn is_so<R: Files + AllocGlobal + Threads + Wait + Clock + Sync + Clone + Drop>(
+pub fn is_so<R: Files + AllocGlobal + Threads + Wait + Clock + Sync + Clone + Drop>(
     rt: &R,
     alloc: Global,
     row: &Row,

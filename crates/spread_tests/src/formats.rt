@@ -1,0 +1,214 @@
+//! The files of a run, to the last byte, as `docs/FORMATS.md` has them. The sums are those that
+//! `sha256sum` gives.
+use crate::rows::{Row, begin};
+use crate::steps::{Step, check_steps};
+use samples::{FOUR, FOUR_PROOF, SIXTEEN};
+use std::test::Fail;
+
+/// A pack is named for its bytes, so it is none under another name, nor before it is whole.
+static WRITTEN: [Step; 17] = [
+    Step::Ends(Row {
+        words: &[
+            "cubesat",
+            "divide",
+            "--into",
+            "spread_files",
+            "--budget",
+            "1",
+            "--divide",
+            "2",
+            "spread_files.cnf",
+        ],
+        status: 0,
+        answer: "2\n",
+        faults: "",
+    }),
+    Step::Holds(
+        "spread_files/run",
+        "cubesat run 1\nsearch ordered\nbudget 1\ndivide 0\nlimits standard\nformula bdcfed14408fb3f368fe82437336d283a9dedc953677460e9c7317724c5e1e58\n",
+    ),
+    Step::Holds("spread_files/formula.cnf", FOUR),
+    Step::Holds("spread_files/rounds/0001", "-1 0\n1 0\n"),
+    Step::Holds(
+        "spread_files/packs/836c2664794b48690962139c7aa97f05db3cdf470d9a2dcad12996fbee81fda7.pack",
+        "cubesat pack 1 d19bf49d5f1058235b91384ab4780f1ec9739997ff2f40e5c1dc7d0ed2489e06\n\x04\x00\x00\x00\x00\x00\x00\x00\x00\x02\x01\x00",
+    ),
+    Step::Put(
+        "spread_files/packs/0.pack.part",
+        "cubesat pack 1 d19bf49d5f1058235b91384ab4780f1ec9739997ff2f40e5c1dc7d0ed2489e06\n\x04\x00\x00\x00\x00\x00\x00\x00\x00\x02\x01\x00",
+    ),
+    Step::Ends(Row {
+        words: &["cubesat", "divide", "--into", "spread_files"],
+        status: 0,
+        answer: "2\n",
+        faults: "",
+    }),
+    Step::Holds("spread_files/rounds/0002", "-1 0\n1 0\n"),
+    Step::Put(
+        "spread_files/packs/0000000000000000000000000000000000000000000000000000000000000000.pack",
+        "cubesat pack 1 d19bf49d5f1058235b91384ab4780f1ec9739997ff2f40e5c1dc7d0ed2489e06\n\x04\x00\x00\x00\x00\x00\x00\x00\x00\x02\x01\x00",
+    ),
+    Step::Ends(Row {
+        words: &["cubesat", "divide", "--into", "spread_files"],
+        status: 0,
+        answer: "2\n",
+        faults: "cubesat: spread_files/packs/0000000000000000000000000000000000000000000000000000000000000000.pack: not a whole pack of this run; it counts as missing\n",
+    }),
+    Step::Remove(
+        "spread_files/packs/0000000000000000000000000000000000000000000000000000000000000000.pack",
+    ),
+    Step::Make(
+        "spread_files/packs/0000000000000000000000000000000000000000000000000000000000000000.pack",
+    ),
+    Step::Ends(Row {
+        words: &["cubesat", "divide", "--into", "spread_files"],
+        status: 0,
+        answer: "2\n",
+        faults: "cubesat: spread_files/packs/0000000000000000000000000000000000000000000000000000000000000000.pack: ",
+    }),
+    Step::Remove(
+        "spread_files/packs/0000000000000000000000000000000000000000000000000000000000000000.pack",
+    ),
+    Step::Remove(
+        "spread_files/packs/836c2664794b48690962139c7aa97f05db3cdf470d9a2dcad12996fbee81fda7.pack",
+    ),
+    Step::Ends(Row {
+        words: &["cubesat", "divide", "--into", "spread_files"],
+        status: 0,
+        answer: "1\n",
+        faults: "",
+    }),
+    Step::Holds("spread_files/rounds/0005", "0\n"),
+];
+
+#[test]
+fn files_of_a_run(rt: HostRuntime) -> Result<(), Fail> {
+    begin(&rt, "spread_files", "spread_files.cnf", FOUR)?;
+    check_steps(&rt, &WRITTEN);
+    Ok(())
+}
+
+/// The left half is split once more, so its quarters stand before the right half.
+static LEFT_TO_RIGHT: [Step; 2] = [
+    Step::Ends(Row {
+        words: &[
+            "cubesat",
+            "divide",
+            "--into",
+            "spread_thirds",
+            "--budget",
+            "1",
+            "--divide",
+            "3",
+            "spread_thirds.cnf",
+        ],
+        status: 0,
+        answer: "3\n",
+        faults: "",
+    }),
+    Step::Holds("spread_thirds/rounds/0001", "-1 -2 0\n-1 2 0\n1 0\n"),
+];
+
+#[test]
+fn cubes_stand_from_left_to_right(rt: HostRuntime) -> Result<(), Fail> {
+    begin(&rt, "spread_thirds", "spread_thirds.cnf", SIXTEEN)?;
+    check_steps(&rt, &LEFT_TO_RIGHT);
+    Ok(())
+}
+
+/// Of the left cube it is said, by the name, first that it is refuted and then that it is split; of the
+/// right one the other way round.
+static ORDERED: [Step; 7] = [
+    Step::Ends(Row {
+        words: &[
+            "cubesat",
+            "divide",
+            "--into",
+            "spread_order",
+            "--budget",
+            "1",
+            "--divide",
+            "2",
+            "spread_order.cnf",
+        ],
+        status: 0,
+        answer: "2\n",
+        faults: "",
+    }),
+    Step::Put(
+        "spread_order/packs/5e6dc36c37651004ba556dd93a89eeb04b5327326e8a211f3ce58f8994ce20f8.pack",
+        "cubesat pack 1 d19bf49d5f1058235b91384ab4780f1ec9739997ff2f40e5c1dc7d0ed2489e06\n\x05\x00\x00\x00\x00\x00\x00\x00\x02\x00\x02\x02\x00\x05\x00\x00\x00\x00\x00\x00\x00\x02\x00\x02\x02\x00",
+    ),
+    Step::Put(
+        "spread_order/packs/4103a9845b3641d355ac5092b65c8e83e55bfa1cb411b1478004c88e8c222ec7.pack",
+        "cubesat pack 1 d19bf49d5f1058235b91384ab4780f1ec9739997ff2f40e5c1dc7d0ed2489e06\n\x04\x00\x00\x00\x00\x00\x00\x00\x02\x00\x04\x00\x04\x00\x00\x00\x00\x00\x00\x00\x02\x00\x04\x00",
+    ),
+    Step::Put(
+        "spread_order/packs/25c5a556dba7b13b858ceb842c8203cd94389704b58b698ab6b44d83033651b6.pack",
+        "cubesat pack 1 d19bf49d5f1058235b91384ab4780f1ec9739997ff2f40e5c1dc7d0ed2489e06\n\x05\x00\x00\x00\x00\x00\x00\x00\x03\x00\x02\x02\x00",
+    ),
+    Step::Put(
+        "spread_order/packs/f8043e7cf3a25647ec805969d1ff477404322c0d700fd10822dd46327ea7cf5d.pack",
+        "cubesat pack 1 d19bf49d5f1058235b91384ab4780f1ec9739997ff2f40e5c1dc7d0ed2489e06\n\x04\x00\x00\x00\x00\x00\x00\x00\x03\x00\x04\x00",
+    ),
+    Step::Ends(Row {
+        words: &["cubesat", "divide", "--into", "spread_order"],
+        status: 0,
+        answer: "2\n",
+        faults: "",
+    }),
+    Step::Holds("spread_order/rounds/0002", "-1 -2 0\n-1 2 0\n"),
+];
+
+#[test]
+fn of_two_facts_the_later_one_serves(rt: HostRuntime) -> Result<(), Fail> {
+    begin(&rt, "spread_order", "spread_order.cnf", FOUR)?;
+    check_steps(&rt, &ORDERED);
+    Ok(())
+}
+
+/// A pack with the split of the first cube, two claimed models, three bodies that are no facts, and a
+/// broken end, beside that of the division.
+static COUNTED: [Step; 4] = [
+    Step::Ends(Row {
+        words: &[
+            "cubesat",
+            "divide",
+            "--into",
+            "spread_counts",
+            "--budget",
+            "1",
+            "--divide",
+            "2",
+            "spread_counts.cnf",
+        ],
+        status: 0,
+        answer: "2\n",
+        faults: "",
+    }),
+    Step::Put(
+        "spread_counts/packs/f05654be5377f418fed1ca3edae6354eb8ee754844c3b7c1c928d8e561112c27.pack",
+        "cubesat pack 1 d19bf49d5f1058235b91384ab4780f1ec9739997ff2f40e5c1dc7d0ed2489e06\n\x04\x00\x00\x00\x00\x00\x00\x00\x00\x02\x01\x00\x04\x00\x00\x00\x00\x00\x00\x00\x03\x00\x06\x00\x04\x00\x00\x00\x00\x00\x00\x00\x02\x00\x06\x00\x04\x00\x00\x00\x00\x00\x00\x00\x13\x00\x04\x00\x05\x00\x00\x00\x00\x00\x00\x00\x03\x00\x02\x10\x00\x05\x00\x00\x00\x00\x00\x00\x00\x03\x00\x00\x04\x00\x05\x00\x00\x00\x00\x00\x00\x00\x00\x02",
+    ),
+    Step::Ends(Row {
+        words: &[
+            "cubesat",
+            "gather",
+            "--proof",
+            "spread_counts.lrat",
+            "--stats",
+            "spread_counts",
+        ],
+        status: 20,
+        answer: "s UNSATISFIABLE\n",
+        faults: "c packs: 4 facts, 2 of them checked, 3 passed over, 1 packs break off\n",
+    }),
+    Step::Holds("spread_counts.lrat", FOUR_PROOF),
+];
+
+#[test]
+fn what_packs_had_is_counted(rt: HostRuntime) -> Result<(), Fail> {
+    begin(&rt, "spread_counts", "spread_counts.cnf", FOUR)?;
+    check_steps(&rt, &COUNTED);
+    Ok(())
+}
