@@ -59,7 +59,16 @@ const REFUSED: Row = Row {
     ),
 };
 
-static ROWS: [Row; 13] = [
+/// This call doesn't list folders.
+const IN_FOLDERS: Row = Row {
+    words: &[
+        "cubesat", "conquer", "--round", "1", "--part", "1/1", "MISSING",
+    ],
+    faults: Known::All("cubesat: this call doesn't list folders, which a run needs\n"),
+    ..REFUSED
+};
+
+static ROWS: [Row; 16] = [
     SHOWN,
     Row {
         words: &["./another_name", "--version"],
@@ -168,6 +177,16 @@ static ROWS: [Row; 13] = [
         ],
         faults: Known::Beginning("error: invalid value '4294967297' for '--divide <N>': "),
         ..REFUSED
+    },
+    // runs in folders are for a call that lists these
+    IN_FOLDERS,
+    Row {
+        words: &["cubesat", "divide", "--into", "MISSING", "FORMULA"],
+        ..IN_FOLDERS
+    },
+    Row {
+        words: &["cubesat", "gather", "--proof", "PROOF", "MISSING"],
+        ..IN_FOLDERS
     },
 ];
 

@@ -197,7 +197,7 @@ static FORMULAS: [Row; 16] = [
 ];
 
 /// Proofs that are refused.
-static PROOFS: [Row; 17] = [
+static PROOFS: [Row; 18] = [
     Row {
         proof: b"4 1 0 1 2 0\n",
         answer: "refused 21 step 1\n",
@@ -208,6 +208,14 @@ static PROOFS: [Row; 17] = [
         proof: b"5 1 -1 0 0\n",
         answer: "refused 22 step 1\n",
         faults: "c |PROOF|: clause 5 has a variable in both signs (line 1)\n",
+        ..CHECKED
+    },
+    // the check reads by the limits that are asked for
+    Row {
+        formula: b"p cnf 262144 1\n1 0\n",
+        words: &["cubesat", "check", "--large", "FORMULA", "PROOF"],
+        answer: "refused 30\n",
+        faults: "c |PROOF|: no step adds the empty clause; the proof may have been cut off\n",
         ..CHECKED
     },
     Row {
