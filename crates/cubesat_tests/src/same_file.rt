@@ -1,6 +1,7 @@
-//! A proof that would be written over its formula, by whatever name.
+//! A proof that would be written over its formula or over the answer, by whatever name.
 use crate::command_lines::{prints, run};
 use samples::FOUR;
+use sessions::fake::Fake;
 use sessions::{Wanted, path_of};
 use std::fs;
 use std::rt::{Env, Files};
@@ -157,4 +158,34 @@ fn the_formula_is_not_written_over(rt: HostRuntime) -> Result<(), Fail> {
         assert!(rt; goes_well(&rt, &names, *trial)?, "{trial:?}");
     }
     names.remove(&rt)
+}
+
+/// Whether `solve` refuses to write the proof to this file, where the answer goes, and leaves it.
+fn keeps_answer<R: Files + AllocGlobal + Threads + Wait + Clock + Sync>(
+    rt: &R,
+    formula: &str,
+    output: &str,
+) -> Result<bool, Fail> {
+    let words = ["cubesat", "solve", "--proof", output, formula];
+    let wanted = Wanted {
+        status: 1,
+        answer: "",
+        faults: "cubesat: the proof would be written over the answer, which goes to the same file\n",
+    };
+    let is_printed = prints(rt, &words, &wanted);
+    let text = fs::read(rt, output)?;
+    Ok(is_printed && text.as_slice() == b"answers".as_slice())
+}
+
+#[test]
+fn the_answer_is_not_written_over(rt: HostRuntime) -> Result<(), Fail> {
+    let formula = path_of(&rt, "same_output.cnf")?;
+    let output = path_of(&rt, "same_output")?;
+    fs::write(&rt, formula.as_str(), FOUR)?;
+    fs::write(&rt, output.as_str(), "answers")?;
+    let fake = Fake::printing_to(&rt, &rt, output.as_str());
+    assert!(rt; keeps_answer(&fake, formula.as_str(), output.as_str())?);
+    fs::remove_file(&rt, output.as_str())?;
+    fs::remove_file(&rt, formula.as_str())?;
+    Ok(())
 }

@@ -14,6 +14,9 @@ use std::time::{Clock, Duration};
 /// counted.
 pub const STATUS: &str = "/proc/self/status";
 
+/// By this name Linux has the file that standard output goes to.
+const OUTPUT: &str = "/dev/stdout";
+
 /// A call that is refused.
 #[derive(Clone, Copy, Debug, PartialEq, Eq)]
 pub enum Call {
@@ -113,6 +116,8 @@ pub struct Fake<'a, R, C> {
     /// The file that is opened in place of the one in which Linux tells of the process, where there
     /// is one.
     status: Option<&'a str>,
+    /// The file that standard output goes to, where it isn't the test's own.
+    output: Option<&'a str>,
     refused: Option<Call>,
 }
 
@@ -124,6 +129,7 @@ impl<R, C> Drop for Fake<'_, R, C> {
             clock: _,
             slow: _,
             status: _,
+            output: _,
             refused: _,
         } = self;
     }
@@ -137,6 +143,7 @@ impl<R, C> Clone for Fake<'_, R, C> {
             clock: self.clock,
             slow: self.slow,
             status: self.status,
+            output: self.output,
             refused: self.refused,
         })
     }
@@ -150,6 +157,7 @@ impl<'a, R, C> Fake<'a, R, C> {
             clock,
             slow: None,
             status: None,
+            output: None,
             refused: None,
         }
     }
@@ -161,6 +169,7 @@ impl<'a, R, C> Fake<'a, R, C> {
             clock,
             slow: None,
             status: None,
+            output: None,
             refused: Some(call),
         }
     }
@@ -172,6 +181,19 @@ impl<'a, R, C> Fake<'a, R, C> {
             clock,
             slow: None,
             status: Some(path),
+            output: None,
+            refused: None,
+        }
+    }
+
+    /// The system by this clock, where standard output goes to the file of this path.
+    pub fn printing_to(rt: &'a R, clock: &'a C, path: &'a str) -> Fake<'a, R, C> {
+        Fake {
+            rt,
+            clock,
+            slow: None,
+            status: None,
+            output: Some(path),
             refused: None,
         }
     }
@@ -193,6 +215,7 @@ impl<'a, R> Fake<'a, R, Pace<'a>> {
             clock: pace,
             slow: Some((path, pace)),
             status: None,
+            output: None,
             refused: None,
         }
     }
@@ -250,7 +273,11 @@ impl<'a, R: Files, C> Files for Fake<'a, R, C> {
     }
 
     fn metadata(&self, path: &str) -> io::Result<Metadata> {
-        self.rt.metadata(path)
+        let there = match self.output {
+            Some(output) if path == OUTPUT => output,
+            _ => path,
+        };
+        self.rt.metadata(there)
     }
 
     fn symlink_metadata(&self, path: &str) -> io::Result<Metadata> {
