@@ -26,6 +26,10 @@ pub enum Call {
     Flush,
     Sync,
     Rename,
+    /// To rename a file, since another run is at work there.
+    RenameAsBusy,
+    /// To rename a file, for want of memory.
+    RenameForMemory,
     SetPermissions,
 }
 
@@ -34,6 +38,16 @@ fn refuse(refused: Option<Call>, call: Call) -> io::Result<()> {
         Err(io::Error::from(ErrorKind::PermissionDenied))
     } else {
         Ok(())
+    }
+}
+
+/// Why a file can't be renamed, where this call is refused.
+fn refusal_to_rename(refused: Option<Call>) -> Option<ErrorKind> {
+    match refused? {
+        Call::Rename => Some(ErrorKind::PermissionDenied),
+        Call::RenameAsBusy => Some(ErrorKind::ResourceBusy),
+        Call::RenameForMemory => Some(ErrorKind::OutOfMemory),
+        _ => None,
     }
 }
 
@@ -289,8 +303,10 @@ impl<'a, R: Files, C> Files for Fake<'a, R, C> {
     }
 
     fn rename(&self, from: &str, to: &str) -> io::Result<()> {
-        refuse(self.refused, Call::Rename)?;
-        self.rt.rename(from, to)
+        match refusal_to_rename(self.refused) {
+            Some(kind) => Err(io::Error::from(kind)),
+            None => self.rt.rename(from, to),
+        }
     }
 
     fn remove_file(&self, path: &str) -> io::Result<()> {

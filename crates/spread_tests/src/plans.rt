@@ -100,8 +100,8 @@ fn a_run_is_the_one_that_is_asked_for(rt: HostRuntime) -> Result<(), Fail> {
 /// The four clauses, over one variable more than the standard limits have.
 const MANY: &str = "p cnf 262144 4\n1 2 0\n1 -2 0\n-1 2 0\n-1 -2 0\n";
 
-/// All three commands read the formula by the limits of the run.
-static LARGE: [Step; 5] = [
+/// What comes behind the division reads the formula by the limits of the run.
+static LARGE: [Step; 4] = [
     Step::Ends(Row {
         words: &[
             "cubesat",
@@ -136,23 +136,9 @@ static LARGE: [Step; 5] = [
         faults: "",
     }),
     Step::Ends(Row {
-        words: &[
-            "cubesat",
-            "conquer",
-            "--round",
-            "1",
-            "--part",
-            "2/2",
-            "spread_large",
-        ],
-        status: 0,
-        answer: "",
-        faults: "",
-    }),
-    Step::Ends(Row {
         words: &["cubesat", "divide", "--into", "spread_large"],
         status: 0,
-        answer: "1\n",
+        answer: "2\n",
         faults: "",
     }),
     Step::Ends(Row {

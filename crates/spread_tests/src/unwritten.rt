@@ -48,7 +48,7 @@ const UNGATHERED: Row = Row {
 };
 
 /// Command lines, whether there is a run before them, and the call of the system that is refused.
-static REFUSED: [(Row, bool, Call); 9] = [
+static REFUSED: [(Row, bool, Call); 11] = [
     (UNMADE, false, Call::Write),
     (UNMADE, false, Call::Sync),
     (UNMADE, false, Call::Rename),
@@ -64,6 +64,24 @@ static REFUSED: [(Row, bool, Call); 9] = [
         },
         true,
         Call::Sync,
+    ),
+    (
+        Row {
+            faults: "cubesat: spread_unwritten: not enough memory; free some and try again\n",
+            ..UNSOLVED
+        },
+        true,
+        Call::RenameForMemory,
+    ),
+    // another part puts the same pack there
+    (
+        Row {
+            status: 0,
+            faults: "",
+            ..UNSOLVED
+        },
+        true,
+        Call::RenameAsBusy,
     ),
     (UNGATHERED, true, Call::Sync),
     (UNGATHERED, true, Call::Rename),
