@@ -85,8 +85,7 @@ fn take_up(queue: &mut VecDeque<Cube>, left: Left, count: usize) -> Result<bool,
 
 /// Solves the cubes of a formula by breadth, from the one without literals on, until at least so
 /// many are open or none is. What is said of them is true, and those that wait are just the cubes
-/// that it leaves open. It fails where a request for memory is
-/// refused.
+/// that it leaves open. It fails where a request for memory is refused.
 pub(crate) fn by_breadth(
     alloc: Global,
     formula: &Formula,
