@@ -7,4 +7,6 @@ pub mod LineLemmas
 pub mod WalkLemmas
 pub mod StepLemmas
 pub mod LawLemmas
+pub mod MadeLemmas
 pub mod DueLemmas
+pub mod FedLemmas

@@ -1,10 +1,12 @@
 -- How a tree's nodes, one after the other, give the lines of its proof.
 use Rattle.std.specs.Prelude.{ℕ, ◌+◌, ◌-◌, List, [], ◌∷◌, ◌++◌, map, length, Some, None}
 use Rattle.theory.specs.Literals.{Literal, negations}
+use Rattle.theory.specs.Truth.{Formula}
+use Rattle.theory.specs.Pure.{pure_literals}
 use Rattle.theory.specs.Trees as trees
 use Rattle.theory.specs.Steps.{Step, add}
 use Rattle.theory.specs.Learning.{Line}
-use Rattle.theory.specs.Proofs.{renumbered, leaf_steps, refuted_steps, split_steps, deletion, numbers_from}
+use Rattle.theory.specs.Proofs.{renumbered, leaf_steps, refuted_steps, split_steps, unit_steps, deletion, numbers_from}
 use Rattle.cubes.specs.declared.traversal.Split.{Split}
 use Rattle.cubes.specs.Traversal.{path}
 
@@ -44,21 +46,25 @@ learnt_line N first n Q line = add (record { id = n; clause = line.clause ++ neg
 abbrev pub split_line : ℕ → List Literal → ℕ → ℕ → Step
 split_line n Q left right = add (record { id = n; clause = negations Q; hints = left ∷ right ∷ []; groups = [] })
 
--- the lines from a node on
-abbrev pub lines_below : ℕ → ℕ → List (Split ℕ) → List trees.Node → List Step
-lines_below N n hs nodes = (on_nodes N (record { halves = hs; next = n; steps = [] }) nodes).steps
-
 -- what is left of a leaf's lines, of which the next has the number n, and what they leave to be
 -- deleted; behind the last one nothing is left
 abbrev pub leaf_left : ℕ → ℕ → ℕ → List Literal → List Line → List Step
 leaf_left N first n Q [] = []
 leaf_left N first n Q (line ∷ lines) = leaf_steps N first n Q (line ∷ lines) ++ deletion Q (n + length lines) (numbers_from first (n + length lines - first))
 
--- the lines from within a leaf on, of which some lines are left, or none
-abbrev pub lines_from : ℕ → ℕ → ℕ → List (Split ℕ) → List Line → List trees.Node → List Step
-lines_from N first n hs leaf nodes = (on_nodes N (climb hs (n + length leaf) (leaf_left N first n (path hs) leaf)) nodes).steps
+-- what follows from within a leaf on, of which some lines are left, or none; the next of them has
+-- the number n
+abbrev pub from_leaf : ℕ → ℕ → ℕ → List (Split ℕ) → List Line → Joined
+from_leaf N first n hs leaf = climb hs (n + length leaf) (leaf_left N first n (path hs) leaf)
 
--- the lines from a leaf on that was looked for: without one there are none
-abbrev pub lines_entered : ℕ → ℕ → ℕ → List (Split ℕ) → List Line → List trees.Node → List Step
-lines_entered N first n hs [] nodes = []
-lines_entered N first n hs (line ∷ leaf) nodes = lines_from N first n hs (line ∷ leaf) nodes
+-- the same, with more lines before
+abbrev pub behind : List Step → Joined → Joined
+behind lines s = record { halves = s.halves; next = s.next; steps = lines ++ s.steps }
+
+-- before the first node, where the formula has C clauses and the units' lines come first
+abbrev pub before_nodes : ℕ → List Literal → Joined
+before_nodes C units = record { halves = []; next = C + length units + 1; steps = unit_steps (C + 1) units }
+
+-- what follows the first nodes of a formula's tree
+abbrev pub after_nodes : Formula → List trees.Node → Joined
+after_nodes F nodes = on_nodes (length F.clauses + length (pure_literals F)) (before_nodes (length F.clauses) (pure_literals F)) nodes

@@ -1,27 +1,25 @@
 -- The lines of a proof that are still to come, and what is kept on the way.
-use Rattle.std.specs.Prelude.{◌≡◌, ℕ, ◌+◌, ◌-◌, ◌<◌, ◌≤◌, Bool, true, false, List, [], ◌∷◌, ◌++◌, map, length, All}
+use Rattle.std.specs.Prelude.{◌≡◌, ℕ, ◌+◌, ◌-◌, ◌<◌, ◌≤◌, Bool, true, false, List, [], ◌∷◌, map, length, All}
 use Rattle.std.specs.Vec.Iter.{into_iter_items}
 use Rattle.theory.specs.Literals.{Literal}
 use Rattle.theory.specs.Learning.{Line}
-use Rattle.theory.specs.Truth.{IsOver}
 use Rattle.theory.specs.Reading.{large, max_vars, max_clauses}
 use Rattle.theory.specs.Steps.{Step, add, delete}
 use Rattle.theory.specs.Proofs.{unit_steps, deletion}
 use Rattle.theory.specs.ProofReading.{IsStep, max_number}
-use Rattle.cubes.specs.declared.tree.Node.{Node}
+use Rattle.cubes.specs.declared.traversal.Split.{Split}
 use Rattle.cubes.specs.Result.{node_of}
 use Rattle.cubes.specs.Traversal.{path}
+use Rattle.join.specs.declared.joiner.Joiner.{Joiner}
+use Rattle.join.specs.declared.joiner.Stage.{Stage}
+use Rattle.join.specs.declared.joiner.Stage.TheVariants.{Between, Within}
 use Rattle.join.specs.declared.line.Due.{Due}
-use Rattle.join.specs.declared.line.Due.TheVariants.{Halves}
 use Rattle.join.specs.declared.line.Kind.{Kind}
 use Rattle.join.specs.declared.line.Kind.TheVariants.{Addition, Deletion}
 use Rattle.join.specs.declared.line.ProofLine.{ProofLine}
 use Rattle.join.specs.declared.proof_lines.Lines.{Lines}
-use Rattle.join.specs.declared.walk.TreeWalk.{TreeWalk}
-use Rattle.join.specs.declared.walk.Source.{Source}
-use Rattle.join.specs.declared.walk.Source.TheVariants.{Learnt, Split, End}
-use Rattle.join.specs.Joining.{learnt_line, split_line, lines_below, lines_from, lines_entered}
-use Rattle.join.specs.Numbered.{AreUpTo, AreLines, AreNodes, IsHalf, IsDue, numbers_due, due_behind}
+use Rattle.join.specs.Joining.{Joined, behind, from_leaf, on_nodes}
+use Rattle.join.specs.Numbered.{AreLines, AreNodes, IsHalf, IsDue, numbers_due}
 
 -- a line by its kind: the numbers are the hints, or those of the clauses to be deleted
 abbrev pub step_by : Kind → ℕ → List Literal → List ℕ → Step
@@ -35,86 +33,46 @@ line_of l = step_by l.kind l.id l.clause.items l.numbers.items
 abbrev pub learnt_in : ProofLine → Line
 learnt_in l = record { clause = l.clause.items; hints = l.numbers.items }
 
--- the tree's lines that are still to come, but for a deletion that is due
-abbrev pub tree_left : TreeWalk → List Step
-tree_left w = lines_from w.clauses w.first w.next w.place w.leaf (map node_of (into_iter_items w.nodes))
+-- what was given is followed by this, by where a joiner stands: between nodes nothing is left of
+-- those that came, or else the deletion that is due, and what is left of the leaf
+abbrev pub at_stage : ℕ → Stage → ℕ → ℕ → List (Split ℕ) → List Line → Joined
+at_stage N Between first n hs leaf = record { halves = hs; next = n; steps = [] }
+at_stage N (Within due) first n hs leaf = behind (deletion (path hs) (n - 1) (numbers_due due first (n - 1))) (from_leaf N first n hs leaf)
 
--- what is deleted behind the line of the number last
-abbrev pub deletion_of : Due → TreeWalk → ℕ → List Step
-deletion_of due w last = deletion (path w.place) last (numbers_due due w.first last)
+-- what the nodes that came give yet, and where they lead; the pure literals' lines come first
+abbrev pub joined : Joiner → Joined
+joined j = behind (unit_steps j.unit (into_iter_items j.units)) (at_stage j.clauses j.stage j.first j.next j.place j.leaf)
 
--- the tree's lines that are still to come, where the next one is given just now and leaves this to
--- be deleted
-abbrev pub tree_behind : Due → TreeWalk → List Step
-tree_behind due w = deletion_of due w w.next
-    ++ lines_from w.clauses w.first (w.next + 1) w.place w.leaf (map node_of (into_iter_items w.nodes))
-
--- the tree's lines from the next node on
-abbrev pub tree_under : TreeWalk → List Step
-tree_under w = lines_below w.clauses w.next w.place (map node_of (into_iter_items w.nodes))
-
--- the tree's lines from the leaf on that was looked for
-abbrev pub tree_reached : TreeWalk → List Step
-tree_reached w = lines_entered w.clauses w.first w.next w.place w.leaf (map node_of (into_iter_items w.nodes))
-
--- the lines that are still to come: the pure literals' ones, the deletion that is due, and the
--- tree's
+-- the lines that are still to come: those of the nodes that came, and of the others
 abbrev pub lines_left : Lines → List Step
-lines_left l = unit_steps l.unit (into_iter_items l.units) ++ (deletion_of l.due l.walk (l.walk.next - 1) ++ tree_left l.walk)
+lines_left l = (on_nodes l.joiner.clauses (joined l.joiner) (map node_of (into_iter_items l.nodes))).steps
 
--- what is kept between two lines of a tree, where the next one has the number n
-pub record IsAt (w : TreeWalk) (n : ℕ) : Type 0 where
-  pub clauses : w.clauses ≤ max_clauses large + max_vars large
-  pub first : w.clauses < w.first
-  pub begun : w.first ≤ n
-  pub splits : All (IsHalf n) w.place
-  pub started : length w.leaf ≡ 0 → 0 < length w.place → w.first < n
-  pub leaf : AreLines (w.clauses + (n - w.first)) w.leaf
-  pub nodes : AreNodes w.clauses (map node_of (into_iter_items w.nodes))
+-- what is kept within a leaf, where the next line has the number n
+pub record IsInLeaf (N : ℕ) (due : Due) (first n : ℕ) (lines : List Line) : Type 0 where
+  pub above : N < first
+  pub begun : first ≤ n
+  pub started : length lines ≡ 0 → first < n
+  pub are : AreLines (N + (n - first)) lines
+  pub is_due : IsDue due (n - 1)
+
+abbrev pub IsAtStage : ℕ → Stage → ℕ → ℕ → List Line → Type 0
+IsAtStage N Between first n lines = Unit {0}
+IsAtStage N (Within due) first n lines = IsInLeaf N due first n lines
+
+-- what a joiner keeps between two lines
+pub record IsJoining (j : Joiner) : Type 0 where
+  pub clauses : j.clauses ≤ max_clauses large + max_vars large
+  pub begun : j.clauses < j.next
+  pub fits : j.next ≤ max_number + 1
+  pub splits : All (IsHalf j.next) j.place
+  pub at : IsAtStage j.clauses j.stage j.first j.next j.leaf
+  pub unit : 1 ≤ j.unit
+  pub units : j.unit + length (into_iter_items j.units) ≤ max_number
 
 -- what is kept between two lines
 pub record IsBetweenLines (l : Lines) : Type 0 where
-  pub walk : IsAt l.walk l.walk.next
-  pub fits : l.walk.next ≤ max_number + 1
-  pub due : IsDue l.due (l.walk.next - 1)
-  pub unit : 1 ≤ l.unit
-  pub units : l.unit + length (into_iter_items l.units) ≤ max_number
-
--- before a tree's first line
-pub record IsBegun (N : ℕ) (tree : List (Node (List Line))) (w : TreeWalk) : Type 0 where
-  pub clauses : w.clauses ≡ N
-  pub next : w.next ≡ N + 1
-  pub place : w.place ≡ []
-  pub first : w.first ≡ N + 1
-  pub leaf : w.leaf ≡ []
-  pub nodes : into_iter_items w.nodes ≡ tree
-
--- what is kept on the way down to a leaf
-pub record IsUnder (w : TreeWalk) : Type 0 where
-  pub clauses : w.clauses ≤ max_clauses large + max_vars large
-  pub begun : w.clauses < w.next
-  pub splits : All (IsHalf w.next) w.place
-  pub leaf : w.leaf ≡ []
-  pub nodes : AreNodes w.clauses (map node_of (into_iter_items w.nodes))
-
--- where a leaf was looked for, it is there, or there is none
-pub record Reaches (old new : TreeWalk) : Type 0 where
-  pub rest : tree_under old ≡ tree_reached new
-  pub lawful : 0 < length new.leaf → IsAt new new.next
-  pub clauses : new.clauses ≡ old.clauses
-  pub next : new.next ≡ old.next
-
--- the tree's lines that were to come, by where the first of them comes from
-abbrev pub Gives : TreeWalk → TreeWalk → Source → Line → Type 0
-Gives old new Learnt line = tree_left old ≡ learnt_line new.clauses new.first new.next (path new.place) line ∷ tree_behind (due_behind new.leaf) new
-Gives old new (Split left) line = tree_left old ≡ split_line new.next (path new.place) left (new.next - 1) ∷ tree_behind (Halves left) new
-Gives old new End line = tree_left old ≡ []
-
--- that line is within the limits
-abbrev pub IsWithin : TreeWalk → Source → Line → Type 0
-IsWithin w Learnt line = IsAt w (w.next + 1) × IsOver (max_vars large) line.clause × AreUpTo (w.clauses + (w.next - w.first)) line.hints × (w.first ≤ w.next)
-IsWithin w (Split left) line = IsAt w (w.next + 1) × (1 ≤ left) × (left < w.next)
-IsWithin w End line = Unit {0}
+  pub joiner : IsJoining l.joiner
+  pub nodes : AreNodes l.joiner.clauses (map node_of (into_iter_items l.nodes))
 
 -- whether there was one more line
 abbrev pub HasNextLine : List Step → List Step → Step → Bool → Type 0
@@ -125,17 +83,25 @@ abbrev pub OnMore : Type 0 → Bool → Type 0
 OnMore P true = P
 OnMore P false = Unit {0}
 
+-- whether the nodes that came gave one more line, which was the first of theirs; if they didn't,
+-- all stays
+abbrev pub IsNextLine : Joined → Joined → Step → Bool → Type 0
+IsNextLine old new line true = old ≡ behind (line ∷ []) new
+IsNextLine old new line false = (old.steps ≡ []) × (new ≡ old)
+
 -- a line was made, which was the first of those to come
-pub record IsMade (old new : Lines) : Type 0 where
-  pub rest : lines_left old ≡ line_of new.line ∷ lines_left new
+pub record IsMade (old new : Joiner) : Type 0 where
+  pub rest : joined old ≡ behind (line_of new.line ∷ []) (joined new)
   pub within : IsStep (line_of new.line)
-  pub lawful : IsBetweenLines new
+  pub clauses : new.clauses ≡ old.clauses
+  pub lawful : IsJoining new
 
 -- or there was none of its kind, and all are still to come
-pub record IsKept (old new : Lines) : Type 0 where
-  pub rest : lines_left old ≡ lines_left new
-  pub lawful : IsBetweenLines new
+pub record IsKept (old new : Joiner) : Type 0 where
+  pub rest : joined new ≡ joined old
+  pub clauses : new.clauses ≡ old.clauses
+  pub lawful : IsJoining new
 
-abbrev pub Makes : Lines → Lines → Bool → Type 0
+abbrev pub Makes : Joiner → Joiner → Bool → Type 0
 Makes old new true = IsMade old new
 Makes old new false = IsKept old new

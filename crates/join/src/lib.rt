@@ -2,14 +2,15 @@
 #![tactic(auto)]
 
 mod answer;
+mod joiner;
 mod line;
 mod proof_lines;
 mod proof_text;
 mod room;
 mod steps;
-mod walk;
 
 pub use answer::answer_bytes;
+pub use joiner::Joiner;
 pub use line::{Kind, ProofLine};
 pub use proof_lines::Lines;
 pub use proof_text::proof_bytes;

@@ -4,4 +4,6 @@
 #[cfg(test)]
 mod answers;
 #[cfg(test)]
+mod fed;
+#[cfg(test)]
 mod joined;

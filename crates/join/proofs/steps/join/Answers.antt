@@ -8,6 +8,6 @@ loop-steps-preserved c =
     let v = c.loop-steps.invariant in
     let m = c.next_line.new.self in
     let e = c.in_ok-next_line.ensures in
-    let more = steps-more c.loop-steps.steps.items c.push.new.self.items c.in_ok-to_step.field-0 (line_of m.line) (lines_left c.loop-steps.lines) (lines_left m) _ v.within v.whole
+    let more = steps-more c.loop-steps.steps.items c.push.new.self.items c.in_ok-to_step.field-0 (line_of m.joiner.line) (lines_left c.loop-steps.lines) (lines_left m) _ v.within v.whole
     (rw c.if-branch.true at e.rest) (rw c.if-branch.true at e.within) c.in_ok-push.ensures.items (c.in_ok-to_step.ensures ∙ ap line_of c.line.ensures) in
     record { lawful = rw c.if-branch.true at e.lawful; within = more.0; whole = more.1 }

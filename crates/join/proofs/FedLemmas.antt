@@ -1,0 +1,90 @@
+-- Nodes that come one after the other, and the lines that they give.
+use Rattle.std.proofs.Common.{◌≡◌, ℕ, ◌+◌, ◌≤◌, List, [], ◌∷◌, ◌++◌, length, None, ap, sym, subst, ◌∙◌, append_assoc, append-nil, arith, All}
+use Rattle.theory.specs.Literals.{Literal}
+use Rattle.theory.specs.Truth.{Formula}
+use Rattle.theory.specs.Plans.{Search}
+use Rattle.theory.specs.Pure.{pure_literals}
+use Rattle.theory.specs.Reading.{large, IsWithinLimits}
+use Rattle.theory.specs.Search.{first_clauses, refuted, exhausted}
+use Rattle.theory.specs.Learning.{Line}
+use Rattle.theory.specs.Trees.{Tree, Node, split_on, refuted_leaf, nodes_of, first_model, tree_of}
+use Rattle.theory.specs.Steps.{Step}
+use Rattle.theory.specs.Proofs.{tree_steps, prelude, proof}
+use Rattle.theory.specs.ProofReading.{IsStep, max_proof_bytes}
+use Rattle.theory.specs.Texts.{proof_text}
+use Rattle.theory.specs.Checking.{checks, accepted}
+use Rattle.theory.specs.Checked.{IsCheckedResult, IsCheckedOutcome}
+use Rattle.theory.proofs.checker.AcceptedProofs.{checks-checked}
+use Rattle.theory.proofs.searching.PureVariables.{length-first_clauses}
+use Rattle.theory.proofs.trees.CheckedTrees.{IsFitSplit-checked}
+use Rattle.join.specs.Joining.{Joined, on_node, on_nodes, behind, before_nodes, after_nodes}
+use Rattle.join.specs.Numbered.{AreLines, IsNode}
+use Rattle.join.proofs.StepLemmas.{proof-within}
+use Rattle.join.proofs.TreeLemmas.{refutation-lines}
+use Rattle.join.proofs.TreeSteps.{on_nodes-append, on_nodes-tree}
+use Rattle.join.proofs.WalkLemmas.{on_nodes-behind}
+
+-- one node more
+pub on_nodes-last : (N : ℕ) (s : Joined) (ns : List Node) (n : Node) → on_nodes N s (ns ++ n ∷ []) ≡ on_node N (on_nodes N s ns) n
+on_nodes-last N s ns n = on_nodes-append N s ns (n ∷ [])
+
+pub on_node-behind : (N : ℕ) (S : List Step) (s : Joined) (n : Node) → on_node N (behind S s) n ≡ behind S (on_node N s n)
+on_node-behind N S s n = on_nodes-behind N S s (n ∷ [])
+
+pub behind-append : (S T : List Step) (s : Joined) → behind (S ++ T) s ≡ behind S (behind T s)
+behind-append S T s = ap (λ steps. record s { steps = steps }) (append_assoc S T s.steps)
+
+-- the lines so far, and what the nodes that came give yet, are what these nodes give: so it stays
+-- where one more node is taken
+pub taken-after : (F : Formula) (N : ℕ) (nodes : List Node) (n : Node) (lines : List Step) (old new : Joined) → N ≡ length F.clauses + length (pure_literals F) → behind lines old ≡ after_nodes F nodes → new ≡ on_node N old n
+    → behind lines new ≡ after_nodes F (nodes ++ n ∷ [])
+taken-after F N nodes n lines old new count so_far is =
+    let M = length F.clauses + length (pure_literals F) in
+    ap (behind lines) (is ∙ ap (λ m. on_node m old n) count)
+    ∙ sym (on_node-behind M lines old n)
+    ∙ ap (λ s. on_node M s n) so_far
+    ∙ sym (on_nodes-last M (before_nodes (length F.clauses) (pure_literals F)) nodes n)
+
+-- and where one more line is made
+pub made-after : (lines : List Step) (line : Step) (old new whole : Joined) → behind lines old ≡ whole → old ≡ behind (line ∷ []) new → behind (lines ++ line ∷ []) new ≡ whole
+made-after lines line old new whole so_far is = behind-append lines (line ∷ []) new ∙ ap (behind lines) (sym is) ∙ so_far
+
+-- the clauses that a search begins with
+count-first : (F : Formula) → length F.clauses + length (pure_literals F) ≡ length (first_clauses F)
+count-first F = let e = length-first_clauses F in omega arith
+
+-- the node of a cube whose lines replay, and that of a split
+pub IsNode-refuted : (F : Formula) (search : Search) (Q : List Literal) (N : ℕ) (lines : List Line) → IsWithinLimits large F → N ≡ length F.clauses + length (pure_literals F) → IsCheckedOutcome search F Q (refuted lines)
+    → IsNode N (refuted_leaf lines)
+IsNode-refuted F search Q N lines within count checked =
+    let are = refutation-lines F Q lines within checked in
+    (are.0, subst (λ m. AreLines m lines) (sym (count ∙ count-first F)) are.1)
+
+pub IsNode-split : (F : Formula) (search : Search) (Q : List Literal) (N x : ℕ) → IsWithinLimits large F → IsCheckedOutcome search F Q (exhausted x) → IsNode N (split_on x)
+IsNode-split F search Q N x within checked =
+    let fit = IsFitSplit-checked search F Q x checked in
+    let low = fit.0.0 in
+    let high = fit.0.1 in
+    let few = within.vars in
+    (low, omega arith)
+
+-- all nodes of a tree without a model give its proof
+pub after-tree : (F : Formula) (t : Tree) → first_model t ≡ None → (after_nodes F (nodes_of t)).steps ≡ proof F t
+after-tree F t none =
+    let N = length F.clauses + length (pure_literals F) in
+    ap (λ (s : Joined). s.steps) (on_nodes-tree N t (before_nodes (length F.clauses) (pure_literals F)) none)
+    ∙ ap (λ n. prelude F ++ tree_steps n (n + 1) [] t) (count-first F)
+
+-- so do the lines that were made, once no node is to come and no line
+pub made-proof : (F : Formula) (t : Tree) (lines : List Step) (s : Joined) → first_model t ≡ None → behind lines s ≡ after_nodes F (nodes_of t) → s.steps ≡ [] → lines ≡ proof F t
+made-proof F t lines s none so_far over =
+    sym (append-nil lines) ∙ ap (λ steps. lines ++ steps) (sym over) ∙ ap (λ (s : Joined). s.steps) so_far ∙ after-tree F t none
+
+-- the checker accepts them
+pub made-accepted : (F : Formula) (search : Search) (t : Tree) (lines : List Step) → IsCheckedResult search F (tree_of t) → lines ≡ proof F t → checks F lines ≡ accepted
+made-accepted F search t lines checked are = ap (checks F) are ∙ checks-checked F t checked.0 checked.1
+
+-- and their numbers are within the limits
+pub made-within : (F : Formula) (search : Search) (t : Tree) (lines : List Step) → IsWithinLimits large F → IsCheckedResult search F (tree_of t) → lines ≡ proof F t
+    → length (proof_text lines) ≤ max_proof_bytes large → All IsStep lines
+made-within F search t lines within checked are = rw are (proof-within F t within checked.0 checked.1)

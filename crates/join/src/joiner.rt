@@ -1,0 +1,285 @@
+//! The lines of a refuted tree's proof, where the tree's nodes come one after the other: its leaves
+//! from left to right, and each split behind its right half.
+ghost use Rattle.std.specs.Prelude.{◌≡◌, ◌+◌, ◌≤◌, [], length, IfOk, OnOk};
+ghost use Rattle.std.specs.Bool.{OnFalse};
+ghost use Rattle.std.specs.Vec.{vec_capacity};
+ghost use Rattle.std.specs.Vec.Iter.{into_iter_items};
+ghost use Rattle.theory.specs.Reading.{large, max_vars, max_clauses};
+ghost use Rattle.theory.specs.ProofReading.{IsStep, max_number};
+ghost use Rattle.cubes.specs.Result.{node_of};
+ghost use Rattle.join.specs.Joining.{on_node, before_nodes};
+ghost use Rattle.join.specs.Numbered.{IsNode, due_behind};
+ghost use Rattle.join.specs.Rooms.{longest_text};
+ghost use Rattle.join.specs.Walking.{joined, line_of, IsJoining, IsNextLine, Makes, OnMore};
+
+use crate::line::{Due, ProofLine};
+use crate::room::Need;
+use cnf::Lit;
+use cubes::{Node, Turn, Walk};
+use lines::{Reader, Row};
+use lrat::MAX_NUMBER;
+use std::alloc::{AllocError, Global};
+use std::vec::IntoIter;
+
+/// Where a joiner stands between two lines.
+#[derive(Clone, Copy)]
+pub(crate) enum Stage {
+    /// Between two nodes: the lines of those that came are given.
+    Between,
+
+    /// Behind a leaf that came. What is due is deleted first; then come the lines that are left of
+    /// the leaf, and behind its last one those of the splits above whose halves are both done.
+    Within(Due),
+}
+
+/// The lines of a tree's proof, where its nodes come one after the other. It keeps one leaf, and
+/// makes each line as it is asked for, in the memory of the one before.
+#[derive(Drop)]
+pub struct Joiner {
+    /// How many clauses the search of a cube begins with: the numbers up to it are theirs.
+    clauses: u64,
+
+    /// The pure literals whose lines are still to come.
+    units: IntoIter<Lit>,
+
+    /// The number of the next one's line.
+    unit: u64,
+
+    /// The number of the tree's next line.
+    next: u64,
+
+    /// The splits on the way from the root; a left half comes to the number of its last line.
+    place: Walk<u64>,
+
+    /// The number of the first line of the leaf that came last.
+    first: u64,
+
+    /// That leaf's lines that are still to come.
+    leaf: Reader,
+
+    stage: Stage,
+
+    /// The line that was given last.
+    line: ProofLine,
+}
+
+/// What is due behind a leaf's line: once it was the last one, the lines before it.
+fn due_behind(leaf: &Reader) -> Due
+    ensures { result ≡ due_behind leaf.now }
+{
+    if leaf.len() == 0 {
+        Due::Leaf
+    } else {
+        Due::Nothing
+    }
+}
+
+impl Joiner {
+    /// Before the first node of a tree, for a formula of so many clauses: the lines of these pure
+    /// literals come first. It takes memory as lines and ways from the root need more.
+    pub fn start(alloc: Global, clauses: u64, units: Vec<Lit>) -> Result<Joiner, AllocError>
+        requires clauses { clauses ≤ max_clauses large }
+        requires units { length units.items ≤ max_vars large }
+        ensures joined { IfOk result (λ j. joined j ≡ before_nodes clauses units.items) }
+        ensures clauses { IfOk result (λ j. j.clauses ≡ clauses + length units.items) }
+        ensures lawful { IfOk result IsJoining }
+    {
+        let joiner = Joiner::with_room(alloc, clauses, units, Need::none())?;
+        Ok(joiner)
+    }
+
+    /// The same with room: it takes no more memory while lines and ways from the root need no more.
+    pub(crate) fn with_room(
+        alloc: Global,
+        clauses: u64,
+        units: Vec<Lit>,
+        need: Need,
+    ) -> Result<Joiner, AllocError>
+        requires clauses { clauses ≤ max_clauses large }
+        requires units { length units.items ≤ max_vars large }
+        ensures joined { IfOk result (λ j. joined j ≡ before_nodes clauses units.items) }
+        ensures clauses { IfOk result (λ j. j.clauses ≡ clauses + length units.items) }
+        ensures lawful { IfOk result IsJoining }
+        ensures literals { IfOk result (λ j. vec_capacity j.line.clause ≡ need.literals) }
+        ensures numbers { IfOk result (λ j. vec_capacity j.line.numbers ≡ need.numbers) }
+    {
+        let first_clauses = clauses + units.len() as u64;
+        Ok(Joiner {
+            clauses: first_clauses,
+            units: units.into_iter(),
+            unit: clauses + 1,
+            next: first_clauses + 1,
+            place: Walk::with_room(alloc, need.splits)?,
+            first: first_clauses + 1,
+            leaf: Reader::of(Row::new(alloc)),
+            stage: Stage::Between,
+            line: ProofLine::with_room(alloc, need.literals, need.numbers)?,
+        })
+    }
+
+    /// The line that was given last.
+    pub fn line(&self) -> &ProofLine
+        ensures { result.now ≡ self.now.line }
+    {
+        &self.line
+    }
+
+    /// The most bytes that the text of a line has while none takes more memory: 12 a literal, 21 a
+    /// hint or a number to be deleted, 25 for the line's own number and the marks. A size stops at
+    /// the greatest one.
+    pub fn line_size(&self) -> usize
+        ensures { result ≡ longest_text self.now.line }
+    {
+        let literals = self.line.clause.capacity().saturating_mul(12);
+        let numbers = self.line.numbers.capacity().saturating_mul(21);
+        literals.saturating_add(numbers).saturating_add(25)
+    }
+
+    /// Takes the tree's next node, once there are no more lines of those before. It fails only as
+    /// `next_line` does.
+    pub fn take(&mut self, node: Node<Row>) -> Result<(), AllocError>
+        requires lawful { IsJoining self.old }
+        requires given { (joined self.old).steps ≡ [] }
+        requires node { IsNode self.old.clauses (node_of node) }
+        ensures joined { OnOk result (joined self.new ≡ on_node self.old.clauses (joined self.old) (node_of node)) }
+        ensures clauses { OnOk result (self.new.clauses ≡ self.old.clauses) }
+        ensures lawful { OnOk result (IsJoining self.new) }
+    {
+        // There is none, but it goes on to between the nodes.
+        let _more = self.next_line()?;
+        match node {
+            Node::Split(var) => self.place.enter(var)?,
+            Node::Leaf(row) => {
+                self.first = self.next;
+                self.leaf = Reader::of(row);
+                self.stage = Stage::Within(Due::Nothing);
+            }
+        }
+        Ok(())
+    }
+
+    /// Makes the next pure literal's line, if there is one.
+    fn next_unit(&mut self) -> Result<bool, AllocError>
+        requires { IsJoining self.old }
+        ensures made { IfOk result (λ more. Makes self.old self.new more) }
+        ensures none { IfOk result (λ more. OnFalse more (into_iter_items self.new.units ≡ [])) }
+    {
+        let Some(literal) = self.units.next() else {
+            return Ok(false);
+        };
+        self.line.unit(self.unit, literal)?;
+        self.unit += 1;
+        Ok(true)
+    }
+
+    /// Makes the deletion that is due, if there is one. Behind the root's last line nothing is
+    /// deleted: that is the empty clause, with which a proof ends.
+    fn next_deletion(&mut self, due: Due) -> Result<bool, AllocError>
+        requires lawful { IsJoining self.old }
+        requires units { into_iter_items self.old.units ≡ [] }
+        requires stage { self.old.stage ≡ Stage.Within due }
+        ensures made { IfOk result (λ more. Makes self.old self.new more) }
+        ensures none { IfOk result (λ more. OnFalse more ((into_iter_items self.new.units ≡ []) × (self.new.stage ≡ Stage.Within Due.Nothing))) }
+    {
+        self.stage = Stage::Within(Due::Nothing);
+        if self.place.splits().is_empty() {
+            return Ok(false);
+        }
+        self.line.delete(self.next - 1, due, self.first)?;
+        Ok(!self.line.numbers.is_empty())
+    }
+
+    /// Makes the leaf's next line, if there is one: it is read into the proof's, by the numbers of
+    /// its cube.
+    fn next_learnt(&mut self) -> Result<bool, AllocError>
+        requires lawful { IsJoining self.old }
+        requires units { into_iter_items self.old.units ≡ [] }
+        requires stage { self.old.stage ≡ Stage.Within Due.Nothing }
+        requires fits { self.old.next ≤ max_number }
+        ensures made { IfOk result (λ more. Makes self.old self.new more) }
+        ensures none { IfOk result (λ more. OnFalse more ((into_iter_items self.new.units ≡ []) × (self.new.stage ≡ Stage.Within Due.Nothing) × (self.new.leaf ≡ []) × (self.new.next ≤ max_number))) }
+    {
+        if !self
+            .leaf
+            .next(&mut self.line.clause, &mut self.line.numbers)?
+        {
+            return Ok(false);
+        }
+        self.line
+            .learn(self.next, &self.place, self.clauses, self.first)?;
+        self.stage = Stage::Within(due_behind(&self.leaf));
+        self.next += 1;
+        Ok(true)
+    }
+
+    /// Behind the last line of a cube, makes that of the split above if its halves are both done;
+    /// or else the next node is that of the half beside the cube.
+    fn next_split(&mut self) -> Result<bool, AllocError>
+        requires lawful { IsJoining self.old }
+        requires units { into_iter_items self.old.units ≡ [] }
+        requires stage { self.old.stage ≡ Stage.Within Due.Nothing }
+        requires leaf { self.old.leaf ≡ [] }
+        requires fits { self.old.next ≤ max_number }
+        ensures made { IfOk result (λ more. Makes self.old self.new more) }
+        ensures none { IfOk result (λ more. OnFalse more ((into_iter_items self.new.units ≡ []) × (self.new.stage ≡ Stage.Between))) }
+    {
+        match self.place.leave(self.next - 1)? {
+            Turn::Both { left, .. } => {
+                self.line.split(self.next, left, &self.place)?;
+                self.stage = Stage::Within(Due::Halves(left));
+                self.next += 1;
+                Ok(true)
+            }
+            Turn::Right(_) => {
+                self.stage = Stage::Between;
+                Ok(false)
+            }
+            Turn::End(_) => {
+                self.stage = Stage::Between;
+                Ok(false)
+            }
+        }
+    }
+
+    /// Makes the next line that adds a clause of the tree, if there is one.
+    fn next_addition(&mut self) -> Result<bool, AllocError>
+        requires lawful { IsJoining self.old }
+        requires units { into_iter_items self.old.units ≡ [] }
+        requires stage { self.old.stage ≡ Stage.Within Due.Nothing }
+        ensures made { IfOk result (λ more. Makes self.old self.new more) }
+        ensures none { IfOk result (λ more. OnFalse more ((into_iter_items self.new.units ≡ []) × (self.new.stage ≡ Stage.Between))) }
+    {
+        if self.next > MAX_NUMBER {
+            return Err(AllocError);
+        }
+        if self.next_learnt()? {
+            return Ok(true);
+        }
+        let more = self.next_split()?;
+        Ok(more)
+    }
+
+    /// Makes the next line of the nodes that came, which `line` shows then; it answers whether there
+    /// was one more. It fails only where a request for memory is refused, or where a number would be
+    /// above its limit; then no line can be asked for any more.
+    pub fn next_line(&mut self) -> Result<bool, AllocError>
+        requires { IsJoining self.old }
+        ensures next { IfOk result (λ more. IsNextLine (joined self.old) (joined self.new) (line_of self.new.line) more) }
+        ensures within { IfOk result (λ more. OnMore (IsStep (line_of self.new.line)) more) }
+        ensures clauses { OnOk result (self.new.clauses ≡ self.old.clauses) }
+        ensures between { IfOk result (λ more. OnFalse more (self.new.stage ≡ Stage.Between)) }
+        ensures lawful { OnOk result (IsJoining self.new) }
+    {
+        if self.next_unit()? {
+            return Ok(true);
+        }
+        let Stage::Within(due) = self.stage else {
+            return Ok(false);
+        };
+        if self.next_deletion(due)? {
+            return Ok(true);
+        }
+        let more = self.next_addition()?;
+        Ok(more)
+    }
+}
