@@ -1,10 +1,10 @@
 -- Nodes that come one after the other, and the lines that they give.
-use Rattle.std.proofs.Common.{◌≡◌, ℕ, ◌+◌, ◌≤◌, List, [], ◌∷◌, ◌++◌, length, None, ap, sym, subst, ◌∙◌, append_assoc, append-nil, arith, All}
+use Rattle.std.proofs.Common.{◌≡◌, ℕ, ◌+◌, ◌≤◌, true, false, List, [], ◌∷◌, ◌++◌, length, None, ap, sym, subst, ◌∙◌, append_assoc, append-nil, arith, All}
 use Rattle.theory.specs.Literals.{Literal}
 use Rattle.theory.specs.Truth.{Formula}
 use Rattle.theory.specs.Plans.{Search}
 use Rattle.theory.specs.Pure.{pure_literals}
-use Rattle.theory.specs.Reading.{large, IsWithinLimits}
+use Rattle.theory.specs.Reading.{large, max_vars, IsWithinLimits}
 use Rattle.theory.specs.Search.{first_clauses, refuted, exhausted}
 use Rattle.theory.specs.Learning.{Line}
 use Rattle.theory.specs.Trees.{Tree, Node, split_on, refuted_leaf, nodes_of, first_model, tree_of}
@@ -15,10 +15,12 @@ use Rattle.theory.specs.Texts.{proof_text}
 use Rattle.theory.specs.Checking.{checks, accepted}
 use Rattle.theory.specs.Checked.{IsCheckedResult, IsCheckedOutcome}
 use Rattle.theory.proofs.checker.AcceptedProofs.{checks-checked}
-use Rattle.theory.proofs.searching.PureVariables.{length-first_clauses}
+use Rattle.theory.proofs.searching.PureVariables.{length-first_clauses, length-pure_literals}
 use Rattle.theory.proofs.trees.CheckedTrees.{IsFitSplit-checked}
+use Rattle.join.specs.declared.joiner.Joiner.{Joiner}
 use Rattle.join.specs.Joining.{Joined, on_node, on_nodes, behind, before_nodes, after_nodes}
 use Rattle.join.specs.Numbered.{AreLines, IsNode}
+use Rattle.join.specs.Walking.{joined, HasJoined, IsJoining, IsNextLine}
 use Rattle.join.proofs.StepLemmas.{proof-within}
 use Rattle.join.proofs.TreeLemmas.{refutation-lines}
 use Rattle.join.proofs.TreeSteps.{on_nodes-append, on_nodes-tree}
@@ -34,9 +36,8 @@ on_node-behind N S s n = on_nodes-behind N S s (n ∷ [])
 pub behind-append : (S T : List Step) (s : Joined) → behind (S ++ T) s ≡ behind S (behind T s)
 behind-append S T s = ap (λ steps. record s { steps = steps }) (append_assoc S T s.steps)
 
--- the lines so far, and what the nodes that came give yet, are what these nodes give: so it stays
--- where one more node is taken
-pub taken-after : (F : Formula) (N : ℕ) (nodes : List Node) (n : Node) (lines : List Step) (old new : Joined) → N ≡ length F.clauses + length (pure_literals F) → behind lines old ≡ after_nodes F nodes → new ≡ on_node N old n
+-- one more node is taken: what it gives follows the lines so far
+taken-after : (F : Formula) (N : ℕ) (nodes : List Node) (n : Node) (lines : List Step) (old new : Joined) → N ≡ length F.clauses + length (pure_literals F) → behind lines old ≡ after_nodes F nodes → new ≡ on_node N old n
     → behind lines new ≡ after_nodes F (nodes ++ n ∷ [])
 taken-after F N nodes n lines old new count so_far is =
     let M = length F.clauses + length (pure_literals F) in
@@ -45,9 +46,47 @@ taken-after F N nodes n lines old new count so_far is =
     ∙ ap (λ s. on_node M s n) so_far
     ∙ sym (on_nodes-last M (before_nodes (length F.clauses) (pure_literals F)) nodes n)
 
--- and where one more line is made
-pub made-after : (lines : List Step) (line : Step) (old new whole : Joined) → behind lines old ≡ whole → old ≡ behind (line ∷ []) new → behind (lines ++ line ∷ []) new ≡ whole
+-- one more line is made
+made-after : (lines : List Step) (line : Step) (old new whole : Joined) → behind lines old ≡ whole → old ≡ behind (line ∷ []) new → behind (lines ++ line ∷ []) new ≡ whole
 made-after lines line old new whole so_far is = behind-append lines (line ∷ []) new ∙ ap (behind lines) (sym is) ∙ so_far
+
+-- there are as many pure literals as variables at most
+pub few-pure : (F : Formula) (units : List Literal) → IsWithinLimits large F → units ≡ pure_literals F → length units ≤ max_vars large
+few-pure F units within are = let all = ap (λ (ls : List Literal). length ls) are in let few = length-pure_literals F in let vars = within.vars in omega arith
+
+-- before the first node of a formula's tree
+pub HasJoined-start : (F : Formula) (C : ℕ) (units : List Literal) (j : Joiner) → C ≡ length F.clauses → units ≡ pure_literals F → IsJoining j → j.clauses ≡ C + length units → joined j ≡ before_nodes C units → HasJoined F [] [] j
+HasJoined-start F C units j clauses are keeps count begun = record {
+  lawful = keeps;
+  clauses = count ∙ ap (λ c. c + length units) clauses ∙ ap (λ us. length F.clauses + length us) are;
+  so_far = begun ∙ ap (λ c. before_nodes c units) clauses ∙ ap (before_nodes (length F.clauses)) are;
+}
+
+-- a node that is taken
+pub HasJoined-take : (F : Formula) (nodes : List Node) (n : Node) (lines : List Step) (old new : Joiner) → HasJoined F nodes lines old → IsJoining new → new.clauses ≡ old.clauses → joined new ≡ on_node old.clauses (joined old) n
+    → HasJoined F (nodes ++ n ∷ []) lines new
+HasJoined-take F nodes n lines old new has keeps same is = record {
+  lawful = keeps;
+  clauses = same ∙ has.clauses;
+  so_far = taken-after F old.clauses nodes n lines (joined old) (joined new) has.clauses has.so_far is;
+}
+
+-- a line that is made
+pub HasJoined-more : (F : Formula) (nodes : List Node) (lines : List Step) (line : Step) (old new : Joiner) → HasJoined F nodes lines old → IsJoining new → new.clauses ≡ old.clauses → IsNextLine (joined old) (joined new) line true
+    → HasJoined F nodes (lines ++ line ∷ []) new
+HasJoined-more F nodes lines line old new has keeps same next = record {
+  lawful = keeps;
+  clauses = same ∙ has.clauses;
+  so_far = made-after lines line (joined old) (joined new) (after_nodes F nodes) has.so_far next;
+}
+
+-- and where there is none, so that a node may be taken
+pub HasJoined-none : (F : Formula) (nodes : List Node) (lines : List Step) (line : Step) (old new : Joiner) → HasJoined F nodes lines old → IsJoining new → new.clauses ≡ old.clauses → IsNextLine (joined old) (joined new) line false
+    → HasJoined F nodes lines new × ((joined new).steps ≡ [])
+HasJoined-none F nodes lines line old new has keeps same next = (
+  record { lawful = keeps; clauses = same ∙ has.clauses; so_far = ap (behind lines) next.1 ∙ has.so_far },
+  ap (λ (s : Joined). s.steps) next.1 ∙ next.0,
+)
 
 -- the clauses that a search begins with
 count-first : (F : Formula) → length F.clauses + length (pure_literals F) ≡ length (first_clauses F)
@@ -75,16 +114,16 @@ after-tree F t none =
     ap (λ (s : Joined). s.steps) (on_nodes-tree N t (before_nodes (length F.clauses) (pure_literals F)) none)
     ∙ ap (λ n. prelude F ++ tree_steps n (n + 1) [] t) (count-first F)
 
--- so do the lines that were made, once no node is to come and no line
-pub made-proof : (F : Formula) (t : Tree) (lines : List Step) (s : Joined) → first_model t ≡ None → behind lines s ≡ after_nodes F (nodes_of t) → s.steps ≡ [] → lines ≡ proof F t
-made-proof F t lines s none so_far over =
-    sym (append-nil lines) ∙ ap (λ steps. lines ++ steps) (sym over) ∙ ap (λ (s : Joined). s.steps) so_far ∙ after-tree F t none
+-- so do the lines that were made, once no line is left of them
+pub HasJoined-proof : (F : Formula) (t : Tree) (lines : List Step) (j : Joiner) → HasJoined F (nodes_of t) lines j → (joined j).steps ≡ [] → first_model t ≡ None → lines ≡ proof F t
+HasJoined-proof F t lines j has over none =
+    sym (append-nil lines) ∙ ap (λ steps. lines ++ steps) (sym over) ∙ ap (λ (s : Joined). s.steps) has.so_far ∙ after-tree F t none
 
 -- the checker accepts them
-pub made-accepted : (F : Formula) (search : Search) (t : Tree) (lines : List Step) → IsCheckedResult search F (tree_of t) → lines ≡ proof F t → checks F lines ≡ accepted
-made-accepted F search t lines checked are = ap (checks F) are ∙ checks-checked F t checked.0 checked.1
+pub lines-accepted : (F : Formula) (search : Search) (t : Tree) (lines : List Step) → IsCheckedResult search F (tree_of t) → lines ≡ proof F t → checks F lines ≡ accepted
+lines-accepted F search t lines checked are = ap (checks F) are ∙ checks-checked F t checked.0 checked.1
 
 -- and their numbers are within the limits
-pub made-within : (F : Formula) (search : Search) (t : Tree) (lines : List Step) → IsWithinLimits large F → IsCheckedResult search F (tree_of t) → lines ≡ proof F t
+pub lines-within : (F : Formula) (search : Search) (t : Tree) (lines : List Step) → IsWithinLimits large F → IsCheckedResult search F (tree_of t) → lines ≡ proof F t
     → length (proof_text lines) ≤ max_proof_bytes large → All IsStep lines
-made-within F search t lines within checked are = rw are (proof-within F t within checked.0 checked.1)
+lines-within F search t lines within checked are = rw are (proof-within F t within checked.0 checked.1)

@@ -12,9 +12,7 @@ use Rattle.theory.specs.Search.{first_clauses}
 use Rattle.theory.specs.Learning.{Line}
 use Rattle.theory.specs.Steps.{Step}
 use Rattle.theory.specs.ProofReading.{IsStep}
-use Rattle.theory.specs.Checking.{checks}
-use Rattle.theory.proofs.checker.AcceptedProofs.{checks-checked}
-use Rattle.theory.proofs.searching.PureVariables.{length-first_clauses, length-pure_literals}
+use Rattle.theory.proofs.searching.PureVariables.{length-first_clauses}
 use Rattle.cubes.specs.declared.tree.Node.{Node}
 use Rattle.cubes.specs.declared.tree.Tree.TheVariants.{Model, Refuted}
 use Rattle.cubes.specs.Result.{LinesTree, node_of, IsCheckedResultOf}
@@ -22,21 +20,20 @@ use Rattle.join.specs.declared.proof_lines.Lines.{Lines}
 use Rattle.join.specs.Joining.{Joined, on_nodes, before_nodes}
 use Rattle.join.specs.Numbered.{AreNodes, AreNodesOf, AreUnitsOf, AreStepsOf, AreAccepted, AreWithin}
 use Rattle.join.specs.Walking.{IsJoining, IsBetweenLines, joined, lines_left}
-use Rattle.join.proofs.FedLemmas.{after-tree}
-use Rattle.join.proofs.StepLemmas.{proof-within}
+use Rattle.join.proofs.FedLemmas.{after-tree, few-pure, lines-accepted, lines-within}
 use Rattle.join.proofs.TreeLemmas.{tree-nodes}
 
 -- there are as many pure literals as variables at most
 pub few-units : (F : Formula) (tree : LinesTree) (units : List Literal) → IsWithinLimits large F → AreUnitsOf F tree units → length units ≤ max_vars large
 few-units F (Model values) units within are = let none = ap (λ (ls : List Literal). length ls) are in omega arith
-few-units F (Refuted ns) units within are = let all = ap (λ (ls : List Literal). length ls) are in let few = length-pure_literals F in let vars = within.vars in omega arith
+few-units F (Refuted ns) units within are = few-pure F units within are
 
 -- the clauses that a search begins with are counted
 first-count : (F : Formula) (units : List Literal) (C N : ℕ) → C ≡ length F.clauses → N ≡ C + length units → units ≡ pure_literals F → N ≡ length (first_clauses F)
 first-count F units C N clauses count are = let all = ap (λ (ls : List Literal). length ls) are in let first = length-first_clauses F in omega arith
 
 -- the nodes of a formula's result are within their limits
-result-nodes : (F : Formula) (search : Search) (C N : ℕ) (tree : LinesTree) (units : List Literal) (nodes : List (Node (List Line))) → IsWithinLimits large F → C ≡ length F.clauses → N ≡ C + length units → AreUnitsOf F tree units → IsCheckedResultOf search F tree → AreNodesOf tree nodes
+pub result-nodes : (F : Formula) (search : Search) (C N : ℕ) (tree : LinesTree) (units : List Literal) (nodes : List (Node (List Line))) → IsWithinLimits large F → C ≡ length F.clauses → N ≡ C + length units → AreUnitsOf F tree units → IsCheckedResultOf search F tree → AreNodesOf tree nodes
     → AreNodes N (map node_of nodes)
 result-nodes F search C N (Model values) units nodes within clauses count are r same = rw same tt
 result-nodes F search C N (Refuted ns) units nodes within clauses count are r same =
@@ -63,14 +60,12 @@ begun-steps l F C (Refuted ns) units nodes clauses begun count here are same = �
 -- the checker accepts the steps of a result that is no model
 pub accepted-steps : (F : Formula) (search : Search) (tree : LinesTree) (steps : List Step) → IsCheckedResultOf search F tree → AreStepsOf F tree steps → AreAccepted F tree steps
 accepted-steps F search (Model values) steps result are = record {}
-accepted-steps F search (Refuted nodes) steps result are =
-    ap (checks F) (are result.0 result.1.1 (sym result.2)) ∙ checks-checked F result.0 result.1.0 result.1.1
+accepted-steps F search (Refuted nodes) steps result are = lines-accepted F search result.0 steps result.1 (are result.0 result.1.1 (sym result.2))
 
 -- their numbers are within the limits
 pub within-steps : (F : Formula) (search : Search) (tree : LinesTree) (steps : List Step) → IsWithinLimits large F → IsCheckedResultOf search F tree → AreStepsOf F tree steps → AreWithin steps
 within-steps F search (Model values) steps within result are = λ short. rw are (All-nil IsStep)
-within-steps F search (Refuted nodes) steps within result are =
-    rw (are result.0 result.1.1 (sym result.2)) (λ short. proof-within F result.0 within result.1.0 result.1.1 short)
+within-steps F search (Refuted nodes) steps within result are = lines-within F search result.0 steps within result.1 (are result.0 result.1.1 (sym result.2))
 
 -- what is kept before the first line
 pub IsBetweenLines-begun : (l : Lines) (F : Formula) (search : Search) (C : ℕ) (tree : LinesTree) (units : List Literal) (nodes : List (Node (List Line))) → IsWithinLimits large F → C ≡ length F.clauses → IsJoining l.joiner → l.joiner.clauses ≡ C + length units

@@ -2,6 +2,9 @@
 use Rattle.std.specs.Prelude.{◌≡◌, ℕ, ◌+◌, ◌-◌, ◌<◌, ◌≤◌, Bool, true, false, List, [], ◌∷◌, map, length, All}
 use Rattle.std.specs.Vec.Iter.{into_iter_items}
 use Rattle.theory.specs.Literals.{Literal}
+use Rattle.theory.specs.Truth.{Formula}
+use Rattle.theory.specs.Pure.{pure_literals}
+use Rattle.theory.specs.Trees as trees
 use Rattle.theory.specs.Learning.{Line}
 use Rattle.theory.specs.Reading.{large, max_vars, max_clauses}
 use Rattle.theory.specs.Steps.{Step, add, delete}
@@ -18,7 +21,7 @@ use Rattle.join.specs.declared.line.Kind.{Kind}
 use Rattle.join.specs.declared.line.Kind.TheVariants.{Addition, Deletion}
 use Rattle.join.specs.declared.line.ProofLine.{ProofLine}
 use Rattle.join.specs.declared.proof_lines.Lines.{Lines}
-use Rattle.join.specs.Joining.{Joined, behind, from_leaf, on_nodes}
+use Rattle.join.specs.Joining.{Joined, behind, from_leaf, on_nodes, after_nodes}
 use Rattle.join.specs.Numbered.{AreLines, AreNodes, IsHalf, IsDue, numbers_due}
 
 -- a line by its kind: the numbers are the hints, or those of the clauses to be deleted
@@ -105,3 +108,9 @@ pub record IsKept (old new : Joiner) : Type 0 where
 abbrev pub Makes : Joiner → Joiner → Bool → Type 0
 Makes old new true = IsMade old new
 Makes old new false = IsKept old new
+
+-- the first nodes of a formula's tree were taken, and these lines were made of what they give
+pub record HasJoined (F : Formula) (nodes : List trees.Node) (lines : List Step) (j : Joiner) : Type 0 where
+  pub lawful : IsJoining j
+  pub clauses : j.clauses ≡ length F.clauses + length (pure_literals F)
+  pub so_far : behind lines (joined j) ≡ after_nodes F nodes

@@ -34,7 +34,6 @@ pub(crate) enum Stage {
 
 /// The lines of a tree's proof, where its nodes come one after the other. It keeps one leaf, and
 /// makes each line as it is asked for, in the memory of the one before.
-#[derive(Drop)]
 pub struct Joiner {
     /// How many clauses the search of a cube begins with: the numbers up to it are theirs.
     clauses: u64,
@@ -61,6 +60,23 @@ pub struct Joiner {
 
     /// The line that was given last.
     line: ProofLine,
+}
+
+// written out, so that proofs of its owners stay short (docs/CHANGING.md)
+impl Drop for Joiner {
+    fn drop(self) {
+        let Joiner {
+            clauses: _,
+            units: _,
+            unit: _,
+            next: _,
+            place: _,
+            first: _,
+            leaf: _,
+            stage: _,
+            line: _,
+        } = self;
+    }
 }
 
 /// What is due behind a leaf's line: once it was the last one, the lines before it.
@@ -199,14 +215,15 @@ impl Joiner {
         ensures made { IfOk result (λ more. Makes self.old self.new more) }
         ensures none { IfOk result (λ more. OnFalse more ((into_iter_items self.new.units ≡ []) × (self.new.stage ≡ Stage.Within Due.Nothing) × (self.new.leaf ≡ []) × (self.new.next ≤ max_number))) }
     {
-        if !self
-            .leaf
-            .next(&mut self.line.clause, &mut self.line.numbers)?
-        {
+        let line = &mut self.line;
+        if !self.leaf.next(&mut line.clause, &mut line.numbers)? {
+            // All its lines are given: its memory is let go before the next leaf comes.
+            let alloc = *self.line.clause.allocator();
+            self.leaf = Reader::of(Row::new(alloc));
             return Ok(false);
         }
-        self.line
-            .learn(self.next, &self.place, self.clauses, self.first)?;
+        let id = self.next;
+        self.line.learn(id, &self.place, self.clauses, self.first)?;
         self.stage = Stage::Within(due_behind(&self.leaf));
         self.next += 1;
         Ok(true)
