@@ -10,7 +10,7 @@ loop-byte-preserved c =
     let xs = c.args.bytes.now in
     let at = c.loop-byte.byte-index in
     record {
-      scan = subst (IsScanOf c.with_byte-scan.result) (sym (ap row (take_more xs at 0 c.loop-byte-test.true) ∙ row-push (take at xs) (get_or xs at 0)))
-          (c.with_byte-scan.ensures.scan (row (take at xs)) c.loop-byte.invariant.scan);
-      small = c.with_byte-scan.ensures.small at c.loop-byte.invariant.small;
+      scan = subst (IsScanOf c.pass_byte.new.self) (sym (ap row (take_more xs at 0 c.loop-byte-test.true) ∙ row-push (take at xs) (get_or xs at 0)))
+          (c.pass_byte.ensures.scan (row (take at xs)) c.loop-byte.invariant.scan);
+      small = c.pass_byte.ensures.small at c.loop-byte.invariant.small;
     }
