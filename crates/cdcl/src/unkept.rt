@@ -1,5 +1,7 @@
 //! What is kept of a refuted cube's lines where nobody asks for a proof: nothing.
 
+ghost use Rattle.std.specs.Prelude.{◌≡◌};
+
 use crate::packing::KeepsLines;
 use lines::Row;
 use std::alloc::{AllocError, Global};
@@ -22,12 +24,21 @@ impl Model for Unkept {
     ghost view = { λ u. u.lines.value };
 }
 
+impl Unkept {
+    /// Stands for the lines of this row, which somebody else keeps or hands on.
+    pub fn of(row: &Row) -> Unkept
+        ensures { result ≡ row.now }
+    {
+        Unkept {
+            lines: Snapshot::of(row),
+        }
+    }
+}
+
 impl KeepsLines for Unkept {
     ghost lines = { λ unkept. unkept };
 
     fn keep(_alloc: Global, row: Row) -> Result<Unkept, AllocError> {
-        Ok(Unkept {
-            lines: Snapshot::of(&row),
-        })
+        Ok(Unkept::of(&row))
     }
 }

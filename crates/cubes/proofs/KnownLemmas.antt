@@ -1,6 +1,6 @@
 -- Cubes as keys: the comparison of keys, which is that of the literals' codes, tells cubes apart.
 -- So looking up is what it says.
-use Rattle.std.proofs.Common.{◌≡◌, ◌≢◌, ℕ, ◌≤◌, Bool, true, false, ◌&&◌, List, [], ◌∷◌, ◌++◌, All, Some, None, Contains, ◌⊎◌, inl, inr, refl, sym, ap, ap₂, ◌∙◌, eqb-true}
+use Rattle.std.proofs.Common.{◌≡◌, ◌≢◌, ℕ, ◌≤◌, Bool, true, false, ◌&&◌, List, [], ◌∷◌, ◌++◌, All, Some, None, Contains, ◌⊎◌, inl, inr, refl, sym, ap, ap₂, ◌∙◌, subst, eqb-true}
 use Rattle.std.specs.Cmp.{IsEquivalence}
 use Rattle.std.specs.Cmp.Lexicographic.{pointwise}
 use Rattle.std.specs.Map.{KeepsOthers}
@@ -62,6 +62,9 @@ known-others {L} P Q k n p q other keeps = keeps (λ key. pointwise ghosts.eq Q 
     go : (R : List Literal) (b : Bool) → pointwise ghosts.eq Q R ≡ b → pointwise ghosts.eq P R ≡ true → pointwise ghosts.eq Q R ≡ false
     go R true e h = absurd (other (keys-same Q P q p (keys-equiv.congr Q R P e ∙ (keys-equiv.symm R P ∙ h))))
     go R false e h = e
+
+pub keys-own : (P Q : List Literal) → P ≡ Q → pointwise ghosts.eq P Q ≡ true
+keys-own P Q e = subst (λ R. pointwise ghosts.eq P R ≡ true) e (keys-equiv.refl P)
 
 pub same_or_not : (P Q : List Literal) → AreOfVariables P → AreOfVariables Q → (Q ≡ P) ⊎ (Q ≢ P)
 same_or_not P Q p q = go (pointwise ghosts.eq Q P) refl

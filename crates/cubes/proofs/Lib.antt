@@ -16,3 +16,4 @@ pub mod SameHands
 pub mod FreshHands
 pub mod GoingOn
 pub mod SizeLemmas
+pub mod StreamingLemmas

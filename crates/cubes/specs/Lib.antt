@@ -10,4 +10,5 @@ pub mod Shares
 pub mod Sizes
 pub mod Solved
 pub mod Source
+pub mod Streaming
 pub mod Traversal

@@ -23,9 +23,9 @@ use kernel::Cube;
 use lines::Row;
 use std::alloc::{AllocError, Global};
 
-/// The solver of a formula by a plan, once a cube was to be solved, and what it is told of the cube
-/// without literals.
-pub(crate) struct OwnSolver {
+/// The solver of a formula by a plan, which is opened once a cube is to be solved, and what it is
+/// told of the cube without literals.
+pub struct OwnSolver {
     pub(crate) solver: Option<Solver>,
     pub(crate) root: Root,
 }
@@ -38,15 +38,17 @@ impl Drop for OwnSolver {
 }
 
 impl OwnSolver {
-    /// None was needed yet.
-    pub(crate) fn none(root: Root) -> OwnSolver
+    /// None was needed yet. It takes no memory.
+    pub fn none(root: Root) -> OwnSolver
         ensures { (F : Formula) (plan : plans.Plan) → IsRootOf F plan root → IsOwnSolver F plan result }
     {
         OwnSolver { solver: None, root }
     }
 
-    /// The outcome of a cube. A watcher is told what is done.
-    pub(crate) fn solve<W: Watcher>(
+    /// The outcome of a cube. A watcher is told what is done. The first call opens the solver, which
+    /// takes memory by the formula; it fails where a request for memory is refused or the watcher
+    /// stops it, and the next call opens another solver then.
+    pub fn solve<W: Watcher>(
         &mut self,
         alloc: Global,
         formula: &Formula,
