@@ -28,7 +28,9 @@ def functions_in(file, text):
             # braces, or past it)
             own = (at for at in range(first, len(lines)) if lines[at][: len(indent) + 1].strip() and lines[at].startswith(indent))
             body = next((at for at in own if lines[at].endswith(("{", "}", ";"))), first)
-            last = next(at for at in range(body, len(lines)) if lines[at].startswith(indent) and lines[at].endswith(("}", ";")) and lines[at][len(indent)] != " ")
+            # (a trait's method without a body may be the file's last one)
+            ends = (at for at in range(body, len(lines)) if lines[at].startswith(indent) and lines[at].endswith(("}", ";")) and lines[at][len(indent)] != " ")
+            last = next(ends, body)
             found.append(Function(file, owner if indent else "", name, bool(is_const), first, body, last))
     return found
 

@@ -34,7 +34,7 @@ Keeps-more search F fs ss rs f (Some s) h put k = subst (Keeps search F (fs ++ f
     kept fs ss (leaves_out {fs = gs} c more) = leaves_out c (kept gs ss more)
 
 -- the result of a checked fact is checked
-checked-done : (search : Search) (F : Formula) (Q : List Literal) (claim : Claim) (what : What) → IsCheckedClaim search F Q claim → IsDoneAs claim what → IsCheckedOf search F Q what
+pub checked-done : (search : Search) (F : Formula) (Q : List Literal) (claim : Claim) (what : What) → IsCheckedClaim search F Q claim → IsDoneAs claim what → IsCheckedOf search F Q what
 checked-done search F Q (Split x) what h is = subst (IsCheckedOf search F Q) (sym is) (λ cube over. h)
 checked-done search F Q (Refuted lines) what h is = subst (IsCheckedOf search F Q) (sym is) (λ cube over. h)
 checked-done search F Q Model what h is = absurd is
@@ -48,7 +48,7 @@ Keeps-checked search F fs ss (keeps {f = f} {fs = gs} {s = s} {ss = ts} c is mor
 Keeps-checked search F fs ss (leaves_out {fs = gs} c more) = Keeps-checked search F gs ss more
 
 -- and that of a true one is true
-true-done : (F : Formula) (plan : Plan) (Q : List Literal) (o : Outcome) (claim : Claim) (what : What) → Runs F plan Q o → claim ≡ claim_of o → IsDoneAs claim what → IsTrueOf F plan Q what
+pub true-done : (F : Formula) (plan : Plan) (Q : List Literal) (o : Outcome) (claim : Claim) (what : What) → Runs F plan Q o → claim ≡ claim_of o → IsDoneAs claim what → IsTrueOf F plan Q what
 true-done F plan Q (model M) claim what runs says is = absurd (subst (λ c. IsDoneAs c what) says is)
 true-done F plan Q (refuted lines) claim what runs says is = subst (IsTrueOf F plan Q) (sym (subst (λ c. IsDoneAs c what) says is)) runs
 true-done F plan Q (exhausted x) claim what runs says is = subst (IsTrueOf F plan Q) (sym (subst (λ c. IsDoneAs c what) says is)) runs

@@ -15,7 +15,11 @@ use packs::{Fact, FactChecker};
 use std::alloc::{AllocError, Global};
 
 /// What checks facts of a formula by the search of a plan.
-fn open_checker(alloc: Global, formula: &Formula, plan: Plan) -> Result<FactChecker, AllocError>
+pub(crate) fn open_checker(
+    alloc: Global,
+    formula: &Formula,
+    plan: Plan,
+) -> Result<FactChecker, AllocError>
     ensures { IfOk result (IsChecking plan.search formula.now) }
 {
     match plan.search() {

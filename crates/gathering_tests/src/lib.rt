@@ -3,3 +3,5 @@
 
 #[cfg(test)]
 mod facts;
+#[cfg(test)]
+mod stores;

@@ -1,0 +1,4 @@
+use Rattle.gathering.proofs.outcomes.StoredOutcomes.open.Goals as goal
+
+pub returns-clause-gives : goal.returns-clause-gives
+returns-clause-gives g c = record { checker = c.in_ok-open_checker.ensures; solver = c.none.ensures c.args.formula.now c.args.plan tt }

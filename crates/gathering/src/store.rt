@@ -1,0 +1,23 @@
+//! Facts that are kept elsewhere, as in files.
+ghost use Rattle.std.specs.Prelude.{◌≡◌, List, Option, None, Contains, IfOk, IfSome};
+ghost use Rattle.packs.specs.declared.fact.Fact as made;
+
+use kernel::Cube;
+use packs::Fact;
+use std::alloc::AllocError;
+
+/// Keeps facts of cubes somewhere, as in files. Nobody vouches for them, nor that the same fact is
+/// given again when it is asked for twice.
+pub trait KeepsFacts: Drop {
+    // the facts that it may give, where they are known
+    ghost facts: { Self → Option (List made.Fact) } = { λ _. None };
+
+    /// How many facts it has of a cube.
+    fn count(&self, cube: &Cube) -> usize;
+
+    /// The fact of a cube with this number, which is below their count, from 0 on; none where it
+    /// can't be read any more. It may be any fact, also one of another cube.
+    fn fact(&mut self, cube: &Cube, number: usize) -> Result<Option<Fact>, AllocError>
+        ensures given { IfOk result (λ o. IfSome o (λ f. IfSome (facts self.old) (λ fs. Contains fs f))) }
+        ensures kept { facts self.new ≡ facts self.old };
+}
