@@ -8,5 +8,6 @@ pub mod AnsweredLemmas
 pub mod CheckLemmas
 pub mod SaidLines
 pub mod CheckRuns
+pub mod StoredLemmas
 pub mod StreamedLemmas
 pub mod ProofLemmas

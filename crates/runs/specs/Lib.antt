@@ -6,5 +6,6 @@ pub mod Gathered
 pub mod Answered
 pub mod Limited
 pub mod Check
+pub mod Stored
 pub mod Streamed
 pub mod Written

@@ -2,7 +2,7 @@
 use Rattle.std.specs.Prelude.{◌≡◌, ℕ, Bool, true, false, List, [], ◌∷◌, ◌++◌, Some, None}
 use Rattle.theory.specs.Steps.{Step}
 use Rattle.theory.specs.Texts.{step_text, answer_text}
-use Rattle.cubes.specs.Result.{LinesTree}
+use Rattle.cubes.specs.declared.tree.Tree.{Tree}
 use Rattle.cubes.specs.declared.tree.Tree.TheVariants.{Model, Refuted}
 use Rattle.runs.specs.declared.verdict.Verdict.{Verdict}
 use Rattle.runs.specs.declared.verdict.Verdict.TheVariants.{Satisfiable, Unsatisfiable}
@@ -19,6 +19,6 @@ Puts old new before after true = PutsLine old new before after
 Puts old new before after false = (old ≡ []) × (after ≡ before)
 
 -- the verdict and the answer's text of a result
-abbrev pub IsAnswer : LinesTree → Verdict → List ℕ → Type 0
+abbrev pub IsAnswer : {L : Type 0} → Tree L → Verdict → List ℕ → Type 0
 IsAnswer (Model values) verdict answer = (verdict ≡ Satisfiable) × (answer ≡ answer_text (Some values.items))
 IsAnswer (Refuted nodes) verdict answer = (verdict ≡ Unsatisfiable) × (answer ≡ answer_text None)

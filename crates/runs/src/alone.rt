@@ -48,10 +48,10 @@ impl Drop for Output {
 }
 
 /// The verdict and the text of the answer.
-fn answer_of(
+pub(crate) fn answer_of<L>(
     alloc: Global,
     formula: &Formula,
-    tree: &Tree<Row>,
+    tree: &Tree<L>,
 ) -> Result<(Verdict, Vec<u8>), AllocError>
     requires { (search : plans.Search) × Says search formula.now tree.now }
     ensures { IfOk result (λ p. IsAnswer tree.now p.0 p.1.items) }

@@ -14,6 +14,8 @@ mod limited;
 mod output;
 mod proof_input;
 mod proof_output;
+mod proof_stream;
+mod stored;
 mod threaded;
 mod verdict;
 
@@ -29,5 +31,6 @@ pub use limited::{
     answer_limited, answer_limited_observed, answer_limited_within, run_limited,
     run_limited_observed, run_limited_within,
 };
+pub use stored::{GatheredFrom, gather_stored};
 pub use threaded::{run, run_by_plan, run_within};
 pub use verdict::Verdict;

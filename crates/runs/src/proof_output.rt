@@ -13,7 +13,7 @@ use std::alloc::{AllocError, Global};
 use std::io::Write;
 
 /// How many bytes are written at once, or a few more: whole lines.
-const ENOUGH: usize = 65_536;
+pub(crate) const ENOUGH: usize = 65_536;
 
 /// Room for lines on their way to a writer. No more is asked for while they are written.
 pub(crate) fn room(alloc: Global, lines: &Lines) -> Result<Vec<u8>, AllocError>
@@ -23,7 +23,7 @@ pub(crate) fn room(alloc: Global, lines: &Lines) -> Result<Vec<u8>, AllocError>
 }
 
 /// Puts a line behind the buffer's text.
-fn put_text(line: &ProofLine, buffer: &mut Vec<u8>) -> Result<(), AllocError>
+pub(crate) fn put_text(line: &ProofLine, buffer: &mut Vec<u8>) -> Result<(), AllocError>
     ensures { OnOk result (buffer.new.items ≡ buffer.old.items ++ step_text (line_of line.now)) }
 {
     match line.kind {

@@ -2,8 +2,10 @@
 //! are worked out by hand.
 
 use cdcl::{Plan, Search};
-use cnf::Limits;
-use runs::{PackCounts, gather_within};
+use cnf::{Limits, read_formula};
+use gathering::FactsInMemory;
+use packs::{Fact, read_pack};
+use runs::{PackCounts, gather_stored, gather_within};
 use samples::{FOUR, FOUR_PROOF};
 use std::alloc::{AllocError, Global};
 use std::test::Fail;
@@ -252,10 +254,44 @@ fn writes(alloc: Global, row: &Row) -> Result<bool, Fail> {
     )
 }
 
+/// The facts of packs, over the variables of a row's formula.
+fn facts_of(alloc: Global, packs: &[Vec<u8>], vars: u32) -> Result<Vec<Fact>, AllocError> {
+    let mut facts = Vec::new(alloc);
+    for bytes in packs {
+        let mut pack = read_pack(alloc, vars, bytes)?;
+        facts.append(&mut pack.facts)?;
+    }
+    Ok(facts)
+}
+
+/// Whether a row's run writes the same where a store keeps the facts.
+fn writes_from_store(alloc: Global, row: &Row) -> Result<bool, Fail> {
+    let packs = packs_of(alloc, row)?;
+    let formula = read_formula(alloc, row.text.as_bytes())?;
+    let store = FactsInMemory::new(alloc, facts_of(alloc, &packs, formula.vars())?)?;
+    let mut proof = Vec::new(alloc);
+    let mut answer = Vec::new(alloc);
+    gather_stored(
+        alloc,
+        row.text.as_bytes(),
+        Limits::Standard,
+        store,
+        &mut answer,
+        &mut proof,
+        plan_of(row.search),
+    )?;
+    Ok(proof.as_slice() == row.proof.as_bytes() && answer.as_slice() == row.answer.as_bytes())
+}
+
 #[test]
 fn runs_over_packs(rt: HostRuntime) -> Result<(), Fail> {
     for row in &ROWS {
         assert!(rt; writes(rt.alloc(), row)?, "{}", row.name);
+        assert!(rt;
+            writes_from_store(rt.alloc(), row)?,
+            "{} in a store",
+            row.name
+        );
     }
     Ok(())
 }

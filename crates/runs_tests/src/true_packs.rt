@@ -2,9 +2,11 @@
 
 use cdcl::{Plan, Search, Solver};
 use cnf::{Formula, Limits, read_formula};
-use gathering::fact_of;
-use packs::{Claim, write_fact};
-use runs::{Gathered, RunFault, gather_within, run_one_by_plan};
+use gathering::{FactsInMemory, fact_of};
+use packs::{Claim, read_pack, write_fact};
+use runs::{
+    Gathered, GatheredFrom, RunFault, Verdict, gather_stored, gather_within, run_one_by_plan,
+};
 use samples::{EIGHT, SIXTEEN, TWO_MODELS, cube_of};
 use std::alloc::{AllocError, Global};
 use std::test::Fail;
@@ -56,16 +58,21 @@ fn pack_of(alloc: Global, formula: &Formula, plan: Plan) -> Result<Vec<u8>, Allo
     Ok(pack)
 }
 
-/// What a run over a pack, or over none, has written.
+/// What a run over facts has written, and what it answered.
 #[derive(Drop)]
-struct Written {
-    gathered: Gathered,
+struct Written<T> {
+    gathered: T,
     proof: Vec<u8>,
     answer: Vec<u8>,
 }
 
 /// A run over packs.
-fn gathered(alloc: Global, text: &str, packs: &[Vec<u8>], plan: Plan) -> Result<Written, RunFault> {
+fn gathered(
+    alloc: Global,
+    text: &str,
+    packs: &[Vec<u8>],
+    plan: Plan,
+) -> Result<Written<Gathered>, RunFault> {
     let mut proof = Vec::new(alloc);
     let mut answer = Vec::new(alloc);
     let limits = Limits::Standard;
@@ -78,18 +85,38 @@ fn gathered(alloc: Global, text: &str, packs: &[Vec<u8>], plan: Plan) -> Result<
     })
 }
 
-/// Whether a run without packs writes the same.
-fn is_written_by_run(
+/// A run over the facts of a pack that a store keeps.
+fn gathered_from(
+    alloc: Global,
+    text: &str,
+    store: FactsInMemory,
+    plan: Plan,
+) -> Result<Written<GatheredFrom>, RunFault> {
+    let mut proof = Vec::new(alloc);
+    let mut answer = Vec::new(alloc);
+    let limits = Limits::Standard;
+    let input = text.as_bytes();
+    let gathered = gather_stored(alloc, input, limits, store, &mut answer, &mut proof, plan)?;
+    Ok(Written {
+        gathered,
+        proof,
+        answer,
+    })
+}
+
+/// Whether a run without packs comes to this verdict and writes the same.
+fn is_written_by_run<T>(
     alloc: Global,
     text: &str,
     plan: Plan,
-    written: &Written,
+    verdict: Verdict,
+    written: &Written<T>,
 ) -> Result<bool, RunFault> {
     let mut proof = Vec::new(alloc);
     let mut answer = Vec::new(alloc);
-    let verdict = run_one_by_plan(alloc, text.as_bytes(), &mut answer, &mut proof, plan)?;
+    let own = run_one_by_plan(alloc, text.as_bytes(), &mut answer, &mut proof, plan)?;
     Ok(
-        verdict == written.gathered.verdict
+        verdict == own
             && proof.as_slice() == written.proof.as_slice()
             && answer.as_slice() == written.answer.as_slice(),
     )
@@ -105,13 +132,18 @@ static ROWS: [Row; 4] = [
     (TWO_MODELS, Search::Ordered, 3, 2),
 ];
 
+/// The plan of a search at budget 1.
+fn plan_of(search: Search) -> Plan {
+    match search {
+        Search::Ordered => Plan::ordered(1),
+        Search::Focused => Plan::focused(1),
+    }
+}
+
 /// Whether all that a pack of the tree says is taken, but for models, and the bytes are a run's.
 fn is_taken(alloc: Global, row: &Row) -> Result<bool, Fail> {
     let (text, search, facts, models) = *row;
-    let plan = match search {
-        Search::Ordered => Plan::ordered(1),
-        Search::Focused => Plan::focused(1),
-    };
+    let plan = plan_of(search);
     let formula = read_formula(alloc, text.as_bytes())?;
     let mut packs = Vec::new(alloc);
     packs.push(pack_of(alloc, &formula, plan)?)?;
@@ -120,7 +152,28 @@ fn is_taken(alloc: Global, row: &Row) -> Result<bool, Fail> {
     Ok(
         counts.facts == facts
             && counts.checked.saturating_add(models) == facts
-            && is_written_by_run(alloc, text, plan, &written)?,
+            && is_written_by_run(alloc, text, plan, written.gathered.verdict, &written)?,
+    )
+}
+
+/// The same of a store: what is taken of the tree on the way to the answer, and what is solved.
+fn is_taken_from_store(alloc: Global, row: &Row) -> Result<bool, Fail> {
+    let (text, search, facts, models) = *row;
+    let plan = plan_of(search);
+    let formula = read_formula(alloc, text.as_bytes())?;
+    let pack = read_pack(alloc, formula.vars(), &pack_of(alloc, &formula, plan)?)?;
+    let store = FactsInMemory::new(alloc, pack.facts)?;
+    let written = gathered_from(alloc, text, store, plan)?;
+    let GatheredFrom {
+        verdict,
+        taken,
+        solved,
+    } = written.gathered;
+    // the first model ends the way, and it is only claimed
+    Ok(
+        taken == facts.saturating_sub(models)
+            && solved == models.min(1)
+            && is_written_by_run(alloc, text, plan, verdict, &written)?,
     )
 }
 
@@ -128,6 +181,12 @@ fn is_taken(alloc: Global, row: &Row) -> Result<bool, Fail> {
 fn true_packs_are_taken(rt: HostRuntime) -> Result<(), Fail> {
     for row in &ROWS {
         assert!(rt; is_taken(rt.alloc(), row)?, "{} of {}", row.2, row.0);
+        assert!(rt;
+            is_taken_from_store(rt.alloc(), row)?,
+            "{} of {} in a store",
+            row.2,
+            row.0
+        );
     }
     Ok(())
 }

@@ -1,0 +1,246 @@
+-- The text of a proof whose nodes come one after the other: what went through the buffer; and what a
+-- run over stored facts says.
+use Rattle.std.proofs.Common.{◌≡◌, ℕ, ◌+◌, ◌<◌, arith, Bool, true, false, List, [], ◌∷◌, ◌++◌, length, map, take, Option, None, Result, Ok, Err, IfErr, MatchResult, ◌⊎◌, inl, inr, refl, sym, ap, subst, ◌∙◌, append-nil, append_assoc}
+use Rattle.std.specs.Io.KnownBytes.{Appends}
+use Rattle.theory.specs.Literals.{Literal}
+use Rattle.theory.specs.Truth.{Formula}
+use Rattle.theory.specs.Plans.{Search, Plan}
+use Rattle.theory.specs.Pure.{pure_literals}
+use Rattle.theory.specs.Reading.{Limits, large, IsWithinLimits}
+use Rattle.theory.specs.Steps.{Step}
+use Rattle.theory.specs.Texts.{step_text, proof_text}
+use Rattle.theory.specs.Trees as trees
+use Rattle.theory.specs.Proofs.{proof}
+use Rattle.theory.specs.Checked.{IsCheckedResult}
+use Rattle.theory.specs.Written.{IsUnsatisfiableText}
+use Rattle.cnf.specs.declared.fault.ReadFault.{ReadFault}
+use Rattle.cnf.specs.declared.fault.ReadFault.TheVariants as reading
+use Rattle.cnf.specs.Faults.{IsReadOf}
+use Rattle.lrat_text.proofs.WrittenTexts.{proof_text-ProofReads}
+use Rattle.packs.specs.declared.fact.Fact.{Fact}
+use Rattle.gathering.specs.Stored.{AreTrueFacts}
+use Rattle.cubes.specs.declared.tree.Tree.{Tree}
+use Rattle.cubes.specs.declared.tree.Tree.TheVariants.{Model, Refuted}
+use Rattle.cubes.specs.Result.{LinesNode, LinesTree, node_of, IsResultOf, Says}
+use Rattle.cubes.specs.Streaming.{IsCheckedNode}
+use Rattle.join.specs.Joining.{Joined, behind, before_nodes, after_nodes, on_node, on_nodes}
+use Rattle.join.specs.Walking.{joined}
+use Rattle.join.specs.Numbered.{IsNode}
+use Rattle.join.proofs.FedLemmas.{on_nodes-last, on_node-behind, behind-append, IsNode-split, IsNode-refuted, after-tree, lines-accepted, lines-within}
+use Rattle.runs.specs.Answer.{IsAccepted, IsRight}
+use Rattle.runs.specs.Run.{AreTexts}
+use Rattle.runs.specs.Written.{IsAnswer}
+use Rattle.runs.specs.Gathered.{AreRightTexts, StopsInRightAnswer, Leaves}
+use Rattle.runs.specs.Stored.{PutsFirst, PutsNext, IsPassedOn, IsMaking, IsDrained, IsStreamFor, IsStreamed, IsProofText, IsProofOf, IsUnwritten, AreTrueStored, LeavesStored}
+use Rattle.runs.specs.declared.fault.RunFault.{RunFault}
+use Rattle.runs.specs.declared.fault.RunFault.TheVariants.{Read, NoMemory, ProofWriteFailed, AnswerWriteFailed, ProofReadFailed}
+use Rattle.runs.specs.declared.verdict.Verdict.{Verdict}
+use Rattle.runs.specs.declared.proof_stream.ProofStream.{ProofStream}
+use Rattle.runs.proofs.TextLemmas.{short-large}
+use Rattle.runs.proofs.WrittenLemmas.{Appends-none, Appends-then}
+
+pub proof_text-append : (ls ms : List Step) → proof_text (ls ++ ms) ≡ proof_text ls ++ proof_text ms
+proof_text-append [] ms = refl
+proof_text-append (l ∷ ls) ms = ap (λ t. step_text l ++ t) (proof_text-append ls ms) ∙ sym (append_assoc (step_text l) (proof_text ls) (proof_text ms))
+
+-- no line yet
+pub passed-none : (a : Option (List ℕ)) (buffer : List ℕ) → IsPassedOn a a buffer buffer []
+passed-none a buffer = record { written = []; appended = Appends-none a; text = sym (append-nil buffer) }
+
+-- a line more in the buffer
+pub passed-line : (a b : Option (List ℕ)) (before middle after : List ℕ) (lines : List Step) (step : Step) → IsPassedOn a b before middle lines → after ≡ middle ++ step_text step → IsPassedOn a b before after (lines ++ step ∷ [])
+passed-line a b before middle after lines step p e = record {
+  written = p.written;
+  appended = p.appended;
+  text = ap (λ t. p.written ++ t) e
+      ∙ sym (append_assoc p.written middle (step_text step))
+      ∙ ap (λ t. t ++ step_text step) p.text
+      ∙ append_assoc before (proof_text lines) (step_text step)
+      ∙ ap (λ t. before ++ (proof_text lines ++ t)) (sym (append-nil (step_text step)))
+      ∙ ap (λ t. before ++ t) (sym (proof_text-append lines (step ∷ [])));
+}
+
+-- the buffer is written
+pub passed-written : (a b c : Option (List ℕ)) (before buffer after : List ℕ) (lines : List Step) → IsPassedOn a b before buffer lines → Appends b c buffer → after ≡ [] → IsPassedOn a c before after lines
+passed-written a b c before buffer after lines p w none = record {
+  written = p.written ++ buffer;
+  appended = Appends-then a b c p.written buffer p.appended w;
+  text = ap (λ t. (p.written ++ buffer) ++ t) none ∙ append-nil (p.written ++ buffer) ∙ p.text;
+}
+
+-- lines, and then others
+pub passed-then : (a b c : Option (List ℕ)) (before middle after : List ℕ) (ls ms : List Step) → IsPassedOn a b before middle ls → IsPassedOn b c middle after ms → IsPassedOn a c before after (ls ++ ms)
+passed-then a b c before middle after ls ms p q = record {
+  written = p.written ++ q.written;
+  appended = Appends-then a b c p.written q.written p.appended q.appended;
+  text = append_assoc p.written q.written after
+      ∙ ap (λ t. p.written ++ t) q.text
+      ∙ sym (append_assoc p.written middle (proof_text ms))
+      ∙ ap (λ t. t ++ proof_text ms) p.text
+      ∙ append_assoc before (proof_text ls) (proof_text ms)
+      ∙ ap (λ t. before ++ t) (sym (proof_text-append ls ms));
+}
+
+-- whether a line was put
+pub put-none : (old new : Joined) (before after : List ℕ) (more : Bool) → more ≡ false → PutsNext old new before after more → (old.steps ≡ []) × (new ≡ old) × (after ≡ before)
+put-none old new before after true e p = absurd (cc)
+put-none old new before after false e p = p
+
+pub put-first : (old new : Joined) (before after : List ℕ) (more : Bool) → more ≡ true → PutsNext old new before after more → PutsFirst old new before after
+put-first old new before after true e p = p
+put-first old new before after false e p = absurd (cc)
+
+pub making-none : (a : Option (List ℕ)) (s : ProofStream) → IsMaking a a (joined s.joiner) s.buffer.items s
+making-none a s = record { lines = []; made = refl; passed = passed-none a s.buffer.items }
+
+pub making-line : (a b : Option (List ℕ)) (whole : Joined) (before : List ℕ) (s t : ProofStream) → IsMaking a b whole before s → PutsFirst (joined s.joiner) (joined t.joiner) s.buffer.items t.buffer.items → IsMaking a b whole before t
+making-line a b whole before s t m p = record {
+  lines = m.lines ++ p.step ∷ [];
+  made = m.made ∙ ap (behind m.lines) p.lines ∙ sym (behind-append m.lines (p.step ∷ []) (joined t.joiner));
+  passed = passed-line a b before s.buffer.items t.buffer.items m.lines p.step m.passed p.text;
+}
+
+pub making-written : (a b c : Option (List ℕ)) (whole : Joined) (before : List ℕ) (s t : ProofStream) → IsMaking a b whole before s → t.joiner ≡ s.joiner → Appends b c s.buffer.items → t.buffer.items ≡ [] → IsMaking a c whole before t
+making-written a b c whole before s t m same w none = record {
+  lines = m.lines;
+  made = m.made ∙ ap (λ j. behind m.lines (joined j)) (sym same);
+  passed = passed-written a b c before s.buffer.items t.buffer.items m.lines m.passed w none;
+}
+
+-- some lines, and then others
+pub making-then : (a b c : Option (List ℕ)) (whole : Joined) (before : List ℕ) (s t : ProofStream) → IsMaking a b whole before s → IsMaking b c (joined s.joiner) s.buffer.items t → IsMaking a c whole before t
+making-then a b c whole before s t m n = record {
+  lines = m.lines ++ n.lines;
+  made = m.made ∙ ap (behind m.lines) n.made ∙ sym (behind-append m.lines n.lines (joined t.joiner));
+  passed = passed-then a b c before s.buffer.items t.buffer.items m.lines n.lines m.passed n.passed;
+}
+
+-- one node more
+pub making-node : (a b : Option (List ℕ)) (N : ℕ) (whole : Joined) (before : List ℕ) (n : trees.Node) (s t : ProofStream) → IsMaking a b whole before s → joined t.joiner ≡ on_node N (joined s.joiner) n → t.buffer.items ≡ s.buffer.items
+    → IsMaking a b (on_node N whole n) before t
+making-node a b N whole before n s t m taken same = record {
+  lines = m.lines;
+  made = ap (λ w. on_node N w n) m.made ∙ on_node-behind N m.lines (joined s.joiner) n ∙ ap (behind m.lines) (sym taken);
+  passed = subst (λ buffer. IsPassedOn a b before buffer m.lines) (sym same) m.passed;
+}
+
+-- what is made in the end
+pub streamed-node : (a b c : Option (List ℕ)) (first old drained new : ProofStream) (nodes : List trees.Node) (n : trees.Node) → IsStreamed a b first nodes old → IsDrained b c old drained → joined new.joiner ≡ on_node drained.joiner.clauses (joined drained.joiner) n
+    → new.joiner.clauses ≡ drained.joiner.clauses → new.buffer.items ≡ drained.buffer.items → IsStreamed a c first (nodes ++ n ∷ []) new
+streamed-node a b c first old drained new nodes n s d taken clauses same =
+    let N = first.joiner.clauses in
+    let whole = on_nodes N (joined first.joiner) nodes in
+    let count : drained.joiner.clauses ≡ N = d.clauses ∙ s.clauses in
+    record {
+      making = subst (λ (w : Joined). IsMaking a c w first.buffer.items new) (sym (on_nodes-last N (joined first.joiner) nodes n))
+          (making-node a c N whole first.buffer.items n drained new (making-then a b c whole first.buffer.items old drained s.making d.making) (taken ∙ ap (λ m. on_node m (joined drained.joiner) n) count) same);
+      clauses = clauses ∙ count;
+    }
+
+-- all that is made is written
+pub making-ended : (a b c : Option (List ℕ)) (whole : Joined) (before : List ℕ) (s : ProofStream) → IsMaking a b whole before s → (joined s.joiner).steps ≡ [] → Appends b c s.buffer.items → Appends a c (before ++ proof_text whole.steps)
+making-ended a b c whole before s m all w =
+    let lines : whole.steps ≡ m.lines = ap (λ (j : Joined). j.steps) m.made ∙ ap (λ steps. m.lines ++ steps) all ∙ append-nil m.lines in
+    subst (Appends a c) (m.passed.text ∙ ap (λ steps. before ++ proof_text steps) (sym lines)) (Appends-then a b c m.passed.written s.buffer.items m.passed.appended w)
+
+-- and so it is where the rest is written at once
+pub streamed-ended : (a b c : Option (List ℕ)) (whole : Joined) (s : ProofStream) → IsMaking a b whole [] s → Appends b c (s.buffer.items ++ proof_text (joined s.joiner).steps) → Appends a c (proof_text whole.steps)
+streamed-ended a b c whole s m w =
+    let rest = proof_text (joined s.joiner).steps in
+    subst (Appends a c)
+    (sym (append_assoc m.passed.written s.buffer.items rest)
+    ∙ ap (λ t. t ++ rest) m.passed.text
+    ∙ sym (proof_text-append m.lines (joined s.joiner).steps)
+    ∙ ap (λ (j : Joined). proof_text j.steps) (sym m.made))
+    (Appends-then a b c m.passed.written (s.buffer.items ++ rest) m.passed.appended w)
+
+-- where nothing came
+pub making-same : (a b : Option (List ℕ)) (whole : Joined) (before : List ℕ) (s t : ProofStream) → IsMaking a b whole before s → joined t.joiner ≡ joined s.joiner → t.buffer.items ≡ s.buffer.items → IsMaking a b whole before t
+making-same a b whole before s t m same text = record {
+  lines = m.lines;
+  made = m.made ∙ ap (behind m.lines) (sym same);
+  passed = subst (λ buffer. IsPassedOn a b before buffer m.lines) (sym text) m.passed;
+}
+
+-- fewer lines are still to come
+pub put-fewer : (old new : Joined) (before after : List ℕ) → PutsFirst old new before after → length new.steps < length old.steps
+put-fewer old new before after p = let e = ap (λ (j : Joined). length j.steps) p.lines in omega arith
+
+-- the node of a cube that was checked is within its limits
+pub checked-node : (F : Formula) (search : Search) (Q : List Literal) (N : ℕ) (n : trees.Node) → IsWithinLimits large F → N ≡ length F.clauses + length (pure_literals F) → IsCheckedNode search F Q n → IsNode N n
+checked-node F search Q N (trees.split_on x) within count checked = IsNode-split F search Q N x within checked
+checked-node F search Q N (trees.refuted_leaf lines) within count checked = IsNode-refuted F search Q N lines within count checked
+
+-- what the nodes of a tree without a model give is its proof
+pub nodes-proof : (F : Formula) (first : ProofStream) (ns : List trees.Node) (t : trees.Tree) → IsStreamFor F first → joined first.joiner ≡ before_nodes (length F.clauses) (pure_literals F) → ns ≡ trees.nodes_of t → trees.first_model t ≡ None
+    → proof_text (on_nodes first.joiner.clauses (joined first.joiner) ns).steps ≡ proof_text (proof F t)
+nodes-proof F first ns t stream begun same none =
+    ap (λ (N : ℕ). proof_text (on_nodes N (joined first.joiner) ns).steps) stream.clauses
+    ∙ ap (λ (s : Joined). proof_text (on_nodes (length F.clauses + length (pure_literals F)) s ns).steps) begun
+    ∙ ap (λ ms. proof_text (after_nodes F ms).steps) same
+    ∙ ap proof_text (after-tree F t none)
+
+-- all nodes of a tree without a model were taken, and what was left is written
+pub refutation-written : {X : Type 0} (F : Formula) (plan : Plan) (are_true : Type 0) (a b c : Option (List ℕ)) (first last : ProofStream) (nodes : List LinesNode) (r : Result X RunFault) → IsStreamFor F first
+    → joined first.joiner ≡ before_nodes (length F.clauses) (pure_literals F) → first.buffer.items ≡ [] → (t : trees.Tree) × IsCheckedResult plan.search F (trees.tree_of t) × (map node_of nodes ≡ trees.nodes_of t)
+    → (are_true → (t : trees.Tree) × trees.IsResult F plan (trees.tree_of t) × (map node_of nodes ≡ trees.nodes_of t)) → IsStreamed a b first (map node_of nodes) last
+    → MatchResult r (λ _. Appends b c (last.buffer.items ++ proof_text (joined last.joiner).steps)) (λ e. e ≡ ProofWriteFailed) → MatchResult r (λ _. (text : List ℕ) × IsProofText F plan are_true text × Appends a c text) (IsUnwritten a c)
+refutation-written F plan are_true a b c first last nodes (Err e) stream begun empty checked own streamed ended = inr ended
+refutation-written F plan are_true a b c first last nodes (Ok x) stream begun empty checked own streamed ended =
+    let ns = map node_of nodes in
+    let whole = on_nodes first.joiner.clauses (joined first.joiner) ns in (
+      proof_text whole.steps,
+      record {
+        tree = checked.0;
+        checked = checked.1;
+        text_is = nodes-proof F first ns checked.0 stream begun checked.2 checked.1.1;
+        own = λ are. let o = own are in (o.0, o.1, nodes-proof F first ns o.0 stream begun o.2 o.1.1);
+      },
+      streamed-ended a b c whole last (subst (λ before. IsMaking a b whole before last) empty streamed.making) ended,
+    )
+
+-- the proof of a checked tree is accepted
+accepted-proof : (L : Limits) (F : Formula) (search : Search) (t : trees.Tree) (text : List ℕ) → IsWithinLimits large F → IsCheckedResult search F (trees.tree_of t) → text ≡ proof_text (proof F t) → IsAccepted L F text
+accepted-proof L F search t text within checked same =
+    subst (IsAccepted L F) (sym same)
+    (λ short. (
+      proof F t,
+      proof_text-ProofReads L (proof F t) (lines-within F search t (proof F t) within checked refl (short-large L (length (proof_text (proof F t))) short)) short,
+      lines-accepted F search t (proof F t) checked refl,
+    ))
+
+-- a checked result is enough for the answer to be right
+pub stored-right : {K : Type 0} (L : Limits) (F : Formula) (plan : Plan) (are_true : Type 0) (tree : Tree K) (verdict : Verdict) (text answer : List ℕ) → IsWithinLimits large F → Says plan.search F tree → IsAnswer tree verdict answer → IsProofOf F plan are_true tree text
+    → IsRight L plan.search F verdict text answer
+stored-right L F plan are_true (Model values) verdict text answer within says is of = rw is.0 (values.items, says, is.1)
+stored-right L F plan are_true (Refuted nodes) verdict text answer within says is of = rw is.0 (says, accepted-proof L F plan.search of.tree text within of.checked of.text_is, is.1)
+
+-- and where the facts are true, the texts are those of the plan
+pub stored-texts : (L : Limits) (F : Formula) (plan : Plan) (are_true : Type 0) (tree : LinesTree) (verdict : Verdict) (text answer : List ℕ) → IsWithinLimits large F → are_true → IsResultOf F plan tree → Says plan.search F tree → IsAnswer tree verdict answer
+    → IsProofOf F plan are_true tree text → AreTexts L F plan verdict text answer
+stored-texts L F plan are_true (Model values) verdict text answer within are result says is of =
+    rw is.0 (record { model = values.items; found = says; is_result = result; proof_is = of; answer_is = is.1 })
+stored-texts L F plan are_true (Refuted nodes) verdict text answer within are result says is of =
+    let own = of.own are in
+    let whole : IsUnsatisfiableText F plan text answer = record { unsatisfiable = says; tree = own.0; is_tree = own.1.0; proof_is = own.2; answer_is = is.1 } in
+    rw is.0 (whole, accepted-proof L F plan.search of.tree text within of.checked of.text_is)
+
+-- what a fault leaves
+pub Leaves-Stored : (L : Limits) (search : Search) (known p q a b : Option (List ℕ)) (fault : RunFault) → Leaves L search known p q a b fault → LeavesStored L search known p q a b fault
+Leaves-Stored L search known p q a b (Read fault) leaves = leaves
+Leaves-Stored L search known p q a b NoMemory leaves = leaves
+Leaves-Stored L search known p q a b ProofWriteFailed leaves = leaves.answer_kept
+Leaves-Stored L search known p q a b AnswerWriteFailed leaves = leaves
+Leaves-Stored L search known p q a b ProofReadFailed leaves = leaves
+
+-- an answer that could not be written
+pub unanswered-Stored : {X : Type 0} (L : Limits) (search : Search) (known p q a b : Option (List ℕ)) (r : Result X RunFault) (e : RunFault) (proof answer : List ℕ) → r ≡ Err e → AreRightTexts L search known proof answer → Appends p q proof
+    → (e ≡ AnswerWriteFailed) × (count : ℕ) × Appends a b (take count answer) → IfErr r (LeavesStored L search known p q a b)
+unanswered-Stored L search known p q a b r e proof answer f right pw h =
+    rw (f, h.0) (let stops : StopsInRightAnswer L search known p q a b = record { proof = proof; answer = answer; right = right; count = h.1; proof_written = pw; answer_written = h.2 } in stops)
+
+-- a formula that was read: what a store tells is true of it
+pub stored-truths : {S : Type 0} (facts : S → Option (List Fact)) (L : Limits) (known : Option (List ℕ)) (plan : Plan) (s t : S) (F : Formula) → ◌≡◌ {A = Result Formula ReadFault} (Ok F) (Err reading.ReadFailed) ⊎ IsReadOf L known (Ok F)
+    → facts t ≡ facts s → AreTrueStored facts L known plan s → AreTrueFacts facts F plan t
+stored-truths facts L known plan s t F (inl e) same are = absurd (cc)
+stored-truths facts L known plan s t F (inr r) same are = let true_facts = are r.bytes F r.are r.is_read in (true_facts.0, same ∙ true_facts.1, true_facts.2)

@@ -1,0 +1,15 @@
+use Rattle.std.proofs.Common.{refl, ◌∙◌}
+use Rattle.cubes.specs.Result.{node_of}
+use Rattle.runs.specs.declared.proof_stream.ProofStream.{ProofStream}
+use Rattle.runs.proofs.StoredLemmas.{checked-node, streamed-node}
+use Rattle.runs.proofs.proof_stream.ProofStreamTakesNodes.take.Goals as goal
+
+pub take-requires-clause-node : goal.take-requires-clause-node
+take-requires-clause-node g c =
+    checked-node c.args._formula.now c.requires.node.0 c.requires.node.1 c.drain.new.self.joiner.clauses (node_of c.args.node) c.requires.is_for.within (c.in_ok-drain.ensures.drained.clauses ∙ c.requires.is_for.clauses) c.requires.node.2
+
+pub returns-clause-takes : goal.returns-clause-takes
+returns-clause-takes g c = λ first begun nodes streamed.
+    let new : ProofStream = record { joiner = c.take.new.self; buffer = c.drain.new.self.buffer } in
+    streamed-node (g.W.Write.contents begun) (g.W.Write.contents c.args.out.now) (g.W.Write.contents c.drain.new.writer) first c.args.self.now c.drain.new.self new nodes (node_of c.args.node) streamed c.in_ok-drain.ensures.drained
+    c.in_ok-take.ensures.joined c.in_ok-take.ensures.clauses refl

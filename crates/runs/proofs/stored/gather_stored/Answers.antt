@@ -1,0 +1,65 @@
+use Rattle.std.proofs.Common.{rules, ap}
+use Rattle.cnf.specs.Limits.{limits_of}
+use Rattle.gathering.specs.Stored.{AreTrueFacts}
+use Rattle.runs.specs.Faults.{fault_of_read}
+use Rattle.runs.proofs.RunLemmas.{IsRunOf-made, RunSays-unread}
+use Rattle.runs.proofs.WrittenLemmas.{Keeps-same}
+use Rattle.runs.proofs.GatheredLemmas.{AreRightTexts-made, IsRightAnswer-made, says-Leaves}
+use Rattle.runs.proofs.StoredLemmas.{stored-right, stored-texts, stored-truths, Leaves-Stored, unanswered-Stored}
+use Rattle.runs.proofs.stored.gather_stored.Goals as goal
+
+pub returns-in-Err-clause-leaves : goal.returns-in-Err-clause-leaves
+returns-in-Err-clause-leaves g c =
+    let p = g.P.Write.contents c.args.proof.now in
+    let a = g.W.Write.contents c.args.answer.now in
+    let known = g.R.Read.remaining c.args.input in
+    rw c.of_read.ensures
+    (Leaves-Stored (limits_of c.args.limits) c.args.plan.search known p p a a (fault_of_read c.in-Err.fault)
+    (says-Leaves (limits_of c.args.limits) known c.args.plan p p a a (fault_of_read c.in-Err.fault) (RunSays-unread (limits_of c.args.limits) known p a c.args.plan c.in-Err.fault c.in-Err.ensures)))
+
+pub answer_of-requires : goal.answer_of-requires
+answer_of-requires g c = (c.args.plan.search, c.in-Ok-go_through.ensures.says)
+
+pub returns-in-Err-answer_of-clause-leaves : goal.returns-in-Err-answer_of-clause-leaves
+returns-in-Err-answer_of-clause-leaves g c = (Keeps-same (g.P.Write.contents c.args.proof.now), Keeps-same (g.W.Write.contents c.args.answer.now))
+
+pub returns-in_err-write_text-clause-leaves : goal.returns-in_err-write_text-clause-leaves
+returns-in_err-write_text-clause-leaves g c =
+    let F = c.in-Ok.formula in
+    let known = g.R.Read.remaining c.args.input in
+    let are_true = AreTrueFacts g.S.KeepsFacts.facts F c.args.plan c.go_through.new.source.store in
+    let written = c.in_ok-write_proof_of.ensures in
+    let answer = c.in-Ok-answer_of.pair.1.items in
+    let right = stored-right (limits_of c.args.limits) F c.args.plan are_true c.in-Ok-go_through.tree c.in-Ok-answer_of.pair.0 written.0 answer c.vars-vars.ensures.within c.in-Ok-go_through.ensures.says c.in-Ok-answer_of.ensures written.1 in
+    unanswered-Stored (limits_of c.args.limits) c.args.plan.search known (g.P.Write.contents c.args.proof.now) (g.P.Write.contents c.write_proof_of.new.proof) (g.W.Write.contents c.args.answer.now) (g.W.Write.contents c.write_text.new.writer)
+    c.from_residual-in_err-write_text.result c.in_err-write_text.field-0.0 written.0 answer (search rules)
+    (AreRightTexts-made (limits_of c.args.limits) c.args.plan.search known F c.in-Ok-answer_of.pair.0 written.0 answer c.in-Ok.ensures right) written.2 (rw c.deref.ensures.value at c.in_err-write_text.ensures)
+
+pub returns-clause-answer_is_right : goal.returns-clause-answer_is_right
+returns-clause-answer_is_right g c =
+    let F = c.in-Ok.formula in
+    let are_true = AreTrueFacts g.S.KeepsFacts.facts F c.args.plan c.go_through.new.source.store in
+    let written = c.in_ok-write_proof_of.ensures in
+    let answer = c.in-Ok-answer_of.pair.1.items in
+    IsRightAnswer-made (limits_of c.args.limits) c.args.plan.search (g.R.Read.remaining c.args.input) (g.P.Write.contents c.args.proof.now) (g.P.Write.contents c.write_proof_of.new.proof) (g.W.Write.contents c.args.answer.now) (g.W.Write.contents c.write_text.new.writer) F
+    c.in-Ok-answer_of.pair.0 written.0 answer c.in-Ok.ensures
+    (stored-right (limits_of c.args.limits) F c.args.plan are_true c.in-Ok-go_through.tree c.in-Ok-answer_of.pair.0 written.0 answer c.vars-vars.ensures.within c.in-Ok-go_through.ensures.says c.in-Ok-answer_of.ensures written.1) written.2
+    (rw c.deref.ensures.value at c.in_ok-write_text.ensures)
+
+pub returns-clause-says : goal.returns-clause-says
+returns-clause-says g c = λ are.
+    let F = c.in-Ok.formula in
+    let known = g.R.Read.remaining c.args.input in
+    let are_true = AreTrueFacts g.S.KeepsFacts.facts F c.args.plan c.go_through.new.source.store in
+    let opened = stored-truths g.S.KeepsFacts.facts (limits_of c.args.limits) known c.args.plan c.args.store c.in-Ok-open.outcomes.store F c.in-Ok.ensures (ap g.S.KeepsFacts.facts c.in-Ok-open.ensures.own) are in
+    let written = c.in_ok-write_proof_of.ensures in
+    let answer = c.in-Ok-answer_of.pair.1.items in
+    let texts = stored-texts (limits_of c.args.limits) F c.args.plan are_true c.in-Ok-go_through.tree c.in-Ok-answer_of.pair.0 written.0 answer c.vars-vars.ensures.within (c.in-Ok-go_through.ensures.still_own opened) (c.in-Ok-go_through.ensures.own opened)
+    c.in-Ok-go_through.ensures.says c.in-Ok-answer_of.ensures written.1 in
+    record {
+      proof = written.0;
+      answer = answer;
+      run = IsRunOf-made (limits_of c.args.limits) known c.args.plan F c.in-Ok-answer_of.pair.0 written.0 answer c.in-Ok.ensures texts;
+      proof_written = written.2;
+      answer_written = rw c.deref.ensures.value at c.in_ok-write_text.ensures;
+    }

@@ -1,0 +1,126 @@
+//! A run without threads, over facts that are kept elsewhere and that nobody vouches for. Its proof
+//! is written while they are read again, so that no more than one of them is in memory.
+ghost use Rattle.std.specs.Prelude.{List, IfOk, IfErr, MatchResult, ℕ};
+ghost use Rattle.std.specs.Io.KnownBytes.{Appends};
+ghost use Rattle.theory.specs.Truth.{Satisfiable};
+ghost use Rattle.cnf.specs.Limits.{limits_of};
+ghost use Rattle.cubes.specs.Result.{Says};
+ghost use Rattle.gathering.specs.Stored.{AreTrueFacts, Gives};
+ghost use Rattle.runs.specs.Answer.{IsRightAnswer};
+ghost use Rattle.runs.specs.Run.{WritesBoth};
+ghost use Rattle.runs.specs.Stored.{AreTrueStored, IsProofOf, IsProofText, IsUnwritten, LeavesStored};
+
+use crate::alone::answer_of;
+use crate::fault::RunFault;
+use crate::output::write_text;
+use crate::proof_stream::ProofStream;
+use crate::verdict::Verdict;
+use cdcl::{Plan, Unkept};
+use cnf::{Formula, Limits, read_from_within};
+use cubes::{Tree, Untaken, go_through};
+use gathering::{KeepsFacts, StoredOutcomes};
+use std::alloc::Global;
+use std::io::{Read, Write};
+
+/// What a run over stored facts comes to.
+#[derive(Clone, Copy, Debug, PartialEq, Eq)]
+pub struct GatheredFrom {
+    pub verdict: Verdict,
+    /// So many facts were taken to come to the verdict. The number stops at the greatest one.
+    pub taken: u64,
+    /// So many cubes were solved for it, since no fact of them was checked.
+    pub solved: u64,
+}
+
+/// Writes the proof of a formula that isn't satisfiable, from the outcomes of its cubes.
+fn write_refutation<S: KeepsFacts, P: Write>(
+    alloc: Global,
+    formula: &Formula,
+    plan: Plan,
+    outcomes: &mut StoredOutcomes<S>,
+    proof: &mut P,
+) -> Result<(), RunFault>
+    requires gives { Gives formula.now plan outcomes.old }
+    requires refuted { ¬ (Satisfiable formula.now) }
+    ensures { MatchResult result
+        (λ _. (text : List ℕ) × IsProofText formula.now plan (AreTrueFacts S.facts formula.now plan outcomes.old.store) text × Appends (P.contents proof.old) (P.contents proof.new) text)
+        (IsUnwritten (P.contents proof.old) (P.contents proof.new)) }
+{
+    let Ok(mut stream) = ProofStream::begin(alloc, formula) else {
+        return Err(RunFault::NoMemory);
+    };
+    match go_through(alloc, formula, plan, outcomes, &mut stream, proof) {
+        Ok(Tree::Refuted(_)) => stream.end(proof),
+        Ok(Tree::Model(_)) => unreachable!(),
+        Err(_) => Err(RunFault::ProofWriteFailed),
+    }
+}
+
+/// Writes the proof for a result; that of a model is empty.
+fn write_proof_of<S: KeepsFacts, P: Write>(
+    alloc: Global,
+    formula: &Formula,
+    plan: Plan,
+    tree: &Tree<Unkept>,
+    outcomes: &mut StoredOutcomes<S>,
+    proof: &mut P,
+) -> Result<(), RunFault>
+    requires gives { Gives formula.now plan outcomes.old }
+    requires says { Says plan.search formula.now tree.now }
+    ensures { MatchResult result
+        (λ _. (text : List ℕ) × IsProofOf formula.now plan (AreTrueFacts S.facts formula.now plan outcomes.old.store) tree.now text × Appends (P.contents proof.old) (P.contents proof.new) text)
+        (IsUnwritten (P.contents proof.old) (P.contents proof.new)) }
+{
+    match tree {
+        Tree::Model(_) => write_text(proof, &[], RunFault::ProofWriteFailed),
+        Tree::Refuted(_) => write_refutation(alloc, formula, plan, outcomes, proof),
+    }
+}
+
+/// What `gather_within` does, where the facts are kept elsewhere: it goes through the formula's tree
+/// twice, once to come to the verdict and once to write the proof, and asks for each cube's facts
+/// when it comes there. Nobody vouches for these: of the cubes that it needs, it takes what a check
+/// bears out, each time, and solves the others. So its answer is right whatever the store gives, and
+/// also where that changes in between; where the store tells what it gives, and all of that is true
+/// of the formula by the plan, the very bytes of `run_one_by_plan` are written. It takes memory by
+/// the formula, a few bytes for each node of the tree, and the longest fact. `RunFault` says when
+/// each fault comes; in the second way through the tree want of memory is a proof that can't be
+/// written.
+pub fn gather_stored<R: Read + Drop, S: KeepsFacts + Drop, W: Write, P: Write>(
+    alloc: Global,
+    input: R,
+    limits: Limits,
+    store: S,
+    answer: &mut W,
+    proof: &mut P,
+    plan: Plan,
+) -> Result<GatheredFrom, RunFault>
+    ensures answer_is_right { IfOk result (λ g. IsRightAnswer (limits_of limits) plan.search (R.remaining input) (P.contents proof.old) (P.contents proof.new) (W.contents answer.old) (W.contents answer.new) g.verdict) }
+    ensures leaves { IfErr result (LeavesStored (limits_of limits) plan.search (R.remaining input) (P.contents proof.old) (P.contents proof.new) (W.contents answer.old) (W.contents answer.new)) }
+    ensures says { AreTrueStored S.facts (limits_of limits) (R.remaining input) plan store →
+        IfOk result (λ g. WritesBoth (limits_of limits) (R.remaining input) plan (P.contents proof.old) (P.contents proof.new) (W.contents answer.old) (W.contents answer.new) g.verdict) }
+{
+    let formula = match read_from_within(alloc, input, limits) {
+        Ok(formula) => formula,
+        Err(fault) => return Err(RunFault::of_read(fault)),
+    };
+    let _vars = formula.vars(); // it ensures what the proof needs of the formula
+    let Ok(mut outcomes) = StoredOutcomes::open(alloc, &formula, plan, store) else {
+        return Err(RunFault::NoMemory);
+    };
+    let Ok(tree) = go_through(alloc, &formula, plan, &mut outcomes, &mut Untaken, &mut ()) else {
+        return Err(RunFault::NoMemory);
+    };
+    let (taken, solved) = (outcomes.taken, outcomes.solved);
+    let (verdict, text) = match answer_of(alloc, &formula, &tree) {
+        Ok(pair) => pair,
+        Err(_) => return Err(RunFault::NoMemory),
+    };
+    write_proof_of(alloc, &formula, plan, &tree, &mut outcomes, proof)?;
+    write_text(answer, &text, RunFault::AnswerWriteFailed)?;
+    Ok(GatheredFrom {
+        verdict,
+        taken,
+        solved,
+    })
+}
