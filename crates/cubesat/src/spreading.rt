@@ -9,14 +9,14 @@ use crate::solving::{SATISFIABLE, UNSATISFIABLE, print_not_begun};
 use crate::spread_arguments::{Part, Spread};
 use crate::worded::{Known, Opened};
 use cdcl::{Plan, Search};
-use cnf::Limits;
+use cnf::{Limits, ReadFault, read_formula_within};
 use noticed::{NoticedReader, NoticedWriter};
-use runs::{Gathered, PackCounts, RunFault, Verdict, gather_within};
+use runs::{GatheredFrom, RunFault, Verdict, gather_stored};
 use spread::{
-    Ended, Folder, HandCount, Progress, RunFile, Said, Slice, bodies_in, conquer, divide,
-    divide_again, formula_bytes_in, run_in,
+    Ended, Folder, HandCount, PackStore, Progress, RunFile, Said, Slice, StoreCounts, conquer,
+    divide, divide_again, formula_bytes_in, run_in, store_in,
 };
-use std::alloc::Global;
+use std::alloc::{AllocError, Global};
 use std::fs::Files;
 use std::io;
 use std::io::{Empty, Write};
@@ -60,17 +60,18 @@ fn status_of(ended: Result<Ended, Said>) -> u8 {
     }
 }
 
-/// Prints what the packs of a run had.
-fn print_counts<E: Write>(faults: &mut E, counts: PackCounts) {
-    let PackCounts {
+/// Prints what the packs of a run had, and what was taken of it.
+fn print_counts<E: Write>(faults: &mut E, counts: StoreCounts, gathered: &GatheredFrom) {
+    let StoreCounts {
         facts,
-        checked,
         passed_over,
         broken_off,
     } = counts;
+    let taken = gathered.taken;
+    let solved = gathered.solved;
     let _ = writeln!(
         faults,
-        "c packs: {facts} facts, {checked} of them checked, {passed_over} passed over, {broken_off} packs break off"
+        "c packs: {facts} facts, {taken} of them taken, {solved} cubes solved again, {passed_over} passed over, {broken_off} packs break off"
     );
 }
 
@@ -78,16 +79,16 @@ fn print_counts<E: Write>(faults: &mut E, counts: PackCounts) {
 fn end_gather<R: Files, E: Write>(
     rt: &R,
     faults: &mut E,
-    gathered: Result<Gathered, RunFault>,
+    gathered: Result<GatheredFrom, RunFault>,
     known: &Known<'_>,
-    stats: bool,
+    counts: Option<StoreCounts>,
 ) -> u8 {
     let gathered = match gathered {
         Ok(gathered) => gathered,
         Err(fault) => return print_fault_of(rt, faults, fault, known, false),
     };
-    if stats {
-        print_counts(faults, gathered.packs);
+    if let Some(counts) = counts {
+        print_counts(faults, counts, &gathered);
     }
     match gathered.verdict {
         Verdict::Satisfiable => SATISFIABLE,
@@ -95,13 +96,12 @@ fn end_gather<R: Files, E: Write>(
     }
 }
 
-/// What the folder of a run holds.
+/// What the folder of a run holds, but for its packs.
 #[derive(Drop)]
 struct Held {
     run: RunFile,
-    /// The formula's bytes, and what stands in the packs.
+    /// The formula's bytes.
     formula: Vec<u8>,
-    bodies: Vec<Vec<u8>>,
 }
 
 /// Gathers the result of a run from what its packs have; the status.
@@ -109,20 +109,22 @@ fn gather_opened<R: Files, W: Write, E: Write>(
     rt: &R,
     alloc: Global,
     held: &Held,
+    store: PackStore<'_, R>,
     formula: &str,
     proof: Opened<'_, PlacedProof<'_, R>>,
     stats: bool,
     answer: &mut W,
     faults: &mut E,
 ) -> u8 {
+    let counts = if stats { Some(store.counts()) } else { None };
     let mut input = NoticedReader::of(held.formula.as_slice());
     let mut output = NoticedWriter::of(proof.file);
     let mut answer = NoticedWriter::of(answer);
-    let gathered = gather_within(
+    let gathered = gather_stored(
         alloc,
         &mut input,
         held.run.limits,
-        &held.bodies,
+        store,
         &mut answer,
         &mut output,
         held.run.plan,
@@ -136,11 +138,11 @@ fn gather_opened<R: Files, W: Write, E: Write>(
         answer_error: answer.error(),
         limits: held.run.limits,
     };
-    end_gather(rt, faults, gathered, &known, stats)
+    end_gather(rt, faults, gathered, &known, counts)
 }
 
 /// What the folder of a run holds; the formula is the one of the run.
-fn held_in<R: Files + Alloc + Clone + Drop, E: Write>(
+fn held_in<R: Files, E: Write>(
     rt: &R,
     alloc: Global,
     folder: Folder<'_>,
@@ -148,12 +150,17 @@ fn held_in<R: Files + Alloc + Clone + Drop, E: Write>(
 ) -> Result<Held, Said> {
     let run = run_in(rt, alloc, folder, faults)?;
     let formula = formula_bytes_in(rt, alloc, folder, &run, faults)?;
-    let bodies = bodies_in(rt, alloc, folder, &run, faults)?;
-    Ok(Held {
-        run,
-        formula,
-        bodies,
-    })
+    Ok(Held { run, formula })
+}
+
+/// How many variables the formula has, or that memory was refused. Of one that can't be read they
+/// are none: what is wrong with it is said where it is gathered.
+fn vars_of(alloc: Global, held: &Held) -> Result<u32, AllocError> {
+    match read_formula_within(alloc, &held.formula, held.run.limits) {
+        Ok(formula) => Ok(formula.vars()),
+        Err(ReadFault::NoMemory) => Err(AllocError),
+        Err(_) => Ok(0),
+    }
 }
 
 /// Gathers the result of a run, with its proof written to a file; the status.
@@ -169,8 +176,11 @@ fn gather<R: Files + Alloc + Clone + Drop, W: Write, E: Write>(
     let Ok(held) = held_in(rt, alloc, folder, faults) else {
         return FAILED;
     };
-    let Ok(file) = folder.formula(alloc) else {
+    let (Ok(file), Ok(vars)) = (folder.formula(alloc), vars_of(alloc, &held)) else {
         return print_no_memory(faults, folder.path, false);
+    };
+    let Ok(store) = store_in(rt, alloc, folder, &held.run, vars, faults) else {
+        return FAILED;
     };
     let file = file.as_str();
     // it was read; it is opened so that the proof isn't written over it
@@ -182,7 +192,7 @@ fn gather<R: Files + Alloc + Clone + Drop, W: Write, E: Write>(
         Ok(placed) => Opened { path, file: placed },
         Err(why) => return print_not_begun(faults, why, file, path, false),
     };
-    gather_opened(rt, alloc, &held, file, proof, stats, answer, faults)
+    gather_opened(rt, alloc, &held, store, file, proof, stats, answer, faults)
 }
 
 /// The plan of a run, if its numbers are in their ranges, as those of a command line are.

@@ -5,3 +5,5 @@ pub mod BreadthLemmas
 pub mod DividingLemmas
 pub mod WordLemmas
 pub mod HandLemmas
+pub mod PassageLemmas
+pub mod FoundLemmas

@@ -29,6 +29,10 @@ not-other r xs ys e h = by (bytes_eq xs ys) (sym h ∙ e) (bytes_eq-Decides xs y
     by true f d = d refl
     by false f d = absurd (cc)
 
+-- texts that are told apart
+pub other : (r : Bool) (xs ys : List ℕ) → r ≡ not (bytes_eq xs ys) → r ≡ true → xs ≡ ys → ⊥
+other r xs ys e h same = let yes : bytes_eq xs ys ≡ true = (bytes_eq-Decides xs ys).1 same in let no : true ≡ not true = sym h ∙ (e ∙ ap not yes) in absurd (cc)
+
 -- a front that is there
 pub stands : (all front rest : List ℕ) → all ≡ front ++ rest → bytes_eq (take (length front) all) front ≡ true
 stands all front rest e = (bytes_eq-Decides (take (length front) all) front).1 (ap (take (length front)) e ∙ take-append_seam front rest)

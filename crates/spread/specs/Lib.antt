@@ -7,3 +7,5 @@ pub mod Progress
 pub mod RunFiles
 pub mod Solving
 pub mod Sums
+pub mod Passages
+pub mod Found

@@ -20,8 +20,11 @@ use std::{fs, io};
 /// What a pack's name ends with.
 const ENDING: &str = ".pack";
 
+/// What is said of a pack that is damaged or another run's.
+pub(crate) const NOT_WHOLE: &str = "not a whole pack of this run; it counts as missing";
+
 /// The first line of the packs of a run.
-fn head_of(alloc: Global, run: &RunFile) -> Result<String, AllocError>
+pub(crate) fn head_of(alloc: Global, run: &RunFile) -> Result<String, AllocError>
     ensures { IfOk result (λ line. string_bytes line ≡ head (string_bytes run.now.sum)) }
 {
     let sum = run.sum.as_str();
@@ -51,13 +54,19 @@ fn bytes_of(alloc: Global, run: &RunFile, facts: &[Fact]) -> Result<Vec<u8>, All
     Ok(bytes)
 }
 
+/// The name of the pack whose bytes have this sum.
+pub(crate) fn name_by(alloc: Global, sum: &str) -> Result<String, AllocError>
+    ensures { IfOk result (λ name. string_bytes name ≡ sum.now ++ codes ".pack") }
+{
+    format!(in alloc; "{sum}{ENDING}")
+}
+
 /// The name of the pack with these bytes.
 fn name_of(alloc: Global, bytes: &[u8]) -> Result<String, AllocError>
     ensures { IfOk result (λ name. string_bytes name ≡ pack_name bytes.now) }
 {
     let sum = sum_of(alloc, bytes)?;
-    let sum = sum.as_str();
-    format!(in alloc; "{sum}{ENDING}")
+    name_by(alloc, sum.as_str())
 }
 
 /// The path of the pack with these bytes.
@@ -190,30 +199,9 @@ pub(crate) fn read_body<R: Files, E: Write>(
     };
     let body = body_of(alloc, run, name, &bytes)?;
     if body.is_none() {
-        let _ = say(
-            faults,
-            path,
-            "not a whole pack of this run; it counts as missing",
-        );
+        let _ = say(faults, path, NOT_WHOLE);
     }
     Ok(body)
-}
-
-fn read_bodies<R: Files, E: Write>(
-    rt: &R,
-    alloc: Global,
-    folder: Folder,
-    run: &RunFile,
-    names: &[String],
-    faults: &mut E,
-) -> Result<Vec<Vec<u8>>, AllocError> {
-    let mut bodies = Vec::new(alloc);
-    for name in names {
-        if let Some(body) = read_body(rt, alloc, folder, run, name.as_str(), faults)? {
-            bodies.push(body)?;
-        }
-    }
-    Ok(bodies)
 }
 
 /// The names of the packs of a run, in their order, or why they can't be told, which is said.
@@ -229,21 +217,5 @@ pub(crate) fn packs_of<R: Files + Alloc + Clone + Drop, E: Write>(
     match names_in(rt, alloc, path.as_str()) {
         Ok(names) => Ok(names),
         Err(error) => Err(say_error(faults, path.as_str(), error)),
-    }
-}
-
-/// What stands in the packs of a run, in the order of their names. A pack that can't be read, is
-/// damaged or is another run's is named, and counts as missing. It takes memory for all packs.
-pub fn bodies_in<R: Files + Alloc + Clone + Drop, E: Write>(
-    rt: &R,
-    alloc: Global,
-    folder: Folder,
-    run: &RunFile,
-    faults: &mut E,
-) -> Result<Vec<Vec<u8>>, Said> {
-    let names = packs_of(rt, alloc, folder, faults)?;
-    match read_bodies(rt, alloc, folder, run, &names, faults) {
-        Ok(bodies) => Ok(bodies),
-        Err(_) => Err(say_no_memory(faults, folder.path)),
     }
 }

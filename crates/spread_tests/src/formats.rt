@@ -201,7 +201,7 @@ static COUNTED: [Step; 4] = [
         ],
         status: 20,
         answer: "s UNSATISFIABLE\n",
-        faults: "c packs: 4 facts, 2 of them checked, 3 passed over, 1 packs break off\n",
+        faults: "c packs: 4 facts, 1 of them taken, 2 cubes solved again, 3 passed over, 1 packs break off\n",
     }),
     Step::Holds("spread_counts.lrat", FOUR_PROOF),
 ];

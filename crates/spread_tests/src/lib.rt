@@ -4,6 +4,8 @@
 #[cfg(test)]
 mod again;
 #[cfg(test)]
+mod changed;
+#[cfg(test)]
 mod faults;
 #[cfg(test)]
 mod formats;
@@ -21,6 +23,8 @@ mod refused_files;
 mod rows;
 #[cfg(test)]
 mod steps;
+#[cfg(test)]
+mod stores;
 #[cfg(test)]
 mod times;
 #[cfg(test)]

@@ -135,7 +135,7 @@ static ALONE: [Step; 4] = [
         ],
         status: 10,
         answer: "s SATISFIABLE\nv -1 2 -3 0\n",
-        faults: "c packs: 2 facts, 1 of them checked, 0 passed over, 0 packs break off\n",
+        faults: "c packs: 2 facts, 1 of them taken, 1 cubes solved again, 0 passed over, 0 packs break off\n",
     }),
 ];
 

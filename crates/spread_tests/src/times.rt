@@ -176,7 +176,7 @@ static GATHERED: [Row; 1] = [Row {
     ],
     status: 20,
     answer: "s UNSATISFIABLE\n",
-    faults: "c packs: 7 facts, 7 of them checked, 0 passed over, 0 packs break off\n",
+    faults: "c packs: 7 facts, 7 of them taken, 0 cubes solved again, 0 passed over, 0 packs break off\n",
 }];
 
 /// What the clock shows in milliseconds, and how many packs there are, with that of the division. A

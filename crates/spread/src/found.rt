@@ -1,0 +1,109 @@
+//! What a pack has, where it is gone through once.
+ghost use Rattle.std.specs.Prelude.{◌≡◌, ◌++◌, ◌∷◌, ◌+◌, ◌^◌, ◌-◌, [], min, ℕ, List, IfOk, OnOk, MatchOption, string_bytes};
+ghost use Rattle.spread.specs.Passages.{IsBetween, IsWithin};
+ghost use Rattle.spread.specs.Found.{HasFound, IsTaken};
+
+use crate::pack_file::{head_of, name_by};
+use crate::passage::{Passage, Span, open_passage};
+use crate::run_file::RunFile;
+use kernel::Cube;
+use packs::{Fact, FactReader};
+use std::alloc::{AllocError, Global};
+use std::fs::Files;
+use std::io;
+use std::io::Read;
+
+/// A cube, and where a fact of it stands.
+#[derive(Drop)]
+pub(crate) struct Entry {
+    pub(crate) cube: Cube,
+    pub(crate) span: Span,
+}
+
+/// What a pack has.
+#[derive(Drop)]
+pub(crate) struct Found {
+    /// Its facts, in their order.
+    pub(crate) facts: Vec<Entry>,
+    /// So many bodies were passed over, since they are no facts.
+    pub(crate) passed_over: u64,
+    pub(crate) is_broken_off: bool,
+}
+
+impl Found {
+    fn put(&mut self, fact: Option<Fact>, span: Span) -> Result<(), AllocError>
+        ensures { OnOk result (MatchOption fact
+            ((self.new.facts.items ≡ self.old.facts.items) × (self.new.passed_over ≡ min (self.old.passed_over + 1) (2 ^ 64 - 1)))
+            (λ f. (self.new.facts.items ≡ self.old.facts.items ++ record { cube = f.cube; span = span } ∷ []) × (self.new.passed_over ≡ self.old.passed_over))) }
+    {
+        match fact {
+            Some(fact) => {
+                let Fact { cube, claim: _ } = fact;
+                self.facts.push(Entry { cube, span })?;
+            }
+            None => self.passed_over = self.passed_over.saturating_add(1),
+        }
+        Ok(())
+    }
+}
+
+/// What comes in a pack from here on.
+fn found_in<R: Read>(
+    alloc: Global,
+    passage: &mut Passage<R>,
+    reader: &mut FactReader,
+) -> io::Result<Found>
+    ensures { (before behind : List ℕ) → IsBetween R.remaining passage.old before behind →
+        IfOk result (λ found. IsWithin R.remaining passage.new (before ++ behind) × HasFound reader.old (before ++ behind) behind found) }
+{
+    let mut found = Found {
+        facts: Vec::new(alloc),
+        passed_over: 0,
+        is_broken_off: false,
+    };
+    let mut body = Vec::new(alloc);
+    while let Some(span) = passage.next(&mut body)? {
+        let fact = reader.read(&body)?;
+        found.put(fact, span)?;
+    }
+    found.is_broken_off = passage.is_broken_off();
+    Ok(found)
+}
+
+/// What a pack of this name has, if it is a whole one of the run: it begins with the first line of
+/// the run's packs, and its name is made of its bytes.
+fn found_by<R: Read + Drop>(
+    alloc: Global,
+    run: &RunFile,
+    name: &str,
+    mut passage: Passage<R>,
+    reader: &mut FactReader,
+) -> io::Result<Option<Found>>
+    ensures { (bytes : List ℕ) → IsBetween R.remaining passage [] bytes →
+        IfOk result (IsTaken reader.old (string_bytes run.now.sum) name.now bytes) }
+{
+    let head = head_of(alloc, run)?;
+    if !passage.has(alloc, head.as_bytes())? {
+        return Ok(None);
+    }
+    let found = found_in(alloc, &mut passage, reader)?;
+    let sum = passage.sum(alloc)?;
+    let own = name_by(alloc, sum.as_str())?;
+    if name != own.as_str() {
+        return Ok(None);
+    }
+    Ok(Some(found))
+}
+
+/// What the pack of this name has, which lies there, if it is a whole one of the run.
+pub(crate) fn found_at<R: Files>(
+    rt: &R,
+    alloc: Global,
+    run: &RunFile,
+    name: &str,
+    path: &str,
+    reader: &mut FactReader,
+) -> io::Result<Option<Found>> {
+    let passage = open_passage(rt, alloc, path)?;
+    found_by(alloc, run, name, passage, reader)
+}

@@ -1,0 +1,196 @@
+//! The facts of a run's packs, of which only the places are in memory.
+
+use crate::folder::Folder;
+use crate::found::{Entry, Found, found_at};
+use crate::open_packs::OpenPacks;
+use crate::pack_file::{NOT_WHOLE, packs_of};
+use crate::passage::Span;
+use crate::run_file::RunFile;
+use crate::said::{Said, say, say_error, say_no_memory};
+use gathering::{ByCube, KeepsFacts};
+use kernel::Cube;
+use packs::{Fact, FactReader};
+use std::alloc::{AllocError, Global};
+use std::fs::Files;
+use std::io::{ErrorKind, Write};
+
+/// Where a fact stands.
+#[derive(Clone, Copy, Debug, PartialEq, Eq)]
+struct Place {
+    // the number of its pack
+    pack: usize,
+    span: Span,
+}
+
+/// What packs had. Each number stops at the greatest one.
+#[derive(Clone, Copy, Debug, PartialEq, Eq)]
+pub struct StoreCounts {
+    /// So many facts were read.
+    pub facts: u64,
+    /// So many bodies were passed over, since they are no facts over the formula's variables.
+    pub passed_over: u64,
+    /// So many packs break off.
+    pub broken_off: u64,
+}
+
+/// The facts of a run's packs. Where each stands is kept, and each is read when it is asked for.
+#[derive(Drop)]
+pub struct PackStore<'a, R: Files> {
+    rt: &'a R,
+    alloc: Global,
+    reader: FactReader,
+    // the packs' paths
+    paths: Vec<String>,
+    places: ByCube<Place>,
+    open: OpenPacks<R::File>,
+    counts: StoreCounts,
+}
+
+impl<'a, R: Files> PackStore<'a, R> {
+    fn new(rt: &'a R, alloc: Global, vars: u32) -> Result<PackStore<'a, R>, AllocError> {
+        Ok(PackStore {
+            rt,
+            alloc,
+            reader: FactReader::open(alloc, vars)?,
+            paths: Vec::new(alloc),
+            places: ByCube::new(alloc),
+            open: OpenPacks::new(alloc),
+            counts: StoreCounts {
+                facts: 0,
+                passed_over: 0,
+                broken_off: 0,
+            },
+        })
+    }
+
+    /// What was read.
+    pub fn counts(&self) -> StoreCounts {
+        self.counts
+    }
+
+    fn count_found(&mut self, found: &Found) {
+        let counts = &mut self.counts;
+        counts.facts = counts.facts.saturating_add(found.facts.len() as u64);
+        counts.passed_over = counts.passed_over.saturating_add(found.passed_over);
+        counts.broken_off = counts
+            .broken_off
+            .saturating_add(u64::from(found.is_broken_off));
+    }
+
+    /// Puts what a pack has behind what others have.
+    fn put(&mut self, path: String, found: Found) -> Result<(), AllocError> {
+        self.count_found(&found);
+        let pack = self.paths.len();
+        self.paths.push(path)?;
+        for entry in found.facts {
+            let Entry { cube, span } = entry;
+            self.places.put(&cube, Place { pack, span })?;
+        }
+        Ok(())
+    }
+
+    /// The body that stands there, if it can be read; it fails where a request for memory is
+    /// refused.
+    fn body_at(&mut self, place: Place) -> Result<Option<Vec<u8>>, AllocError> {
+        let Some(path) = self.paths.get(place.pack) else {
+            return Ok(None);
+        };
+        let path = path.as_str();
+        match self
+            .open
+            .read(self.rt, self.alloc, place.pack, path, place.span)
+        {
+            Ok(body) => Ok(Some(body)),
+            Err(error) if error.kind() == ErrorKind::OutOfMemory => Err(AllocError),
+            Err(_) => Ok(None),
+        }
+    }
+}
+
+impl<R: Files> KeepsFacts for PackStore<'_, R> {
+    fn count(&self, cube: &Cube) -> usize {
+        self.places.items(cube).len()
+    }
+
+    fn fact(&mut self, cube: &Cube, number: usize) -> Result<Option<Fact>, AllocError> {
+        let place = match self.places.items(cube).get(number) {
+            Some(place) => *place,
+            None => return Ok(None),
+        };
+        match self.body_at(place)? {
+            Some(body) => self.reader.read(&body),
+            None => Ok(None),
+        }
+    }
+}
+
+/// Puts what a pack has into a store. If it isn't whole or can't be read, that is said, and it
+/// counts as missing.
+fn add<R: Files, E: Write>(
+    store: &mut PackStore<'_, R>,
+    folder: Folder,
+    run: &RunFile,
+    name: &str,
+    faults: &mut E,
+) -> Result<(), Said> {
+    let Ok(path) = folder.pack(store.alloc, name) else {
+        return Err(say_no_memory(faults, folder.path));
+    };
+    let found = found_at(
+        store.rt,
+        store.alloc,
+        run,
+        name,
+        path.as_str(),
+        &mut store.reader,
+    );
+    match found {
+        Ok(Some(found)) => match store.put(path, found) {
+            Ok(()) => Ok(()),
+            Err(_) => Err(say_no_memory(faults, folder.path)),
+        },
+        Ok(None) => {
+            let _ = say(faults, path.as_str(), NOT_WHOLE);
+            Ok(())
+        }
+        Err(error) => {
+            let is_short = error.kind() == ErrorKind::OutOfMemory;
+            let said = say_error(faults, path.as_str(), error);
+            if is_short { Err(said) } else { Ok(()) }
+        }
+    }
+}
+
+/// Puts what these packs have into a store, in their order.
+fn add_all<R: Files, E: Write>(
+    store: &mut PackStore<'_, R>,
+    folder: Folder,
+    run: &RunFile,
+    names: &[String],
+    faults: &mut E,
+) -> Result<(), Said> {
+    for name in names {
+        add(store, folder, run, name.as_str(), faults)?;
+    }
+    Ok(())
+}
+
+/// A store of the facts of a run's packs, over so many variables, in the order of the packs' names,
+/// or why there is none, which is said. Each pack is read once, piece by piece. One that can't be
+/// read, is damaged or is another run's is named, and counts as missing. It takes memory by the
+/// cubes of the facts, and by the longest fact.
+pub fn store_in<'a, R: Files + Alloc + Clone + Drop, E: Write>(
+    rt: &'a R,
+    alloc: Global,
+    folder: Folder,
+    run: &RunFile,
+    vars: u32,
+    faults: &mut E,
+) -> Result<PackStore<'a, R>, Said> {
+    let names = packs_of(rt, alloc, folder, faults)?;
+    let Ok(mut store) = PackStore::new(rt, alloc, vars) else {
+        return Err(say_no_memory(faults, folder.path));
+    };
+    add_all(&mut store, folder, run, &names, faults)?;
+    Ok(store)
+}

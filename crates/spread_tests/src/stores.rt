@@ -1,0 +1,167 @@
+//! What gathering takes of packs that hold anything. The bytes of their facts are worked out by hand,
+//! and the names are the sums that `sha256sum` gives.
+use crate::rows::{Row, begin};
+use crate::steps::{Step, check_steps};
+use samples::{FOUR, FOUR_PROOF};
+use std::test::Fail;
+
+const RUN: &str = "spread_stores";
+
+const FORMULA: &str = "spread_stores.cnf";
+
+const PROOF: &str = "spread_stores.lrat";
+
+/// The cube without literals is split on 1, which the pack of the division says.
+static MADE: [Step; 1] = [Step::Ends(Row {
+    words: &[
+        "cubesat", "divide", "--into", RUN, "--budget", "1", "--divide", "2", FORMULA,
+    ],
+    status: 0,
+    answer: "2\n",
+    faults: "",
+})];
+
+const GATHERED: Row = Row {
+    words: &["cubesat", "gather", "--proof", PROOF, "--stats", RUN],
+    status: 20,
+    answer: "s UNSATISFIABLE\n",
+    faults: "",
+};
+
+/// The left cube is refuted; behind it stands a length of some quintillions, and two bytes.
+const HOSTILE: Step = Step::Put(
+    "spread_stores/packs/17c4b8aeeefa6b975a6bb6a062d30b1af1b7379dbcf41e65762a4062427e5c4e.pack",
+    "cubesat pack 1 d19bf49d5f1058235b91384ab4780f1ec9739997ff2f40e5c1dc7d0ed2489e06\n\x08\x00\x00\x00\x00\x00\x00\x00\x02\x00\x04\x00\x00\x02\x02\x00\x7f\x7f\x7f\x7f\x7f\x7f\x7f\x7f\x00\x02",
+);
+
+/// The right cube is refuted; three bytes of a length stand behind it.
+const CUT_IN_LENGTH: Step = Step::Put(
+    "spread_stores/packs/e9a36a710c5e114dc090d5d56c3e104dd533b71f6a38c7f25bd4f0db255162d5.pack",
+    "cubesat pack 1 d19bf49d5f1058235b91384ab4780f1ec9739997ff2f40e5c1dc7d0ed2489e06\n\x08\x00\x00\x00\x00\x00\x00\x00\x03\x00\x04\x00\x00\x06\x02\x00\x08\x00\x00",
+);
+
+/// The same, and behind it a fact of the left cube without its last byte.
+const CUT_IN_BODY: Step = Step::Put(
+    "spread_stores/packs/03f713f8bf86165861f59a236e37e265444c736775155a56b43cea823845461b.pack",
+    "cubesat pack 1 d19bf49d5f1058235b91384ab4780f1ec9739997ff2f40e5c1dc7d0ed2489e06\n\x08\x00\x00\x00\x00\x00\x00\x00\x03\x00\x04\x00\x00\x06\x02\x00\x08\x00\x00\x00\x00\x00\x00\x00\x02\x00\x04\x00\x00\x02\x02",
+);
+
+/// Both cubes are refuted, the right one first.
+const RIGHT_AND_LEFT: Step = Step::Put(
+    "spread_stores/packs/2e1049f57774d475652325f0d7533bfa927224967a5f84386b56c3224c4ef439.pack",
+    "cubesat pack 1 d19bf49d5f1058235b91384ab4780f1ec9739997ff2f40e5c1dc7d0ed2489e06\n\x08\x00\x00\x00\x00\x00\x00\x00\x03\x00\x04\x00\x00\x06\x02\x00\x08\x00\x00\x00\x00\x00\x00\x00\x02\x00\x04\x00\x00\x02\x02\x00",
+);
+
+/// The left one first.
+const LEFT_AND_RIGHT: Step = Step::Put(
+    "spread_stores/packs/a46d685bd19b5e6426b9b375fce8c4935ca2f86c65dea5b41c53fb155512cd77.pack",
+    "cubesat pack 1 d19bf49d5f1058235b91384ab4780f1ec9739997ff2f40e5c1dc7d0ed2489e06\n\x08\x00\x00\x00\x00\x00\x00\x00\x02\x00\x04\x00\x00\x02\x02\x00\x08\x00\x00\x00\x00\x00\x00\x00\x03\x00\x04\x00\x00\x06\x02\x00",
+);
+
+/// The left cube is refuted by the hints of the right one, which isn't so.
+const WRONG_LEFT: Step = Step::Put(
+    "spread_stores/packs/980edc6a773eb3857231951b99f09d06d4eccac2690c4735935f19aab2ec82f6.pack",
+    "cubesat pack 1 d19bf49d5f1058235b91384ab4780f1ec9739997ff2f40e5c1dc7d0ed2489e06\n\x08\x00\x00\x00\x00\x00\x00\x00\x02\x00\x04\x00\x00\x06\x02\x00",
+);
+
+/// Packs beside that of the division, and what is printed of them all.
+struct Held {
+    packs: &'static [Step<'static>],
+    counts: &'static str,
+}
+
+static HELD: [Held; 5] = [
+    Held {
+        packs: &[HOSTILE],
+        counts: "c packs: 2 facts, 2 of them taken, 1 cubes solved again, 0 passed over, 1 packs break off\n",
+    },
+    Held {
+        packs: &[CUT_IN_LENGTH],
+        counts: "c packs: 2 facts, 2 of them taken, 1 cubes solved again, 0 passed over, 1 packs break off\n",
+    },
+    Held {
+        packs: &[CUT_IN_BODY, HOSTILE],
+        counts: "c packs: 3 facts, 3 of them taken, 0 cubes solved again, 0 passed over, 2 packs break off\n",
+    },
+    // of two facts of a cube the one that is so serves, whichever comes first by the packs' names
+    Held {
+        packs: &[RIGHT_AND_LEFT, WRONG_LEFT],
+        counts: "c packs: 4 facts, 3 of them taken, 0 cubes solved again, 0 passed over, 0 packs break off\n",
+    },
+    Held {
+        packs: &[WRONG_LEFT, LEFT_AND_RIGHT],
+        counts: "c packs: 4 facts, 3 of them taken, 0 cubes solved again, 0 passed over, 0 packs break off\n",
+    },
+];
+
+#[test]
+fn what_is_so_is_taken(rt: HostRuntime) -> Result<(), Fail> {
+    for held in &HELD {
+        begin(&rt, RUN, FORMULA, FOUR)?;
+        check_steps(&rt, &MADE);
+        check_steps(&rt, held.packs);
+        let gathered = Row {
+            faults: held.counts,
+            ..GATHERED
+        };
+        check_steps(&rt, &[Step::Ends(gathered), Step::Holds(PROOF, FOUR_PROOF)]);
+    }
+    Ok(())
+}
+
+/// Without packs all is solved, and without their folder that is said.
+static NO_PACKS: [Step; 9] = [
+    Step::Ends(Row {
+        words: &[
+            "cubesat",
+            "divide",
+            "--into",
+            "spread_bare",
+            "--budget",
+            "1",
+            "--divide",
+            "2",
+            "spread_bare.cnf",
+        ],
+        status: 0,
+        answer: "2\n",
+        faults: "",
+    }),
+    Step::Remove("spread_bare/packs"),
+    Step::Make("spread_bare/packs"),
+    Step::Ends(Row {
+        words: &[
+            "cubesat",
+            "gather",
+            "--proof",
+            "spread_bare.lrat",
+            "spread_bare",
+        ],
+        status: 20,
+        answer: "s UNSATISFIABLE\n",
+        faults: "",
+    }),
+    Step::Holds("spread_bare.lrat", FOUR_PROOF),
+    Step::Remove("spread_bare.lrat"),
+    Step::Remove("spread_bare/packs"),
+    Step::Ends(Row {
+        words: &[
+            "cubesat",
+            "gather",
+            "--proof",
+            "spread_bare.lrat",
+            "spread_bare",
+        ],
+        status: 1,
+        answer: "",
+        faults: "cubesat: spread_bare/packs: ",
+    }),
+    Step::Missing("spread_bare.lrat"),
+];
+
+#[test]
+fn packs_may_be_missing(rt: HostRuntime) -> Result<(), Fail> {
+    begin(&rt, "spread_bare", "spread_bare.cnf", FOUR)?;
+    check_steps(&rt, &NO_PACKS);
+    Ok(())
+}
