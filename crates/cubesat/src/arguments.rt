@@ -223,7 +223,7 @@ fn explain_command<'a>(alloc: Global) -> Result<Command<'a>, AllocError> {
 }
 
 /// The version, and the kit that the program was proved and built by.
-const VERSION: &str = "0.3.0 (rattle-kit-13b logic dac8208d650f15bf)";
+const VERSION: &str = "0.3.0 (rattle-kit-13f logic dac8208d650f15bf)";
 
 const EXAMPLES: &str = "Examples:
   cubesat solve --proof f.lrat f.cnf                     decide f.cnf, with its first model
