@@ -68,7 +68,7 @@ const IN_FOLDERS: Row = Row {
     ..REFUSED
 };
 
-static ROWS: [Row; 16] = [
+static ROWS: [Row; 17] = [
     SHOWN,
     Row {
         words: &["./another_name", "--version"],
@@ -78,6 +78,12 @@ static ROWS: [Row; 16] = [
     // one number of two is explained
     Row {
         words: &["cubesat", "explain", "51", "99"],
+        status: 1,
+        answer: Known::Beginning("51: The formula wasn't read"),
+        faults: Known::All("cubesat: no fault or refusal has the number 99\n"),
+    },
+    Row {
+        words: &["cubesat", "explain", "99", "51"],
         status: 1,
         answer: Known::Beginning("51: The formula wasn't read"),
         faults: Known::All("cubesat: no fault or refusal has the number 99\n"),

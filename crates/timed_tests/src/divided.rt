@@ -6,15 +6,15 @@ use sessions::clocks::UNREAD;
 
 /// At a run's beginning, at the end of reading, when the first search is asked and when the look at
 /// the first cube ends; before and after the first cube and its halves, which hands take; and at the
-/// end of each stage.
+/// end of each stage. The look at the first cube counts once, and not where a hand takes it.
 const HALVES: [u64; 14] = [
-    5_000, 6_234, 6_300, 6_450, 6_500, 6_500, 6_500, 6_600, 6_600, 6_800, 8_284, 8_291, 69_291,
+    5_000, 6_234, 6_300, 6_450, 6_470, 6_500, 6_500, 6_600, 6_600, 6_800, 8_284, 8_291, 69_291,
     UNREAD,
 ];
 
 /// The same with four quarters.
 const QUARTERS: [u64; 22] = [
-    5_000, 6_234, 6_300, 6_450, 6_500, 6_500, 6_500, 6_600, 6_600, 6_800, 7_000, 7_100, 7_100,
+    5_000, 6_234, 6_300, 6_450, 6_470, 6_500, 6_500, 6_600, 6_600, 6_800, 7_000, 7_100, 7_100,
     7_300, 7_300, 7_600, 7_600, 8_000, 8_284, 8_291, 69_291, UNREAD,
 ];
 

@@ -16,7 +16,7 @@ const MANY: u64 = 100;
 /// Where such command lines print, and the file whose second read waits in vain for lines: of
 /// `solve` at the end of solving, where the ordered search would be called slow, and of `check` in
 /// the formula.
-static SILENT: [SlowRun; 7] = [
+static SILENT: [SlowRun; 8] = [
     SlowRun {
         words: &["cubesat", "solve", "--proof", "PROOF", "FORMULA"],
         waits: &[0, MANY],
@@ -63,6 +63,12 @@ static SILENT: [SlowRun; 7] = [
     },
     SlowRun {
         words: &["cubesat", "check", "--verbose", "FORMULA", "FORMULA"],
+        slow: "FORMULA",
+        waits: &[0, MANY],
+        ..SOLVED
+    },
+    SlowRun {
+        words: &["cubesat", "check", "--stats", "FORMULA", "FORMULA"],
         slow: "FORMULA",
         waits: &[0, MANY],
         ..SOLVED

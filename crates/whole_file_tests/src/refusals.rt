@@ -1,10 +1,11 @@
 //! What is left where a call of the system is refused.
-use crate::folder::{folder, is_left, put, write_whole};
+use crate::folder::{begin, folder, is_left, put, write_whole};
 use crate::place::Place;
 use sessions::fake::{Call, Fake};
-use std::fs;
+use std::io::Write;
 use std::rt::Files;
 use std::test::Fail;
+use std::{fs, io};
 
 /// Whether a new file is ended where this call is refused.
 fn is_ended<R: Files + AllocGlobal>(rt: &R, path: &str, call: Call) -> bool {
@@ -46,6 +47,27 @@ fn each_call_refused(rt: HostRuntime) -> Result<(), Fail> {
     for (call, old) in &REFUSED {
         let is_kept = is_kept(&rt, folder.as_str(), *call, *old)?;
         assert!(rt; is_kept, "{call:?} with {old:?}");
+    }
+    Ok(())
+}
+
+/// Whether a file is flushed, before it is ended, where this call is refused.
+fn is_flushed<R: Files + AllocGlobal>(rt: &R, path: &str, call: Call) -> io::Result<bool> {
+    let refusing = Fake::refusing(rt, rt, call);
+    let mut file = begin(&refusing, path)?;
+    Ok(file.flush().is_ok())
+}
+
+/// A call, and whether a flush needs it.
+static FLUSHES: [(Call, bool); 2] = [(Call::Flush, true), (Call::Sync, false)];
+
+#[test]
+fn a_flush_is_passed_on(rt: HostRuntime) -> Result<(), Fail> {
+    let folder = folder(&rt, "flushed")?;
+    let place = Place::of(&rt, folder.as_str())?;
+    for (call, is_needed) in &FLUSHES {
+        let is_flushed = is_flushed(&rt, place.name.as_str(), *call)?;
+        assert!(rt; is_flushed != *is_needed, "{call:?}");
     }
     Ok(())
 }
