@@ -222,8 +222,9 @@ fn explain_command<'a>(alloc: Global) -> Result<Command<'a>, AllocError> {
         .arg(refusal_word(alloc))
 }
 
-/// The version, and the kit that the program was proved and built by.
-const VERSION: &str = "0.3.0 (rattle-kit-13f logic dac8208d650f15bf)";
+/// The version, and the logic in which the program is proved. Several kits have one logic; README
+/// names the one that proved this version last.
+const VERSION: &str = "0.3.0 (logic dac8208d650f15bf)";
 
 const EXAMPLES: &str = "Examples:
   cubesat solve --proof f.lrat f.cnf                     decide f.cnf, with its first model

@@ -11,7 +11,7 @@ use crate::effort::Effort;
 use crate::fault_lines::{
     FAILED, Screen, print_fault_of, print_no_memory, print_not_created, print_not_opened,
 };
-use crate::input::open_input;
+use crate::input::{open_input, shown_name};
 use crate::notes::{note_files, note_number, note_solve};
 use crate::placed_proof::{NotBegun, begin_proof};
 use crate::watched::run_counted;
@@ -48,7 +48,7 @@ fn print_same_file<E: Write>(faults: &mut E, file: &str, proof: &str, is_explain
         faults,
         "fault 57: the proof would be written over the formula"
     );
-    say_same_file(faults, file);
+    say_same_file(faults, shown_name(file));
     if is_explained {
         note_number(faults, 57);
         note_files(faults, 57, file, proof);

@@ -72,7 +72,7 @@ static ROWS: [Row; 17] = [
     SHOWN,
     Row {
         words: &["./another_name", "--version"],
-        answer: Known::Ends("cubesat 0.", " (rattle-kit-13f logic dac8208d650f15bf)\n"),
+        answer: Known::Ends("cubesat 0.", " (logic dac8208d650f15bf)\n"),
         ..SHOWN
     },
     // one number of two is explained
