@@ -238,16 +238,30 @@ fn comes(alloc: Global, row: &Row) -> Result<bool, Fail> {
     Ok(is_wanted(&cube_by(alloc, row.text, row.cube, plan)?, row.wanted))
 }
 
+/// These rows. The proof of a function that names a table goes through all of its parts, so that this
+/// one names nothing else (docs/CHANGING.md).
+fn rows() -> &'static [Row<'static>] {
+    &ROWS
+}
+
 #[test]
 fn divided_formulas(rt: HostRuntime) -> Result<(), Fail> {
-    for row in &ROWS {
+    for row in rows() {
         assert!(rt; comes(rt.alloc(), row)?, "{}", row.name);
     }
     Ok(())
 }
 
-/// Rows whose formula has a split at its root.
+/// The places of rows whose formula has a split at its root.
 static TOLD: [usize; 4] = [1, 2, 8, 9];
+
+/// Whether such a row's cube comes to what is wanted by a solver that is told of the split.
+fn comes_told_at(alloc: Global, place: usize) -> Result<bool, Fail> {
+    match rows().get(place) {
+        Some(row) => comes_told(alloc, row),
+        None => Ok(false),
+    }
+}
 
 /// Whether one solver has one conflict in its first search and one in each look, and no more in the
 /// same cube again.
@@ -262,7 +276,7 @@ fn asks_once(alloc: Global) -> Result<bool, Fail> {
 #[test]
 fn solvers_that_are_told_and_one_that_asks_once(rt: HostRuntime) -> Result<(), Fail> {
     for place in &TOLD {
-        assert!(rt; comes_told(rt.alloc(), &ROWS[*place])?, "row {place}");
+        assert!(rt; comes_told_at(rt.alloc(), *place)?, "row {place}");
     }
     assert!(rt; asks_once(rt.alloc())?);
     Ok(())

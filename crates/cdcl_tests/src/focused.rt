@@ -34,8 +34,10 @@ static USUAL: [Row<&str>; 3] = [
     ),
 ];
 
-// with numbers so small that few conflicts come to all that the search does, and what each one does
-static SMALL: [Row<&[u8]>; 20] = [
+// with numbers so small that few conflicts come to all that the search does, and what each one does;
+// in several tables, since the proof of a function that names one takes time by the square of its
+// parts, of which the lines are most
+static SMALL_1_TO_3: [Row<&[u8]>; 3] = [
     (
         "1: restarts, forgets, divides",
         b"p cnf 11 53\n-2 -10 -7 0 -4 11 9 0 -1 -3 -2 0 5 9 -11 0 9 4 3 0 8 11 4 0 3 8 -2 0 -3 -1 -9 0 -4 8 -6 0 -3 -11 9 0 -11 -3 6 0 8 -10 7 0 -9 2 6 0 -3 -2 -1 0 -3 -6 5 0 -1 10 -9 0 6 8 -3 0 10 -2 -5 0 8 11 -6 0 -5 -10 1 0 11 -6 3 0 4 11 -8 0 -2 -10 11 0 -7 -2 -10 0 -7 5 -8 0 -8 -2 9 0 -2 8 -4 0 2 -8 3 0 11 -10 -5 0 -5 -1 4 0 -4 10 9 0 7 -2 -8 0 -6 -10 8 0 1 -4 -2 0 -10 -1 3 0 -7 -1 -4 0 -7 10 -3 0 3 9 -4 0 11 -8 -7 0 2 -8 4 0 9 -6 1 0 3 -5 11 0 -6 -3 -7 0 5 4 -2 0 -8 2 -11 0 -5 2 10 0 6 -7 -8 0 4 10 -1 0 3 4 -10 0 7 -8 -5 0 6 7 8 0 -7 -11 6 0 5 2 6 0\n",
@@ -60,6 +62,9 @@ static SMALL: [Row<&[u8]>; 20] = [
             false, false, true, true, true, false, true, false, false, true, true,
         ]),
     ),
+];
+
+static SMALL_4_TO_5: [Row<&[u8]>; 2] = [
     (
         "4: restarts, forgets, divides",
         b"p cnf 12 56\n7 9 -12 0 -10 -9 1 0 -3 -4 5 0 11 -6 9 0 2 12 9 0 -3 12 -8 0 2 -5 -8 0 6 -9 -11 0 10 -12 -2 0 -4 11 -1 0 2 9 10 0 -7 9 12 0 -8 -2 -1 0 -5 6 11 0 12 -8 -9 0 -3 7 -8 0 -4 -2 1 0 -4 8 3 0 -12 -8 5 0 2 -10 6 0 3 4 -12 0 1 4 -11 0 5 3 -9 0 -2 3 -5 0 6 -10 12 0 9 4 12 0 3 9 -6 0 12 -3 -6 0 -10 -6 2 0 -8 -1 -3 0 4 5 -10 0 -11 5 3 0 3 -6 5 0 11 7 12 0 -6 10 12 0 1 8 -2 0 6 7 5 0 3 2 -9 0 8 -1 -10 0 -4 11 12 0 -4 -11 6 0 -6 12 -5 0 -6 -1 -2 0 7 9 -3 0 -2 -12 3 0 6 5 -2 0 1 -10 8 0 -6 -5 4 0 -6 11 3 0 10 5 -9 0 3 -7 -4 0 -1 -2 8 0 -10 5 -7 0 -1 -7 5 0 9 6 7 0 6 7 9 0\n",
@@ -83,6 +88,9 @@ static SMALL: [Row<&[u8]>; 20] = [
             (&[], &[59, 62, 41, 24, 40, 10]),
         ]),
     ),
+];
+
+static SMALL_6_TO_7: [Row<&[u8]>; 2] = [
     (
         "6: restarts, forgets, divides",
         b"p cnf 12 55\n-2 5 10 0 -10 -2 -8 0 12 1 -9 0 1 2 -5 0 -11 9 4 0 9 -6 11 0 -5 -9 -7 0 4 -12 -3 0 -9 -4 -8 0 -4 -10 -6 0 7 -12 -1 0 -10 -12 11 0 -6 12 10 0 12 -6 11 0 -3 8 6 0 6 11 -2 0 -4 1 8 0 -2 -12 -1 0 5 10 6 0 5 -7 -6 0 -2 -10 8 0 5 -2 -1 0 -8 9 -7 0 -3 11 -1 0 5 7 9 0 5 -6 -11 0 -1 7 3 0 -4 -7 3 0 -12 -7 9 0 3 2 9 0 10 -9 -2 0 7 -10 2 0 -4 2 5 0 -3 -8 6 0 5 -10 7 0 8 7 -3 0 7 -2 -6 0 -11 -4 8 0 -2 9 -12 0 11 -1 -8 0 -8 2 -7 0 12 -4 7 0 -8 7 -3 0 6 7 10 0 -10 -7 12 0 3 -1 6 0 10 8 -5 0 -5 8 6 0 -4 5 -2 0 -12 -6 5 0 -4 -9 5 0 -11 8 12 0 -1 -6 2 0 12 6 10 0 5 -12 -11 0\n",
@@ -115,6 +123,9 @@ static SMALL: [Row<&[u8]>; 20] = [
             (&[], &[57, 60, 53, 59, 51, 14, 38, 19]),
         ]),
     ),
+];
+
+static SMALL_8_TO_9: [Row<&[u8]>; 2] = [
     (
         "8: restarts, forgets, divides",
         b"p cnf 9 40\n7 4 8 0 2 -7 1 0 -7 -1 -8 0 -4 5 -6 0 -4 -3 9 0 -6 -9 -5 0 4 -7 -1 0 -7 -4 1 0 -5 -8 4 0 -7 5 -8 0 6 -1 9 0 1 -7 -8 0 5 3 -8 0 -3 -7 6 0 -8 1 -9 0 8 -4 3 0 4 -7 6 0 2 5 -1 0 -3 7 -2 0 2 6 -3 0 -4 -6 7 0 -6 -5 4 0 -6 9 8 0 5 -7 2 0 -8 -5 9 0 -2 5 3 0 -1 -8 -5 0 1 4 -5 0 4 8 -2 0 9 7 -8 0 1 -2 -5 0 -4 8 9 0 -1 8 -5 0 -9 -8 5 0 -6 2 -9 0 9 2 -3 0 -8 -5 -4 0 9 8 5 0 2 -7 8 0 3 4 2 0\n",
@@ -145,6 +156,9 @@ static SMALL: [Row<&[u8]>; 20] = [
             (&[], &[54, 55, 58, 14, 33, 35]),
         ]),
     ),
+];
+
+static SMALL_10_TO_15: [Row<&[u8]>; 6] = [
     (
         "10: restarts, forgets, divides",
         b"p cnf 12 60\n-5 8 12 0 6 -12 -5 0 4 -11 -12 0 7 -1 6 0 4 10 -7 0 2 1 -5 0 -5 -9 1 0 6 -8 -7 0 7 10 -9 0 -2 9 -8 0 -11 4 10 0 3 2 -7 0 6 -12 -5 0 4 -1 8 0 -10 -1 -9 0 3 -10 5 0 -4 -9 -10 0 7 -8 -9 0 -2 -9 6 0 4 1 -3 0 5 -7 11 0 1 11 -5 0 6 -9 -5 0 -6 1 8 0 -2 -8 -12 0 -8 5 -2 0 3 4 -1 0 12 2 5 0 -11 -1 -2 0 -11 3 9 0 11 -9 12 0 -12 -2 7 0 -1 -5 2 0 12 -7 8 0 -10 3 -12 0 7 8 10 0 9 -11 10 0 -5 -12 -2 0 -10 -2 1 0 8 12 10 0 -9 6 10 0 -3 6 -5 0 -1 -10 -6 0 7 -6 10 0 8 -12 -2 0 -5 9 8 0 -11 12 -9 0 6 11 -4 0 8 4 7 0 -8 -11 7 0 -12 7 11 0 3 -7 -4 0 -3 -6 4 0 -2 4 12 0 1 5 4 0 -3 -7 -10 0 -3 10 -12 0 3 12 -9 0 -2 5 8 0 8 1 5 0\n",
@@ -185,6 +199,9 @@ static SMALL: [Row<&[u8]>; 20] = [
             true, true, true, true, true, true, true, false, false, false, false, true,
         ]),
     ),
+];
+
+static SMALL_16_TO_17: [Row<&[u8]>; 2] = [
     (
         "16: divides",
         b"p cnf 11 46\n-11 -1 -2 0 -4 10 0 -11 -6 10 0 -9 -11 4 0 -6 1 0 -11 8 2 10 0 3 7 0 4 -9 5 -10 0 3 6 -7 0 1 10 -4 0 5 -3 -9 2 0 11 1 5 -3 0 1 4 8 -7 0 7 -2 3 0 -11 10 1 0 8 9 5 0 11 9 8 0 4 1 0 5 -9 -8 0 -7 -2 8 0 3 -7 11 0 -5 -9 -7 0 -2 -3 6 -11 0 5 2 0 -5 11 6 0 2 -5 -6 0 8 1 0 10 2 1 0 1 2 -6 0 -2 8 7 10 0 6 4 0 6 -3 -2 0 -10 -9 0 -8 -6 0 11 -7 4 0 4 -5 0 -11 -5 -2 -1 0 -9 -5 0 6 9 7 0 -7 8 -4 0 -6 11 -5 0 -8 6 -4 0 5 -9 10 0 1 2 0 -7 -10 2 0 8 3 -11 0\n",
@@ -209,6 +226,9 @@ static SMALL: [Row<&[u8]>; 20] = [
             (&[], &[45, 8, 24, 41]),
         ]),
     ),
+];
+
+static SMALL_18_TO_20: [Row<&[u8]>; 3] = [
     (
         "18: divides",
         b"p cnf 10 35\n-1 4 -3 7 0 -7 -9 0 3 -6 0 -2 5 4 -3 0 5 9 8 0 1 8 -7 0 2 -4 1 0 -2 -1 -5 9 0 -6 7 5 0 10 -7 0 -10 -6 7 -9 0 -10 -5 1 0 5 3 -2 0 -2 9 10 4 0 -7 1 -4 0 -5 -2 0 -5 10 3 0 7 2 -5 0 -9 5 -6 0 -9 1 -8 0 7 6 1 -10 0 -4 5 -2 -3 0 -7 -3 -4 -5 0 9 2 0 -9 8 -3 0 10 9 0 9 3 5 -1 0 -4 -1 0 -3 1 -2 0 -6 3 -8 0 3 -6 -2 -8 0 3 5 0 8 -1 -3 6 0 -5 9 1 0 2 6 8 0\n",
@@ -234,6 +254,34 @@ static SMALL: [Row<&[u8]>; 20] = [
         Wanted::ExhaustedOn(8),
     ),
 ];
+
+fn small_1_to_3() -> &'static [Row<'static, &'static [u8]>] {
+    &SMALL_1_TO_3
+}
+
+fn small_4_to_5() -> &'static [Row<'static, &'static [u8]>] {
+    &SMALL_4_TO_5
+}
+
+fn small_6_to_7() -> &'static [Row<'static, &'static [u8]>] {
+    &SMALL_6_TO_7
+}
+
+fn small_8_to_9() -> &'static [Row<'static, &'static [u8]>] {
+    &SMALL_8_TO_9
+}
+
+fn small_10_to_15() -> &'static [Row<'static, &'static [u8]>] {
+    &SMALL_10_TO_15
+}
+
+fn small_16_to_17() -> &'static [Row<'static, &'static [u8]>] {
+    &SMALL_16_TO_17
+}
+
+fn small_18_to_20() -> &'static [Row<'static, &'static [u8]>] {
+    &SMALL_18_TO_20
+}
 
 fn small_constants() -> Constants {
     Constants {
@@ -275,9 +323,20 @@ fn usual_numbers(rt: HostRuntime) -> Result<(), Fail> {
 
 #[test]
 fn small_numbers(rt: HostRuntime) -> Result<(), Fail> {
-    for (name, text, budget, wanted) in &SMALL {
-        let comes = comes(rt.alloc(), text, *budget, small_constants(), *wanted)?;
-        assert!(rt; comes, "{name}");
+    let tables = [
+        small_1_to_3(),
+        small_4_to_5(),
+        small_6_to_7(),
+        small_8_to_9(),
+        small_10_to_15(),
+        small_16_to_17(),
+        small_18_to_20(),
+    ];
+    for rows in tables {
+        for (name, text, budget, wanted) in rows {
+            let comes = comes(rt.alloc(), text, *budget, small_constants(), *wanted)?;
+            assert!(rt; comes, "{name}");
+        }
     }
     Ok(())
 }

@@ -29,12 +29,21 @@ pub fn literals_at<'a>(literals: &'a [Lit], ends: &[usize], index: usize) -> &'a
 }
 
 /// Clauses, in an order.
-#[derive(Drop)]
 pub(crate) struct FlatClauses {
     // the literals of the first clause, then those of the second and so on
     literals: Vec<Lit>,
     // where the literals of each clause end
     ends: Vec<usize>,
+}
+
+// written out, so that proofs of its owners stay short (docs/CHANGING.md)
+impl Drop for FlatClauses {
+    fn drop(self) {
+        let FlatClauses {
+            literals: _,
+            ends: _,
+        } = self;
+    }
 }
 
 impl Model for FlatClauses {

@@ -34,7 +34,6 @@ use trail::{Trail, Truth, status_in};
 
 /// Clauses with their watches, and what was found of them. Clauses are named by their places, from
 /// 0 on.
-#[derive(Drop)]
 pub struct Propagator {
     pub clauses: Store,
     /// By literal: the clauses that watch it. They are made with the room that the formula's
@@ -48,6 +47,20 @@ pub struct Propagator {
     pub starts: Starts,
     /// How many entries of lists were looked at; the greatest number stays.
     pub visits: u64,
+}
+
+// written out, so that proofs of its owners stay short (docs/CHANGING.md)
+impl Drop for Propagator {
+    fn drop(self) {
+        let Propagator {
+            clauses: _,
+            lists: _,
+            units: _,
+            conflict: _,
+            starts: _,
+            visits: _,
+        } = self;
+    }
 }
 
 /// A clause that is unit, and the literal that it is unit in.

@@ -23,11 +23,20 @@ use std::marker::Model;
 use trail::Trail;
 
 /// Clauses under two watched literals. They are named by their places, from 0 on.
-#[derive(Drop)]
 pub struct Store {
     given: Clauses,
     // the same with their literals in another order: the two that are watched stand in front
     arranged: Clauses,
+}
+
+// written out, so that proofs of its owners stay short (docs/CHANGING.md)
+impl Drop for Store {
+    fn drop(self) {
+        let Store {
+            given: _,
+            arranged: _,
+        } = self;
+    }
 }
 
 impl Model for Store {

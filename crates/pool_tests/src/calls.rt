@@ -6,29 +6,25 @@ use pool::{Closing, PoolRefusal, open};
 use std::alloc::Global;
 use std::test::*;
 
-/// The closing of a pool of one hand, after these calls, if they answer as they are to.
-fn one_closed(alloc: Global, root: &[i32], calls: &[Call]) -> Result<Option<Closing>, Fail> {
+/// Whether the calls of a pool's one hand answer as they are to, and the pool's closing.
+fn one_closed(alloc: Global, root: &[i32], calls: &[Call]) -> Result<(bool, Closing), Fail> {
     let (pool, mut hand) = open_one(alloc, 3, cube_of(alloc, 3, root)?)?;
     let as_opened = (hand.number(), hand.hands(), hand.vars()) == (0, 1, 3);
-    if !all_answer(alloc, &mut hand, calls)? || !as_opened {
-        return Ok(None);
-    }
-    Ok(Some(close_one(alloc, pool, hand)?))
+    let as_wanted = all_answer(alloc, &mut hand, calls)?;
+    Ok((as_opened && as_wanted, close_one(alloc, pool, hand)?))
 }
 
-/// The closing of a pool of two hands, after these calls, if they answer as they are to.
+/// Whether the calls of a pool's two hands answer as they are to, and the pool's closing.
 fn two_closed(
     alloc: Global,
     vars: u32,
     root: &[i32],
     rows: &[(usize, Call)],
-) -> Result<Option<Closing>, Fail> {
+) -> Result<(bool, Closing), Fail> {
     let (pool, mut one, mut two) = open_two(alloc, vars, cube_of(alloc, vars, root)?)?;
     let as_opened = (one.number(), two.number()) == (0, 1);
-    if !both_answer(alloc, &mut one, &mut two, rows)? || !as_opened {
-        return Ok(None);
-    }
-    Ok(Some(close_two(alloc, pool, one, two)?))
+    let as_wanted = both_answer(alloc, &mut one, &mut two, rows)?;
+    Ok((as_opened && as_wanted, close_two(alloc, pool, one, two)?))
 }
 
 /// Whether these cubes are left, in this order.
@@ -50,12 +46,9 @@ static LEFT_BY_ONE: [&[i32]; 1] = [&[-1, 2]];
 
 /// Whether the calls of one hand answer and leave what they are to.
 fn one_hand(alloc: Global) -> Result<bool, Fail> {
-    match one_closed(alloc, &[], &ONE_HAND)? {
-        Some(closing) => Ok(
-            leaves(&closing, &LEFT_BY_ONE) && closing.least.is_none() && closing.undone == 1,
-        ),
-        None => Ok(false),
-    }
+    let (is_right, closing) = one_closed(alloc, &[], &ONE_HAND)?;
+    let is_left = leaves(&closing, &LEFT_BY_ONE);
+    Ok(is_right && is_left && (closing.least, closing.undone) == (None, 1))
 }
 
 static WORDS: [(usize, Call); 15] = [
@@ -78,10 +71,8 @@ static WORDS: [(usize, Call); 15] = [
 
 /// Whether words that two hands share are the same for both.
 fn words(alloc: Global) -> Result<bool, Fail> {
-    match two_closed(alloc, 0, &[], &WORDS)? {
-        Some(closing) => Ok((closing.left.len(), closing.least, closing.undone) == (1, Some(0), 0)),
-        None => Ok(false),
-    }
+    let (is_right, closing) = two_closed(alloc, 0, &[], &WORDS)?;
+    Ok(is_right && (closing.left.len(), closing.least, closing.undone) == (1, Some(0), 0))
 }
 
 // with no other thread each steal from a deque that isn't empty succeeds
@@ -98,10 +89,8 @@ static LEFT_BY_STEALS: [&[i32]; 2] = [&[-1], &[1, 2]];
 
 /// Whether two hands steal from one another, and leave the rest.
 fn steals(alloc: Global) -> Result<bool, Fail> {
-    match two_closed(alloc, 2, &[1], &STEALS)? {
-        Some(closing) => Ok(leaves(&closing, &LEFT_BY_STEALS)),
-        None => Ok(false),
-    }
+    let (is_right, closing) = two_closed(alloc, 2, &[1], &STEALS)?;
+    Ok(is_right && leaves(&closing, &LEFT_BY_STEALS))
 }
 
 fn three_closed(alloc: Global) -> Result<Closing, Fail> {

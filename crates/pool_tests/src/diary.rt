@@ -13,7 +13,6 @@ pub struct Visit {
 }
 
 /// What a hand did in a long run, beside its ledger. A cube goes by its number.
-#[derive(Drop)]
 pub struct Diary {
     // the number of the last cube put
     pub last: u32,
@@ -22,6 +21,20 @@ pub struct Diary {
     pub more: u64,
     pub less: u64,
     pub least: Option<u64>,
+}
+
+// written out, so that proofs of its owners stay short (docs/CHANGING.md)
+impl Drop for Diary {
+    fn drop(self) {
+        let Diary {
+            last: _,
+            put: _,
+            got: _,
+            more: _,
+            less: _,
+            least: _,
+        } = self;
+    }
 }
 
 impl Diary {

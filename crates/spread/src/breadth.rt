@@ -17,13 +17,23 @@ use std::alloc::{AllocError, Global};
 use std::collections::VecDeque;
 
 /// What solving by breadth came to.
-#[derive(Drop)]
 pub(crate) struct Division {
     pub(crate) facts: Vec<Fact>,
     /// The open cubes, from left to right.
     pub(crate) waiting: VecDeque<Cube>,
     /// Whether a model was found right of the open cubes.
     pub(crate) has_model: bool,
+}
+
+// written out, so that proofs of its owners stay short (docs/CHANGING.md)
+impl Drop for Division {
+    fn drop(self) {
+        let Division {
+            facts: _,
+            waiting: _,
+            has_model: _,
+        } = self;
+    }
 }
 
 /// Takes the cubes away that lie right of one with so many literals: they wait before those that lie

@@ -138,6 +138,25 @@ fn check_free<R: Files, E: Write>(
     }
 }
 
+/// Solves the cubes of a run's formula by breadth until at least `wanted` are open, and writes what
+/// that came to. The formula is the one at this path.
+fn write_division<R: Files, E: Write>(
+    rt: &R,
+    alloc: Global,
+    folder: Folder,
+    path: &str,
+    run: &RunFile,
+    text: &str,
+    formula: &Formula,
+    wanted: usize,
+    faults: &mut E,
+) -> Result<Progress, Said> {
+    let Ok(mut division) = by_breadth(alloc, formula, run.plan, wanted) else {
+        return Err(say_no_memory(faults, path));
+    };
+    write_run(rt, alloc, folder, run, text, formula, &mut division, faults)
+}
+
 /// Makes the run of a formula: solves its cubes by breadth until at least `wanted` are open, and
 /// writes what was found, the formula and the open cubes into the folder.
 pub fn divide<R: Files, E: Write>(
@@ -162,18 +181,9 @@ pub fn divide<R: Files, E: Write>(
     let Ok(Some((run, text))) = new_run(alloc, &plan, limits, &bytes) else {
         return Err(say_no_memory(faults, folder.path));
     };
-    let Ok(mut division) = by_breadth(alloc, &formula, run.plan, wanted) else {
-        return Err(say_no_memory(faults, path));
-    };
-    write_run(
-        rt,
-        alloc,
-        folder,
-        &run,
-        text.as_str(),
-        &formula,
-        &mut division,
-        faults,
+    let text = text.as_str();
+    write_division(
+        rt, alloc, folder, path, &run, text, &formula, wanted, faults,
     )
 }
 

@@ -32,12 +32,22 @@ fn word_of(claim: &Claim) -> Word
 }
 
 /// Cubes above which nothing is asked for, by their literals.
-#[derive(Drop)]
 struct Tops {
     lits: HashSet<Vec<Lit>>,
     /// How many literals the shortest and the longest one have.
     shortest: usize,
     longest: usize,
+}
+
+// written out, so that proofs of its owners stay short (docs/CHANGING.md)
+impl Drop for Tops {
+    fn drop(self) {
+        let Tops {
+            lits: _,
+            shortest: _,
+            longest: _,
+        } = self;
+    }
 }
 
 impl Tops {
@@ -74,10 +84,19 @@ impl Tops {
 
 /// What facts say of some cubes and those below them, by the cubes' literals. It takes memory by
 /// these.
-#[derive(Drop)]
 pub(crate) struct Words {
     tops: Tops,
     by_cube: HashMap<Vec<Lit>, Word>,
+}
+
+// written out, so that proofs of its owners stay short (docs/CHANGING.md)
+impl Drop for Words {
+    fn drop(self) {
+        let Words {
+            tops: _,
+            by_cube: _,
+        } = self;
+    }
 }
 
 impl Words {

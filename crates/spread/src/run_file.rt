@@ -38,7 +38,6 @@ fn plan_of(search: Search, budget: u32, divide: u32) -> Option<Plan>
 }
 
 /// What a run is.
-#[derive(Drop)]
 pub struct RunFile {
     pub plan: Plan,
     /// How large the formula may be.
@@ -47,6 +46,18 @@ pub struct RunFile {
     pub formula_sum: String,
     /// That of the file's own bytes, by which packs name the run.
     pub sum: String,
+}
+
+// written out, so that proofs of its owners stay short (docs/CHANGING.md)
+impl Drop for RunFile {
+    fn drop(self) {
+        let RunFile {
+            plan: _,
+            limits: _,
+            formula_sum: _,
+            sum: _,
+        } = self;
+    }
 }
 
 fn name_of(search: Search) -> &'static str {

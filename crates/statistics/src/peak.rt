@@ -10,12 +10,17 @@ const STATUS: &str = "/proc/self/status";
 /// How much of that is read: more than it has.
 const ENOUGH: usize = 4096;
 
+/// The number that a text begins with.
+fn first_number(text: &str) -> Option<u64> {
+    text.split_whitespace().next()?.parse::<u64>().ok()
+}
+
 /// The number of KiB in the line `VmHWM: .. kB`.
 fn peak_in(text: &[u8]) -> Option<u64> {
     let text = str::from_utf8(text).ok()?;
     for line in text.lines() {
         if let Some(rest) = line.strip_prefix("VmHWM:") {
-            return rest.split_whitespace().next()?.parse::<u64>().ok();
+            return first_number(rest);
         }
     }
     None

@@ -5,8 +5,8 @@ use crate::figures::{Figures, Stage};
 use crate::search_line::SearchLine;
 use std::io::Write;
 use std::sync::Wait;
-use std::thread;
 use std::time::{Clock, Duration};
+use std::{io, thread};
 
 /// How many milliseconds pass between two lines.
 const PAUSE: u64 = 1000;
@@ -103,33 +103,61 @@ pub fn print_line<E: Write>(out: &mut E, manner: Manner, seconds: u64, figures: 
     print_line_at(out, manner, seconds.saturating_mul(1000), figures);
 }
 
+/// The line of a stage that has a name alone.
+fn print_named<E: Write>(out: &mut E, manner: Manner, seconds: u64, name: &str) -> io::Result<()> {
+    let (start, end) = (manner.start(), manner.end());
+    write!(out, "{start}c {seconds} s: {name}{end}")
+}
+
+fn print_search<E: Write>(
+    out: &mut E,
+    manner: Manner,
+    now: u64,
+    figures: &Figures,
+) -> io::Result<()> {
+    let (start, end, seconds) = (manner.start(), manner.end(), now / 1000);
+    let search = SearchLine::of(figures, now);
+    write!(out, "{start}c {seconds} s: {search}{end}")
+}
+
+fn print_written<E: Write>(
+    out: &mut E,
+    manner: Manner,
+    seconds: u64,
+    figures: &Figures,
+) -> io::Result<()> {
+    let (start, end, proof) = (manner.start(), manner.end(), figures.proof);
+    write!(
+        out,
+        "{start}c {seconds} s: {proof} of the proof written{end}"
+    )
+}
+
+fn print_read<E: Write>(
+    out: &mut E,
+    manner: Manner,
+    seconds: u64,
+    figures: &Figures,
+) -> io::Result<()> {
+    let (start, end, proof) = (manner.start(), manner.end(), figures.proof);
+    match figures.proof_share() {
+        Some(share) => write!(
+            out,
+            "{start}c {seconds} s: {proof} of the proof read, {share} %{end}"
+        ),
+        None => write!(out, "{start}c {seconds} s: {proof} of the proof read{end}"),
+    }
+}
+
 /// `print_line` so many milliseconds after the run began.
 fn print_line_at<E: Write>(out: &mut E, manner: Manner, now: u64, figures: &Figures) {
-    let (start, end, seconds) = (manner.start(), manner.end(), now / 1000);
+    let seconds = now / 1000;
     let _ = match figures.stage {
-        Stage::Reading => write!(out, "{start}c {seconds} s: reading{end}"),
-        Stage::Solving => {
-            let search = SearchLine::of(figures, now);
-            write!(out, "{start}c {seconds} s: {search}{end}")
-        }
-        Stage::Joining => write!(out, "{start}c {seconds} s: joining{end}"),
-        Stage::Writing => {
-            let proof = figures.proof;
-            write!(
-                out,
-                "{start}c {seconds} s: {proof} of the proof written{end}"
-            )
-        }
-        Stage::Checking => {
-            let proof = figures.proof;
-            match figures.proof_share() {
-                Some(share) => write!(
-                    out,
-                    "{start}c {seconds} s: {proof} of the proof read, {share} %{end}"
-                ),
-                None => write!(out, "{start}c {seconds} s: {proof} of the proof read{end}"),
-            }
-        }
+        Stage::Reading => print_named(out, manner, seconds, "reading"),
+        Stage::Solving => print_search(out, manner, now, figures),
+        Stage::Joining => print_named(out, manner, seconds, "joining"),
+        Stage::Writing => print_written(out, manner, seconds, figures),
+        Stage::Checking => print_read(out, manner, seconds, figures),
     };
 }
 

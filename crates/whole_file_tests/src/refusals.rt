@@ -7,10 +7,36 @@ use std::rt::Files;
 use std::test::Fail;
 use std::{fs, io};
 
-/// Whether a new file is ended where this call is refused.
-fn is_ended<R: Files + AllocGlobal>(rt: &R, path: &str, call: Call) -> bool {
+/// What is tried of a new file where a call is refused.
+#[derive(Clone, Copy)]
+enum Trial {
+    End,
+    /// A flush before the end.
+    Flush,
+}
+
+fn is_flushed<R: Files + AllocGlobal>(rt: &R, path: &str) -> io::Result<bool> {
+    let mut file = begin(rt, path)?;
+    Ok(file.flush().is_ok())
+}
+
+fn goes_well<R: Files + AllocGlobal>(rt: &R, path: &str, trial: Trial) -> io::Result<bool> {
+    match trial {
+        Trial::End => Ok(write_whole(rt, path, "new").is_ok()),
+        Trial::Flush => is_flushed(rt, path),
+    }
+}
+
+/// Whether a trial goes well where this call is refused. All trials go through this function, since
+/// the proof of a call by such a system is long (docs/CHANGING.md).
+fn goes_without<R: Files + AllocGlobal>(
+    rt: &R,
+    path: &str,
+    call: Call,
+    trial: Trial,
+) -> io::Result<bool> {
     let refusing = Fake::refusing(rt, rt, call);
-    write_whole(&refusing, path, "new").is_ok()
+    goes_well(&refusing, path, trial)
 }
 
 /// Whether a file that was there, or none, is as it was, with no part beside it, behind a new one
@@ -23,7 +49,7 @@ fn is_kept<R: Files + AllocGlobal>(
 ) -> Result<bool, Fail> {
     let place = Place::of(rt, folder)?;
     put(rt, place.name.as_str(), old)?;
-    let is_ended = is_ended(rt, place.name.as_str(), call);
+    let is_ended = goes_without(rt, place.name.as_str(), call, Trial::End)?;
     Ok(!is_ended && place.has(rt, old, None))
 }
 
@@ -51,13 +77,6 @@ fn each_call_refused(rt: HostRuntime) -> Result<(), Fail> {
     Ok(())
 }
 
-/// Whether a file is flushed, before it is ended, where this call is refused.
-fn is_flushed<R: Files + AllocGlobal>(rt: &R, path: &str, call: Call) -> io::Result<bool> {
-    let refusing = Fake::refusing(rt, rt, call);
-    let mut file = begin(&refusing, path)?;
-    Ok(file.flush().is_ok())
-}
-
 /// A call, and whether a flush needs it.
 static FLUSHES: [(Call, bool); 2] = [(Call::Flush, true), (Call::Sync, false)];
 
@@ -66,7 +85,7 @@ fn a_flush_is_passed_on(rt: HostRuntime) -> Result<(), Fail> {
     let folder = folder(&rt, "flushed")?;
     let place = Place::of(&rt, folder.as_str())?;
     for (call, is_needed) in &FLUSHES {
-        let is_flushed = is_flushed(&rt, place.name.as_str(), *call)?;
+        let is_flushed = goes_without(&rt, place.name.as_str(), *call, Trial::Flush)?;
         assert!(rt; is_flushed != *is_needed, "{call:?}");
     }
     Ok(())
@@ -78,6 +97,6 @@ pub(crate) fn goes_without_modes<R: Files + AllocGlobal>(
     place: &Place,
 ) -> Result<bool, Fail> {
     fs::write(rt, place.name.as_str(), "old")?;
-    let is_ended = is_ended(rt, place.name.as_str(), Call::SetPermissions);
+    let is_ended = goes_without(rt, place.name.as_str(), Call::SetPermissions, Trial::End)?;
     Ok(is_ended && is_left(rt, place.file.as_str(), Some("new")))
 }
