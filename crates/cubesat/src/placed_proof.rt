@@ -38,6 +38,14 @@ pub(crate) struct PlacedProof<'a, R: Files> {
     file: WholeFile<'a, R>,
 }
 
+impl<R: Files> PlacedProof<'_, R> {
+    /// Whether it may be let go, and another one begun in its place: it isn't in its place yet, as
+    /// what goes to a pipe or a device is at once.
+    pub(crate) fn is_apart(&self) -> bool {
+        self.file.is_apart()
+    }
+}
+
 impl<R: Files> Write for PlacedProof<'_, R> {
     ghost contents = { λ w. ⟦<WholeFile<'static, R> as Write>⟧.contents w.file };
 

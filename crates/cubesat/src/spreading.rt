@@ -7,11 +7,11 @@ use crate::input::{Input, open_input};
 use crate::placed_proof::{PlacedProof, begin_proof};
 use crate::solving::{SATISFIABLE, UNSATISFIABLE, print_not_begun};
 use crate::spread_arguments::{Part, Spread};
-use crate::worded::{Known, Opened};
+use crate::worded::Known;
 use cdcl::{Plan, Search};
 use cnf::{Limits, ReadFault, read_formula_within};
 use noticed::{NoticedReader, NoticedWriter};
-use runs::{GatheredFrom, RunFault, Verdict, gather_stored};
+use runs::{GatheredFrom, RunFault, Verdict, gather_at_once, gather_stored};
 use spread::{
     Ended, Folder, HandCount, PackStore, Progress, RunFile, Said, Slice, StoreCounts, conquer,
     divide, divide_again, formula_bytes_in, run_in, store_in,
@@ -104,41 +104,125 @@ struct Held {
     formula: Vec<u8>,
 }
 
-/// Gathers the result of a run from what its packs have; the status.
-fn gather_opened<R: Files, W: Write, E: Write>(
+/// A run whose result is gathered, and where the proof goes.
+#[derive(Drop)]
+struct Gathering<'a, R: Files> {
+    held: &'a Held,
+    /// The formula's path, and the file there, so that the proof isn't written over it.
+    formula: &'a str,
+    input: &'a Input<R::File, Empty>,
+    proof: &'a str,
+    /// What is printed of its packs.
+    counts: Option<StoreCounts>,
+}
+
+/// Begins the file of the proof; or else the status.
+fn proof_begun<'a, R: Files, E: Write>(
+    rt: &'a R,
+    alloc: Global,
+    run: &Gathering<'_, R>,
+    faults: &mut E,
+) -> Result<PlacedProof<'a, R>, u8> {
+    match begin_proof(rt, alloc, run.proof, run.input) {
+        Ok(proof) => Ok(proof),
+        Err(why) => Err(print_not_begun(faults, why, run.formula, run.proof, false)),
+    }
+}
+
+/// Gathers the result of a run by going through its tree once; the status, if it came to an end.
+/// Otherwise the formula has a model, and nothing is printed or stands in the proof's place.
+fn gather_once<R: Files, W: Write, E: Write>(
     rt: &R,
     alloc: Global,
-    held: &Held,
-    store: PackStore<'_, R>,
-    formula: &str,
-    proof: Opened<'_, PlacedProof<'_, R>>,
-    stats: bool,
+    run: &Gathering<'_, R>,
+    store: &mut PackStore<'_, R>,
+    proof: PlacedProof<'_, R>,
     answer: &mut W,
     faults: &mut E,
-) -> u8 {
-    let counts = if stats { Some(store.counts()) } else { None };
-    let mut input = NoticedReader::of(held.formula.as_slice());
-    let mut output = NoticedWriter::of(proof.file);
+) -> Option<u8> {
+    let mut input = NoticedReader::of(run.held.formula.as_slice());
+    let mut output = NoticedWriter::of(proof);
     let mut answer = NoticedWriter::of(answer);
-    let gathered = gather_stored(
+    let gathered = gather_at_once(
         alloc,
         &mut input,
-        held.run.limits,
-        store,
+        run.held.run.limits,
+        &mut *store,
         &mut answer,
         &mut output,
-        held.run.plan,
+        run.held.run.plan,
     );
+    let gathered = gathered.transpose()?;
     let known = Known {
-        formula,
-        proof: proof.path,
+        formula: run.formula,
+        proof: run.proof,
         beginning: input.beginning(),
         formula_error: input.error(),
         proof_error: output.error(),
         answer_error: answer.error(),
-        limits: held.run.limits,
+        limits: run.held.run.limits,
     };
-    end_gather(rt, faults, gathered, &known, counts)
+    Some(end_gather(rt, faults, gathered, &known, run.counts))
+}
+
+/// Gathers the result of a run by going through its tree twice; the status.
+fn gather_twice<R: Files, W: Write, E: Write>(
+    rt: &R,
+    alloc: Global,
+    run: &Gathering<'_, R>,
+    store: PackStore<'_, R>,
+    proof: PlacedProof<'_, R>,
+    answer: &mut W,
+    faults: &mut E,
+) -> u8 {
+    let mut input = NoticedReader::of(run.held.formula.as_slice());
+    let mut output = NoticedWriter::of(proof);
+    let mut answer = NoticedWriter::of(answer);
+    let gathered = gather_stored(
+        alloc,
+        &mut input,
+        run.held.run.limits,
+        store,
+        &mut answer,
+        &mut output,
+        run.held.run.plan,
+    );
+    let known = Known {
+        formula: run.formula,
+        proof: run.proof,
+        beginning: input.beginning(),
+        formula_error: input.error(),
+        proof_error: output.error(),
+        answer_error: answer.error(),
+        limits: run.held.run.limits,
+    };
+    end_gather(rt, faults, gathered, &known, run.counts)
+}
+
+/// Gathers the result of a run from what its packs have; the status. It goes through the tree once
+/// where they claim no model, and the proof can be begun anew if there is one.
+fn gather_opened<R: Files, W: Write, E: Write>(
+    rt: &R,
+    alloc: Global,
+    run: &Gathering<'_, R>,
+    mut store: PackStore<'_, R>,
+    answer: &mut W,
+    faults: &mut E,
+) -> u8 {
+    let mut proof = match proof_begun(rt, alloc, run, faults) {
+        Ok(proof) => proof,
+        Err(status) => return status,
+    };
+    if !store.claims_model() && proof.is_apart() {
+        if let Some(status) = gather_once(rt, alloc, run, &mut store, proof, answer, faults) {
+            return status;
+        }
+        proof = match proof_begun(rt, alloc, run, faults) {
+            Ok(proof) => proof,
+            Err(status) => return status,
+        };
+    }
+    gather_twice(rt, alloc, run, store, proof, answer, faults)
 }
 
 /// What the folder of a run holds; the formula is the one of the run.
@@ -188,11 +272,14 @@ fn gather<R: Files + Alloc + Clone + Drop, W: Write, E: Write>(
         Ok(input) => input,
         Err(error) => return print_not_opened(faults, file, error, false),
     };
-    let proof = match begin_proof(rt, alloc, path, &input) {
-        Ok(placed) => Opened { path, file: placed },
-        Err(why) => return print_not_begun(faults, why, file, path, false),
+    let run = Gathering {
+        held: &held,
+        formula: file,
+        input: &input,
+        proof: path,
+        counts: if stats { Some(store.counts()) } else { None },
     };
-    gather_opened(rt, alloc, &held, store, file, proof, stats, answer, faults)
+    gather_opened(rt, alloc, &run, store, answer, faults)
 }
 
 /// The plan of a run, if its numbers are in their ranges, as those of a command line are.

@@ -21,3 +21,16 @@ pub trait KeepsFacts: Drop {
         ensures given { IfOk result (λ o. IfSome o (λ f. IfSome (facts self.old) (λ fs. Contains fs f))) }
         ensures kept { facts self.new ≡ facts self.old };
 }
+
+/// A store that is lent, and is there afterwards.
+impl<S: KeepsFacts> KeepsFacts for &mut S {
+    ghost facts = { λ s. S.facts s.now };
+
+    fn count(&self, cube: &Cube) -> usize {
+        (**self).count(cube)
+    }
+
+    fn fact(&mut self, cube: &Cube, number: usize) -> Result<Option<Fact>, AllocError> {
+        (**self).fact(cube, number)
+    }
+}

@@ -5,7 +5,7 @@ use cdcl::{Plan, Search};
 use cnf::{Limits, read_formula};
 use gathering::FactsInMemory;
 use packs::{Fact, read_pack};
-use runs::{PackCounts, gather_stored, gather_within};
+use runs::{PackCounts, gather_at_once, gather_stored, gather_within};
 use samples::{FOUR, FOUR_PROOF};
 use std::alloc::{AllocError, Global};
 use std::test::Fail;
@@ -264,11 +264,17 @@ fn facts_of(alloc: Global, packs: &[Vec<u8>], vars: u32) -> Result<Vec<Fact>, Al
     Ok(facts)
 }
 
-/// Whether a row's run writes the same where a store keeps the facts.
-fn writes_from_store(alloc: Global, row: &Row) -> Result<bool, Fail> {
+/// A store of a row's facts.
+fn store_of(alloc: Global, row: &Row) -> Result<FactsInMemory, Fail> {
     let packs = packs_of(alloc, row)?;
     let formula = read_formula(alloc, row.text.as_bytes())?;
-    let store = FactsInMemory::new(alloc, facts_of(alloc, &packs, formula.vars())?)?;
+    let facts = facts_of(alloc, &packs, formula.vars())?;
+    Ok(FactsInMemory::new(alloc, facts)?)
+}
+
+/// Whether a row's run writes the same where a store keeps the facts.
+fn writes_from_store(alloc: Global, row: &Row) -> Result<bool, Fail> {
+    let store = store_of(alloc, row)?;
     let mut proof = Vec::new(alloc);
     let mut answer = Vec::new(alloc);
     gather_stored(
@@ -283,6 +289,31 @@ fn writes_from_store(alloc: Global, row: &Row) -> Result<bool, Fail> {
     Ok(proof.as_slice() == row.proof.as_bytes() && answer.as_slice() == row.answer.as_bytes())
 }
 
+/// Whether a row's run writes the same where it goes through the tree once, with a store that is lent;
+/// of a formula with a model, which has no proof, it answers nothing.
+fn writes_at_once(alloc: Global, row: &Row) -> Result<bool, Fail> {
+    let mut store = store_of(alloc, row)?;
+    let mut proof = Vec::new(alloc);
+    let mut answer = Vec::new(alloc);
+    let gathered = gather_at_once(
+        alloc,
+        row.text.as_bytes(),
+        Limits::Standard,
+        &mut store,
+        &mut answer,
+        &mut proof,
+        plan_of(row.search),
+    )?;
+    if row.proof.is_empty() {
+        return Ok(gathered.is_none() && answer.is_empty());
+    }
+    Ok(
+        gathered.is_some()
+            && proof.as_slice() == row.proof.as_bytes()
+            && answer.as_slice() == row.answer.as_bytes(),
+    )
+}
+
 #[test]
 fn runs_over_packs(rt: HostRuntime) -> Result<(), Fail> {
     for row in &ROWS {
@@ -292,6 +323,7 @@ fn runs_over_packs(rt: HostRuntime) -> Result<(), Fail> {
             "{} in a store",
             row.name
         );
+        assert!(rt; writes_at_once(rt.alloc(), row)?, "{} at once", row.name);
     }
     Ok(())
 }

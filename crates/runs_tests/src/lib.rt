@@ -5,6 +5,8 @@
 #![tactic(auto)]
 
 #[cfg(test)]
+mod at_once;
+#[cfg(test)]
 mod check;
 #[cfg(test)]
 mod check_faults;

@@ -5,7 +5,8 @@ use cnf::{Formula, Limits, read_formula};
 use gathering::{FactsInMemory, fact_of};
 use packs::{Claim, read_pack, write_fact};
 use runs::{
-    Gathered, GatheredFrom, RunFault, Verdict, gather_stored, gather_within, run_one_by_plan,
+    Gathered, GatheredFrom, RunFault, Verdict, gather_at_once, gather_stored, gather_within,
+    run_one_by_plan,
 };
 use samples::{EIGHT, SIXTEEN, TWO_MODELS, cube_of};
 use std::alloc::{AllocError, Global};
@@ -104,6 +105,25 @@ fn gathered_from(
     })
 }
 
+/// A run over the facts of a pack that a store keeps, which goes through the tree once.
+fn gathered_at_once(
+    alloc: Global,
+    text: &str,
+    store: FactsInMemory,
+    plan: Plan,
+) -> Result<Written<Option<GatheredFrom>>, RunFault> {
+    let mut proof = Vec::new(alloc);
+    let mut answer = Vec::new(alloc);
+    let limits = Limits::Standard;
+    let input = text.as_bytes();
+    let gathered = gather_at_once(alloc, input, limits, store, &mut answer, &mut proof, plan)?;
+    Ok(Written {
+        gathered,
+        proof,
+        answer,
+    })
+}
+
 /// Whether a run without packs comes to this verdict and writes the same.
 fn is_written_by_run<T>(
     alloc: Global,
@@ -156,13 +176,18 @@ fn is_taken(alloc: Global, row: &Row) -> Result<bool, Fail> {
     )
 }
 
+/// A store of the facts of a formula's tree.
+fn store_of(alloc: Global, text: &str, plan: Plan) -> Result<FactsInMemory, Fail> {
+    let formula = read_formula(alloc, text.as_bytes())?;
+    let pack = read_pack(alloc, formula.vars(), &pack_of(alloc, &formula, plan)?)?;
+    Ok(FactsInMemory::new(alloc, pack.facts)?)
+}
+
 /// The same of a store: what is taken of the tree on the way to the answer, and what is solved.
 fn is_taken_from_store(alloc: Global, row: &Row) -> Result<bool, Fail> {
     let (text, search, facts, models) = *row;
     let plan = plan_of(search);
-    let formula = read_formula(alloc, text.as_bytes())?;
-    let pack = read_pack(alloc, formula.vars(), &pack_of(alloc, &formula, plan)?)?;
-    let store = FactsInMemory::new(alloc, pack.facts)?;
+    let store = store_of(alloc, text, plan)?;
     let written = gathered_from(alloc, text, store, plan)?;
     let GatheredFrom {
         verdict,
@@ -177,6 +202,22 @@ fn is_taken_from_store(alloc: Global, row: &Row) -> Result<bool, Fail> {
     )
 }
 
+/// And so it is by going through the tree once, where there is no model.
+fn is_taken_at_once(alloc: Global, row: &Row) -> Result<bool, Fail> {
+    let (text, search, facts, models) = *row;
+    let plan = plan_of(search);
+    let store = store_of(alloc, text, plan)?;
+    let written = gathered_at_once(alloc, text, store, plan)?;
+    let Some(gathered) = written.gathered else {
+        return Ok(models > 0 && written.answer.is_empty());
+    };
+    Ok(
+        gathered.taken == facts
+            && gathered.solved == 0
+            && is_written_by_run(alloc, text, plan, gathered.verdict, &written)?,
+    )
+}
+
 #[test]
 fn true_packs_are_taken(rt: HostRuntime) -> Result<(), Fail> {
     for row in &ROWS {
@@ -184,6 +225,12 @@ fn true_packs_are_taken(rt: HostRuntime) -> Result<(), Fail> {
         assert!(rt;
             is_taken_from_store(rt.alloc(), row)?,
             "{} of {} in a store",
+            row.2,
+            row.0
+        );
+        assert!(rt;
+            is_taken_at_once(rt.alloc(), row)?,
+            "{} of {} at once",
             row.2,
             row.0
         );

@@ -14,13 +14,13 @@ use Rattle.spread.specs.declared.found.Found.{Found}
 use Rattle.spread.specs.Sums.{sum_of}
 use Rattle.spread.specs.PackFiles.{head, pack_name, IsWholePack}
 use Rattle.spread.specs.Passages.{IsBetween, IsWithin, IsMet, IsNext, IsStopped}
-use Rattle.spread.specs.Found.{IsAt, AreAt, nothing, behind, HasFound}
+use Rattle.spread.specs.Found.{is_model, IsAt, AreAt, nothing, behind, HasFound}
 
 -- what was put
 abbrev pub IsPut : Option Fact → Span → (old new : Found) → Type 0
 IsPut fact span old new = MatchOption fact
     ((new.facts.items ≡ old.facts.items) × (new.passed_over ≡ min (old.passed_over + 1) (2 ^ 64 - 1)))
-    (λ f. (new.facts.items ≡ old.facts.items ++ record { cube = f.cube; span = span } ∷ []) × (new.passed_over ≡ old.passed_over))
+    (λ f. (new.facts.items ≡ old.facts.items ++ record { cube = f.cube; span = span; claims_model = is_model f.claim } ∷ []) × (new.passed_over ≡ old.passed_over))
 
 -- where a body stands
 stands-at : (before body rest : List ℕ) → take (length body) (drop (length before + 8) (before ++ (framed body ++ rest))) ≡ body
@@ -95,7 +95,7 @@ module _ {R : Type 0} (remaining : R → Option (List ℕ)) (V : ℕ) (before al
             leads = subst (λ n. LeadsTo V all (so_far.facts ++ f ∷ []) n rest) (sym placed.1)
                 (LeadsTo-read V all so_far.facts (so_far.facts ++ f ∷ []) old.passed_over old.passed_over so_far.rest body rest (Some f) e read (refl, refl) so_far.leads).0;
             entries = subst (λ (es : List Entry). AreAt V (before ++ all) es (so_far.facts ++ f ∷ [])) (sym placed.0)
-                (behind so_far.entries (record { cube = refl; body = subst (λ (xs : List ℕ). IsReadAs V xs f) (sym there) read }));
+                (behind so_far.entries (record { cube = refl; model = refl; body = subst (λ (xs : List ℕ). IsReadAs V xs f) (sym there) read }));
             few = (let n = placed.1 in omega (arith, n, few, size));
           }
 

@@ -1,15 +1,24 @@
 -- What a pack has: facts, and where their bytes stand.
-use Rattle.std.specs.Prelude.{◌≡◌, ℕ, List, [], ◌∷◌, ◌++◌, take, drop, not, Option, Some, None}
+use Rattle.std.specs.Prelude.{◌≡◌, ℕ, List, [], ◌∷◌, ◌++◌, take, drop, Bool, true, false, not, Option, Some, None}
 use Rattle.packs.specs.declared.fact.Fact.{Fact}
+use Rattle.packs.specs.declared.fact.Claim.{Claim}
+use Rattle.packs.specs.declared.fact.Claim.TheVariants.{Split, Refuted, Model}
 use Rattle.packs.specs.Facts.{IsReadAs}
 use Rattle.packs.specs.Packs.{Reads}
 use Rattle.spread.specs.PackFiles.{IsWholePack}
 use Rattle.spread.specs.declared.found.Entry.{Entry}
 use Rattle.spread.specs.declared.found.Found.{Found}
 
--- the bytes there are read as this fact, and the entry has its cube
+-- whether it is said that the cube has a model
+abbrev pub is_model : Claim → Bool
+is_model Model = true
+is_model (Split x) = false
+is_model (Refuted lines) = false
+
+-- the bytes there are read as this fact, and the entry has its cube, and whether it claims a model
 pub record IsAt (V : ℕ) (bytes : List ℕ) (e : Entry) (f : Fact) : Type 0 where
   pub cube : e.cube ≡ f.cube
+  pub model : e.claims_model ≡ is_model f.claim
   pub body : IsReadAs V (take e.span.length (drop e.span.start bytes)) f
 
 -- so it is of each, in their order

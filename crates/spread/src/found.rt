@@ -1,13 +1,13 @@
 //! What a pack has, where it is gone through once.
 ghost use Rattle.std.specs.Prelude.{◌≡◌, ◌++◌, ◌∷◌, ◌+◌, ◌^◌, ◌-◌, [], min, ℕ, List, IfOk, OnOk, MatchOption, string_bytes};
 ghost use Rattle.spread.specs.Passages.{IsBetween, IsWithin};
-ghost use Rattle.spread.specs.Found.{HasFound, IsTaken};
+ghost use Rattle.spread.specs.Found.{is_model, HasFound, IsTaken};
 
 use crate::pack_file::{head_of, name_by};
 use crate::passage::{Passage, Span, open_passage};
 use crate::run_file::RunFile;
 use kernel::Cube;
-use packs::{Fact, FactReader};
+use packs::{Claim, Fact, FactReader};
 use std::alloc::{AllocError, Global};
 use std::fs::Files;
 use std::io;
@@ -18,6 +18,8 @@ use std::io::Read;
 pub(crate) struct Entry {
     pub(crate) cube: Cube,
     pub(crate) span: Span,
+    /// Whether it claims a model.
+    pub(crate) claims_model: bool,
 }
 
 /// What a pack has.
@@ -30,16 +32,31 @@ pub(crate) struct Found {
     pub(crate) is_broken_off: bool,
 }
 
+/// Whether it is said that the cube has a model.
+fn is_model(claim: &Claim) -> bool
+    ensures { result ≡ is_model claim.now }
+{
+    match claim {
+        Claim::Model => true,
+        Claim::Split(_) | Claim::Refuted(_) => false,
+    }
+}
+
 impl Found {
     fn put(&mut self, fact: Option<Fact>, span: Span) -> Result<(), AllocError>
         ensures { OnOk result (MatchOption fact
             ((self.new.facts.items ≡ self.old.facts.items) × (self.new.passed_over ≡ min (self.old.passed_over + 1) (2 ^ 64 - 1)))
-            (λ f. (self.new.facts.items ≡ self.old.facts.items ++ record { cube = f.cube; span = span } ∷ []) × (self.new.passed_over ≡ self.old.passed_over))) }
+            (λ f. (self.new.facts.items ≡ self.old.facts.items ++ record { cube = f.cube; span = span; claims_model = is_model f.claim } ∷ []) × (self.new.passed_over ≡ self.old.passed_over))) }
     {
         match fact {
             Some(fact) => {
-                let Fact { cube, claim: _ } = fact;
-                self.facts.push(Entry { cube, span })?;
+                let Fact { cube, claim } = fact;
+                let claims_model = is_model(&claim);
+                self.facts.push(Entry {
+                    cube,
+                    span,
+                    claims_model,
+                })?;
             }
             None => self.passed_over = self.passed_over.saturating_add(1),
         }

@@ -44,6 +44,7 @@ pub struct PackStore<'a, R: Files> {
     places: ByCube<Place>,
     open: OpenPacks<R::File>,
     counts: StoreCounts,
+    claims_model: bool,
 }
 
 impl<'a, R: Files> PackStore<'a, R> {
@@ -60,12 +61,18 @@ impl<'a, R: Files> PackStore<'a, R> {
                 passed_over: 0,
                 broken_off: 0,
             },
+            claims_model: false,
         })
     }
 
     /// What was read.
     pub fn counts(&self) -> StoreCounts {
         self.counts
+    }
+
+    /// Whether a fact that was read claims a model; nobody vouches for it.
+    pub fn claims_model(&self) -> bool {
+        self.claims_model
     }
 
     fn count_found(&mut self, found: &Found) {
@@ -83,7 +90,12 @@ impl<'a, R: Files> PackStore<'a, R> {
         let pack = self.paths.len();
         self.paths.push(path)?;
         for entry in found.facts {
-            let Entry { cube, span } = entry;
+            let Entry {
+                cube,
+                span,
+                claims_model,
+            } = entry;
+            self.claims_model |= claims_model;
             self.places.put(&cube, Place { pack, span })?;
         }
         Ok(())

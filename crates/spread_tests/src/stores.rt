@@ -2,7 +2,7 @@
 //! and the names are the sums that `sha256sum` gives.
 use crate::rows::{Row, begin};
 use crate::steps::{Step, check_steps};
-use samples::{FOUR, FOUR_PROOF};
+use samples::{FOUR, FOUR_PROOF, TWO_MODELS};
 use std::test::Fail;
 
 const RUN: &str = "spread_stores";
@@ -163,5 +163,53 @@ static NO_PACKS: [Step; 9] = [
 fn packs_may_be_missing(rt: HostRuntime) -> Result<(), Fail> {
     begin(&rt, "spread_bare", "spread_bare.cnf", FOUR)?;
     check_steps(&rt, &NO_PACKS);
+    Ok(())
+}
+
+/// The left cube, which has a model, is called refuted, and no fact claims a model: what was begun of
+/// a proof isn't left, nor what stood in its place.
+static LIE: [Step; 6] = [
+    Step::Ends(Row {
+        words: &[
+            "cubesat",
+            "divide",
+            "--into",
+            "spread_lie",
+            "--budget",
+            "1",
+            "--divide",
+            "2",
+            "spread_lie.cnf",
+        ],
+        status: 0,
+        answer: "2\n",
+        faults: "",
+    }),
+    Step::Put(
+        "spread_lie/packs/54468b1d31b2cea77cbb3775ea86293d3d4fd235e3b97a8aae42fa574f987933.pack",
+        "cubesat pack 1 eb24737f917a806d3f54b358ce26d08bb87cfb00e71329f6644bb7b00b0f2226\n\x08\x00\x00\x00\x00\x00\x00\x00\x02\x00\x04\x00\x00\x02\x02\x00",
+    ),
+    Step::Put("spread_lie.lrat", "an old proof"),
+    Step::Ends(Row {
+        words: &[
+            "cubesat",
+            "gather",
+            "--proof",
+            "spread_lie.lrat",
+            "--stats",
+            "spread_lie",
+        ],
+        status: 10,
+        answer: "s SATISFIABLE\nv -1 2 -3 0\n",
+        faults: "c packs: 2 facts, 1 of them taken, 1 cubes solved again, 0 passed over, 0 packs break off\n",
+    }),
+    Step::Holds("spread_lie.lrat", ""),
+    Step::Missing("spread_lie.lrat.part"),
+];
+
+#[test]
+fn a_model_may_be_called_refuted(rt: HostRuntime) -> Result<(), Fail> {
+    begin(&rt, "spread_lie", "spread_lie.cnf", TWO_MODELS)?;
+    check_steps(&rt, &LIE);
     Ok(())
 }

@@ -108,6 +108,11 @@ impl<'a, R: Files> WholeFile<'a, R> {
         })
     }
 
+    /// Whether its bytes are still in a part: let go, it is as if it had never been begun.
+    pub fn is_apart(&self) -> bool {
+        self.waiting.is_some()
+    }
+
     /// Puts the file, with what was written, into its place, flushed and synced to the disk;
     /// without a part it is flushed alone. An error leaves what stood there as it was. What is
     /// written behind it goes to the file in its place.
