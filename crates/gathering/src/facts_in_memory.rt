@@ -4,7 +4,7 @@ ghost use Rattle.std.specs.Prelude.{◌≡◌, Some, Contains, IfOk, IfSome};
 use crate::cube_table::CubeTable;
 use crate::store::KeepsFacts;
 use kernel::Cube;
-use lines::{Cursor, Row};
+use lines::Row;
 use packs::{Claim, Fact};
 use std::alloc::{AllocError, Global};
 use std::marker::Model;
@@ -32,10 +32,9 @@ impl Model for FactsInMemory {
 fn copied_row(alloc: Global, row: &Row) -> Result<Row, AllocError>
     ensures { IfOk result (λ r. r ≡ row.now) }
 {
-    match Cursor::over(row.bytes()) {
-        Some(lines) => lines.rest(alloc),
-        None => unreachable!(),
-    }
+    let lines = row.lines();
+    let row = lines.rest(alloc)?;
+    Ok(row)
 }
 
 /// The fact once more.

@@ -36,3 +36,24 @@ pub trait KeepsFacts: Drop {
         Ok(None)
     }
 }
+
+/// A store that is lent, and is there afterwards.
+impl<S: KeepsFacts> KeepsFacts for &mut S {
+    ghost facts = { λ s. S.facts s.now };
+
+    fn count(&self, cube: &Cube) -> usize {
+        (**self).count(cube)
+    }
+
+    fn fact(&mut self, cube: &Cube, number: usize) -> Result<Option<Fact>, AllocError> {
+        (**self).fact(cube, number)
+    }
+
+    fn ordered(&self) -> usize {
+        (**self).ordered()
+    }
+
+    fn in_order(&mut self, number: usize) -> Result<Option<Fact>, AllocError> {
+        (**self).in_order(number)
+    }
+}

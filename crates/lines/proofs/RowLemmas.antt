@@ -1,7 +1,7 @@
 -- What bytes, numbers and lines behind others say.
-use Rattle.std.proofs.Common.{◌≡◌, ℕ, ◌+◌, ◌-◌, ◌/◌, ◌%◌, ◌^◌, ◌<◌, ◌≤◌, Bool, true, false, List, [], ◌∷◌, ◌++◌, length, refl, ap, sym, ◌∙◌, arith, nat_lt, nat_eq, lt-ltb, le-ltb, length-append}
+use Rattle.std.proofs.Common.{◌≡◌, ℕ, ◌+◌, ◌-◌, ◌/◌, ◌%◌, ◌^◌, ◌<◌, ◌≤◌, Bool, true, false, List, [], ◌∷◌, ◌++◌, length, refl, ap, subst, sym, ◌∙◌, arith, nat_lt, nat_eq, lt-ltb, le-ltb, length-append}
 use Rattle.theory.specs.Learning.{Line}
-use Rattle.std.proofs.lemmas.List.Elements.{All-push}
+use Rattle.std.proofs.lemmas.List.Elements.{All-push, All-tail}
 use Rattle.lines.specs.Rows.{Part, whole, with_bits, with_number, with_byte, with_bytes, row, AreWithin, IsBetween}
 
 pub length-push : (lines : List Line) (l : Line) → length (lines ++ l ∷ []) ≡ length lines + 1
@@ -108,3 +108,8 @@ pub AreWithin-push : (literals hints more_literals more_hints : ℕ) (lines : Li
 AreWithin-push literals hints more_literals more_hints lines l clause_fits hints_fit more most all =
     All-push (λ (m : Line). (length m.clause ≤ more_literals) × (length m.hints ≤ more_hints)) lines l
     (λ i d inside. let old = all i d inside in let a = old.0 in let b = old.1 in (omega arith, omega arith)) (clause_fits, hints_fit)
+
+-- what holds of all lines holds of those behind the first one
+pub AreWithin-tail : (literals hints : ℕ) (lines left : List Line) (l : Line) → lines ≡ l ∷ left → AreWithin literals hints lines → AreWithin literals hints left
+AreWithin-tail literals hints lines left l e all =
+    All-tail (λ (l : Line). (length l.clause ≤ literals) × (length l.hints ≤ hints)) l left (subst (AreWithin literals hints) e all)

@@ -18,31 +18,43 @@ pub struct Cursor<'r> {
     at: usize,
     // how many lines are left
     left: usize,
+    // no line that is left has more literals
+    literals: usize,
+    // nor more hints
+    hints: usize,
 }
 
 impl<'r> Model for Cursor<'r> {
     ghost use Rattle.std.specs.Prelude.{◌≡◌, ◌≤◌, List, length, drop};
     ghost use Rattle.theory.specs.Learning.{Line};
-    ghost use Rattle.lines.specs.Rows.{row, IsWhole};
+    ghost use Rattle.lines.specs.Rows.{row, AreWithin, IsWhole};
 
     ghost Value = { List Line };
 
     ghost view = { λ a. (row (drop a.at a.bytes.now)).lines };
 
     ghost invariant = { λ a. (a.at ≤ length a.bytes.now) × IsWhole (drop a.at a.bytes.now)
-        × (a.left ≡ length (row (drop a.at a.bytes.now)).lines) };
+        × (a.left ≡ length (row (drop a.at a.bytes.now)).lines)
+        × AreWithin a.literals a.hints (row (drop a.at a.bytes.now)).lines };
 }
 
 impl<'r> Cursor<'r> {
-    ghost use Rattle.lines.specs.Rows.{row, IsWhole};
+    ghost use Rattle.lines.specs.Rows.{row, AreWithin, IsWhole};
 
-    /// The lines that the bytes are, of which there are so many.
-    pub(crate) fn of(bytes: &'r [u8], left: usize) -> Cursor<'r>
+    /// The lines that the bytes are, of which there are so many, none with more literals or hints.
+    pub(crate) fn of(bytes: &'r [u8], left: usize, literals: usize, hints: usize) -> Cursor<'r>
         requires whole { IsWhole bytes.now }
         requires left { left ≡ length (row bytes.now).lines }
+        requires within { AreWithin literals hints (row bytes.now).lines }
         ensures { result ≡ (row bytes.now).lines }
     {
-        Cursor { bytes, at: 0, left }
+        Cursor {
+            bytes,
+            at: 0,
+            left,
+            literals,
+            hints,
+        }
     }
 
     /// The lines that bytes are, if they are whole lines. They may be any: it goes over them once,
@@ -53,22 +65,20 @@ impl<'r> Cursor<'r> {
     {
         let scan = Scan::of(bytes);
         if scan.is_whole() {
-            Some(Cursor::of(bytes, scan.lines))
+            Some(Cursor::of(bytes, scan.lines, scan.most_literals, scan.most_hints))
         } else {
             None
         }
     }
 
-    /// The lines that are still to be read, as a row of their own. It fails where a request for
-    /// memory is refused.
+    /// The lines that are still to be read, as a row of their own, which may take a line that was
+    /// read for its longest. It copies their bytes, and doesn't go over them: they are whole lines.
+    /// It fails where a request for memory is refused.
     pub fn rest(&self, alloc: Global) -> Result<Row, AllocError>
         ensures { IfOk result (λ r. r ≡ self.now) }
     {
         let bytes = Vec::from_slice(alloc, &self.bytes[self.at..])?;
-        match Row::from_bytes(bytes) {
-            Some(row) => Ok(row),
-            None => unreachable!(),
-        }
+        Ok(Row::of(bytes, self.left, self.literals, self.hints))
     }
 
     /// How many lines are still to be read.

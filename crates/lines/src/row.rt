@@ -1,6 +1,6 @@
 //! A row of lines.
 ghost use Rattle.std.specs.Prelude.{◌≡◌, ◌≤◌, ◌∷◌, ◌++◌, [], ◌↔◌, All, IsTrue, IsNone, length, IfOk, IfSome, OnOk, OnErr};
-ghost use Rattle.lines.specs.Rows.{row, IsWhole};
+ghost use Rattle.lines.specs.Rows.{row, AreWithin, IsWhole};
 
 use crate::cursor::Cursor;
 use crate::line::push_line;
@@ -149,6 +149,21 @@ impl Row {
         *self.bytes.allocator()
     }
 
+    /// The row of bytes that are whole lines: so many, none with more literals or hints.
+    pub(crate) fn of(bytes: Vec<u8>, count: usize, literals: usize, hints: usize) -> Row
+        requires whole { IsWhole bytes.items }
+        requires count { count ≡ length (row bytes.items).lines }
+        requires within { AreWithin literals hints (row bytes.items).lines }
+        ensures { result ≡ (row bytes.items).lines }
+    {
+        Row {
+            bytes,
+            count,
+            literals,
+            hints,
+        }
+    }
+
     /// The row of these bytes, if they are whole lines. They may be any: it goes over them once,
     /// and takes no memory.
     pub fn from_bytes(bytes: Vec<u8>) -> Option<Row>
@@ -159,12 +174,8 @@ impl Row {
         if !scan.is_whole() {
             return None;
         }
-        Some(Row {
-            bytes,
-            count: scan.lines,
-            literals: scan.most_literals,
-            hints: scan.most_hints,
-        })
+        let row = Row::of(bytes, scan.lines, scan.most_literals, scan.most_hints);
+        Some(row)
     }
 
     /// The bytes that the lines are.
@@ -179,7 +190,7 @@ impl Row {
     pub fn lines(&self) -> Cursor<'_>
         ensures { result ≡ self.now }
     {
-        Cursor::of(&self.bytes, self.count)
+        Cursor::of(&self.bytes, self.count, self.literals, self.hints)
     }
 
     /// The bytes.

@@ -9,5 +9,6 @@ pub mod CheckLemmas
 pub mod SaidLines
 pub mod CheckRuns
 pub mod StoredLemmas
+pub mod AtOnceLemmas
 pub mod StreamedLemmas
 pub mod ProofLemmas

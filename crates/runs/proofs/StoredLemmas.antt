@@ -1,18 +1,17 @@
 -- The text of a proof whose nodes come one after the other: what went through the buffer; and what a
 -- run over stored facts says.
-use Rattle.std.proofs.Common.{◌≡◌, ℕ, ◌+◌, ◌<◌, arith, Bool, true, false, List, [], ◌∷◌, ◌++◌, length, map, take, Option, None, Result, Ok, Err, IfErr, MatchResult, ◌⊎◌, inl, inr, refl, sym, ap, subst, ◌∙◌, append-nil, append_assoc}
+use Rattle.std.proofs.Common.{◌≡◌, ℕ, ◌+◌, ◌<◌, arith, Bool, true, false, List, [], ◌∷◌, ◌++◌, length, map, take, Option, None, Result, Ok, Err, IfErr, ◌⊎◌, inl, inr, refl, sym, ap, subst, ◌∙◌, append-nil, append_assoc}
 use Rattle.std.specs.Io.KnownBytes.{Appends}
 use Rattle.theory.specs.Literals.{Literal}
-use Rattle.theory.specs.Truth.{Formula}
+use Rattle.theory.specs.Truth.{Formula, Satisfiable}
 use Rattle.theory.specs.Plans.{Search, Plan}
 use Rattle.theory.specs.Pure.{pure_literals}
 use Rattle.theory.specs.Reading.{Limits, large, IsWithinLimits}
 use Rattle.theory.specs.Steps.{Step}
-use Rattle.theory.specs.Texts.{step_text, proof_text}
+use Rattle.theory.specs.Texts.{step_text, proof_text, answer_text}
 use Rattle.theory.specs.Trees as trees
 use Rattle.theory.specs.Proofs.{proof}
 use Rattle.theory.specs.Checked.{IsCheckedResult}
-use Rattle.theory.specs.Written.{IsUnsatisfiableText}
 use Rattle.cnf.specs.declared.fault.ReadFault.{ReadFault}
 use Rattle.cnf.specs.declared.fault.ReadFault.TheVariants as reading
 use Rattle.cnf.specs.Faults.{IsReadOf}
@@ -31,10 +30,11 @@ use Rattle.runs.specs.Answer.{IsAccepted, IsRight}
 use Rattle.runs.specs.Run.{AreTexts}
 use Rattle.runs.specs.Written.{IsAnswer}
 use Rattle.runs.specs.Gathered.{AreRightTexts, StopsInRightAnswer, Leaves}
-use Rattle.runs.specs.Stored.{PutsFirst, PutsNext, IsPassedOn, IsMaking, IsDrained, IsStreamFor, IsStreamed, IsProofText, IsProofOf, IsUnwritten, AreTrueStored, LeavesStored}
+use Rattle.runs.specs.Stored.{PutsFirst, PutsNext, IsPassedOn, IsMaking, IsDrained, IsStreamFor, IsStreamed, IsProofText, IsProofOf, AreTrueStored, LeavesStored}
 use Rattle.runs.specs.declared.fault.RunFault.{RunFault}
 use Rattle.runs.specs.declared.fault.RunFault.TheVariants.{Read, NoMemory, ProofWriteFailed, AnswerWriteFailed, ProofReadFailed}
 use Rattle.runs.specs.declared.verdict.Verdict.{Verdict}
+use Rattle.runs.specs.declared.verdict.Verdict.TheVariants.{Unsatisfiable}
 use Rattle.runs.specs.declared.proof_stream.ProofStream.{ProofStream}
 use Rattle.runs.proofs.TextLemmas.{short-large}
 use Rattle.runs.proofs.WrittenLemmas.{Appends-none, Appends-then}
@@ -181,12 +181,11 @@ nodes-proof F first ns t stream begun same none =
     ∙ ap proof_text (after-tree F t none)
 
 -- all nodes of a tree without a model were taken, and what was left is written
-pub refutation-written : {X : Type 0} (F : Formula) (plan : Plan) (are_true : Type 0) (a b c : Option (List ℕ)) (first last : ProofStream) (nodes : List LinesNode) (r : Result X RunFault) → IsStreamFor F first
-    → joined first.joiner ≡ before_nodes (length F.clauses) (pure_literals F) → first.buffer.items ≡ [] → (t : trees.Tree) × IsCheckedResult plan.search F (trees.tree_of t) × (map node_of nodes ≡ trees.nodes_of t)
+pub refutation-written : (F : Formula) (plan : Plan) (are_true : Type 0) (a b c : Option (List ℕ)) (first last : ProofStream) (nodes : List LinesNode) → IsStreamFor F first → joined first.joiner ≡ before_nodes (length F.clauses) (pure_literals F)
+    → first.buffer.items ≡ [] → (t : trees.Tree) × IsCheckedResult plan.search F (trees.tree_of t) × (map node_of nodes ≡ trees.nodes_of t)
     → (are_true → (t : trees.Tree) × trees.IsResult F plan (trees.tree_of t) × (map node_of nodes ≡ trees.nodes_of t)) → IsStreamed a b first (map node_of nodes) last
-    → MatchResult r (λ _. Appends b c (last.buffer.items ++ proof_text (joined last.joiner).steps)) (λ e. e ≡ ProofWriteFailed) → MatchResult r (λ _. (text : List ℕ) × IsProofText F plan are_true text × Appends a c text) (IsUnwritten a c)
-refutation-written F plan are_true a b c first last nodes (Err e) stream begun empty checked own streamed ended = inr ended
-refutation-written F plan are_true a b c first last nodes (Ok x) stream begun empty checked own streamed ended =
+    → Appends b c (last.buffer.items ++ proof_text (joined last.joiner).steps) → (text : List ℕ) × IsProofText F plan are_true text × Appends a c text
+refutation-written F plan are_true a b c first last nodes stream begun empty checked own streamed ended =
     let ns = map node_of nodes in
     let whole = on_nodes first.joiner.clauses (joined first.joiner) ns in (
       proof_text whole.steps,
@@ -209,21 +208,28 @@ accepted-proof L F search t text within checked same =
       lines-accepted F search t (proof F t) checked refl,
     ))
 
+-- with it the verdict is right
+pub refuted-right : (L : Limits) (F : Formula) (plan : Plan) (are_true : Type 0) (text answer : List ℕ) → IsWithinLimits large F → ¬ (Satisfiable F) → answer ≡ answer_text None → IsProofText F plan are_true text → IsRight L plan.search F Unsatisfiable text answer
+refuted-right L F plan are_true text answer within says is of = (says, accepted-proof L F plan.search of.tree text within of.checked of.text_is, is)
+
+-- and where the facts are true, the texts are those of the plan
+pub refuted-texts : (L : Limits) (F : Formula) (plan : Plan) (are_true : Type 0) (text answer : List ℕ) → IsWithinLimits large F → are_true → ¬ (Satisfiable F) → answer ≡ answer_text None → IsProofText F plan are_true text → AreTexts L F plan Unsatisfiable text answer
+refuted-texts L F plan are_true text answer within are says is of =
+    let own = of.own are in
+    (record { unsatisfiable = says; tree = own.0; is_tree = own.1.0; proof_is = own.2; answer_is = is }, accepted-proof L F plan.search of.tree text within of.checked of.text_is)
+
 -- a checked result is enough for the answer to be right
 pub stored-right : {K : Type 0} (L : Limits) (F : Formula) (plan : Plan) (are_true : Type 0) (tree : Tree K) (verdict : Verdict) (text answer : List ℕ) → IsWithinLimits large F → Says plan.search F tree → IsAnswer tree verdict answer → IsProofOf F plan are_true tree text
     → IsRight L plan.search F verdict text answer
 stored-right L F plan are_true (Model values) verdict text answer within says is of = rw is.0 (values.items, says, is.1)
-stored-right L F plan are_true (Refuted nodes) verdict text answer within says is of = rw is.0 (says, accepted-proof L F plan.search of.tree text within of.checked of.text_is, is.1)
+stored-right L F plan are_true (Refuted nodes) verdict text answer within says is of = rw is.0 (refuted-right L F plan are_true text answer within says is.1 of)
 
--- and where the facts are true, the texts are those of the plan
+-- and of true facts, for the plan's own texts
 pub stored-texts : (L : Limits) (F : Formula) (plan : Plan) (are_true : Type 0) (tree : LinesTree) (verdict : Verdict) (text answer : List ℕ) → IsWithinLimits large F → are_true → IsResultOf F plan tree → Says plan.search F tree → IsAnswer tree verdict answer
     → IsProofOf F plan are_true tree text → AreTexts L F plan verdict text answer
 stored-texts L F plan are_true (Model values) verdict text answer within are result says is of =
     rw is.0 (record { model = values.items; found = says; is_result = result; proof_is = of; answer_is = is.1 })
-stored-texts L F plan are_true (Refuted nodes) verdict text answer within are result says is of =
-    let own = of.own are in
-    let whole : IsUnsatisfiableText F plan text answer = record { unsatisfiable = says; tree = own.0; is_tree = own.1.0; proof_is = own.2; answer_is = is.1 } in
-    rw is.0 (whole, accepted-proof L F plan.search of.tree text within of.checked of.text_is)
+stored-texts L F plan are_true (Refuted nodes) verdict text answer within are result says is of = rw is.0 (refuted-texts L F plan are_true text answer within are says is.1 of)
 
 -- what a fault leaves
 pub Leaves-Stored : (L : Limits) (search : Search) (known p q a b : Option (List ℕ)) (fault : RunFault) → Leaves L search known p q a b fault → LeavesStored L search known p q a b fault

@@ -7,5 +7,6 @@ pub mod Answered
 pub mod Limited
 pub mod Check
 pub mod Stored
+pub mod AtOnce
 pub mod Streamed
 pub mod Written

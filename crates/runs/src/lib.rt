@@ -4,6 +4,7 @@
 
 mod alone;
 mod answered;
+mod at_once;
 mod check;
 mod checked_line;
 mod fault;
@@ -21,6 +22,7 @@ mod verdict;
 
 pub use alone::{run_one, run_one_by_plan};
 pub use answered::{answer_by_plan, answer_within};
+pub use at_once::gather_at_once;
 pub use check::{Told, check_run, check_run_within, check_told};
 pub use checked_line::Checked;
 pub use fault::RunFault;

@@ -1,5 +1,5 @@
 //! The text of a proof whose nodes come one after the other, as it is written.
-ghost use Rattle.std.specs.Prelude.{◌≡◌, [], ◌++◌, length, IfOk, OnOk, MatchResult};
+ghost use Rattle.std.specs.Prelude.{◌≡◌, [], ◌++◌, ◌⊎◌, length, IfOk, OnOk, MatchResult};
 ghost use Rattle.std.specs.Io.KnownBytes.{Appends};
 ghost use Rattle.theory.specs.Pure.{pure_literals};
 ghost use Rattle.theory.specs.Texts.{proof_text};
@@ -21,6 +21,8 @@ use std::io::Write;
 pub(crate) struct ProofStream {
     pub(crate) joiner: Joiner,
     pub(crate) buffer: Vec<u8>,
+    // what else ends it is want of memory
+    write_failed: bool,
 }
 
 // written out, so that proofs of its owners stay short (docs/CHANGING.md)
@@ -29,6 +31,7 @@ impl Drop for ProofStream {
         let ProofStream {
             joiner: _,
             buffer: _,
+            write_failed: _,
         } = self;
     }
 }
@@ -61,6 +64,7 @@ impl ProofStream {
         Ok(ProofStream {
             joiner: Joiner::start(alloc, clauses, units)?,
             buffer: Vec::with_capacity(alloc, 2 * ENOUGH)?,
+            write_failed: false,
         })
     }
 
@@ -75,12 +79,24 @@ impl ProofStream {
             if self.buffer.len() >= ENOUGH {
                 let fault = RunFault::ProofWriteFailed;
                 let Ok(()) = write_bytes(writer, &self.buffer, fault) else {
+                    self.write_failed = true;
                     return Err(AllocError);
                 };
                 self.buffer.clear();
             }
         }
         Ok(())
+    }
+
+    /// Why taking a node failed.
+    pub(crate) fn fault(&self) -> RunFault
+        ensures { (result ≡ RunFault.NoMemory) ⊎ (result ≡ RunFault.ProofWriteFailed) }
+    {
+        if self.write_failed {
+            RunFault::ProofWriteFailed
+        } else {
+            RunFault::NoMemory
+        }
     }
 
     /// Writes what is left, once all nodes came, and flushes the writer. A write or a flush fails as

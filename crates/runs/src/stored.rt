@@ -11,6 +11,7 @@ ghost use Rattle.runs.specs.Run.{WritesBoth};
 ghost use Rattle.runs.specs.Stored.{AreTrueStored, IsProofOf, IsProofText, IsUnwritten, LeavesStored};
 
 use crate::alone::answer_of;
+use crate::at_once::write_if_refuted;
 use crate::fault::RunFault;
 use crate::output::write_text;
 use crate::proof_stream::ProofStream;
@@ -49,9 +50,9 @@ fn write_refutation<S: KeepsFacts, P: Write>(
     let Ok(mut stream) = ProofStream::begin(alloc, formula) else {
         return Err(RunFault::NoMemory);
     };
-    match go_through(alloc, formula, plan, outcomes, &mut stream, proof) {
-        Ok(Tree::Refuted(_)) => stream.end(proof),
-        Ok(Tree::Model(_)) => unreachable!(),
+    match write_if_refuted(alloc, formula, plan, outcomes, &mut stream, proof) {
+        Ok(true) => Ok(()),
+        Ok(false) => unreachable!(),
         Err(_) => Err(RunFault::ProofWriteFailed),
     }
 }

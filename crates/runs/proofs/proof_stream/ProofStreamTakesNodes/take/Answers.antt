@@ -10,6 +10,6 @@ take-requires-clause-node g c =
 
 pub returns-clause-takes : goal.returns-clause-takes
 returns-clause-takes g c = λ first begun nodes streamed.
-    let new : ProofStream = record { joiner = c.take.new.self; buffer = c.drain.new.self.buffer } in
+    let new : ProofStream = record { joiner = c.take.new.self; buffer = c.drain.new.self.buffer; write_failed = c.drain.new.self.write_failed } in
     streamed-node (g.W.Write.contents begun) (g.W.Write.contents c.args.out.now) (g.W.Write.contents c.drain.new.writer) first c.args.self.now c.drain.new.self new nodes (node_of c.args.node) streamed c.in_ok-drain.ensures.drained
     c.in_ok-take.ensures.joined c.in_ok-take.ensures.clauses refl

@@ -1,0 +1,71 @@
+use Rattle.std.proofs.Common.{rules, ap}
+use Rattle.cnf.specs.Limits.{limits_of}
+use Rattle.gathering.specs.Stored.{AreTrueFacts}
+use Rattle.runs.specs.Faults.{fault_of_read}
+use Rattle.runs.specs.declared.verdict.Verdict.TheVariants.{Unsatisfiable}
+use Rattle.runs.proofs.RunLemmas.{IsRunOf-made, RunSays-unread}
+use Rattle.runs.proofs.GatheredLemmas.{AreRightTexts-made, IsRightAnswer-made, says-Leaves}
+use Rattle.runs.proofs.StoredLemmas.{refuted-right, refuted-texts, stored-truths, Leaves-Stored, unanswered-Stored}
+use Rattle.runs.proofs.AtOnceLemmas.{HasNoProof-made, Stored-AtOnce, IfErr-AtOnce}
+use Rattle.runs.proofs.at_once.gather_at_once.Goals as goal
+
+pub returns-in-Err-clause-leaves : goal.returns-in-Err-clause-leaves
+returns-in-Err-clause-leaves g c =
+    let L = limits_of c.args.limits in
+    let p = g.P.Write.contents c.args.proof.now in
+    let a = g.W.Write.contents c.args.answer.now in
+    let known = g.R.Read.remaining c.args.input in
+    let fault = fault_of_read c.in-Err.fault in
+    rw c.of_read.ensures
+    (Stored-AtOnce L c.args.plan.search known p p a a fault
+    (Leaves-Stored L c.args.plan.search known p p a a fault (says-Leaves L known c.args.plan p p a a fault (RunSays-unread L known p a c.args.plan c.in-Err.fault c.in-Err.ensures))))
+
+pub returns-then-not-branch-clause-none : goal.returns-then-not-branch-clause-none
+returns-then-not-branch-clause-none g c = λ is_none.
+    HasNoProof-made (limits_of c.args.limits) (g.R.Read.remaining c.args.input) (g.W.Write.contents c.args.answer.now) c.in-Ok.formula c.in-Ok.ensures (rw c.if-not-branch.true at c.in_ok-write_if_refuted.ensures)
+
+pub returns-in_err-write_text-clause-leaves : goal.returns-in_err-write_text-clause-leaves
+returns-in_err-write_text-clause-leaves g c =
+    let L = limits_of c.args.limits in
+    let F = c.in-Ok.formula in
+    let search_by = c.args.plan.search in
+    let known = g.R.Read.remaining c.args.input in
+    let p = g.P.Write.contents c.args.proof.now in
+    let q = g.P.Write.contents c.write_if_refuted.new.proof in
+    let a = g.W.Write.contents c.args.answer.now in
+    let b = g.W.Write.contents c.write_text.new.writer in
+    let are_true = AreTrueFacts g.S.KeepsFacts.facts F c.args.plan c.in-Ok-open.outcomes.store in
+    let written = rw c.if-not-branch.false at c.in_ok-write_if_refuted.ensures in
+    let answer = c.in-Ok-answer_bytes.text.items in
+    let right = refuted-right L F c.args.plan are_true written.1 answer c.vars-vars.ensures.within written.0 c.in-Ok-answer_bytes.ensures written.2 in
+    IfErr-AtOnce L search_by known p q a b c.from_residual-in_err-write_text.result
+    (unanswered-Stored L search_by known p q a b c.from_residual-in_err-write_text.result c.in_err-write_text.field-0.0 written.1 answer (search rules) (AreRightTexts-made L search_by known F Unsatisfiable written.1 answer c.in-Ok.ensures right) written.3
+    (rw c.deref.ensures.value at c.in_err-write_text.ensures))
+
+pub returns-clause-answer_is_right : goal.returns-clause-answer_is_right
+returns-clause-answer_is_right g c =
+    let L = limits_of c.args.limits in
+    let F = c.in-Ok.formula in
+    let are_true = AreTrueFacts g.S.KeepsFacts.facts F c.args.plan c.in-Ok-open.outcomes.store in
+    let written = rw c.if-not-branch.false at c.in_ok-write_if_refuted.ensures in
+    let answer = c.in-Ok-answer_bytes.text.items in
+    IsRightAnswer-made L c.args.plan.search (g.R.Read.remaining c.args.input) (g.P.Write.contents c.args.proof.now) (g.P.Write.contents c.write_if_refuted.new.proof) (g.W.Write.contents c.args.answer.now) (g.W.Write.contents c.write_text.new.writer) F Unsatisfiable
+    written.1 answer c.in-Ok.ensures (refuted-right L F c.args.plan are_true written.1 answer c.vars-vars.ensures.within written.0 c.in-Ok-answer_bytes.ensures written.2) written.3 (rw c.deref.ensures.value at c.in_ok-write_text.ensures)
+
+pub returns-clause-says : goal.returns-clause-says
+returns-clause-says g c = λ are.
+    let L = limits_of c.args.limits in
+    let F = c.in-Ok.formula in
+    let known = g.R.Read.remaining c.args.input in
+    let are_true = AreTrueFacts g.S.KeepsFacts.facts F c.args.plan c.in-Ok-open.outcomes.store in
+    let opened = stored-truths g.S.KeepsFacts.facts L known c.args.plan c.args.store c.in-Ok-open.outcomes.store F c.in-Ok.ensures (ap g.S.KeepsFacts.facts c.in-Ok-open.ensures.own) are in
+    let written = rw c.if-not-branch.false at c.in_ok-write_if_refuted.ensures in
+    let answer = c.in-Ok-answer_bytes.text.items in
+    let texts = refuted-texts L F c.args.plan are_true written.1 answer c.vars-vars.ensures.within opened written.0 c.in-Ok-answer_bytes.ensures written.2 in
+    record {
+      proof = written.1;
+      answer = answer;
+      run = IsRunOf-made L known c.args.plan F Unsatisfiable written.1 answer c.in-Ok.ensures texts;
+      proof_written = written.3;
+      answer_written = rw c.deref.ensures.value at c.in_ok-write_text.ensures;
+    }
