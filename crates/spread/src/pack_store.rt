@@ -121,10 +121,11 @@ impl<R: Files> KeepsFacts for PackStore<'_, R> {
     }
 
     fn fact(&mut self, cube: &Cube, number: usize) -> Result<Option<Fact>, AllocError> {
-        match self.places.item(cube, number) {
-            Some(place) => self.fact_at(*place),
-            None => Ok(None),
-        }
+        let place = match self.places.item(cube, number) {
+            Some(place) => *place,
+            None => return Ok(None),
+        };
+        self.fact_at(place)
     }
 
     fn ordered(&self) -> usize {
@@ -132,10 +133,11 @@ impl<R: Files> KeepsFacts for PackStore<'_, R> {
     }
 
     fn in_order(&mut self, number: usize) -> Result<Option<Fact>, AllocError> {
-        match self.places.last_at(number) {
-            Some(place) => self.fact_at(*place),
-            None => Ok(None),
-        }
+        let place = match self.places.last_at(number) {
+            Some(place) => *place,
+            None => return Ok(None),
+        };
+        self.fact_at(place)
     }
 }
 
