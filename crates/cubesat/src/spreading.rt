@@ -3,6 +3,7 @@
 use crate::arguments::{MAX_BUDGET, MAX_DIVIDE};
 use crate::effort::plan_of;
 use crate::fault_lines::{FAILED, print_fault_of, print_no_memory, print_not_opened};
+use crate::gathering_hands::gather_stored_by;
 use crate::input::{Input, open_input};
 use crate::placed_proof::{PlacedProof, begin_proof};
 use crate::solving::{SATISFIABLE, UNSATISFIABLE, print_not_begun};
@@ -11,7 +12,7 @@ use crate::worded::{Known, Opened};
 use cdcl::{Plan, Search};
 use cnf::{Limits, ReadFault, read_formula_within};
 use noticed::{NoticedReader, NoticedWriter};
-use runs::{GatheredFrom, RunFault, Verdict, gather_stored};
+use runs::{GatheredFrom, RunFault, Verdict};
 use spread::{
     Ended, Folder, HandCount, PackStore, Progress, RunFile, Said, Slice, StoreCounts, conquer,
     divide, divide_again, formula_bytes_in, run_in, store_in,
@@ -105,13 +106,14 @@ struct Held {
 }
 
 /// Gathers the result of a run from what its packs have; the status.
-fn gather_opened<R: Files, W: Write, E: Write>(
+fn gather_opened<R: Files + Threads + Sync, W: Write, E: Write>(
     rt: &R,
     alloc: Global,
     held: &Held,
     store: PackStore<'_, R>,
     formula: &str,
     proof: Opened<'_, PlacedProof<'_, R>>,
+    hands: HandCount,
     stats: bool,
     answer: &mut W,
     faults: &mut E,
@@ -120,7 +122,8 @@ fn gather_opened<R: Files, W: Write, E: Write>(
     let mut input = NoticedReader::of(held.formula.as_slice());
     let mut output = NoticedWriter::of(proof.file);
     let mut answer = NoticedWriter::of(answer);
-    let gathered = gather_stored(
+    let gathered = gather_stored_by(
+        rt,
         alloc,
         &mut input,
         held.run.limits,
@@ -128,6 +131,7 @@ fn gather_opened<R: Files, W: Write, E: Write>(
         &mut answer,
         &mut output,
         held.run.plan,
+        hands,
     );
     let known = Known {
         formula,
@@ -164,11 +168,12 @@ fn vars_of(alloc: Global, held: &Held) -> Result<u32, AllocError> {
 }
 
 /// Gathers the result of a run, with its proof written to a file; the status.
-fn gather<R: Files + Alloc + Clone + Drop, W: Write, E: Write>(
+fn gather<R: Files + Threads + Sync + Alloc + Clone + Drop, W: Write, E: Write>(
     rt: &R,
     alloc: Global,
     folder: Folder<'_>,
     path: &str,
+    hands: HandCount,
     stats: bool,
     answer: &mut W,
     faults: &mut E,
@@ -192,7 +197,9 @@ fn gather<R: Files + Alloc + Clone + Drop, W: Write, E: Write>(
         Ok(placed) => Opened { path, file: placed },
         Err(why) => return print_not_begun(faults, why, file, path, false),
     };
-    gather_opened(rt, alloc, &held, store, file, proof, stats, answer, faults)
+    gather_opened(
+        rt, alloc, &held, store, file, proof, hands, stats, answer, faults,
+    )
 }
 
 /// The plan of a run, if its numbers are in their ranges, as those of a command line are.
@@ -296,9 +303,17 @@ where
             minutes,
             hands,
         } => conquer_part(rt, alloc, run, round, part, minutes, hands, faults),
-        Spread::Gather { run, proof, stats } => {
+        Spread::Gather {
+            run,
+            proof,
+            hands,
+            stats,
+        } => {
+            let Some(hands) = HandCount::new(hands as usize) else {
+                return FAILED; // it is refused before
+            };
             let folder = Folder { path: run };
-            gather(rt, alloc, folder, proof, stats, answer, faults)
+            gather(rt, alloc, folder, proof, hands, stats, answer, faults)
         }
     }
 }
