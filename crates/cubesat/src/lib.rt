@@ -8,6 +8,7 @@ mod checking;
 mod effort;
 mod explanations;
 mod fault_lines;
+mod gathering_hands;
 mod input;
 mod notes;
 mod placed_proof;

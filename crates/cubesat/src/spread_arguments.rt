@@ -45,6 +45,8 @@ pub(crate) enum Spread<'a> {
     Gather {
         run: &'a str,
         proof: &'a str,
+        /// From 1 to 16.
+        hands: u32,
         stats: bool,
     },
 }
@@ -91,13 +93,13 @@ fn minutes_option<'a>(alloc: Global) -> Arg<'a> {
         .help("End with status 75 after so many minutes; the cubes that are left stay open")
 }
 
-fn hands_option<'a>(alloc: Global) -> Arg<'a> {
+fn hands_option<'a>(alloc: Global, help: &'a str) -> Arg<'a> {
     Arg::new(alloc, "hands")
         .long("hands")
         .value_name("H")
         .value_parser(clap::value_parser!(u32).range(1..=16))
         .default_value("1")
-        .help("Threads that solve cubes of the part side by side, 1 to 16")
+        .help(help)
 }
 
 fn proof_option<'a>(alloc: Global) -> Arg<'a> {
@@ -133,7 +135,10 @@ pub(crate) fn conquer_command<'a>(alloc: Global) -> Result<Command<'a>, AllocErr
         .arg(round_option(alloc))?
         .arg(part_option(alloc))?
         .arg(minutes_option(alloc))?
-        .arg(hands_option(alloc))?
+        .arg(hands_option(
+            alloc,
+            "Threads that solve cubes of the part side by side, 1 to 16",
+        ))?
         .arg(word(alloc, "RUN", RUN))
 }
 
@@ -141,6 +146,10 @@ pub(crate) fn gather_command<'a>(alloc: Global) -> Result<Command<'a>, AllocErro
     Command::new(alloc, "gather")
         .about("Check what a run has found, solve what is missing, and write proof and answer")
         .arg(proof_option(alloc))?
+        .arg(hands_option(
+            alloc,
+            "Threads that check what was found side by side, 1 to 16",
+        ))?
         .arg(flag(alloc, "stats", "Print to standard error what the packs had"))?
         .arg(word(alloc, "RUN", RUN))
 }
@@ -196,6 +205,7 @@ pub(crate) fn gather_request<'a>(matches: &ArgMatches<'a>) -> Option<Spread<'a>>
     Some(Spread::Gather {
         run: matches.get_str("RUN")?,
         proof: matches.get_str("proof")?,
+        hands: matches.get_one::<u32>("hands")?,
         stats: matches.get_flag("stats"),
     })
 }

@@ -3,6 +3,7 @@
 use crate::arguments::{MAX_BUDGET, MAX_DIVIDE};
 use crate::effort::plan_of;
 use crate::fault_lines::{FAILED, print_fault_of, print_no_memory, print_not_opened};
+use crate::gathering_hands::{gather_at_once_by, gather_stored_by};
 use crate::input::{Input, open_input};
 use crate::placed_proof::{PlacedProof, begin_proof};
 use crate::solving::{SATISFIABLE, UNSATISFIABLE, print_not_begun};
@@ -11,7 +12,7 @@ use crate::worded::Known;
 use cdcl::{Plan, Search};
 use cnf::{Limits, ReadFault, read_formula_within};
 use noticed::{NoticedReader, NoticedWriter};
-use runs::{GatheredFrom, RunFault, Verdict, gather_at_once, gather_stored};
+use runs::{GatheredFrom, RunFault, Verdict};
 use spread::{
     Ended, Folder, HandCount, PackStore, Progress, RunFile, Said, Slice, StoreCounts, conquer,
     divide, divide_again, formula_bytes_in, run_in, store_in,
@@ -112,6 +113,7 @@ struct Gathering<'a, R: Files> {
     formula: &'a str,
     input: &'a Input<R::File, Empty>,
     proof: &'a str,
+    hands: HandCount,
     /// What is printed of its packs.
     counts: Option<StoreCounts>,
 }
@@ -131,7 +133,7 @@ fn proof_begun<'a, R: Files, E: Write>(
 
 /// Gathers the result of a run by going through its tree once; the status, if it came to an end.
 /// Otherwise the formula has a model, and nothing is printed or stands in the proof's place.
-fn gather_once<R: Files, W: Write, E: Write>(
+fn gather_once<R: Files + Threads + Sync, W: Write, E: Write>(
     rt: &R,
     alloc: Global,
     run: &Gathering<'_, R>,
@@ -143,14 +145,16 @@ fn gather_once<R: Files, W: Write, E: Write>(
     let mut input = NoticedReader::of(run.held.formula.as_slice());
     let mut output = NoticedWriter::of(proof);
     let mut answer = NoticedWriter::of(answer);
-    let gathered = gather_at_once(
+    let gathered = gather_at_once_by(
+        rt,
         alloc,
         &mut input,
         run.held.run.limits,
-        &mut *store,
+        store,
         &mut answer,
         &mut output,
         run.held.run.plan,
+        run.hands,
     );
     let gathered = gathered.transpose()?;
     let known = Known {
@@ -166,7 +170,7 @@ fn gather_once<R: Files, W: Write, E: Write>(
 }
 
 /// Gathers the result of a run by going through its tree twice; the status.
-fn gather_twice<R: Files, W: Write, E: Write>(
+fn gather_twice<R: Files + Threads + Sync, W: Write, E: Write>(
     rt: &R,
     alloc: Global,
     run: &Gathering<'_, R>,
@@ -178,7 +182,8 @@ fn gather_twice<R: Files, W: Write, E: Write>(
     let mut input = NoticedReader::of(run.held.formula.as_slice());
     let mut output = NoticedWriter::of(proof);
     let mut answer = NoticedWriter::of(answer);
-    let gathered = gather_stored(
+    let gathered = gather_stored_by(
+        rt,
         alloc,
         &mut input,
         run.held.run.limits,
@@ -186,6 +191,7 @@ fn gather_twice<R: Files, W: Write, E: Write>(
         &mut answer,
         &mut output,
         run.held.run.plan,
+        run.hands,
     );
     let known = Known {
         formula: run.formula,
@@ -201,7 +207,7 @@ fn gather_twice<R: Files, W: Write, E: Write>(
 
 /// Gathers the result of a run from what its packs have; the status. It goes through the tree once
 /// where they claim no model, and the proof can be begun anew if there is one.
-fn gather_opened<R: Files, W: Write, E: Write>(
+fn gather_opened<R: Files + Threads + Sync, W: Write, E: Write>(
     rt: &R,
     alloc: Global,
     run: &Gathering<'_, R>,
@@ -248,11 +254,12 @@ fn vars_of(alloc: Global, held: &Held) -> Result<u32, AllocError> {
 }
 
 /// Gathers the result of a run, with its proof written to a file; the status.
-fn gather<R: Files + Alloc + Clone + Drop, W: Write, E: Write>(
+fn gather<R: Files + Threads + Sync + Alloc + Clone + Drop, W: Write, E: Write>(
     rt: &R,
     alloc: Global,
     folder: Folder<'_>,
     path: &str,
+    hands: HandCount,
     stats: bool,
     answer: &mut W,
     faults: &mut E,
@@ -277,6 +284,7 @@ fn gather<R: Files + Alloc + Clone + Drop, W: Write, E: Write>(
         formula: file,
         input: &input,
         proof: path,
+        hands,
         counts: if stats { Some(store.counts()) } else { None },
     };
     gather_opened(rt, alloc, &run, store, answer, faults)
@@ -383,9 +391,17 @@ where
             minutes,
             hands,
         } => conquer_part(rt, alloc, run, round, part, minutes, hands, faults),
-        Spread::Gather { run, proof, stats } => {
+        Spread::Gather {
+            run,
+            proof,
+            hands,
+            stats,
+        } => {
+            let Some(hands) = HandCount::new(hands as usize) else {
+                return FAILED; // it is refused before
+            };
             let folder = Folder { path: run };
-            gather(rt, alloc, folder, proof, stats, answer, faults)
+            gather(rt, alloc, folder, proof, hands, stats, answer, faults)
         }
     }
 }

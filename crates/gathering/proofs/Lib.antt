@@ -1,1 +1,2 @@
+pub mod AheadLemmas
 pub mod KeptResults

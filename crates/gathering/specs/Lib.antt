@@ -1,3 +1,4 @@
+pub mod Ahead
 pub mod Facts
 pub mod Kept
 pub mod Stored

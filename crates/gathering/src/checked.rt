@@ -56,19 +56,21 @@ fn put(results: &mut Vec<Solved<Row>>, solved: Option<Solved<Row>>) -> Result<()
     Ok(())
 }
 
-/// The results of those facts that are checked, in their order.
-fn kept_results(
+/// The results of those facts that are checked, in their order; the others are left out. It fails
+/// where a request for memory is refused, and so may what is checked from then on.
+pub(crate) fn kept_results(
     alloc: Global,
+    checker: &mut FactChecker,
     formula: &Formula,
-    plan: Plan,
     facts: Vec<Fact>,
 ) -> Result<Vec<Solved<Row>>, AllocError>
-    ensures { IfOk result (λ rs. Keeps plan.search formula.now facts.items rs.items) }
+    requires { (search : plans.Search) × IsChecking search formula.now checker.old }
+    ensures keeps { (search : plans.Search) → IsChecking search formula.now checker.old → IfOk result (λ rs. Keeps search formula.now facts.items rs.items) }
+    ensures checking { (search : plans.Search) → IsChecking search formula.now checker.old → IsChecking search formula.now checker.new }
 {
-    let mut checker = open_checker(alloc, formula, plan)?;
     let mut results = Vec::new(alloc);
     for fact in facts {
-        let result = solved(&mut checker, formula, fact)?;
+        let result = solved(checker, formula, fact)?;
         put(&mut results, result)?;
     }
     Ok(results)
@@ -87,6 +89,7 @@ pub fn checked_results(
     ensures checked { IfOk result (λ rs. AreCheckedResults plan.search formula.now rs.items) }
     ensures stay_true { All (IsTrueFact formula.now plan) facts.items → IfOk result (λ rs. AreTrueResults formula.now plan rs.items) }
 {
-    let results = kept_results(alloc, formula, plan, facts)?;
+    let mut checker = open_checker(alloc, formula, plan)?;
+    let results = kept_results(alloc, &mut checker, formula, facts)?;
     Ok(results)
 }

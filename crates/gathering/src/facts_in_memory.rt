@@ -1,7 +1,7 @@
 //! Facts in memory.
-ghost use Rattle.std.specs.Prelude.{◌≡◌, Some, IfOk};
+ghost use Rattle.std.specs.Prelude.{◌≡◌, Some, Contains, IfOk, IfSome};
 
-use crate::by_cube::ByCube;
+use crate::cube_table::CubeTable;
 use crate::store::KeepsFacts;
 use kernel::Cube;
 use lines::Row;
@@ -15,7 +15,7 @@ pub struct FactsInMemory {
     alloc: Global,
     facts: Vec<Fact>,
     // of each cube, at which places its facts are
-    places: ByCube<usize>,
+    places: CubeTable<usize>,
 }
 
 impl Model for FactsInMemory {
@@ -56,16 +56,27 @@ impl FactsInMemory {
     pub fn new(alloc: Global, facts: Vec<Fact>) -> Result<FactsInMemory, AllocError>
         ensures { IfOk result (λ s. s ≡ facts.items) }
     {
-        let mut places = ByCube::new(alloc);
+        let mut places = CubeTable::new(alloc);
         for place in 0..facts.len() {
-            let fact = &facts[place];
-            places.put(&fact.cube, place)?;
+            places.put(facts[place].cube.copied()?, place)?;
         }
+        places.sort()?;
         Ok(FactsInMemory {
             alloc,
             facts,
             places,
         })
+    }
+
+    /// The fact at this place, once more.
+    fn copied_at(&self, place: usize) -> Result<Option<Fact>, AllocError>
+        ensures { IfOk result (λ o. IfSome o (λ f. Contains self.now f)) }
+    {
+        let Some(fact) = self.facts.get(place) else {
+            return Ok(None);
+        };
+        let fact = copied(self.alloc, fact)?;
+        Ok(Some(fact))
     }
 }
 
@@ -75,17 +86,24 @@ impl KeepsFacts for FactsInMemory {
     ghost facts = { λ s. Some s };
 
     fn count(&self, cube: &Cube) -> usize {
-        self.places.items(cube).len()
+        self.places.count(cube)
     }
 
     fn fact(&mut self, cube: &Cube, number: usize) -> Result<Option<Fact>, AllocError> {
-        let Some(place) = self.places.items(cube).get(number) else {
-            return Ok(None);
-        };
-        let Some(fact) = self.facts.get(*place) else {
-            return Ok(None);
-        };
-        let fact = copied(self.alloc, fact)?;
-        Ok(Some(fact))
+        match self.places.item(cube, number) {
+            Some(place) => self.copied_at(*place),
+            None => Ok(None),
+        }
+    }
+
+    fn ordered(&self) -> usize {
+        self.places.len()
+    }
+
+    fn in_order(&mut self, number: usize) -> Result<Option<Fact>, AllocError> {
+        match self.places.last_at(number) {
+            Some(place) => self.copied_at(*place),
+            None => Ok(None),
+        }
     }
 }

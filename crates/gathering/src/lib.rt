@@ -2,18 +2,24 @@
 //! what is missing or isn't so is solved again.
 #![tactic(auto)]
 
-mod by_cube;
+mod ahead;
 mod checked;
+mod cube_table;
 mod facts;
 mod facts_in_memory;
 mod gathered;
+mod loads;
+mod opening;
 mod outcomes;
 mod store;
+mod tree_order;
 
-pub use by_cube::ByCube;
+pub use ahead::AheadOutcomes;
 pub use checked::checked_results;
+pub use cube_table::CubeTable;
 pub use facts::{fact_of, solved_of};
 pub use facts_in_memory::FactsInMemory;
 pub use gathered::gather_facts;
+pub use opening::{CountsOutcomes, ManyHands, OneHand, OpensOutcomes};
 pub use outcomes::StoredOutcomes;
 pub use store::KeepsFacts;

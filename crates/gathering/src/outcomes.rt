@@ -24,7 +24,7 @@ use std::alloc::{AllocError, Global};
 /// The outcomes of a formula's cubes: of the facts that are kept of a cube the last one that is
 /// checked, or, where there is none, what solving it on the spot gives.
 pub struct StoredOutcomes<S> {
-    store: S,
+    pub(crate) store: S,
     checker: FactChecker,
     solver: OwnSolver,
     /// So many facts were taken.
@@ -46,11 +46,11 @@ impl<S: Drop> Drop for StoredOutcomes<S> {
     }
 }
 
-/// Whether a fact is one of this cube.
-fn is_of(fact: &Fact, cube: &Cube) -> bool
-    ensures { IsTrue result ↔ (fact.now.cube ≡ cube.now) }
+/// Whether two cubes are one.
+pub(crate) fn is_same(one: &Cube, other: &Cube) -> bool
+    ensures { IsTrue result ↔ (one.now ≡ other.now) }
 {
-    fact.cube.lits() == cube.lits()
+    one.lits() == other.lits()
 }
 
 /// What a fact says of a cube, if it is one of this cube and is checked.
@@ -66,7 +66,7 @@ fn outcome_by_fact(
         (λ o. IsCheckedOfCube search formula.now cube.now fact × IsDoneAs fact.claim (done (outcome_of o)))) }
     ensures checking { (search : plans.Search) → IsChecking search formula.now checker.old → IsChecking search formula.now checker.new }
 {
-    if !is_of(&fact, cube) {
+    if !is_same(&fact.cube, cube) {
         return Ok(None);
     }
     if !checker.is_checked(formula, &fact)? {

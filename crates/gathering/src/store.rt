@@ -20,6 +20,21 @@ pub trait KeepsFacts: Drop {
     fn fact(&mut self, cube: &Cube, number: usize) -> Result<Option<Fact>, AllocError>
         ensures given { IfOk result (λ o. IfSome o (λ f. IfSome (facts self.old) (λ fs. Contains fs f))) }
         ensures kept { facts self.new ≡ facts self.old };
+
+    /// How many numbers its facts have in the order of a tree that is gone through from left to
+    /// right; none where it doesn't know the order.
+    fn ordered(&self) -> usize {
+        0
+    }
+
+    /// The fact with this number in that order, which is below their count, from 0 on; none where it
+    /// can't be read any more, or isn't the last fact of its cube. It may be any fact.
+    fn in_order(&mut self, _number: usize) -> Result<Option<Fact>, AllocError>
+        ensures given { IfOk result (λ o. IfSome o (λ f. IfSome (facts self.old) (λ fs. Contains fs f))) }
+        ensures kept { facts self.new ≡ facts self.old }
+    {
+        Ok(None)
+    }
 }
 
 /// A store that is lent, and is there afterwards.
@@ -32,5 +47,13 @@ impl<S: KeepsFacts> KeepsFacts for &mut S {
 
     fn fact(&mut self, cube: &Cube, number: usize) -> Result<Option<Fact>, AllocError> {
         (**self).fact(cube, number)
+    }
+
+    fn ordered(&self) -> usize {
+        (**self).ordered()
+    }
+
+    fn in_order(&mut self, number: usize) -> Result<Option<Fact>, AllocError> {
+        (**self).in_order(number)
     }
 }

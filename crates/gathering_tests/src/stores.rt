@@ -1,5 +1,5 @@
-//! Facts in memory, each of which is given as often as it is asked for. Their bytes are worked out by
-//! hand.
+//! Facts in memory, each of which is given as often as it is asked for, also in the order of a tree.
+//! Their bytes are worked out by hand.
 
 use gathering::{FactsInMemory, KeepsFacts};
 use packs::{read_pack, write_fact};
@@ -81,5 +81,40 @@ fn first_other(alloc: Global) -> Result<Option<usize>, Fail> {
 #[test]
 fn facts_in_memory_are_given_again(rt: HostRuntime) -> Result<(), Fail> {
     assert_eq!(rt; first_other(rt.alloc())?, None);
+    Ok(())
+}
+
+/// The bytes of the facts with the numbers 0 to 4 in the order of a tree from left to right, without
+/// their number; none where there is no such fact, or it isn't the last one of its cube.
+static ORDERED: [&[u8]; 5] = [
+    &[4, 0, 0, 0, 0, 0, 0, 0, 0, 2, 1, 0],
+    &[],
+    &[5, 0, 0, 0, 0, 0, 0, 0, 2, 0, 2, 2, 0],
+    &[4, 0, 0, 0, 0, 0, 0, 0, 3, 0, 6, 0],
+    &[],
+];
+
+/// The bytes of the fact of a store with a number of its order; none where there is none.
+fn ordered_bytes<S: KeepsFacts>(
+    alloc: Global,
+    store: &mut S,
+    number: usize,
+) -> Result<Vec<u8>, AllocError> {
+    let mut bytes = Vec::new(alloc);
+    if let Some(fact) = store.in_order(number)? {
+        write_fact(&mut bytes, &fact)?;
+    }
+    Ok(bytes)
+}
+
+#[test]
+fn facts_in_memory_have_the_order_of_a_tree(rt: HostRuntime) -> Result<(), Fail> {
+    let pack = read_pack(rt.alloc(), 2, &FACTS)?;
+    let mut store = FactsInMemory::new(rt.alloc(), pack.facts)?;
+    assert!(rt; store.ordered() == 4);
+    for number in 0..ORDERED.len() {
+        let bytes = ordered_bytes(rt.alloc(), &mut store, number)?;
+        assert!(rt; bytes.as_slice() == ORDERED[number], "{number}");
+    }
     Ok(())
 }

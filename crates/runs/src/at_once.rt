@@ -5,7 +5,6 @@ ghost use Rattle.theory.specs.Pure.{pure_literals};
 ghost use Rattle.cnf.specs.Limits.{limits_of};
 ghost use Rattle.join.specs.Joining.{before_nodes};
 ghost use Rattle.join.specs.Walking.{joined};
-ghost use Rattle.gathering.specs.Stored.{AreTrueFacts, Gives};
 ghost use Rattle.runs.specs.Answer.{IsRightAnswer};
 ghost use Rattle.runs.specs.Run.{WritesBoth};
 ghost use Rattle.runs.specs.Stored.{AreTrueStored, IsStreamFor};
@@ -18,28 +17,29 @@ use crate::stored::GatheredFrom;
 use crate::verdict::Verdict;
 use cdcl::Plan;
 use cnf::{Formula, Limits, read_from_within};
-use cubes::{Tree, go_through};
-use gathering::{KeepsFacts, StoredOutcomes};
+use cubes::{GivesOutcomes, Tree, go_through};
+use gathering::{CountsOutcomes, KeepsFacts, ManyHands, OneHand, OpensOutcomes};
 use join::answer_bytes;
 use std::alloc::Global;
 use std::io::{Read, Write};
+use std::thread::Threads;
 
 /// Goes through a formula's tree, and writes its proof through a stream that no node came to;
 /// whether the formula is refuted. If it isn't, some of a proof may be written that has no end.
-pub(crate) fn write_if_refuted<S: KeepsFacts, P: Write>(
+pub(crate) fn write_if_refuted<O: GivesOutcomes, P: Write>(
     alloc: Global,
     formula: &Formula,
     plan: Plan,
-    outcomes: &mut StoredOutcomes<S>,
+    outcomes: &mut O,
     stream: &mut ProofStream,
     proof: &mut P,
 ) -> Result<bool, RunFault>
-    requires gives { Gives formula.now plan outcomes.old }
+    requires gives { O.gives outcomes.old formula.now plan }
     requires stream { IsStreamFor formula.now stream.old }
     requires joined { joined stream.old.joiner ≡ before_nodes (length formula.now.clauses) (pure_literals formula.now) }
     requires buffer { stream.old.buffer.items ≡ [] }
     ensures { MatchResult result
-        (WritesIfRefuted formula.now plan (AreTrueFacts S.facts formula.now plan outcomes.old.store) (P.contents proof.old) (P.contents proof.new))
+        (WritesIfRefuted formula.now plan (O.gives_own outcomes.old formula.now plan) (P.contents proof.old) (P.contents proof.new))
         (λ e. (e ≡ RunFault.NoMemory) ⊎ (e ≡ RunFault.ProofWriteFailed)) }
 {
     match go_through(alloc, formula, plan, outcomes, stream, proof) {
@@ -50,6 +50,49 @@ pub(crate) fn write_if_refuted<S: KeepsFacts, P: Write>(
         Ok(Tree::Model(_)) => Ok(false),
         Err(_) => Err(stream.fault()),
     }
+}
+
+/// What `gather_at_once` does, by these hands.
+fn gather_at_once_by<R: Read + Drop, S: KeepsFacts + Drop, H: OpensOutcomes<S>, W: Write, P: Write>(
+    alloc: Global,
+    input: R,
+    limits: Limits,
+    store: S,
+    answer: &mut W,
+    proof: &mut P,
+    plan: Plan,
+    hands: &H,
+) -> Result<Option<GatheredFrom>, RunFault>
+    requires { H.opens hands.now }
+    ensures answer_is_right { IfOk result (λ o. IfSome o (λ g. IsRightAnswer (limits_of limits) plan.search (R.remaining input) (P.contents proof.old) (P.contents proof.new) (W.contents answer.old) (W.contents answer.new) g.verdict)) }
+    ensures none { IfOk result (λ o. IsNone o → HasNoProof (limits_of limits) (R.remaining input) (W.contents answer.old) (W.contents answer.new)) }
+    ensures leaves { IfErr result (LeavesAtOnce (limits_of limits) plan.search (R.remaining input) (P.contents proof.old) (P.contents proof.new) (W.contents answer.old) (W.contents answer.new)) }
+    ensures says { AreTrueStored S.facts (limits_of limits) (R.remaining input) plan store →
+        IfOk result (λ o. IfSome o (λ g. WritesBoth (limits_of limits) (R.remaining input) plan (P.contents proof.old) (P.contents proof.new) (W.contents answer.old) (W.contents answer.new) g.verdict)) }
+{
+    let formula = match read_from_within(alloc, input, limits) {
+        Ok(formula) => formula,
+        Err(fault) => return Err(RunFault::of_read(fault)),
+    };
+    let _vars = formula.vars(); // it ensures what the proof needs of the formula
+    let Ok(mut outcomes) = hands.open(alloc, &formula, plan, store) else {
+        return Err(RunFault::NoMemory);
+    };
+    let Ok(text) = answer_bytes(alloc, &formula, None) else {
+        return Err(RunFault::NoMemory);
+    };
+    let Ok(mut stream) = ProofStream::begin(alloc, &formula) else {
+        return Err(RunFault::NoMemory);
+    };
+    if !write_if_refuted(alloc, &formula, plan, &mut outcomes, &mut stream, proof)? {
+        return Ok(None);
+    }
+    write_text(answer, &text, RunFault::AnswerWriteFailed)?;
+    Ok(Some(GatheredFrom {
+        verdict: Verdict::Unsatisfiable,
+        taken: outcomes.taken(),
+        solved: outcomes.solved(),
+    }))
 }
 
 /// What `gather_stored` does for a formula that isn't satisfiable, by going through its tree once:
@@ -73,27 +116,35 @@ pub fn gather_at_once<R: Read + Drop, S: KeepsFacts + Drop, W: Write, P: Write>(
     ensures says { AreTrueStored S.facts (limits_of limits) (R.remaining input) plan store →
         IfOk result (λ o. IfSome o (λ g. WritesBoth (limits_of limits) (R.remaining input) plan (P.contents proof.old) (P.contents proof.new) (W.contents answer.old) (W.contents answer.new) g.verdict)) }
 {
-    let formula = match read_from_within(alloc, input, limits) {
-        Ok(formula) => formula,
-        Err(fault) => return Err(RunFault::of_read(fault)),
-    };
-    let _vars = formula.vars(); // it ensures what the proof needs of the formula
-    let Ok(mut outcomes) = StoredOutcomes::open(alloc, &formula, plan, store) else {
-        return Err(RunFault::NoMemory);
-    };
-    let Ok(text) = answer_bytes(alloc, &formula, None) else {
-        return Err(RunFault::NoMemory);
-    };
-    let Ok(mut stream) = ProofStream::begin(alloc, &formula) else {
-        return Err(RunFault::NoMemory);
-    };
-    if !write_if_refuted(alloc, &formula, plan, &mut outcomes, &mut stream, proof)? {
-        return Ok(None);
-    }
-    write_text(answer, &text, RunFault::AnswerWriteFailed)?;
-    Ok(Some(GatheredFrom {
-        verdict: Verdict::Unsatisfiable,
-        taken: outcomes.taken,
-        solved: outcomes.solved,
-    }))
+    gather_at_once_by(alloc, input, limits, store, answer, proof, plan, &OneHand)
+}
+
+/// What `gather_at_once` does, by so many hands: each checks facts in a thread of its own, where one
+/// can be started, before their cubes are asked for, if the store has them in the order of a tree. It
+/// writes the same, and takes memory as `gather_stored_by_hands` does.
+pub fn gather_at_once_by_hands<
+    T: Threads + Sync,
+    R: Read + Drop,
+    S: KeepsFacts + Drop,
+    W: Write,
+    P: Write,
+>(
+    rt: &T,
+    alloc: Global,
+    input: R,
+    limits: Limits,
+    store: S,
+    answer: &mut W,
+    proof: &mut P,
+    plan: Plan,
+    hands: usize,
+) -> Result<Option<GatheredFrom>, RunFault>
+    ensures answer_is_right { IfOk result (λ o. IfSome o (λ g. IsRightAnswer (limits_of limits) plan.search (R.remaining input) (P.contents proof.old) (P.contents proof.new) (W.contents answer.old) (W.contents answer.new) g.verdict)) }
+    ensures none { IfOk result (λ o. IsNone o → HasNoProof (limits_of limits) (R.remaining input) (W.contents answer.old) (W.contents answer.new)) }
+    ensures leaves { IfErr result (LeavesAtOnce (limits_of limits) plan.search (R.remaining input) (P.contents proof.old) (P.contents proof.new) (W.contents answer.old) (W.contents answer.new)) }
+    ensures says { AreTrueStored S.facts (limits_of limits) (R.remaining input) plan store →
+        IfOk result (λ o. IfSome o (λ g. WritesBoth (limits_of limits) (R.remaining input) plan (P.contents proof.old) (P.contents proof.new) (W.contents answer.old) (W.contents answer.new) g.verdict)) }
+{
+    let hands = ManyHands { rt, count: hands };
+    gather_at_once_by(alloc, input, limits, store, answer, proof, plan, &hands)
 }

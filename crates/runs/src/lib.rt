@@ -22,7 +22,7 @@ mod verdict;
 
 pub use alone::{run_one, run_one_by_plan};
 pub use answered::{answer_by_plan, answer_within};
-pub use at_once::gather_at_once;
+pub use at_once::{gather_at_once, gather_at_once_by_hands};
 pub use check::{Told, check_run, check_run_within, check_told};
 pub use checked_line::Checked;
 pub use fault::RunFault;
@@ -33,6 +33,6 @@ pub use limited::{
     answer_limited, answer_limited_observed, answer_limited_within, run_limited,
     run_limited_observed, run_limited_within,
 };
-pub use stored::{GatheredFrom, gather_stored};
+pub use stored::{GatheredFrom, gather_stored, gather_stored_by_hands};
 pub use threaded::{run, run_by_plan, run_within};
 pub use verdict::Verdict;

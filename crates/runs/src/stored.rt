@@ -5,7 +5,6 @@ ghost use Rattle.std.specs.Io.KnownBytes.{Appends};
 ghost use Rattle.theory.specs.Truth.{Satisfiable};
 ghost use Rattle.cnf.specs.Limits.{limits_of};
 ghost use Rattle.cubes.specs.Result.{Says};
-ghost use Rattle.gathering.specs.Stored.{AreTrueFacts, Gives};
 ghost use Rattle.runs.specs.Answer.{IsRightAnswer};
 ghost use Rattle.runs.specs.Run.{WritesBoth};
 ghost use Rattle.runs.specs.Stored.{AreTrueStored, IsProofOf, IsProofText, IsUnwritten, LeavesStored};
@@ -18,10 +17,11 @@ use crate::proof_stream::ProofStream;
 use crate::verdict::Verdict;
 use cdcl::{Plan, Unkept};
 use cnf::{Formula, Limits, read_from_within};
-use cubes::{Tree, Untaken, go_through};
-use gathering::{KeepsFacts, StoredOutcomes};
+use cubes::{GivesOutcomes, Tree, Untaken, go_through};
+use gathering::{CountsOutcomes, KeepsFacts, ManyHands, OneHand, OpensOutcomes};
 use std::alloc::Global;
 use std::io::{Read, Write};
+use std::thread::Threads;
 
 /// What a run over stored facts comes to.
 #[derive(Clone, Copy, Debug, PartialEq, Eq)]
@@ -34,17 +34,17 @@ pub struct GatheredFrom {
 }
 
 /// Writes the proof of a formula that isn't satisfiable, from the outcomes of its cubes.
-fn write_refutation<S: KeepsFacts, P: Write>(
+fn write_refutation<O: GivesOutcomes, P: Write>(
     alloc: Global,
     formula: &Formula,
     plan: Plan,
-    outcomes: &mut StoredOutcomes<S>,
+    outcomes: &mut O,
     proof: &mut P,
 ) -> Result<(), RunFault>
-    requires gives { Gives formula.now plan outcomes.old }
+    requires gives { O.gives outcomes.old formula.now plan }
     requires refuted { ¬ (Satisfiable formula.now) }
     ensures { MatchResult result
-        (λ _. (text : List ℕ) × IsProofText formula.now plan (AreTrueFacts S.facts formula.now plan outcomes.old.store) text × Appends (P.contents proof.old) (P.contents proof.new) text)
+        (λ _. (text : List ℕ) × IsProofText formula.now plan (O.gives_own outcomes.old formula.now plan) text × Appends (P.contents proof.old) (P.contents proof.new) text)
         (IsUnwritten (P.contents proof.old) (P.contents proof.new)) }
 {
     let Ok(mut stream) = ProofStream::begin(alloc, formula) else {
@@ -58,24 +58,66 @@ fn write_refutation<S: KeepsFacts, P: Write>(
 }
 
 /// Writes the proof for a result; that of a model is empty.
-fn write_proof_of<S: KeepsFacts, P: Write>(
+fn write_proof_of<O: GivesOutcomes, P: Write>(
     alloc: Global,
     formula: &Formula,
     plan: Plan,
     tree: &Tree<Unkept>,
-    outcomes: &mut StoredOutcomes<S>,
+    outcomes: &mut O,
     proof: &mut P,
 ) -> Result<(), RunFault>
-    requires gives { Gives formula.now plan outcomes.old }
+    requires gives { O.gives outcomes.old formula.now plan }
     requires says { Says plan.search formula.now tree.now }
     ensures { MatchResult result
-        (λ _. (text : List ℕ) × IsProofOf formula.now plan (AreTrueFacts S.facts formula.now plan outcomes.old.store) tree.now text × Appends (P.contents proof.old) (P.contents proof.new) text)
+        (λ _. (text : List ℕ) × IsProofOf formula.now plan (O.gives_own outcomes.old formula.now plan) tree.now text × Appends (P.contents proof.old) (P.contents proof.new) text)
         (IsUnwritten (P.contents proof.old) (P.contents proof.new)) }
 {
     match tree {
         Tree::Model(_) => write_text(proof, &[], RunFault::ProofWriteFailed),
         Tree::Refuted(_) => write_refutation(alloc, formula, plan, outcomes, proof),
     }
+}
+
+/// What `gather_stored` does, by these hands.
+fn gather_stored_by<R: Read + Drop, S: KeepsFacts + Drop, H: OpensOutcomes<S>, W: Write, P: Write>(
+    alloc: Global,
+    input: R,
+    limits: Limits,
+    store: S,
+    answer: &mut W,
+    proof: &mut P,
+    plan: Plan,
+    hands: &H,
+) -> Result<GatheredFrom, RunFault>
+    requires { H.opens hands.now }
+    ensures answer_is_right { IfOk result (λ g. IsRightAnswer (limits_of limits) plan.search (R.remaining input) (P.contents proof.old) (P.contents proof.new) (W.contents answer.old) (W.contents answer.new) g.verdict) }
+    ensures leaves { IfErr result (LeavesStored (limits_of limits) plan.search (R.remaining input) (P.contents proof.old) (P.contents proof.new) (W.contents answer.old) (W.contents answer.new)) }
+    ensures says { AreTrueStored S.facts (limits_of limits) (R.remaining input) plan store →
+        IfOk result (λ g. WritesBoth (limits_of limits) (R.remaining input) plan (P.contents proof.old) (P.contents proof.new) (W.contents answer.old) (W.contents answer.new) g.verdict) }
+{
+    let formula = match read_from_within(alloc, input, limits) {
+        Ok(formula) => formula,
+        Err(fault) => return Err(RunFault::of_read(fault)),
+    };
+    let _vars = formula.vars(); // it ensures what the proof needs of the formula
+    let Ok(mut outcomes) = hands.open(alloc, &formula, plan, store) else {
+        return Err(RunFault::NoMemory);
+    };
+    let Ok(tree) = go_through(alloc, &formula, plan, &mut outcomes, &mut Untaken, &mut ()) else {
+        return Err(RunFault::NoMemory);
+    };
+    let (taken, solved) = (outcomes.taken(), outcomes.solved());
+    let (verdict, text) = match answer_of(alloc, &formula, &tree) {
+        Ok(pair) => pair,
+        Err(_) => return Err(RunFault::NoMemory),
+    };
+    write_proof_of(alloc, &formula, plan, &tree, &mut outcomes, proof)?;
+    write_text(answer, &text, RunFault::AnswerWriteFailed)?;
+    Ok(GatheredFrom {
+        verdict,
+        taken,
+        solved,
+    })
 }
 
 /// What `gather_within` does, where the facts are kept elsewhere: it goes through the formula's tree
@@ -101,27 +143,34 @@ pub fn gather_stored<R: Read + Drop, S: KeepsFacts + Drop, W: Write, P: Write>(
     ensures says { AreTrueStored S.facts (limits_of limits) (R.remaining input) plan store →
         IfOk result (λ g. WritesBoth (limits_of limits) (R.remaining input) plan (P.contents proof.old) (P.contents proof.new) (W.contents answer.old) (W.contents answer.new) g.verdict) }
 {
-    let formula = match read_from_within(alloc, input, limits) {
-        Ok(formula) => formula,
-        Err(fault) => return Err(RunFault::of_read(fault)),
-    };
-    let _vars = formula.vars(); // it ensures what the proof needs of the formula
-    let Ok(mut outcomes) = StoredOutcomes::open(alloc, &formula, plan, store) else {
-        return Err(RunFault::NoMemory);
-    };
-    let Ok(tree) = go_through(alloc, &formula, plan, &mut outcomes, &mut Untaken, &mut ()) else {
-        return Err(RunFault::NoMemory);
-    };
-    let (taken, solved) = (outcomes.taken, outcomes.solved);
-    let (verdict, text) = match answer_of(alloc, &formula, &tree) {
-        Ok(pair) => pair,
-        Err(_) => return Err(RunFault::NoMemory),
-    };
-    write_proof_of(alloc, &formula, plan, &tree, &mut outcomes, proof)?;
-    write_text(answer, &text, RunFault::AnswerWriteFailed)?;
-    Ok(GatheredFrom {
-        verdict,
-        taken,
-        solved,
-    })
+    gather_stored_by(alloc, input, limits, store, answer, proof, plan, &OneHand)
+}
+
+/// What `gather_stored` does, by so many hands: each checks facts in a thread of its own, where one
+/// can be started, before their cubes are asked for, if the store has them in the order of a tree. It
+/// writes the same. For each hand it takes memory by the formula once more, and by a few facts.
+pub fn gather_stored_by_hands<
+    T: Threads + Sync,
+    R: Read + Drop,
+    S: KeepsFacts + Drop,
+    W: Write,
+    P: Write,
+>(
+    rt: &T,
+    alloc: Global,
+    input: R,
+    limits: Limits,
+    store: S,
+    answer: &mut W,
+    proof: &mut P,
+    plan: Plan,
+    hands: usize,
+) -> Result<GatheredFrom, RunFault>
+    ensures answer_is_right { IfOk result (λ g. IsRightAnswer (limits_of limits) plan.search (R.remaining input) (P.contents proof.old) (P.contents proof.new) (W.contents answer.old) (W.contents answer.new) g.verdict) }
+    ensures leaves { IfErr result (LeavesStored (limits_of limits) plan.search (R.remaining input) (P.contents proof.old) (P.contents proof.new) (W.contents answer.old) (W.contents answer.new)) }
+    ensures says { AreTrueStored S.facts (limits_of limits) (R.remaining input) plan store →
+        IfOk result (λ g. WritesBoth (limits_of limits) (R.remaining input) plan (P.contents proof.old) (P.contents proof.new) (W.contents answer.old) (W.contents answer.new) g.verdict) }
+{
+    let hands = ManyHands { rt, count: hands };
+    gather_stored_by(alloc, input, limits, store, answer, proof, plan, &hands)
 }

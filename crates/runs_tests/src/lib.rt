@@ -1,7 +1,7 @@
 //! Worked rows: the bytes of the proof and the answer for the bytes of a formula, by both searches,
 //! and the line for those of a proof; what failing readers and writers leave; two hands at a gate;
 //! proofs of many steps, and those with one byte changed; examples from end to end; runs that end
-//! where a limit is reached; and runs over packs.
+//! where a limit is reached; and runs over packs and over stored facts, by one hand and by several.
 #![tactic(auto)]
 
 #[cfg(test)]
@@ -32,5 +32,7 @@ mod one_byte;
 mod other_solvers;
 #[cfg(test)]
 mod rows;
+#[cfg(test)]
+mod stored_hands;
 #[cfg(test)]
 mod true_packs;

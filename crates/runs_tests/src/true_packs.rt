@@ -40,7 +40,7 @@ fn with_number(alloc: Global, numbers: &[i32], number: i32) -> Result<Vec<i32>, 
 }
 
 /// A pack of the cubes of a formula's tree, if these are at most a hundred.
-fn pack_of(alloc: Global, formula: &Formula, plan: Plan) -> Result<Vec<u8>, AllocError> {
+pub(crate) fn pack_of(alloc: Global, formula: &Formula, plan: Plan) -> Result<Vec<u8>, AllocError> {
     let mut pack = Vec::new(alloc);
     let mut cubes = Vec::new(alloc);
     cubes.push(Vec::new(alloc))?;
@@ -153,7 +153,7 @@ static ROWS: [Row; 4] = [
 ];
 
 /// The plan of a search at budget 1.
-fn plan_of(search: Search) -> Plan {
+pub(crate) fn plan_of(search: Search) -> Plan {
     match search {
         Search::Ordered => Plan::ordered(1),
         Search::Focused => Plan::focused(1),

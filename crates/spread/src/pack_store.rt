@@ -7,7 +7,7 @@ use crate::pack_file::{NOT_WHOLE, packs_of};
 use crate::passage::Span;
 use crate::run_file::RunFile;
 use crate::said::{Said, say, say_error, say_no_memory};
-use gathering::{ByCube, KeepsFacts};
+use gathering::{CubeTable, KeepsFacts};
 use kernel::Cube;
 use packs::{Fact, FactReader};
 use std::alloc::{AllocError, Global};
@@ -41,7 +41,7 @@ pub struct PackStore<'a, R: Files> {
     reader: FactReader,
     // the packs' paths
     paths: Vec<String>,
-    places: ByCube<Place>,
+    places: CubeTable<Place>,
     open: OpenPacks<R::File>,
     counts: StoreCounts,
     claims_model: bool,
@@ -54,7 +54,7 @@ impl<'a, R: Files> PackStore<'a, R> {
             alloc,
             reader: FactReader::open(alloc, vars)?,
             paths: Vec::new(alloc),
-            places: ByCube::new(alloc),
+            places: CubeTable::new(alloc),
             open: OpenPacks::new(alloc),
             counts: StoreCounts {
                 facts: 0,
@@ -96,7 +96,7 @@ impl<'a, R: Files> PackStore<'a, R> {
                 claims_model,
             } = entry;
             self.claims_model |= claims_model;
-            self.places.put(&cube, Place { pack, span })?;
+            self.places.put(cube, Place { pack, span })?;
         }
         Ok(())
     }
@@ -117,22 +117,39 @@ impl<'a, R: Files> PackStore<'a, R> {
             Err(_) => Ok(None),
         }
     }
-}
 
-impl<R: Files> KeepsFacts for PackStore<'_, R> {
-    fn count(&self, cube: &Cube) -> usize {
-        self.places.items(cube).len()
-    }
-
-    fn fact(&mut self, cube: &Cube, number: usize) -> Result<Option<Fact>, AllocError> {
-        let place = match self.places.items(cube).get(number) {
-            Some(place) => *place,
-            None => return Ok(None),
-        };
+    /// The fact that stands there, if it can be read.
+    fn fact_at(&mut self, place: Place) -> Result<Option<Fact>, AllocError> {
         match self.body_at(place)? {
             Some(body) => self.reader.read(&body),
             None => Ok(None),
         }
+    }
+}
+
+impl<R: Files> KeepsFacts for PackStore<'_, R> {
+    fn count(&self, cube: &Cube) -> usize {
+        self.places.count(cube)
+    }
+
+    fn fact(&mut self, cube: &Cube, number: usize) -> Result<Option<Fact>, AllocError> {
+        let place = match self.places.item(cube, number) {
+            Some(place) => *place,
+            None => return Ok(None),
+        };
+        self.fact_at(place)
+    }
+
+    fn ordered(&self) -> usize {
+        self.places.len()
+    }
+
+    fn in_order(&mut self, number: usize) -> Result<Option<Fact>, AllocError> {
+        let place = match self.places.last_at(number) {
+            Some(place) => *place,
+            None => return Ok(None),
+        };
+        self.fact_at(place)
     }
 }
 
@@ -204,5 +221,8 @@ pub fn store_in<'a, R: Files + Alloc + Clone + Drop, E: Write>(
         return Err(say_no_memory(faults, folder.path));
     };
     add_all(&mut store, folder, run, &names, faults)?;
-    Ok(store)
+    match store.places.sort() {
+        Ok(()) => Ok(store),
+        Err(_) => Err(say_no_memory(faults, folder.path)),
+    }
 }

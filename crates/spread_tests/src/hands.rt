@@ -1,4 +1,4 @@
-//! Parts that several hands solve.
+//! Parts that several hands solve, and runs that several hands gather.
 use crate::rows::{Row, begin, first_other, holds};
 use samples::{FOUR, FOUR_PROOF, SIXTEEN, TWO_MODELS};
 use std::fs;
@@ -14,7 +14,8 @@ const RUN: &str = "spread_hands";
 
 const PROOF: &str = "spread_hands.lrat";
 
-/// Whether the run of a formula has this answer, where so many hands solve the cubes of its one part.
+/// Whether the run of a formula has this answer, where so many hands solve the cubes of its one part,
+/// and gather what they found.
 fn is_answered<'x, R: Files + AllocGlobal + Threads + Wait + Clock + Sync + Clone + Drop>(
     rt: &R,
     text: &str,
@@ -45,7 +46,7 @@ where
             faults: "",
         },
         Row {
-            words: &["cubesat", "gather", "--proof", PROOF, RUN],
+            words: &["cubesat", "gather", "--proof", PROOF, "--hands", hands, RUN],
             status,
             answer,
             faults: "",

@@ -5,7 +5,7 @@ use samples::FOUR;
 use std::test::Fail;
 
 /// The least and the greatest number of each, and the ones beside them.
-static RANGES: [Step; 26] = [
+static RANGES: [Step; 28] = [
     Step::Ends(Row {
         words: &[
             "cubesat",
@@ -269,6 +269,34 @@ static RANGES: [Step; 26] = [
         status: 1,
         answer: "",
         faults: "error: ",
+    }),
+    Step::Ends(Row {
+        words: &[
+            "cubesat",
+            "gather",
+            "--proof",
+            "spread_options.lrat",
+            "--hands",
+            "0",
+            "spread_options",
+        ],
+        status: 1,
+        answer: "",
+        faults: "error: invalid value '0' for '--hands <H>': 0 is not in 1..=16\n",
+    }),
+    Step::Ends(Row {
+        words: &[
+            "cubesat",
+            "gather",
+            "--proof",
+            "spread_options.lrat",
+            "--hands",
+            "17",
+            "spread_options",
+        ],
+        status: 1,
+        answer: "",
+        faults: "error: invalid value '17' for '--hands <H>': 17 is not in 1..=16\n",
     }),
     Step::Ends(Row {
         words: &["cubesat", "gather", "spread_options"],

@@ -28,6 +28,14 @@ const GATHERED: Row = Row {
     faults: "",
 };
 
+/// The same by three hands.
+const GATHERED_BY_THREE: Row = Row {
+    words: &[
+        "cubesat", "gather", "--proof", PROOF, "--hands", "3", "--stats", RUN,
+    ],
+    ..GATHERED
+};
+
 /// The left cube is refuted; behind it stands a length of some quintillions, and two bytes.
 const HOSTILE: Step = Step::Put(
     "spread_stores/packs/17c4b8aeeefa6b975a6bb6a062d30b1af1b7379dbcf41e65762a4062427e5c4e.pack",
@@ -105,6 +113,11 @@ fn what_is_so_is_taken(rt: HostRuntime) -> Result<(), Fail> {
             ..GATHERED
         };
         check_steps(&rt, &[Step::Ends(gathered), Step::Holds(PROOF, FOUR_PROOF)]);
+        let by_three = Row {
+            faults: held.counts,
+            ..GATHERED_BY_THREE
+        };
+        check_steps(&rt, &[Step::Ends(by_three), Step::Holds(PROOF, FOUR_PROOF)]);
     }
     Ok(())
 }

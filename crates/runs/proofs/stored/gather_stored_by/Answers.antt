@@ -1,12 +1,11 @@
-use Rattle.std.proofs.Common.{rules, ap}
+use Rattle.std.proofs.Common.{rules, refl}
 use Rattle.cnf.specs.Limits.{limits_of}
-use Rattle.gathering.specs.Stored.{AreTrueFacts}
 use Rattle.runs.specs.Faults.{fault_of_read}
 use Rattle.runs.proofs.RunLemmas.{IsRunOf-made, RunSays-unread}
 use Rattle.runs.proofs.WrittenLemmas.{Keeps-same}
 use Rattle.runs.proofs.GatheredLemmas.{AreRightTexts-made, IsRightAnswer-made, says-Leaves}
 use Rattle.runs.proofs.StoredLemmas.{stored-right, stored-texts, stored-truths, Leaves-Stored, unanswered-Stored}
-use Rattle.runs.proofs.stored.gather_stored.Goals as goal
+use Rattle.runs.proofs.stored.gather_stored_by.Goals as goal
 
 pub returns-in-Err-clause-leaves : goal.returns-in-Err-clause-leaves
 returns-in-Err-clause-leaves g c =
@@ -27,7 +26,7 @@ pub returns-in_err-write_text-clause-leaves : goal.returns-in_err-write_text-cla
 returns-in_err-write_text-clause-leaves g c =
     let F = c.in-Ok.formula in
     let known = g.R.Read.remaining c.args.input in
-    let are_true = AreTrueFacts g.S.KeepsFacts.facts F c.args.plan c.go_through.new.source.store in
+    let are_true = g.H.Outcomes.GivesOutcomes.gives_own c.go_through.new.source F c.args.plan in
     let written = c.in_ok-write_proof_of.ensures in
     let answer = c.in-Ok-answer_of.pair.1.items in
     let right = stored-right (limits_of c.args.limits) F c.args.plan are_true c.in-Ok-go_through.tree c.in-Ok-answer_of.pair.0 written.0 answer c.vars-vars.ensures.within c.in-Ok-go_through.ensures.says c.in-Ok-answer_of.ensures written.1 in
@@ -38,7 +37,7 @@ returns-in_err-write_text-clause-leaves g c =
 pub returns-clause-answer_is_right : goal.returns-clause-answer_is_right
 returns-clause-answer_is_right g c =
     let F = c.in-Ok.formula in
-    let are_true = AreTrueFacts g.S.KeepsFacts.facts F c.args.plan c.go_through.new.source.store in
+    let are_true = g.H.Outcomes.GivesOutcomes.gives_own c.go_through.new.source F c.args.plan in
     let written = c.in_ok-write_proof_of.ensures in
     let answer = c.in-Ok-answer_of.pair.1.items in
     IsRightAnswer-made (limits_of c.args.limits) c.args.plan.search (g.R.Read.remaining c.args.input) (g.P.Write.contents c.args.proof.now) (g.P.Write.contents c.write_proof_of.new.proof) (g.W.Write.contents c.args.answer.now) (g.W.Write.contents c.write_text.new.writer) F
@@ -50,8 +49,8 @@ pub returns-clause-says : goal.returns-clause-says
 returns-clause-says g c = λ are.
     let F = c.in-Ok.formula in
     let known = g.R.Read.remaining c.args.input in
-    let are_true = AreTrueFacts g.S.KeepsFacts.facts F c.args.plan c.go_through.new.source.store in
-    let opened = stored-truths g.S.KeepsFacts.facts (limits_of c.args.limits) known c.args.plan c.args.store c.in-Ok-open.outcomes.store F c.in-Ok.ensures (ap g.S.KeepsFacts.facts c.in-Ok-open.ensures.own) are in
+    let are_true = g.H.Outcomes.GivesOutcomes.gives_own c.go_through.new.source F c.args.plan in
+    let opened = c.in-Ok-open.ensures.own (stored-truths g.S.KeepsFacts.facts (limits_of c.args.limits) known c.args.plan c.args.store c.args.store F c.in-Ok.ensures refl are) in
     let written = c.in_ok-write_proof_of.ensures in
     let answer = c.in-Ok-answer_of.pair.1.items in
     let texts = stored-texts (limits_of c.args.limits) F c.args.plan are_true c.in-Ok-go_through.tree c.in-Ok-answer_of.pair.0 written.0 answer c.vars-vars.ensures.within (c.in-Ok-go_through.ensures.still_own opened) (c.in-Ok-go_through.ensures.own opened)

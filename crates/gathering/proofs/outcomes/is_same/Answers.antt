@@ -1,6 +1,6 @@
 use Rattle.std.proofs.Common.{sym, ◌∙◌}
 use Rattle.cubes.proofs.KnownLemmas.{keys-same, keys-own}
-use Rattle.gathering.proofs.outcomes.is_of.Goals as goal
+use Rattle.gathering.proofs.outcomes.is_same.Goals as goal
 
 pub returns : goal.returns
 returns c =

@@ -1,13 +1,12 @@
-use Rattle.std.proofs.Common.{rules, ap}
+use Rattle.std.proofs.Common.{rules, refl}
 use Rattle.cnf.specs.Limits.{limits_of}
-use Rattle.gathering.specs.Stored.{AreTrueFacts}
 use Rattle.runs.specs.Faults.{fault_of_read}
 use Rattle.runs.specs.declared.verdict.Verdict.TheVariants.{Unsatisfiable}
 use Rattle.runs.proofs.RunLemmas.{IsRunOf-made, RunSays-unread}
 use Rattle.runs.proofs.GatheredLemmas.{AreRightTexts-made, IsRightAnswer-made, says-Leaves}
 use Rattle.runs.proofs.StoredLemmas.{refuted-right, refuted-texts, stored-truths, Leaves-Stored, unanswered-Stored}
 use Rattle.runs.proofs.AtOnceLemmas.{HasNoProof-made, Stored-AtOnce, IfErr-AtOnce}
-use Rattle.runs.proofs.at_once.gather_at_once.Goals as goal
+use Rattle.runs.proofs.at_once.gather_at_once_by.Goals as goal
 
 pub returns-in-Err-clause-leaves : goal.returns-in-Err-clause-leaves
 returns-in-Err-clause-leaves g c =
@@ -34,7 +33,7 @@ returns-in_err-write_text-clause-leaves g c =
     let q = g.P.Write.contents c.write_if_refuted.new.proof in
     let a = g.W.Write.contents c.args.answer.now in
     let b = g.W.Write.contents c.write_text.new.writer in
-    let are_true = AreTrueFacts g.S.KeepsFacts.facts F c.args.plan c.in-Ok-open.outcomes.store in
+    let are_true = g.H.Outcomes.GivesOutcomes.gives_own c.in-Ok-open.outcomes F c.args.plan in
     let written = rw c.if-not-branch.false at c.in_ok-write_if_refuted.ensures in
     let answer = c.in-Ok-answer_bytes.text.items in
     let right = refuted-right L F c.args.plan are_true written.1 answer c.vars-vars.ensures.within written.0 c.in-Ok-answer_bytes.ensures written.2 in
@@ -46,7 +45,7 @@ pub returns-clause-answer_is_right : goal.returns-clause-answer_is_right
 returns-clause-answer_is_right g c =
     let L = limits_of c.args.limits in
     let F = c.in-Ok.formula in
-    let are_true = AreTrueFacts g.S.KeepsFacts.facts F c.args.plan c.in-Ok-open.outcomes.store in
+    let are_true = g.H.Outcomes.GivesOutcomes.gives_own c.in-Ok-open.outcomes F c.args.plan in
     let written = rw c.if-not-branch.false at c.in_ok-write_if_refuted.ensures in
     let answer = c.in-Ok-answer_bytes.text.items in
     IsRightAnswer-made L c.args.plan.search (g.R.Read.remaining c.args.input) (g.P.Write.contents c.args.proof.now) (g.P.Write.contents c.write_if_refuted.new.proof) (g.W.Write.contents c.args.answer.now) (g.W.Write.contents c.write_text.new.writer) F Unsatisfiable
@@ -57,8 +56,8 @@ returns-clause-says g c = λ are.
     let L = limits_of c.args.limits in
     let F = c.in-Ok.formula in
     let known = g.R.Read.remaining c.args.input in
-    let are_true = AreTrueFacts g.S.KeepsFacts.facts F c.args.plan c.in-Ok-open.outcomes.store in
-    let opened = stored-truths g.S.KeepsFacts.facts L known c.args.plan c.args.store c.in-Ok-open.outcomes.store F c.in-Ok.ensures (ap g.S.KeepsFacts.facts c.in-Ok-open.ensures.own) are in
+    let are_true = g.H.Outcomes.GivesOutcomes.gives_own c.in-Ok-open.outcomes F c.args.plan in
+    let opened = c.in-Ok-open.ensures.own (stored-truths g.S.KeepsFacts.facts L known c.args.plan c.args.store c.args.store F c.in-Ok.ensures refl are) in
     let written = rw c.if-not-branch.false at c.in_ok-write_if_refuted.ensures in
     let answer = c.in-Ok-answer_bytes.text.items in
     let texts = refuted-texts L F c.args.plan are_true written.1 answer c.vars-vars.ensures.within opened written.0 c.in-Ok-answer_bytes.ensures written.2 in
