@@ -14,6 +14,26 @@ const RUN: &str = "spread_hands";
 
 const PROOF: &str = "spread_hands.lrat";
 
+/// Whether so many hands gather this answer of the run.
+fn is_gathered<'x, R: Files + AllocGlobal + Threads + Wait + Clock + Sync + Clone + Drop>(
+    rt: &R,
+    hands: &'x str,
+    status: u8,
+    answer: &'x str,
+) -> bool
+where
+    R::File: Send,
+    R::Dir: Send,
+{
+    let rows = [Row {
+        words: &["cubesat", "gather", "--proof", PROOF, "--hands", hands, RUN],
+        status,
+        answer,
+        faults: "",
+    }];
+    first_other(rt, &rows).is_none()
+}
+
 /// Whether the run of a formula has this answer, where so many hands solve the cubes of its one part,
 /// and gather what they found.
 fn is_answered<'x, R: Files + AllocGlobal + Threads + Wait + Clock + Sync + Clone + Drop>(
@@ -45,14 +65,8 @@ where
             answer: "",
             faults: "",
         },
-        Row {
-            words: &["cubesat", "gather", "--proof", PROOF, "--hands", hands, RUN],
-            status,
-            answer,
-            faults: "",
-        },
     ];
-    Ok(first_other(rt, &rows).is_none())
+    Ok(first_other(rt, &rows).is_none() && is_gathered(rt, hands, status, answer))
 }
 
 #[test]
