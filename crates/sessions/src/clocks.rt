@@ -155,6 +155,11 @@ impl<'a> Pace<'a> {
         self.sleeps().is_some() && self.micros.load(Ordering::SeqCst) < LATE
     }
 
+    /// How many reads were begun.
+    pub fn reads(&self) -> u64 {
+        self.reads.load(Ordering::SeqCst)
+    }
+
     /// A read begins.
     pub fn hold(&self) {
         let at = self.reads.fetch_add(1, Ordering::SeqCst);

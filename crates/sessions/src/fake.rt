@@ -91,9 +91,9 @@ impl<F: Write> Write for FakeFile<'_, F> {
     }
 }
 
-impl<F> Seek for FakeFile<'_, F> {
-    fn seek(&mut self, _to: SeekFrom) -> io::Result<u64> {
-        Err(io::Error::from(ErrorKind::Unsupported))
+impl<F: Seek> Seek for FakeFile<'_, F> {
+    fn seek(&mut self, to: SeekFrom) -> io::Result<u64> {
+        self.inner.seek(to)
     }
 }
 

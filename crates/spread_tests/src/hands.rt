@@ -1,6 +1,8 @@
 //! Parts that several hands solve, and runs that several hands gather.
 use crate::rows::{Row, begin, first_other, holds};
 use samples::{FOUR, FOUR_PROOF, SIXTEEN, TWO_MODELS};
+use sessions::clocks::Pace;
+use sessions::fake::Fake;
 use std::fs;
 use std::fs::Files;
 use std::sync::Wait;
@@ -78,5 +80,112 @@ fn hands_write_what_one_writes(rt: HostRuntime) -> Result<(), Fail> {
     assert!(rt; is_answered(&rt, SIXTEEN, "8", 20, "s UNSATISFIABLE\n")?);
     assert!(rt; fs::read(&rt, PROOF)? == proof);
     assert!(rt; is_answered(&rt, TWO_MODELS, "8", 10, "s SATISFIABLE\nv -1 2 -3 0\n")?);
+    Ok(())
+}
+
+const AHEAD: &str = "spread_ahead";
+
+const AHEAD_FORMULA: &str = "spread_ahead.cnf";
+
+/// The cube without literals is split on 1, which the pack of the division says.
+static AHEAD_HALVES: [Row; 1] = [Row {
+    words: &[
+        "cubesat",
+        "divide",
+        "--into",
+        AHEAD,
+        "--budget",
+        "1",
+        "--divide",
+        "2",
+        AHEAD_FORMULA,
+    ],
+    status: 0,
+    answer: "2\n",
+    faults: "",
+}];
+
+const BY_ONE: Row = Row {
+    words: &[
+        "cubesat",
+        "gather",
+        "--proof",
+        "spread_ahead.lrat",
+        "--hands",
+        "1",
+        AHEAD,
+    ],
+    status: 20,
+    answer: "s UNSATISFIABLE\n",
+    faults: "",
+};
+
+const BY_TWO: Row = Row {
+    words: &[
+        "cubesat",
+        "gather",
+        "--proof",
+        "spread_ahead.lrat",
+        "--hands",
+        "2",
+        AHEAD,
+    ],
+    ..BY_ONE
+};
+
+/// A pack that says that the cube of -2 alone is refuted, which isn't in the tree.
+const REFUTED: &str =
+    "spread_ahead/packs/cb99a9bd783ea0ea456a2fa8bfbbec051537a8864444f8570dd0c0ad38e827e5.pack";
+
+const REFUTED_TEXT: &str =
+    "cubesat pack 1 d19bf49d5f1058235b91384ab4780f1ec9739997ff2f40e5c1dc7d0ed2489e06\n\x08\x00\x00\x00\x00\x00\x00\x00\x04\x00\x04\x00\x00\x02\x02\x00";
+
+/// One that says that it has a model: then the tree is gone through twice.
+const MODEL: &str =
+    "spread_ahead/packs/edb5560e2f03025ad08fef835030ceb65d4165a701c894291a9af00cbfa9cda0.pack";
+
+const MODEL_TEXT: &str =
+    "cubesat pack 1 d19bf49d5f1058235b91384ab4780f1ec9739997ff2f40e5c1dc7d0ed2489e06\n\x04\x00\x00\x00\x00\x00\x00\x00\x04\x00\x06\x00";
+
+/// A pack and its text, a command line, and whether the pack is read again once it is gone through:
+/// one hand reads the facts of cubes that it comes to, and several those that come next.
+static READ_AGAIN: [(&str, &str, Row, bool); 4] = [
+    (REFUTED, REFUTED_TEXT, BY_ONE, false),
+    (REFUTED, REFUTED_TEXT, BY_TWO, true),
+    (MODEL, MODEL_TEXT, BY_ONE, false),
+    (MODEL, MODEL_TEXT, BY_TWO, true),
+];
+
+/// No read waits for a line.
+static NO_LINES: [u64; 1] = [0];
+
+/// How many reads of a pack a command line begins, if it ends and prints as it is to.
+fn reads_of<R: Files + AllocGlobal + Threads + Wait + Clock + Sync + Clone + Drop>(
+    rt: &R,
+    path: &str,
+    row: &Row,
+) -> Option<u64>
+where
+    R::File: Send,
+    R::Dir: Send,
+{
+    let pace = Pace::new(&NO_LINES, 0);
+    let fake = Fake::slowed(rt, &pace, path);
+    if first_other(&fake, &[*row]).is_some() {
+        return None;
+    }
+    Some(pace.reads())
+}
+
+#[test]
+fn several_hands_read_facts_ahead(rt: HostRuntime) -> Result<(), Fail> {
+    for (path, text, row, is_again) in &READ_AGAIN {
+        begin(&rt, AHEAD, AHEAD_FORMULA, FOUR)?;
+        assert!(rt; first_other(&rt, &AHEAD_HALVES).is_none());
+        fs::write(&rt, *path, *text)?;
+        let reads = reads_of(&rt, *path, row);
+        assert!(rt; reads.is_some(), "{:?}", row.words);
+        assert!(rt; (reads > Some(1)) == *is_again, "{:?}", row.words);
+    }
     Ok(())
 }
