@@ -263,14 +263,18 @@ fn gather<R: Files + Threads + Sync + Alloc + Clone + Drop, W: Write, E: Write>(
     stats: bool,
     answer: &mut W,
     faults: &mut E,
-) -> u8 {
+) -> u8
+where
+    R::File: Send,
+    R::Dir: Send,
+{
     let Ok(held) = held_in(rt, alloc, folder, faults) else {
         return FAILED;
     };
     let (Ok(file), Ok(vars)) = (folder.formula(alloc), vars_of(alloc, &held)) else {
         return print_no_memory(faults, folder.path, false);
     };
-    let Ok(store) = store_in(rt, alloc, folder, &held.run, vars, faults) else {
+    let Ok(store) = store_in(rt, alloc, folder, &held.run, vars, hands, faults) else {
         return FAILED;
     };
     let file = file.as_str();

@@ -8,6 +8,7 @@ mod dividing;
 mod files;
 mod folder;
 mod found;
+mod found_packs;
 mod hand_count;
 mod hands;
 mod left_open;

@@ -1,7 +1,9 @@
 //! The facts of a run's packs, of which only the places are in memory.
 
 use crate::folder::Folder;
-use crate::found::{Entry, Found, found_at};
+use crate::found::{Entry, Found};
+use crate::found_packs::{FoundPack, packs_by_hands};
+use crate::hand_count::HandCount;
 use crate::open_packs::OpenPacks;
 use crate::pack_file::{NOT_WHOLE, packs_of};
 use crate::passage::Span;
@@ -13,6 +15,7 @@ use packs::{Fact, FactReader};
 use std::alloc::{AllocError, Global};
 use std::fs::Files;
 use std::io::{ErrorKind, Write};
+use std::thread::Threads;
 
 /// Where a fact stands.
 #[derive(Clone, Copy, Debug, PartialEq, Eq)]
@@ -157,72 +160,75 @@ impl<R: Files> KeepsFacts for PackStore<'_, R> {
 /// counts as missing.
 fn add<R: Files, E: Write>(
     store: &mut PackStore<'_, R>,
-    folder: Folder,
-    run: &RunFile,
-    name: &str,
+    pack: FoundPack,
     faults: &mut E,
-) -> Result<(), Said> {
-    let Ok(path) = folder.pack(store.alloc, name) else {
-        return Err(say_no_memory(faults, folder.path));
-    };
-    let found = found_at(
-        store.rt,
-        store.alloc,
-        run,
-        name,
-        path.as_str(),
-        &mut store.reader,
-    );
+) -> Result<(), AllocError> {
+    let FoundPack { path, found } = pack;
     match found {
-        Ok(Some(found)) => match store.put(path, found) {
-            Ok(()) => Ok(()),
-            Err(_) => Err(say_no_memory(faults, folder.path)),
-        },
+        Ok(Some(found)) => store.put(path, found)?,
         Ok(None) => {
             let _ = say(faults, path.as_str(), NOT_WHOLE);
-            Ok(())
         }
+        Err(error) if error.kind() == ErrorKind::OutOfMemory => return Err(AllocError),
         Err(error) => {
-            let is_short = error.kind() == ErrorKind::OutOfMemory;
-            let said = say_error(faults, path.as_str(), error);
-            if is_short { Err(said) } else { Ok(()) }
+            let _ = say_error(faults, path.as_str(), error);
         }
     }
+    Ok(())
 }
 
 /// Puts what these packs have into a store, in their order.
 fn add_all<R: Files, E: Write>(
     store: &mut PackStore<'_, R>,
-    folder: Folder,
-    run: &RunFile,
-    names: &[String],
+    packs: Vec<FoundPack>,
     faults: &mut E,
-) -> Result<(), Said> {
-    for name in names {
-        add(store, folder, run, name.as_str(), faults)?;
+) -> Result<(), AllocError> {
+    for pack in packs {
+        add(store, pack, faults)?;
     }
     Ok(())
 }
 
+/// A store of what hands found in packs, over so many variables, in the packs' order.
+fn store_of<'a, R: Files, E: Write>(
+    rt: &'a R,
+    alloc: Global,
+    vars: u32,
+    found: Vec<Vec<FoundPack>>,
+    faults: &mut E,
+) -> Result<PackStore<'a, R>, AllocError> {
+    let mut store = PackStore::new(rt, alloc, vars)?;
+    for packs in found {
+        add_all(&mut store, packs, faults)?;
+    }
+    store.places.sort()?;
+    Ok(store)
+}
+
 /// A store of the facts of a run's packs, over so many variables, in the order of the packs' names,
-/// or why there is none, which is said. Each pack is read once, piece by piece. One that can't be
-/// read, is damaged or is another run's is named, and counts as missing. It takes memory by the
-/// cubes of the facts, and by the longest fact.
-pub fn store_in<'a, R: Files + Alloc + Clone + Drop, E: Write>(
+/// or why there is none, which is said. Each pack is read once, piece by piece, by one of the hands.
+/// One that can't be read, is damaged or is another run's is named, and counts as missing. It takes
+/// memory by the cubes of the facts and, for each hand, by the longest fact.
+pub fn store_in<'a, R: Files + Threads + Sync + Alloc + Clone + Drop, E: Write>(
     rt: &'a R,
     alloc: Global,
     folder: Folder,
     run: &RunFile,
     vars: u32,
+    hands: HandCount,
     faults: &mut E,
-) -> Result<PackStore<'a, R>, Said> {
+) -> Result<PackStore<'a, R>, Said>
+where
+    R::File: Send,
+    R::Dir: Send,
+{
     let names = packs_of(rt, alloc, folder, faults)?;
-    let Ok(mut store) = PackStore::new(rt, alloc, vars) else {
-        return Err(say_no_memory(faults, folder.path));
+    let found = match packs_by_hands(rt, alloc, folder, run, vars, &names, hands) {
+        Ok(found) => found,
+        Err(_) => return Err(say_no_memory(faults, folder.path)),
     };
-    add_all(&mut store, folder, run, &names, faults)?;
-    match store.places.sort() {
-        Ok(()) => Ok(store),
+    match store_of(rt, alloc, vars, found, faults) {
+        Ok(store) => Ok(store),
         Err(_) => Err(say_no_memory(faults, folder.path)),
     }
 }

@@ -3,9 +3,10 @@ use crate::rows::{Row, begin};
 use crate::steps::{Step, check_steps};
 use runs::{Verdict, gather_stored};
 use samples::{FOUR, FOUR_PROOF};
-use spread::{Folder, run_in, store_in};
+use spread::{Folder, HandCount, run_in, store_in};
 use std::fs::Files;
 use std::test::Fail;
+use std::thread::Threads;
 use std::{fs, io};
 
 const RUN: &str = "spread_changed";
@@ -83,14 +84,24 @@ fn make_change<R: Files + AllocGlobal>(rt: &R, text: Option<&str>) -> io::Result
 }
 
 /// Whether gathering is right of a store whose pack was changed since it was opened.
-fn is_right<R: Files + AllocGlobal + Clone + Drop>(rt: &R, row: &Change) -> io::Result<bool> {
+fn is_right<R: Files + AllocGlobal + Threads + Sync + Clone + Drop>(
+    rt: &R,
+    row: &Change,
+) -> io::Result<bool>
+where
+    R::File: Send,
+    R::Dir: Send,
+{
     let alloc = rt.alloc();
     let folder = Folder { path: RUN };
     let mut faults = Vec::new(alloc);
     let Ok(run) = run_in(rt, alloc, folder, &mut faults) else {
         return Ok(false);
     };
-    let Ok(store) = store_in(rt, alloc, folder, &run, 2, &mut faults) else {
+    let Some(hand) = HandCount::new(1) else {
+        return Ok(false);
+    };
+    let Ok(store) = store_in(rt, alloc, folder, &run, 2, hand, &mut faults) else {
         return Ok(false);
     };
     make_change(rt, row.text)?;

@@ -111,18 +111,35 @@ static BEGUN: [Row; 1] = [Row {
     faults: "",
 }];
 
-static DAMAGED: [Row; 1] = [Row {
-    words: &[
-        "cubesat",
-        "gather",
-        "--proof",
-        "spread_damaged.lrat",
-        "spread_damaged",
-    ],
-    status: 20,
-    answer: "s UNSATISFIABLE\n",
-    faults: "cubesat: spread_damaged/packs/0.pack: not a whole pack of this run; it counts as missing\n",
-}];
+/// In the order of the packs' names, by one hand and by three.
+static DAMAGED: [Row; 2] = [
+    Row {
+        words: &[
+            "cubesat",
+            "gather",
+            "--proof",
+            "spread_damaged.lrat",
+            "spread_damaged",
+        ],
+        status: 20,
+        answer: "s UNSATISFIABLE\n",
+        faults: "cubesat: spread_damaged/packs/0.pack: not a whole pack of this run; it counts as missing\ncubesat: spread_damaged/packs/1.pack: not a whole pack of this run; it counts as missing\n",
+    },
+    Row {
+        words: &[
+            "cubesat",
+            "gather",
+            "--proof",
+            "spread_damaged.lrat",
+            "--hands",
+            "3",
+            "spread_damaged",
+        ],
+        status: 20,
+        answer: "s UNSATISFIABLE\n",
+        faults: "cubesat: spread_damaged/packs/0.pack: not a whole pack of this run; it counts as missing\ncubesat: spread_damaged/packs/1.pack: not a whole pack of this run; it counts as missing\n",
+    },
+];
 
 static CHANGED: [Row; 1] = [Row {
     words: &[
@@ -143,11 +160,9 @@ static CHANGED: [Row; 1] = [Row {
 fn what_is_damaged_is_named(rt: HostRuntime) -> Result<(), Fail> {
     begin(&rt, "spread_damaged", "spread_damaged.cnf", FOUR)?;
     assert!(rt; first_other(&rt, &BEGUN).is_none());
-    fs::write(
-        &rt,
-        "spread_damaged/packs/0.pack",
-        "cubesat pack 1 of nothing\n",
-    )?;
+    for path in ["spread_damaged/packs/0.pack", "spread_damaged/packs/1.pack"] {
+        fs::write(&rt, path, "cubesat pack 1 of nothing\n")?;
+    }
     assert!(rt; first_other(&rt, &DAMAGED).is_none());
     assert!(rt; holds(&rt, "spread_damaged.lrat", FOUR_PROOF)?);
     fs::write(&rt, "spread_damaged/formula.cnf", TWO_MODELS)?;
