@@ -56,6 +56,8 @@ impl Marks {
 }
 
 /// Puts the negation of the literal at a place into the set, which doesn't have it.
+// A call, since most literals that `put` is given are in the set and end there.
+#[inline(never)]
 fn put_at(kernel: &Kernel, marks: &mut Marks, place: usize) -> Result<(), AllocError>
     requires marks { CanJoin kernel.now [] marks.old }
     requires inside { place < length kernel.now.trail }
@@ -78,6 +80,7 @@ fn put_at(kernel: &Kernel, marks: &mut Marks, place: usize) -> Result<(), AllocE
 }
 
 /// Puts a literal into the set.
+#[inline]
 fn put(kernel: &Kernel, marks: &mut Marks, lit: Lit) -> Result<(), AllocError>
     requires { CanJoin kernel.now (lit ∷ []) marks.old }
     ensures set { OnOk result ((S : Clause) → (bound : ℕ) → has (literals (take bound kernel.now.trail)) (negated lit) ≡ true

@@ -1,6 +1,6 @@
 -- Entries and clauses that are cut off.
-use Rattle.std.proofs.Common.{◌≡◌, ◌≢◌, ℕ, ◌+◌, ◌-◌, ◌<◌, ◌≤◌, List, [], ◌∷◌, ◌++◌, length, get_or, set, take, ap, sym, subst, ◌∙◌, ◌⊎◌, inl, inr, arith}
-use Rattle.std.proofs.lemmas.List.{length-map, length-set, length-take-le, get_or-take, take_more, get_or-set_same, get_or-set_other}
+use Rattle.std.proofs.Common.{◌≡◌, ◌≢◌, ℕ, suc, zero, ◌+◌, ◌-◌, ◌<◌, ◌≤◌, List, [], ◌∷◌, ◌++◌, length, get_or, set, take, refl, ap, sym, subst, ◌∙◌, ◌⊎◌, inl, inr, arith}
+use Rattle.std.proofs.lemmas.List.{map-set, length-map, length-set, length-take-le, get_or-take, take-map, take_more, get_or-set_same, get_or-set_other, get_or_default}
 use Rattle.std.proofs.Math.ListN.{get_or-map}
 use Rattle.std.proofs.lemmas.Bool.{cases_eq}
 use Rattle.std.specs.List.{Contains, swap_remove}
@@ -14,7 +14,92 @@ use Rattle.kernel.specs.Watching.{At}
 use Rattle.kernel.specs.Visiting.{places}
 use Rattle.kernel.specs.Cutting.{IsKeptBelow, AreKeptBelow, AreCodesOf}
 use Rattle.kernel.proofs.Places.{At-one, At-get, At-set, swap_remove-once, Contains-swap_remove}
-use Rattle.kernel.proofs.Turns.{At-places, left, left-places-at, left-was-at}
+use Rattle.kernel.proofs.Turns.{At-places}
+
+take-take : {X : Type 0} (xs : List X) (m : ℕ) → take m (take (suc m) xs) ≡ take m xs
+take-take [] zero = refl
+take-take [] (suc m) = refl
+take-take (x ∷ xs) zero = refl
+take-take (x ∷ xs) (suc m) = ap (λ ys. x ∷ ys) (take-take xs m)
+
+-- a write into a front, of which less is looked at
+take-set-take : {X : Type 0} (xs : List X) (m i : ℕ) (v : X) → take m (set (take (suc m) xs) i v) ≡ take m (set xs i v)
+take-set-take [] m i v = refl
+take-set-take (x ∷ xs) zero zero v = refl
+take-set-take (x ∷ xs) zero (suc i) v = refl
+take-set-take (x ∷ xs) (suc m) zero v = ap (λ ys. v ∷ ys) (take-take xs m)
+take-set-take (x ∷ xs) (suc m) (suc i) v = ap (λ ys. x ∷ ys) (take-set-take xs m i v)
+
+-- the entries once the one at the place j left, and the last of the first m + 1 took its place
+abbrev pub left : List Watch → ℕ → ℕ → Watch → List Watch
+left ws m j d = take m (set ws j (get_or ws m d))
+
+-- their places
+left-places : (ws : List Watch) (m j n : ℕ) (d : Watch) → m < length ws → places (take m (set ws j (get_or ws m d))) ≡ swap_remove (places (take (m + 1) ws)) j n
+left-places ws m j n d h =
+    sym (take-map (λ (e : Watch). e.clause) m (set ws j (get_or ws m d)))
+    ∙ ap (take m) (map-set (λ (e : Watch). e.clause) ws j (get_or ws m d))
+    ∙ sym (take-set-take (places ws) m j (get_or ws m d).clause)
+    ∙ ap (λ k. take m (set (take k (places ws)) j (get_or ws m d).clause)) one
+    ∙ (λ i. take (size i) (set (front i) j (last i)))
+  where
+    one : suc m ≡ m + 1
+    one = omega arith
+
+    front : take (m + 1) (places ws) ≡ places (take (m + 1) ws)
+    front = take-map (λ (e : Watch). e.clause) (m + 1) ws
+
+    long : length (places (take (m + 1) ws)) ≡ m + 1
+    long = length-map (take (m + 1) ws) (λ (e : Watch). e.clause) ∙ length-take-le (m + 1) ws (omega (arith, h))
+
+    size : m ≡ length (places (take (m + 1) ws)) - 1
+    size = omega (arith, long)
+
+    last : (get_or ws m d).clause ≡ get_or (places (take (m + 1) ws)) (length (places (take (m + 1) ws)) - 1) n
+    last =
+        sym (get_or-map (λ (e : Watch). e.clause) ws m d)
+        ∙ get_or_default (places ws) m d.clause n (subst (λ k. m < k) (sym (length-map ws (λ (e : Watch). e.clause))) h)
+        ∙ sym (get_or-take (m + 1) (places ws) m n (omega arith))
+        ∙ (λ i. get_or (front i) (size i) n)
+
+-- each of them was there
+left-was : (ws : List Watch) (m j q : ℕ) (d x : Watch) → m < length ws → At (take m (set ws j (get_or ws m d))) q x → (p : ℕ) × At (take (m + 1) ws) p x
+left-was ws m j q d x h a = go (At-set ws j (get_or ws m d) q x inner)
+  where
+    size : length (take m (set ws j (get_or ws m d))) ≡ m
+    size = length-take-le m (set ws j (get_or ws m d)) (omega (arith, h, length-set ws j (get_or ws m d)))
+
+    below : q < m
+    below = omega (arith, size, a.0)
+
+    inner : At (set ws j (get_or ws m d)) q x
+    inner = (omega (arith, below, h, length-set ws j (get_or ws m d)), sym (get_or-take m (set ws j (get_or ws m d)) q x below) ∙ a.1)
+
+    long : length (take (m + 1) ws) ≡ m + 1
+    long = length-take-le (m + 1) ws (omega (arith, h))
+
+    front : (p : ℕ) → p ≤ m → At ws p x → At (take (m + 1) ws) p x
+    front p l b = (omega (arith, long, l), get_or-take (m + 1) ws p x (omega (arith, l)) ∙ b.1)
+
+    go : ((q ≡ j) × (x ≡ get_or ws m d)) ⊎ ((q ≢ j) × At ws q x) → (p : ℕ) × At (take (m + 1) ws) p x
+    go (inl (e, f)) = (m, front m (omega arith) (h, get_or_default ws m x d h ∙ sym f))
+    go (inr (ne, b)) = (q, front q (omega (arith, below)) b)
+
+-- what is read of them
+pub front-at : (list : List Watch) (end place : ℕ) (e : Watch) → place < end → end ≤ length list → e ≡ get_or list place e → At (take end list) place e
+front-at list end place e low high read = (omega (arith, low, high, length-take-le end list high), get_or-take end list place e low ∙ sym read)
+
+pub left-list : (list : List Watch) (end place : ℕ) (x : Watch) → place < end → end ≤ length list → x ≡ get_or list (end - 1) x → take (end - 1) (set list place x) ≡ left list (end - 1) place x
+left-list list end place x low high read = ap (λ (y : Watch). take (end - 1) (set list place y)) read
+
+pub left-places-at : (list : List Watch) (end place n : ℕ) (x : Watch) → place < end → end ≤ length list → places (left list (end - 1) place x) ≡ swap_remove (places (take end list)) place n
+left-places-at list end place n x low high =
+    left-places list (end - 1) place n x (omega (arith, low, high)) ∙ ap (λ k. swap_remove (places (take k list)) place n) (let z : end - 1 + 1 ≡ end = omega (arith, low) in z)
+
+pub left-was-at : (list : List Watch) (end place q : ℕ) (x y : Watch) → place < end → end ≤ length list → At (left list (end - 1) place x) q y → (p : ℕ) × At (take end list) p y
+left-was-at list end place q x y low high a =
+    let r = left-was list (end - 1) place q x y (omega (arith, low, high)) a in
+    (r.0, subst (λ k. At (take k list) r.0 y) (let z : end - 1 + 1 ≡ end = omega (arith, low) in z) r.1)
 
 -- the search in a list: those before the place are below `first`
 pub record IsKeeping (first : ℕ) (old now : List Watch) (place : ℕ) : Type 0 where

@@ -25,6 +25,7 @@ pub mod NextServed
 pub mod NumberStacks
 pub mod Placed
 pub mod Places
+pub mod Removing
 pub mod Popping
 pub mod Restarting
 pub mod Rooms

@@ -1,5 +1,5 @@
 -- Elements at places.
-use Rattle.std.proofs.Common.{◌≡◌, ◌≢◌, ℕ, ◌+◌, ◌-◌, ◌<◌, ◌≤◌, Bool, true, false, List, [], ◌∷◌, ◌++◌, length, get_or, set, refl, ap, sym, ◌∙◌, ◌⊎◌, inl, inr, arith, cond}
+use Rattle.std.proofs.Common.{◌≡◌, ◌≢◌, ℕ, zero, suc, ◌+◌, ◌-◌, ◌<◌, ◌≤◌, Bool, true, false, List, [], ◌∷◌, ◌++◌, length, get_or, set, refl, ap, sym, ◌∙◌, ◌⊎◌, inl, inr, arith, cond}
 use Rattle.std.proofs.lemmas.List.{get_or_default, get_or-set_same, get_or-set_other, length-set, get_or_append_left, get_or_push, length_push, get_or-take, length-take-le}
 use Rattle.std.proofs.lemmas.Bool.{cases_eq, cases_lt}
 use Rattle.std.specs.List.{Contains, swap_remove}
@@ -38,8 +38,15 @@ At-push xs v n x a = go (cases_lt n (length xs))
         let e : n ≡ length xs = omega (arith, h, bound) in
         inr (e, sym a.1 ∙ get_or_push xs v x n (sym e))
 
+-- what stands behind a front of so many
+pub At-behind : {X : Type 0} (xs ys : List X) (y : X) (n : ℕ) → length xs ≡ n → At (xs ++ y ∷ ys) n y
+At-behind [] ys y zero h = (omega arith, refl)
+At-behind [] ys y (suc n) h = absurd (omega (arith, h))
+At-behind (x ∷ xs) ys y zero h = absurd (omega (arith, h))
+At-behind (x ∷ xs) ys y (suc n) h = let r = At-behind xs ys y n (omega (arith, h)) in (omega (arith, r.0), r.1)
+
 -- where an element stands once another one is taken out and the last one put in its place
-pub swap_remove-place : (xs : List ℕ) (j d p n : ℕ) → j < length xs → p < length xs → p ≢ j → get_or xs p n ≡ n
+swap_remove-place : (xs : List ℕ) (j d p n : ℕ) → j < length xs → p < length xs → p ≢ j → get_or xs p n ≡ n
     → (q : ℕ) × (q < length (swap_remove xs j d)) × (get_or (swap_remove xs j d) q n ≡ n) × (j ≤ p → j ≤ q)
 swap_remove-place xs j d p n inside here other read = go (cases_eq p (length xs - 1))
   where
@@ -88,33 +95,7 @@ code-one k l h = go k.positive l.positive refl refl
         let y : cond {A = ℕ} l.positive 1 0 ≡ 1 = rw f refl in
         absurd (omega (arith, h, x, y))
 
--- what is left was there
-pub Contains-of_swap_remove : (xs : List ℕ) (j d n : ℕ) → j < length xs → Contains (swap_remove xs j d) n → Contains xs n
-Contains-of_swap_remove xs j d n inside (q, here, read) = go (cases_eq q j)
-  where
-    same_length : length (set xs j (get_or xs (length xs - 1) d)) ≡ length xs
-    same_length = length-set xs j (get_or xs (length xs - 1) d)
-
-    size : length (swap_remove xs j d) ≡ length xs - 1
-    size = length-take-le (length xs - 1) (set xs j (get_or xs (length xs - 1) d)) (omega (arith, same_length))
-
-    below : q < length xs - 1
-    below = omega (arith, size, here)
-
-    taken : get_or (swap_remove xs j d) q n ≡ get_or (set xs j (get_or xs (length xs - 1) d)) q n
-    taken = get_or-take (length xs - 1) (set xs j (get_or xs (length xs - 1) d)) q n below
-
-    go : (q ≡ j) ⊎ (q ≢ j) → Contains xs n
-    go (inl e) =
-        let put : get_or (set xs j (get_or xs (length xs - 1) d)) q n ≡ get_or xs (length xs - 1) d = rw e (get_or-set_same xs j (get_or xs (length xs - 1) d) n inside) in
-        let last : length xs - 1 < length xs = omega (arith, below) in
-        (length xs - 1, last, get_or_default xs (length xs - 1) n d last ∙ sym put ∙ sym taken ∙ read)
-    go (inr e) =
-        let kept : get_or (set xs j (get_or xs (length xs - 1) d)) q n ≡ get_or xs q n = get_or-set_other xs j q (get_or xs (length xs - 1) d) n e in
-        let low : q < length xs = omega (arith, below) in
-        (q, low, sym kept ∙ sym taken ∙ read)
-
--- the same, of one that is not the one taken out
+-- one that is not the one taken out is still there
 pub Contains-swap_remove : (xs : List ℕ) (j d n m : ℕ) → At xs j n → m ≢ n → Contains xs m → Contains (swap_remove xs j d) m
 Contains-swap_remove xs j d n m at ne (p, here, read) =
     let other : p ≢ j = λ e. ne (At-one xs j m n (rw (← e) here, rw (← e) read) at) in
@@ -147,12 +128,6 @@ swap_remove-from xs j d q n inside (here, read) = go (cases_eq q j)
         let kept : get_or (set xs j (get_or xs (length xs - 1) d)) q n ≡ get_or xs q n = get_or-set_other xs j q (get_or xs (length xs - 1) d) n e in
         let low : q < length xs = omega (arith, below) in
         (q, (low, sym kept ∙ sym taken ∙ read), e, inr (e, refl))
-
--- what stands once is gone when it is taken out
-pub swap_remove-gone : (xs : List ℕ) (j d n : ℕ) → At xs j n → ((a b : ℕ) → At xs a n → At xs b n → a ≡ b) → Contains (swap_remove xs j d) n → ⊥
-swap_remove-gone xs j d n at once (q, here, read) =
-    let r = swap_remove-from xs j d q n at.0 (here, read) in
-    r.2 (once r.0 j r.1 at)
 
 -- what stands once still does
 pub swap_remove-once : (xs : List ℕ) (j d n : ℕ) → j < length xs → ((a b : ℕ) → At xs a n → At xs b n → a ≡ b) → (a b : ℕ) → At (swap_remove xs j d) a n → At (swap_remove xs j d) b n → a ≡ b

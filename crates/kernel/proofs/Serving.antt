@@ -1,13 +1,14 @@
 -- The steps of a walk over the clauses that watch a literal.
 use Rattle.std.proofs.Common.{◌≡◌, ◌≢◌, ℕ, ◌+◌, ◌<◌, ◌≤◌, Bool, true, false, List, [], ◌∷◌, ◌++◌, length, get_or, set, Option, refl, sym, subst, ◌∙◌, ◌⊎◌, inl, inr, arith}
-use Rattle.std.specs.List.{Contains, swap_remove}
+use Rattle.std.specs.List.{Contains}
 use Rattle.std.proofs.lemmas.Bool.{cases_eq}
 use Rattle.theory.specs.Literals.{Literal, Clause, same, has, has_both_signs, negated}
 use Rattle.theory.proofs.literals.LiteralLemmas.{same-eq}
-use Rattle.kernel.specs.Watching.{apart, first_true, second_true, other_true, both_signs, Reached, Good, held, waits, reached, spared, At, StandsFrom, Tending, GoodBut, AllGood, list_at, IsListed, IsFound}
+use Rattle.kernel.specs.Watching.{apart, first_true, second_true, other_true, both_signs, Reached, Good, held, waits, reached, spared, At, StandsFrom, Tending, GoodBut, AllGood, list_at, IsListed, IsFound, without_nth}
 use Rattle.kernel.specs.declared.watch.Watched.{Watched}
 use Rattle.kernel.proofs.LiteralFacts.{or_false, has-push, same-negated, negated-negated}
-use Rattle.kernel.proofs.Places.{At-one, At-get, At-set, swap_remove-place}
+use Rattle.kernel.proofs.Places.{At-one, At-get, At-set}
+use Rattle.kernel.proofs.Removing.{without-place}
 
 pub Reached-more : (f g : Option ℕ) (n : ℕ) → ((m : ℕ) → Reached f m → Reached g m) → Reached f n → Reached g n
 Reached-more f g n more h = more n h
@@ -59,18 +60,18 @@ GoodBut-pass K S l P t u ns j n w same_pairs units least here pair good all m v 
     go (inr (s, g)) = step s g (cases_eq s.0 j)
 
 -- the clause at the place j watches another literal now, is good, and left the list
-pub GoodBut-move : (K : List Clause) (S : List Literal) (l : Literal) (P : List Literal) (t u : Tending) (ns : List ℕ) (j n d : ℕ) (w : Watched) → u.pairs ≡ set t.pairs n w → u.units ≡ t.units → u.least ≡ t.least
-    → At ns j n → Good K (S ++ l ∷ []) P t.units t.least w n → GoodBut K S l P t ns j → GoodBut K S l P u (swap_remove ns j d) j
-GoodBut-move K S l P t u ns j n d w pairs units least here good all m v a = rw (units, least) (go (At-set t.pairs n w m v (rw (← pairs) a)))
+pub GoodBut-move : (K : List Clause) (S : List Literal) (l : Literal) (P : List Literal) (t u : Tending) (ns : List ℕ) (j n : ℕ) (w : Watched) → u.pairs ≡ set t.pairs n w → u.units ≡ t.units → u.least ≡ t.least
+    → At ns j n → Good K (S ++ l ∷ []) P t.units t.least w n → GoodBut K S l P t ns j → GoodBut K S l P u (without_nth ns j) j
+GoodBut-move K S l P t u ns j n w pairs units least here good all m v a = rw (units, least) (go (At-set t.pairs n w m v (rw (← pairs) a)))
   where
-    old : (m ≢ n) → Good K (S ++ l ∷ []) P t.units t.least v m ⊎ (StandsFrom j ns m × Good K S P t.units t.least v m) → Good K (S ++ l ∷ []) P t.units t.least v m ⊎ (StandsFrom j (swap_remove ns j d) m × Good K S P t.units t.least v m)
+    old : (m ≢ n) → Good K (S ++ l ∷ []) P t.units t.least v m ⊎ (StandsFrom j ns m × Good K S P t.units t.least v m) → Good K (S ++ l ∷ []) P t.units t.least v m ⊎ (StandsFrom j (without_nth ns j) m × Good K S P t.units t.least v m)
     old ne (inl g) = inl g
     old ne (inr (s, g)) =
         let other : s.0 ≢ j = λ e. ne (At-one ns j m n ((let b : j < length ns = omega (arith, s.2, e) in b), rw (← e) s.3) here) in
-        let q = swap_remove-place ns j d s.0 m here.0 s.2 other s.3 in
+        let q = without-place ns j s.0 m here.0 s.2 other s.3 in
         inr ((q.0, q.3 s.1, q.1, q.2), g)
 
-    go : ((m ≡ n) × (v ≡ w)) ⊎ ((m ≢ n) × At t.pairs m v) → Good K (S ++ l ∷ []) P t.units t.least v m ⊎ (StandsFrom j (swap_remove ns j d) m × Good K S P t.units t.least v m)
+    go : ((m ≡ n) × (v ≡ w)) ⊎ ((m ≢ n) × At t.pairs m v) → Good K (S ++ l ∷ []) P t.units t.least v m ⊎ (StandsFrom j (without_nth ns j) m × Good K S P t.units t.least v m)
     go (inl (e, f)) = inl (rw (e, f) good)
     go (inr (ne, b)) = old ne (all m v b)
 

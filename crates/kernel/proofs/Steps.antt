@@ -3,16 +3,17 @@ use Rattle.std.proofs.Common.{◌≡◌, ◌≢◌, ℕ, ◌<◌, ◌≤◌, Boo
 use Rattle.std.proofs.lemmas.Bool.{cases_lt}
 use Rattle.std.proofs.lemmas.List.{length-set, get_or-set_same, get_or-set_other}
 use Rattle.std.proofs.lemmas.List.Elements.{Contains-append_left, Contains-push, Contains-push_cases}
-use Rattle.std.specs.List.{Contains, swap_remove}
+use Rattle.std.specs.List.{Contains}
 use Rattle.theory.specs.Literals.{Literal, Clause, same, has, has_both_signs, negated}
 use Rattle.theory.specs.Status.{is_false}
 use Rattle.theory.specs.Trails.{Trail, literals, current_level, up_to}
 use Rattle.theory.proofs.literals.LiteralLemmas.{true_or_false, same-eq, same-refl}
 use Rattle.cnf.specs.Lits.{code}
-use Rattle.kernel.specs.Watching.{IsConsistent, IsPair, IsWatched, apart, first_true, second_true, other_true, both_signs, Reached, Good, held, waits, reached, spared, At, Tending, list_at, IsExact, Includes, Tends, IsBeside, lesser, WasUnit, moved, IsFull}
+use Rattle.kernel.specs.Watching.{IsConsistent, IsPair, IsWatched, apart, first_true, second_true, other_true, both_signs, Reached, Good, held, waits, reached, spared, At, Tending, list_at, IsExact, Includes, Tends, IsBeside, lesser, WasUnit, moved, IsFull, without_nth}
 use Rattle.kernel.specs.declared.watch.Watched.{Watched}
 use Rattle.kernel.proofs.LiteralFacts.{true_false, all-member, same-sym, same-sym-false}
-use Rattle.kernel.proofs.Places.{At-one, At-get, At-set, code-one, Contains-of_swap_remove, Contains-swap_remove, At-push, swap_remove-gone, swap_remove-once}
+use Rattle.kernel.proofs.Places.{At-one, At-get, At-set, code-one, At-push}
+use Rattle.kernel.proofs.Removing.{Contains-of_without, Contains-without, without-gone, without-once}
 use Rattle.kernel.proofs.TrailFacts.{Includes-take}
 
 pub not-in : (P Q : List Literal) (k : Literal) → Includes P Q → has P k ≡ false → has Q k ≡ false
@@ -146,70 +147,70 @@ pub code-apart : (k l : Literal) → same k l ≡ false → code k ≡ code l �
 code-apart k l d e = true_false (same k l) (subst (λ (x : Literal). same k x ≡ true) (code-one k l e) (same-refl k)) d
 
 -- the list of a literal, once a clause moved
-pub list-moved_from : (lists : List (List ℕ)) (g z : Literal) (n j d : ℕ) → code g < length lists → list_at (moved lists g z n j d) g ≡ swap_remove (list_at lists g) j d
-list-moved_from lists g z n j d h =
+pub list-moved_from : (lists : List (List ℕ)) (g z : Literal) (n j : ℕ) → code g < length lists → list_at (moved lists g z n j) g ≡ without_nth (list_at lists g) j
+list-moved_from lists g z n j h =
     let inside : code g < length (set lists (code z) (list_at lists z ++ n ∷ [])) = omega (arith, h, length-set lists (code z) (list_at lists z ++ n ∷ [])) in
-    get_or-set_same (set lists (code z) (list_at lists z ++ n ∷ [])) (code g) (swap_remove (list_at lists g) j d) [] inside
+    get_or-set_same (set lists (code z) (list_at lists z ++ n ∷ [])) (code g) (without_nth (list_at lists g) j) [] inside
 
-list-moved_to : (lists : List (List ℕ)) (g z : Literal) (n j d : ℕ) → code z < length lists → same z g ≡ false → list_at (moved lists g z n j d) z ≡ list_at lists z ++ n ∷ []
-list-moved_to lists g z n j d h ne =
-    get_or-set_other (set lists (code z) (list_at lists z ++ n ∷ [])) (code g) (code z) (swap_remove (list_at lists g) j d) [] (code-apart z g ne)
+list-moved_to : (lists : List (List ℕ)) (g z : Literal) (n j : ℕ) → code z < length lists → same z g ≡ false → list_at (moved lists g z n j) z ≡ list_at lists z ++ n ∷ []
+list-moved_to lists g z n j h ne =
+    get_or-set_other (set lists (code z) (list_at lists z ++ n ∷ [])) (code g) (code z) (without_nth (list_at lists g) j) [] (code-apart z g ne)
     ∙ get_or-set_same lists (code z) (list_at lists z ++ n ∷ []) [] h
 
-list-moved_other : (lists : List (List ℕ)) (g z x : Literal) (n j d : ℕ) → same x z ≡ false → same x g ≡ false → list_at (moved lists g z n j d) x ≡ list_at lists x
-list-moved_other lists g z x n j d nz ng =
-    get_or-set_other (set lists (code z) (list_at lists z ++ n ∷ [])) (code g) (code x) (swap_remove (list_at lists g) j d) [] (code-apart x g ng)
+list-moved_other : (lists : List (List ℕ)) (g z x : Literal) (n j : ℕ) → same x z ≡ false → same x g ≡ false → list_at (moved lists g z n j) x ≡ list_at lists x
+list-moved_other lists g z x n j nz ng =
+    get_or-set_other (set lists (code z) (list_at lists z ++ n ∷ [])) (code g) (code x) (without_nth (list_at lists g) j) [] (code-apart x g ng)
     ∙ get_or-set_other lists (code z) (code x) (list_at lists z ++ n ∷ []) [] (code-apart x z nz)
 
 -- another clause stays where it was
-moved-other : (lists : List (List ℕ)) (g z x : Literal) (n j d m : ℕ) → code g < length lists → code z < length lists → same z g ≡ false → At (list_at lists g) j n → m ≢ n → Contains (list_at lists x) m → Contains (list_at (moved lists g z n j d) x) m
-moved-other lists g z x n j d m hg hz ne at other h = go (same x g) (same x z) refl refl
+moved-other : (lists : List (List ℕ)) (g z x : Literal) (n j m : ℕ) → code g < length lists → code z < length lists → same z g ≡ false → At (list_at lists g) j n → m ≢ n → Contains (list_at lists x) m → Contains (list_at (moved lists g z n j) x) m
+moved-other lists g z x n j m hg hz ne at other h = go (same x g) (same x z) refl refl
   where
-    go : (a b : Bool) → same x g ≡ a → same x z ≡ b → Contains (list_at (moved lists g z n j d) x) m
+    go : (a b : Bool) → same x g ≡ a → same x z ≡ b → Contains (list_at (moved lists g z n j) x) m
     go true b e f =
         let e' : x ≡ g = same-eq x g e in
         let there : Contains (list_at lists g) m = subst (λ (y : Literal). Contains (list_at lists y) m) e' h in
-        subst (λ (y : Literal). Contains (list_at (moved lists g z n j d) y) m) (sym e')
-        (subst (λ (ns : List ℕ). Contains ns m) (sym (list-moved_from lists g z n j d hg)) (Contains-swap_remove (list_at lists g) j d n m at other there))
+        subst (λ (y : Literal). Contains (list_at (moved lists g z n j) y) m) (sym e')
+        (subst (λ (ns : List ℕ). Contains ns m) (sym (list-moved_from lists g z n j hg)) (Contains-without (list_at lists g) j n m at other there))
     go false true e f =
         let f' : x ≡ z = same-eq x z f in
         let there : Contains (list_at lists z) m = subst (λ (y : Literal). Contains (list_at lists y) m) f' h in
-        subst (λ (y : Literal). Contains (list_at (moved lists g z n j d) y) m) (sym f')
-        (subst (λ (ns : List ℕ). Contains ns m) (sym (list-moved_to lists g z n j d hz ne)) (Contains-append_left (list_at lists z) (n ∷ []) m there))
-    go false false e f = subst (λ (ns : List ℕ). Contains ns m) (sym (list-moved_other lists g z x n j d f e)) h
+        subst (λ (y : Literal). Contains (list_at (moved lists g z n j) y) m) (sym f')
+        (subst (λ (ns : List ℕ). Contains ns m) (sym (list-moved_to lists g z n j hz ne)) (Contains-append_left (list_at lists z) (n ∷ []) m there))
+    go false false e f = subst (λ (ns : List ℕ). Contains ns m) (sym (list-moved_other lists g z x n j f e)) h
 
 abbrev pub both : Literal → Literal → Watched
 both k z = record { first = k; second = z }
 
 -- where a clause stood before another one moved
-stood : (lists : List (List ℕ)) (g z : Literal) (n j d : ℕ) → code g < length lists → code z < length lists → same z g ≡ false → At (list_at lists g) j n → ((a b : ℕ) → At (list_at lists g) a n → At (list_at lists g) b n → a ≡ b)
-    → (l : Literal) (m : ℕ) → Contains (list_at (moved lists g z n j d) l) m → (Contains (list_at lists l) m × (l ≡ g → m ≢ n)) ⊎ ((l ≡ z) × (m ≡ n))
-stood lists g z n j d hg hz ne at once l m c = go (same l g) (same l z) refl refl
+stood : (lists : List (List ℕ)) (g z : Literal) (n j : ℕ) → code g < length lists → code z < length lists → same z g ≡ false → At (list_at lists g) j n → ((a b : ℕ) → At (list_at lists g) a n → At (list_at lists g) b n → a ≡ b)
+    → (l : Literal) (m : ℕ) → Contains (list_at (moved lists g z n j) l) m → (Contains (list_at lists l) m × (l ≡ g → m ≢ n)) ⊎ ((l ≡ z) × (m ≡ n))
+stood lists g z n j hg hz ne at once l m c = go (same l g) (same l z) refl refl
   where
     pushed : Contains (list_at lists z) m ⊎ (n ≡ m) → (Contains (list_at lists z) m × (z ≡ g → m ≢ n)) ⊎ ((z ≡ z) × (m ≡ n))
     pushed (inl x) = inl (x, λ f. absurd (true_false (same z g) (rw f (same-refl g)) ne))
     pushed (inr x) = inr (refl, sym x)
 
-    of_g : Contains (list_at (moved lists g z n j d) g) m → (Contains (list_at lists g) m × (g ≡ g → m ≢ n)) ⊎ ((g ≡ z) × (m ≡ n))
+    of_g : Contains (list_at (moved lists g z n j) g) m → (Contains (list_at lists g) m × (g ≡ g → m ≢ n)) ⊎ ((g ≡ z) × (m ≡ n))
     of_g h =
-        let there : Contains (swap_remove (list_at lists g) j d) m = subst (λ (ns : List ℕ). Contains ns m) (list-moved_from lists g z n j d hg) h in
-        inl (Contains-of_swap_remove (list_at lists g) j d m at.0 there, λ _ e. swap_remove-gone (list_at lists g) j d n at once (subst (λ x. Contains (swap_remove (list_at lists g) j d) x) e there))
+        let there : Contains (without_nth (list_at lists g) j) m = subst (λ (ns : List ℕ). Contains ns m) (list-moved_from lists g z n j hg) h in
+        inl (Contains-of_without (list_at lists g) j m at.0 there, λ _ e. without-gone (list_at lists g) j n at once (subst (λ x. Contains (without_nth (list_at lists g) j) x) e there))
 
     go : (a b : Bool) → same l g ≡ a → same l z ≡ b → (Contains (list_at lists l) m × (l ≡ g → m ≢ n)) ⊎ ((l ≡ z) × (m ≡ n))
     go true b e f =
         subst (λ (x : Literal). (Contains (list_at lists x) m × (x ≡ g → m ≢ n)) ⊎ ((x ≡ z) × (m ≡ n))) (sym (same-eq l g e))
-        (of_g (subst (λ (x : Literal). Contains (list_at (moved lists g z n j d) x) m) (same-eq l g e) c))
+        (of_g (subst (λ (x : Literal). Contains (list_at (moved lists g z n j) x) m) (same-eq l g e) c))
     go false true e f =
         subst (λ (x : Literal). (Contains (list_at lists x) m × (x ≡ g → m ≢ n)) ⊎ ((x ≡ z) × (m ≡ n))) (sym (same-eq l z f))
-        (pushed (Contains-push_cases (list_at lists z) n m (subst (λ (ns : List ℕ). Contains ns m) (list-moved_to lists g z n j d hz ne)
-        (subst (λ (x : Literal). Contains (list_at (moved lists g z n j d) x) m) (same-eq l z f) c))))
-    go false false e f = inl (subst (λ (ns : List ℕ). Contains ns m) (list-moved_other lists g z l n j d f e) c, λ h. absurd (true_false (same l g) (rw h (same-refl g)) e))
+        (pushed (Contains-push_cases (list_at lists z) n m (subst (λ (ns : List ℕ). Contains ns m) (list-moved_to lists g z n j hz ne)
+        (subst (λ (x : Literal). Contains (list_at (moved lists g z n j) x) m) (same-eq l z f) c))))
+    go false false e f = inl (subst (λ (ns : List ℕ). Contains ns m) (list-moved_other lists g z l n j f e) c, λ h. absurd (true_false (same l g) (rw h (same-refl g)) e))
 
 -- the lists stay exact where a clause moves
-pub moved-exact : (pairs : List Watched) (lists : List (List ℕ)) (g k z : Literal) (w : Watched) (n j d : ℕ) → code g < length lists → code z < length lists → same z g ≡ false → same k z ≡ false
-    → At (list_at lists g) j n → At pairs n w → IsBeside w g k → IsExact pairs lists → IsExact (set pairs n (both k z)) (moved lists g z n j d)
-moved-exact pairs lists g k z w n j d hg hz z_g k_z at pair beside x = record {
-  exact = λ l m v c a. exact l m v (stood lists g z n j d hg hz z_g at (λ a b. x.once g n a b) l m c) (At-set pairs n (both k z) m v a);
+pub moved-exact : (pairs : List Watched) (lists : List (List ℕ)) (g k z : Literal) (w : Watched) (n j : ℕ) → code g < length lists → code z < length lists → same z g ≡ false → same k z ≡ false
+    → At (list_at lists g) j n → At pairs n w → IsBeside w g k → IsExact pairs lists → IsExact (set pairs n (both k z)) (moved lists g z n j)
+moved-exact pairs lists g k z w n j hg hz z_g k_z at pair beside x = record {
+  exact = λ l m v c a. exact l m v (stood lists g z n j hg hz z_g at (λ a b. x.once g n a b) l m c) (At-set pairs n (both k z) m v a);
   once = λ l m a b p q. once l m a b p q (same l g) (same l z) refl refl;
 }
   where
@@ -239,12 +240,12 @@ moved-exact pairs lists g k z w n j d hg hz z_g k_z at pair beside x = record {
     exact l m v (inr (e, f)) (inl (g, h)) = inr (ap (λ (y : Watched). y.second) h ∙ sym e)
     exact l m v (inr (e, f)) (inr (ne, b)) = absurd (ne f)
 
-    once : (l : Literal) (m a b : ℕ) → At (list_at (moved lists g z n j d) l) a m → At (list_at (moved lists g z n j d) l) b m → (s t : Bool) → same l g ≡ s → same l z ≡ t → a ≡ b
+    once : (l : Literal) (m a b : ℕ) → At (list_at (moved lists g z n j) l) a m → At (list_at (moved lists g z n j) l) b m → (s t : Bool) → same l g ≡ s → same l z ≡ t → a ≡ b
     once l m a b p q true t e f =
-        let here : list_at (moved lists g z n j d) l ≡ swap_remove (list_at lists g) j d = ap (list_at (moved lists g z n j d)) (same-eq l g e) ∙ list-moved_from lists g z n j d hg in
-        swap_remove-once (list_at lists g) j d m at.0 (λ i k. x.once g m i k) a b (subst (λ (ns : List ℕ). At ns a m) here p) (subst (λ (ns : List ℕ). At ns b m) here q)
+        let here : list_at (moved lists g z n j) l ≡ without_nth (list_at lists g) j = ap (list_at (moved lists g z n j)) (same-eq l g e) ∙ list-moved_from lists g z n j hg in
+        without-once (list_at lists g) j m at.0 (λ i k. x.once g m i k) a b (subst (λ (ns : List ℕ). At ns a m) here p) (subst (λ (ns : List ℕ). At ns b m) here q)
     once l m a b p q false true e f =
-        let here : list_at (moved lists g z n j d) l ≡ list_at lists z ++ n ∷ [] = ap (list_at (moved lists g z n j d)) (same-eq l z f) ∙ list-moved_to lists g z n j d hz z_g in
+        let here : list_at (moved lists g z n j) l ≡ list_at lists z ++ n ∷ [] = ap (list_at (moved lists g z n j)) (same-eq l z f) ∙ list-moved_to lists g z n j hz z_g in
         both_places (At-push (list_at lists z) n a m (subst (λ (ns : List ℕ). At ns a m) here p)) (At-push (list_at lists z) n b m (subst (λ (ns : List ℕ). At ns b m) here q))
       where
         both_places : At (list_at lists z) a m ⊎ ((a ≡ length (list_at lists z)) × (m ≡ n)) → At (list_at lists z) b m ⊎ ((b ≡ length (list_at lists z)) × (m ≡ n)) → a ≡ b
@@ -253,24 +254,24 @@ moved-exact pairs lists g k z w n j d hg hz z_g k_z at pair beside x = record {
         both_places (inr (e, i)) (inl c) = absurd (z_new (b, c.0, subst (λ y. get_or (list_at lists z) b y ≡ y) i c.1))
         both_places (inr (c, i)) (inr (e, h)) = c ∙ sym e
     once l m a b p q false false e f =
-        let here : list_at (moved lists g z n j d) l ≡ list_at lists l = list-moved_other lists g z l n j d f e in
+        let here : list_at (moved lists g z n j) l ≡ list_at lists l = list-moved_other lists g z l n j f e in
         x.once l m a b (subst (λ (ns : List ℕ). At ns a m) here p) (subst (λ (ns : List ℕ). At ns b m) here q)
 
 -- a clause watches another literal
-pub Tends-move : (floor : ℕ) (K : List Clause) (T : Trail) (t u : Tending) (g k z : Literal) (w : Watched) (c₀ : Clause) (n j d : ℕ)
-    → u.pairs ≡ set t.pairs n (both k z) → u.lists ≡ moved t.lists g z n j d → u.units ≡ t.units → u.least ≡ t.least
+pub Tends-move : (floor : ℕ) (K : List Clause) (T : Trail) (t u : Tending) (g k z : Literal) (w : Watched) (c₀ : Clause) (n j : ℕ)
+    → u.pairs ≡ set t.pairs n (both k z) → u.lists ≡ moved t.lists g z n j → u.units ≡ t.units → u.least ≡ t.least
     → IsConsistent (literals T) → ((m : ℕ) → m < current_level T → Includes (literals T) (literals (up_to T m)))
     → At K n c₀ → At t.pairs n w → At (list_at t.lists g) j n → code g < length t.lists → code z < length t.lists
     → IsBeside w g k → has c₀ z ≡ true → same z k ≡ false → has (literals T) (negated g) ≡ true → has (literals T) (negated z) ≡ false
     → Tends floor K T t → Tends floor K T u
-Tends-move floor K T t u g k z w c₀ n j d pairs lists units least ok cuts at_c at_w at_n hg hz beside z_in z_k gone free s = record {
+Tends-move floor K T t u g k z w c₀ n j pairs lists units least ok cuts at_c at_w at_n hg hz beside z_in z_k gone free s = record {
   listed = record {
     length_pairs = rw pairs (length-set t.pairs n (both k z) ∙ s.listed.length_pairs);
     pairs = λ m c v a b ne. pair m c v a (At-set t.pairs n (both k z) m v (rw (← pairs) b)) ne;
     listed = λ m c v a b ne one. rw lists (stands m c v a (At-set t.pairs n (both k z) m v (rw (← pairs) b)) ne one);
     within = λ i ns m a b. inside i ns m (rw (← lists) a) b;
   };
-  exact = rw (pairs, lists) (moved-exact t.pairs t.lists g k z w n j d hg hz z_g k_z at_n at_w beside s.exact);
+  exact = rw (pairs, lists) (moved-exact t.pairs t.lists g k z w n j hg hz z_g k_z at_n at_w beside s.exact);
   found = record {
     units = λ m h. s.found.units m (rw (← units) h);
     least = λ m e. s.found.least m (sym least ∙ e);
@@ -335,19 +336,19 @@ Tends-move floor K T t u g k z w c₀ n j d pairs lists units least ok cuts at_c
         rw f (rw (← one) (record { first_in = k_in; second_in = z_in; single = λ h. absurd (true_false (same k z) h k_z) }))
     pair m c v a (inr (o, b)) ne = s.listed.pairs m c v a b ne
 
-    stands : (m : ℕ) (c : Clause) (v : Watched) → At K m c → ((m ≡ n) × (v ≡ both k z)) ⊎ ((m ≢ n) × At t.pairs m v) → (c ≡ [] → ⊥) → has_both_signs c ≡ false → Contains (list_at (moved t.lists g z n j d) v.first) m × Contains (list_at (moved t.lists g z n j d) v.second) m
+    stands : (m : ℕ) (c : Clause) (v : Watched) → At K m c → ((m ≡ n) × (v ≡ both k z)) ⊎ ((m ≢ n) × At t.pairs m v) → (c ≡ [] → ⊥) → has_both_signs c ≡ false → Contains (list_at (moved t.lists g z n j) v.first) m × Contains (list_at (moved t.lists g z n j) v.second) m
     stands m c v a (inl (e, f)) ne one =
         let its : has_both_signs c₀ ≡ false = subst (λ (x : Clause). has_both_signs x ≡ false) (At-one K n c c₀ (rw (← e) a) at_c) one in
         rw (e, f) (
-          subst (λ (ns : List ℕ). Contains ns n) (sym (list-moved_other t.lists g z k n j d k_z k_g)) (k_listed its),
-          subst (λ (ns : List ℕ). Contains ns n) (sym (list-moved_to t.lists g z n j d hz z_g)) (Contains-push (list_at t.lists z) n),
+          subst (λ (ns : List ℕ). Contains ns n) (sym (list-moved_other t.lists g z k n j k_z k_g)) (k_listed its),
+          subst (λ (ns : List ℕ). Contains ns n) (sym (list-moved_to t.lists g z n j hz z_g)) (Contains-push (list_at t.lists z) n),
         )
     stands m c v a (inr (o, b)) ne one =
         let h = s.listed.listed m c v a b ne one in
-        (moved-other t.lists g z v.first n j d m hg hz z_g at_n o h.0, moved-other t.lists g z v.second n j d m hg hz z_g at_n o h.1)
+        (moved-other t.lists g z v.first n j m hg hz z_g at_n o h.0, moved-other t.lists g z v.second n j m hg hz z_g at_n o h.1)
 
-    inside : (i : ℕ) (ns : List ℕ) (m : ℕ) → At (moved t.lists g z n j d) i ns → Contains ns m → IsFull K m
-    inside i ns m a b = outer (At-set (set t.lists (code z) (list_at t.lists z ++ n ∷ [])) (code g) (swap_remove (list_at t.lists g) j d) i ns a)
+    inside : (i : ℕ) (ns : List ℕ) (m : ℕ) → At (moved t.lists g z n j) i ns → Contains ns m → IsFull K m
+    inside i ns m a b = outer (At-set (set t.lists (code z) (list_at t.lists z ++ n ∷ [])) (code g) (without_nth (list_at t.lists g) j) i ns a)
       where
         at_g : At t.lists (code g) (list_at t.lists g)
         at_g = At-get t.lists (code g) [] hg
@@ -366,8 +367,8 @@ Tends-move floor K T t u g k z w c₀ n j d pairs lists units least ok cuts at_c
         inner (inl (e, f)) = pushed (subst (λ (xs : List ℕ). Contains xs m) f b)
         inner (inr (e, x)) = s.listed.within i ns m x b
 
-        outer : ((i ≡ code g) × (ns ≡ swap_remove (list_at t.lists g) j d)) ⊎ ((i ≢ code g) × At (set t.lists (code z) (list_at t.lists z ++ n ∷ [])) i ns) → IsFull K m
-        outer (inl (e, f)) = s.listed.within (code g) (list_at t.lists g) m at_g (Contains-of_swap_remove (list_at t.lists g) j d m at_n.0 (subst (λ (xs : List ℕ). Contains xs m) f b))
+        outer : ((i ≡ code g) × (ns ≡ without_nth (list_at t.lists g) j)) ⊎ ((i ≢ code g) × At (set t.lists (code z) (list_at t.lists z ++ n ∷ [])) i ns) → IsFull K m
+        outer (inl (e, f)) = s.listed.within (code g) (list_at t.lists g) m at_g (Contains-of_without (list_at t.lists g) j m at_n.0 (subst (λ (xs : List ℕ). Contains xs m) f b))
         outer (inr (e, x)) = inner (At-set t.lists (code z) (list_at t.lists z ++ n ∷ []) i ns x)
 
     before : (m : ℕ) → m < current_level T → (i : ℕ) (c : Clause) (v : Watched) → At K i c → ((i ≡ n) × (v ≡ both k z)) ⊎ ((i ≢ n) × At t.pairs i v) → (c ≡ [] → ⊥) × IsWatched K i (literals (take floor (up_to T m))) (literals (up_to T m)) v

@@ -1,23 +1,23 @@
 -- One turn of the loop that visits the entries of a list.
-use Rattle.std.proofs.Common.{◌≡◌, ◌≢◌, ℕ, suc, zero, ◌+◌, ◌-◌, ◌*◌, ◌<◌, ◌≤◌, true, false, List, [], ◌∷◌, ◌++◌, length, get_or, set, take, map, Some, None, refl, ap, sym, subst, ◌∙◌, ◌⊎◌, inl, inr, arith, All}
+use Rattle.std.proofs.Common.{◌≡◌, ◌≢◌, ℕ, suc, zero, ◌+◌, ◌*◌, ◌<◌, ◌≤◌, true, false, List, [], ◌∷◌, ◌++◌, length, get_or, set, take, drop, map, Some, None, refl, ap, sym, subst, ◌∙◌, ◌⊎◌, inl, inr, arith, All, drop-cons, drop_of_length-le, drop-set-lt, take-suc-set, append-nil, append_assoc}
 use Rattle.theory.specs.Truth.{IsOver}
 use Rattle.kernel.proofs.Visits.{code-within, over-var}
-use Rattle.std.proofs.lemmas.List.{map-set, map-append, length-map, length-set, get_or-set_same, get_or-set_other, get_or-take, take-map, length-take-le, get_or_default}
+use Rattle.std.proofs.lemmas.List.{map-set, map-append, length-map, length-set, get_or-set_same, get_or-set_other, get_or-take, length-take-le, set-get_or, set_at}
 use Rattle.std.proofs.Math.Seq.{map-set_same, take-set-lt}
 use Rattle.std.proofs.Math.ListN.{get_or-map}
 use Rattle.std.proofs.lemmas.Bool.{cases_eq}
-use Rattle.std.specs.List.{swap_remove}
 use Rattle.theory.specs.Literals.{Literal, Clause, same, has, negated}
 use Rattle.theory.specs.Trails.{Trail, literals}
 use Rattle.theory.proofs.literals.LiteralLemmas.{same-eq, same-refl, true_or_false}
 use Rattle.kernel.specs.declared.watch.Watched.{Watched}
 use Rattle.kernel.specs.declared.watch.Watch.{Watch}
 use Rattle.cnf.specs.Lits.{code}
-use Rattle.kernel.specs.Watching.{At, IsConsistent, IsBeside, IsFull, lesser, list_at, moved, Walks, IsNext, Tending, held, other_true, reached, Reached}
+use Rattle.kernel.specs.Watching.{At, IsConsistent, IsBeside, IsFull, lesser, list_at, moved, Walks, IsNext, Tending, held, other_true, reached, Reached, without_nth}
 use Rattle.kernel.specs.Visiting.{WatchLists, places, entries_at, tending, with_list, IsEntry, AreEntriesOf, AreEntries, Replaces, CanVisit, IsStay, IsVisit, satisfied, behind, unit, needless, clashes, moves}
 use Rattle.kernel.proofs.LiteralFacts.{true_false}
 use Rattle.kernel.proofs.LastLiterals.{all-false-but, all-false}
-use Rattle.kernel.proofs.Places.{At-one, At-get, At-set, At-push, code-one}
+use Rattle.kernel.proofs.Places.{At-one, At-get, At-set, At-push, At-behind, code-one}
+use Rattle.kernel.proofs.Removing.{without-first-behind, map-without, without-from}
 use Rattle.kernel.proofs.Steps.{both, Good-spared}
 use Rattle.kernel.proofs.Walking.{Visits, Walks-good, Walks-unit, Walks-false, Walks-move, gone-true}
 
@@ -33,75 +33,6 @@ set-over (x ∷ xs) (suc i) zero a b c ne = ap (λ ys. b ∷ ys) (set-set xs i a
     set-set (x ∷ xs) zero a c = refl
     set-set (x ∷ xs) (suc i) a c = ap (λ ys. x ∷ ys) (set-set xs i a c)
 set-over (x ∷ xs) (suc i) (suc j) a b c ne = ap (λ ys. x ∷ ys) (set-over xs i j a b c (λ e. ne (ap suc e)))
-
-take-take : {X : Type 0} (xs : List X) (m : ℕ) → take m (take (suc m) xs) ≡ take m xs
-take-take [] zero = refl
-take-take [] (suc m) = refl
-take-take (x ∷ xs) zero = refl
-take-take (x ∷ xs) (suc m) = ap (λ ys. x ∷ ys) (take-take xs m)
-
--- a write into a front, of which less is looked at
-take-set-take : {X : Type 0} (xs : List X) (m i : ℕ) (v : X) → take m (set (take (suc m) xs) i v) ≡ take m (set xs i v)
-take-set-take [] m i v = refl
-take-set-take (x ∷ xs) zero zero v = refl
-take-set-take (x ∷ xs) zero (suc i) v = refl
-take-set-take (x ∷ xs) (suc m) zero v = ap (λ ys. v ∷ ys) (take-take xs m)
-take-set-take (x ∷ xs) (suc m) (suc i) v = ap (λ ys. x ∷ ys) (take-set-take xs m i v)
-
--- the entries once the one at the place j left, and the last of the first m + 1 took its place
-abbrev pub left : List Watch → ℕ → ℕ → Watch → List Watch
-left ws m j d = take m (set ws j (get_or ws m d))
-
--- their places
-left-places : (ws : List Watch) (m j n : ℕ) (d : Watch) → m < length ws → places (take m (set ws j (get_or ws m d))) ≡ swap_remove (places (take (m + 1) ws)) j n
-left-places ws m j n d h =
-    sym (take-map (λ (e : Watch). e.clause) m (set ws j (get_or ws m d)))
-    ∙ ap (take m) (map-set (λ (e : Watch). e.clause) ws j (get_or ws m d))
-    ∙ sym (take-set-take (places ws) m j (get_or ws m d).clause)
-    ∙ ap (λ k. take m (set (take k (places ws)) j (get_or ws m d).clause)) one
-    ∙ (λ i. take (size i) (set (front i) j (last i)))
-  where
-    one : suc m ≡ m + 1
-    one = omega arith
-
-    front : take (m + 1) (places ws) ≡ places (take (m + 1) ws)
-    front = take-map (λ (e : Watch). e.clause) (m + 1) ws
-
-    long : length (places (take (m + 1) ws)) ≡ m + 1
-    long = length-map (take (m + 1) ws) (λ (e : Watch). e.clause) ∙ length-take-le (m + 1) ws (omega (arith, h))
-
-    size : m ≡ length (places (take (m + 1) ws)) - 1
-    size = omega (arith, long)
-
-    last : (get_or ws m d).clause ≡ get_or (places (take (m + 1) ws)) (length (places (take (m + 1) ws)) - 1) n
-    last =
-        sym (get_or-map (λ (e : Watch). e.clause) ws m d)
-        ∙ get_or_default (places ws) m d.clause n (subst (λ k. m < k) (sym (length-map ws (λ (e : Watch). e.clause))) h)
-        ∙ sym (get_or-take (m + 1) (places ws) m n (omega arith))
-        ∙ (λ i. get_or (front i) (size i) n)
-
--- each of them was there
-left-was : (ws : List Watch) (m j q : ℕ) (d x : Watch) → m < length ws → At (take m (set ws j (get_or ws m d))) q x → (p : ℕ) × At (take (m + 1) ws) p x
-left-was ws m j q d x h a = go (At-set ws j (get_or ws m d) q x inner)
-  where
-    size : length (take m (set ws j (get_or ws m d))) ≡ m
-    size = length-take-le m (set ws j (get_or ws m d)) (omega (arith, h, length-set ws j (get_or ws m d)))
-
-    below : q < m
-    below = omega (arith, size, a.0)
-
-    inner : At (set ws j (get_or ws m d)) q x
-    inner = (omega (arith, below, h, length-set ws j (get_or ws m d)), sym (get_or-take m (set ws j (get_or ws m d)) q x below) ∙ a.1)
-
-    long : length (take (m + 1) ws) ≡ m + 1
-    long = length-take-le (m + 1) ws (omega (arith, h))
-
-    front : (p : ℕ) → p ≤ m → At ws p x → At (take (m + 1) ws) p x
-    front p l b = (omega (arith, long, l), get_or-take (m + 1) ws p x (omega (arith, l)) ∙ b.1)
-
-    go : ((q ≡ j) × (x ≡ get_or ws m d)) ⊎ ((q ≢ j) × At ws q x) → (p : ℕ) × At (take (m + 1) ws) p x
-    go (inl (e, f)) = (m, front m (omega arith) (h, get_or_default ws m x d h ∙ sym f))
-    go (inr (ne, b)) = (q, front q (omega (arith, below)) b)
 
 pub At-places : (ws : List Watch) (j : ℕ) (e : Watch) → At ws j e → At (places ws) j e.clause
 At-places ws j e a = (subst (λ n. j < n) (sym (length-map ws (λ (x : Watch). x.clause))) a.0, get_or-map (λ (x : Watch). x.clause) ws j e ∙ ap (λ (x : Watch). x.clause) a.1)
@@ -238,7 +169,7 @@ module _ (floor : ℕ) (K : List Clause) (T : Trail) (n : ℕ) (g : Literal) (k 
       go i c w a (inr (_, b)) = r.short i c w a b
 
   module _ (u : WatchLists) (new : List Watch) (ok : IsConsistent (literals T)) (room : (c : Clause) (l : Literal) → At K e.clause c → has c l ≡ true → code l < length k.lists)
-      (was : (p : ℕ) (x : Watch) → At new p x → (q : ℕ) × At ws q x) (gone : places new ≡ swap_remove (places ws) j e.clause) where
+      (was : (p : ℕ) (x : Watch) → At new p x → (q : ℕ) × At ws q x) (gone : places new ≡ without_nth (places ws) j) where
     -- what a move is made of
     record Move (y z : Literal) : Type 0 where
       not_short : e.is_short ≡ false
@@ -269,13 +200,13 @@ module _ (floor : ℕ) (K : List Clause) (T : Trail) (n : ℕ) (g : Literal) (k 
       hz : code z < length k.lists
       hz = room (get_or K e.clause []) z c-at m.replaces.member
 
-      lists-moved : (tending (with_list u g new)).lists ≡ moved (tending (with_list k g ws)).lists g z e.clause j e.clause
+      lists-moved : (tending (with_list u g new)).lists ≡ moved (tending (with_list k g ws)).lists g z e.clause j
       lists-moved =
           ap (λ (ls : List (List Watch)). map places (set ls (code g) new)) m.lists
           ∙ map-set places (set k.lists (code z) (entries_at k.lists z ++ record { clause = e.clause; blocker = y; is_short = false } ∷ [])) (code g) new
           ∙ (λ i. set (inner i) (code g) (gone i))
-          ∙ sym (set-over (map places k.lists) (code g) (code z) (places ws) (places (entries_at k.lists z) ++ e.clause ∷ []) (swap_remove (places ws) j e.clause) (λ f. codes (sym f)))
-          ∙ (λ i. set (set (outer i) (code z) (of_z i ++ e.clause ∷ [])) (code g) (swap_remove (of_g i) j e.clause))
+          ∙ sym (set-over (map places k.lists) (code g) (code z) (places ws) (places (entries_at k.lists z) ++ e.clause ∷ []) (without_nth (places ws) j) (λ f. codes (sym f)))
+          ∙ (λ i. set (set (outer i) (code z) (of_z i ++ e.clause ∷ [])) (code g) (without_nth (of_g i) j))
         where
           outer : set (map places k.lists) (code g) (places ws) ≡ map places (set k.lists (code g) ws)
           outer = sym (map-set places k.lists (code g) ws)
@@ -340,30 +271,65 @@ module _ (floor : ℕ) (K : List Clause) (T : Trail) (n : ℕ) (g : Literal) (k 
     pub turn-moves-entries : IsVisit K (literals T) g e k u None → AreEntries K (with_list u g new)
     turn-moves-entries v = let r = made v in entries-on r.0 r.1 r.2
 
--- what the program reads and writes
-pub written : (list : List Watch) (end place : ℕ) (e d y : Watch) (b : Literal) → place < end → end ≤ length list → e ≡ get_or list place e → y ≡ record (get_or list place d) { blocker = b }
-    → take end (set list place y) ≡ set (take end list) place (record e { blocker = b })
-written list end place e d y b low high read is =
-    take-set-lt end list place y low
-    ∙ (ap (set (take end list) place) is ∙ (λ i. set (take end list) place record { clause = (one i).clause; blocker = b; is_short = (one i).is_short }))
-  where
-    one : get_or list place d ≡ e
-    one = get_or_default list place d e (omega (arith, low, high)) ∙ sym read
+-- the entries of a list of so many that was gone through up to a place: those that stay moved
+-- together in front, and those from the place on stand where they stood
+abbrev pub thinned : List Watch → ℕ → ℕ → ℕ → List Watch
+thinned room kept place len = take kept room ++ drop place (take len room)
 
-pub read-at : (list : List Watch) (end place : ℕ) (e : Watch) → place < end → end ≤ length list → e ≡ get_or list place e → At (take end list) place e
-read-at list end place e low high read = (omega (arith, low, high, length-take-le end list high), get_or-take end list place e low ∙ sym read)
+-- the entry at the place comes behind those that stay
+split-at : (room : List Watch) (kept place len : ℕ) (d : Watch) → place < len → len ≤ length room → thinned room kept place len ≡ take kept room ++ get_or room place d ∷ drop (suc place) (take len room)
+split-at room kept place len d low high =
+    let inside : place < length (take len room) = omega (arith, low, length-take-le len room high) in
+    ap (λ (ws : List Watch). take kept room ++ ws) (drop-cons (take len room) place d inside)
+    ∙ ap (λ (x : Watch). take kept room ++ x ∷ drop (suc place) (take len room)) (get_or-take len room place d low)
 
-pub left-list : (list : List Watch) (end place : ℕ) (x : Watch) → place < end → end ≤ length list → x ≡ get_or list (end - 1) x → take (end - 1) (set list place x) ≡ left list (end - 1) place x
-left-list list end place x low high read = ap (λ (y : Watch). take (end - 1) (set list place y)) read
+front-long : (room : List Watch) (kept place len : ℕ) → kept ≤ place → place < len → len ≤ length room → length (take kept room) ≡ kept
+front-long room kept place len few low high = length-take-le kept room (omega (arith, few, low, high))
 
-pub left-places-at : (list : List Watch) (end place n : ℕ) (x : Watch) → place < end → end ≤ length list → places (left list (end - 1) place x) ≡ swap_remove (places (take end list)) place n
-left-places-at list end place n x low high =
-    left-places list (end - 1) place n x (omega (arith, low, high)) ∙ ap (λ k. swap_remove (places (take k list)) place n) (let z : end - 1 + 1 ≡ end = omega (arith, low) in z)
+pub thinned-begins : (room : List Watch) (len : ℕ) → thinned room 0 0 len ≡ take len room
+thinned-begins room len = refl
 
-pub left-was-at : (list : List Watch) (end place q : ℕ) (x y : Watch) → place < end → end ≤ length list → At (left list (end - 1) place x) q y → (p : ℕ) × At (take end list) p y
-left-was-at list end place q x y low high a =
-    let r = left-was list (end - 1) place q x y (omega (arith, low, high)) a in
-    (r.0, subst (λ k. At (take k list) r.0 y) (let z : end - 1 + 1 ≡ end = omega (arith, low) in z) r.1)
+pub thinned-ends : (room : List Watch) (kept len : ℕ) → len ≤ length room → thinned room kept len len ≡ take kept room
+thinned-ends room kept len high =
+    let size : length (take len room) ≤ len = omega (arith, length-take-le len room high) in
+    ap (λ (ws : List Watch). take kept room ++ ws) (drop_of_length-le (take len room) size) ∙ append-nil (take kept room)
+
+pub read-at : (room : List Watch) (kept place len : ℕ) (e : Watch) → kept ≤ place → place < len → len ≤ length room → e ≡ get_or room place e → At (thinned room kept place len) kept e
+read-at room kept place len e few low high read =
+    subst (λ (ws : List Watch). At ws kept e) (sym (split-at room kept place len e low high ∙ ap (λ (x : Watch). take kept room ++ x ∷ drop (suc place) (take len room)) (sym read)))
+    (At-behind (take kept room) (drop (suc place) (take len room)) e kept (front-long room kept place len few low high))
+
+-- the entry at the place stays, written behind the others that do
+pub kept-one : (room : List Watch) (kept place len : ℕ) (y : Watch) → kept ≤ place → place < len → len ≤ length room → thinned (set room kept y) (kept + 1) (place + 1) len ≡ set (thinned room kept place len) kept y
+kept-one room kept place len y few low high =
+    let inside : kept < length room = omega (arith, few, low, high) in
+    let next : kept + 1 ≡ suc kept = omega arith in
+    let behind : place + 1 ≡ suc place = omega arith in
+    let front : take (kept + 1) (set room kept y) ≡ take kept room ++ y ∷ [] = ap (λ n. take n (set room kept y)) next ∙ take-suc-set room kept y inside in
+    let rest : drop (place + 1) (take len (set room kept y)) ≡ drop (suc place) (take len room) =
+    ap (λ n. drop n (take len (set room kept y))) behind ∙ ap (drop (suc place)) (take-set-lt len room kept y (omega (arith, few, low))) ∙ drop-set-lt (suc place) (take len room) kept y (omega (arith, few)) in
+    (λ i. front i ++ rest i)
+    ∙ append_assoc (take kept room) (y ∷ []) (drop (suc place) (take len room))
+    ∙ sym (set_at (take kept room) (get_or room place y) (drop (suc place) (take len room)) y kept (front-long room kept place len few low high))
+    ∙ ap (λ (ws : List Watch). set ws kept y) (sym (split-at room kept place len y low high))
+
+-- the entry at the place leaves
+pub gone-one : (room : List Watch) (kept place len : ℕ) (d : Watch) → kept ≤ place → place < len → len ≤ length room → thinned room kept (place + 1) len ≡ without_nth (thinned room kept place len) kept
+gone-one room kept place len d few low high =
+    ap (λ n. take kept room ++ drop n (take len room)) (let z : place + 1 ≡ suc place = omega arith in z)
+    ∙ sym (without-first-behind (take kept room) (drop (suc place) (take len room)) (get_or room place d) kept (front-long room kept place len few low high))
+    ∙ ap (λ (ws : List Watch). without_nth ws kept) (sym (split-at room kept place len d low high))
+
+pub gone-places : (ws : List Watch) (j : ℕ) → places (without_nth ws j) ≡ without_nth (places ws) j
+gone-places ws j = map-without (λ (e : Watch). e.clause) ws j
+
+-- an entry written where it stood
+pub written-again : (ws : List Watch) (j : ℕ) (e : Watch) → At ws j e → set ws j e ≡ ws
+written-again ws j e at = ap (set ws j) (sym at.1) ∙ set-get_or ws j e
+
+-- each that is left was there
+pub gone-was : (ws : List Watch) (j p : ℕ) (x : Watch) → j < length ws → At (without_nth ws j) p x → (q : ℕ) × At ws q x
+gone-was ws j p x inside a = let r = without-from ws j p x inside a in (r.0, r.1)
 
 -- the lists' length, as a program has it
 pub code-inside : {V : Type 0} (f : V → List Watch) (vs : List V) (n : ℕ) (g : Literal) (T : Trail) (served : ℕ) → length vs ≡ 2 * n + 2 → IsOver n (literals T) → IsNext T served g → code g < length (map f vs)

@@ -76,13 +76,13 @@ Walks-false floor K T served g k t u j n c w pairs lists units least v all s = r
 
 -- another literal is watched
 pub Walks-move : (floor : ℕ) (K : List Clause) (T : Trail) (served : ℕ) (g k z : Literal) (t u : Tending) (j n : ℕ) (c : Clause) (w : Watched)
-    → u.pairs ≡ set t.pairs n (both k z) → u.lists ≡ moved t.lists g z n j n → u.units ≡ t.units → u.least ≡ t.least
+    → u.pairs ≡ set t.pairs n (both k z) → u.lists ≡ moved t.lists g z n j → u.units ≡ t.units → u.least ≡ t.least
     → IsConsistent (literals T) → code g < length t.lists → code z < length t.lists
     → IsNext T served g → Visits K T g t j n c w → IsBeside w g k → Replaces (literals T) c k z → Walks floor K T served g t j → Walks floor K T served g u j
 Walks-move floor K T served g k z t u j n c w pairs lists units least ok hg hz next v beside r s = record {
-  tends = Tends-move floor K T t u g k z w c n j n pairs lists units least ok (λ m h. Includes-up_to T m) v.clause v.watch v.listed hg hz beside r.member r.apart v.gone r.not_false s.tends;
-  good = subst (λ (ns : List ℕ). GoodBut K (literals (take served T)) (negated g) (literals T) u ns j) (sym (ap (λ (x : List (List ℕ)). list_at x g) lists ∙ list-moved_from t.lists g z n j n hg))
-      (GoodBut-move K (literals (take served T)) (negated g) (literals T) t u (list_at t.lists g) j n n (both k z) pairs units least v.listed (go (s.good n w v.watch)) s.good);
+  tends = Tends-move floor K T t u g k z w c n j pairs lists units least ok (λ m h. Includes-up_to T m) v.clause v.watch v.listed hg hz beside r.member r.apart v.gone r.not_false s.tends;
+  good = subst (λ (ns : List ℕ). GoodBut K (literals (take served T)) (negated g) (literals T) u ns j) (sym (ap (λ (x : List (List ℕ)). list_at x g) lists ∙ list-moved_from t.lists g z n j hg))
+      (GoodBut-move K (literals (take served T)) (negated g) (literals T) t u (list_at t.lists g) j n (both k z) pairs units least v.listed (go (s.good n w v.watch)) s.good);
 }
   where
     k_z : same k z ≡ false

@@ -2,8 +2,8 @@
 -- of it that was served: the clauses that watch the negation of an entry's literal were visited. A
 -- clause is named by its place, from 0. Source: Moskewicz et al., 'Chaff' (DAC 2001); Een and
 -- Sorensson, 'An Extensible SAT-solver' (SAT 2003).
-use Rattle.std.specs.Prelude.{◌≡◌, ℕ, ◌<◌, ◌≤◌, true, false, List, [], ◌∷◌, ◌++◌, length, Option, Some, None, cond, ◌⊎◌, slice_index_or, slice_set, take, min}
-use Rattle.std.specs.List.{list_all, Contains, swap_remove}
+use Rattle.std.specs.Prelude.{◌≡◌, ℕ, zero, suc, ◌<◌, ◌≤◌, true, false, List, [], ◌∷◌, ◌++◌, length, Option, Some, None, cond, ◌⊎◌, slice_index_or, slice_set, take, min}
+use Rattle.std.specs.List.{list_all, Contains}
 use Rattle.theory.specs.Literals.{Literal, Clause, same, has, negated, has_both_signs}
 use Rattle.theory.specs.Status.{is_false, others_false}
 use Rattle.theory.specs.Trails.{Trail, literals, current_level, up_to}
@@ -124,9 +124,15 @@ abbrev pub lesser : Option ℕ → ℕ → ℕ
 lesser None n = n
 lesser (Some m) n = min m n
 
--- the lists once a clause moved from one to another
-abbrev pub moved : List (List ℕ) → Literal → Literal → ℕ → ℕ → ℕ → List (List ℕ)
-moved lists g z n j d = slice_set (slice_set lists (code z) (list_at lists z ++ n ∷ [])) (code g) (swap_remove (list_at lists g) j d)
+-- xs without what stands at a place
+abbrev pub without_nth : {X : Type 0} → List X → ℕ → List X
+without_nth [] j = []
+without_nth (x ∷ xs) zero = xs
+without_nth (x ∷ xs) (suc j) = x ∷ without_nth xs j
+
+-- the lists once the clause at the place j of the list of g moved to that of z
+abbrev pub moved : List (List ℕ) → Literal → Literal → ℕ → ℕ → List (List ℕ)
+moved lists g z n j = slice_set (slice_set lists (code z) (list_at lists z ++ n ∷ [])) (code g) (without_nth (list_at lists g) j)
 
 -- a number more in the list of a literal
 abbrev pub listed_at : List (List ℕ) → Literal → ℕ → List (List ℕ)

@@ -101,6 +101,7 @@ impl Line {
     }
 
     /// Puts a clause in. It fails where a request for memory is refused.
+    #[inline]
     pub fn push(&mut self, waiting: Waiting) -> Result<(), AllocError>
         ensures { OnOk result (IsPermutation (waiting ∷ self.old) self.new) }
     {

@@ -83,10 +83,13 @@ impl PackedWatch {
         }
     }
 
-    /// Writes another blocker.
-    pub fn set_blocker(&mut self, blocker: Lit)
-        ensures { self.new ≡ record self.old { blocker = blocker } }
+    /// The same with another blocker.
+    pub fn with_blocker(self, blocker: Lit) -> PackedWatch
+        ensures { result ≡ record self { blocker = blocker } }
     {
-        self.blocker = blocker;
+        PackedWatch {
+            double: self.double,
+            blocker,
+        }
     }
 }

@@ -1,8 +1,7 @@
 use Rattle.std.proofs.Common.{◌≡◌, ◌∙◌, ◌≤◌, ◌-◌, length, take, set, sym, subst, arith}
 use Rattle.std.proofs.lemmas.List.{take_all, length-set}
 use Rattle.kernel.specs.declared.watch.Watch.{Watch}
-use Rattle.kernel.proofs.Turns.{read-at, left, left-list}
-use Rattle.kernel.proofs.Cutting.{keeping-begins, keeping-drops}
+use Rattle.kernel.proofs.Cutting.{keeping-begins, keeping-drops, front-at, left, left-list}
 use Rattle.kernel.proofs.cut.keep_below.Goals as goal
 
 pub loop-place-init : goal.loop-place-init
@@ -13,7 +12,7 @@ loop-place-init c =
 pub loop-place-preserved : goal.loop-place-preserved
 loop-place-preserved c =
     let i = c.loop-place.invariant in
-    let at = read-at c.loop-place.list c.loop-place.end c.loop-place.place c.index-list-place.result c.loop-place-test.true i.inside c.index-list-place.is in
+    let at = front-at c.loop-place.list c.loop-place.end c.loop-place.place c.index-list-place.result c.loop-place-test.true i.inside c.index-list-place.is in
     let new : take (c.loop-place.end - 1) (set c.loop-place.list c.loop-place.place c.index-list-end.result) ≡ left c.loop-place.list (c.loop-place.end - 1) c.loop-place.place c.index-list-end.result =
     left-list c.loop-place.list c.loop-place.end c.loop-place.place c.index-list-end.result c.loop-place-test.true i.inside c.index-list-end.is in
     let out : c.args.first ≤ c.index-list-place.result.clause = subst (λ (e : Watch). c.args.first ≤ e.clause) (c.watch.ensures.same ∙ sym c.index-list-place.is) c.if-watch-first.false in
