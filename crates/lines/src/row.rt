@@ -1,9 +1,10 @@
 //! A row of lines.
-ghost use Rattle.std.specs.Prelude.{◌≡◌, ◌≤◌, ◌∷◌, ◌++◌, [], ◌↔◌, All, IsTrue, IsNone, length, IfOk, IfSome, OnOk, OnErr};
-ghost use Rattle.lines.specs.Rows.{row, AreWithin, IsWhole};
+ghost use Rattle.std.specs.Prelude.{◌≡◌, ◌≤◌, ◌∷◌, ◌++◌, [], ◌↔◌, All, IsTrue, IsNone, length, drop, IfOk, IfSome, OnOk, OnErr};
+ghost use Rattle.lines.specs.Rows.{row, AreWithin, IsWhole, IsNextOf};
 
 use crate::cursor::Cursor;
 use crate::line::push_line;
+use crate::reader::read_line;
 use crate::scan::Scan;
 use cnf::Lit;
 use std::alloc::{AllocError, Global};
@@ -39,6 +40,16 @@ impl Model for Row {
 
     ghost invariant = { λ a. IsWhole a.bytes.items × (a.count ≡ length (row a.bytes.items).lines)
         × AreWithin a.literals a.hints (row a.bytes.items).lines };
+}
+
+/// Takes so many bytes away from the front. The others move there, in the same memory.
+fn cut_front(bytes: &mut Vec<u8>, count: usize)
+    requires { count ≤ length bytes.old.items }
+    ensures { bytes.new.items ≡ drop count bytes.old.items }
+{
+    let len = bytes.len();
+    bytes.as_mut_slice().copy_within(count..len, 0);
+    bytes.truncate(len - count);
 }
 
 impl Row {
@@ -176,6 +187,26 @@ impl Row {
         }
         let row = Row::of(bytes, scan.lines, scan.most_literals, scan.most_hints);
         Some(row)
+    }
+
+    /// Takes the first line out, into two lists, which are cleared before; it answers whether there
+    /// was one. The others take its place, in the memory that they have. It fails where a request for
+    /// memory is refused: the row is then as it was.
+    pub fn take_first(
+        &mut self,
+        clause: &mut Vec<Lit>,
+        hints: &mut Vec<u64>,
+    ) -> Result<bool, AllocError>
+        ensures line { IfOk result (λ more. IsNextOf self.old self.new (record { clause = clause.new.items; hints = hints.new.items }) more) }
+        ensures refused { OnErr result (self.new ≡ self.old) }
+    {
+        if self.count == 0 {
+            return Ok(false);
+        }
+        let end = read_line(&self.bytes, 0, clause, hints)?;
+        cut_front(&mut self.bytes, end);
+        self.count -= 1;
+        Ok(true)
     }
 
     /// The bytes that the lines are.

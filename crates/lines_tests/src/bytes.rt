@@ -79,3 +79,16 @@ fn lines_are_read_where_they_lie(rt: HostRuntime) -> Result<(), Fail> {
     assert!(rt; !left.next(&mut clause, &mut hints)?);
     Ok(())
 }
+
+#[test]
+fn the_first_line_is_taken_out(rt: HostRuntime) -> Result<(), Fail> {
+    let mut row = two_lines(rt.alloc())?;
+    let mut clause = Vec::new(rt.alloc());
+    let mut hints = Vec::new(rt.alloc());
+    assert!(rt; row.take_first(&mut clause, &mut hints)?);
+    assert_eq!(rt; (clause.len(), hints.as_slice()), (2, [1, 3, 2].as_slice()));
+    assert_eq!(rt; row.bytes(), [0, 131, 16, 0].as_slice());
+    assert!(rt; row.take_first(&mut clause, &mut hints)?);
+    assert!(rt; !row.take_first(&mut clause, &mut hints)?);
+    Ok(())
+}

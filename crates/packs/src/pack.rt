@@ -51,7 +51,7 @@ pub fn read_pack(alloc: Global, vars: u32, bytes: &[u8]) -> Result<Pack, AllocEr
     };
     let mut bodies = Bodies::of(bytes);
     while let Some(body) = bodies.next() {
-        let fact = reader.read(body)?;
+        let fact = reader.read(Vec::from_slice(alloc, body)?)?;
         pack.put(fact)?;
     }
     pack.whole = bodies.is_empty();

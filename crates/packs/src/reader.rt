@@ -9,7 +9,7 @@ ghost use Rattle.packs.specs.Facts.{hints_of, lines_behind, IsClaimOver, IsReadA
 use crate::fact::{Claim, Fact};
 use cnf::Lit;
 use kernel::Cube;
-use lines::Cursor;
+use lines::Row;
 use lrat::Held;
 use std::alloc::{AllocError, Global};
 use std::marker::Model;
@@ -35,29 +35,24 @@ impl Model for FactReader {
 }
 
 /// What the hints of a fact's first line and the lines behind it say of its cube.
-fn claim_of(
-    alloc: Global,
-    vars: u32,
-    hints: &[u64],
-    left: &Cursor,
-) -> Result<Option<Claim>, AllocError>
-    ensures { IfOk result (λ o. MatchOption o
-        ((claim : claims.Claim) → hints.now ≡ hints_of claim → left.now ≡ lines_behind claim → IsClaimOver vars claim → ⊥)
-        (λ claim. (hints.now ≡ hints_of claim) × (left.now ≡ lines_behind claim) × IsClaimOver vars claim)) }
+fn claim_of(vars: u32, hints: &[u64], left: Row) -> Option<Claim>
+    ensures { MatchOption result
+        ((claim : claims.Claim) → hints.now ≡ hints_of claim → left ≡ lines_behind claim → IsClaimOver vars claim → ⊥)
+        (λ claim. (hints.now ≡ hints_of claim) × (left ≡ lines_behind claim) × IsClaimOver vars claim) }
 {
     if hints.len() == 1 && hints[0] == 2 {
-        return Ok(Some(Claim::Refuted(left.rest(alloc)?)));
+        return Some(Claim::Refuted(left));
     }
     if left.len() > 0 {
-        return Ok(None);
+        return None;
     }
     if hints.len() == 1 && hints[0] == 3 {
-        return Ok(Some(Claim::Model));
+        return Some(Claim::Model);
     }
     if hints.len() == 2 && hints[0] == 1 && 1 <= hints[1] && hints[1] <= u64::from(vars) {
-        return Ok(Some(Claim::Split(hints[1] as u32)));
+        return Some(Claim::Split(hints[1] as u32));
     }
-    Ok(None)
+    None
 }
 
 /// The cube of these literals, if they are one over the variables of `held`, which holds none, and
@@ -96,23 +91,24 @@ impl FactReader {
     }
 
     /// The fact that bytes are, if they are one: of a cube over the variables, and with a split on
-    /// one of these. They may be any. It takes time and memory by the bytes, and fails where a
-    /// request for memory is refused; it can be asked again then.
-    pub fn read(&mut self, bytes: &[u8]) -> Result<Option<Fact>, AllocError>
+    /// one of these. They may be any. The lines of a refuted cube stay in their memory. It takes
+    /// time by the bytes and memory by the cube, and fails where a request for memory is refused; it
+    /// can be asked again then.
+    pub fn read(&mut self, bytes: Vec<u8>) -> Result<Option<Fact>, AllocError>
         ensures fact { IfOk result (λ o. MatchOption o
-            ((f : facts.Fact) → ¬ (IsReadAs self.old bytes.now f))
-            (λ f. IsReadAs self.old bytes.now f)) }
+            ((f : facts.Fact) → ¬ (IsReadAs self.old bytes.items f))
+            (λ f. IsReadAs self.old bytes.items f)) }
         ensures stays { self.new ≡ self.old }
     {
-        let Some(mut lines) = Cursor::over(bytes) else {
+        let Some(mut lines) = Row::from_bytes(bytes) else {
             return Ok(None);
         };
         let mut literals = Vec::new(self.alloc);
         let mut hints = Vec::new(self.alloc);
-        if !lines.next(&mut literals, &mut hints)? {
+        if !lines.take_first(&mut literals, &mut hints)? {
             return Ok(None);
         }
-        let Some(claim) = claim_of(self.alloc, self.held.vars(), &hints, &lines)? else {
+        let Some(claim) = claim_of(self.held.vars(), &hints, lines) else {
             return Ok(None);
         };
         let cube = cube_of(self.alloc, &mut self.held, &literals);

@@ -41,7 +41,8 @@ static BODIES: [Body; 19] = [
 fn first_other<'a>(alloc: Global, bodies: &[Body<'a>]) -> Result<Option<&'a str>, AllocError> {
     let mut reader = FactReader::open(alloc, 3)?;
     for (name, body, wanted) in bodies {
-        if reader.read(body)?.is_some() != *wanted {
+        let fact = reader.read(Vec::from_slice(alloc, body)?)?;
+        if fact.is_some() != *wanted {
             return Ok(Some(*name));
         }
     }
@@ -105,7 +106,7 @@ fn long_cube(alloc: Global, vars: usize) -> Result<Vec<u8>, AllocError> {
 /// The literals of the cube that is read from it.
 fn literals_read(alloc: Global, vars: u32) -> Result<usize, AllocError> {
     let body = long_cube(alloc, vars as usize)?;
-    match FactReader::open(alloc, vars)?.read(&body)? {
+    match FactReader::open(alloc, vars)?.read(body)? {
         Some(fact) => Ok(fact.cube.lits().len()),
         None => Ok(0),
     }

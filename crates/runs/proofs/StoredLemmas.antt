@@ -137,6 +137,13 @@ streamed-node a b c first old drained new nodes n s d taken clauses same =
       clauses = clauses ∙ count;
     }
 
+-- nothing more came, and lines were made
+pub streamed-drained : (a b c : Option (List ℕ)) (first old drained : ProofStream) (nodes : List trees.Node) → IsStreamed a b first nodes old → IsDrained b c old drained → IsStreamed a c first nodes drained
+streamed-drained a b c first old drained nodes s d = record {
+  making = making-then a b c (on_nodes first.joiner.clauses (joined first.joiner) nodes) first.buffer.items old drained s.making d.making;
+  clauses = d.clauses ∙ s.clauses;
+}
+
 -- all that is made is written
 pub making-ended : (a b c : Option (List ℕ)) (whole : Joined) (before : List ℕ) (s : ProofStream) → IsMaking a b whole before s → (joined s.joiner).steps ≡ [] → Appends b c s.buffer.items → Appends a c (before ++ proof_text whole.steps)
 making-ended a b c whole before s m all w =

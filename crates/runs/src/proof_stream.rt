@@ -122,6 +122,8 @@ impl<W: Write> TakesNodes<W> for ProofStream {
     fn take(&mut self, out: &mut W, _formula: &Formula, node: Node<Row>) -> Result<(), AllocError> {
         self.drain(out)?;
         self.joiner.take(node)?;
+        // so that of a leaf no line is kept while the next one is read
+        self.drain(out)?;
         Ok(())
     }
 }

@@ -80,8 +80,9 @@ fn found_in<R: Read>(
     };
     let mut body = Vec::new(alloc);
     while let Some(span) = passage.next(&mut body)? {
-        let fact = reader.read(&body)?;
+        let fact = reader.read(body)?;
         found.put(fact, span)?;
+        body = Vec::new(alloc);
     }
     found.is_broken_off = passage.is_broken_off();
     Ok(found)

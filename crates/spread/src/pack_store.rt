@@ -124,7 +124,7 @@ impl<'a, R: Files> PackStore<'a, R> {
     /// The fact that stands there, if it can be read.
     fn fact_at(&mut self, place: Place) -> Result<Option<Fact>, AllocError> {
         match self.body_at(place)? {
-            Some(body) => self.reader.read(&body),
+            Some(body) => self.reader.read(body),
             None => Ok(None),
         }
     }

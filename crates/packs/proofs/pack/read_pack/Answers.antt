@@ -8,7 +8,7 @@ pub loop-body-preserved : goal.loop-body-preserved
 loop-body-preserved c =
     let inv = c.loop-body.invariant in
     let long = ap length c.in-Some.ensures ∙ length-framed c.in-Some.body.now c.next.new.self in
-    let read = rw inv.reader at c.in_ok-fact.ensures.fact in
+    let read = rw (inv.reader, c.in_ok-from_slice.ensures.items) at c.in_ok-fact.ensures.fact in
     let count = LeadsTo-read c.args.vars c.args.bytes.now c.loop-body.pack.facts.items c.put.new.self.facts.items c.loop-body.pack.passed_over c.put.new.self.passed_over c.loop-body.bodies c.in-Some.body.now c.next.new.self
     c.in_ok-fact.fact c.in-Some.ensures read c.in_ok-put.ensures.fact inv.leads in
     record {

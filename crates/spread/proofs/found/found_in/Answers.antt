@@ -10,7 +10,7 @@ loop-body-init g c = record {
 
 pub loop-body-preserved : goal.loop-body-preserved
 loop-body-preserved g c =
-    let is = rw (c.loop-body.invariant.reader, c.deref.ensures.value) at c.in_ok-fact.ensures.fact in
+    let is = rw c.loop-body.invariant.reader at c.in_ok-fact.ensures.fact in
     record {
       reader = c.in_ok-fact.ensures.stays ∙ c.loop-body.invariant.reader;
       so_far = λ before behind between.
