@@ -1,5 +1,5 @@
 -- Numbers and literals that stand whole among the bytes of a piece are steps of the machine.
-use Rattle.std.proofs.Common.{◌≡◌, ℕ, ◌+◌, ◌-◌, ◌<◌, ◌≤◌, Bool, true, false, List, [], ◌∷◌, ◌++◌, drop, length, get_or, arith, Option, Some, None, nat_eq, nat_le, le-leb, ne_eqb, refl, sym, ap, subst, ◌∙◌, cond}
+use Rattle.std.proofs.Common.{◌≡◌, ℕ, ◌+◌, ◌-◌, ◌<◌, ◌≤◌, true, false, List, [], ◌∷◌, ◌++◌, drop, length, get_or, arith, Option, Some, None, nat_eq, nat_le, le-leb, ne_eqb, refl, sym, ap, subst, ◌∙◌, cond}
 use Rattle.std.proofs.lemmas.List.{drop_more}
 use Rattle.std.specs.Char.{is_ascii_digit}
 use Rattle.theory.specs.Literals.{Clause, Literal, negative}
@@ -19,7 +19,7 @@ use Rattle.lrat_text.specs.LineStates.{state_of, state_at, addition_of, group_of
 use Rattle.lrat_text.specs.LineWords.{ends_word}
 use Rattle.lrat_text.specs.Pieces.{TakesWord, in_word}
 use Rattle.lrat_text.specs.Runs.{TakesRun, TakesNumbers, StandsWhole, IsLiteralAt}
-use Rattle.lrat_text.specs.Streams.{nothing, positive_so_far, negative_so_far, minus_so_far, first_digit, with_byte, goes_to, at_fault, taken, ended, Progress, on_byte, on_blank, in_line, with_kept, feed}
+use Rattle.lrat_text.specs.Streams.{nothing, positive_so_far, negative_so_far, minus_so_far, first_digit, with_byte, goes_to, at_fault, taken, ended, on_byte, on_blank, in_line, with_kept, feed}
 use Rattle.lrat_text.proofs.PieceLemmas.{TakesWord-more, TakesWord-none, TakesWord-then, blank-other, digit-word}
 
 -- a word that stands whole, with the blank behind it

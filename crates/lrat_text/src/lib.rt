@@ -5,6 +5,7 @@ mod begun;
 mod fault;
 mod laws;
 mod line;
+mod placed;
 mod read;
 mod run;
 mod size;

@@ -5,6 +5,7 @@ ghost use Rattle.theory.specs.Steps.{add, delete};
 ghost use Rattle.lrat_text.specs.Steps.{step_of};
 ghost use Rattle.lrat_text.specs.Words.{spaced, begun_line, IsBegunBy};
 
+use crate::placed::{clause_room, numbers_room, place_clause, place_numbers};
 use crate::step::{Addition, Deletion, Group, Step};
 use cnf::Lit;
 use itoa::Buffer;
@@ -43,14 +44,31 @@ fn append_literals(lits: &[Lit], out: &mut Vec<u8>) -> Result<(), AllocError>
     Ok(())
 }
 
-/// Appends numbers, each with a space behind it.
-fn append_numbers(numbers: &[u64], out: &mut Vec<u8>) -> Result<(), AllocError>
+/// Appends numbers one after the other, each with a space behind it.
+fn append_each_number(numbers: &[u64], out: &mut Vec<u8>) -> Result<(), AllocError>
     ensures ok { OnOk result (out.new.items ≡ out.old.items ++ spaced (map decimal numbers.now)) }
     ensures extends { IsBegunBy out.old.items out.new.items }
 {
     for number in numbers {
         append_number(*number, out)?;
     }
+    Ok(())
+}
+
+/// Appends numbers, each with a space behind it: all at once where there is room for the longest
+/// text of so many.
+fn append_numbers(numbers: &[u64], out: &mut Vec<u8>) -> Result<(), AllocError>
+    ensures ok { OnOk result (out.new.items ≡ out.old.items ++ spaced (map decimal numbers.now)) }
+    ensures extends { IsBegunBy out.old.items out.new.items }
+{
+    let start = out.len();
+    let room = numbers_room(numbers.len());
+    if out.capacity() - start < room {
+        return append_each_number(numbers, out);
+    }
+    out.resize(start + room, b' ')?;
+    let end = place_numbers(numbers, out, start);
+    out.truncate(end);
     Ok(())
 }
 
@@ -83,8 +101,8 @@ fn append_end(out: &mut Vec<u8>) -> Result<(), AllocError>
     out.extend_from_slice(b"0\n")
 }
 
-/// Appends a clause's number, the clause, and the hints before the first group.
-fn append_clause(
+/// Appends a clause's number, the clause, and the hints before the first group, word by word.
+fn append_each_word(
     id: u64,
     clause: &[Lit],
     hints: &[u64],
@@ -97,6 +115,28 @@ fn append_clause(
     append_literals(clause, out)?;
     out.extend_from_slice(b"0 ")?;
     append_numbers(hints, out)?;
+    Ok(())
+}
+
+/// Appends a clause's number, the clause, and the hints before the first group: all at once where
+/// there is room for the longest text of so many.
+fn append_clause(
+    id: u64,
+    clause: &[Lit],
+    hints: &[u64],
+    out: &mut Vec<u8>,
+) -> Result<(), AllocError>
+    ensures ok { OnOk result (out.new.items ≡ out.old.items ++ begun_line id clause.now hints.now) }
+    ensures extends { IsBegunBy out.old.items out.new.items }
+{
+    let start = out.len();
+    let room = clause_room(clause.len(), hints.len());
+    if out.capacity() - start < room {
+        return append_each_word(id, clause, hints, out);
+    }
+    out.resize(start + room, b' ')?;
+    let end = place_clause(id, clause, hints, out, start);
+    out.truncate(end);
     Ok(())
 }
 

@@ -1,5 +1,5 @@
 use Rattle.lrat_text.proofs.WordLemmas.{line-begun}
-use Rattle.lrat_text.proofs.write.append_clause.Goals as goal
+use Rattle.lrat_text.proofs.write.append_each_word.Goals as goal
 
 pub returns-clause-ok : goal.returns-clause-ok
 returns-clause-ok c =

@@ -1,6 +1,6 @@
 use Rattle.std.proofs.Common.{◌≡◌, ◌++◌, map, drop, decimal}
 use Rattle.lrat_text.specs.Words.{spaced, IsBegunBy}
-use Rattle.lrat_text.proofs.write.append_numbers.Given as goal
+use Rattle.lrat_text.proofs.write.append_each_number.Given as goal
 
 -- the numbers that are left complete the text
 abbrev pub invariant-loop-number : goal.invariant-loop-number

@@ -1,7 +1,7 @@
 use Rattle.std.proofs.Common.{map, refl, decimal, get_or}
 use Rattle.std.proofs.lemmas.List.{get_or_default}
 use Rattle.lrat_text.proofs.WordLemmas.{words-done, words-more, IsBegunBy-trans}
-use Rattle.lrat_text.proofs.write.append_numbers.Goals as goal
+use Rattle.lrat_text.proofs.write.append_each_number.Goals as goal
 
 pub loop-number-preserved : goal.loop-number-preserved
 loop-number-preserved c =
