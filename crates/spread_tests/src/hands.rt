@@ -147,13 +147,40 @@ const MODEL: &str =
 const MODEL_TEXT: &str =
     "cubesat pack 1 d19bf49d5f1058235b91384ab4780f1ec9739997ff2f40e5c1dc7d0ed2489e06\n\x04\x00\x00\x00\x00\x00\x00\x00\x04\x00\x06\x00";
 
-/// A pack and its text, a command line, and whether the pack is read again once it is gone through:
-/// one hand reads the facts of cubes that it comes to, and several those that come next.
-static READ_AGAIN: [(&str, &str, Row, bool); 4] = [
-    (REFUTED, REFUTED_TEXT, BY_ONE, false),
-    (REFUTED, REFUTED_TEXT, BY_TWO, true),
-    (MODEL, MODEL_TEXT, BY_ONE, false),
-    (MODEL, MODEL_TEXT, BY_TWO, true),
+/// A pack, a command line, and whether the pack is read again once it is gone through: one hand reads
+/// the facts of cubes that it comes to, and several those that come next.
+struct Reading<'a> {
+    path: &'a str,
+    text: &'a str,
+    row: Row<'a>,
+    is_again: bool,
+}
+
+static READINGS: [Reading; 4] = [
+    Reading {
+        path: REFUTED,
+        text: REFUTED_TEXT,
+        row: BY_ONE,
+        is_again: false,
+    },
+    Reading {
+        path: REFUTED,
+        text: REFUTED_TEXT,
+        row: BY_TWO,
+        is_again: true,
+    },
+    Reading {
+        path: MODEL,
+        text: MODEL_TEXT,
+        row: BY_ONE,
+        is_again: false,
+    },
+    Reading {
+        path: MODEL,
+        text: MODEL_TEXT,
+        row: BY_TWO,
+        is_again: true,
+    },
 ];
 
 /// No read waits for a line.
@@ -179,13 +206,17 @@ where
 
 #[test]
 fn several_hands_read_facts_ahead(rt: HostRuntime) -> Result<(), Fail> {
-    for (path, text, row, is_again) in &READ_AGAIN {
+    for reading in &READINGS {
         begin(&rt, AHEAD, AHEAD_FORMULA, FOUR)?;
         assert!(rt; first_other(&rt, &AHEAD_HALVES).is_none());
-        fs::write(&rt, *path, *text)?;
-        let reads = reads_of(&rt, *path, row);
-        assert!(rt; reads.is_some(), "{:?}", row.words);
-        assert!(rt; (reads > Some(1)) == *is_again, "{:?}", row.words);
+        fs::write(&rt, reading.path, reading.text)?;
+        let reads = reads_of(&rt, reading.path, &reading.row);
+        assert!(rt; reads.is_some(), "{:?}", reading.row.words);
+        assert!(rt;
+            (reads > Some(1)) == reading.is_again,
+            "{:?}",
+            reading.row.words
+        );
     }
     Ok(())
 }
