@@ -4,6 +4,7 @@ pub mod AtRest
 pub mod Attached
 pub mod Backtracking
 pub mod Beginning
+pub mod Beside
 pub mod BothSigns
 pub mod Cutting
 pub mod Falling
