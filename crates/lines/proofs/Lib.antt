@@ -1,3 +1,4 @@
 pub mod RowLemmas
+pub mod PlacedLemmas
 pub mod LineLemmas
 pub mod ReadingLemmas

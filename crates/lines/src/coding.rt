@@ -27,6 +27,7 @@ pub(crate) fn literal_at(code: u32) -> Lit
 /// The number by which a code is written. Codes mostly rise.
 pub(crate) fn code_number(last: u32, code: u32) -> u64
     ensures some { 1 ≤ result }
+    ensures small { result ≤ 2 ^ 32 }
     ensures code { code_behind last result ≡ code }
 {
     if last < code {

@@ -5,6 +5,7 @@ mod coding;
 mod cursor;
 mod line;
 mod number;
+mod placed;
 mod reader;
 mod row;
 mod scan;

@@ -6,6 +6,7 @@ ghost use Rattle.lines.specs.Rows.{row, whole, IsFront};
 
 use crate::coding::{MAX_HINT, code, code_number, hint_number};
 use crate::number::push_number;
+use crate::placed::{line_room, place_line};
 use cnf::Lit;
 use std::alloc::AllocError;
 
@@ -45,7 +46,19 @@ fn push_hints(bytes: &mut Vec<u8>, hints: &[u64]) -> Result<(), AllocError>
     Ok(())
 }
 
-/// Puts a line at the end.
+/// Puts a line at the end, byte by byte.
+fn push_each_byte(bytes: &mut Vec<u8>, clause: &[Lit], hints: &[u64]) -> Result<(), AllocError>
+    ensures line { OnOk result ((lines : List Line) → row bytes.old.items ≡ whole lines →
+        row bytes.new.items ≡ whole (lines ++ record { clause = clause.now; hints = hints.now } ∷ [])) }
+    ensures front { IsFront bytes.old.items bytes.new.items }
+{
+    push_clause(bytes, clause)?;
+    push_hints(bytes, hints)?;
+    Ok(())
+}
+
+/// Puts a line at the end: all at once where there is room for the longest of so many literals
+/// and hints.
 pub(crate) fn push_line(
     bytes: &mut Vec<u8>,
     clause: &[Lit],
@@ -55,7 +68,13 @@ pub(crate) fn push_line(
         row bytes.new.items ≡ whole (lines ++ record { clause = clause.now; hints = hints.now } ∷ [])) }
     ensures front { IsFront bytes.old.items bytes.new.items }
 {
-    push_clause(bytes, clause)?;
-    push_hints(bytes, hints)?;
+    let start = bytes.len();
+    let room = line_room(clause.len(), hints.len());
+    if bytes.capacity() - start < room {
+        return push_each_byte(bytes, clause, hints);
+    }
+    bytes.resize(start + room, 0)?;
+    let end = place_line(clause, hints, bytes, start)?;
+    bytes.truncate(end);
     Ok(())
 }

@@ -74,6 +74,23 @@ fn push_empty(row: &mut Row, count: usize) -> Result<(), AllocError> {
 }
 
 #[test]
+fn lines_are_the_same_bytes_in_memory_that_is_there(rt: HostRuntime) -> Result<(), Fail> {
+    let mut row = Row::new(rt.alloc());
+    push_empty(&mut row, 1_000)?;
+    row.clear();
+    assert_eq!(rt; push_all(rt.alloc(), &mut row)?, None);
+    let mut grown = Row::new(rt.alloc());
+    assert_eq!(rt; push_all(rt.alloc(), &mut grown)?, None);
+    assert_eq!(rt; row.bytes(), grown.bytes());
+    let refused = row.push(&[], &[9_223_372_036_854_775_808]);
+    assert!(rt; refused.is_err());
+    assert_eq!(rt; row.size(), 41);
+    let mut reader = Reader::of(row);
+    assert_eq!(rt; first_other(rt.alloc(), &mut reader)?, None);
+    Ok(())
+}
+
+#[test]
 fn a_few_lines_are_copied_out(rt: HostRuntime) -> Result<(), Fail> {
     let mut row = Row::new(rt.alloc());
     assert_eq!(rt; push_all(rt.alloc(), &mut row)?, None);
