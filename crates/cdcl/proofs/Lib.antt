@@ -13,6 +13,7 @@ pub mod JoinedSets
 pub mod TakenClauses
 pub mod SeenVariables
 pub mod MetVariables
+pub mod ArrangedClauses
 pub mod Beginnings
 pub mod NumberSets
 pub mod GlueCounts

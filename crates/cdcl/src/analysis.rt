@@ -50,7 +50,7 @@ fn marks_of(
 {
     let mut marks = room.take(alloc, kernel.vars())?;
     let _trail = kernel.trail(); // it ensures what the proof needs of the trail
-    put_all(kernel, &mut marks, kernel.clause(conflict))?;
+    put_all(kernel, &mut marks, kernel.arranged(conflict))?;
     Ok(marks)
 }
 
@@ -68,7 +68,7 @@ fn look_at(
     ensures met { OnOk result (HaveMet kernel.now.clauses hints.old.items marks.old → HaveMet kernel.now.clauses hints.new.items marks.new) }
 {
     if let Some(number) = reason_used(marks, entry) {
-        resolve(kernel, marks, entry, kernel.clause(number))?;
+        resolve(kernel, marks, entry, kernel.arranged(number))?;
         put_last(hints, number)?;
     }
     Ok(())

@@ -1,6 +1,7 @@
 //! The kernel: the clauses and the trail of one cube's search.
 ghost use Rattle.std.specs.Prelude.{◌≡◌, ◌+◌, ◌^◌, ◌<◌, ◌≤◌, true, false, None, [], ◌∷◌, ◌++◌, length, take, All, IfOk, IfSome, IfNone, OnOk, OnErr, IsErr, slice_get, if◌then◌else◌, ◌⊎◌};
 ghost use Rattle.std.specs.Option.{option_map};
+ghost use Rattle.std.specs.List.Sorted.{IsPermutation};
 ghost use Rattle.theory.specs.Literals.{IsVariable, IsCube, has_var};
 ghost use Rattle.theory.specs.Truth.{IsOver};
 ghost use Rattle.theory.specs.Pure.{unit_clauses};
@@ -497,5 +498,16 @@ impl Kernel {
         ensures { result.now ≡ clause_at self.now.clauses number }
     {
         self.propagator.clauses.get(number as usize - 1)
+    }
+
+    /// The literals of the clause of a number in the order in which propagation has them, the two
+    /// that are watched in front. Who reads them right after propagation finds them in the caches,
+    /// where it left them: where analysis does, a search of random formulas takes a fiftieth less
+    /// time than with those of `clause`.
+    pub fn arranged(&self, number: u64) -> &[Lit]
+        requires { (1 ≤ number) × (number ≤ length self.now.clauses) }
+        ensures { IsPermutation (clause_at self.now.clauses number) result.now }
+    {
+        self.propagator.clauses.arranged(number as usize - 1)
     }
 }

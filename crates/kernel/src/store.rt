@@ -1,7 +1,8 @@
 //! Clauses as they were given, and the same arranged for propagation. Those that were given are
-//! what analysis reads and what a kernel shows. Propagation never touches them, and changes the
-//! order of the arranged clauses' literals as it likes.
-ghost use Rattle.std.specs.Prelude.{◌≡◌, ◌+◌, ◌<◌, ◌≤◌, ◌⊎◌, [], ◌∷◌, ◌++◌, All, length, take, IfOk, OnOk, OnErr, slice_get, slice_set, Some, ℕ, List, false, true};
+//! what a kernel shows. Propagation never touches them, and changes the order of the arranged
+//! clauses' literals as it likes; analysis reads these, since no order matters to it.
+ghost use Rattle.std.specs.Prelude.{◌≡◌, ◌+◌, ◌<◌, ◌≤◌, ◌⊎◌, [], ◌∷◌, ◌++◌, All, length, take, IfOk, OnOk, OnErr, slice_get, slice_index_or, slice_set, Some, ℕ, List, false, true};
+ghost use Rattle.std.specs.List.Sorted.{IsPermutation};
 ghost use Rattle.theory.specs.Literals.{Clause, has, negated};
 ghost use Rattle.theory.specs.Forgetting.{forget};
 ghost use Rattle.theory.specs.Truth.{IsOver};
@@ -78,6 +79,14 @@ impl Store {
         ensures { slice_get self.now.given index ≡ Some result.now }
     {
         self.given.get(index)
+    }
+
+    /// The literals of the clause at a place, those that are watched in front.
+    pub fn arranged(&self, index: usize) -> &[Lit]
+        requires { index < length self.now.given }
+        ensures { IsPermutation (slice_index_or self.now.given index []) result.now }
+    {
+        self.arranged.get(index)
     }
 
     /// The two literals that the clause at a place watches.
