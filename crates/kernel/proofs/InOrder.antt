@@ -1,6 +1,7 @@
 -- Unit clauses that wait in a queue, in the order in which they go, and in a heap.
 use Rattle.std.proofs.Common.{◌≡◌, ℕ, suc, zero, ◌+◌, ◌<◌, ◌≤◌, List, [], ◌∷◌, ◌++◌, drop, take, length, get_or, All, Option, Some, None, IfSome, sym, subst, ap, arith, ◌∙◌, ◌-◌, inl, inr, refl}
 use Rattle.std.specs.List.{Contains}
+use Rattle.std.proofs.Math.Seq.{drop-nil}
 use Rattle.std.proofs.lemmas.List.{get_or-drop, get_or-take, length-drop, length-take, get_or_default}
 use Rattle.std.specs.Prelude.{insert}
 use Rattle.std.proofs.lemmas.List.Elements.{All-append, All-weaker}
@@ -19,6 +20,17 @@ goes-itself a = inr (refl, omega arith)
 -- what goes behind x goes behind what goes before x
 pub All-behind : (w x : Waiting) (ws : List Waiting) → GoesFirst w x → All (λ v. GoesFirst x v) ws → All (λ v. GoesFirst w v) ws
 All-behind w x ws h all = All-weaker (λ v. GoesFirst x v) (λ v. GoesFirst w v) (λ v f. GoesFirst-trans w x v h f) ws all
+
+-- all but the first
+pub drop-next : {X : Type 0} (h : ℕ) (ws : List X) → drop (h + 1) ws ≡ drop 1 (drop h ws)
+drop-next zero [] = refl
+drop-next zero (w ∷ ws) = refl
+drop-next (suc h) [] = drop-nil (suc h + 1)
+drop-next (suc h) (w ∷ ws) = let up : suc h + 1 ≡ suc (h + 1) = omega arith in rw up (drop-next h ws)
+
+pub AreInOrder-next : (ws : List Waiting) → AreInOrder ws → AreInOrder (drop 1 ws)
+AreInOrder-next [] h = tt
+AreInOrder-next (w ∷ ws) h = h.1
 
 -- one more at the end, behind all others
 pub AreInOrder-push : (ws : List Waiting) (w : Waiting) → AreInOrder ws → All (λ v. GoesFirst v w) ws → AreInOrder (ws ++ w ∷ [])

@@ -5,7 +5,7 @@ ghost use Rattle.std.specs.Prelude.{◌≡◌, ◌<◌, ◌≤◌, [], ◌∷◌
 ghost use Rattle.std.specs.List.Sorted.{IsPermutation};
 ghost use Rattle.theory.specs.Literals.{Clause};
 ghost use Rattle.theory.specs.Forgetting.{forget};
-ghost use Rattle.cnf.specs.Pieces.{pieces, AreEnds, start_at};
+ghost use Rattle.cnf.specs.Pieces.{pieces, AreEnds};
 ghost use Rattle.kernel.specs.Shown.{emptied};
 ghost use Rattle.theory.specs.Trails.{literals};
 ghost use Rattle.kernel.specs.Watching.{At, IsPair};
@@ -17,6 +17,7 @@ use crate::arrange::lead;
 use crate::ends::{literals_at, start_of};
 use crate::named::Named;
 use crate::replacement::Starts;
+use crate::room::and_a_quarter;
 use crate::sight::{Sight, look_at};
 use crate::watch::Watched;
 use cnf::{Lit, put_literals};
@@ -86,8 +87,8 @@ impl Clauses {
         ensures { IfOk result (λ k. k ≡ []) }
     {
         Ok(Clauses {
-            lits: Vec::with_capacity(alloc, lits)?,
-            ends: Vec::with_capacity(alloc, clauses)?,
+            lits: Vec::with_capacity(alloc, and_a_quarter(lits))?,
+            ends: Vec::with_capacity(alloc, and_a_quarter(clauses))?,
             first: usize::MAX,
             tautology: [Lit::of(1, true), Lit::of(1, false)],
         })

@@ -65,6 +65,9 @@ impl Propagator {
     }
 
     /// The unit clause that goes first, taken out of the line; stale ones are dropped.
+    // Inlined, so that its number and literal are in registers: as an answer in memory they were
+    // read together right after they had been written one by one, for which a processor waits.
+    #[inline(always)]
     fn next_in_line(&self, trail: &Trail, line: &mut Line) -> Option<Unit>
         requires none { self.now.conflict ≡ None }
         requires over { All (IsOver trail.now.vars) self.now.clauses.given }

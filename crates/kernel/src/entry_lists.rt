@@ -13,6 +13,7 @@ ghost use Rattle.kernel.specs.Forgetting.{names, entries_left};
 use crate::cut::keep_below;
 use crate::forget::keep_unnamed;
 use crate::named::Named;
+use crate::room::and_a_quarter;
 use crate::watch::{PackedWatch, Watch};
 use cnf::Lit;
 use std::alloc::{AllocError, Global};
@@ -108,8 +109,11 @@ impl EntryLists {
         let (heads, end) = empty_heads(alloc, rooms)?;
         let mut own = Vec::with_capacity(alloc, rooms.len())?;
         own.extend_from_slice(rooms)?;
+        let places = end as usize;
+        let mut entries = Vec::with_capacity(alloc, and_a_quarter(places))?;
+        entries.resize(places, no_entry())?;
         Ok(EntryLists {
-            entries: vec![in alloc; no_entry(); end as usize]?,
+            entries,
             heads,
             rooms: own,
         })

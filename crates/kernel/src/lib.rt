@@ -23,6 +23,7 @@ mod pile;
 mod propagator;
 mod queue;
 mod replacement;
+mod room;
 mod sight;
 mod store;
 mod units;

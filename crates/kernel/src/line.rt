@@ -3,9 +3,9 @@ ghost use Rattle.std.specs.Prelude.{◌≡◌, [], ◌∷◌, ◌++◌, All, OnO
 ghost use Rattle.std.proofs.Common.{rules};
 ghost use Rattle.std.specs.Cmp.{partial_order_from_own_ties};
 ghost use Rattle.std.specs.Cmp.Rules.{comparing};
-ghost use Rattle.std.specs.Ordering.{nat_cmp, ordering_then, on, eq_of_both, then_cmp, as_partial_cmp};
+ghost use Rattle.std.specs.Ordering.{nat_cmp, on, eq_of_both, then_cmp, as_partial_cmp};
 ghost use Rattle.std.specs.List.Sorted.{IsPermutation};
-ghost use Rattle.kernel.specs.Placing.{GoesFirst, clauses_of};
+ghost use Rattle.kernel.specs.Placing.{GoesFirst};
 ghost use Rattle.kernel.specs.declared.line.Waiting.{Waiting};
 
 use crate::pile::Pile;
@@ -108,29 +108,34 @@ impl Line {
         if self.queue.takes(&waiting) {
             self.queue.push(waiting)?;
         } else {
-            self.push_before(waiting)?;
+            self.push_before(waiting.place, waiting.clause, waiting.lit)?;
         }
         Ok(())
     }
 
     /// Puts a clause in that goes before one of the queue.
     // A call, so that `push`, which mostly puts it behind the queue, is small enough to be inlined.
+    // It takes a clause's parts, which then stay in registers. In memory they would be written one
+    // by one and read together, and a processor waits for that: a search by number over a chain of
+    // pigeonholes took a tenth longer.
     #[inline(never)]
-    fn push_before(&mut self, waiting: Waiting) -> Result<(), AllocError>
-        ensures { OnOk result (IsPermutation (waiting ∷ self.old) self.new) }
+    fn push_before(&mut self, place: usize, clause: u32, lit: Lit) -> Result<(), AllocError>
+        ensures { OnOk result (IsPermutation (record { place = place; clause = clause; lit = lit } ∷ self.old) self.new) }
     {
-        if waiting.place == 0 {
-            self.pile.push(waiting)?;
+        if place == 0 {
+            self.pile.push_numbered(clause, lit)?;
             return Ok(());
         }
+        let waiting = Waiting { place, clause, lit };
         if self.queue.put(&waiting)? {
             return Ok(());
         }
-        self.pile.push(waiting)?;
+        self.pile.push_placed(waiting)?;
         Ok(())
     }
 
     /// Takes the clause out that goes first.
+    #[inline]
     pub fn pop(&mut self) -> Option<Waiting>
         ensures none { IfNone result ((self.old ≡ []) × (self.new ≡ [])) }
         ensures taken { IfSome result (λ w. IsPermutation self.old (w ∷ self.new)) }
@@ -140,10 +145,10 @@ impl Line {
             return self.pile.pop();
         };
         if self.pile.has_before(&first) {
-            self.pile.pop()
-        } else {
-            self.queue.pop()
+            return self.pile.pop();
         }
+        self.queue.skip();
+        Some(first)
     }
 
     /// Takes all clauses out.

@@ -1,5 +1,5 @@
 //! A few unit clauses that wait where clauses go by number, in the order of their numbers.
-ghost use Rattle.std.specs.Prelude.{◌≡◌, ◌<◌, true, false, List, [], ◌∷◌, ◌++◌, All, IfOk, IfSome, IfNone, length};
+ghost use Rattle.std.specs.Prelude.{◌≡◌, ◌<◌, true, false, List, [], ◌∷◌, ◌++◌, All, IfOk, IfSome, IfNone};
 ghost use Rattle.std.specs.List.{Contains};
 ghost use Rattle.std.specs.List.Sorted.{IsPermutation};
 ghost use Rattle.kernel.specs.declared.line.Waiting.{Waiting};
@@ -9,6 +9,7 @@ ghost use Rattle.kernel.specs.Placing.{GoesFirst, AreFalling};
 use crate::line::Waiting;
 use crate::numbered::Numbered;
 use crate::waiting_queue::goes_first;
+use cnf::Lit;
 use std::alloc::{AllocError, Global};
 use std::marker::Model;
 
@@ -60,19 +61,15 @@ impl NumberStack {
 
     /// Puts a clause in if it goes among the last ones; whether it does. It fails where a request
     /// for memory is refused.
-    pub fn put(&mut self, waiting: &Waiting) -> Result<bool, AllocError>
-        requires { waiting.now.place ≡ 0 }
-        ensures put { IfOk result (λ b. b ≡ true → IsPermutation (waiting.now ∷ self.old) self.new) }
+    pub fn put(&mut self, clause: u32, lit: Lit) -> Result<bool, AllocError>
+        ensures put { IfOk result (λ b. b ≡ true → IsPermutation (record { place = 0; clause = clause; lit = lit } ∷ self.old) self.new) }
         ensures left { IfOk result (λ b. b ≡ false → self.new ≡ self.old) }
     {
         let count = self.items.len();
-        if count >= FEW && self.items[count - FEW].clause < waiting.clause {
+        if count >= FEW && self.items[count - FEW].clause < clause {
             return Ok(false);
         }
-        self.items.push(Numbered {
-            clause: waiting.clause,
-            lit: waiting.lit,
-        })?;
+        self.items.push(Numbered { clause, lit })?;
         settle(&mut self.items);
         Ok(true)
     }

@@ -2,8 +2,7 @@
 ghost use Rattle.std.specs.Prelude.{◌≡◌, ◌≤◌, ◌<◌, ℕ, true, false, [], ◌∷◌, ◌++◌, All, IfOk, OnOk, IfSome, IfNone, drop, length, slice_index_or};
 ghost use Rattle.std.specs.List.Sorted.{IsPermutation};
 ghost use Rattle.kernel.specs.declared.line.Waiting.{Waiting};
-ghost use Rattle.std.specs.List.{Contains};
-ghost use Rattle.kernel.specs.Placing.{GoesFirst, AreInOrder, clauses_of};
+ghost use Rattle.kernel.specs.Placing.{GoesFirst, AreInOrder};
 
 use crate::line::Waiting;
 use cnf::put_last;
@@ -113,7 +112,7 @@ impl WaitingQueue {
     /// The clause that goes first.
     pub fn first(&self) -> Option<Waiting>
         ensures none { IfNone result (self.now ≡ []) }
-        ensures there { IfSome result (λ w. Contains self.now w) }
+        ensures begins { IfSome result (λ w. self.now ≡ w ∷ drop 1 self.now) }
         ensures first { IfSome result (λ w. All (λ v. GoesFirst w v) self.now) }
     {
         if self.head < self.items.len() {
@@ -123,22 +122,15 @@ impl WaitingQueue {
         }
     }
 
-    /// Takes the clause out that goes first.
-    pub fn pop(&mut self) -> Option<Waiting>
-        ensures none { IfNone result ((self.old ≡ []) × (self.new ≡ [])) }
-        ensures taken { IfSome result (λ w. self.old ≡ w ∷ self.new) }
-        ensures first { IfSome result (λ w. All (λ v. GoesFirst w v) self.old) }
+    /// Takes the clause out that goes first, if there is one.
+    pub fn skip(&mut self)
+        ensures { self.new ≡ drop 1 self.old }
     {
-        if self.head == self.items.len() {
-            return None;
-        }
-        let first = self.items[self.head];
-        if self.head + 1 == self.items.len() {
-            self.clear();
-        } else {
+        if self.head + 1 < self.items.len() {
             self.head += 1;
+        } else {
+            self.clear();
         }
-        Some(first)
     }
 
     /// Takes all clauses out.

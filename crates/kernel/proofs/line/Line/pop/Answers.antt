@@ -1,5 +1,5 @@
 use Rattle.kernel.proofs.UnitLemmas.{taken-unheaped}
-use Rattle.kernel.proofs.InOrder.{first-unheaped, first-queued}
+use Rattle.kernel.proofs.InOrder.{first-unheaped}
 use Rattle.kernel.proofs.line.Line.pop.Goals as goal
 
 pub returns-then-has_before-clause-taken : goal.returns-then-has_before-clause-taken
@@ -9,7 +9,3 @@ pub returns-then-has_before-clause-first : goal.returns-then-has_before-clause-f
 returns-then-has_before-clause-first c =
     let before = c.has_before.ensures.before c.if-has_before.true in
     rw (← c.self.view_is) (first-unheaped _ _ _ before.0 c.in-Some.first before.1 before.2 c.in-Some.ensures.first c.pop-then-has_before.ensures.first)
-
-pub returns-else-has_before-clause-first : goal.returns-else-has_before-clause-first
-returns-else-has_before-clause-first c =
-    rw (← c.self.view_is) (first-queued _ _ _ c.in-Some.first c.in-Some.ensures.there (c.has_before.ensures.none c.if-has_before.false) c.pop-else-has_before.ensures.first)

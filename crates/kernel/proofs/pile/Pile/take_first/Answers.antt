@@ -1,6 +1,6 @@
 use Rattle.kernel.proofs.UnitLemmas.{taken-unheaped, taken-queued}
 use Rattle.kernel.proofs.InOrder.{first-unheaped, first-queued}
-use Rattle.kernel.proofs.pile.Pile.pop.Goals as goal
+use Rattle.kernel.proofs.pile.Pile.take_first.Goals as goal
 
 pub returns-then-has_before-clause-taken : goal.returns-then-has_before-clause-taken
 returns-then-has_before-clause-taken c = rw (← c.self.view_is) (taken-unheaped _ _ _ _ c.pop-then-has_before.ensures.taken)
