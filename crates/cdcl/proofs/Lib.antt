@@ -14,6 +14,7 @@ pub mod TakenClauses
 pub mod SeenVariables
 pub mod MetVariables
 pub mod ArrangedClauses
+pub mod ArrangedCandidates
 pub mod Beginnings
 pub mod NumberSets
 pub mod GlueCounts

@@ -10,7 +10,7 @@ ghost use Rattle.cdcl.specs.Learnt.{line_of};
 use crate::level::back_level;
 use crate::marks::{Marks, Room, put_all, reason_used, resolve};
 use cnf::{Lit, put_last};
-use kernel::{Entry, Kernel};
+use kernel::{Entry, Kernel, SearchKernel};
 use std::alloc::{AllocError, Global};
 
 /// What a conflict teaches. It takes up one conflict after the other, and so keeps its memory.
@@ -39,7 +39,7 @@ impl Learnt {
 /// The set of a conflict's literals.
 fn marks_of(
     alloc: Global,
-    kernel: &Kernel,
+    kernel: &SearchKernel,
     room: &mut Room,
     conflict: u64,
 ) -> Result<Marks, AllocError>
@@ -57,7 +57,7 @@ fn marks_of(
 /// Looks at the entry whose place came last: where the set is resolved on it, resolves with its
 /// reason, and puts that behind the hints.
 fn look_at(
-    kernel: &Kernel,
+    kernel: &SearchKernel,
     marks: &mut Marks,
     hints: &mut Vec<u64>,
     entry: Entry,
@@ -76,7 +76,7 @@ fn look_at(
 
 /// Looks at the places of the set from the end of the trail. The places between are passed over.
 fn walk(
-    kernel: &Kernel,
+    kernel: &SearchKernel,
     marks: &mut Marks,
     hints: &mut Vec<u64>,
     conflict: u64,
@@ -101,7 +101,7 @@ fn walk(
 
 /// Puts the negation of a variable's literal on the trail behind the others, unless it is the
 /// cube's.
-fn put_negation(kernel: &Kernel, clause: &mut Vec<Lit>, var: u32) -> Result<(), AllocError>
+fn put_negation(kernel: &SearchKernel, clause: &mut Vec<Lit>, var: u32) -> Result<(), AllocError>
     ensures { OnOk result (clause.new.items ≡ clause.old.items ++ negation_of (entry_of kernel.now.trail var)) }
 {
     if let Some(entry) = kernel.entry(var) {
@@ -131,7 +131,11 @@ fn keep_marked(seen: &mut Vec<u32>, marked: &[bool])
 /// The literals of the set without those of the cube, in place of the clause there. It leaves no
 /// mark. Most variables that were seen were resolved away again, so they go before the others are
 /// sorted.
-fn take_clause(kernel: &Kernel, marks: &mut Marks, clause: &mut Vec<Lit>) -> Result<(), AllocError>
+fn take_clause(
+    kernel: &SearchKernel,
+    marks: &mut Marks,
+    clause: &mut Vec<Lit>,
+) -> Result<(), AllocError>
     requires long { kernel.now.vars < length marks.old.marked.items }
     requires seen { All (λ v. v ≤ kernel.now.vars) marks.old.seen.items }
     requires done { marks.old.pending ≡ [] }
@@ -158,7 +162,7 @@ fn take_clause(kernel: &Kernel, marks: &mut Marks, clause: &mut Vec<Lit>) -> Res
 /// What is left of the set of a conflict's literals after resolution, which has seen the variables
 /// of the clauses that the hints name.
 pub(crate) fn resolve_conflict(
-    kernel: &Kernel,
+    kernel: &SearchKernel,
     room: &mut Room,
     conflict: u64,
     hints: &mut Vec<u64>,
@@ -181,7 +185,7 @@ pub(crate) fn resolve_conflict(
 
 /// Takes up the clause that is left, and the level to go back to. The marks go back into the room.
 pub(crate) fn take_up(
-    kernel: &Kernel,
+    kernel: &SearchKernel,
     room: &mut Room,
     marks: Marks,
     learnt: &mut Learnt,
@@ -202,7 +206,7 @@ pub(crate) fn take_up(
 
 /// What `analyze` answers, in room and in lists that are used again.
 pub(crate) fn analyze_in(
-    kernel: &Kernel,
+    kernel: &SearchKernel,
     room: &mut Room,
     conflict: u64,
     learnt: &mut Learnt,
@@ -226,6 +230,6 @@ pub fn analyze(alloc: Global, kernel: &Kernel, conflict: u64) -> Result<Learnt, 
     ensures level { IfOk result (λ r. r.level ≡ back_level kernel.now.trail (learn kernel.now.clauses kernel.now.trail conflict).clause) }
 {
     let mut learnt = Learnt::none(alloc);
-    analyze_in(kernel, &mut Room::new(), conflict, &mut learnt)?;
+    analyze_in(kernel.as_search(), &mut Room::new(), conflict, &mut learnt)?;
     Ok(learnt)
 }

@@ -11,7 +11,7 @@ ghost use Rattle.cdcl.specs.Saving.{AgreeOutside, AreWaiting, AreKept};
 use crate::saved::Saved;
 use cnf::Lit;
 use heuristics::{Constants, Scores};
-use kernel::{Entry, Kernel};
+use kernel::{Entry, SearchKernel};
 use std::alloc::{AllocError, Global};
 
 /// By what variables are decided.
@@ -33,7 +33,7 @@ impl Drop for Decisions {
 }
 
 /// How many entries, from the first on, are of a level or below it. It takes time by the others.
-pub(crate) fn count_up_to(kernel: &Kernel, level: u32) -> usize
+pub(crate) fn count_up_to(kernel: &SearchKernel, level: u32) -> usize
     ensures inside { result ≤ length kernel.now.trail }
     ensures entries { take result kernel.now.trail ≡ up_to kernel.now.trail level }
 {
@@ -67,7 +67,7 @@ impl Decisions {
 
     /// The free variable of greatest score, of several the greatest. Those that stand on the trail
     /// don't wait any more, once they are met.
-    pub(crate) fn best_free(&mut self, kernel: &Kernel) -> Option<u32>
+    pub(crate) fn best_free(&mut self, kernel: &SearchKernel) -> Option<u32>
         requires waiting { AreWaiting kernel.now.vars (literals kernel.now.trail) self.old }
         ensures best { result ≡ best_outside kernel.now.vars (literals kernel.now.trail) self.old.scores.scores }
         ensures waiting { AreWaiting kernel.now.vars (literals kernel.now.trail) self.new }
@@ -107,7 +107,7 @@ impl Decisions {
 
     /// Saves the values of the variables whose entries stand behind the first so many, and lets
     /// them wait.
-    pub(crate) fn release(&mut self, kernel: &Kernel, kept: usize) -> Result<(), AllocError>
+    pub(crate) fn release(&mut self, kernel: &SearchKernel, kept: usize) -> Result<(), AllocError>
         requires kept { kept ≤ length kernel.now.trail }
         requires waiting { AreWaiting kernel.now.vars (literals kernel.now.trail) self.old }
         ensures waiting { OnOk result (AreWaiting kernel.now.vars (literals (take kept kernel.now.trail)) self.new) }

@@ -28,14 +28,14 @@ use crate::tally::Tally;
 use crate::values::{refute, values};
 use cnf::Formula;
 use heuristics::{Constants, Glues, Schedule, last_half};
-use kernel::{Closed, Cube, Kernel, Order};
+use kernel::{Closed, Cube, Order, SearchKernel};
 use lines::Row;
 use std::alloc::{AllocError, Global};
 
 /// The state of a search.
 pub(crate) struct FocusedSearch {
     pub(crate) constants: Constants,
-    pub(crate) kernel: Kernel,
+    pub(crate) kernel: SearchKernel,
     /// How many conflicts above level 0 were counted.
     pub(crate) conflicts: u32,
     /// How many literals were decided, also those that were taken back.
@@ -92,7 +92,7 @@ fn level_back(level: u32, restarts: bool) -> u32
 }
 
 /// Goes back to a level, unless it is the current one.
-fn back_to(kernel: &mut Kernel, level: u32)
+fn back_to(kernel: &mut SearchKernel, level: u32)
     requires memory { kernel.old.short ≡ false }
     requires level { level ≤ current_level kernel.old.trail }
     ensures { kernel.new ≡ record kernel.old { trail = up_to kernel.old.trail level } }
@@ -106,7 +106,7 @@ fn back_to(kernel: &mut Kernel, level: u32)
 /// Goes back to a line's level, where its clause gets the next number, and from there to level 0,
 /// if the search restarts.
 fn go_back(
-    kernel: &mut Kernel,
+    kernel: &mut SearchKernel,
     decisions: &mut Decisions,
     learnt: &Learnt,
     restarts: bool,
@@ -136,7 +136,7 @@ fn go_back(
 /// Forgets half of the clauses that may be, of those that were learnt before the last one, which
 /// has this number. They have these glues.
 fn forget(
-    kernel: &mut Kernel,
+    kernel: &mut SearchKernel,
     number: u64,
     glues: &Vec<u32>,
     kept_glue: u32,

@@ -1,5 +1,5 @@
 //! Which learnt clauses may be forgotten.
-ghost use Rattle.std.specs.Prelude.{◌≡◌, ◌<◌, ◌≤◌, ◌+◌, ◌-◌, ◌^◌, ◌⊎◌, ◌||◌, ◌&&◌, not, nat_eq, nat_lt, ℕ, false, drop, length, All, IfOk, slice_index_or};
+ghost use Rattle.std.specs.Prelude.{◌≡◌, ◌<◌, ◌≤◌, ◌+◌, ◌-◌, ◌^◌, ◌⊎◌, ◌||◌, ◌&&◌, not, nat_eq, nat_lt, ℕ, false, true, drop, length, All, IfOk, slice_index_or};
 ghost use Rattle.theory.specs.Literals.{has_both_signs};
 ghost use Rattle.theory.specs.Plans as plans;
 ghost use Rattle.theory.specs.Forgetting.{candidates, forgotten, is_reason};
@@ -7,12 +7,13 @@ ghost use Rattle.cdcl.specs.Forgetful.{IsPlain};
 
 use cnf::Lit;
 use heuristics::Candidate;
-use kernel::Kernel;
+use kernel::SearchKernel;
 use std::alloc::{AllocError, Global};
 
-/// Whether a learnt clause was forgotten: no other one has both literals of a variable.
+/// Whether a learnt clause was forgotten: no other one has both literals of a variable. A forgotten
+/// one has no other literals.
 fn is_forgotten(clause: &[Lit]) -> bool
-    requires { (V : ℕ) × IsPlain V clause.now }
+    requires { has_both_signs clause.now ≡ true → length clause.now ≡ 2 }
     ensures { result ≡ has_both_signs clause.now }
 {
     clause.len() == 2 && clause[0].negated().same(&clause[1])
@@ -20,7 +21,7 @@ fn is_forgotten(clause: &[Lit]) -> bool
 
 /// Whether a learnt clause may be forgotten.
 fn may_go(clause: &[Lit], glue: u32, kept_glue: u32, is_reason: bool) -> bool
-    requires { (V : ℕ) × IsPlain V clause.now }
+    requires { has_both_signs clause.now ≡ true → length clause.now ≡ 2 }
     ensures { result ≡ (not (has_both_signs clause.now) && (nat_lt kept_glue glue && not is_reason)) }
 {
     glue > kept_glue && !is_reason && !is_forgotten(clause)
@@ -38,7 +39,12 @@ fn note(reasons: &mut [bool], from: u64, number: u64)
 }
 
 /// Of so many clauses from a number on, whether each is a reason on the trail.
-fn reasons(alloc: Global, kernel: &Kernel, from: u64, count: usize) -> Result<Vec<bool>, AllocError>
+fn reasons(
+    alloc: Global,
+    kernel: &SearchKernel,
+    from: u64,
+    count: usize,
+) -> Result<Vec<bool>, AllocError>
     ensures long { IfOk result (λ r. length r.items ≡ count) }
     ensures reasons { IfOk result (λ r. (i : ℕ) → i < count → slice_index_or r.items i false ≡ is_reason kernel.now.trail (from + i)) }
 {
@@ -55,7 +61,7 @@ fn reasons(alloc: Global, kernel: &Kernel, from: u64, count: usize) -> Result<Ve
 /// It takes time by the trail and by how many glues there are.
 pub(crate) fn candidates(
     alloc: Global,
-    kernel: &Kernel,
+    kernel: &SearchKernel,
     from: u64,
     glues: &[u32],
     kept_glue: u32,
@@ -70,7 +76,7 @@ pub(crate) fn candidates(
     let mut candidates = Vec::new(alloc);
     for at in 0..glues.len() {
         let number = from + at as u64;
-        let clause = kernel.clause(number);
+        let clause = kernel.arranged(number);
         let glue = glues[at];
         if may_go(clause, glue, kept_glue, reasons[at]) {
             let size = clause.len() as u32;

@@ -6,12 +6,16 @@ ghost use Rattle.theory.specs.Restarts.{glue};
 use crate::level::level_of;
 use crate::numbers::Numbers;
 use cnf::Lit;
-use kernel::Kernel;
+use kernel::SearchKernel;
 use std::alloc::AllocError;
 
 /// In how many levels above 0 the clause has literals. The levels are gathered in a table that is
 /// used again.
-pub(crate) fn glue(kernel: &Kernel, levels: &mut Numbers, clause: &[Lit]) -> Result<u32, AllocError>
+pub(crate) fn glue(
+    kernel: &SearchKernel,
+    levels: &mut Numbers,
+    clause: &[Lit],
+) -> Result<u32, AllocError>
     requires { kernel.now.vars < levels.old.bound }
     ensures bound { levels.new.bound ≡ levels.old.bound }
     ensures glue { IfOk result (λ g. g ≡ glue kernel.now.trail clause.now) }

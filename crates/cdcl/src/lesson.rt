@@ -13,7 +13,7 @@ use crate::glue::glue;
 use crate::marks::Room;
 use crate::numbers::Numbers;
 use crate::seen::see_all;
-use kernel::Kernel;
+use kernel::SearchKernel;
 use std::alloc::{AllocError, Global};
 
 /// Analysis of one conflict after the other, in memory that is used again.
@@ -41,7 +41,7 @@ impl Drop for Analysis {
 
 /// What `analyze_in` does, and takes up which variables the conflict has seen.
 fn analyze_seeing(
-    kernel: &Kernel,
+    kernel: &SearchKernel,
     room: &mut Room,
     conflict: u64,
     learnt: &mut Learnt,
@@ -80,7 +80,7 @@ impl Analysis {
 
     /// Takes up what the conflict with the clause of this number teaches, and which variables it
     /// has seen; gives the glue of the learnt clause.
-    pub(crate) fn lesson(&mut self, kernel: &Kernel, conflict: u64) -> Result<u32, AllocError>
+    pub(crate) fn lesson(&mut self, kernel: &SearchKernel, conflict: u64) -> Result<u32, AllocError>
         requires conflict { least_false (literals kernel.now.trail) kernel.now.clauses ≡ Some conflict }
         requires seen { kernel.now.vars < self.old.seen.bound }
         requires levels { kernel.now.vars < self.old.levels.bound }

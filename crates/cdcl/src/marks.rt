@@ -11,7 +11,7 @@ ghost use Rattle.cdcl.specs.Marks.{IsMarked, IsSet, IsClear, CanJoin, CanResolve
 
 use crate::places::Places;
 use cnf::{Lit, put_last};
-use kernel::{Entry, Kernel};
+use kernel::{Entry, SearchKernel};
 use std::alloc::{AllocError, Global};
 use std::marker::Model;
 
@@ -58,7 +58,7 @@ impl Marks {
 /// Puts the negation of the literal at a place into the set, which doesn't have it.
 // A call, since most literals that `put` is given are in the set and end there.
 #[inline(never)]
-fn put_at(kernel: &Kernel, marks: &mut Marks, place: usize) -> Result<(), AllocError>
+fn put_at(kernel: &SearchKernel, marks: &mut Marks, place: usize) -> Result<(), AllocError>
     requires marks { CanJoin kernel.now [] marks.old }
     requires inside { place < length kernel.now.trail }
     requires is_new { (e : Entry) → slice_get kernel.now.trail place ≡ Some e → slice_index_or marks.old.marked.items e.lit.var false ≡ false }
@@ -81,7 +81,7 @@ fn put_at(kernel: &Kernel, marks: &mut Marks, place: usize) -> Result<(), AllocE
 
 /// Puts a literal into the set.
 #[inline]
-fn put(kernel: &Kernel, marks: &mut Marks, lit: Lit) -> Result<(), AllocError>
+fn put(kernel: &SearchKernel, marks: &mut Marks, lit: Lit) -> Result<(), AllocError>
     requires { CanJoin kernel.now (lit ∷ []) marks.old }
     ensures set { OnOk result ((S : Clause) → (bound : ℕ) → has (literals (take bound kernel.now.trail)) (negated lit) ≡ true
         → IsSet kernel.now S bound marks.old → IsSet kernel.now (with_literal lit S) bound marks.new) }
@@ -98,7 +98,11 @@ fn put(kernel: &Kernel, marks: &mut Marks, lit: Lit) -> Result<(), AllocError>
 }
 
 /// Puts the literals of a clause into the set.
-pub(crate) fn put_all(kernel: &Kernel, marks: &mut Marks, clause: &[Lit]) -> Result<(), AllocError>
+pub(crate) fn put_all(
+    kernel: &SearchKernel,
+    marks: &mut Marks,
+    clause: &[Lit],
+) -> Result<(), AllocError>
     requires { CanJoin kernel.now clause.now marks.old }
     ensures set { OnOk result ((S : Clause) → (bound : ℕ) → is_false (literals (take bound kernel.now.trail)) clause.now ≡ true
         → IsSet kernel.now S bound marks.old → IsSet kernel.now (with_literals clause.now S) bound marks.new) }
@@ -113,7 +117,7 @@ pub(crate) fn put_all(kernel: &Kernel, marks: &mut Marks, clause: &[Lit]) -> Res
 
 /// Puts the literals of a clause other than `except` into the set.
 fn put_others(
-    kernel: &Kernel,
+    kernel: &SearchKernel,
     marks: &mut Marks,
     clause: &[Lit],
     except: Lit,
@@ -134,7 +138,7 @@ fn put_others(
 }
 
 /// Takes the negation of an entry's literal out of the set, which has it.
-fn take(kernel: &Kernel, marks: &mut Marks, entry: Entry)
+fn take(kernel: &SearchKernel, marks: &mut Marks, entry: Entry)
     requires { CanResolve kernel.now entry [] marks.old }
     ensures set { (S : Clause) → (bound : ℕ) → slice_get kernel.now.trail bound ≡ Some entry → IsSet kernel.now S bound marks.old
         → IsSet kernel.now (without S (negated entry.lit)) bound marks.new }
@@ -149,7 +153,7 @@ fn take(kernel: &Kernel, marks: &mut Marks, entry: Entry)
 /// Resolves the set with the reason of the entry that was looked at last, the negation of whose
 /// literal is in the set.
 pub(crate) fn resolve(
-    kernel: &Kernel,
+    kernel: &SearchKernel,
     marks: &mut Marks,
     entry: Entry,
     reason: &[Lit],

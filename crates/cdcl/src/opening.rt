@@ -3,7 +3,7 @@ ghost use Rattle.std.specs.Prelude.{◌≡◌, [], IfOk};
 ghost use Rattle.cdcl.specs.Searching.{IsReady};
 
 use cnf::Formula;
-use kernel::{Cube, Kernel, Order};
+use kernel::{Cube, Order, SearchKernel};
 use std::alloc::{AllocError, Global};
 
 /// A kernel over the formula's clauses, and behind them a unit clause for each pure literal, before
@@ -12,12 +12,12 @@ pub(crate) fn open_kernel(
     alloc: Global,
     formula: &Formula,
     order: Order,
-) -> Result<Kernel, AllocError>
+) -> Result<SearchKernel, AllocError>
     ensures ready { IfOk result (IsReady order formula.now) }
     ensures trail { IfOk result (λ k. k.trail ≡ []) }
 {
     let units = formula.pure(alloc)?;
     let root = Cube::root(alloc);
-    let kernel = Kernel::open_in_order(alloc, formula, &units, &root, order)?;
+    let kernel = SearchKernel::open(alloc, formula, &units, &root, order)?;
     Ok(kernel)
 }

@@ -19,13 +19,13 @@ use crate::opening::open_kernel;
 use crate::outcome::Outcome;
 use crate::values::{refute, values};
 use cnf::{Formula, Lit};
-use kernel::{Closed, Cube, Kernel, Order};
+use kernel::{Closed, Cube, Order, SearchKernel};
 use lines::Row;
 use std::alloc::{AllocError, Global};
 
 /// The state of a search.
 pub(crate) struct OrderedSearch {
-    pub(crate) kernel: Kernel,
+    pub(crate) kernel: SearchKernel,
     /// How many conflicts above level 0 were counted.
     pub(crate) conflicts: u32,
     /// The first variable that was decided.

@@ -5,11 +5,11 @@ ghost use Rattle.cdcl.specs.Numbers.{is_one_of};
 
 use crate::level::level_at;
 use crate::numbers::Numbers;
-use kernel::Kernel;
+use kernel::SearchKernel;
 use std::alloc::AllocError;
 
 /// Puts a variable in, if it is above level 0.
-fn see(kernel: &Kernel, seen: &mut Numbers, var: u32) -> Result<(), AllocError>
+fn see(kernel: &SearchKernel, seen: &mut Numbers, var: u32) -> Result<(), AllocError>
     requires { var < seen.old.bound }
     ensures bound { seen.new.bound ≡ seen.old.bound }
     ensures seen { OnOk result ((v : ℕ) → is_one_of seen.new.numbers v
@@ -23,7 +23,11 @@ fn see(kernel: &Kernel, seen: &mut Numbers, var: u32) -> Result<(), AllocError>
 
 /// Those of the variables that stand above level 0. Resolution has met each of them, so that no
 /// clause has to be gone through a second time.
-pub(crate) fn see_all(kernel: &Kernel, seen: &mut Numbers, vars: &[u32]) -> Result<(), AllocError>
+pub(crate) fn see_all(
+    kernel: &SearchKernel,
+    seen: &mut Numbers,
+    vars: &[u32],
+) -> Result<(), AllocError>
     requires { All (λ v. v < seen.old.bound) vars.now }
     ensures bound { seen.new.bound ≡ seen.old.bound }
     ensures seen { OnOk result ((v : ℕ) → is_one_of seen.new.numbers v

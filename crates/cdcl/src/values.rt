@@ -10,12 +10,12 @@ ghost use Rattle.cdcl.specs.Outcome.{outcome_of};
 use crate::analysis::{Learnt, analyze_in};
 use crate::marks::Room;
 use crate::outcome::Outcome;
-use kernel::Kernel;
+use kernel::SearchKernel;
 use lines::Row;
 use std::alloc::{AllocError, Global};
 
 /// The truth values on the trail.
-pub(crate) fn values(alloc: Global, kernel: &Kernel) -> Result<Vec<bool>, AllocError>
+pub(crate) fn values(alloc: Global, kernel: &SearchKernel) -> Result<Vec<bool>, AllocError>
     requires { IsLawful kernel.now.clauses kernel.now.trail }
     ensures { IfOk result (λ v. v.items ≡ values kernel.now.vars kernel.now.trail) }
 {
@@ -29,7 +29,7 @@ pub(crate) fn values(alloc: Global, kernel: &Kernel) -> Result<Vec<bool>, AllocE
 
 /// A conflict at level 0 behind these lines: the cube is refuted, and its lines are handed out.
 pub(crate) fn refute(
-    kernel: &Kernel,
+    kernel: &SearchKernel,
     room: &mut Room,
     learnt: &mut Learnt,
     lines: &mut Row,

@@ -10,6 +10,7 @@ pub mod Cutting
 pub mod Falling
 pub mod Filtering
 pub mod Forgetting
+pub mod GivenClauses
 pub mod ForgottenAt
 pub mod InOrder
 pub mod InPlace
@@ -38,6 +39,7 @@ pub mod TrailFacts
 pub mod Together
 pub mod Turns
 pub mod UnitLemmas
+pub mod Reordered
 pub mod Replacements
 pub mod Visits
 pub mod WaitingHeaps

@@ -5,10 +5,12 @@ pub mod Attaching
 pub mod Cutting
 pub mod EntryLists
 pub mod Forgetting
+pub mod Given
 pub mod Shown
 pub mod Placing
 pub mod Rules
 pub mod Seeing
+pub mod Spelled
 pub mod State
 pub mod Visiting
 pub mod Waiting

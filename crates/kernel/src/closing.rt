@@ -27,8 +27,20 @@ use crate::last_false::{last_place, open_literal};
 use crate::line::{Line, Waiting};
 use crate::order::Order;
 use crate::propagator::{Propagator, Unit};
+use cnf::Lit;
 use std::alloc::AllocError;
 use trail::{Entry, Trail};
+
+/// The place with which a unit clause waits.
+fn waiting_place(order: Order, trail: &Trail, lits: &[Lit]) -> usize
+    requires { IsOver trail.now.vars lits.now }
+    ensures { result ≡ place_in order trail.now.entries lits.now }
+{
+    match order {
+        Order::ByNumber => 0,
+        Order::ByPlace => last_place(trail, lits),
+    }
+}
 
 impl Propagator {
     /// A unit clause as it waits in line.
@@ -39,12 +51,9 @@ impl Propagator {
         ensures clause { result.clause ≡ clause }
         ensures waits { (c : Clause) → At self.now.clauses.given clause c → IsLastOf (literals trail.now.entries) c result.lit × (result.place ≡ place_in order trail.now.entries c) }
     {
-        let lits = self.clauses.get(clause as usize);
+        let lits = self.clauses.arranged(clause as usize);
         let lit = open_literal(trail, lits);
-        let place = match order {
-            Order::ByNumber => 0,
-            Order::ByPlace => last_place(trail, lits),
-        };
+        let place = waiting_place(order, trail, lits);
         Waiting { place, clause, lit }
     }
 

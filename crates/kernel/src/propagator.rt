@@ -99,7 +99,7 @@ impl Propagator {
     {
         match place {
             Some(place) => place,
-            None => last_place(trail, self.clauses.get(clause as usize)),
+            None => last_place(trail, self.clauses.arranged(clause as usize)),
         }
     }
 

@@ -1,7 +1,8 @@
-//! Clauses as they were given, and the same arranged for propagation. Those that were given are
-//! what a kernel shows. Propagation never touches them, and changes the order of the arranged
-//! clauses' literals as it likes; analysis reads these, since no order matters to it.
-ghost use Rattle.std.specs.Prelude.{◌≡◌, ◌+◌, ◌<◌, ◌≤◌, ◌⊎◌, [], ◌∷◌, ◌++◌, All, length, take, IfOk, OnOk, OnErr, slice_get, slice_index_or, slice_set, Some, ℕ, List, false, true};
+//! Clauses, arranged for propagation: it changes the order of a clause's literals as it likes. What
+//! the clauses were as given is what contracts speak of, and nothing else needs to know it: neither
+//! propagation nor analysis asks for the order of a clause's literals. A copy as given took a third
+//! of a kernel's memory, and a tenth of the time of large formulas.
+ghost use Rattle.std.specs.Prelude.{◌≡◌, ◌+◌, ◌<◌, ◌≤◌, ◌⊎◌, [], ◌∷◌, ◌++◌, All, length, take, IfOk, OnOk, OnErr, slice_index_or, slice_set, ℕ, List, false, true};
 ghost use Rattle.std.specs.List.Sorted.{IsPermutation};
 ghost use Rattle.theory.specs.Literals.{Clause, has, negated};
 ghost use Rattle.theory.specs.Forgetting.{forget};
@@ -14,6 +15,7 @@ ghost use Rattle.kernel.specs.Arranging.{front};
 ghost use Rattle.kernel.specs.Seeing.{IsSight};
 
 use crate::clauses::Clauses;
+use crate::given::Given;
 use crate::named::Named;
 use crate::replacement::Starts;
 use crate::sight::Sight;
@@ -25,7 +27,8 @@ use trail::Trail;
 
 /// Clauses under two watched literals. They are named by their places, from 0 on.
 pub struct Store {
-    given: Clauses,
+    // the clauses as they were given, for contracts alone
+    given: Given,
     // the same with their literals in another order: the two that are watched stand in front
     arranged: Clauses,
 }
@@ -60,7 +63,7 @@ impl Store {
         let count = formula.clause_count() + units.len();
         let lits = formula.literal_count() + units.len();
         Ok(Store {
-            given: Clauses::with_room(alloc, count, lits)?,
+            given: Given::none(),
             arranged: Clauses::with_room(alloc, count, lits)?,
         })
     }
@@ -70,15 +73,7 @@ impl Store {
         ensures given { result ≡ length self.now.given }
         ensures pairs { result ≡ length self.now.pairs }
     {
-        self.given.len()
-    }
-
-    /// The literals of the clause at a place, as they were given.
-    pub fn get(&self, index: usize) -> &[Lit]
-        requires { index < length self.now.given }
-        ensures { slice_get self.now.given index ≡ Some result.now }
-    {
-        self.given.get(index)
+        self.arranged.len()
     }
 
     /// The literals of the clause at a place, those that are watched in front.
@@ -105,15 +100,9 @@ impl Store {
         ensures pairs { OnOk result (self.new.pairs ≡ self.old.pairs ++ watched ∷ []) }
         ensures err { OnErr result (self.new ≡ self.old) }
     {
-        let count = self.given.len();
-        self.given.push(clause)?;
-        match self.arranged.push_led(clause, watched) {
-            Ok(()) => Ok(()),
-            Err(_) => {
-                self.given.truncate(count);
-                Err(AllocError)
-            }
-        }
+        self.arranged.push_led(clause, watched)?;
+        self.given.push(clause);
+        Ok(())
     }
 
     /// Puts an empty clause at the end. Where a request for memory is refused, nothing has changed.
@@ -122,15 +111,9 @@ impl Store {
         ensures pairs { OnOk result (self.new.pairs ≡ self.old.pairs ++ front [] ∷ []) }
         ensures err { OnErr result (self.new ≡ self.old) }
     {
-        let count = self.given.len();
-        self.given.push(&[])?;
-        match self.arranged.push(&[]) {
-            Ok(()) => Ok(()),
-            Err(_) => {
-                self.given.truncate(count);
-                Err(AllocError)
-            }
-        }
+        self.arranged.push(&[])?;
+        self.given.push(&[]);
+        Ok(())
     }
 
     /// Cuts off the clauses from a place on. It takes no memory.
@@ -154,7 +137,7 @@ impl Store {
         ensures given { (numbers : List ℕ) → Tells (names named.now) numbers → self.new.given ≡ forget numbers 1 self.old.given }
         ensures pairs { (numbers : List ℕ) → Tells (names named.now) numbers → ArePairsLeft numbers self.old.pairs self.new.pairs }
     {
-        self.given.forget(first, named);
+        self.given.forget(named);
         self.arranged.forget(first, named);
     }
 

@@ -6,32 +6,34 @@ ghost use Rattle.theory.specs.Trails.{literals, entry_of};
 
 use crate::forgetting::forget;
 use cnf::{Lit, read_formula};
-use kernel::{Closed, Cube, Entry, Kernel};
-use samples::{cube_of, reads};
+use kernel::{Closed, Cube, Entry, Order, SearchKernel};
+use samples::cube_of;
 use std::alloc::{AllocError, Global};
 use std::test::Fail;
 
-pub fn opened(alloc: Global, text: &[u8], numbers: &[i32]) -> Result<Kernel, Fail> {
+pub fn opened(alloc: Global, text: &[u8], numbers: &[i32]) -> Result<SearchKernel, Fail> {
     let formula = read_formula(alloc, text)?;
     let cube = cube_of(alloc, formula.vars(), numbers)?;
-    Ok(Kernel::open(alloc, &formula, &cube)?)
+    let kernel = SearchKernel::open(alloc, &formula, &[], &cube, Order::ByNumber)?;
+    Ok(kernel)
 }
 
 /// A kernel at the root, with these units behind the clauses.
-fn opened_with(alloc: Global, text: &[u8], units: &[i32]) -> Result<Kernel, Fail> {
+fn opened_with(alloc: Global, text: &[u8], units: &[i32]) -> Result<SearchKernel, Fail> {
     let formula = read_formula(alloc, text)?;
     let units = cube_of(alloc, formula.vars(), units)?;
-    let kernel = Kernel::open_with(alloc, &formula, units.lits(), &Cube::root(alloc))?;
+    let root = Cube::root(alloc);
+    let kernel = SearchKernel::open(alloc, &formula, units.lits(), &root, Order::ByNumber)?;
     Ok(kernel)
 }
 
 /// Whether an entry has this number, this reason or 0, and this level.
-fn is_entry(entry: Entry, wanted: (i32, u64, u32)) -> bool {
+pub fn is_entry(entry: Entry, wanted: (i32, u64, u32)) -> bool {
     (entry.lit.number(), entry.reason.unwrap_or(0), entry.level) == wanted
 }
 
 /// Whether the trail has these entries.
-fn stands(kernel: &Kernel, wanted: &[(i32, u64, u32)]) -> bool {
+fn stands(kernel: &SearchKernel, wanted: &[(i32, u64, u32)]) -> bool {
     let trail = kernel.trail();
     if trail.len() != wanted.len() {
         return false;
@@ -72,6 +74,25 @@ pub fn lits_of(alloc: Global, numbers: &[i32]) -> Result<Vec<Lit>, AllocError> {
     Ok(lits)
 }
 
+fn has(clause: &[Lit], number: i32) -> bool {
+    for lit in clause {
+        if lit.number() == number {
+            return true;
+        }
+    }
+    false
+}
+
+/// Whether a clause has these literals, in whatever order.
+fn is_of(clause: &[Lit], numbers: &[i32]) -> bool {
+    for number in numbers {
+        if !has(clause, *number) {
+            return false;
+        }
+    }
+    clause.len() == numbers.len()
+}
+
 /// What comes before the next propagation.
 #[derive(Clone, Copy)]
 pub enum Act<'a> {
@@ -90,7 +111,7 @@ pub enum Act<'a> {
 }
 
 /// Whether the literal is of a free variable.
-fn is_free(kernel: &Kernel, lit: Lit) -> bool
+pub fn is_free(kernel: &SearchKernel, lit: Lit) -> bool
     ensures { result ≡ true → IsVariable kernel.now.vars lit.var × (has_var (literals kernel.now.trail) lit.var ≡ false) }
 {
     if lit.var() > kernel.vars() {
@@ -102,7 +123,7 @@ fn is_free(kernel: &Kernel, lit: Lit) -> bool
     }
 }
 
-pub fn decide(kernel: &mut Kernel, number: i32) -> Result<bool, AllocError> {
+pub fn decide(kernel: &mut SearchKernel, number: i32) -> Result<bool, AllocError> {
     let Some(lit) = Lit::new(number) else {
         return Ok(false);
     };
@@ -118,7 +139,7 @@ pub fn decide(kernel: &mut Kernel, number: i32) -> Result<bool, AllocError> {
     }
 }
 
-pub fn back_to(kernel: &mut Kernel, level: u32) -> bool {
+pub fn back_to(kernel: &mut SearchKernel, level: u32) -> bool {
     let lower = level < kernel.level();
     if lower {
         kernel.back_to(level);
@@ -126,7 +147,7 @@ pub fn back_to(kernel: &mut Kernel, level: u32) -> bool {
     lower
 }
 
-pub fn learn_unit(kernel: &mut Kernel, number: i32) -> Result<bool, AllocError> {
+pub fn learn_unit(kernel: &mut SearchKernel, number: i32) -> Result<bool, AllocError> {
     let Some(lit) = Lit::new(number) else {
         return Ok(false);
     };
@@ -134,11 +155,11 @@ pub fn learn_unit(kernel: &mut Kernel, number: i32) -> Result<bool, AllocError> 
         return Ok(false);
     }
     let learnt = kernel.learn(&[lit])?;
-    Ok(reads(kernel.clause(learnt), &[number]))
+    Ok(is_of(kernel.arranged(learnt), &[number]))
 }
 
 /// The entry that makes a literal false, if one does.
-fn falsifier(kernel: &Kernel, lit: Lit) -> Option<Entry>
+pub fn falsifier(kernel: &SearchKernel, lit: Lit) -> Option<Entry>
     ensures { IfSome result (λ e. IsVariable kernel.now.vars lit.var × (entry_of kernel.now.trail lit.var ≡ Some e) × (same e.lit (negated lit) ≡ true)) }
 {
     if lit.var() > kernel.vars() {
@@ -153,7 +174,7 @@ fn falsifier(kernel: &Kernel, lit: Lit) -> Option<Entry>
 }
 
 /// A clause of a literal that is false at the current level, and a free one.
-pub fn learn_pair(kernel: &mut Kernel, number: i32, free: i32) -> Result<bool, AllocError> {
+pub fn learn_pair(kernel: &mut SearchKernel, number: i32, free: i32) -> Result<bool, AllocError> {
     let (Some(lit), Some(free)) = (Lit::new(number), Lit::new(free)) else {
         return Ok(false);
     };
@@ -164,11 +185,15 @@ pub fn learn_pair(kernel: &mut Kernel, number: i32, free: i32) -> Result<bool, A
         return Ok(false);
     }
     let learnt = kernel.learn(&[lit, free])?;
-    Ok(reads(kernel.clause(learnt), &[number, free.number()]))
+    Ok(is_of(kernel.arranged(learnt), &[number, free.number()]))
 }
 
 /// As `learn_pair`, with the free literal first.
-pub fn learn_turned_pair(kernel: &mut Kernel, number: i32, free: i32) -> Result<bool, AllocError> {
+pub fn learn_turned_pair(
+    kernel: &mut SearchKernel,
+    number: i32,
+    free: i32,
+) -> Result<bool, AllocError> {
     let (Some(lit), Some(free)) = (Lit::new(number), Lit::new(free)) else {
         return Ok(false);
     };
@@ -179,11 +204,11 @@ pub fn learn_turned_pair(kernel: &mut Kernel, number: i32, free: i32) -> Result<
         return Ok(false);
     }
     let learnt = kernel.learn(&[free, lit])?;
-    Ok(reads(kernel.clause(learnt), &[free.number(), number]))
+    Ok(is_of(kernel.arranged(learnt), &[free.number(), number]))
 }
 
 /// A clause of a false literal, one that is false at the current level, and a free one.
-pub fn learn_three(kernel: &mut Kernel, numbers: [i32; 3]) -> Result<bool, AllocError> {
+pub fn learn_three(kernel: &mut SearchKernel, numbers: [i32; 3]) -> Result<bool, AllocError> {
     let (Some(other), Some(lit), Some(free)) = (
         Lit::new(numbers[0]),
         Lit::new(numbers[1]),
@@ -201,16 +226,20 @@ pub fn learn_three(kernel: &mut Kernel, numbers: [i32; 3]) -> Result<bool, Alloc
         return Ok(false);
     }
     let learnt = kernel.learn(&[other, lit, free])?;
-    Ok(reads(kernel.clause(learnt), &numbers))
+    Ok(is_of(kernel.arranged(learnt), &numbers))
 }
 
 /// Goes over to the cube of these numbers.
-pub fn restart(alloc: Global, kernel: &mut Kernel, numbers: &[i32]) -> Result<(), AllocError> {
+pub fn restart(
+    alloc: Global,
+    kernel: &mut SearchKernel,
+    numbers: &[i32],
+) -> Result<(), AllocError> {
     let cube = cube_of(alloc, kernel.vars(), numbers)?;
     kernel.restart(&cube)
 }
 
-pub fn acts(alloc: Global, kernel: &mut Kernel, act: Act) -> Result<bool, AllocError> {
+pub fn acts(alloc: Global, kernel: &mut SearchKernel, act: Act) -> Result<bool, AllocError> {
     match act {
         Act::Nothing => Ok(true),
         Act::Decide(number) => decide(kernel, number),
@@ -256,13 +285,17 @@ pub struct Case<'a> {
     pub rows: &'a [Row<'a>],
 }
 
-fn goes(alloc: Global, kernel: &mut Kernel, row: &Row) -> Result<bool, AllocError> {
+fn goes(alloc: Global, kernel: &mut SearchKernel, row: &Row) -> Result<bool, AllocError> {
     let is_done = acts(alloc, kernel, row.0)?;
     Ok(is_done && kernel.close()? == row.1 && stands(kernel, row.2))
 }
 
 /// The place of the first row that a kernel doesn't go through, if there is one.
-fn first_failed(alloc: Global, kernel: &mut Kernel, rows: &[Row]) -> Result<Option<usize>, Fail> {
+fn first_failed(
+    alloc: Global,
+    kernel: &mut SearchKernel,
+    rows: &[Row],
+) -> Result<Option<usize>, Fail> {
     for place in 0..rows.len() {
         if !goes(alloc, kernel, &rows[place])? {
             return Ok(Some(place));
@@ -271,7 +304,7 @@ fn first_failed(alloc: Global, kernel: &mut Kernel, rows: &[Row]) -> Result<Opti
     Ok(None)
 }
 
-fn opened_by(alloc: Global, case: &Case) -> Result<Kernel, Fail> {
+fn opened_by(alloc: Global, case: &Case) -> Result<SearchKernel, Fail> {
     match case.opening {
         Opening::Cube(numbers) => opened(alloc, case.text.as_bytes(), numbers),
         Opening::Units(numbers) => opened_with(alloc, case.text.as_bytes(), numbers),

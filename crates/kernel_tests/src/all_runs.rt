@@ -10,7 +10,7 @@ use crate::acts::{
 use crate::scan::Scan;
 use crate::visits::thousand;
 use cnf::{Formula, Lit, read_formula};
-use kernel::{Closed, Cube, Kernel, Order};
+use kernel::{Closed, Cube, Order, SearchKernel};
 use samples::cube_of;
 use std::alloc::{AllocError, Global};
 use std::test::Fail;
@@ -68,7 +68,7 @@ fn push_pairs(all: &mut Vec<Operation>, number: i32) -> Result<(), AllocError> {
 /// A kernel, the scan that goes along with it, and what may come next.
 #[derive(Drop)]
 struct Twins {
-    kernel: Kernel,
+    kernel: SearchKernel,
     scan: Scan,
     // whether propagation came to rest, with nothing changed since
     is_quiet: bool,
@@ -81,8 +81,9 @@ struct Twins {
 impl Twins {
     fn open(alloc: Global, formula: &Formula, units: &[i32]) -> Result<Twins, AllocError> {
         let units = cube_of(alloc, formula.vars(), units)?;
+        let root = Cube::root(alloc);
         Ok(Twins {
-            kernel: Kernel::open_with(alloc, formula, units.lits(), &Cube::root(alloc))?,
+            kernel: SearchKernel::open(alloc, formula, units.lits(), &root, Order::ByNumber)?,
             scan: Scan::open(alloc, formula, units.lits(), &[], Order::ByNumber)?,
             is_quiet: false,
             is_back: false,

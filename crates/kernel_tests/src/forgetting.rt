@@ -9,7 +9,7 @@ ghost use Rattle.theory.specs.Forgetting.{is_number, is_reason};
 
 use crate::acts::{Act, Case, Opening, Row};
 use cnf::Lit;
-use kernel::{Closed, Entry, Kernel};
+use kernel::{Closed, Entry, SearchKernel};
 use std::alloc::AllocError;
 
 fn is_number(number: u64, reason: Option<u64>) -> bool
@@ -35,7 +35,7 @@ pub fn is_reason(trail: &[Entry], number: u64) -> bool
 }
 
 /// Whether a learnt clause of this number is there, and no reason.
-fn may_go(kernel: &Kernel, number: u64) -> bool
+fn may_go(kernel: &SearchKernel, number: u64) -> bool
     ensures { result ≡ true → (kernel.now.first < number) × (number ≤ length kernel.now.clauses) × (is_reason kernel.now.trail number ≡ false) }
 {
     if number <= kernel.first_count() || number > kernel.count() {
@@ -44,7 +44,7 @@ fn may_go(kernel: &Kernel, number: u64) -> bool
     !is_reason(kernel.trail(), number)
 }
 
-fn all_may_go(kernel: &Kernel, numbers: &[u64]) -> bool
+fn all_may_go(kernel: &SearchKernel, numbers: &[u64]) -> bool
     ensures { result ≡ true → All (λ n. (kernel.now.first < n) × (n ≤ length kernel.now.clauses) × (is_reason kernel.now.trail n ≡ false)) numbers.now }
 {
     for number in numbers {
@@ -55,7 +55,7 @@ fn all_may_go(kernel: &Kernel, numbers: &[u64]) -> bool
     true
 }
 
-fn is_false(kernel: &Kernel, lit: Lit) -> bool
+fn is_false(kernel: &SearchKernel, lit: Lit) -> bool
     ensures { result ≡ false → has (literals kernel.now.trail) (negated lit) ≡ false }
 {
     let _trail = kernel.trail(); // it ensures what the proof needs of the trail
@@ -65,7 +65,7 @@ fn is_false(kernel: &Kernel, lit: Lit) -> bool
     }
 }
 
-fn all_false(kernel: &Kernel, clause: &[Lit]) -> bool
+fn all_false(kernel: &SearchKernel, clause: &[Lit]) -> bool
     ensures { result ≡ false → is_false (literals kernel.now.trail) clause.now ≡ false }
 {
     for lit in clause {
@@ -77,13 +77,13 @@ fn all_false(kernel: &Kernel, clause: &[Lit]) -> bool
 }
 
 /// Whether no clause is false.
-fn is_open(kernel: &Kernel) -> bool
+fn is_open(kernel: &SearchKernel) -> bool
     ensures { result ≡ true → least_false (literals kernel.now.trail) kernel.now.clauses ≡ None }
 {
     let mut number = 0;
     while number < kernel.count() {
         number += 1;
-        if all_false(kernel, kernel.clause(number)) {
+        if all_false(kernel, kernel.arranged(number)) {
             return false;
         }
     }
@@ -91,7 +91,7 @@ fn is_open(kernel: &Kernel) -> bool
 }
 
 /// Forgets clauses, if they may go. Whether they could.
-pub fn forget(kernel: &mut Kernel, numbers: &[u64]) -> Result<bool, AllocError> {
+pub fn forget(kernel: &mut SearchKernel, numbers: &[u64]) -> Result<bool, AllocError> {
     if !is_open(kernel) || !all_may_go(kernel, numbers) {
         return Ok(false);
     }

@@ -6,6 +6,8 @@ mod acts;
 #[cfg(test)]
 mod all_runs;
 #[cfg(test)]
+mod as_given;
+#[cfg(test)]
 mod dice;
 #[cfg(test)]
 mod forgetting;

@@ -1,6 +1,6 @@
 //! Worked look-ups: values, entries, levels and the least free variable; and cubes.
 use crate::acts::{Act, acts, decide, opened};
-use kernel::{Closed, Cube, Kernel};
+use kernel::{Closed, Cube, SearchKernel};
 use samples::{cube_of, reads};
 use std::alloc::{AllocError, Global};
 use std::test::Fail;
@@ -17,7 +17,7 @@ struct Seen<'a> {
 
 /// Whether the variables have these values and, where they have one, an entry of that sign, in its
 /// place.
-fn has_values(kernel: &Kernel, wanted: &[Option<bool>]) -> bool {
+fn has_values(kernel: &SearchKernel, wanted: &[Option<bool>]) -> bool {
     let mut var = 0u32;
     for value in wanted {
         let positive = kernel.entry(var).map(|entry| entry.lit.positive());
@@ -30,7 +30,7 @@ fn has_values(kernel: &Kernel, wanted: &[Option<bool>]) -> bool {
 }
 
 /// Whether a variable's place is that of its entry, and none while it is free.
-fn has_place(kernel: &Kernel, var: u32) -> bool {
+fn has_place(kernel: &SearchKernel, var: u32) -> bool {
     match kernel.place(var) {
         None => kernel.value(var).is_none(),
         Some(place) => match kernel.trail().get(place) {
@@ -43,7 +43,7 @@ fn has_place(kernel: &Kernel, var: u32) -> bool {
     }
 }
 
-fn sees(alloc: Global, kernel: &mut Kernel, seen: &Seen) -> Result<bool, AllocError> {
+fn sees(alloc: Global, kernel: &mut SearchKernel, seen: &Seen) -> Result<bool, AllocError> {
     if !acts(alloc, kernel, seen.act)? || kernel.close()? != Closed::Quiet {
         return Ok(false);
     }
@@ -51,7 +51,11 @@ fn sees(alloc: Global, kernel: &mut Kernel, seen: &Seen) -> Result<bool, AllocEr
     Ok(found == (seen.level, seen.least_free) && has_values(kernel, seen.values))
 }
 
-fn first_failed(alloc: Global, kernel: &mut Kernel, rows: &[Seen]) -> Result<Option<usize>, Fail> {
+fn first_failed(
+    alloc: Global,
+    kernel: &mut SearchKernel,
+    rows: &[Seen],
+) -> Result<Option<usize>, Fail> {
     for place in 0..rows.len() {
         if !sees(alloc, kernel, &rows[place])? {
             return Ok(Some(place));
@@ -132,7 +136,7 @@ fn looks_up_and_goes_back(rt: HostRuntime) -> Result<(), Fail> {
 
 /// Decides the least free variable, false, while there is one. The level that this comes to, if it
 /// is as it is to be.
-fn decide_all(kernel: &mut Kernel) -> Result<Option<u32>, Fail> {
+fn decide_all(kernel: &mut SearchKernel) -> Result<Option<u32>, Fail> {
     for var in 1..=kernel.vars() {
         if kernel.least_free() != Some(var) || !decide_least(kernel)? {
             return Ok(None);
@@ -144,7 +148,7 @@ fn decide_all(kernel: &mut Kernel) -> Result<Option<u32>, Fail> {
     Ok(Some(kernel.level()))
 }
 
-fn decide_least(kernel: &mut Kernel) -> Result<bool, AllocError> {
+fn decide_least(kernel: &mut SearchKernel) -> Result<bool, AllocError> {
     match kernel.least_free() {
         Some(var) if var < 262144 => decide(kernel, -(var as i32)),
         _ => Ok(false),

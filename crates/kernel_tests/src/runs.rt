@@ -8,7 +8,7 @@ use crate::dice::{Dice, formula_text};
 use crate::forgetting::{forget, is_reason};
 use crate::scan::Scan;
 use cnf::{Formula, Lit, read_formula};
-use kernel::{Closed, Cube, Kernel, Order};
+use kernel::{Closed, Cube, Order, SearchKernel};
 use samples::cube_of;
 use std::alloc::{AllocError, Global};
 use std::test::Fail;
@@ -16,13 +16,13 @@ use std::test::Fail;
 /// A kernel, and the scan that goes along with it.
 #[derive(Drop)]
 struct Twins {
-    kernel: Kernel,
+    kernel: SearchKernel,
     scan: Scan,
 }
 
 /// The negation of the last entry's literal, which is false at the current level; 0 where there is
 /// no entry.
-fn last_negated(kernel: &Kernel) -> i32 {
+fn last_negated(kernel: &SearchKernel) -> i32 {
     match kernel.trail().last() {
         Some(entry) => {
             let entry = *entry;
@@ -42,7 +42,7 @@ fn small_cube(alloc: Global, dice: &mut Dice, vars: u32) -> Result<Cube, AllocEr
 }
 
 /// A clause of one to three literals.
-fn learn(kernel: &mut Kernel, clause: &[i32]) -> Result<bool, AllocError> {
+fn learn(kernel: &mut SearchKernel, clause: &[i32]) -> Result<bool, AllocError> {
     match clause {
         [free] => learn_unit(kernel, *free),
         [lit, free] => learn_pair(kernel, *lit, *free),
@@ -52,7 +52,11 @@ fn learn(kernel: &mut Kernel, clause: &[i32]) -> Result<bool, AllocError> {
 }
 
 /// Learnt clauses that may be forgotten: each of them or not.
-fn some_learnt(alloc: Global, dice: &mut Dice, kernel: &Kernel) -> Result<Vec<u64>, AllocError> {
+fn some_learnt(
+    alloc: Global,
+    dice: &mut Dice,
+    kernel: &SearchKernel,
+) -> Result<Vec<u64>, AllocError> {
     let mut numbers = Vec::new(alloc);
     for place in kernel.first_count()..kernel.count() {
         let number = place.saturating_add(1);
@@ -73,7 +77,7 @@ impl Twins {
         let cube = small_cube(alloc, dice, formula.vars())?;
         let units = small_cube(alloc, dice, formula.vars())?;
         Ok(Twins {
-            kernel: Kernel::open_in_order(alloc, formula, units.lits(), &cube, order)?,
+            kernel: SearchKernel::open(alloc, formula, units.lits(), &cube, order)?,
             scan: Scan::open(alloc, formula, units.lits(), cube.lits(), order)?,
         })
     }

@@ -1,6 +1,6 @@
 //! How many visits of clauses propagation makes.
 use crate::acts::{decide, opened};
-use kernel::{Closed, Kernel};
+use kernel::{Closed, SearchKernel};
 use std::alloc::{AllocError, Global};
 use std::test::Fail;
 
@@ -15,7 +15,7 @@ pub fn thousand(alloc: Global) -> Result<Vec<u8>, AllocError> {
 }
 
 /// Decides a literal, and how many visits propagation then makes.
-fn visits_after(kernel: &mut Kernel, number: i32) -> Result<Option<u64>, AllocError> {
+fn visits_after(kernel: &mut SearchKernel, number: i32) -> Result<Option<u64>, AllocError> {
     let before = kernel.visits();
     if !decide(kernel, number)? || kernel.close()? != Closed::Quiet {
         return Ok(None);
@@ -27,7 +27,7 @@ fn visits_after(kernel: &mut Kernel, number: i32) -> Result<Option<u64>, AllocEr
 /// variable 3 its value.
 type Visits = (u64, Option<u64>, Option<u64>, Option<u64>);
 
-fn visits(kernel: &mut Kernel) -> Result<Visits, Fail> {
+fn visits(kernel: &mut SearchKernel) -> Result<Visits, Fail> {
     let before = kernel.visits();
     let unwatched = visits_after(kernel, -1)?;
     let watched = visits_after(kernel, -2)?;

@@ -3,3 +3,4 @@ pub mod RankingOrder
 pub mod RankingLemmas
 pub mod TrailLengths
 pub mod LookLemmas
+pub mod ArrangedCounts

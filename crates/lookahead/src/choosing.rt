@@ -8,14 +8,14 @@ ghost use Rattle.lookahead.specs.Resting.{IsAtRest};
 
 use crate::ranking::Ranking;
 use cnf::Lit;
-use kernel::{Closed, Kernel};
+use kernel::{Closed, SearchKernel};
 use std::alloc::{AllocError, Global};
 use std::marker::Model;
 
 /// How many entries the decision of a free literal brings to the trail, itself among them; none
 /// where a clause comes to be false. It leaves the kernel as it was, except where memory is
 /// refused.
-fn brings(kernel: &mut Kernel, lit: Lit) -> Result<Option<u64>, AllocError>
+fn brings(kernel: &mut SearchKernel, lit: Lit) -> Result<Option<u64>, AllocError>
     requires rest { IsAtRest kernel.old }
     requires free { IsVariable kernel.old.vars lit.var × (has_var (literals kernel.old.trail) lit.var ≡ false) }
     ensures brings { IfOk result (Brings kernel.old.clauses kernel.old.trail lit) }
@@ -35,7 +35,7 @@ fn brings(kernel: &mut Kernel, lit: Lit) -> Result<Option<u64>, AllocError>
 
 /// What a free variable is worth; none where one of its literals fails. Its negation is tried
 /// first.
-fn worth(kernel: &mut Kernel, var: u32) -> Result<Option<u64>, AllocError>
+fn worth(kernel: &mut SearchKernel, var: u32) -> Result<Option<u64>, AllocError>
     requires rest { IsAtRest kernel.old }
     requires free { IsVariable kernel.old.vars var × (has_var (literals kernel.old.trail) var ≡ false) }
     ensures worth { IfOk result (IsWorth kernel.old.clauses kernel.old.trail var) }
@@ -80,7 +80,7 @@ fn better(first: Choice, second: Choice) -> Choice
 
 /// The first of the candidates of which a literal fails, or, where there is none, the one that is
 /// worth most.
-fn best(kernel: &mut Kernel, candidates: &[u32]) -> Result<u32, AllocError>
+fn best(kernel: &mut SearchKernel, candidates: &[u32]) -> Result<u32, AllocError>
     requires rest { IsAtRest kernel.old }
     requires free { All (λ x. IsVariable kernel.old.vars x × (has_var (literals kernel.old.trail) x ≡ false)) candidates.now }
     ensures chooses { IfOk result (Chooses kernel.old.clauses kernel.old.trail no_choice candidates.now) }
@@ -99,7 +99,11 @@ fn best(kernel: &mut Kernel, candidates: &[u32]) -> Result<u32, AllocError>
 /// The variable that a cube is split on, where propagation left the kernel's trail at level 0. It
 /// takes time by the propagation of two literals for each of at most 32 candidates, and leaves the
 /// kernel as it was, except where memory is refused.
-pub fn choose(alloc: Global, kernel: &mut Kernel, ranking: &Ranking) -> Result<u32, AllocError>
+pub fn choose(
+    alloc: Global,
+    kernel: &mut SearchKernel,
+    ranking: &Ranking,
+) -> Result<u32, AllocError>
     requires rest { IsAtRest kernel.old }
     requires ranking { IsRanking kernel.old.vars kernel.old.clauses ranking.now }
     ensures chooses { IfOk result (Chooses kernel.old.clauses kernel.old.trail no_choice

@@ -5,7 +5,7 @@ ghost use Rattle.theory.specs.Truth.{IsOver};
 ghost use Rattle.lookahead.specs.Tables.{code, at, AreStamped, AreOccurrences};
 
 use cnf::Lit;
-use kernel::Kernel;
+use kernel::SearchKernel;
 use std::alloc::{AllocError, Global};
 
 /// A kernel has room for fewer clauses.
@@ -84,7 +84,7 @@ fn count_clause(counts: &mut [u32], stamps: &mut [u32], vars: u32, clause: &[Lit
 }
 
 /// Counts so many first clauses.
-fn count_all(counts: &mut [u32], stamps: &mut [u32], kernel: &Kernel, first: u32)
+fn count_all(counts: &mut [u32], stamps: &mut [u32], kernel: &SearchKernel, first: u32)
     requires first { (first ≤ length kernel.now.clauses) × (kernel.now.vars < 2 ^ 31) }
     requires room { (length counts.old ≡ 2 * kernel.now.vars + 2) × (length stamps.old ≡ 2 * kernel.now.vars + 2) }
     requires none { ((i : ℕ) → at counts.old i ≡ 0) × ((i : ℕ) → at stamps.old i ≡ 0) }
@@ -95,7 +95,7 @@ fn count_all(counts: &mut [u32], stamps: &mut [u32], kernel: &Kernel, first: u32
     let _trail = kernel.trail(); // it ensures that the clauses are over the variables
     for before in 0..first {
         let number = before + 1;
-        let clause = kernel.clause(u64::from(number));
+        let clause = kernel.arranged(u64::from(number));
         count_clause(counts, stamps, vars, clause, number);
     }
 }
@@ -103,7 +103,7 @@ fn count_all(counts: &mut [u32], stamps: &mut [u32], kernel: &Kernel, first: u32
 /// In how many of the kernel's first clauses each literal stands, by its code; a clause with both
 /// literals of a variable doesn't count. It takes time by their literals, and 16 bytes a variable
 /// while it counts. More clauses than a kernel has room for count as want of memory.
-pub(crate) fn occurrences(alloc: Global, kernel: &Kernel) -> Result<Vec<u32>, AllocError>
+pub(crate) fn occurrences(alloc: Global, kernel: &SearchKernel) -> Result<Vec<u32>, AllocError>
     requires { kernel.now.vars < 2 ^ 31 }
     ensures occurrences { IfOk result (λ c. AreOccurrences kernel.now.vars (take kernel.now.first kernel.now.clauses) c.items) }
     ensures few { IfOk result (λ c. (l : Literal) → l.var ≤ kernel.now.vars → at c.items (code l) < 2 ^ 31) }

@@ -10,7 +10,7 @@ ghost use Rattle.lookahead.specs.Rankings.{goes_before, ranked_by, first_free, I
 
 use crate::occurrences::{code, occurrences};
 use cnf::Lit;
-use kernel::Kernel;
+use kernel::SearchKernel;
 use std::alloc::{AllocError, Global};
 use std::cmp::Ordering;
 use std::marker::Model;
@@ -90,7 +90,7 @@ impl Model for Ranking {
 impl Ranking {
     /// Ranks the variables. It takes time by the literals of the first clauses and a sort of the
     /// variables, and 16 bytes a variable.
-    pub fn of(alloc: Global, kernel: &Kernel) -> Result<Ranking, AllocError>
+    pub fn of(alloc: Global, kernel: &SearchKernel) -> Result<Ranking, AllocError>
         requires { kernel.now.vars < 2 ^ 31 }
         ensures { IfOk result (IsRanking kernel.now.vars (take kernel.now.first kernel.now.clauses)) }
     {
@@ -102,7 +102,11 @@ impl Ranking {
 
     /// The variables to try: the first ones that are free. It takes time by those that stand before
     /// them.
-    pub(crate) fn candidates(&self, alloc: Global, kernel: &Kernel) -> Result<Vec<u32>, AllocError>
+    pub(crate) fn candidates(
+        &self,
+        alloc: Global,
+        kernel: &SearchKernel,
+    ) -> Result<Vec<u32>, AllocError>
         ensures { IfOk result (λ xs. xs.items ≡ first_free max_candidates (literals kernel.now.trail) self.now) }
     {
         let mut candidates = Vec::new(alloc);

@@ -6,7 +6,7 @@ ghost use Rattle.theory.specs.Checked.{IsFitSplit, IsLeastSplit};
 ghost use Rattle.replay.specs.Splits.{IsReady};
 
 use cnf::{Formula, Lit};
-use kernel::{Closed, Cube, Kernel};
+use kernel::{Closed, Cube, Order, SearchKernel};
 use std::alloc::{AllocError, Global};
 
 /// Whether one of these literals is of a variable.
@@ -33,7 +33,7 @@ pub fn is_fit_split(formula: &Formula, cube: &Cube, var: u32) -> bool
 /// after the other.
 #[derive(Drop)]
 pub struct LeastSplits {
-    kernel: Kernel,
+    kernel: SearchKernel,
 }
 
 impl LeastSplits {
@@ -44,7 +44,7 @@ impl LeastSplits {
     {
         let units = formula.pure(alloc)?;
         let root = Cube::root(alloc);
-        let kernel = Kernel::open_with(alloc, formula, &units, &root)?;
+        let kernel = SearchKernel::open(alloc, formula, &units, &root, Order::ByNumber)?;
         Ok(LeastSplits { kernel })
     }
 

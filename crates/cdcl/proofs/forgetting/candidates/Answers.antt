@@ -4,24 +4,35 @@ use Rattle.theory.specs.Forgetting as forgetting
 use Rattle.theory.specs.Forgetting.{Candidate, is_reason}
 use Rattle.theory.proofs.literals.LiteralLemmas.{and-left, not_true}
 use Rattle.cdcl.proofs.MarkedSets.{mark-read}
-use Rattle.cdcl.proofs.ForgettingLemmas.{candidates-next, candidates-end, plain-at, length-plain}
+use Rattle.theory.specs.Propagation.{clause_at}
+use Rattle.cdcl.specs.Forgetful.{IsPlain}
+use Rattle.cdcl.proofs.ForgettingLemmas.{candidates-end, plain-at}
+use Rattle.cdcl.proofs.ArrangedCandidates.{two-arranged, length-arranged, candidates-arranged}
 use Rattle.cdcl.proofs.forgetting.candidates.Goals as goal
 use Rattle.cdcl.proofs.forgetting.candidates.Goals.{After-index, then-may_go+in_ok-push, else-may_go}
 
 inside : (c : After-index) → c.args.from - 1 + c.loop-at.at < length c.args.kernel.now.clauses
 inside c = let most = c.requires.learnt.1 in let more = c.loop-at-test.true in omega arith
 
+plain : (c : After-index) → IsPlain c.args.kernel.now.vars (clause_at c.args.kernel.now.clauses (c.args.from + c.loop-at.at))
+plain c = plain-at c.args.kernel.now.vars c.args.kernel.now.clauses c.args.from c.loop-at.at (clause_at c.args.kernel.now.clauses (c.args.from + c.loop-at.at)) c.requires.learnt.0 (inside c) refl c.requires.plain
+
 pub may_go-requires : goal.may_go-requires
-may_go-requires c = (c.args.kernel.now.vars, plain-at c.args.kernel.now.vars c.args.kernel.now.clauses c.args.from c.loop-at.at c.clause-clause.result.now c.requires.learnt.0 (inside c) c.clause-clause.ensures c.requires.plain)
+may_go-requires c both =
+    two-arranged c.args.kernel.now.vars (clause_at c.args.kernel.now.clauses (c.args.from + c.loop-at.at)) c.arranged-clause.result.now (plain c) c.arranged-clause.ensures both
 
 pub overflow_cast-size : goal.overflow_cast-size
 overflow_cast-size c =
+    let V = c.args.kernel.now.vars in
+    let K = c.args.kernel.now.clauses in
+    let given = clause_at K (c.args.from + c.loop-at.at) in
     let most = c.requires.learnt.1 in
     let more = c.loop-at-test.true in
-    let low : c.args.from - 1 + c.loop-at.at < length c.args.kernel.now.clauses = omega arith in
-    let plain = plain-at c.args.kernel.now.vars c.args.kernel.now.clauses c.args.from c.loop-at.at c.clause-clause.result.now c.requires.learnt.0 low c.clause-clause.ensures c.requires.plain in
-    let one = not_true (has_both_signs c.clause-clause.result.now) (and-left (not (has_both_signs c.clause-clause.result.now)) _ (sym c.may_go.ensures ∙ c.if-may_go.true)) in
-    let short = length-plain c.args.kernel.now.vars c.clause-clause.result.now plain one in
+    let low : c.args.from - 1 + c.loop-at.at < length K = omega arith in
+    let plain = plain-at V K c.args.from c.loop-at.at given c.requires.learnt.0 low refl c.requires.plain in
+    let d = c.arranged-clause.result.now in
+    let one = not_true (has_both_signs d) (and-left (not (has_both_signs d)) _ (sym c.may_go.ensures ∙ c.if-may_go.true)) in
+    let short = length-arranged V given d plain c.arranged-clause.ensures one in
     let few = c.requires.few.1 in
     omega arith
 
@@ -29,7 +40,7 @@ pub loop-at-preserved : goal.loop-at-preserved
 loop-at-preserved c d kept =
     let K = c.args.kernel.now.clauses in
     let T = c.args.kernel.now.trail in
-    let clause = c.clause-clause.result.now in
+    let clause = c.arranged-clause.result.now in
     let from = c.args.from in
     let at = c.loop-at.at in
     let g = slice_index_or c.args.glues.now at 0 in
@@ -37,7 +48,7 @@ loop-at-preserved c d kept =
     let more = c.loop-at-test.true in
     let low : from - 1 + at < length K = omega arith in
     let here : at < length c.args.glues.now = omega arith in
-    let next = candidates-next d T K c.args.glues.now from at g clause c.requires.learnt.0 low here c.clause-clause.ensures refl in
+    let next = candidates-arranged d T K c.args.glues.now from at g clause c.requires.learnt.0 low here c.arranged-clause.ensures refl in
     let before = c.loop-at.invariant d kept in
     let many : at < length c.in_ok-reasons.reasons.items = rw c.in_ok-reasons.ensures.long here in
     let reason : is_reason T (from + at) ≡ c.index.result.now =

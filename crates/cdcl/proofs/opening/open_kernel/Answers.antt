@@ -27,8 +27,8 @@ IsReady-opened order F units k is opened few = subst (IsReady order F) (sym open
   clauses = rw is (take-length (F.clauses ++ unit_clauses (pure_literals F)));
 })
 
-pub open_in_order-requires-clause-units : goal.open_in_order-requires-clause-units
-open_in_order-requires-clause-units c =
+pub open-requires-clause-units : goal.open-requires-clause-units
+open-requires-clause-units c =
     rw (c.deref.ensures.value, c.in_ok-units.ensures) (IsCube-pure_literals c.args.formula.now, IsOver-pure_literals c.args.formula.now)
 
 pub returns-clause-ready : goal.returns-clause-ready
