@@ -7,7 +7,7 @@ ghost use Rattle.lines.specs.Rows.{Part, row, whole, with_bytes, with_number, cl
 
 use crate::coding::{code_behind, hint_behind, literal_at};
 use crate::row::Row;
-use cnf::Lit;
+use cnf::{Lit, put_last};
 use std::alloc::AllocError;
 use std::marker::Model;
 
@@ -89,7 +89,7 @@ fn read_clause(bytes: &[u8], at: usize, clause: &mut Vec<Lit>) -> Result<usize, 
             return Ok(end);
         }
         last = code_behind(last, number.value);
-        clause.push(literal_at(last))?;
+        put_last(clause, literal_at(last))?;
     }
 }
 
@@ -112,7 +112,7 @@ fn read_hints(bytes: &[u8], at: usize, hints: &mut Vec<u64>) -> Result<usize, Al
             return Ok(end);
         }
         last = hint_behind(last, number.value);
-        hints.push(last)?;
+        put_last(hints, last)?;
     }
 }
 
