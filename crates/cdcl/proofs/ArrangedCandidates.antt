@@ -1,6 +1,6 @@
 -- Whether a learnt clause was forgotten, and whether it may be, is told by its literals in any
 -- order.
-use Rattle.std.proofs.Common.{◌≡◌, ℕ, ◌+◌, ◌-◌, ◌<◌, ◌≤◌, ◌&&◌, not, nat_lt, true, false, List, [], ◌∷◌, length, drop, get_or, refl, ap, sym, subst, ◌∙◌, inl, inr, if◌then◌else◌, IsPermutation}
+use Rattle.std.proofs.Common.{◌≡◌, ℕ, ◌+◌, ◌-◌, ◌<◌, ◌≤◌, ◌&&◌, not, nat_lt, true, false, List, ◌∷◌, length, drop, get_or, refl, ap, sym, subst, ◌∙◌, inl, inr, if◌then◌else◌, IsPermutation}
 use Rattle.std.proofs.lemmas.List.Sorted.{length_permutation}
 use Rattle.theory.specs.Literals.{Clause, has_both_signs}
 use Rattle.theory.specs.Plans.{Constants}

@@ -36,22 +36,18 @@ impl Learnt {
     }
 }
 
-/// The set of a conflict's literals.
-fn marks_of(
-    alloc: Global,
-    kernel: &SearchKernel,
-    room: &mut Room,
-    conflict: u64,
-) -> Result<Marks, AllocError>
-    requires { least_false (literals kernel.now.trail) kernel.now.clauses ≡ Some conflict }
-    ensures few { OnOk result (kernel.now.vars < 2 ^ 32) }
-    ensures set { IfOk result (IsSet kernel.now (with_literals (clause_at kernel.now.clauses conflict) []) (length kernel.now.trail)) }
-    ensures met { IfOk result (HaveMet kernel.now.clauses (conflict ∷ [])) }
+/// Puts the literals of a conflict into the empty set.
+fn put_conflict(kernel: &SearchKernel, marks: &mut Marks, conflict: u64) -> Result<(), AllocError>
+    requires conflict { least_false (literals kernel.now.trail) kernel.now.clauses ≡ Some conflict }
+    requires few { kernel.now.vars < 2 ^ 32 }
+    requires long { kernel.now.vars < length marks.old.marked.items }
+    requires clear { IsClear marks.old }
+    ensures set { OnOk result (IsSet kernel.now (with_literals (clause_at kernel.now.clauses conflict) []) (length kernel.now.trail) marks.new) }
+    ensures met { OnOk result (HaveMet kernel.now.clauses (conflict ∷ []) marks.new) }
 {
-    let mut marks = room.take(alloc, kernel.vars())?;
     let _trail = kernel.trail(); // it ensures what the proof needs of the trail
-    put_all(kernel, &mut marks, kernel.arranged(conflict))?;
-    Ok(marks)
+    put_all(kernel, marks, kernel.arranged(conflict))?;
+    Ok(())
 }
 
 /// Looks at the entry whose place came last: where the set is resolved on it, resolves with its
@@ -159,52 +155,54 @@ fn take_clause(
     Ok(())
 }
 
-/// What is left of the set of a conflict's literals after resolution, which has seen the variables
-/// of the clauses that the hints name.
+/// Makes the empty set what is left of the set of a conflict's literals after resolution, which has
+/// seen the variables of the clauses that the hints name.
 pub(crate) fn resolve_conflict(
     kernel: &SearchKernel,
-    room: &mut Room,
+    marks: &mut Marks,
     conflict: u64,
     hints: &mut Vec<u64>,
-) -> Result<Marks, AllocError>
-    requires { least_false (literals kernel.now.trail) kernel.now.clauses ≡ Some conflict }
-    ensures set { IfOk result (IsSet kernel.now
-        (walk kernel.now.clauses kernel.now.trail kernel.now.trail (with_literals (clause_at kernel.now.clauses conflict) []) (conflict ∷ [])).0 0) }
-    ensures done { IfOk result (λ m. m.pending ≡ []) }
+) -> Result<(), AllocError>
+    requires conflict { least_false (literals kernel.now.trail) kernel.now.clauses ≡ Some conflict }
+    requires few { kernel.now.vars < 2 ^ 32 }
+    requires long { kernel.now.vars < length marks.old.marked.items }
+    requires clear { IsClear marks.old }
+    ensures set { OnOk result (IsSet kernel.now
+        (walk kernel.now.clauses kernel.now.trail kernel.now.trail (with_literals (clause_at kernel.now.clauses conflict) []) (conflict ∷ [])).0 0 marks.new) }
+    ensures done { OnOk result (marks.new.pending ≡ []) }
     ensures hints { OnOk result (hints.new.items ≡ (learn kernel.now.clauses kernel.now.trail conflict).hints) }
-    ensures met { IfOk result (HaveMet kernel.now.clauses hints.new.items) }
+    ensures met { OnOk result (HaveMet kernel.now.clauses hints.new.items marks.new) }
 {
-    let alloc = *hints.allocator();
-    let mut marks = marks_of(alloc, kernel, room, conflict)?;
+    put_conflict(kernel, marks, conflict)?;
     hints.clear();
     hints.push(conflict)?;
-    walk(kernel, &mut marks, hints, conflict)?;
+    walk(kernel, marks, hints, conflict)?;
     hints.reverse();
-    Ok(marks)
+    Ok(())
 }
 
-/// Takes up the clause that is left, and the level to go back to. The marks go back into the room.
+/// Takes up the clause that is left, and the level to go back to. It leaves no mark.
 pub(crate) fn take_up(
     kernel: &SearchKernel,
-    room: &mut Room,
-    marks: Marks,
+    marks: &mut Marks,
     learnt: &mut Learnt,
 ) -> Result<(), AllocError>
-    requires set { (S : Clause) × (bound : ℕ) × IsSet kernel.now S bound marks }
-    requires done { marks.pending ≡ [] }
-    ensures clause { OnOk result ((S : Clause) → (bound : ℕ) → IsSet kernel.now S bound marks
+    requires set { (S : Clause) × (bound : ℕ) × IsSet kernel.now S bound marks.old }
+    requires done { marks.old.pending ≡ [] }
+    ensures clause { OnOk result ((S : Clause) → (bound : ℕ) → IsSet kernel.now S bound marks.old
         → learnt.new.clause.items ≡ filter (λ l. not (is_of_cube kernel.now.trail l)) S) }
     ensures level { OnOk result (learnt.new.level ≡ back_level kernel.now.trail learnt.new.clause.items) }
     ensures hints { learnt.new.hints.items ≡ learnt.old.hints.items }
+    ensures clear { OnOk result (IsClear marks.new) }
 {
-    let mut marks = marks;
-    take_clause(kernel, &mut marks, &mut learnt.clause)?;
-    room.put_back(marks);
+    take_clause(kernel, marks, &mut learnt.clause)?;
     learnt.level = back_level(kernel, &learnt.clause);
     Ok(())
 }
 
-/// What `analyze` answers, in room and in lists that are used again.
+/// What `analyze` answers, in room and in lists that are used again. The marks leave their room once
+/// a conflict and go back: handed on from call to call by value, they took a fortieth of a search of
+/// parity chains.
 pub(crate) fn analyze_in(
     kernel: &SearchKernel,
     room: &mut Room,
@@ -215,8 +213,10 @@ pub(crate) fn analyze_in(
     ensures line { OnOk result (line_of learnt.new ≡ learn kernel.now.clauses kernel.now.trail conflict) }
     ensures level { OnOk result (learnt.new.level ≡ back_level kernel.now.trail (learn kernel.now.clauses kernel.now.trail conflict).clause) }
 {
-    let marks = resolve_conflict(kernel, room, conflict, &mut learnt.hints)?;
-    take_up(kernel, room, marks, learnt)?;
+    let mut marks = room.take(*learnt.hints.allocator(), kernel.vars())?;
+    resolve_conflict(kernel, &mut marks, conflict, &mut learnt.hints)?;
+    take_up(kernel, &mut marks, learnt)?;
+    room.put_back(marks);
     Ok(())
 }
 

@@ -55,9 +55,11 @@ fn analyze_seeing(
         ≡ is_seen kernel.now.clauses kernel.now.trail (learn kernel.now.clauses kernel.now.trail conflict).hints v) }
     ensures bound { seen.new.bound ≡ seen.old.bound }
 {
-    let marks = resolve_conflict(kernel, room, conflict, &mut learnt.hints)?;
+    let mut marks = room.take(*learnt.hints.allocator(), kernel.vars())?;
+    resolve_conflict(kernel, &mut marks, conflict, &mut learnt.hints)?;
     see_all(kernel, seen, &marks.seen)?;
-    take_up(kernel, room, marks, learnt)?;
+    take_up(kernel, &mut marks, learnt)?;
+    room.put_back(marks);
     Ok(())
 }
 

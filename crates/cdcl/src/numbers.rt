@@ -2,6 +2,7 @@
 ghost use Rattle.std.specs.Prelude.{◌≡◌, ◌<◌, ℕ, false, [], All, IfOk, OnOk, OnErr, length, slice_index_or};
 ghost use Rattle.cdcl.specs.Numbers.{AreWith, AreAmong, StandOnce, is_one_of};
 
+use cnf::put_last;
 use std::alloc::{AllocError, Global};
 use std::marker::Model;
 
@@ -55,7 +56,7 @@ impl Numbers {
         ensures refused { OnErr result (self.new ≡ self.old) }
     {
         if !self.flags[number as usize] {
-            self.list.push(number)?;
+            put_last(&mut self.list, number)?;
             self.flags[number as usize] = true;
         }
         Ok(())
