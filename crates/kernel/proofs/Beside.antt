@@ -1,12 +1,12 @@
 -- The front literal beside another, found by codes alone.
-use Rattle.std.proofs.Common.{◌≡◌, ℕ, ◌+◌, ◌*◌, ◌/◌, ◌%◌, ◌<◌, ◌≤◌, Bool, true, false, [], ◌∷◌, bit_xor, nat_eq, length, slice_index_or, refl, ap, sym, ◌∙◌, arith, ◌⊎◌, inl, inr}
+use Rattle.std.proofs.Common.{◌≡◌, ℕ, ◌+◌, ◌*◌, ◌/◌, ◌%◌, ◌<◌, ◌≤◌, Bool, true, false, List, [], ◌∷◌, bit_xor, nat_eq, length, slice_index_or, refl, ap, sym, ◌∙◌, arith, ◌⊎◌, inl, inr}
 use lib.Bits.{xor_assoc, xor_comm, xor_self, xor_zero_r}
 use Rattle.theory.specs.Literals.{Literal, Clause, same}
 use Rattle.theory.proofs.literals.LiteralLemmas.{same-eq, same-refl}
 use Rattle.cnf.specs.Lits.{code}
 use Rattle.kernel.specs.declared.watch.Watched.{Watched}
 use Rattle.kernel.specs.Arranging.{front}
-use Rattle.kernel.specs.Seeing.{other_front}
+use Rattle.kernel.specs.Seeing.{CanSee, other_front}
 
 last-two : (a b : ℕ) → bit_xor (bit_xor a b) b ≡ a
 last-two a b = xor_assoc a b b ∙ ap (bit_xor a) (xor_self b) ∙ xor_zero_r a
@@ -67,3 +67,9 @@ var-beside c g a b long x y first second = rw (front-two c a b long x y) (either
 
 pub some-half : (l : Literal) (n : ℕ) → n ≡ code l → 1 ≤ l.var → 1 ≤ n / 2
 some-half l n e some = omega (arith, e, some)
+
+-- the literal beside one that became false is of a variable up to V
+pub beside-over : (V : ℕ) (P : List Literal) (g : Literal) (c : Clause) (k : Literal) → CanSee V P g c → k ≡ other_front (front c) g → k.var ≤ V
+beside-over V P g [] k s is = absurd (let a = s.long in omega (arith, a))
+beside-over V P g (a ∷ []) k s is = absurd (let b = s.long in omega (arith, b))
+beside-over V P g (a ∷ b ∷ r) k s is = rw is (either-front (λ l. l.var ≤ V) (front (a ∷ b ∷ r)) g (s.over 0 a (omega arith)).1 (s.over 1 a (omega arith)).1)

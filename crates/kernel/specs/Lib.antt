@@ -12,6 +12,7 @@ pub mod Rules
 pub mod Seeing
 pub mod Spelled
 pub mod State
+pub mod TruthTables
 pub mod Visiting
 pub mod Waiting
 pub mod Watching

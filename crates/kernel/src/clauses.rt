@@ -12,6 +12,7 @@ ghost use Rattle.kernel.specs.Watching.{At, IsPair};
 ghost use Rattle.kernel.specs.Forgetting.{Tells, names};
 ghost use Rattle.kernel.specs.Arranging.{front};
 ghost use Rattle.kernel.specs.Seeing.{CanSee, IsSeen};
+ghost use Rattle.kernel.specs.TruthTables.{AreTruths};
 
 use crate::arrange::lead;
 use crate::ends::{literals_at, start_of};
@@ -19,11 +20,11 @@ use crate::named::Named;
 use crate::replacement::Starts;
 use crate::room::and_a_quarter;
 use crate::sight::{Sight, look_at};
+use crate::truths::Truths;
 use crate::watch::Watched;
 use cnf::{Lit, put_literals};
 use std::alloc::{AllocError, Global};
 use std::marker::Model;
-use trail::Trail;
 
 /// Clauses, which are named by their places, from 0 on. One that was forgotten is `1 -1`, and takes
 /// 4 bytes.
@@ -164,14 +165,15 @@ impl Clauses {
 
     /// Looks at the clause at a place, of more than two literals, in which `gone`, one of the two
     /// front ones, became false.
-    pub fn look(&mut self, trail: &Trail, gone: Lit, index: usize, starts: &mut Starts) -> Sight
+    pub fn look(&mut self, truths: Truths, gone: Lit, index: usize, starts: &mut Starts) -> Sight
+        requires table { AreTruths truths.trail.now truths.table.now }
         requires within { index < length self.old }
-        requires clause { (c : Clause) → At self.old index c → (2 < length c) × CanSee trail.now.vars (literals trail.now.entries) gone c }
-        ensures { (c : Clause) → At self.old index c → (d : Clause) × (self.new ≡ slice_set self.old index d) × IsSeen (literals trail.now.entries) gone c d result }
+        requires clause { (c : Clause) → At self.old index c → (2 < length c) × CanSee truths.trail.now.vars (literals truths.trail.now.entries) gone c }
+        ensures { (c : Clause) → At self.old index c → (d : Clause) × (self.new ≡ slice_set self.old index d) × IsSeen (literals truths.entry.trail.now.entries) gone c d result }
     {
         let start = start_of(&self.ends, index);
         let end = self.ends[index] as usize;
-        look_at(trail, &mut self.lits[start..end], gone, starts, index)
+        look_at(truths, &mut self.lits[start..end], gone, starts, index)
     }
 
     /// Cuts off the clauses from a place on. It takes no memory, and leaves the room of the

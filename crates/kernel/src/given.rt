@@ -11,7 +11,7 @@ use cnf::Lit;
 use std::marker::Model;
 use std::snapshot::Snapshot;
 
-/// Clauses that only contracts read. They take no memory, and each call but `push` takes one step.
+/// Clauses that only contracts read. They take a few bytes, and each call but `push` takes one step.
 #[derive(Drop)]
 pub struct Given {
     last: Changed,

@@ -30,6 +30,7 @@ mod search_kernel;
 mod sight;
 mod spelled;
 mod store;
+mod truths;
 mod units;
 mod waiting_heap;
 mod waiting_queue;

@@ -18,6 +18,7 @@ ghost use Rattle.kernel.specs.declared.order.Order.{Order};
 ghost use Rattle.kernel.specs.Placing.{clauses_of, kept_with, HasPlace, PlacesOf, place_in, IsLastOf, AreInLine};
 ghost use Rattle.kernel.specs.EntryLists.{nth_list};
 ghost use Rattle.kernel.specs.Visiting.{WatchLists, kept_of, entries_at, CanVisit, IsVisit, IsLast, Replaces, tending, with_list, AreEntries};
+ghost use Rattle.kernel.specs.TruthTables.{AreTruths};
 
 use crate::entry_lists::{EntryLists, OpenList};
 use crate::last_false::last_place;
@@ -26,11 +27,12 @@ use crate::order::Order;
 use crate::replacement::Starts;
 use crate::sight::Sight;
 use crate::store::Store;
+use crate::truths::Truths;
 use crate::units::Units;
 use crate::watch::{PackedWatch, Watch, Watched, code};
 use cnf::Lit;
 use std::alloc::AllocError;
-use trail::{Trail, Truth, status_in};
+use trail::{Trail, Truth};
 
 /// Clauses with their watches, and what was found of them. Clauses are named by their places, from
 /// 0 on.
@@ -149,26 +151,27 @@ impl Propagator {
     /// Looks at the clause of an entry in the list of a literal that became false.
     fn look(
         &mut self,
-        trail: &Trail,
+        truths: Truths,
         gone: Lit,
         watch: Watch,
         place: Option<usize>,
         line: &mut Line,
     ) -> Result<Option<Lit>, AllocError>
+        requires table { AreTruths truths.trail.now truths.table.now }
         requires small { watch.clause < 2 ^ 31 }
         requires long { watch.is_short ≡ false }
-        requires visit { CanVisit self.old.clauses.given (literals trail.now.entries) gone watch (kept_with self.old line.old) }
-        requires over { All (IsOver trail.now.vars) self.old.clauses.given }
-        requires lists { length self.old.lists ≡ 2 * trail.now.vars + 2 }
-        ensures visit { IfOk result (λ r. IsVisit self.old.clauses.given (literals trail.now.entries) gone watch (kept_with self.old line.old) (kept_with self.new line.new) r) }
-        ensures line { OnOk result ((o : Order) → PlacesOf o trail.now.entries gone place → AreInLine o self.old.clauses.given trail.now.entries line.old → AreInLine o self.old.clauses.given trail.now.entries line.new) }
+        requires visit { CanVisit self.old.clauses.given (literals truths.trail.now.entries) gone watch (kept_with self.old line.old) }
+        requires over { All (IsOver truths.trail.now.vars) self.old.clauses.given }
+        requires lists { length self.old.lists ≡ 2 * truths.trail.now.vars + 2 }
+        ensures visit { IfOk result (λ r. IsVisit self.old.clauses.given (literals truths.entry.trail.now.entries) gone watch (kept_with self.old line.old) (kept_with self.new line.new) r) }
+        ensures line { OnOk result ((o : Order) → PlacesOf o truths.entry.trail.now.entries gone place → AreInLine o self.old.clauses.given truths.entry.trail.now.entries line.old → AreInLine o self.old.clauses.given truths.entry.trail.now.entries line.new) }
         ensures list { nth_list self.new.lists (code gone) ≡ nth_list self.old.lists (code gone) }
         ensures kept { (self.new.clauses.given ≡ self.old.clauses.given) × (length self.new.lists ≡ length self.old.lists) × (self.new.units ≡ self.old.units) }
     {
         let clause = watch.clause;
         match self
             .clauses
-            .look(trail, gone, clause as usize, &mut self.starts)
+            .look(truths, gone, clause as usize, &mut self.starts)
         {
             Sight::Satisfied(other) => Ok(Some(other)),
             Sight::Moved(watched) => {
@@ -183,7 +186,7 @@ impl Propagator {
                 Ok(None)
             }
             Sight::Last(other, status) => {
-                self.note(trail, clause, other, status, place, line)?;
+                self.note(truths.trail, clause, other, status, place, line)?;
                 Ok(Some(other))
             }
         }
@@ -196,20 +199,21 @@ impl Propagator {
     /// next propagation.
     fn visit(
         &mut self,
-        trail: &Trail,
+        truths: Truths,
         gone: Lit,
         watch: Watch,
         status: Truth,
         place: Option<usize>,
         line: &mut Line,
     ) -> Result<Option<Lit>, AllocError>
+        requires table { AreTruths truths.trail.now truths.table.now }
         requires small { watch.clause < 2 ^ 31 }
-        requires status { IsTruth (literals trail.now.entries) watch.blocker (value_of status) × (value_of status ≢ Some true) }
-        requires visit { CanVisit self.old.clauses.given (literals trail.now.entries) gone watch (kept_with self.old line.old) }
-        requires over { All (IsOver trail.now.vars) self.old.clauses.given }
-        requires lists { length self.old.lists ≡ 2 * trail.now.vars + 2 }
-        ensures visit { IfOk result (λ r. IsVisit self.old.clauses.given (literals trail.now.entries) gone watch (kept_with self.old line.old) (kept_with self.new line.new) r) }
-        ensures line { OnOk result ((o : Order) → PlacesOf o trail.now.entries gone place → AreInLine o self.old.clauses.given trail.now.entries line.old → AreInLine o self.old.clauses.given trail.now.entries line.new) }
+        requires status { IsTruth (literals truths.trail.now.entries) watch.blocker (value_of status) × (value_of status ≢ Some true) }
+        requires visit { CanVisit self.old.clauses.given (literals truths.trail.now.entries) gone watch (kept_with self.old line.old) }
+        requires over { All (IsOver truths.trail.now.vars) self.old.clauses.given }
+        requires lists { length self.old.lists ≡ 2 * truths.trail.now.vars + 2 }
+        ensures visit { IfOk result (λ r. IsVisit self.old.clauses.given (literals truths.entry.trail.now.entries) gone watch (kept_with self.old line.old) (kept_with self.new line.new) r) }
+        ensures line { OnOk result ((o : Order) → PlacesOf o truths.entry.trail.now.entries gone place → AreInLine o self.old.clauses.given truths.entry.trail.now.entries line.old → AreInLine o self.old.clauses.given truths.entry.trail.now.entries line.new) }
         ensures list { nth_list self.new.lists (code gone) ≡ nth_list self.old.lists (code gone) }
         ensures kept { (self.new.clauses.given ≡ self.old.clauses.given) × (length self.new.lists ≡ length self.old.lists) × (self.new.units ≡ self.old.units) }
     {
@@ -219,10 +223,17 @@ impl Propagator {
             }
         }
         if watch.is_short {
-            self.note(trail, watch.clause, watch.blocker, status, place, line)?;
+            self.note(
+                truths.trail,
+                watch.clause,
+                watch.blocker,
+                status,
+                place,
+                line,
+            )?;
             return Ok(Some(watch.blocker));
         }
-        self.look(trail, gone, watch, place, line)
+        self.look(truths, gone, watch, place, line)
     }
 
     /// Visits each clause that watches a literal which became false. Most visits end at a blocker
@@ -250,17 +261,18 @@ impl Propagator {
         ensures entries { OnOk result (AreEntries self.old.clauses.given (kept_of self.new)) }
         ensures kept { (self.new.clauses.given ≡ self.old.clauses.given) × (length self.new.lists ≡ length self.old.lists) × (self.new.units ≡ self.old.units) }
     {
-        let truths = trail.truths();
+        let table = trail.truths();
+        let truths = Truths { trail, table };
         let list = self.open_list(gone);
         let mut kept = 0;
         for place in 0..list.len {
             let entry = self.entry(list, place);
             let watch = entry.watch();
-            let status = status_in(truths, watch.blocker);
+            let status = truths.status(watch.blocker);
             if status.is_satisfied() {
                 self.keep_entry(list, kept, entry);
                 kept += 1;
-            } else if let Some(blocker) = self.visit(trail, gone, watch, status, found, line)? {
+            } else if let Some(blocker) = self.visit(truths, gone, watch, status, found, line)? {
                 self.keep_entry(list, kept, entry.with_blocker(blocker));
                 kept += 1;
             }

@@ -11,7 +11,9 @@ ghost use Rattle.theory.specs.Truth.{IsOver};
 ghost use Rattle.theory.specs.Trails.{literals};
 ghost use Rattle.kernel.specs.Visiting.{IsLast};
 ghost use Rattle.kernel.specs.Seeing.{IsFirstOpen, IsFound};
+ghost use Rattle.kernel.specs.TruthTables.{AreTruths};
 
+use crate::truths::Truths;
 use cnf::Lit;
 use std::alloc::{AllocError, Global};
 use trail::Trail;
@@ -57,14 +59,15 @@ impl Starts {
 
 /// The place of the first literal from a place on that isn't false. It asks nothing else of a
 /// literal, since propagation passes most of them here.
-fn first_open(trail: &Trail, clause: &[Lit], start: usize) -> Option<usize>
-    requires over { IsOver trail.now.vars clause.now }
+fn first_open(truths: Truths, clause: &[Lit], start: usize) -> Option<usize>
+    requires table { AreTruths truths.trail.now truths.table.now }
+    requires over { IsOver truths.trail.now.vars clause.now }
     requires start { start ≤ length clause.now }
-    ensures some { IfSome result (IsFirstOpen (literals trail.now.entries) clause.now start) }
-    ensures none { IfNone result ((k : Literal) → IsLast (literals trail.now.entries) (take start clause.now) k → IsLast (literals trail.now.entries) clause.now k) }
+    ensures some { IfSome result (IsFirstOpen (literals truths.entry.trail.now.entries) clause.now start) }
+    ensures none { IfNone result ((k : Literal) → IsLast (literals truths.entry.trail.now.entries) (take start clause.now) k → IsLast (literals truths.entry.trail.now.entries) clause.now k) }
 {
     for place in start..clause.len() {
-        if !trail.status(clause[place]).is_falsified() {
+        if !truths.status(clause[place]).is_falsified() {
             return Some(place);
         }
     }
@@ -149,26 +152,27 @@ fn long_replacement(
 /// itself may stand there too. The answer is the place alone, which fits into registers, counted in
 /// the whole clause, so that one address serves this search and what is done with the literal.
 pub fn replacement(
-    trail: &Trail,
+    truths: Truths,
     clause: &[Lit],
     except: Lit,
     starts: &mut Starts,
     number: usize,
 ) -> Option<usize>
-    requires over { IsOver trail.now.vars clause.now }
+    requires table { AreTruths truths.trail.now truths.table.now }
+    requires over { IsOver truths.trail.now.vars clause.now }
     requires long { 2 ≤ length clause.now }
-    requires front { IsLast (literals trail.now.entries) (take 2 clause.now) except }
-    ensures some { IfSome result (λ place. (2 ≤ place) × IsFound (literals trail.now.entries) clause.now except place) }
-    ensures none { IfNone result (IsLast (literals trail.now.entries) clause.now except) }
+    requires front { IsLast (literals truths.trail.now.entries) (take 2 clause.now) except }
+    ensures some { IfSome result (λ place. (2 ≤ place) × IsFound (literals truths.entry.trail.now.entries) clause.now except place) }
+    ensures none { IfNone result (IsLast (literals truths.entry.trail.now.entries) clause.now except) }
 {
     if clause.len() - 2 > LONG {
-        return long_replacement(trail, clause, except, starts, number);
+        return long_replacement(truths.trail, clause, except, starts, number);
     }
-    match first_open(trail, clause, 2) {
+    match first_open(truths, clause, 2) {
         None => None,
         Some(place) => {
             if clause[place].same(&except) {
-                next_replacement(trail, clause, except, place)
+                next_replacement(truths.trail, clause, except, place)
             } else {
                 Some(place)
             }

@@ -7,11 +7,13 @@ ghost use Rattle.theory.specs.Trails.{literals};
 ghost use Rattle.cnf.specs.Lits.{code};
 ghost use Rattle.kernel.specs.Arranging.{front};
 ghost use Rattle.kernel.specs.Seeing.{CanSee, IsSeen, other_front};
+ghost use Rattle.kernel.specs.TruthTables.{AreTruths};
 
 use crate::replacement::{Starts, replacement};
+use crate::truths::Truths;
 use crate::watch::Watched;
 use cnf::Lit;
-use trail::{Trail, Truth};
+use trail::Truth;
 
 /// What is seen of a clause.
 #[derive(Clone, Copy)]
@@ -69,21 +71,22 @@ fn bring(lits: &mut [Lit], gone: Lit, other: Lit, place: usize) -> Watched
 
 /// Looks at a clause in which `gone`, one of the two front literals, became false.
 pub fn look_at(
-    trail: &Trail,
+    truths: Truths,
     lits: &mut [Lit],
     gone: Lit,
     starts: &mut Starts,
     number: usize,
 ) -> Sight
-    requires { CanSee trail.now.vars (literals trail.now.entries) gone lits.old }
-    ensures { IsSeen (literals trail.now.entries) gone lits.old lits.new result }
+    requires table { AreTruths truths.trail.now truths.table.now }
+    requires sees { CanSee truths.trail.now.vars (literals truths.trail.now.entries) gone lits.old }
+    ensures { IsSeen (literals truths.entry.trail.now.entries) gone lits.old lits.new result }
 {
     let other = beside(lits, gone);
-    let status = trail.status(other);
+    let status = truths.status(other);
     if status.is_satisfied() {
         return Sight::Satisfied(other);
     }
-    match replacement(trail, lits, other, starts, number) {
+    match replacement(truths, lits, other, starts, number) {
         None => Sight::Last(other, status),
         Some(place) => Sight::Moved(bring(lits, gone, other, place)),
     }

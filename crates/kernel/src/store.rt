@@ -1,7 +1,7 @@
 //! Clauses, arranged for propagation: it changes the order of a clause's literals as it likes. What
 //! the clauses were as given is what contracts speak of, and nothing else needs to know it: neither
-//! propagation nor analysis asks for the order of a clause's literals. A copy as given took a third
-//! of a kernel's memory, and a tenth of the time of large formulas.
+//! propagation nor analysis asks for the order of a clause's literals. A copy as given took up to a
+//! fifth of a run's memory, and a tenth of the time of large formulas.
 ghost use Rattle.std.specs.Prelude.{◌≡◌, ◌+◌, ◌<◌, ◌≤◌, ◌⊎◌, [], ◌∷◌, ◌++◌, All, length, take, IfOk, OnOk, OnErr, slice_index_or, slice_set, ℕ, List, false, true};
 ghost use Rattle.std.specs.List.Sorted.{IsPermutation};
 ghost use Rattle.theory.specs.Literals.{Clause, has, negated};
@@ -13,17 +13,18 @@ ghost use Rattle.kernel.specs.Watching.{At, IsPair};
 ghost use Rattle.kernel.specs.Forgetting.{Tells, ArePairsLeft, names};
 ghost use Rattle.kernel.specs.Arranging.{front};
 ghost use Rattle.kernel.specs.Seeing.{IsSight};
+ghost use Rattle.kernel.specs.TruthTables.{AreTruths};
 
 use crate::clauses::Clauses;
 use crate::given::Given;
 use crate::named::Named;
 use crate::replacement::Starts;
 use crate::sight::Sight;
+use crate::truths::Truths;
 use crate::watch::Watched;
 use cnf::{Formula, Lit};
 use std::alloc::{AllocError, Global};
 use std::marker::Model;
-use trail::Trail;
 
 /// Clauses under two watched literals. They are named by their places, from 0 on.
 pub struct Store {
@@ -143,17 +144,18 @@ impl Store {
 
     /// Looks at the clause at a place, of more than two literals, in which the watched literal
     /// `gone` became false.
-    pub fn look(&mut self, trail: &Trail, gone: Lit, index: usize, starts: &mut Starts) -> Sight
+    pub fn look(&mut self, truths: Truths, gone: Lit, index: usize, starts: &mut Starts) -> Sight
+        requires table { AreTruths truths.trail.now truths.table.now }
         requires within { index < length self.old.given }
-        requires over { All (IsOver trail.now.vars) self.old.given }
+        requires over { All (IsOver truths.trail.now.vars) self.old.given }
         requires long { (c : Clause) → At self.old.given index c → 2 < length c }
-        requires gone { has (literals trail.now.entries) (negated gone) ≡ true }
+        requires gone { has (literals truths.trail.now.entries) (negated gone) ≡ true }
         requires watched { (w : Watched) → At self.old.pairs index w → (w.first ≡ gone) ⊎ (w.second ≡ gone) }
         ensures given { self.new.given ≡ self.old.given }
         ensures seen { (c : Clause) (w : Watched) → At self.old.given index c → At self.old.pairs index w
-            → (u : Watched) × (self.new.pairs ≡ slice_set self.old.pairs index u) × IsSight (literals trail.now.entries) gone c w u result }
+            → (u : Watched) × (self.new.pairs ≡ slice_set self.old.pairs index u) × IsSight (literals truths.entry.trail.now.entries) gone c w u result }
     {
-        self.arranged.look(trail, gone, index, starts)
+        self.arranged.look(truths, gone, index, starts)
     }
 }
 

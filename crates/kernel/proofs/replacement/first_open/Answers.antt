@@ -10,6 +10,6 @@ returns-then-not-is_falsified-clause-some c = record {
   lit = c.index-clause-place.result;
   at = (c.loop-place-test.true, sym c.index-clause-place.is);
   behind = c.loop-place.invariant.0;
-  not_false = not-false (literals c.args.trail.now.entries) c.index-clause-place.result (value_of c.status.result) (distinct-consistent (literals c.args.trail.now.entries) c.status.ensures.ordered.distinct) c.status.ensures.truth (c.is_falsified.ensures.no c.if-not-is_falsified.true);
+  not_false = not-false (literals c.args.truths.trail.now.entries) c.index-clause-place.result (value_of c.status.result) (distinct-consistent (literals c.args.truths.trail.now.entries) c.requires.table.ordered.distinct) c.status.ensures (c.is_falsified.ensures.no c.if-not-is_falsified.true);
   before = c.loop-place.invariant.1;
 }

@@ -6,4 +6,4 @@ use Rattle.kernel.proofs.replacement.first_open.Given as goal
 
 -- the literals from the start so far are false
 abbrev pub invariant-loop-place : goal.invariant-loop-place
-invariant-loop-place l = (l.fn.start ≤ l.place) × ((k : Literal) → IsLast (literals l.trail.entries) (take l.fn.start l.clause) k → IsLast (literals l.trail.entries) (take l.place l.clause) k)
+invariant-loop-place l = (l.fn.start ≤ l.place) × ((k : Literal) → IsLast (literals l.truths.trail.now.entries) (take l.fn.start l.clause) k → IsLast (literals l.truths.trail.now.entries) (take l.place l.clause) k)

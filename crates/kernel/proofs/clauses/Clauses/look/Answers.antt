@@ -60,8 +60,8 @@ slice_bounds-look_at-end c =
     let h = high c in
     search rules
 
-pub look_at-requires : goal.look_at-requires
-look_at-requires c =
+pub look_at-requires-clause-sees : goal.look_at-requires-clause-sees
+look_at-requires-clause-sees c =
     let first = c.self.inside.first in
     let kept = pieces 0 c.self.inside.lits.items c.self.inside.ends.items in
     let d : Clause = get_or c.args.self.now c.args.index [] in
@@ -69,7 +69,7 @@ look_at-requires c =
     let raw : At kept c.args.index d = shown-long first c.args.index kept d (subst (λ (K : List Clause). At K c.args.index d) (sym c.self.view_is) at) (c.requires.clause d at).0 in
     let start : c.start_of-start.result ≡ start_at 0 c.self.inside.ends.items c.args.index = c.start_of-start.ensures ∙ ap (λ ends. start_at 0 ends c.args.index) c.deref.ensures.value in
     let read : take (c.index.result.now - c.start_of-start.result) (drop c.start_of-start.result c.deref_mut.result.now) ≡ d = part-read c.self.inside.lits.items c.deref_mut.result.now c.self.inside.ends.items kept c.args.index c.start_of-start.result c.index.result.now refl c.self.invariant.0 raw.0 c.deref_mut.ensures.value start c.index.ensures d raw.1 in
-    subst (λ (x : Clause). CanSee c.args.trail.now.vars (literals c.args.trail.now.entries) c.args.gone x) (sym read) (c.requires.clause d at).1
+    subst (λ (x : Clause). CanSee c.args.truths.trail.now.vars (literals c.args.truths.trail.now.entries) c.args.gone x) (sym read) (c.requires.clause d at).1
 
 begins : (c : goal.After-self-1) → c.start_of-start.result ≡ start_at 0 c.self.inside.ends.items c.args.index
 begins c = c.start_of-start.ensures ∙ ap (λ ends. start_at 0 ends c.args.index) c.deref.ensures.value
@@ -114,5 +114,5 @@ returns c d at =
     let some : new ≡ [] → ⊥ = λ z. let n = (c.requires.clause d at).0 in let none : length new ≡ 0 = ap length z in omega (arith, long, n, none) in (
       new,
       ap (λ (xs : List Literal). shown first (pieces 0 xs ends)) (items c) ∙ (ap (shown first) put ∙ (shown-set first c.args.index kept new some ∙ ap (λ (K : List Clause). set K c.args.index new) c.self.view_is)),
-      subst (λ (x : Clause). IsSeen (literals c.args.trail.now.entries) c.args.gone x new c.look_at.result) read c.look_at.ensures,
+      subst (λ (x : Clause). IsSeen (literals c.args.truths.trail.now.entries) c.args.gone x new c.look_at.result) read c.look_at.ensures,
     )

@@ -19,8 +19,8 @@ list-requires-clause-lit c =
     let d = clause _ _ _ _ _ v long in
     let at = clause-at _ _ _ _ _ v long in
     let seen = c.in-Moved.ensures.seen d (pair _ _ _ _ _ v long) at (pair-at _ _ _ _ _ v long) in
-    code-within c.in-Moved.watched.second c.args.trail.now.vars _
-    (over-var c.args.trail.now.vars d c.in-Moved.watched.second (clause-over _ _ _ _ _ v c.args.trail.now.vars d c.requires.over at) seen.2.1.member)
+    code-within c.in-Moved.watched.second c.args.truths.trail.now.vars _
+    (over-var c.args.truths.trail.now.vars d c.in-Moved.watched.second (clause-over _ _ _ _ _ v c.args.truths.trail.now.vars d c.requires.over at) seen.2.1.member)
     c.requires.lists
 
 pub returns-in-Satisfied-clause-visit : goal.returns-in-Satisfied-clause-visit
@@ -58,11 +58,11 @@ returns-in_err-list-in-Moved-clause-list c =
     let v = c.requires.visit in
     let long = c.requires.long in
     let seen = c.in-Moved.ensures.seen (clause _ _ _ _ _ v long) (pair _ _ _ _ _ v long) (clause-at _ _ _ _ _ v long) (pair-at _ _ _ _ _ v long) in
-    c.list.ensures.others (code c.args.gone) (apart-codes (literals c.args.trail.now.entries) c.args.gone c.in-Moved.watched.second v.gone seen.2.1.not_false)
+    c.list.ensures.others (code c.args.gone) (apart-codes (literals c.args.truths.trail.now.entries) c.args.gone c.in-Moved.watched.second v.gone seen.2.1.not_false)
 
 pub returns-in_ok-list-in-Moved-clause-list : goal.returns-in_ok-list-in-Moved-clause-list
 returns-in_ok-list-in-Moved-clause-list c =
     let v = c.requires.visit in
     let long = c.requires.long in
     let seen = c.in-Moved.ensures.seen (clause _ _ _ _ _ v long) (pair _ _ _ _ _ v long) (clause-at _ _ _ _ _ v long) (pair-at _ _ _ _ _ v long) in
-    c.list.ensures.others (code c.args.gone) (apart-codes (literals c.args.trail.now.entries) c.args.gone c.in-Moved.watched.second v.gone seen.2.1.not_false)
+    c.list.ensures.others (code c.args.gone) (apart-codes (literals c.args.truths.trail.now.entries) c.args.gone c.in-Moved.watched.second v.gone seen.2.1.not_false)

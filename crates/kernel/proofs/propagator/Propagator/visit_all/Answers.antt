@@ -6,7 +6,6 @@ use Rattle.cnf.specs.Lits.{code}
 use Rattle.kernel.specs.Watching.{Walks, Tends, AllGood, At, without_nth}
 use Rattle.kernel.specs.EntryLists.{EntryList, entries_of, nth_list}
 use Rattle.trail.specs.Tables.{IsTruth, value_of}
-use Rattle.trail.proofs.Tables.{code-below}
 use Rattle.theory.specs.Literals.{has, negated}
 use Rattle.kernel.specs.Visiting.{WatchLists, AreEntries, kept_of, tending, with_list, IsVisit, satisfied}
 use Rattle.kernel.specs.Placing.{kept_with}
@@ -48,8 +47,8 @@ entry-entry-requires-clause-at c =
     let inside = gone-inside c.loop-place.self.lists c.args.trail.now.vars c.args.gone c.args.trail.now.entries c.requires.served.1 (i.lists ∙ c.requires.lists) c.requires.ordered.over c.requires.served.2 in
     rw c.open_list-list.ensures.at inside
 
-pub status_in-status-requires : goal.status_in-status-requires
-status_in-status-requires c =
+pub status-status-requires-clause-over : goal.status-status-requires-clause-over
+status-status-requires-clause-over c =
     let i = c.loop-place.invariant in
     let room = (nth_list c.loop-place.self.lists (code c.args.gone)).room in
     let len = c.open_list-list.result.len in
@@ -61,8 +60,21 @@ status_in-status-requires c =
     let inside = code-inside entries_of c.loop-place.self.lists c.args.trail.now.vars c.args.gone c.args.trail.now.entries c.requires.served.1 (i.lists ∙ c.requires.lists) c.requires.ordered.over c.requires.served.2 in
     let can = can-visit c.requires.served.0 c.args.self.now.clauses.given c.args.trail.now.entries c.requires.served.1 c.args.gone (kept_with c.loop-place.self c.loop-place.line) ws c.loop-place.kept e inside
     c.requires.served.2 (i.walks c.requires.served.0 c.requires.served.1 c.requires.served.2 c.requires.served.3) i.entries at in
-    let within : e.blocker.var ≤ c.args.trail.now.vars = over-of _ _ _ _ _ can c.args.trail.now.vars e.blocker c.requires.over can.entry.blocker_in in
-    code-below c.args.trail.now.vars _ e.blocker within c.truths-truths.ensures.long
+    over-of _ _ _ _ _ can c.args.trail.now.vars e.blocker c.requires.over can.entry.blocker_in
+
+pub visit-requires-clause-table : goal.visit-requires-clause-table
+visit-requires-clause-table c = record {
+  ordered = c.requires.ordered;
+  long = c.truths-table.ensures.long;
+  truth = c.truths-table.ensures.truth;
+}
+
+pub status-status-requires-clause-table : goal.status-status-requires-clause-table
+status-status-requires-clause-table c = record {
+  ordered = c.requires.ordered;
+  long = c.truths-table.ensures.long;
+  truth = c.truths-table.ensures.truth;
+}
 
 pub visit-requires-clause-status : goal.visit-requires-clause-status
 visit-requires-clause-status c =
@@ -77,8 +89,7 @@ visit-requires-clause-status c =
     let inside = code-inside entries_of c.loop-place.self.lists c.args.trail.now.vars c.args.gone c.args.trail.now.entries c.requires.served.1 (i.lists ∙ c.requires.lists) c.requires.ordered.over c.requires.served.2 in
     let can = can-visit c.requires.served.0 c.args.self.now.clauses.given c.args.trail.now.entries c.requires.served.1 c.args.gone (kept_with c.loop-place.self c.loop-place.line) ws c.loop-place.kept e inside
     c.requires.served.2 (i.walks c.requires.served.0 c.requires.served.1 c.requires.served.2 c.requires.served.3) i.entries at in
-    let within : e.blocker.var ≤ c.args.trail.now.vars = over-of _ _ _ _ _ can c.args.trail.now.vars e.blocker c.requires.over can.entry.blocker_in in
-    (rw c.status_in-status.ensures (c.truths-truths.ensures.truth e.blocker within), c.is_satisfied.ensures.no c.if-is_satisfied.false)
+    (c.status-status.ensures, c.is_satisfied.ensures.no c.if-is_satisfied.false)
 
 pub visit-requires-clause-visit : goal.visit-requires-clause-visit
 visit-requires-clause-visit c =
@@ -110,13 +121,11 @@ loop-place-preserved c =
     c.requires.served.2 (i.walks c.requires.served.0 c.requires.served.1 c.requires.served.2 c.requires.served.3) i.entries at in
     elim c.if-is_satisfied.branch [
       | then-is_satisfied w ↦
-          let within : e.blocker.var ≤ c.args.trail.now.vars = over-of _ _ _ _ _ can c.args.trail.now.vars e.blocker c.requires.over can.entry.blocker_in in
           let at_list = c.open_list-list.ensures.at in
           let P = c.loop-place.self in
           let Q = w.keep_entry.new.self in
           let L = c.loop-place.line in
-          let says : IsTruth (literals c.args.trail.now.entries) e.blocker (value_of c.status_in-status.result) =
-          rw c.status_in-status.ensures (c.truths-truths.ensures.truth e.blocker within) in
+          let says : IsTruth (literals c.args.trail.now.entries) e.blocker (value_of c.status-status.result) = c.status-status.ensures in
           let true_one : has (literals c.args.trail.now.entries) e.blocker ≡ true = rw (c.is_satisfied.ensures.yes w.if-is_satisfied.true) at says in
           let wrote = w.keep_entry.ensures.lists in
           let kept = w.keep_entry.ensures.kept in

@@ -9,7 +9,7 @@ use Rattle.kernel.proofs.store.Store.look.Goals as goal
 pub look-requires-clause-clause : goal.look-requires-clause-clause
 look-requires-clause-clause c =
     let r = (rw (← c.self.view_is) at c.requires) in
-    can-see c.self.inside.given c.self.inside.arranged c.self.invariant c.args.trail.now.vars (literals c.args.trail.now.entries) c.args.gone c.args.index r.within r.over r.long r.gone r.watched
+    can-see c.self.inside.given c.self.inside.arranged c.self.invariant c.args.truths.trail.now.vars (literals c.args.truths.trail.now.entries) c.args.gone c.args.index r.within r.over r.long r.gone r.watched
 
 pub invariant_of-self : goal.invariant_of-self
 invariant_of-self c =
@@ -28,5 +28,5 @@ returns-clause-seen c given w at pair =
     let seen = c.look.ensures f.0 f.1 in (
       front seen.0,
       rw (← c.self.view_is, seen.1) (map-set front A n seen.0),
-      seen-given (literals c.args.trail.now.entries) c.args.gone given f.0 seen.0 w c.look.result (c.self.invariant.clause n given f.0 at f.1) f.2 seen.2,
+      seen-given (literals c.args.truths.trail.now.entries) c.args.gone given f.0 seen.0 w c.look.result (c.self.invariant.clause n given f.0 at f.1) f.2 seen.2,
     )
