@@ -130,6 +130,7 @@ impl Propagator {
         ensures kept { (self.new.clauses.given ≡ self.old.clauses.given) × (length self.new.lists ≡ length self.old.lists) }
     {
         self.line_up(order, trail, line)?;
+        let level = trail.level();
         let mut served = served;
         'steps: loop {
             self.serve_from(order, trail, served, line)?;
@@ -140,14 +141,11 @@ impl Propagator {
             }
             match self.next_in_line(trail, line) {
                 None => return Ok(Closed::Quiet),
-                Some(unit) => {
-                    let level = trail.level();
-                    trail.push(Entry {
-                        lit: unit.lit,
-                        reason: Some(unit.clause as u64 + 1),
-                        level,
-                    });
-                }
+                Some(unit) => trail.push(Entry {
+                    lit: unit.lit,
+                    reason: Some(unit.clause as u64 + 1),
+                    level,
+                }),
             }
         }
     }

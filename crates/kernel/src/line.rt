@@ -105,28 +105,30 @@ impl Line {
     pub fn push(&mut self, waiting: Waiting) -> Result<(), AllocError>
         ensures { OnOk result (IsPermutation (waiting ∷ self.old) self.new) }
     {
-        if self.queue.takes(&waiting) {
-            self.queue.push(waiting)?;
-        } else {
-            self.push_before(waiting.place, waiting.clause, waiting.lit)?;
+        if self.queue.put_behind(&waiting) {
+            return Ok(());
         }
-        Ok(())
+        self.push_elsewhere(waiting.place, waiting.clause, waiting.lit)
     }
 
-    /// Puts a clause in that goes before one of the queue.
-    // A call, so that `push`, which mostly puts it behind the queue, is small enough to be inlined.
-    // It takes a clause's parts, which then stay in registers. In memory they would be written one
-    // by one and read together, and a processor waits for that: a search by number over a chain of
-    // pigeonholes took a tenth longer.
+    /// Puts a clause in that goes before one of the queue, or behind it where room is to be made.
+    // A call, and the last thing that `push` does, which mostly puts a clause behind the queue: so
+    // `push` is small enough to be inlined, and saves no registers. It takes a clause's parts, which
+    // then stay in registers. In memory they would be written one by one and read together, and a
+    // processor waits for that: a search by number over a chain of pigeonholes took a tenth longer.
     #[inline(never)]
-    fn push_before(&mut self, place: usize, clause: u32, lit: Lit) -> Result<(), AllocError>
+    fn push_elsewhere(&mut self, place: usize, clause: u32, lit: Lit) -> Result<(), AllocError>
         ensures { OnOk result (IsPermutation (record { place = place; clause = clause; lit = lit } ∷ self.old) self.new) }
     {
+        let waiting = Waiting { place, clause, lit };
+        if self.queue.takes(&waiting) {
+            self.queue.push(waiting)?;
+            return Ok(());
+        }
         if place == 0 {
             self.pile.push_numbered(clause, lit)?;
             return Ok(());
         }
-        let waiting = Waiting { place, clause, lit };
         if self.queue.put(&waiting)? {
             return Ok(());
         }

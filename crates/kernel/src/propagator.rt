@@ -15,7 +15,7 @@ ghost use Rattle.trail.specs.Tables.{IsTruth, value_of};
 ghost use Rattle.cnf.specs.Lits.{code};
 ghost use Rattle.kernel.specs.Watching.{lesser, At, IsNext, IsServed, Tends, AllGood};
 ghost use Rattle.kernel.specs.declared.order.Order.{Order};
-ghost use Rattle.kernel.specs.Placing.{clauses_of, kept_with, HasPlace, PlacesOf, place_in, IsLastOf, AreInLine};
+ghost use Rattle.kernel.specs.Placing.{clauses_of, kept_with, HasPlace, PlacesOf, IsLastOf, AreInLine};
 ghost use Rattle.kernel.specs.EntryLists.{nth_list};
 ghost use Rattle.kernel.specs.Visiting.{WatchLists, kept_of, entries_at, CanVisit, IsVisit, IsLast, Replaces, tending, with_list, AreEntries};
 ghost use Rattle.kernel.specs.TruthTables.{AreTruths};
@@ -93,16 +93,26 @@ fn found_at(order: Order, trail: &Trail, place: usize) -> Option<usize>
 }
 
 impl Propagator {
-    /// The place of a unit clause: the one that is given, or else that of its last false literal.
-    fn place_of(&self, trail: &Trail, clause: u32, place: Option<usize>) -> usize
+    /// Puts a unit clause in line with the place of its last false literal.
+    // A call, since where one entry is served after the other, each clause comes with its place, and
+    // `note` then needs no registers but those that it is given.
+    #[cold]
+    #[inline(never)]
+    fn put_by_last(
+        &self,
+        trail: &Trail,
+        clause: u32,
+        lit: Lit,
+        line: &mut Line,
+    ) -> Result<(), AllocError>
         requires within { clause < length self.now.clauses.given }
         requires over { All (IsOver trail.now.vars) self.now.clauses.given }
-        ensures { (o : Order) (c : Clause) → At self.now.clauses.given clause c → HasPlace o trail.now.entries c place → result ≡ place_in o trail.now.entries c }
+        ensures put { OnOk result (IsPermutation (clause ∷ clauses_of line.old) (clauses_of line.new)) }
+        ensures line { OnOk result ((o : Order) → ((c : Clause) → At self.now.clauses.given clause c → HasPlace o trail.now.entries c None × IsLastOf (literals trail.now.entries) c lit)
+            → AreInLine o self.now.clauses.given trail.now.entries line.old → AreInLine o self.now.clauses.given trail.now.entries line.new) }
     {
-        match place {
-            Some(place) => place,
-            None => last_place(trail, self.clauses.arranged(clause as usize)),
-        }
+        let place = last_place(trail, self.clauses.arranged(clause as usize));
+        line.push(Waiting { place, clause, lit })
     }
 
     /// Notes a clause all of whose literals but one are false. Where that one has a value, the
@@ -134,9 +144,10 @@ impl Propagator {
                 if self.conflict.is_some() {
                     return Ok(());
                 }
-                let place = self.place_of(trail, clause, place);
-                line.push(Waiting { place, clause, lit })?;
-                Ok(())
+                match place {
+                    Some(place) => line.push(Waiting { place, clause, lit }),
+                    None => self.put_by_last(trail, clause, lit, line),
+                }
             }
             _ => {
                 self.conflict = Some(match self.conflict {

@@ -69,7 +69,8 @@ fn bring(lits: &mut [Lit], gone: Lit, other: Lit, place: usize) -> Watched
     }
 }
 
-/// Looks at a clause in which `gone`, one of the two front literals, became false.
+/// Looks at a clause of more than two literals, in which `gone`, one of the two front ones, became
+/// false.
 pub fn look_at(
     truths: Truths,
     lits: &mut [Lit],
@@ -78,6 +79,7 @@ pub fn look_at(
     number: usize,
 ) -> Sight
     requires table { AreTruths truths.trail.now truths.table.now }
+    requires long { 2 < length lits.old }
     requires sees { CanSee truths.trail.now.vars (literals truths.trail.now.entries) gone lits.old }
     ensures { IsSeen (literals truths.entry.trail.now.entries) gone lits.old lits.new result }
 {

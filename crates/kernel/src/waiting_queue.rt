@@ -85,6 +85,19 @@ impl WaitingQueue {
         goes_first(last, *waiting)
     }
 
+    /// Puts a clause at the end, where it goes behind the others and there is room for it; whether
+    /// it was put there.
+    pub fn put_behind(&mut self, waiting: &Waiting) -> bool
+        ensures put { result ≡ true → self.new ≡ self.old ++ waiting.now ∷ [] }
+        ensures left { result ≡ false → self.new ≡ self.old }
+    {
+        if self.items.len() == self.items.capacity() || !self.takes(waiting) {
+            return false;
+        }
+        self.items.push_reserved(*waiting);
+        true
+    }
+
     /// Puts a clause at the end that goes behind the others.
     pub fn push(&mut self, waiting: Waiting) -> Result<(), AllocError>
         requires { All (λ w. GoesFirst w waiting) self.old }

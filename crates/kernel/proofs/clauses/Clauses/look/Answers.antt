@@ -71,6 +71,17 @@ look_at-requires-clause-sees c =
     let read : take (c.index.result.now - c.start_of-start.result) (drop c.start_of-start.result c.deref_mut.result.now) ≡ d = part-read c.self.inside.lits.items c.deref_mut.result.now c.self.inside.ends.items kept c.args.index c.start_of-start.result c.index.result.now refl c.self.invariant.0 raw.0 c.deref_mut.ensures.value start c.index.ensures d raw.1 in
     subst (λ (x : Clause). CanSee c.args.truths.trail.now.vars (literals c.args.truths.trail.now.entries) c.args.gone x) (sym read) (c.requires.clause d at).1
 
+pub look_at-requires-clause-long : goal.look_at-requires-clause-long
+look_at-requires-clause-long c =
+    let first = c.self.inside.first in
+    let kept = pieces 0 c.self.inside.lits.items c.self.inside.ends.items in
+    let d : Clause = get_or c.args.self.now c.args.index [] in
+    let at : At c.args.self.now c.args.index d = At-get c.args.self.now c.args.index [] c.requires.within in
+    let raw : At kept c.args.index d = shown-long first c.args.index kept d (subst (λ (K : List Clause). At K c.args.index d) (sym c.self.view_is) at) (c.requires.clause d at).0 in
+    let start : c.start_of-start.result ≡ start_at 0 c.self.inside.ends.items c.args.index = c.start_of-start.ensures ∙ ap (λ ends. start_at 0 ends c.args.index) c.deref.ensures.value in
+    let read : take (c.index.result.now - c.start_of-start.result) (drop c.start_of-start.result c.deref_mut.result.now) ≡ d = part-read c.self.inside.lits.items c.deref_mut.result.now c.self.inside.ends.items kept c.args.index c.start_of-start.result c.index.result.now refl c.self.invariant.0 raw.0 c.deref_mut.ensures.value start c.index.ensures d raw.1 in
+    subst (λ (x : Clause). 2 < length x) (sym read) (c.requires.clause d at).0
+
 begins : (c : goal.After-self-1) → c.start_of-start.result ≡ start_at 0 c.self.inside.ends.items c.args.index
 begins c = c.start_of-start.ensures ∙ ap (λ ends. start_at 0 ends c.args.index) c.deref.ensures.value
 

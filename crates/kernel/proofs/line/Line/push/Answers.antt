@@ -1,5 +1,8 @@
 use Rattle.kernel.proofs.UnitLemmas.{queued-units}
 use Rattle.kernel.proofs.line.Line.push.Goals as goal
 
-pub returns-in_ok-push : goal.returns-in_ok-push
-returns-in_ok-push c = rw (← c.self.view_is, c.in_ok-push.ensures) (queued-units _ _ _)
+pub returns-then-put_behind : goal.returns-then-put_behind
+returns-then-put_behind c = rw (← c.self.view_is, c.put_behind.ensures.put c.if-put_behind.true) (queued-units _ _ _)
+
+pub returns : goal.returns
+returns c = rw (← c.self.view_is) (rw (c.put_behind.ensures.left c.if-put_behind.false) at c.push_elsewhere.ensures)

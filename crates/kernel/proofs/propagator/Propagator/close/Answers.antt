@@ -1,7 +1,8 @@
 use Rattle.std.proofs.Common.{◌≡◌, ◌+◌, ◌∙◌, ◌++◌, ◌∷◌, [], List, ℕ, length, map, ap, sym, subst, arith, Some, refl}
 use Rattle.std.proofs.lemmas.List.{length_push}
-use Rattle.theory.specs.Trails.{Entry, literals}
+use Rattle.theory.specs.Trails.{Entry, literals, current_level}
 use Rattle.theory.specs.Propagation.{clashes, rests}
+use Rattle.theory.proofs.trails.TrailLists.{current_level-push}
 use Rattle.kernel.specs.EntryLists.{entries_of}
 use Rattle.kernel.specs.Rules.{rule_of}
 use Rattle.kernel.specs.Watching.{IsServed}
@@ -22,6 +23,7 @@ steps-init c =
     let e = c.in_ok-line_up.ensures in
     record {
       vars = refl;
+      level = c.level-level.ensures.level;
       leads = λ a U h. h;
       lawful = λ h. h;
       inside = c.requires.inside;
@@ -103,13 +105,14 @@ grew c =
     let u : rule_of c.args.order c.steps.trail.entries c.args.self.now.clauses.given ≡ Some (c.in-Some-next_in_line.unit.clause + 1, c.in-Some-next_in_line.unit.lit) =
     rw (← (c.in_ok-serve_from.ensures.kept.0 ∙ c.steps.invariant.clauses)) (c.in-Some-next_in_line.ensures.unit c.args.order (rw c.in_ok-serve_from.ensures.kept.0 (c.in_ok-serve_from.ensures.line (rw c.steps.invariant.clauses c.steps.invariant.line)))) in
     let ok = distinct-consistent (literals c.steps.trail.entries) c.entries-served.ensures.ordered.distinct in
+    let i = c.steps.invariant in
     record {
       number = c.in-Some-next_in_line.unit.clause + 1;
       lit = c.in-Some-next_in_line.unit.lit;
       level = c.level-level.result;
       none_false = none-false c.requires.served.0 c.args.self.now.clauses.given c.steps.trail.entries (tending (kept_with c.serve_from.new.self c.serve_from.new.line)) ok s c.in_default.is;
       unit = u;
-      level_is = c.level-level.ensures.level;
+      level_is = i.level;
       pushed = c.push.ensures.entries;
     }
 
@@ -126,6 +129,7 @@ steps-preserved c =
     let none = c.in_ok-serve_from.ensures.kept.2 ∙ i.units in
     record {
       vars = c.push.ensures.vars ∙ i.vars;
+      level = sym (ap current_level c.push.ensures.entries ∙ current_level-push c.steps.trail.entries e);
       leads = λ a U h. i.leads a U (Grew-Propagates (rule_of c.args.order) _ _ _ U a (grew c) h);
       lawful = λ h. Grew-lawful (rule_of c.args.order) (IsRule-by c.args.order) _ _ _ (grew c) (i.lawful h);
       inside = omega (arith, len, longer);
@@ -141,5 +145,5 @@ steps-preserved c =
           IsServed-line floor c.args.self.now.clauses.given c.steps.trail.entries (length c.steps.trail.entries) (kept_of c.serve_from.new.self) (clauses_of c.serve_from.new.line) (c.in_ok-serve_from.ensures.kept.2 ∙ c.steps.invariant.units) s in
           rw (c.push.ensures.entries, len)
           (IsServed-also floor c.args.self.now.clauses.given (c.steps.trail.entries ++ e ∷ []) (length c.steps.trail.entries) (kept_of c.serve_from.new.self) (clauses_of c.next_in_line.new.line) none
-          (rw (← same) (c.in-Some-next_in_line.ensures.grows floor e refl c.level-level.ensures.level (rw same l))));
+          (rw (← same) (c.in-Some-next_in_line.ensures.grows floor e refl i.level (rw same l))));
     }

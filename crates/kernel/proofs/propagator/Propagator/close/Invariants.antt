@@ -1,5 +1,5 @@
 use Rattle.std.proofs.Common.{◌≡◌, ◌≤◌, ℕ, [], length}
-use Rattle.theory.specs.Trails.{Trail, literals}
+use Rattle.theory.specs.Trails.{Trail, literals, current_level}
 use Rattle.theory.specs.Propagation.{Closed, Propagates}
 use Rattle.theory.specs.Lawful.{IsLawful}
 use Rattle.kernel.proofs.Falling.{open_among}
@@ -13,6 +13,7 @@ use Rattle.kernel.proofs.propagator.Propagator.close.Given as goal
 abbrev pub invariant-steps : goal.invariant-steps
 invariant-steps l = record {
   vars : l.trail.vars ≡ l.fn.trail.vars;
+  level : l.level ≡ current_level l.trail.entries;
   leads : (a : Closed) (U : Trail) → Propagates (rule_of l.order) l.fn.self.clauses.given l.trail.entries a U → Propagates (rule_of l.order) l.fn.self.clauses.given l.fn.trail.entries a U;
   lawful : IsLawful l.fn.self.clauses.given l.fn.trail.entries → IsLawful l.fn.self.clauses.given l.trail.entries;
   inside : l.served ≤ length l.trail.entries;

@@ -1,6 +1,9 @@
 use Rattle.std.proofs.lemmas.List.Sorted.{IsPermutation-append_left}
-use Rattle.kernel.proofs.UnitLemmas.{heaped-units}
-use Rattle.kernel.proofs.line.Line.push_before.Goals as goal
+use Rattle.kernel.proofs.UnitLemmas.{heaped-units, queued-units}
+use Rattle.kernel.proofs.line.Line.push_elsewhere.Goals as goal
+
+pub returns-then-takes : goal.returns-then-takes
+returns-then-takes c = rw (← c.self.view_is, c.in_ok-push.ensures) (queued-units _ _ _)
 
 pub returns-then-place-eq0 : goal.returns-then-place-eq0
 returns-then-place-eq0 c = rw (c.if-place-eq0.true, ← c.self.view_is) (heaped-units _ _ _ _ c.in_ok-push_numbered.ensures)
