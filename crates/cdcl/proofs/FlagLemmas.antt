@@ -3,7 +3,8 @@ use Rattle.std.proofs.Common.{◌≡◌, ℕ, zero, suc, ◌+◌, ◌-◌, ◌<�
 use Rattle.std.specs.List.{AllByRecursion, Contains}
 use Rattle.std.specs.List.Sorted.{IsPermutation}
 use Rattle.std.proofs.lemmas.Bool.{cases_lt}
-use Rattle.std.proofs.lemmas.List.Elements.{All-from_recursion}
+use Rattle.std.proofs.lemmas.List.{get_or-set_same, get_or-set_other, length-set}
+use Rattle.std.proofs.lemmas.List.Elements.{All-from_recursion, All-contains}
 use Rattle.std.proofs.lemmas.List.Sorted.{IsPermutation-refl, IsPermutation-sym, IsPermutation-trans, IsPermutation-cons, IsPermutation-middle, Contains-permutation}
 use Rattle.theory.proofs.literals.LiteralLemmas.{true_or_false}
 use Rattle.cdcl.specs.Flags.{flagged, AreWithin}
@@ -107,5 +108,45 @@ found-there low top bs h some = let long = h.within.long in last-there (top - 1)
 pub found-most : (low top : ℕ) (bs : List Bool) → IsFound low top bs → low < top → All (λ m. m ≤ top - 1) (flagged 0 bs)
 found-most low top bs h some = flagged-most (top - 1) bs (λ i a. (let w = h.within.within i a in let less = w.1 in omega arith))
 
-pub found-taken : (low top : ℕ) (bs : List Bool) → IsFound low top bs → low < top → IsPermutation (flagged 0 bs) ((top - 1) ∷ flagged 0 (slice_set bs (top - 1) false))
-found-taken low top bs h some = let long = h.within.long in take-flag (top - 1) bs (omega arith) (h.last some)
+-- a place of the flags behind a first one, whose flag is set
+abbrev SetAt : ℕ → List Bool → ℕ → Type 0
+SetAt n bs m = (k : ℕ) × (m ≡ n + k) × (k < length bs) × (slice_index_or bs k false ≡ true)
+
+behind-first : (n : ℕ) (b : Bool) (bs : List Bool) (xs : List ℕ) → AllByRecursion (SetAt (suc n) bs) xs → AllByRecursion (SetAt n (b ∷ bs)) xs
+behind-first n b bs [] h = tt
+behind-first n b bs (x ∷ xs) h = (let w = h.0 in (suc w.0, (let e = w.1 in omega arith), (let l = w.2 in omega arith), w.3), behind-first n b bs xs h.1)
+
+all-set : (n : ℕ) (bs : List Bool) → AllByRecursion (SetAt n bs) (flagged n bs)
+all-set n [] = tt
+all-set n (true ∷ bs) = ((0, omega arith, omega arith, refl), behind-first n true bs (flagged (suc n) bs) (all-set (suc n) bs))
+all-set n (false ∷ bs) = behind-first n false bs (flagged (suc n) bs) (all-set (suc n) bs)
+
+-- the flag of a number that is in
+pub flag-there : (bs : List Bool) (m : ℕ) → Contains (flagged 0 bs) m → (m < length bs) × (slice_index_or bs m false ≡ true)
+flag-there bs m h =
+    let w = All-contains (SetAt 0 bs) (flagged 0 bs) m (All-from_recursion (SetAt 0 bs) (flagged 0 bs) (all-set 0 bs)) h in
+    let same : m ≡ w.0 = (let e = w.1 in omega arith) in
+    rw same (w.2, w.3)
+
+-- the greatest number goes
+pub AreWithin-taken : (low top greatest : ℕ) (bs : List Bool) → AreWithin low top bs → greatest < length bs → All (λ m. m ≤ greatest) (flagged 0 bs)
+    → AreWithin low greatest (slice_set bs greatest false)
+AreWithin-taken low top greatest bs h inside most = record {
+  long = let l = length-set bs greatest false in omega arith;
+  within = λ i a.
+      elim (cases_lt i greatest) [
+        | inl less ↦ ((h.within i (sym (get_or-set_other bs greatest i false false (omega arith)) ∙ a)).0, less)
+        | inr least ↦ (
+            elim (cases_lt greatest i) [
+              | inl more ↦
+                  let set = sym (get_or-set_other bs greatest i false false (omega arith)) ∙ a in
+                  let w = h.within i set in
+                  let long = h.long in
+                  let there = last-there i bs set (let l = w.1 in omega arith) in
+                  absurd (let e = All-contains (λ m. m ≤ greatest) (flagged 0 bs) i most there in omega arith)
+              | inr most_one ↦
+                  let same : i ≡ greatest = omega arith in
+                  absurd (let f = get_or-set_same bs greatest false false inside in let t = rw same at a in cc)
+            ])
+      ];
+}

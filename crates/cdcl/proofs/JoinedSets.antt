@@ -148,6 +148,11 @@ CanJoin-taken k e c old new h is = record {
 pub false-whole : (T : Trail) (c : Clause) → is_false (literals T) c ≡ true → is_false (literals (take (length T) T)) c ≡ true
 false-whole T c h = subst (λ (U : Trail). is_false (literals U) c ≡ true) (sym (take-length T)) h
 
+-- the variables seen, in more room
+pub IsSet-moved : (k : State) (S : Clause) (bound : ℕ) (old new : Marks) → new.marked ≡ old.marked → new.current ≡ old.current → new.pending ≡ old.pending
+    → new.seen.items ≡ old.seen.items → IsSet k S bound old → IsSet k S bound new
+IsSet-moved k S bound old new marked current pending seen h = record { is = rw (marked, current) h.is; seen = rw seen h.seen; pending = rw pending h.pending }
+
 -- the variables seen, in another order
 pub IsSet-sorted : (k : State) (S : Clause) (bound : ℕ) (old new : Marks) → new.marked ≡ old.marked → new.current ≡ old.current → new.pending ≡ old.pending
     → IsPermutation old.seen.items new.seen.items → IsSet k S bound old → IsSet k S bound new

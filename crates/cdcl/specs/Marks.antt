@@ -1,6 +1,6 @@
 -- Sets of literals that are false on the trail, held as marks of their variables, and the places of
 -- the trail where one is yet to be looked at.
-use Rattle.std.specs.Prelude.{◌≡◌, ℕ, ◌<◌, ◌≤◌, ◌^◌, Bool, true, false, ◌&&◌, ◌||◌, nat_eq, nat_lt, List, [], ◌∷◌, length, take, reverse, All, Option, Some, None, if◌then◌else◌, count_by, slice_get, slice_index_or}
+use Rattle.std.specs.Prelude.{◌≡◌, ℕ, ◌+◌, ◌<◌, ◌≤◌, ◌^◌, Bool, true, false, ◌&&◌, ◌||◌, nat_eq, nat_lt, List, [], ◌∷◌, length, take, reverse, All, Option, Some, None, if◌then◌else◌, count_by, slice_get, slice_index_or, vec_len, vec_capacity}
 use Rattle.std.specs.List.{list_any}
 use Rattle.theory.specs.Literals.{Literal, Clause, has, has_var, negated}
 use Rattle.theory.specs.Truth.{IsOver}
@@ -59,6 +59,10 @@ pub record IsClear (m : Marks) : Type 0 where
   pub zero : m.current ≡ 0
   pub unseen : m.seen.items ≡ []
   pub done : m.pending ≡ []
+
+-- there is room for so many more variables among those seen
+abbrev pub HasRoom : ℕ → Marks → Type 0
+HasRoom n m = vec_len m.seen + n ≤ vec_capacity m.seen
 
 -- the marks stand for some set, whose places from a bound on were looked at, and the literals of c
 -- are false below the bound

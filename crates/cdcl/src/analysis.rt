@@ -1,7 +1,7 @@
 //! Analysis of a conflict: resolution back to the first unique implication point.
 ghost use Rattle.std.specs.Prelude.{◌≡◌, ℕ, ◌<◌, ◌≤◌, ◌^◌, ◌++◌, ◌∷◌, [], All, IfOk, OnOk, Some, length, reverse, not, filter, slice_get, slice_index_or, true, false};
 ghost use Rattle.theory.specs.Literals.{Clause};
-ghost use Rattle.theory.specs.Trails.{literals, entry_of};
+ghost use Rattle.theory.specs.Trails.{literals, entry_of, current_level};
 ghost use Rattle.theory.specs.Propagation.{least_false, clause_at};
 ghost use Rattle.theory.specs.Learning.{with_literals, walk, learn, is_of_cube, back_level};
 ghost use Rattle.cdcl.specs.Marks.{IsSet, IsClear, CanLookAt, Resolves, HaveMet, is_open, negation_of};
@@ -46,7 +46,8 @@ fn put_conflict(kernel: &SearchKernel, marks: &mut Marks, conflict: u64) -> Resu
     ensures met { OnOk result (HaveMet kernel.now.clauses (conflict ∷ []) marks.new) }
 {
     let _trail = kernel.trail(); // it ensures what the proof needs of the trail
-    put_all(kernel, marks, kernel.arranged(conflict))?;
+    let level = kernel.level();
+    put_all(kernel, marks, level, kernel.arranged(conflict))?;
     Ok(())
 }
 
@@ -56,15 +57,17 @@ fn look_at(
     kernel: &SearchKernel,
     marks: &mut Marks,
     hints: &mut Vec<u64>,
+    level: u32,
     entry: Entry,
 ) -> Result<(), AllocError>
-    requires { CanLookAt kernel.now entry marks.old }
+    requires level { level ≡ current_level kernel.now.trail }
+    requires marks { CanLookAt kernel.now entry marks.old }
     ensures set { OnOk result ((S : Clause) → (bound : ℕ) → slice_get kernel.now.trail bound ≡ Some entry → is_open kernel.now.trail S (Some entry) ≡ true
         → IsSet kernel.now S bound marks.old → Resolves kernel.now entry S bound hints.old.items marks.new hints.new.items) }
     ensures met { OnOk result (HaveMet kernel.now.clauses hints.old.items marks.old → HaveMet kernel.now.clauses hints.new.items marks.new) }
 {
     if let Some(number) = reason_used(marks, entry) {
-        resolve(kernel, marks, entry, kernel.arranged(number))?;
+        resolve(kernel, marks, level, entry, kernel.arranged(number))?;
         put_last(hints, number)?;
     }
     Ok(())
@@ -89,8 +92,9 @@ fn walk(
     ensures met { OnOk result (HaveMet kernel.now.clauses hints.old.items marks.old → HaveMet kernel.now.clauses hints.new.items marks.new) }
 {
     let trail = kernel.trail();
+    let level = kernel.level();
     while let Some(place) = marks.pending.pop() {
-        look_at(kernel, marks, hints, trail[place])?;
+        look_at(kernel, marks, hints, level, trail[place])?;
     }
     Ok(())
 }

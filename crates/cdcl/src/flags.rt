@@ -7,7 +7,8 @@ use std::alloc::{AllocError, Global};
 use std::marker::Model;
 
 /// Numbers, each once. To find the greatest passes over those that aren't in, from the greatest
-/// before, a byte each: it is quick where the numbers lie near one another.
+/// before, a byte each, down to the least since none was in: it is quick where the numbers lie near
+/// one another.
 #[derive(Drop)]
 pub(crate) struct Flags {
     // by number: whether it is in
@@ -77,26 +78,20 @@ impl Flags {
     {
         self.top = behind_last(&self.flags, self.low, self.top);
         if self.low < self.top {
-            Some(self.top - 1)
-        } else {
-            None
+            return Some(self.top - 1);
         }
+        self.low = self.flags.len();
+        self.top = 0;
+        None
     }
 
     /// Takes the greatest number out.
-    pub(crate) fn pop(&mut self) -> Option<usize>
-        ensures none { IfNone result ((self.old ≡ []) × (self.new ≡ [])) }
-        ensures taken { IfSome result (λ n. IsPermutation self.old (n ∷ self.new)) }
-        ensures greatest { IfSome result (λ n. All (λ m. m ≤ n) self.old) }
+    pub(crate) fn take(&mut self, greatest: usize)
+        requires there { Contains self.old greatest }
+        requires greatest { All (λ m. m ≤ greatest) self.old }
+        ensures { IsPermutation self.old (greatest ∷ self.new) }
     {
-        let top = behind_last(&self.flags, self.low, self.top);
-        if top <= self.low {
-            self.low = self.flags.len();
-            self.top = 0;
-            return None;
-        }
-        self.flags[top - 1] = false;
-        self.top = top - 1;
-        Some(top - 1)
+        self.flags[greatest] = false;
+        self.top = greatest;
     }
 }

@@ -96,9 +96,9 @@ impl Places {
             return take_greatest(&mut self.far);
         };
         if has_above(&self.far, near) {
-            take_greatest(&mut self.far)
-        } else {
-            self.near.pop()
+            return take_greatest(&mut self.far);
         }
+        self.near.take(near);
+        Some(near)
     }
 }

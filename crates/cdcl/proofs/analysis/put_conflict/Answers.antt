@@ -9,8 +9,8 @@ use Rattle.cdcl.proofs.analysis.put_conflict.Goals as goal
 pub arranged-requires : goal.arranged-requires
 arranged-requires c = let at = least_false-at _ _ _ c.requires.conflict in (at.0, at.1)
 
-pub put_all-requires : goal.put_all-requires
-put_all-requires c = record {
+pub put_all-requires-clause-marks : goal.put_all-requires-clause-marks
+put_all-requires-clause-marks c = record {
   lawful = c.trail-trail.ensures.lawful;
   over = c.trail-trail.ensures.over;
   few = c.requires.few;

@@ -16,8 +16,8 @@ bounds-trail-place c =
     let inside = top-inside c.args.kernel.now c.args.conflict c.in-Some.place c.loop-place.marks _ _ c.loop-place.invariant.walked c.in-Some.ensures.taken (rest-below c.in-Some.place _ _ c.in-Some.ensures.taken c.in-Some.ensures.greatest) in
     rw c.trail-trail.ensures.trail inside
 
-pub look_at-requires : goal.look_at-requires
-look_at-requires c =
+pub look_at-requires-clause-marks : goal.look_at-requires-clause-marks
+look_at-requires-clause-marks c =
     CanLookAt-looked_at c.args.kernel.now c.args.conflict c.in-Some.place c.index-trail-place.result _ _ c.trail-trail.ensures.lawful c.trail-trail.ensures.over c.requires.few
     (IsWalked-popped c.args.kernel.now c.args.conflict c.in-Some.place c.index-trail-place.result c.trail-trail.result.now c.loop-place.marks _ c.loop-place.hints.items c.loop-place.invariant.walked
     c.trail-trail.ensures.trail c.index-trail-place.is refl refl refl c.in-Some.ensures.taken

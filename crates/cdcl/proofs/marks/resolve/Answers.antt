@@ -7,13 +7,13 @@ use Rattle.cdcl.specs.Marks.{IsSet, CanJoin, Meets}
 use Rattle.cdcl.proofs.JoinedSets.{CanResolve-none, CanJoin-taken}
 use Rattle.cdcl.proofs.marks.resolve.Goals as goal
 
-pub take-requires : goal.take-requires
-take-requires c = CanResolve-none _ c.args.entry _ _ c.requires
+pub take-requires-clause-marks : goal.take-requires-clause-marks
+take-requires-clause-marks c = CanResolve-none _ c.args.entry _ _ c.requires.marks
 
-pub put_others-requires : goal.put_others-requires
-put_others-requires c =
+pub put_others-requires-clause-marks : goal.put_others-requires-clause-marks
+put_others-requires-clause-marks c =
     subst (λ (e : Entry). CanJoin c.args.kernel.now (without c.args.reason.now e.lit) c.take.new.marks) (sym c.entry.view_is)
-    (CanJoin-taken _ c.args.entry _ _ c.take.new.marks c.requires (c.take.ensures.set c.requires.joins.set c.requires.joins.bound c.requires.at c.requires.joins.is))
+    (CanJoin-taken _ c.args.entry _ _ c.take.new.marks c.requires.marks (c.take.ensures.set c.requires.marks.joins.set c.requires.marks.joins.bound c.requires.marks.at c.requires.marks.joins.is))
 
 pub returns-clause-set : goal.returns-clause-set
 returns-clause-set c = on_ok_weaker c.put_others.result
