@@ -79,6 +79,9 @@ impl Places {
     }
 
     /// Puts a place in that may lie far from the others.
+    // A call, since places of level 0 are few: inlined, its heap had each literal of an analysis save
+    // the registers that it needs.
+    #[inline(never)]
     pub(crate) fn push_far(&mut self, place: usize) -> Result<(), AllocError>
         ensures { OnOk result (IsPermutation (place ∷ self.old) self.new) }
     {
