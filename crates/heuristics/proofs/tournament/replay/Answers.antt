@@ -14,9 +14,9 @@ loop-node-preserved c =
     let within = i.inside in
     let inside : p < length S = omega arith in
     let low : 1 ≤ p = omega arith in
-    let same = length-set W p c.better-winner.result in
+    let same = length-set W p c.winner_at-winner.result in
     record {
-      played = IsPlayedBut-played S W p c.better-winner.result low inside i.played c.better-winner.ensures;
+      played = IsPlayedBut-played S W p c.winner_at-winner.result low inside i.played c.winner_at-winner.ensures;
       inside = omega arith;
-      leaves = drop-set-lt (length S) W p c.better-winner.result inside ∙ i.leaves;
+      leaves = drop-set-lt (length S) W p c.winner_at-winner.result inside ∙ i.leaves;
     }
