@@ -77,6 +77,21 @@ impl<T: Drop> Walk<T> {
         Ok(())
     }
 
+    /// Comes to the place of another walk. It takes no memory while there is room for as many splits.
+    /// Where a request for memory is refused, it comes to a place above.
+    pub fn stand_at(&mut self, other: &Walk<T>) -> Result<(), AllocError>
+    where
+        T: Copy,
+        ensures { OnOk result (self.new ≡ other.now) }
+    {
+        self.splits.clear();
+        for split in &other.splits {
+            let (var, left) = (split.var, split.left);
+            self.splits.push(Split { var, left })?;
+        }
+        Ok(())
+    }
+
     /// Leaves this place, which is done and came to this value.
     pub fn leave(&mut self, done: T) -> Result<Turn<T>, AllocError>
         ensures { IfOk result (λ t. Turns self.old done t self.new) }

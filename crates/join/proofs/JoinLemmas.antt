@@ -2,7 +2,6 @@
 -- proof.
 use Rattle.std.proofs.Common.{◌≡◌, ℕ, ◌+◌, ◌≤◌, List, [], map, length, refl, ap, sym, ◌∙◌, arith}
 use Rattle.std.proofs.lemmas.List.Elements.{All-nil}
-use Rattle.std.specs.Vec.Iter.{into_iter_items}
 use Rattle.theory.specs.Literals.{Literal}
 use Rattle.theory.specs.Truth.{Formula}
 use Rattle.theory.specs.Plans.{Search}
@@ -16,10 +15,11 @@ use Rattle.theory.proofs.searching.PureVariables.{length-first_clauses}
 use Rattle.cubes.specs.declared.tree.Node.{Node}
 use Rattle.cubes.specs.declared.tree.Tree.TheVariants.{Model, Refuted}
 use Rattle.cubes.specs.Result.{LinesTree, node_of, IsCheckedResultOf}
+use Rattle.join.specs.declared.joiner.Stage.TheVariants.{Between}
 use Rattle.join.specs.declared.proof_lines.Lines.{Lines}
 use Rattle.join.specs.Joining.{Joined, on_nodes, before_nodes}
 use Rattle.join.specs.Numbered.{AreNodes, AreNodesOf, AreUnitsOf, AreStepsOf, AreAccepted, AreWithin}
-use Rattle.join.specs.Walking.{IsJoining, IsBetweenLines, joined, lines_left}
+use Rattle.join.specs.Walking.{IsJoining, IsBetweenNodes, joined, lines_left}
 use Rattle.join.proofs.FedLemmas.{after-tree, few-pure, lines-accepted, lines-within}
 use Rattle.join.proofs.TreeLemmas.{tree-nodes}
 
@@ -40,15 +40,15 @@ result-nodes F search C N (Refuted ns) units nodes within clauses count are r sa
     rw (same, first-count F units C N clauses count are, r.2) (tree-nodes F [] r.0 within r.1.0)
 
 -- the lines before the first one
-left-begun : (l : Lines) (C : ℕ) (units : List Literal) (nodes : List (Node (List Line))) → joined l.joiner ≡ before_nodes C units → l.joiner.clauses ≡ C + length units → into_iter_items l.nodes ≡ nodes
+left-begun : (l : Lines) (C : ℕ) (units : List Literal) (nodes : List (Node (List Line))) → joined l.joiner ≡ before_nodes C units → l.joiner.clauses ≡ C + length units → l.nodes.items ≡ nodes
     → lines_left l ≡ (on_nodes (C + length units) (before_nodes C units) (map node_of nodes)).steps
 left-begun l C units nodes begun count here =
-    ap (λ (s : Joined). (on_nodes l.joiner.clauses s (map node_of (into_iter_items l.nodes))).steps) begun
-    ∙ ap (λ N. (on_nodes N (before_nodes C units) (map node_of (into_iter_items l.nodes))).steps) count
+    ap (λ (s : Joined). (on_nodes l.joiner.clauses s (map node_of l.nodes.items)).steps) begun
+    ∙ ap (λ N. (on_nodes N (before_nodes C units) (map node_of l.nodes.items)).steps) count
     ∙ ap (λ ns. (on_nodes (C + length units) (before_nodes C units) (map node_of ns)).steps) here
 
 pub begun-steps : (l : Lines) (F : Formula) (C : ℕ) (tree : LinesTree) (units : List Literal) (nodes : List (Node (List Line))) → C ≡ length F.clauses → joined l.joiner ≡ before_nodes C units → l.joiner.clauses ≡ C + length units
-    → into_iter_items l.nodes ≡ nodes → AreUnitsOf F tree units → AreNodesOf tree nodes → AreStepsOf F tree (lines_left l)
+    → l.nodes.items ≡ nodes → AreUnitsOf F tree units → AreNodesOf tree nodes → AreStepsOf F tree (lines_left l)
 begun-steps l F C (Model values) units nodes clauses begun count here are same = left-begun l C units nodes begun count here ∙ rw (are, same) refl
 begun-steps l F C (Refuted ns) units nodes clauses begun count here are same = λ t none of_tree.
     left-begun l C units nodes begun count here
@@ -68,9 +68,9 @@ within-steps F search (Model values) steps within result are = λ short. rw are 
 within-steps F search (Refuted nodes) steps within result are = lines-within F search result.0 steps within result.1 (are result.0 result.1.1 (sym result.2))
 
 -- what is kept before the first line
-pub IsBetweenLines-begun : (l : Lines) (F : Formula) (search : Search) (C : ℕ) (tree : LinesTree) (units : List Literal) (nodes : List (Node (List Line))) → IsWithinLimits large F → C ≡ length F.clauses → IsJoining l.joiner → l.joiner.clauses ≡ C + length units
-    → into_iter_items l.nodes ≡ nodes → AreUnitsOf F tree units → IsCheckedResultOf search F tree → AreNodesOf tree nodes → IsBetweenLines l
-IsBetweenLines-begun l F search C tree units nodes within clauses keeps count here are result same = record {
-  joiner = keeps;
-  nodes = rw here (result-nodes F search C l.joiner.clauses tree units nodes within clauses count are result same);
+pub IsBetweenNodes-begun : (l : Lines) (F : Formula) (search : Search) (C : ℕ) (tree : LinesTree) (units : List Literal) (nodes : List (Node (List Line))) → IsWithinLimits large F → C ≡ length F.clauses → IsJoining l.joiner → l.joiner.clauses ≡ C + length units
+    → l.joiner.stage ≡ Between → l.nodes.items ≡ nodes → AreUnitsOf F tree units → IsCheckedResultOf search F tree → AreNodesOf tree nodes → IsBetweenNodes l
+IsBetweenNodes-begun l F search C tree units nodes within clauses keeps count at here are result same = record {
+  lines = record { joiner = keeps; nodes = rw here (result-nodes F search C l.joiner.clauses tree units nodes within clauses count are result same) };
+  between = at;
 }

@@ -42,15 +42,19 @@ IsInLeaf-split N first n left lines keeps over low high =
 pub IsInLeaf-nothing : (N first n : ℕ) (due : Due) (lines : List Line) → IsInLeaf N due first n lines → IsInLeaf N Nothing first n lines
 IsInLeaf-nothing N first n due lines keeps = record { above = keeps.above; begun = keeps.begun; started = keeps.started; are = keeps.are; is_due = tt }
 
--- the way goes on in a right half
+-- the way goes on in a right half, beside a left one that is done
+pub AreHalves-beside : (n x : ℕ) (old above new : List (Split ℕ)) → 2 ≤ n → All (IsHalf n) old → old ≡ record { var = x; left = None } ∷ above → new ≡ record { var = x; left = Some (n - 1) } ∷ above → All (IsHalf n) new
+AreHalves-beside n x old above new low halves was is =
+    let all : All (IsHalf n) (record { var = x; left = None } ∷ above) = subst (All (IsHalf n)) was halves in
+    let one : IsHalf n (record { var = x; left = Some (n - 1) }) = record { variable = (All-head (IsHalf n) _ above all).variable; left = (omega arith, omega arith) } in
+    subst (All (IsHalf n)) (sym is) (All-cons (IsHalf n) (record { var = x; left = Some (n - 1) }) above one (All-tail (IsHalf n) _ above all))
+
 pub AreHalves-right : (N first n x : ℕ) (old above new : List (Split ℕ)) (lines : List Line) → IsInLeaf N Nothing first n lines → lines ≡ [] → All (IsHalf n) old → old ≡ record { var = x; left = None } ∷ above
     → new ≡ record { var = x; left = Some (n - 1) } ∷ above → All (IsHalf n) new
 AreHalves-right N first n x old above new lines keeps over halves was is =
     let low = keeps.above in
     let started = keeps.started (ap length over) in
-    let all : All (IsHalf n) (record { var = x; left = None } ∷ above) = subst (All (IsHalf n)) was halves in
-    let one : IsHalf n (record { var = x; left = Some (n - 1) }) = record { variable = (All-head (IsHalf n) _ above all).variable; left = (omega arith, omega arith) } in
-    subst (All (IsHalf n)) (sym is) (All-cons (IsHalf n) (record { var = x; left = Some (n - 1) }) above one (All-tail (IsHalf n) _ above all))
+    AreHalves-beside n x old above new (omega arith) halves was is
 
 -- the split above whose halves are both done, and those above it
 pub AreHalves-split : (n x left : ℕ) (old above : List (Split ℕ)) → All (IsHalf n) old → old ≡ record { var = x; left = Some left } ∷ above → All (IsHalf n) above × (1 ≤ left) × (left < n)

@@ -10,3 +10,4 @@ pub mod LawLemmas
 pub mod MadeLemmas
 pub mod DueLemmas
 pub mod FedLemmas
+pub mod PassedLemmas

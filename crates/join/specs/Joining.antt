@@ -61,6 +61,10 @@ from_leaf N first n hs leaf = climb hs (n + length leaf) (leaf_left N first n (p
 abbrev pub behind : List Step → Joined → Joined
 behind lines s = record { halves = s.halves; next = s.next; steps = lines ++ s.steps }
 
+-- the same, without its lines
+abbrev pub bare : Joined → Joined
+bare s = record { halves = s.halves; next = s.next; steps = [] }
+
 -- before the first node, where the formula has C clauses and the units' lines come first
 abbrev pub before_nodes : ℕ → List Literal → Joined
 before_nodes C units = record { halves = []; next = C + length units + 1; steps = unit_steps (C + 1) units }

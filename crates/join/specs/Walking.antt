@@ -48,7 +48,7 @@ joined j = behind (unit_steps j.unit (into_iter_items j.units)) (at_stage j.clau
 
 -- the lines that are still to come: those of the nodes that came, and of the others
 abbrev pub lines_left : Lines → List Step
-lines_left l = (on_nodes l.joiner.clauses (joined l.joiner) (map node_of (into_iter_items l.nodes))).steps
+lines_left l = (on_nodes l.joiner.clauses (joined l.joiner) (map node_of l.nodes.items)).steps
 
 -- what is kept within a leaf, where the next line has the number n
 pub record IsInLeaf (N : ℕ) (due : Due) (first n : ℕ) (lines : List Line) : Type 0 where
@@ -72,10 +72,27 @@ pub record IsJoining (j : Joiner) : Type 0 where
   pub unit : 1 ≤ j.unit
   pub units : j.unit + length (into_iter_items j.units) ≤ max_number
 
+-- a joiner stands between two nodes, and no line is to come of those before
+pub record IsStanding (j : Joiner) : Type 0 where
+  pub joining : IsJoining j
+  pub between : j.stage ≡ Between
+  pub no_units : into_iter_items j.units ≡ []
+
 -- what is kept between two lines
 pub record IsBetweenLines (l : Lines) : Type 0 where
   pub joiner : IsJoining l.joiner
-  pub nodes : AreNodes l.joiner.clauses (map node_of (into_iter_items l.nodes))
+  pub nodes : AreNodes l.joiner.clauses (map node_of l.nodes.items)
+
+-- all lines of the nodes that came are given, but for those of the pure literals
+pub record IsBetweenNodes (l : Lines) : Type 0 where
+  pub lines : IsBetweenLines l
+  pub between : l.joiner.stage ≡ Between
+
+-- all lines are given
+pub record IsAtEnd (l : Lines) : Type 0 where
+  pub at : IsBetweenNodes l
+  pub no_nodes : l.nodes.items ≡ []
+  pub none : lines_left l ≡ []
 
 -- whether there was one more line
 abbrev pub HasNextLine : List Step → List Step → Step → Bool → Type 0

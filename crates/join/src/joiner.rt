@@ -1,16 +1,16 @@
 //! The lines of a refuted tree's proof, where the tree's nodes come one after the other: its leaves
 //! from left to right, and each split behind its right half.
-ghost use Rattle.std.specs.Prelude.{◌≡◌, ◌+◌, ◌≤◌, [], length, IfOk, OnOk};
+ghost use Rattle.std.specs.Prelude.{◌≡◌, ◌+◌, ◌≤◌, [], length, All, IfOk, OnOk};
 ghost use Rattle.std.specs.Bool.{OnFalse};
 ghost use Rattle.std.specs.Vec.{vec_capacity};
 ghost use Rattle.std.specs.Vec.Iter.{into_iter_items};
 ghost use Rattle.theory.specs.Reading.{large, max_vars, max_clauses};
 ghost use Rattle.theory.specs.ProofReading.{IsStep, max_number};
 ghost use Rattle.cubes.specs.Result.{node_of};
-ghost use Rattle.join.specs.Joining.{on_node, before_nodes};
-ghost use Rattle.join.specs.Numbered.{IsNode, due_behind};
+ghost use Rattle.join.specs.Joining.{bare, climb, on_node, before_nodes};
+ghost use Rattle.join.specs.Numbered.{IsNode, IsHalf, due_behind};
 ghost use Rattle.join.specs.Rooms.{longest_text};
-ghost use Rattle.join.specs.Walking.{joined, line_of, IsJoining, IsNextLine, Makes, OnMore};
+ghost use Rattle.join.specs.Walking.{joined, line_of, IsJoining, IsStanding, IsNextLine, Makes, OnMore};
 
 use crate::line::{Due, ProofLine};
 use crate::room::Need;
@@ -90,6 +90,29 @@ fn due_behind(leaf: &Reader) -> Due
     }
 }
 
+/// Goes up from a cube that is done, past the splits above whose halves are both done: the line of
+/// each has the next number, of which `next` is the first. It answers the number behind theirs. It
+/// fails where that would be above its limit, or a request for memory is refused.
+fn climb(place: &mut Walk<u64>, next: u64) -> Result<u64, AllocError>
+    requires next { 2 ≤ next }
+    requires splits { All (IsHalf next) place.old }
+    ensures climbed { IfOk result (λ n. bare (climb place.old next []) ≡ record { halves = place.new; next = n; steps = [] }) }
+    ensures splits { IfOk result (λ n. All (IsHalf n) place.new) }
+    ensures fits { IfOk result (λ n. (next ≤ n) × (n ≤ max_number)) }
+{
+    let mut next = next;
+    'splits: loop {
+        if next > MAX_NUMBER {
+            return Err(AllocError);
+        }
+        match place.leave(next - 1)? {
+            Turn::Both { .. } => next += 1,
+            Turn::Right(_) => return Ok(next),
+            Turn::End(_) => return Ok(next),
+        }
+    }
+}
+
 impl Joiner {
     /// Before the first node of a tree, for a formula of so many clauses: the lines of these pure
     /// literals come first. It takes memory as lines and ways from the root need more.
@@ -116,6 +139,7 @@ impl Joiner {
         ensures joined { IfOk result (λ j. joined j ≡ before_nodes clauses units.items) }
         ensures clauses { IfOk result (λ j. j.clauses ≡ clauses + length units.items) }
         ensures lawful { IfOk result IsJoining }
+        ensures between { IfOk result (λ j. j.stage ≡ Stage.Between) }
         ensures literals { IfOk result (λ j. vec_capacity j.line.clause ≡ need.literals) }
         ensures numbers { IfOk result (λ j. vec_capacity j.line.numbers ≡ need.numbers) }
     {
@@ -169,6 +193,45 @@ impl Joiner {
                 self.first = self.next;
                 self.leaf = Reader::of(row);
                 self.stage = Stage::Within(Due::Nothing);
+            }
+        }
+        Ok(())
+    }
+
+    /// Comes to between the two nodes where another one stands, and leaves the pure literals' lines to
+    /// that. It takes no memory while there is room for the other's way from the root.
+    pub(crate) fn stand_at(&mut self, other: &Joiner) -> Result<(), AllocError>
+        requires other { IsJoining other.now }
+        requires between { other.now.stage ≡ Stage.Between }
+        ensures joined { OnOk result (joined self.new ≡ bare (joined other.now)) }
+        ensures clauses { OnOk result (self.new.clauses ≡ other.now.clauses) }
+        ensures standing { OnOk result (IsStanding self.new) }
+    {
+        let alloc = *self.line.clause.allocator();
+        self.clauses = other.clauses;
+        self.units = Vec::new(alloc).into_iter();
+        self.unit = 1;
+        self.next = other.next;
+        self.place.stand_at(&other.place)?;
+        self.leaf = Reader::of(Row::new(alloc));
+        self.stage = Stage::Between;
+        Ok(())
+    }
+
+    /// Goes past the tree's next node, as if it were taken and all its lines were made. It fails only
+    /// as `next_line` does.
+    pub(crate) fn pass(&mut self, node: &Node<Row>) -> Result<(), AllocError>
+        requires standing { IsStanding self.old }
+        requires node { IsNode self.old.clauses (node_of node.now) }
+        ensures joined { OnOk result (joined self.new ≡ bare (on_node self.old.clauses (joined self.old) (node_of node.now))) }
+        ensures clauses { OnOk result (self.new.clauses ≡ self.old.clauses) }
+        ensures standing { OnOk result (IsStanding self.new) }
+    {
+        match node {
+            Node::Split(var) => self.place.enter(*var)?,
+            Node::Leaf(row) => {
+                let behind = self.next.saturating_add(row.len() as u64);
+                self.next = climb(&mut self.place, behind)?;
             }
         }
         Ok(())

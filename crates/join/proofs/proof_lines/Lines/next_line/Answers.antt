@@ -1,5 +1,4 @@
 use Rattle.std.proofs.Common.{map, sym, ◌∙◌}
-use Rattle.std.specs.Vec.Iter.{into_iter_items}
 use Rattle.cubes.specs.Result.{node_of}
 use Rattle.join.specs.Walking.{joined, line_of}
 use Rattle.join.proofs.WalkLemmas.{left-more}
@@ -11,4 +10,4 @@ returns-then-branch-clause-rest c =
     let new = c.next_line.new.self in
     let e = c.in_ok-next_line.ensures in
     sym c.nodes.invariant.rest
-    ∙ left-more old.clauses new.clauses (joined old) (joined new) (line_of new.line) (map node_of (into_iter_items c.nodes.self.nodes)) e.clauses (rw c.if-branch.true at e.next)
+    ∙ left-more old.clauses new.clauses (joined old) (joined new) (line_of new.line) (map node_of c.nodes.self.nodes.items) e.clauses (rw c.if-branch.true at e.next)

@@ -1,5 +1,5 @@
 use Rattle.std.proofs.Common.{◌≡◌}
-use Rattle.std.specs.Vec.Iter.{into_iter_len}
+use Rattle.std.specs.VecDeque.{deque_len}
 use Rattle.join.specs.Walking.{IsBetweenLines, lines_left}
 use Rattle.join.proofs.proof_lines.Lines.next_line.Given as goal
 
@@ -11,4 +11,4 @@ invariant-nodes l = record {
 }
 
 abbrev pub decreases-nodes : goal.decreases-nodes
-decreases-nodes l = into_iter_len l.self.nodes
+decreases-nodes l = deque_len l.self.nodes

@@ -1,5 +1,5 @@
 use Rattle.join.specs.declared.proof_lines.Lines.{Lines}
-use Rattle.join.proofs.JoinLemmas.{few-units, begun-steps, accepted-steps, within-steps, IsBetweenLines-begun}
+use Rattle.join.proofs.JoinLemmas.{few-units, begun-steps, accepted-steps, within-steps, IsBetweenNodes-begun}
 use Rattle.join.proofs.proof_lines.Lines.of.Goals as goal
 
 pub with_room-requires-clause-units : goal.with_room-requires-clause-units
@@ -7,9 +7,9 @@ with_room-requires-clause-units c = few-units c.args.formula.now c.args.tree c.i
 
 pub returns-clause-steps : goal.returns-clause-steps
 returns-clause-steps c =
-    let l : Lines = record { joiner = c.in_ok-joiner.joiner; nodes = c.into_iter.result } in
+    let l : Lines = record { joiner = c.in_ok-joiner.joiner; nodes = c.from.result; need = c.match-of.need } in
     let j = c.in_ok-joiner.ensures in
-    begun-steps l c.args.formula.now c.clause_count-clauses.result c.args.tree c.in_ok-units.units.items c.nodes_of.result.items c.clause_count-clauses.ensures.count j.joined j.clauses c.into_iter.ensures.rest
+    begun-steps l c.args.formula.now c.clause_count-clauses.result c.args.tree c.in_ok-units.units.items c.nodes_of.result.items c.clause_count-clauses.ensures.count j.joined j.clauses c.from.ensures.0
     c.in_ok-units.ensures c.nodes_of.ensures
 
 pub returns-clause-within : goal.returns-clause-within
@@ -22,7 +22,7 @@ returns-clause-accepted c =
 
 pub returns-clause-lawful : goal.returns-clause-lawful
 returns-clause-lawful c =
-    let l : Lines = record { joiner = c.in_ok-joiner.joiner; nodes = c.into_iter.result } in
+    let l : Lines = record { joiner = c.in_ok-joiner.joiner; nodes = c.from.result; need = c.match-of.need } in
     let j = c.in_ok-joiner.ensures in
-    IsBetweenLines-begun l c.args.formula.now c.requires.0 c.clause_count-clauses.result c.args.tree c.in_ok-units.units.items c.nodes_of.result.items c.vars-vars.ensures.within c.clause_count-clauses.ensures.count j.lawful j.clauses
-    c.into_iter.ensures.rest c.in_ok-units.ensures c.requires.1 c.nodes_of.ensures
+    IsBetweenNodes-begun l c.args.formula.now c.requires.0 c.clause_count-clauses.result c.args.tree c.in_ok-units.units.items c.nodes_of.result.items c.vars-vars.ensures.within c.clause_count-clauses.ensures.count j.lawful j.clauses
+    j.between c.from.ensures.0 c.in_ok-units.ensures c.requires.1 c.nodes_of.ensures
