@@ -12,3 +12,4 @@ pub mod StoredLemmas
 pub mod AtOnceLemmas
 pub mod StreamedLemmas
 pub mod ProofLemmas
+pub mod PartLemmas

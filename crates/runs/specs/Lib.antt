@@ -10,3 +10,4 @@ pub mod Stored
 pub mod AtOnce
 pub mod Streamed
 pub mod Written
+pub mod Parts

@@ -1,5 +1,6 @@
--- A line that is put into a buffer, and the answer of a result.
-use Rattle.std.specs.Prelude.{◌≡◌, ℕ, Bool, true, false, List, [], ◌∷◌, ◌++◌, Some, None}
+-- A line that is put into a buffer, what is written of a text, and the answer of a result.
+use Rattle.std.specs.Prelude.{◌≡◌, ℕ, Bool, true, false, List, [], ◌∷◌, ◌++◌, Option, Some, None}
+use Rattle.std.specs.Io.KnownBytes.{Appends}
 use Rattle.theory.specs.Steps.{Step}
 use Rattle.theory.specs.Texts.{step_text, answer_text}
 use Rattle.cubes.specs.declared.tree.Tree.{Tree}
@@ -22,3 +23,9 @@ Puts old new before after false = (old ≡ []) × (after ≡ before)
 abbrev pub IsAnswer : {L : Type 0} → Tree L → Verdict → List ℕ → Type 0
 IsAnswer (Model values) verdict answer = (verdict ≡ Satisfiable) × (answer ≡ answer_text (Some values.items))
 IsAnswer (Refuted nodes) verdict answer = (verdict ≡ Unsatisfiable) × (answer ≡ answer_text None)
+
+-- what is written between two states of a writer is a text but for what is left of it
+pub record IsOnItsWay (a b : Option (List ℕ)) (left text : List ℕ) : Type 0 where
+  pub written : List ℕ
+  pub appended : Appends a b written
+  pub whole : written ++ left ≡ text

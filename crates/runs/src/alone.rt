@@ -5,7 +5,7 @@ ghost use Rattle.theory.specs.Plans.{ordered, ordered_within};
 ghost use Rattle.theory.specs.Reading.{standard};
 ghost use Rattle.theory.specs.Texts.{proof_text};
 ghost use Rattle.cnf.specs.Limits.{limits_of};
-ghost use Rattle.join.specs.Walking.{lines_left, IsBetweenLines};
+ghost use Rattle.join.specs.Walking.{lines_left, IsBetweenNodes};
 ghost use Rattle.cubes.specs.Result.{IsResultOf, IsCheckedResultOf, Says};
 ghost use Rattle.runs.specs.Answer.{IsRight, IsRightAnswer};
 ghost use Rattle.runs.specs.Run.{AreTexts, RunSays};
@@ -81,7 +81,7 @@ pub(crate) fn checked_output_of(
     requires says { Says plan.search formula.now tree }
     ensures right { IfOk result (λ o. IsRight (limits_of limits) plan.search formula.now o.verdict (proof_text (lines_left o.lines)) o.answer.items) }
     ensures texts { IsResultOf formula.now plan tree → IfOk result (λ o. AreTexts (limits_of limits) formula.now plan o.verdict (proof_text (lines_left o.lines)) o.answer.items) }
-    ensures lines { IfOk result (λ o. IsBetweenLines o.lines) }
+    ensures lines { IfOk result (λ o. IsBetweenNodes o.lines) }
     ensures buffer { IfOk result (λ o. o.buffer.items ≡ []) }
 {
     let (_limits, _plan) = (limits, plan); // they are there for the contract alone
@@ -108,7 +108,7 @@ pub(crate) fn output_of(
     requires result { IsResultOf formula.now plan tree }
     requires says { Says plan.search formula.now tree }
     ensures texts { IfOk result (λ o. AreTexts (limits_of limits) formula.now plan o.verdict (proof_text (lines_left o.lines)) o.answer.items) }
-    ensures lines { IfOk result (λ o. IsBetweenLines o.lines) }
+    ensures lines { IfOk result (λ o. IsBetweenNodes o.lines) }
     ensures buffer { IfOk result (λ o. o.buffer.items ≡ []) }
 {
     let _vars = formula.vars(); // it ensures what the proof needs of the formula

@@ -7,9 +7,9 @@ ghost use Rattle.runs.specs.Answer.{IsRightAnswer};
 ghost use Rattle.runs.specs.Run.{RunSays};
 
 use crate::alone::output_of;
+use crate::by_hands::{parts_for, write_by_hands};
 use crate::fault::RunFault;
 use crate::output::write_text;
-use crate::proof_output::write_proof;
 use crate::verdict::Verdict;
 use cdcl::Plan;
 use cnf::{Limits, read_from_within};
@@ -59,8 +59,11 @@ pub(crate) fn run_observed<
         Ok(output) => output,
         Err(_) => return Err(RunFault::NoMemory),
     };
+    let Ok(mut parts) = parts_for(alloc, &output.lines, hands) else {
+        return Err(RunFault::NoMemory);
+    };
     observer.joined();
-    write_proof(proof, &mut output.lines, &mut output.buffer)?;
+    write_by_hands(rt, proof, &mut output.lines, &mut output.buffer, &mut parts)?;
     observer.written();
     observer.answers();
     write_text(answer, &output.answer, RunFault::AnswerWriteFailed)?;
