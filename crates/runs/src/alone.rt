@@ -97,7 +97,7 @@ pub(crate) fn checked_output_of(
 }
 
 /// What is to be written for a formula, whose result is the tree. From here on the run takes no
-/// more memory.
+/// more memory, but for the parts of several hands.
 pub(crate) fn output_of(
     alloc: Global,
     formula: &Formula,

@@ -15,19 +15,19 @@ use std::io::Write;
 use std::thread;
 use std::thread::Threads;
 
-/// A part has at most about so many bytes of nodes, with their lines in rows, or one node more.
+/// A part has so many bytes of nodes at most, with their lines in rows, but for its last node.
 const MOST: usize = 1 << 17;
 
-/// So many bytes of text a part's thread makes, or a line more: a byte of a row gives two and a half to
-/// four of text. What is left of a larger part is made as it is written.
+/// A thread makes so many bytes of a part's text, or a line more: mostly all of it, since a byte in a
+/// row comes to two and a half to four of text. What is left is made as the part is written.
 const ROOM: usize = 4 * MOST;
 
 /// A part of a proof on its way through a thread.
 pub(crate) struct Part {
-    pub(crate) lines: Lines,
-    pub(crate) buffer: Vec<u8>,
-    // no memory was left for a line
-    pub(crate) failed: bool,
+    lines: Lines,
+    buffer: Vec<u8>,
+    // a line could not be made
+    failed: bool,
 }
 
 // written out, so that proofs of its owners stay short (docs/CHANGING.md)
@@ -41,7 +41,8 @@ impl Drop for Part {
     }
 }
 
-/// Room for a part of the proof of these lines. No more is asked for while it is written.
+/// Room for a part of the proof of these lines: some 640 KB, and that of a line and its text. No more
+/// is asked for while the proof is written.
 fn part_of(alloc: Global, lines: &Lines) -> Result<Part, AllocError>
     ensures { IfOk result IsIdle }
 {
@@ -52,7 +53,8 @@ fn part_of(alloc: Global, lines: &Lines) -> Result<Part, AllocError>
     })
 }
 
-/// A part for each hand; none where there is nothing to share.
+/// A part for each hand, and none where there is nothing to share. It fails only where a request for
+/// memory is refused.
 pub(crate) fn parts_for(alloc: Global, lines: &Lines, hands: usize) -> Result<Vec<Part>, AllocError>
     ensures { IfOk result (λ parts. All IsIdle parts.items) }
 {
@@ -68,7 +70,7 @@ pub(crate) fn parts_for(alloc: Global, lines: &Lines, hands: usize) -> Result<Ve
     Ok(parts)
 }
 
-/// So many bytes of nodes are to be in a part, for all rounds to be of one size.
+/// How many bytes of nodes a part is to have, for all rounds to be of one size.
 fn share_of(lines: &Lines, parts: usize) -> usize {
     let all = lines.size();
     let rounds = all.div_ceil(parts.saturating_mul(MOST).max(1));

@@ -1,7 +1,8 @@
 //! Worked rows: the bytes of the proof and the answer for the bytes of a formula, by both searches,
 //! and the line for those of a proof; what failing readers and writers leave; two hands at a gate;
-//! proofs of many steps, and those with one byte changed; examples from end to end; runs that end
-//! where a limit is reached; and runs over packs and over stored facts, by one hand and by several.
+//! proofs of many steps, one that three hands make, and those with one byte changed; examples from
+//! end to end; runs that end where a limit is reached; and runs over packs and over stored facts, by
+//! one hand and by several.
 #![tactic(auto)]
 
 #[cfg(test)]
@@ -26,6 +27,8 @@ mod large;
 mod limited_runs;
 #[cfg(test)]
 mod long_proofs;
+#[cfg(test)]
+mod many_parts;
 #[cfg(test)]
 mod one_byte;
 #[cfg(test)]
