@@ -1,5 +1,5 @@
 -- A list that is gone through where it stands, among the others.
-use Rattle.std.proofs.Common.{◌≡◌, ℕ, ◌<◌, List, [], ◌++◌, length, set, map, ap, sym, ◌∙◌}
+use Rattle.std.proofs.Common.{◌≡◌, ℕ, ◌<◌, List, [], ◌++◌, length, set, map, ap, sym, subst, ◌∙◌}
 use Rattle.std.proofs.lemmas.List.{map-set, set-set, set-get_or, get_or-set_same}
 use Rattle.std.proofs.Math.ListN.{get_or-map}
 use Rattle.theory.specs.Literals.{Literal}
@@ -13,6 +13,14 @@ use Rattle.kernel.specs.Placing.{clauses_of, kept_with}
 
 pub list-now : (ls new : List EntryList) (at : ℕ) (l : EntryList) → at < length ls → new ≡ set ls at l → nth_list new at ≡ l
 list-now ls new at l inside is = ap (λ ks. nth_list ks at) is ∙ get_or-set_same ls at l (record { from = 0; len = 0; room = [] }) inside
+
+-- the list in which an entry was written
+pub written : (ls new : List EntryList) (at n place : ℕ) (e x : Watch) → at ≡ n → n < length ls → new ≡ set ls at (record (nth_list ls at) { room = set (nth_list ls at).room place x }) → e ≡ x
+    → nth_list new n ≡ record (nth_list ls n) { room = set (nth_list ls n).room place e }
+written ls new at n place e x same inside is one =
+    ap (nth_list new) (sym same)
+    ∙ list-now ls new at (record (nth_list ls at) { room = set (nth_list ls at).room place x }) (subst (λ m. m < length ls) (sym same) inside) is
+    ∙ (λ i. record (nth_list ls (same i)) { room = set (nth_list ls (same i)).room place (sym one i) })
 
 -- another list in its place changes nothing beside it
 beside : (ls new : List EntryList) (at n : ℕ) (l : EntryList) (ws : List Watch) → new ≡ set ls at l → at ≡ n → set (map entries_of new) n ws ≡ set (map entries_of ls) n ws

@@ -2,7 +2,7 @@
 use Rattle.std.proofs.Common.{◌≡◌, ◌≢◌, ℕ, suc, zero, ◌+◌, ◌*◌, ◌<◌, ◌≤◌, true, false, List, [], ◌∷◌, ◌++◌, length, get_or, set, take, drop, map, Some, None, refl, ap, sym, subst, ◌∙◌, ◌⊎◌, inl, inr, arith, All, drop-cons, drop_of_length-le, drop-set-lt, take-suc-set, append-nil, append_assoc}
 use Rattle.theory.specs.Truth.{IsOver}
 use Rattle.kernel.proofs.Visits.{code-within, over-var}
-use Rattle.std.proofs.lemmas.List.{map-set, map-append, length-map, length-set, get_or-set_same, get_or-set_other, get_or-take, length-take-le, set-get_or, set_at}
+use Rattle.std.proofs.lemmas.List.{map-set, map-append, length-map, length-set, get_or-set_same, get_or-set_other, get_or-take, length-take-le, set-get_or, set_at, take-set}
 use Rattle.std.proofs.Math.Seq.{map-set_same, take-set-lt}
 use Rattle.std.proofs.Math.ListN.{get_or-map}
 use Rattle.std.proofs.lemmas.Bool.{cases_eq}
@@ -312,6 +312,12 @@ kept-one room kept place len y few low high =
     ∙ append_assoc (take kept room) (y ∷ []) (drop (suc place) (take len room))
     ∙ sym (set_at (take kept room) (get_or room place y) (drop (suc place) (take len room)) y kept (front-long room kept place len few low high))
     ∙ ap (λ (ws : List Watch). set ws kept y) (sym (split-at room kept place len y low high))
+
+-- what is written in front of the place, behind those that stay, is none of the list's
+pub written-behind : (room : List Watch) (kept place len : ℕ) (y : Watch) → kept < place → kept < len → thinned (set room kept y) kept place len ≡ thinned room kept place len
+written-behind room kept place len y below inside =
+    let rest : drop place (take len (set room kept y)) ≡ drop place (take len room) = ap (drop place) (take-set-lt len room kept y inside) ∙ drop-set-lt place (take len room) kept y below in
+    (λ i. take-set room kept y i ++ rest i)
 
 -- the entry at the place leaves
 pub gone-one : (room : List Watch) (kept place len : ℕ) (d : Watch) → kept ≤ place → place < len → len ≤ length room → thinned room kept (place + 1) len ≡ without_nth (thinned room kept place len) kept

@@ -1,5 +1,7 @@
 //! The entries of a list that is gone through while its clauses are visited.
 ghost use Rattle.std.specs.Prelude.{◌≡◌, ◌+◌, ◌<◌, ◌≤◌, length, slice_index_or, slice_set};
+ghost use Rattle.kernel.specs.declared.watch.Watch.{Watch};
+ghost use Rattle.kernel.specs.Watching.{At};
 ghost use Rattle.kernel.specs.EntryLists.{nth_list};
 ghost use Rattle.cnf.specs.Lits.{code};
 
@@ -39,6 +41,17 @@ impl Propagator {
         ensures kept { (self.new.clauses ≡ self.old.clauses) × (self.new.units ≡ self.old.units) × (self.new.conflict ≡ self.old.conflict) }
     {
         self.lists.set(list, place, entry);
+    }
+
+    /// Gives the entry at a place of a list another blocker.
+    pub fn put_blocker(&mut self, list: OpenList, place: usize, blocker: Lit)
+        requires at { list.at < length self.old.lists }
+        requires from { list.from ≡ (nth_list self.old.lists list.at).from }
+        requires place { place < length (nth_list self.old.lists list.at).room }
+        ensures lists { (e : Watch) → At (nth_list self.old.lists list.at).room place e → self.new.lists ≡ slice_set self.old.lists list.at (record (nth_list self.old.lists list.at) { room = slice_set (nth_list self.old.lists list.at).room place (record e { blocker = blocker }) }) }
+        ensures kept { (self.new.clauses ≡ self.old.clauses) × (self.new.units ≡ self.old.units) × (self.new.conflict ≡ self.old.conflict) }
+    {
+        self.lists.put_blocker(list, place, blocker);
     }
 
     /// Leaves a list its first entries alone.

@@ -6,6 +6,7 @@
 //! lists these stayed in no cache near the processor, and waiting for them was a fifth of the run.
 ghost use Rattle.std.specs.Prelude.{◌≡◌, ◌≢◌, ◌+◌, ◌<◌, ◌≤◌, ◌^◌, ◌∷◌, [], ◌++◌, IfOk, OnOk, OnErr, All, map, length, take, drop, slice_set, slice_index_or, ℕ, List};
 ghost use Rattle.kernel.specs.declared.watch.Watch.{Watch};
+ghost use Rattle.kernel.specs.Watching.{At};
 ghost use Rattle.kernel.specs.EntryLists.{AreApart, entries_of, nth_list};
 ghost use Rattle.kernel.specs.Cutting.{IsKeptBelow};
 ghost use Rattle.kernel.specs.Forgetting.{names, entries_left};
@@ -171,6 +172,17 @@ impl EntryLists {
         ensures { self.new ≡ slice_set self.old list.at (record (nth_list self.old list.at) { room = slice_set (nth_list self.old list.at).room place entry }) }
     {
         self.entries[list.from + place] = entry;
+    }
+
+    /// Gives the entry at a place of a list's room another blocker.
+    pub fn put_blocker(&mut self, list: OpenList, place: usize, blocker: Lit)
+        requires at { list.at < length self.old }
+        requires from { list.from ≡ (nth_list self.old list.at).from }
+        requires place { place < length (nth_list self.old list.at).room }
+        ensures { (e : Watch) → At (nth_list self.old list.at).room place e → self.new ≡ slice_set self.old list.at (record (nth_list self.old list.at) { room = slice_set (nth_list self.old list.at).room place (record e { blocker = blocker }) }) }
+    {
+        let entry = &mut self.entries[list.from + place];
+        entry.put_blocker(blocker);
     }
 
     /// Leaves a list its first entries alone.

@@ -83,13 +83,10 @@ impl PackedWatch {
         }
     }
 
-    /// The same with another blocker.
-    pub fn with_blocker(self, blocker: Lit) -> PackedWatch
-        ensures { result ≡ record self { blocker = blocker } }
+    /// Changes the blocker.
+    pub fn put_blocker(&mut self, blocker: Lit)
+        ensures { self.new ≡ record self.old { blocker = blocker } }
     {
-        PackedWatch {
-            double: self.double,
-            blocker,
-        }
+        self.blocker = blocker;
     }
 }

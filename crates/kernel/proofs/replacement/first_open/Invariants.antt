@@ -1,4 +1,4 @@
-use Rattle.std.proofs.Common.{ℕ, ◌≤◌, ◌<◌, ◌-◌, length, take}
+use Rattle.std.proofs.Common.{◌≤◌, ◌<◌, ◌-◌, length, take}
 use Rattle.theory.specs.Literals.{Literal}
 use Rattle.theory.specs.Trails.{literals}
 use Rattle.kernel.specs.Visiting.{IsLast}

@@ -6,8 +6,10 @@ use Rattle.kernel.proofs.Placed.{lengthened, joined}
 use Rattle.kernel.proofs.Visits.{stay-same, short-last, short-in, gone-in, noted}
 use Rattle.kernel.proofs.propagator.Propagator.visit.Goals as goal
 
-pub returns-then-least-watch-clause-visit : goal.returns-then-least-watch-clause-visit
-returns-then-least-watch-clause-visit c = behind (stay-same _ _ _ _ _ c.requires.visit) c.in-Some.is c.if-least-watch.true refl
+pub returns-then-is_behind-clause-visit : goal.returns-then-is_behind-clause-visit
+returns-then-is_behind-clause-visit c =
+    let least = c.is_behind.ensures.yes c.if-is_behind.true in
+    behind (stay-same _ _ _ _ _ c.requires.visit) least.1 least.2 refl
 
 pub returns-then-watch-clause-visit : goal.returns-then-watch-clause-visit
 returns-then-watch-clause-visit c =
