@@ -1,13 +1,12 @@
 -- A look at a cube, and what the first search says of a formula's division.
-use Rattle.std.proofs.Common.{◌≡◌, ◌≢◌, min, take, ℕ, ◌*◌, ◌/◌, ◌^◌, ◌≤◌, false, nat_lt, le-ltb, List, [], ◌∷◌, Option, Some, refl, ap, ap₂, sym, subst, ◌∙◌, arith}
+use Rattle.std.proofs.Common.{◌≡◌, ◌≢◌, min, take, ℕ, ◌*◌, ◌/◌, ◌^◌, ◌≤◌, false, nat_lt, le-ltb, List, [], Option, Some, refl, ap, ap₂, sym, subst, ◌∙◌, arith}
 use Rattle.std.proofs.Math.Pow.{pow_mono}
 use Rattle.theory.specs.Literals.{Literal, Clause}
 use Rattle.theory.specs.Truth.{Formula}
 use Rattle.theory.specs.Plans.{Constants, focused, Plan}
 use Rattle.theory.specs.Trails.{Trail, literals, cube_trail, least_free}
-use Rattle.theory.specs.Propagation.{Closed, quiet, conflict, by_place, Propagates}
-use Rattle.theory.specs.Learning.{learn}
-use Rattle.theory.specs.Search.{Outcome, refuted, exhausted, Next, ends, goes_on, first_clauses}
+use Rattle.theory.specs.Propagation.{Closed, quiet, by_place, Propagates}
+use Rattle.theory.specs.Search.{Outcome, exhausted, Next, ends, goes_on, first_clauses}
 use Rattle.theory.specs.Focused.{FocusedState, begin, after, splits_on, IsFocusedStep}
 use Rattle.theory.specs.Looking.{Chooses, no_choice, best_ones, max_candidates, ranks, SplitsInto, Looks}
 use Rattle.theory.specs.Dividing.{LeadsTo, stays, moves, HasFewDecisions, first_conflicts, IsDivisible}
@@ -39,10 +38,6 @@ splits-some F V K T w v x o vars clauses free some is chosen =
 pub looks-quiet : (F : Formula) (Q : List Literal) (V : ℕ) (K : List Clause) (T U : Trail) (o : Outcome) → V ≡ F.vars → K ≡ first_clauses F → T ≡ cube_trail Q → Propagates by_place K T quiet U
     → ((G : Formula) → V ≡ G.vars → K ≡ first_clauses G → SplitsInto G U (least_free G.vars U) o) → Looks F Q o
 looks-quiet F Q V K T U o vars clauses trail closes splits = record { answer = quiet; trail = U; propagates = rw (clauses, trail) at closes; comes_to = splits F vars clauses }
-
-pub looks-refuted : (F : Formula) (Q : List Literal) (K : List Clause) (T U : Trail) (n : ℕ) (o : Outcome) → K ≡ first_clauses F → T ≡ cube_trail Q → Propagates by_place K T (conflict n) U
-    → o ≡ refuted (learn K U n ∷ []) → Looks F Q o
-looks-refuted F Q K T U n o clauses trail closes is = record { answer = conflict n; trail = U; propagates = rw (clauses, trail) at closes; comes_to = rw clauses at is }
 
 -- steps to an end, of which each state has one, have one end
 ends-unique : {State : Type 0} (IsStep : State → Next State → Type 0) → ((s : State) (m n : Next State) → IsStep s m → IsStep s n → m ≡ n)

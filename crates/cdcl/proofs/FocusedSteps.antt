@@ -20,14 +20,12 @@ use Rattle.theory.proofs.trails.TrailLists.{literals-append}
 use Rattle.theory.proofs.searching.BestVariables.{best_outside-some}
 use Rattle.kernel.specs.State.{State}
 use Rattle.kernel.specs.declared.order.Order.TheVariants.{ByPlace}
-use Rattle.cdcl.specs.Outcome.{outcome_of}
-use Rattle.cdcl.specs.Outcome.{LinesOutcome}
 use Rattle.cdcl.specs.declared.focused.FocusedSearch.{FocusedSearch}
 use Rattle.cdcl.specs.declared.focused.Stop.{Stop}
 use Rattle.cdcl.specs.declared.focused.Stop.TheVariants.{Ended, Spent}
 use Rattle.cdcl.specs.declared.decisions.Decisions.{Decisions}
 use Rattle.cdcl.specs.Saving.{AreWaiting}
-use Rattle.cdcl.specs.Focusing.{state_of, RunsTo, HasSaved, IsEquipped, IsFocusing, IsOwn, StepsAs, IsSpent, Follows, GoesOnward, Onward, IsFocusedSearchStep, Reaches, Stops}
+use Rattle.cdcl.specs.Focusing.{state_of, RunsTo, HasSaved, IsEquipped, IsFocusing, StepsAs, IsSpent, Follows, GoesOnward, Onward, IsFocusedSearchStep, Reaches, Stops}
 use Rattle.cdcl.proofs.SearchingLemmas.{IsSearching-Propagates}
 use Rattle.lookahead.proofs.TrailLengths.{length-lawful, length-Propagates}
 use Rattle.cdcl.proofs.Progress.{remaining}
@@ -193,11 +191,6 @@ Follows-decided budget s t saved x f counted calm best has went lawful over clau
           scored = subst (λ (u : FocusedSearch). t.decisions.scores.constants ≡ u.constants) (sym is) (constants ∙ f.equipped.scored);
           averaged = subst (λ (u : FocusedSearch). u.averages.constants ≡ u.constants) (sym is) f.equipped.averaged;
         }
-
--- an end by itself
-pub Follows-ends : (last : ℕ) (a : Closed) (s t : FocusedSearch) (saved : Assignment) (o : LinesOutcome) → definition.after s.constants s.kernel.vars last (state_of s saved) a ≡ ends (outcome_of o)
-    → t.decided ≡ s.decided → IsOwn o → Follows last a s saved (Some (Ended o)) t
-Follows-ends last a s t saved o is same own = record { values = saved; next = is; onward = (same, own) }
 
 -- the last conflict
 pub Follows-spent : (last n : ℕ) (s : FocusedSearch) (saved : Assignment) → IsFocusing s → nat_eq (current_level s.kernel.trail) 0 ≡ false → s.conflicts + 1 ≡ last

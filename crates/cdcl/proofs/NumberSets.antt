@@ -40,18 +40,6 @@ flag-says flags xs n h = go (slice_index_or flags n false) (is_one_of xs n) refl
 pub count-push : (n x : ℕ) (xs : List ℕ) → count_by (nat_eq n) (xs ++ x ∷ []) ≡ count_by (nat_eq n) xs + (if nat_eq n x then 1 else 0)
 count-push n x xs = sum_by_push (λ y. cond (nat_eq n y) 1 0) xs x
 
-any-push : (n x : ℕ) (xs : List ℕ) → is_one_of (xs ++ x ∷ []) n ≡ (nat_eq n x || is_one_of xs n)
-any-push n x [] = refl
-any-push n x (y ∷ xs) = go (nat_eq n y) (any-push n x xs)
-  where
-    go : (b : Bool) → is_one_of (xs ++ x ∷ []) n ≡ (nat_eq n x || is_one_of xs n) → (b || is_one_of (xs ++ x ∷ []) n) ≡ (nat_eq n x || (b || is_one_of xs n))
-    go true more = or-right_true (nat_eq n x)
-      where
-        or-right_true : (a : Bool) → true ≡ (a || true)
-        or-right_true true = refl
-        or-right_true false = refl
-    go false more = more
-
 -- one that is in stays in
 pub AreWith-there : (flags : List Bool) (xs : List ℕ) (x : ℕ) → AreFlagged flags xs → slice_index_or flags x false ≡ true → AreWith x xs xs
 AreWith-there flags xs x h there n = go (nat_eq n x) refl

@@ -1,5 +1,5 @@
 //! Analysis of a conflict: resolution back to the first unique implication point.
-ghost use Rattle.std.specs.Prelude.{◌≡◌, ℕ, ◌<◌, ◌≤◌, ◌^◌, ◌++◌, ◌∷◌, [], All, IfOk, OnOk, Some, length, reverse, not, filter, slice_get, slice_index_or, true, false};
+ghost use Rattle.std.specs.Prelude.{◌≡◌, ℕ, ◌<◌, ◌≤◌, ◌^◌, ◌++◌, ◌∷◌, [], All, OnOk, Some, length, reverse, not, filter, slice_get, slice_index_or, true, false};
 ghost use Rattle.theory.specs.Literals.{Clause};
 ghost use Rattle.theory.specs.Trails.{literals, entry_of, current_level};
 ghost use Rattle.theory.specs.Propagation.{least_false, clause_at};
@@ -10,7 +10,7 @@ ghost use Rattle.cdcl.specs.Learnt.{line_of};
 use crate::level::back_level;
 use crate::marks::{Marks, Room, put_all, reason_used, resolve};
 use cnf::{Lit, put_last};
-use kernel::{Entry, Kernel, SearchKernel};
+use kernel::{Entry, SearchKernel};
 use std::alloc::{AllocError, Global};
 
 /// What a conflict teaches. It takes up one conflict after the other, and so keeps its memory.
@@ -204,9 +204,9 @@ pub(crate) fn take_up(
     Ok(())
 }
 
-/// What `analyze` answers, in room and in lists that are used again. The marks leave their room once
-/// a conflict and go back: handed on from call to call by value, they took a fortieth of a search of
-/// parity chains.
+/// The line that the conflict with the clause of this number teaches, and the level to go back to, in
+/// room and in lists that are used again. The marks leave their room once a conflict and go back:
+/// handed on from call to call by value, they took a fortieth of a search of parity chains.
 pub(crate) fn analyze_in(
     kernel: &SearchKernel,
     room: &mut Room,
@@ -222,18 +222,4 @@ pub(crate) fn analyze_in(
     take_up(kernel, &mut marks, learnt)?;
     room.put_back(marks);
     Ok(())
-}
-
-/// The line that the conflict with the clause of this number teaches, and the level to go back to.
-/// The last `close` answered this conflict, and nothing was changed since. It takes time by the
-/// literals of the clauses resolved with, with a logarithm for the order of their variables and
-/// places, and at first by the variables. An error comes only where memory was refused.
-pub fn analyze(alloc: Global, kernel: &Kernel, conflict: u64) -> Result<Learnt, AllocError>
-    requires { least_false (literals kernel.now.trail) kernel.now.clauses ≡ Some conflict }
-    ensures line { IfOk result (λ r. line_of r ≡ learn kernel.now.clauses kernel.now.trail conflict) }
-    ensures level { IfOk result (λ r. r.level ≡ back_level kernel.now.trail (learn kernel.now.clauses kernel.now.trail conflict).clause) }
-{
-    let mut learnt = Learnt::none(alloc);
-    analyze_in(kernel.as_search(), &mut Room::new(), conflict, &mut learnt)?;
-    Ok(learnt)
 }

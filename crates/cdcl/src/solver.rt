@@ -1,7 +1,6 @@
 //! Solving the cubes of a formula, one after the other.
-ghost use Rattle.std.specs.Prelude.{◌≡◌, ◌≤◌, [], true, false, IfOk, OnOk, OnErr, IsErr};
+ghost use Rattle.std.specs.Prelude.{◌≡◌, [], true, false, IfOk, OnOk, OnErr, IsErr};
 ghost use Rattle.theory.specs.Truth.{IsOver};
-ghost use Rattle.theory.specs.Plans.{ordered, ordered_within};
 ghost use Rattle.theory.specs.Search.{exhausted};
 ghost use Rattle.theory.specs.Runs.{Runs};
 ghost use Rattle.theory.specs.Results.{OutcomeSays};
@@ -150,38 +149,4 @@ impl Solver {
         self.short = false;
         Ok(outcome)
     }
-}
-
-/// The outcome of one cube over the formula's variables, by the plan's search. It takes time and
-/// memory by the formula too: who has many cubes keeps a `Solver`. An error comes only where memory
-/// was refused.
-pub fn solve_cube_by_plan(
-    alloc: Global,
-    formula: &Formula,
-    cube: &Cube,
-    plan: Plan,
-) -> Result<Outcome<Row>, AllocError>
-    requires over { IsOver formula.now.vars cube.now }
-    ensures runs { IfOk result (λ o. Runs formula.now plan cube.now (outcome_of o)) }
-    ensures says { IfOk result (λ o. OutcomeSays plan.search formula.now cube.now (outcome_of o)) }
-{
-    let mut solver = Solver::open(alloc, formula, plan)?;
-    solver.solve(cube)
-}
-
-/// `solve_cube_by_plan` by the ordered search, where the root has a budget of 1 to 100,000
-/// conflicts, and the cube one by its literals. The lines of a refuted cube are unpacked.
-pub fn solve_cube(
-    alloc: Global,
-    formula: &Formula,
-    cube: &Cube,
-    budget: u32,
-) -> Result<Outcome, AllocError>
-    requires budget { (1 ≤ budget) × (budget ≤ 100000) }
-    requires over { IsOver formula.now.vars cube.now }
-    ensures runs { IfOk result (λ o. Runs formula.now (ordered_within budget) cube.now (outcome_of o)) }
-    ensures says { IfOk result (λ o. OutcomeSays ordered formula.now cube.now (outcome_of o)) }
-{
-    let outcome = solve_cube_by_plan(alloc, formula, cube, Plan::ordered(budget))?;
-    outcome.unpacked(alloc)
 }

@@ -2,7 +2,7 @@
 
 ghost use Rattle.std.specs.Prelude.{◌≡◌};
 
-use crate::packing::KeepsLines;
+use crate::keeping::KeepsLines;
 use lines::Row;
 use std::alloc::{AllocError, Global};
 use std::marker::Model;

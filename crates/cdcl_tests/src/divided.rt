@@ -185,8 +185,8 @@ fn solves(
     requires { solver.old.formula ≡ formula.now }
 {
     let cube = cube_of(alloc, formula.vars(), row.cube)?;
-    let outcome = solver.solve(&cube)?.unpacked(alloc)?;
-    Ok(is_wanted(&outcome, row.wanted))
+    let outcome = solver.solve(&cube)?;
+    is_wanted(&outcome, row.wanted)
 }
 
 /// Whether a solver that is told that the cube without literals is split on a variable has the same
@@ -235,7 +235,7 @@ fn comes(alloc: Global, row: &Row) -> Result<bool, Fail> {
         return Ok(false);
     }
     let plan = Plan::focused(row.budget).divided(row.divide);
-    Ok(is_wanted(&cube_by(alloc, row.text, row.cube, plan)?, row.wanted))
+    Ok(is_wanted(&cube_by(alloc, row.text, row.cube, plan)?, row.wanted)?)
 }
 
 /// These rows. The proof of a function that names a table goes through all of its parts, so that this

@@ -308,7 +308,7 @@ fn comes(
         return Ok(false);
     }
     let plan = Plan::focused_by(budget, constants);
-    Ok(is_wanted(&cube_in(alloc, text, &[], plan)?, wanted))
+    Ok(is_wanted(&cube_in(alloc, text, &[], plan)?, wanted)?)
 }
 
 #[test]
@@ -343,7 +343,7 @@ fn small_numbers(rt: HostRuntime) -> Result<(), Fail> {
 
 fn is_usual(alloc: Global) -> Result<bool, Fail> {
     let outcome = outcome_by(alloc, FOUR, Plan::focused(1))?;
-    Ok(is_wanted(&outcome, Wanted::ExhaustedOn(2)))
+    Ok(is_wanted(&outcome, Wanted::ExhaustedOn(2))?)
 }
 
 #[test]

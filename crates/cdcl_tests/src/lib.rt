@@ -4,6 +4,8 @@
 #[cfg(test)]
 mod budgets;
 #[cfg(test)]
+mod compatible;
+#[cfg(test)]
 mod conflicts;
 #[cfg(test)]
 mod divided;

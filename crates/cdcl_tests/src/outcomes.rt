@@ -1,10 +1,9 @@
 //! What cubes are to come to.
-ghost use Rattle.std.specs.Prelude.{◌≤◌};
-
-use cdcl::{Outcome, Plan, Refutation, solve_cube, solve_cube_by_plan};
+use cdcl::{Outcome, Plan, Solver};
 use cnf::read_formula;
+use lines::Row as LineRow;
 use samples::{cube_of, reads};
-use std::alloc::Global;
+use std::alloc::{AllocError, Global};
 use std::test::Fail;
 
 // the first conflict leaves out a level
@@ -25,51 +24,53 @@ pub enum Wanted<'a> {
 }
 
 /// The outcome of a cube, by a plan.
-pub fn cube_by(alloc: Global, text: &str, cube: &[i32], plan: Plan) -> Result<Outcome, Fail> {
+pub fn cube_by(
+    alloc: Global,
+    text: &str,
+    cube: &[i32],
+    plan: Plan,
+) -> Result<Outcome<LineRow>, Fail> {
     cube_in(alloc, text.as_bytes(), cube, plan)
 }
 
 /// The outcome of a cube of the formula in these bytes, by a plan.
-pub fn cube_in(alloc: Global, text: &[u8], cube: &[i32], plan: Plan) -> Result<Outcome, Fail> {
+pub fn cube_in(
+    alloc: Global,
+    text: &[u8],
+    cube: &[i32],
+    plan: Plan,
+) -> Result<Outcome<LineRow>, Fail> {
     let formula = read_formula(alloc, text)?;
     let cube = cube_of(alloc, formula.vars(), cube)?;
-    let outcome = solve_cube_by_plan(alloc, &formula, &cube, plan)?;
-    Ok(outcome.unpacked(alloc)?)
+    let mut solver = Solver::open(alloc, &formula, plan)?;
+    Ok(solver.solve(&cube)?)
 }
 
 /// The outcome of the root, by a plan.
-pub fn outcome_by(alloc: Global, text: &str, plan: Plan) -> Result<Outcome, Fail> {
+pub fn outcome_by(alloc: Global, text: &str, plan: Plan) -> Result<Outcome<LineRow>, Fail> {
     cube_by(alloc, text, &[], plan)
 }
 
-/// The outcome of a cube.
-pub fn outcome(alloc: Global, text: &str, cube: &[i32], budget: u32) -> Result<Outcome, Fail>
-    requires { (1 ≤ budget) × (budget ≤ 100000) }
-{
-    let formula = read_formula(alloc, text.as_bytes())?;
-    let cube = cube_of(alloc, formula.vars(), cube)?;
-    Ok(solve_cube(alloc, &formula, &cube, budget)?)
-}
-
-fn has_lines(refutation: &Refutation, wanted: &[WantedLine]) -> bool {
-    if refutation.lines.len() != wanted.len() {
-        return false;
-    }
-    for (line, want) in refutation.lines.iter().zip(wanted) {
-        if !reads(line.clause(), want.0) || line.hints() != want.1 {
-            return false;
+fn has_lines(row: &LineRow, wanted: &[WantedLine]) -> Result<bool, AllocError> {
+    let mut lines = row.lines();
+    let mut clause = Vec::new(row.allocator());
+    let mut hints = Vec::new(row.allocator());
+    for want in wanted {
+        let is_there = lines.next(&mut clause, &mut hints)?;
+        if !is_there || !reads(&clause, want.0) || hints.as_slice() != want.1 {
+            return Ok(false);
         }
     }
-    true
+    Ok(lines.len() == 0)
 }
 
-pub fn is_wanted(outcome: &Outcome, wanted: Wanted) -> bool {
+pub fn is_wanted(outcome: &Outcome<LineRow>, wanted: Wanted) -> Result<bool, AllocError> {
     match (outcome, wanted) {
-        (Outcome::Exhausted(var), Wanted::Exhausted) => *var == 1,
-        (Outcome::Exhausted(var), Wanted::ExhaustedOn(wanted)) => *var == wanted,
-        (Outcome::Model(values), Wanted::Model(wanted)) => &values[..] == wanted,
-        (Outcome::Refuted(refutation), Wanted::Refuted(lines)) => has_lines(refutation, lines),
-        _ => false,
+        (Outcome::Exhausted(var), Wanted::Exhausted) => Ok(*var == 1),
+        (Outcome::Exhausted(var), Wanted::ExhaustedOn(wanted)) => Ok(*var == wanted),
+        (Outcome::Model(values), Wanted::Model(wanted)) => Ok(&values[..] == wanted),
+        (Outcome::Refuted(row), Wanted::Refuted(lines)) => has_lines(row, lines),
+        _ => Ok(false),
     }
 }
 
@@ -82,5 +83,6 @@ pub fn comes(alloc: Global, row: &Row) -> Result<bool, Fail> {
     if budget < 1 || budget > 100_000 {
         return Ok(false);
     }
-    Ok(is_wanted(&outcome(alloc, text, cube, budget)?, wanted))
+    let found = cube_by(alloc, text, cube, Plan::ordered(budget))?;
+    Ok(is_wanted(&found, wanted)?)
 }

@@ -1,9 +1,9 @@
 //! Worked searches of cubes, and the halves of a cube.
 ghost use Rattle.std.specs.Prelude.{◌≡◌};
 
-use crate::outcomes::{LEVEL_LEFT_OUT, Row, Wanted, WantedLine, comes, is_wanted, outcome};
+use crate::outcomes::{LEVEL_LEFT_OUT, Row, Wanted, WantedLine, comes, is_wanted};
 use crate::pure;
-use cdcl::{Outcome, Plan, Search, Solver, split};
+use cdcl::{Plan, Search, Solver, split};
 use cnf::{Formula, read_formula};
 use samples::{EIGHT, FOUR, TWO_MODELS, cube_of, has_var, reads};
 use std::alloc::{AllocError, Global};
@@ -233,8 +233,8 @@ fn comes_in_turn(
     ensures { solver.new.formula ≡ formula.now }
 {
     let cube = cube_of(alloc, formula.vars(), turn.cube)?;
-    let outcome = solver.solve(&cube)?.unpacked(alloc)?;
-    Ok(is_wanted(&outcome, turn.wanted))
+    let outcome = solver.solve(&cube)?;
+    is_wanted(&outcome, turn.wanted)
 }
 
 /// The place of the first cube, of a solver's cubes one after the other, that comes to something
@@ -372,20 +372,6 @@ fn one_solver_for_all_cubes(rt: HostRuntime) -> Result<(), Fail> {
     Ok(())
 }
 
-/// Whether the last one of two lines comes apart into its clause and its hints.
-fn comes_apart(alloc: Global) -> Result<bool, Fail> {
-    let Outcome::Refuted(refutation) = outcome(alloc, FOUR, &[], 2)? else {
-        return Ok(false);
-    };
-    let mut lines = refutation.lines;
-    let count = lines.len();
-    let Some(line) = lines.pop() else {
-        return Ok(false);
-    };
-    let (clause, hints) = line.into_parts();
-    Ok(count == 2 && reads(&clause, &[]) && hints.as_slice() == [5, 3, 4].as_slice())
-}
-
 /// Whether a cube is split into its halves.
 fn is_split(alloc: Global) -> Result<bool, Fail> {
     let cube = cube_of(alloc, 9, &[3, -1])?;
@@ -397,8 +383,7 @@ fn is_split(alloc: Global) -> Result<bool, Fail> {
 }
 
 #[test]
-fn parts_of_a_line_and_halves(rt: HostRuntime) -> Result<(), Fail> {
-    assert!(rt; comes_apart(rt.alloc())?);
+fn halves(rt: HostRuntime) -> Result<(), Fail> {
     assert!(rt; is_split(rt.alloc())?);
     Ok(())
 }

@@ -20,7 +20,7 @@ use Rattle.cubes.specs.declared.tree.Tree.TheVariants as tree
 use Rattle.cubes.specs.CubeWalks.{IsBelow}
 use Rattle.cubes.specs.Traversal.{path, behind}
 use Rattle.cubes.specs.Gathering.{nodes_of, CanSplit, GoesRight, GoesOnWith}
-use Rattle.cubes.specs.Result.{node_by, LinesTree, IsSameTree, IsResultBy, IsResultOf, IsCheckedResultBy, Says}
+use Rattle.cubes.specs.Result.{node_by, IsResultBy, IsCheckedResultBy, Says}
 use Rattle.cubes.proofs.Walks.{Walkable, by_plan, by_checks, to_come, to_come-enter, to_come-behind, results_of, IsDone, IsDone-refuted, IsReached, IsReached-enter, IsReached-behind, IsReached-leaf, IsReached-cube, IsReached-over, ComesTo}
 
 -- the node that a cube's result gives
@@ -154,10 +154,3 @@ says-checked lines F by (tree.Refuted nodes) formed result = IsCheckedResult-say
 
 pub says : {L : Type 0} (lines : L → List Line) (F : Formula) (plan : Plan) (t : Tree L) → IsFormula F → IsResultBy lines F plan t → Says plan.search F t
 says lines F plan t formed result = says-checked lines F plan.search t formed (IsCheckedResultBy-IsResultBy lines F plan t formed result)
-
--- the same tree is the same result
-pub IsResultOf-same : (F : Formula) (plan : Plan) (t u : LinesTree) → IsSameTree t u → IsResultOf F plan t → IsResultOf F plan u
-IsResultOf-same F plan (tree.Model values) (tree.Model others) same result = rw same result
-IsResultOf-same F plan (tree.Refuted nodes) (tree.Refuted others) same result = (result.0, result.1, rw same result.2)
-IsResultOf-same F plan (tree.Model values) (tree.Refuted others) same result = absurd same
-IsResultOf-same F plan (tree.Refuted nodes) (tree.Model others) same result = absurd same

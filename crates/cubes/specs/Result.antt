@@ -28,12 +28,6 @@ node_by lines (Leaf kept) = trees.refuted_leaf (lines kept)
 abbrev pub node_of : LinesNode → trees.Node
 node_of n = node_by (λ lines. lines) n
 
--- the trees have the same model, or the same nodes
-abbrev pub IsSameTree : LinesTree → LinesTree → Type 0
-IsSameTree (Model values) (Model others) = others ≡ values
-IsSameTree (Refuted nodes) (Refuted others) = others.items ≡ nodes.items
-IsSameTree t u = ⊥
-
 -- the tree is the formula's result: its model, or the nodes of its tree, where a leaf keeps what
 -- has these lines
 abbrev pub IsResultBy : {L : Type 0} → (L → List Line) → Formula → Plan → Tree L → Type 0

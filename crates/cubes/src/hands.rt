@@ -10,7 +10,7 @@ ghost use Rattle.theory.specs.Round.{HasWorked};
 ghost use Rattle.cdcl.specs.Outcome.{outcome_of};
 ghost use Rattle.cdcl.specs.Solving.{IsRootOf};
 ghost use Rattle.pool.specs.Hands.{SameHand, IsAllTaken};
-ghost use Rattle.cubes.specs.Hands.{Gets, IsWorker, EndsIn, Settles, AddsRound, AddsHandOn, AddsHalves, AddsCarried, Worked_as, GoesOn, GoesHome};
+ghost use Rattle.cubes.specs.Hands.{Gets, IsWorker, EndsIn, Settles, AddsRound, AddsHandOn, AddsHalves, AddsCarried, GoesOn, GoesHome};
 ghost use Rattle.cubes.specs.Solved.{results_by};
 
 use crate::cube_walk::CubeWalk;
@@ -262,8 +262,12 @@ impl<L: KeepsLines> Worker<L> {
     }
 }
 
-/// What `work_by_plan` does, whatever keeps the lines of refuted cubes, where this is known of the
-/// cube without literals.
+/// The work of a hand, where this is known of the cube without literals: it takes cubes from its own
+/// deque, or else steals from the others, until nothing is left to be done or a hand halted. Each
+/// cube that it gets is skipped where a model lies left of it, and else solved, and the halves of an
+/// exhausted one are put. It is the caller that waits: until nothing is left to be done by any hand.
+/// A hand that finds no cube yields its processor, a hundred times, and then sleeps between its
+/// looks, for 50 microseconds at first and for up to a millisecond, until it gets one.
 pub(crate) fn work_in<L: KeepsLines, R: Wait + Clock, G: Gate>(
     rt: &R,
     alloc: Global,
@@ -309,26 +313,4 @@ pub(crate) fn work_in<L: KeepsLines, R: Wait + Clock, G: Gate>(
         }
     }
     worker.home(false)
-}
-
-/// The work of a hand: it takes cubes from its own deque, or else steals from the others, until
-/// nothing is left to be done or a hand halted. Each cube that it gets is skipped where a model
-/// lies left of it, and else solved, and the halves of an exhausted one are put. It is the caller
-/// that waits: until nothing is left to be done by any hand. A hand that finds no cube yields its
-/// processor, a hundred times, and then sleeps between its looks, for 50 microseconds at first and
-/// for up to a millisecond, until it gets one.
-pub fn work_by_plan<R: Wait + Clock, G: Gate>(
-    rt: &R,
-    alloc: Global,
-    hand: Hand,
-    formula: &Formula,
-    plan: Plan,
-    gate: &G,
-) -> Worked<Row>
-    requires vars { hand.vars ≡ formula.now.vars }
-    ensures same { SameHand hand result.hand }
-    ensures work { Worked_as formula.now plan result.short_of_memory hand.ledger result.hand.ledger result.solved.items }
-    ensures home { GoesHome result.short_of_memory hand.ledger result.hand.ledger }
-{
-    work_in(rt, alloc, hand, formula, plan, Root::Unknown, gate)
 }

@@ -2,15 +2,14 @@
 //! together.
 #![tactic(auto)]
 
-mod by_budget;
 mod closing;
+mod compatible;
 mod cube_walk;
 mod decided;
 mod gate;
 mod gathering;
 mod hands;
 mod known;
-mod packing;
 mod pause;
 mod place;
 mod preparing;
@@ -23,17 +22,15 @@ mod traversal;
 mod tree;
 mod tries;
 
-pub use by_budget::{gather, solve_one, solve_with, work};
-pub use closing::{harvest, harvest_by_plan};
+pub use compatible::{assemble, gather, harvest, solve_one, solve_with, work};
 pub use decided::decide_by_plan;
 pub use gate::{Gate, OpenGate};
-pub use hands::{Worked, work_by_plan};
-pub use packing::assemble;
+pub use hands::Worked;
 pub use place::place_of;
-pub use results::{OwnSolver, assemble_rows, gather_by_plan, solve_one_by_plan};
+pub use results::{OwnSolver, gather_by_plan, solve_one_by_plan};
 pub use size::TreeSize;
 pub use solved::{Solved, What};
 pub use streaming::{GivesOutcomes, TakesNodes, Untaken, go_through};
-pub use threads::{results_by_hands, solve_by_plan};
+pub use threads::solve_by_plan;
 pub use traversal::{Split, Turn, Walk};
 pub use tree::{Node, Tree};

@@ -1,5 +1,5 @@
 //! The tree of a formula, solved from left to right, or put together from results.
-ghost use Rattle.std.specs.Prelude.{◌≡◌, ◌≤◌, ◌<◌, ◌^◌, ℕ, false, map, IfOk, IfSome, OnOk};
+ghost use Rattle.std.specs.Prelude.{◌≡◌, ◌≤◌, ◌<◌, ◌^◌, ℕ, false, IfOk, IfSome, OnOk};
 ghost use Rattle.theory.specs.Truth.{Formula, IsOver};
 ghost use Rattle.theory.specs.Plans as plans;
 ghost use Rattle.theory.specs.Runs.{Runs};
@@ -7,7 +7,7 @@ ghost use Rattle.theory.specs.Results.{OutcomeSays, IsWhole, done};
 ghost use Rattle.theory.specs.Checked.{IsCheckedOf};
 ghost use Rattle.cdcl.specs.Outcome.{outcome_of, outcome_by};
 ghost use Rattle.cdcl.specs.Solving.{IsRootOf};
-ghost use Rattle.cubes.specs.Solved.{AreTrueBy, AreTrueResults, AreCheckedBy, AreCheckedResults, results_by, solved_of};
+ghost use Rattle.cubes.specs.Solved.{AreTrueBy, AreTrueResults, AreCheckedBy, AreCheckedResults, results_by};
 ghost use Rattle.cubes.specs.Known.{AreOutcomes};
 ghost use Rattle.cubes.specs.Source.{IsOwnSolver, IsSource};
 ghost use Rattle.cubes.specs.Result.{IsResultBy, IsResultOf, IsCheckedResultBy, IsCheckedResultOf, Says};
@@ -168,7 +168,9 @@ pub fn gather_by_plan(
     gather_in(alloc, formula, plan, Root::Unknown, results, &OpenGate)
 }
 
-/// What `assemble_rows` does, whatever keeps the lines of refuted cubes.
+/// The result of the formula and the plan of which the results are whole: each cube of their tree
+/// has its outcome among them, or lies right of a model. Neither the formula nor the plan is asked
+/// for, and nothing is solved. It fails only where a request for memory is refused.
 pub(crate) fn assemble_in<L: KeepsLines>(
     alloc: Global,
     results: Vec<Solved<L>>,
@@ -187,16 +189,6 @@ pub(crate) fn assemble_in<L: KeepsLines>(
             return Ok(tree);
         }
     }
-}
-
-/// The result of the formula and the plan of which the results are whole: each cube of their tree
-/// has its outcome among them, or lies right of a model. Neither the formula nor the plan is asked
-/// for, and nothing is solved. It fails only where a request for memory is refused.
-pub fn assemble_rows(alloc: Global, results: Vec<Solved<Row>>) -> Result<Tree<Row>, AllocError>
-    requires { (F : Formula) × (plan : plans.Plan) × (F.vars < 2 ^ 31) × IsWhole F plan (map solved_of results.items) }
-    ensures { IfOk result (λ t. (F : Formula) (plan : plans.Plan) → IsWhole F plan (map solved_of results.items) → IsResultOf F plan t) }
-{
-    assemble_in(alloc, results)
 }
 
 /// The result of the formula by the plan. It fails only where a request for memory is refused.

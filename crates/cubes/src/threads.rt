@@ -1,11 +1,11 @@
 //! The result of a formula, by several hands in threads of their own.
-ghost use Rattle.std.specs.Prelude.{◌≡◌, ◌≤◌, [], false, map, length, All, IfOk};
+ghost use Rattle.std.specs.Prelude.{◌≡◌, ◌≤◌, [], false, length, All, IfOk};
 ghost use Rattle.theory.specs.Results.{IsWhole};
 ghost use Rattle.pool.specs.Pools.{AreNew};
 ghost use Rattle.cdcl.specs.Solving.{IsRootOf};
 ghost use Rattle.cubes.specs.Result.{IsResultBy, IsResultOf, Says};
 ghost use Rattle.cubes.specs.Shares.{HasDone, HaveDone};
-ghost use Rattle.cubes.specs.Solved.{results_by, solved_of};
+ghost use Rattle.cubes.specs.Solved.{results_by};
 
 use crate::closing::close_all;
 use crate::gate::Gate;
@@ -62,8 +62,8 @@ fn is_short<L>(works: &[Worked<L>]) -> bool
     false
 }
 
-/// What `results_by_hands` does, whatever keeps the lines of refuted cubes, where this is known of
-/// the cube without literals.
+/// The results of these hands of the pool, once all are home, where this is known of the cube
+/// without literals. They are enough for the whole tree.
 fn results_in<L: KeepsLines + Send, R: Threads + Wait + Clock + Sync, G: Gate + Sync>(
     rt: &R,
     alloc: Global,
@@ -85,24 +85,6 @@ fn results_in<L: KeepsLines + Send, R: Threads + Wait + Clock + Sync, G: Gate + 
         return Err(AllocError);
     }
     close_all(alloc, formula, pool, works)
-}
-
-/// The results of these hands of the pool, once all are home. They are enough for the whole tree.
-pub fn results_by_hands<R: Threads + Wait + Clock + Sync, G: Gate + Sync>(
-    rt: &R,
-    alloc: Global,
-    formula: &Formula,
-    plan: Plan,
-    gate: &G,
-    pool: Pool,
-    hands: Vec<Hand>,
-) -> Result<Vec<Solved<Row>>, AllocError>
-    requires some { 1 ≤ pool.hands }
-    requires root { pool.root ≡ [] }
-    requires hands { AreNew pool formula.now.vars hands.items }
-    ensures { IfOk result (λ r. IsWhole formula.now plan (map solved_of r.items)) }
-{
-    results_in(rt, alloc, formula, plan, Root::Unknown, gate, pool, hands)
 }
 
 /// The result, by these hands of the pool.

@@ -1,7 +1,8 @@
 //! Worked rows: whole trees, solved without hands.
 use crate::results::{NODES, NODES_OF_SIXTEEN, Wanted, WantedTree, is_tree};
+use cdcl::Plan;
 use cnf::read_formula;
-use cubes::solve_one;
+use cubes::solve_one_by_plan;
 use samples::{EIGHT, FOUR, FOUR_PURE, FOUR_UNUSED, SIXTEEN};
 use std::alloc::Global;
 use std::test::Fail;
@@ -15,8 +16,8 @@ fn has_tree(alloc: Global, row: &Row) -> Result<bool, Fail> {
     if row.1 < 1 || row.1 > 100_000 {
         return Ok(false);
     }
-    let tree = solve_one(alloc, &formula, row.1)?;
-    Ok(is_tree(&tree, row.2))
+    let tree = solve_one_by_plan(alloc, &formula, Plan::ordered(row.1))?;
+    Ok(is_tree(&tree, row.2)?)
 }
 
 const OF_FOUR: [Wanted; 3] = [

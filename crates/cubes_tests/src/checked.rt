@@ -4,7 +4,8 @@ ghost use Rattle.std.specs.Prelude.{OnOk};
 ghost use Rattle.theory.specs.Plans.{ordered};
 ghost use Rattle.cubes.specs.Solved.{AreCheckedResults};
 
-use cdcl::{Plan, solve_cube_by_plan};
+use crate::results::solved;
+use cdcl::Plan;
 use cnf::{Formula, read_formula};
 use cubes::{Solved, Tree, What, gather_by_plan};
 use lines::Row as LineRow;
@@ -37,7 +38,7 @@ fn put(
     ensures { OnOk result (AreCheckedResults ordered formula.now results.new.items) }
 {
     let cube = cube_of(alloc, formula.vars(), numbers)?;
-    let outcome = solve_cube_by_plan(alloc, formula, &cube, Plan::ordered(100))?;
+    let outcome = solved(alloc, formula, Plan::ordered(100), &cube)?;
     let what = What::Done(outcome);
     results.push(Solved { cube, what })?;
     Ok(())

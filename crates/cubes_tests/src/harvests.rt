@@ -1,26 +1,59 @@
 //! Worked rows: what the hands of a pool bring home together, with a budget of one conflict for the
 //! root, and the tree that is assembled from it.
-ghost use Rattle.std.specs.Prelude.{◌≤◌, map, IfOk};
+ghost use Rattle.std.specs.Prelude.{◌≡◌, ◌≤◌, false, map, length, All, IfOk};
 ghost use Rattle.theory.specs.Plans.{ordered_within};
 ghost use Rattle.theory.specs.Results.{IsWhole};
+ghost use Rattle.cubes.specs.Shares.{HasDone, HaveDone};
 ghost use Rattle.cubes.specs.Solved.{solved_of};
 
 use crate::hands::is_result;
 use crate::results::{Given, NODES, NODES_OF_SIXTEEN, WantedTree, is_tree};
-use cdcl::Plan;
 use cnf::{Formula, read_formula};
-use cubes::{OpenGate, Solved, Tree, assemble_rows, results_by_hands};
+use cubes::{OpenGate, Solved, Tree, Worked, assemble, harvest, work};
 use kernel::Cube;
-use lines::Row as LineRow;
+use pool::Hand;
 use samples::{EIGHT, SIXTEEN, TWO_MODELS};
 use std::alloc::{AllocError, Global};
 use std::sync::Wait;
 use std::test::Fail;
+use std::thread;
 use std::thread::Threads;
 use std::time::Clock;
 
 /// A cube, and what it comes to.
 type Row = (&'static [i32], Given);
+
+/// What each hand leaves behind, in the order of the hands, each in a thread of its own.
+fn all_work<R: Threads + Wait + Clock + Sync>(
+    rt: &R,
+    alloc: Global,
+    formula: &Formula,
+    hands: Vec<Hand>,
+) -> Result<Vec<Worked>, AllocError>
+    requires { All (λ h. h.vars ≡ formula.now.vars) hands.items }
+    ensures len { IfOk result (λ v. length v.items ≡ length hands.items) }
+    ensures each { IfOk result (λ v. HaveDone (λ lines. lines) formula.now (ordered_within 1) hands.items v.items) }
+{
+    thread::map_vec(
+        rt,
+        hands,
+        &|hand: Hand| -> Worked
+            requires { hand.vars ≡ formula.now.vars }
+            ensures { HasDone (λ lines. lines) formula.entry.now (ordered_within 1) hand result }
+        { work(rt, alloc, hand, formula, 1, &OpenGate) },
+    )
+}
+
+fn is_short(works: &[Worked]) -> bool
+    ensures { result ≡ false → All (λ w. w.short_of_memory ≡ false) works.now }
+{
+    for worked in works {
+        if worked.short_of_memory {
+            return true;
+        }
+    }
+    false
+}
 
 /// The results of so many hands.
 fn harvested<R: Threads + Wait + Clock + Sync>(
@@ -28,27 +61,27 @@ fn harvested<R: Threads + Wait + Clock + Sync>(
     alloc: Global,
     formula: &Formula,
     hands: usize,
-) -> Result<Vec<Solved<LineRow>>, Fail>
+) -> Result<Vec<Solved>, Fail>
     requires { (1 ≤ hands) × (hands ≤ 16) }
     ensures { IfOk result (λ r. IsWhole formula.now (ordered_within 1) (map solved_of r.items)) }
 {
     let (pool, all) = pool::open(alloc, hands, formula.vars(), Cube::root(alloc))?;
-    Ok(results_by_hands(rt, alloc, formula, Plan::ordered(1), &OpenGate, pool, all)?)
+    let works = all_work(rt, alloc, formula, all)?;
+    if is_short(&works) {
+        return Err("short of memory".into());
+    }
+    Ok(harvest(alloc, formula, 1, pool, works)?)
 }
 
-fn tree_of(
-    alloc: Global,
-    formula: &Formula,
-    results: Vec<Solved<LineRow>>,
-) -> Result<Tree, AllocError>
+fn tree_of(alloc: Global, formula: &Formula, results: Vec<Solved>) -> Result<Tree, AllocError>
     requires { IsWhole formula.now (ordered_within 1) (map solved_of results.items) }
 {
     let _vars = formula.vars(); // it ensures that there are fewer than 2^31
-    assemble_rows(alloc, results)?.unpacked(alloc)
+    assemble(alloc, results)
 }
 
 /// Whether one of the results is this one, and no more.
-fn is_there_once(results: &[Solved<LineRow>], row: &Row) -> bool {
+fn is_there_once(results: &[Solved], row: &Row) -> bool {
     let mut found = false;
     for solved in results {
         if is_result(solved, row.0, row.1) {
@@ -62,7 +95,7 @@ fn is_there_once(results: &[Solved<LineRow>], row: &Row) -> bool {
 }
 
 /// Whether each of the rows is among the results once, and nothing else is.
-fn are_these(results: &[Solved<LineRow>], rows: &[Row]) -> bool {
+fn are_these(results: &[Solved], rows: &[Row]) -> bool {
     if results.len() != rows.len() {
         return false;
     }
@@ -97,7 +130,7 @@ fn brings<R: Threads + Wait + Clock + Sync>(
         return Ok(false);
     }
     let tree = tree_of(alloc, formula, results)?;
-    Ok(is_tree(&tree, wanted.tree))
+    Ok(is_tree(&tree, wanted.tree)?)
 }
 
 /// The same, twenty times.

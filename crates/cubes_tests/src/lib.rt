@@ -7,6 +7,8 @@ mod alone;
 #[cfg(test)]
 mod checked;
 #[cfg(test)]
+mod compatible;
+#[cfg(test)]
 mod counted;
 #[cfg(test)]
 mod decided;

@@ -1,11 +1,18 @@
 //! Results of cubes, and trees, as rows name them, with a budget of one conflict for the root.
-ghost use Rattle.std.specs.Prelude.{OnOk};
+ghost use Rattle.std.specs.Prelude.{IfOk, OnOk};
+ghost use Rattle.theory.specs.Truth.{IsOver};
+ghost use Rattle.theory.specs.Plans as plans;
 ghost use Rattle.theory.specs.Plans.{ordered_within};
+ghost use Rattle.theory.specs.Runs.{Runs};
+ghost use Rattle.theory.specs.Results.{OutcomeSays};
+ghost use Rattle.cdcl.specs.Outcome.{outcome_of};
 ghost use Rattle.cubes.specs.Solved.{AreTrueResults};
 
-use cdcl::{Outcome, Refutation, solve_cube};
+use cdcl::{Outcome, Plan, Refutation, Solver};
 use cnf::Formula;
-use cubes::{Node, Solved, Tree, What, gather};
+use cubes::{Node, Solved, Tree, What, gather_by_plan};
+use kernel::Cube;
+use lines::Row as LineRow;
 use samples::{cube_of, reads};
 use std::alloc::{AllocError, Global};
 
@@ -45,13 +52,28 @@ pub fn is_given<L>(outcome: &Outcome<L>, given: Given) -> bool {
     }
 }
 
+/// What a cube comes to by a plan.
+pub fn solved(
+    alloc: Global,
+    formula: &Formula,
+    plan: Plan,
+    cube: &Cube,
+) -> Result<Outcome<LineRow>, AllocError>
+    requires { IsOver formula.now.vars cube.now }
+    ensures runs { IfOk result (λ o. Runs formula.now plan cube.now (outcome_of o)) }
+    ensures says { IfOk result (λ o. OutcomeSays plan.search formula.now cube.now (outcome_of o)) }
+{
+    let mut solver = Solver::open(alloc, formula, plan)?;
+    solver.solve(cube)
+}
+
 /// Adds a cube's result. The answer is `false` where it isn't the one that the row names.
 fn put_result(
     alloc: Global,
     formula: &Formula,
     numbers: &[i32],
     given: Given,
-    results: &mut Vec<Solved>,
+    results: &mut Vec<Solved<LineRow>>,
 ) -> Result<bool, AllocError>
     requires { AreTrueResults formula.now (ordered_within 1) results.old.items }
     ensures { OnOk result (AreTrueResults formula.now (ordered_within 1) results.new.items) }
@@ -62,7 +84,7 @@ fn put_result(
         results.push(Solved { cube, what })?;
         return Ok(true);
     }
-    let outcome = solve_cube(alloc, formula, &cube, 1)?;
+    let outcome = solved(alloc, formula, Plan::ordered(1), &cube)?;
     let is_as_named = is_given(&outcome, given);
     let what = What::Done(outcome);
     results.push(Solved { cube, what })?;
@@ -75,55 +97,77 @@ pub fn gathered(
     alloc: Global,
     formula: &Formula,
     rows: &[(&[i32], Given)],
-) -> Result<Option<Tree>, AllocError> {
+) -> Result<Option<Tree<LineRow>>, AllocError> {
     let mut results = Vec::new(alloc);
     for row in rows {
         if !put_result(alloc, formula, row.0, row.1, &mut results)? {
             return Ok(None);
         }
     }
-    Ok(Some(gather(alloc, formula, 1, results)?))
+    let _vars = formula.vars(); // it ensures what the proof needs of the formula
+    Ok(Some(gather_by_plan(alloc, formula, Plan::ordered(1), results)?))
 }
 
-fn are_lines(refutation: &Refutation, wanted: &[WantedLine]) -> bool {
-    if refutation.lines.len() != wanted.len() {
-        return false;
-    }
-    for (line, (clause, hints)) in refutation.lines.iter().zip(wanted) {
-        if !reads(line.clause(), clause) || line.hints() != *hints {
-            return false;
+/// Tells whether the lines of a refuted cube are those that a row names.
+pub trait HasLines {
+    fn has_lines(&self, wanted: &[WantedLine]) -> Result<bool, AllocError>;
+}
+
+impl HasLines for LineRow {
+    fn has_lines(&self, wanted: &[WantedLine]) -> Result<bool, AllocError> {
+        let mut lines = self.lines();
+        let mut clause = Vec::new(self.allocator());
+        let mut hints = Vec::new(self.allocator());
+        for want in wanted {
+            let is_there = lines.next(&mut clause, &mut hints)?;
+            if !is_there || !reads(&clause, want.0) || hints.as_slice() != want.1 {
+                return Ok(false);
+            }
         }
-    }
-    true
-}
-
-fn is_node(node: &Node, wanted: Wanted) -> bool {
-    match node {
-        Node::Split(var) => matches!(wanted, Wanted::Split(var_wanted) if var_wanted == *var),
-        Node::Leaf(refutation) =>
-            matches!(wanted, Wanted::Leaf(lines) if are_lines(refutation, lines)),
+        Ok(lines.len() == 0)
     }
 }
 
-fn are_nodes(nodes: &[Node], wanted: &[Wanted]) -> bool {
+impl HasLines for Refutation {
+    fn has_lines(&self, wanted: &[WantedLine]) -> Result<bool, AllocError> {
+        if self.lines.len() != wanted.len() {
+            return Ok(false);
+        }
+        for (line, want) in self.lines.iter().zip(wanted) {
+            if !reads(line.clause(), want.0) || line.hints() != want.1 {
+                return Ok(false);
+            }
+        }
+        Ok(true)
+    }
+}
+
+fn is_node<L: HasLines>(node: &Node<L>, wanted: Wanted) -> Result<bool, AllocError> {
+    match (node, wanted) {
+        (Node::Split(var), Wanted::Split(wanted)) => Ok(*var == wanted),
+        (Node::Leaf(kept), Wanted::Leaf(lines)) => kept.has_lines(lines),
+        _ => Ok(false),
+    }
+}
+
+fn are_nodes<L: HasLines>(nodes: &[Node<L>], wanted: &[Wanted]) -> Result<bool, AllocError> {
     if nodes.len() != wanted.len() {
-        return false;
+        return Ok(false);
     }
     for (node, wanted) in nodes.iter().zip(wanted) {
-        if !is_node(node, *wanted) {
-            return false;
+        if !is_node(node, *wanted)? {
+            return Ok(false);
         }
     }
-    true
+    Ok(true)
 }
 
 /// Whether a tree is the one that a row names.
-pub fn is_tree(tree: &Tree, wanted: WantedTree) -> bool {
-    match tree {
-        Tree::Model(values) =>
-            matches!(wanted, WantedTree::Model(model) if values.as_slice() == model),
-        Tree::Refuted(nodes) =>
-            matches!(wanted, WantedTree::Refuted(wanted) if are_nodes(nodes, wanted)),
+pub fn is_tree<L: HasLines>(tree: &Tree<L>, wanted: WantedTree) -> Result<bool, AllocError> {
+    match (tree, wanted) {
+        (Tree::Model(values), WantedTree::Model(model)) => Ok(values.as_slice() == model),
+        (Tree::Refuted(nodes), WantedTree::Refuted(wanted)) => are_nodes(nodes, wanted),
+        _ => Ok(false),
     }
 }
 
@@ -133,6 +177,8 @@ pub const NODES: [Wanted; 3] = [
     Wanted::Leaf(&[(&[2], &[1, 2]), (&[], &[9, 3, 4])]),
     Wanted::Leaf(&[(&[2], &[5, 6]), (&[], &[9, 7, 8])]),
 ];
+
+pub const OF_EIGHT: WantedTree = WantedTree::Refuted(&NODES);
 
 // the tree of the sixteen clauses
 pub const NODES_OF_SIXTEEN: [Wanted; 7] = [

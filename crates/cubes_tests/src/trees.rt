@@ -2,9 +2,10 @@
 //! one conflict for the root.
 ghost use Rattle.std.specs.Prelude.{◌≤◌};
 
-use crate::results::{Given, NODES, WantedTree, gathered, is_tree};
+use crate::results::{Given, OF_EIGHT, WantedTree, gathered, is_tree};
+use cdcl::Plan;
 use cnf::read_formula;
-use cubes::{OpenGate, solve_with};
+use cubes::{OpenGate, solve_by_plan};
 use samples::EIGHT;
 use std::alloc::Global;
 use std::sync::Wait;
@@ -86,15 +87,13 @@ static ROWS: [Row; 8] = [
     ),
 ];
 
-const OF_EIGHT: WantedTree = WantedTree::Refuted(&NODES);
-
 /// Whether the tree that is gathered from a row's results, which have to be these, is the one that
 /// is wanted.
 fn gathers(alloc: Global, row: &Row) -> Result<bool, Fail> {
     let (text, results, wanted) = *row;
     let formula = read_formula(alloc, text.as_bytes())?;
     match gathered(alloc, &formula, results)? {
-        Some(tree) => Ok(is_tree(&tree, wanted)),
+        Some(tree) => Ok(is_tree(&tree, wanted)?),
         None => Ok(false),
     }
 }
@@ -124,8 +123,8 @@ fn is_solved_by<R: Threads + Wait + Clock + Sync>(
 {
     let formula = read_formula(alloc, text.as_bytes())?;
     for _ in 0..20 {
-        let tree = solve_with(rt, alloc, &formula, 1, hands, &OpenGate)?;
-        if !is_tree(&tree, wanted) {
+        let tree = solve_by_plan(rt, alloc, &formula, Plan::ordered(1), hands, &OpenGate)?;
+        if !is_tree(&tree, wanted)? {
             return Ok(false);
         }
     }
@@ -133,7 +132,7 @@ fn is_solved_by<R: Threads + Wait + Clock + Sync>(
 }
 
 static TREES: [(&str, WantedTree); 2] = [
-    (EIGHT, WantedTree::Refuted(&NODES)),
+    (EIGHT, OF_EIGHT),
     (
         "p cnf 3 2\n1 2 3 0\n1 2 -3 0\n",
         WantedTree::Model(&[false, true, false]),

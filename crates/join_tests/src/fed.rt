@@ -7,7 +7,7 @@ ghost use Rattle.join.specs.Walking.{joined, IsJoining};
 use cdcl::Plan;
 use cnf::{Formula, read_formula};
 use cubes::{Node, Tree, solve_one_by_plan};
-use join::{Joiner, Kind};
+use join::{Joiner, Kind, ProofLine};
 use lines::Row;
 use lrat::{write_clause, write_deletion};
 use samples::{EIGHT, FOUR, FOUR_UNUSED, SIXTEEN};
@@ -47,6 +47,15 @@ static CASES: [Case; 6] = [
     ("p cnf 2 1\n1 -2 0\n", 1, b""),
 ];
 
+/// Puts the text of a line.
+pub fn put_line(line: &ProofLine, text: &mut Vec<u8>) -> Result<(), AllocError> {
+    match line.kind {
+        Kind::Addition => write_clause(line.id, &line.clause, &line.numbers, text)?,
+        Kind::Deletion => write_deletion(line.id, &line.numbers, text)?,
+    }
+    Ok(())
+}
+
 /// Puts the text of the lines that the nodes so far give yet.
 fn put_lines(joiner: &mut Joiner, text: &mut Vec<u8>) -> Result<(), AllocError>
     requires { IsJoining joiner.old }
@@ -55,11 +64,7 @@ fn put_lines(joiner: &mut Joiner, text: &mut Vec<u8>) -> Result<(), AllocError>
     ensures lawful { OnOk result (IsJoining joiner.new) }
 {
     'lines: while joiner.next_line()? {
-        let line = joiner.line();
-        match line.kind {
-            Kind::Addition => write_clause(line.id, &line.clause, &line.numbers, text)?,
-            Kind::Deletion => write_deletion(line.id, &line.numbers, text)?,
-        }
+        put_line(joiner.line(), text)?;
     }
     Ok(())
 }

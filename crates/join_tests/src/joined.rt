@@ -1,6 +1,7 @@
 //! Worked rows: the bytes of the one proof that a refuted tree gives, and the room for its lines.
 ghost use Rattle.std.specs.Prelude.{◌≤◌};
 
+use crate::fed::put_line;
 use cdcl::Plan;
 use cnf::{Formula, read_formula};
 use cubes::{solve_one, solve_one_by_plan};
@@ -27,9 +28,13 @@ fn proof_of(alloc: Global, formula: &Formula, budget: u32) -> Result<Vec<u8>, Al
     requires { (1 ≤ budget) × (budget ≤ 100000) }
 {
     let _vars = formula.vars(); // it ensures what the proof needs of the formula
-    let tree = solve_one(alloc, formula, budget)?;
-    let steps = join(alloc, formula, tree)?;
-    proof_bytes(alloc, &steps)
+    let tree = solve_one_by_plan(alloc, formula, Plan::ordered(budget))?;
+    let mut lines = Lines::of(alloc, formula, tree)?;
+    let mut text = Vec::new(alloc);
+    while lines.next_line()? {
+        put_line(lines.line(), &mut text)?;
+    }
+    Ok(text)
 }
 
 /// Whether the proof of a formula's result reads so.
@@ -123,6 +128,30 @@ fn a_model_has_no_proof(rt: HostRuntime) -> Result<(), Fail> {
     for (text, budget) in rows {
         assert!(rt; has_proof(rt.alloc(), text, budget, b"")?);
     }
+    Ok(())
+}
+
+/// The text of the proof of a formula's result, from its steps.
+fn text_of_steps(alloc: Global, formula: &Formula) -> Result<Vec<u8>, AllocError> {
+    let _vars = formula.vars(); // it ensures what the proof needs of the formula
+    let tree = solve_one(alloc, formula, 2)?;
+    let steps = join(alloc, formula, tree)?;
+    proof_bytes(alloc, &steps)
+}
+
+/// Whether the proof of a formula's result reads so, from its steps.
+fn has_steps(alloc: Global, text: &str, wanted: &[u8]) -> Result<bool, Fail> {
+    let formula = read_formula(alloc, text.as_bytes())?;
+    Ok(text_of_steps(alloc, &formula)?.as_slice() == wanted)
+}
+
+#[test]
+fn proofs_as_steps(rt: HostRuntime) -> Result<(), Fail> {
+    assert!(rt; has_steps(rt.alloc(), EIGHT, EIGHT_HALVES)?, "halves");
+    assert!(rt;
+        has_steps(rt.alloc(), "p cnf 2 1\n1 2 0\n", b"")?,
+        "a model"
+    );
     Ok(())
 }
 

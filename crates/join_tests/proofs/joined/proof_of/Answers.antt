@@ -1,7 +1,8 @@
-use Rattle.theory.specs.Plans.{ordered, ordered_within}
 use Rattle.cubes.proofs.GatheringLemmas.{IsCheckedResultBy-IsResultBy}
 use Rattle.join_tests.proofs.joined.proof_of.Goals as goal
 
-pub join-requires : goal.join-requires
-join-requires c =
-    (ordered, IsCheckedResultBy-IsResultBy (λ lines. lines) c.args.formula.now (ordered_within c.args.budget) c.in_ok-tree.tree c.vars-vars.ensures.within.formula c.in_ok-tree.ensures.result)
+pub of-requires : goal.of-requires
+of-requires c = (
+  c.ordered.result.search,
+  IsCheckedResultBy-IsResultBy (λ lines. lines) c.args.formula.now c.ordered.result c.in_ok-tree.tree c.vars-vars.ensures.within.formula c.in_ok-tree.ensures.result,
+)

@@ -1,5 +1,5 @@
 use Rattle.std.proofs.Common.{◌≡◌, take}
-use Rattle.cdcl.proofs.outcome.Refutation.into_row.Given as goal
+use Rattle.join.proofs.steps.row_of.Given as goal
 
 -- the lines so far
 abbrev pub invariant-loop-line : goal.invariant-loop-line

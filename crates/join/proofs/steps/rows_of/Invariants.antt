@@ -1,6 +1,6 @@
 use Rattle.std.proofs.Common.{◌≡◌}
-use Rattle.cubes.proofs.packing.unpacked_nodes.Given as goal
+use Rattle.join.proofs.steps.rows_of.Given as goal
 
 -- those so far
 abbrev pub invariant-loop-node : goal.invariant-loop-node
-invariant-loop-node l = l.nodes.items ≡ l.yielded
+invariant-loop-node l = l.rows.items ≡ l.yielded

@@ -1,6 +1,6 @@
 use Rattle.theory.specs.Plans.{ordered_within}
 use Rattle.cubes.proofs.OkLemmas.{if_ok}
-use Rattle.cubes.proofs.closing.harvest.Goals as goal
+use Rattle.cubes.proofs.compatible.harvest.Goals as goal
 
 pub returns-clause-closed : goal.returns-clause-closed
 returns-clause-closed c =

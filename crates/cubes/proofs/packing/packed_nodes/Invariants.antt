@@ -1,6 +1,0 @@
-use Rattle.std.proofs.Common.{◌≡◌}
-use Rattle.cubes.proofs.packing.packed_nodes.Given as goal
-
--- those so far
-abbrev pub invariant-loop-node : goal.invariant-loop-node
-invariant-loop-node l = l.rows.items ≡ l.yielded
