@@ -25,9 +25,9 @@ pub use explanations::explanation;
 pub use fault_lines::Screen;
 pub use program::{command, command_in_folders, command_on, command_with_input};
 pub use runs::{
-    Checked, Limit, RunFault, Verdict, answer_by_plan, answer_limited, answer_limited_within,
-    answer_within, check_run, check_run_within, run, run_by_plan, run_limited, run_limited_within,
-    run_one, run_one_by_plan, run_within, runs_write_the_same,
+    Checked, Limit, RunFault, Verdict, answer_limited_within, answer_within, check_run,
+    check_run_within, run, run_by_plan, run_limited_within, run_one, run_one_by_plan, run_within,
+    runs_write_the_same,
 };
 pub use statistics::{
     Board, CubeCounts, Figures, Manner, Showing, Stage, TextSize, print_line, show_progress,

@@ -1,9 +1,8 @@
 //! The results of cubes that facts come to.
-ghost use Rattle.std.specs.Prelude.{◌≡◌, ◌++◌, ◌∷◌, [], All, IfOk, OnOk, MatchOption};
+ghost use Rattle.std.specs.Prelude.{◌≡◌, ◌++◌, ◌∷◌, [], IfOk, OnOk, MatchOption};
 ghost use Rattle.theory.specs.Plans as plans;
-ghost use Rattle.cubes.specs.Solved.{AreCheckedResults, AreTrueResults};
 ghost use Rattle.packs.specs.Checking.{IsCheckedFact, IsChecking};
-ghost use Rattle.gathering.specs.Facts.{IsTrueFact, IsSolvedAs};
+ghost use Rattle.gathering.specs.Facts.{IsSolvedAs};
 ghost use Rattle.gathering.specs.Kept.{Keeps};
 
 use crate::facts::solved_of;
@@ -73,23 +72,5 @@ pub(crate) fn kept_results(
         let result = solved(checker, formula, fact)?;
         put(&mut results, result)?;
     }
-    Ok(results)
-}
-
-/// The results of those facts that are checked, in their order; the others are left out. It takes
-/// time by the formula once, by the facts, and by the clauses that hints name or that propagation
-/// visits. It fails where a request for memory is refused.
-pub fn checked_results(
-    alloc: Global,
-    formula: &Formula,
-    plan: Plan,
-    facts: Vec<Fact>,
-) -> Result<Vec<Solved<Row>>, AllocError>
-    ensures keeps { IfOk result (λ rs. Keeps plan.search formula.now facts.items rs.items) }
-    ensures checked { IfOk result (λ rs. AreCheckedResults plan.search formula.now rs.items) }
-    ensures stay_true { All (IsTrueFact formula.now plan) facts.items → IfOk result (λ rs. AreTrueResults formula.now plan rs.items) }
-{
-    let mut checker = open_checker(alloc, formula, plan)?;
-    let results = kept_results(alloc, &mut checker, formula, facts)?;
     Ok(results)
 }

@@ -36,7 +36,7 @@ pub(crate) fn outcome_of_claim(claim: Claim) -> Option<Outcome<Row>>
 
 /// What became of a cube, if the fact that is said of it is so. Of a model, which is only claimed,
 /// there is none.
-pub fn solved_of(fact: Fact) -> Option<Solved<Row>>
+pub(crate) fn solved_of(fact: Fact) -> Option<Solved<Row>>
     ensures { MatchOption result (fact.claim ≡ Model) (λ s. IsSolvedAs fact s) }
 {
     let Fact { cube, claim } = fact;

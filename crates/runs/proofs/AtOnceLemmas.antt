@@ -29,8 +29,3 @@ Stored-AtOnce L search known p q a b ProofReadFailed leaves = leaves
 pub IfErr-AtOnce : {X : Type 0} (L : Limits) (search : Search) (known p q a b : Option (List ℕ)) (r : Result X RunFault) → IfErr r (LeavesStored L search known p q a b) → IfErr r (LeavesAtOnce L search known p q a b)
 IfErr-AtOnce L search known p q a b (Ok x) leaves = leaves
 IfErr-AtOnce L search known p q a b (Err e) leaves = Stored-AtOnce L search known p q a b e leaves
-
--- a proof that isn't whole has no answer behind it
-pub unproved : {X : Type 0} (L : Limits) (search : Search) (known p q a : Option (List ℕ)) (r : Result X RunFault) (e : RunFault) → r ≡ Err e → (e ≡ NoMemory) ⊎ (e ≡ ProofWriteFailed) → IfErr r (LeavesAtOnce L search known p q a a)
-unproved L search known p q a r e f (inl n) = rw (f, n) (Keeps-same a)
-unproved L search known p q a r e f (inr n) = rw (f, n) (Keeps-same a)

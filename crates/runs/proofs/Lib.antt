@@ -1,7 +1,6 @@
 pub mod WrittenLemmas
 pub mod TextLemmas
 pub mod RunLemmas
-pub mod GatheredLemmas
 pub mod OneRun
 pub mod RightAnswers
 pub mod AnsweredLemmas

@@ -1,8 +1,12 @@
 -- What a run that ended well has written is a right answer.
-use Rattle.std.proofs.Common.{ℕ, List, Option, Result, Ok, Err, IfOk}
+use Rattle.std.proofs.Common.{◌≡◌, ℕ, List, Option, Result, Ok, Err, IfOk, inl, inr, ◌⊎◌}
+use Rattle.std.specs.Io.KnownBytes.{Appends}
 use Rattle.theory.specs.Reading.{Limits}
 use Rattle.theory.specs.Truth.{Formula}
-use Rattle.theory.specs.Plans.{Plan}
+use Rattle.theory.specs.Plans.{Search, Plan}
+use Rattle.cnf.specs.declared.fault.ReadFault.{ReadFault}
+use Rattle.cnf.specs.declared.fault.ReadFault.TheVariants as reading
+use Rattle.cnf.specs.Faults.{IsReadOf}
 use Rattle.runs.specs.Answer.{IsRight, IsRightAnswer}
 use Rattle.runs.specs.Run.{AreTexts, WritesBoth, RunSays}
 use Rattle.runs.specs.declared.fault.RunFault.{RunFault}
@@ -29,3 +33,19 @@ written-right L known plan p q a b verdict w = record {
 pub says-right : (L : Limits) (known : Option (List ℕ)) (plan : Plan) (p q a b : Option (List ℕ)) (r : Result Verdict RunFault) → RunSays L known plan p q a b r → IfOk r (IsRightAnswer L plan.search known p q a b)
 says-right L known plan p q a b (Ok verdict) says = written-right L known plan p q a b verdict says
 says-right L known plan p q a b (Err fault) says = tt
+
+-- right texts for a formula that was read, which are written whole
+pub IsRightAnswer-made : (L : Limits) (search : Search) (known p q a b : Option (List ℕ)) (F : Formula) (verdict : Verdict) (proof answer : List ℕ)
+    → ◌≡◌ {A = Result Formula ReadFault} (Ok F) (Err reading.ReadFailed) ⊎ IsReadOf L known (Ok F) → IsRight L search F verdict proof answer → Appends p q proof → Appends a b answer → IsRightAnswer L search known p q a b verdict
+IsRightAnswer-made L search known p q a b F verdict proof answer (inl e) right pw aw = absurd (cc)
+IsRightAnswer-made L search known p q a b F verdict proof answer (inr r) right pw aw = record {
+  bytes = r.bytes;
+  are = r.are;
+  value = F;
+  reads = r.is_read;
+  proof = proof;
+  answer = answer;
+  right = right;
+  proof_written = pw;
+  answer_written = aw;
+}

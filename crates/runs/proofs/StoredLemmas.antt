@@ -1,6 +1,6 @@
 -- The text of a proof whose nodes come one after the other: what went through the buffer; and what a
 -- run over stored facts says.
-use Rattle.std.proofs.Common.{◌≡◌, ℕ, ◌+◌, ◌<◌, arith, Bool, true, false, List, [], ◌∷◌, ◌++◌, length, map, take, Option, None, Result, Ok, Err, IfErr, ◌⊎◌, inl, inr, refl, sym, ap, subst, ◌∙◌, append-nil, append_assoc}
+use Rattle.std.proofs.Common.{◌≡◌, ℕ, ◌+◌, Bool, true, false, List, [], ◌∷◌, ◌++◌, length, map, take, Option, None, Result, Ok, Err, IfErr, ◌⊎◌, inl, inr, refl, sym, ap, subst, ◌∙◌, append-nil, append_assoc}
 use Rattle.std.specs.Io.KnownBytes.{Appends}
 use Rattle.theory.specs.Literals.{Literal}
 use Rattle.theory.specs.Truth.{Formula, Satisfiable}
@@ -27,25 +27,21 @@ use Rattle.join.specs.Walking.{joined}
 use Rattle.join.specs.Numbered.{IsNode}
 use Rattle.join.proofs.FedLemmas.{on_nodes-last, on_node-behind, behind-append, IsNode-split, IsNode-refuted, after-tree, lines-accepted, lines-within}
 use Rattle.runs.specs.Answer.{IsAccepted, IsRight}
-use Rattle.runs.specs.Run.{AreTexts}
+use Rattle.runs.specs.Run.{AreTexts, RunSays}
 use Rattle.runs.specs.Written.{IsAnswer}
-use Rattle.runs.specs.Gathered.{AreRightTexts, StopsInRightAnswer, Leaves}
-use Rattle.runs.specs.Stored.{PutsFirst, PutsNext, IsPassedOn, IsMaking, IsDrained, IsStreamFor, IsStreamed, IsProofText, IsProofOf, AreTrueStored, LeavesStored}
+use Rattle.runs.specs.Stored.{PutsFirst, PutsNext, IsPassedOn, IsMaking, IsDrained, IsStreamFor, IsStreamed, IsProofText, IsProofOf, AreTrueStored, AreRightTexts, StopsInRightAnswer, LeavesStored}
 use Rattle.runs.specs.declared.fault.RunFault.{RunFault}
 use Rattle.runs.specs.declared.fault.RunFault.TheVariants.{Read, NoMemory, ProofWriteFailed, AnswerWriteFailed, ProofReadFailed}
 use Rattle.runs.specs.declared.verdict.Verdict.{Verdict}
 use Rattle.runs.specs.declared.verdict.Verdict.TheVariants.{Unsatisfiable}
 use Rattle.runs.specs.declared.proof_stream.ProofStream.{ProofStream}
+use Rattle.runs.proofs.RightAnswers.{texts-right}
 use Rattle.runs.proofs.TextLemmas.{short-large}
-use Rattle.runs.proofs.WrittenLemmas.{Appends-none, Appends-then}
+use Rattle.runs.proofs.WrittenLemmas.{Appends-then}
 
 pub proof_text-append : (ls ms : List Step) → proof_text (ls ++ ms) ≡ proof_text ls ++ proof_text ms
 proof_text-append [] ms = refl
 proof_text-append (l ∷ ls) ms = ap (λ t. step_text l ++ t) (proof_text-append ls ms) ∙ sym (append_assoc (step_text l) (proof_text ls) (proof_text ms))
-
--- no line yet
-pub passed-none : (a : Option (List ℕ)) (buffer : List ℕ) → IsPassedOn a a buffer buffer []
-passed-none a buffer = record { written = []; appended = Appends-none a; text = sym (append-nil buffer) }
 
 -- a line more in the buffer
 pub passed-line : (a b : Option (List ℕ)) (before middle after : List ℕ) (lines : List Step) (step : Step) → IsPassedOn a b before middle lines → after ≡ middle ++ step_text step → IsPassedOn a b before after (lines ++ step ∷ [])
@@ -81,17 +77,10 @@ passed-then a b c before middle after ls ms p q = record {
       ∙ ap (λ t. before ++ t) (sym (proof_text-append ls ms));
 }
 
--- whether a line was put
-pub put-none : (old new : Joined) (before after : List ℕ) (more : Bool) → more ≡ false → PutsNext old new before after more → (old.steps ≡ []) × (new ≡ old) × (after ≡ before)
-put-none old new before after true e p = absurd (cc)
-put-none old new before after false e p = p
-
+-- a line that was put
 pub put-first : (old new : Joined) (before after : List ℕ) (more : Bool) → more ≡ true → PutsNext old new before after more → PutsFirst old new before after
 put-first old new before after true e p = p
 put-first old new before after false e p = absurd (cc)
-
-pub making-none : (a : Option (List ℕ)) (s : ProofStream) → IsMaking a a (joined s.joiner) s.buffer.items s
-making-none a s = record { lines = []; made = refl; passed = passed-none a s.buffer.items }
 
 pub making-line : (a b : Option (List ℕ)) (whole : Joined) (before : List ℕ) (s t : ProofStream) → IsMaking a b whole before s → PutsFirst (joined s.joiner) (joined t.joiner) s.buffer.items t.buffer.items → IsMaking a b whole before t
 making-line a b whole before s t m p = record {
@@ -144,13 +133,7 @@ streamed-drained a b c first old drained nodes s d = record {
   clauses = d.clauses ∙ s.clauses;
 }
 
--- all that is made is written
-pub making-ended : (a b c : Option (List ℕ)) (whole : Joined) (before : List ℕ) (s : ProofStream) → IsMaking a b whole before s → (joined s.joiner).steps ≡ [] → Appends b c s.buffer.items → Appends a c (before ++ proof_text whole.steps)
-making-ended a b c whole before s m all w =
-    let lines : whole.steps ≡ m.lines = ap (λ (j : Joined). j.steps) m.made ∙ ap (λ steps. m.lines ++ steps) all ∙ append-nil m.lines in
-    subst (Appends a c) (m.passed.text ∙ ap (λ steps. before ++ proof_text steps) (sym lines)) (Appends-then a b c m.passed.written s.buffer.items m.passed.appended w)
-
--- and so it is where the rest is written at once
+-- all that is made, where the rest is written at once
 pub streamed-ended : (a b c : Option (List ℕ)) (whole : Joined) (s : ProofStream) → IsMaking a b whole [] s → Appends b c (s.buffer.items ++ proof_text (joined s.joiner).steps) → Appends a c (proof_text whole.steps)
 streamed-ended a b c whole s m w =
     let rest = proof_text (joined s.joiner).steps in
@@ -160,18 +143,6 @@ streamed-ended a b c whole s m w =
     ∙ sym (proof_text-append m.lines (joined s.joiner).steps)
     ∙ ap (λ (j : Joined). proof_text j.steps) (sym m.made))
     (Appends-then a b c m.passed.written (s.buffer.items ++ rest) m.passed.appended w)
-
--- where nothing came
-pub making-same : (a b : Option (List ℕ)) (whole : Joined) (before : List ℕ) (s t : ProofStream) → IsMaking a b whole before s → joined t.joiner ≡ joined s.joiner → t.buffer.items ≡ s.buffer.items → IsMaking a b whole before t
-making-same a b whole before s t m same text = record {
-  lines = m.lines;
-  made = m.made ∙ ap (behind m.lines) (sym same);
-  passed = subst (λ buffer. IsPassedOn a b before buffer m.lines) (sym text) m.passed;
-}
-
--- fewer lines are still to come
-pub put-fewer : (old new : Joined) (before after : List ℕ) → PutsFirst old new before after → length new.steps < length old.steps
-put-fewer old new before after p = let e = ap (λ (j : Joined). length j.steps) p.lines in omega arith
 
 -- the node of a cube that was checked is within its limits
 pub checked-node : (F : Formula) (search : Search) (Q : List Literal) (N : ℕ) (n : trees.Node) → IsWithinLimits large F → N ≡ length F.clauses + length (pure_literals F) → IsCheckedNode search F Q n → IsNode N n
@@ -238,13 +209,27 @@ stored-texts L F plan are_true (Model values) verdict text answer within are res
     rw is.0 (record { model = values.items; found = says; is_result = result; proof_is = of; answer_is = is.1 })
 stored-texts L F plan are_true (Refuted nodes) verdict text answer within are result says is of = rw is.0 (refuted-texts L F plan are_true text answer within are says is.1 of)
 
--- what a fault leaves
-pub Leaves-Stored : (L : Limits) (search : Search) (known p q a b : Option (List ℕ)) (fault : RunFault) → Leaves L search known p q a b fault → LeavesStored L search known p q a b fault
-Leaves-Stored L search known p q a b (Read fault) leaves = leaves
-Leaves-Stored L search known p q a b NoMemory leaves = leaves
-Leaves-Stored L search known p q a b ProofWriteFailed leaves = leaves.answer_kept
-Leaves-Stored L search known p q a b AnswerWriteFailed leaves = leaves
-Leaves-Stored L search known p q a b ProofReadFailed leaves = leaves
+-- right texts for a formula that was read
+pub AreRightTexts-made : (L : Limits) (search : Search) (known : Option (List ℕ)) (F : Formula) (verdict : Verdict) (proof answer : List ℕ)
+    → ◌≡◌ {A = Result Formula ReadFault} (Ok F) (Err reading.ReadFailed) ⊎ IsReadOf L known (Ok F) → IsRight L search F verdict proof answer → AreRightTexts L search known proof answer
+AreRightTexts-made L search known F verdict proof answer (inl e) right = absurd (cc)
+AreRightTexts-made L search known F verdict proof answer (inr r) right = record { bytes = r.bytes; are = r.are; value = F; reads = r.is_read; verdict = verdict; right = right }
+
+-- what a run leaves on a fault
+pub says-Stored : (L : Limits) (known : Option (List ℕ)) (plan : Plan) (p q a b : Option (List ℕ)) (fault : RunFault) → RunSays L known plan p q a b (Err fault) → LeavesStored L plan.search known p q a b fault
+says-Stored L known plan p q a b (Read fault) says = says
+says-Stored L known plan p q a b NoMemory says = says
+says-Stored L known plan p q a b ProofWriteFailed says = says.answer_kept
+says-Stored L known plan p q a b AnswerWriteFailed says =
+    let run = says.run in record {
+      proof = says.proof;
+      answer = says.answer;
+      right = record { bytes = run.bytes; are = run.are; value = run.value; reads = run.reads; verdict = says.verdict; right = texts-right L run.value plan says.verdict says.proof says.answer run.texts };
+      count = says.count;
+      proof_written = says.proof_written;
+      answer_written = says.answer_written;
+    }
+says-Stored L known plan p q a b ProofReadFailed says = says
 
 -- an answer that could not be written
 pub unanswered-Stored : {X : Type 0} (L : Limits) (search : Search) (known p q a b : Option (List ℕ)) (r : Result X RunFault) (e : RunFault) (proof answer : List ℕ) → r ≡ Err e → AreRightTexts L search known proof answer → Appends p q proof

@@ -2,7 +2,7 @@
 use Rattle.std.proofs.Common.{ℕ, ◌≤◌, List, length, ap, sym, arith}
 use Rattle.theory.specs.Reading.{Limits, large}
 use Rattle.theory.specs.Truth.{Formula}
-use Rattle.theory.specs.Plans.{Search, Plan}
+use Rattle.theory.specs.Plans.{Plan}
 use Rattle.theory.specs.Steps.{Step}
 use Rattle.theory.specs.Texts.{proof_text}
 use Rattle.theory.specs.ProofReading.{max_proof_bytes}
@@ -13,7 +13,6 @@ use Rattle.cubes.specs.Result.{LinesTree, IsResultOf, Says}
 use Rattle.join.specs.Numbered.{AreStepsOf, AreAccepted, AreWithin}
 use Rattle.lrat_text.proofs.WrittenTexts.{proof_text-ProofReads}
 use Rattle.runs.specs.declared.verdict.Verdict.{Verdict}
-use Rattle.runs.specs.Answer.{IsRight}
 use Rattle.runs.specs.Run.{AreTexts}
 use Rattle.runs.specs.Written.{IsAnswer}
 
@@ -34,10 +33,3 @@ result-texts L F plan (Refuted nodes) verdict steps answer result says is are wi
       answer_is = is.1;
     } in
     rw is.0 (text, λ short. (steps, proof_text-ProofReads L steps (within (short-large L (length (proof_text steps)) short)) short, accepts))
-
--- a checked result is enough for the answer to be right
-pub result-right : (L : Limits) (F : Formula) (search : Search) (tree : LinesTree) (verdict : Verdict) (steps : List Step) (answer : List ℕ) → Says search F tree → IsAnswer tree verdict answer → AreWithin steps → AreAccepted F tree steps
-    → IsRight L search F verdict (proof_text steps) answer
-result-right L F search (Model values) verdict steps answer says is within accepts = rw is.0 (values.items, says, is.1)
-result-right L F search (Refuted nodes) verdict steps answer says is within accepts =
-    rw is.0 (says, λ short. (steps, proof_text-ProofReads L steps (within (short-large L (length (proof_text steps)) short)) short, accepts), is.1)

@@ -6,8 +6,7 @@ use Rattle.theory.specs.Truth.{Formula, Satisfiable}
 use Rattle.theory.specs.Plans.{Search, Plan}
 use Rattle.theory.specs.Reading.{Limits, ReadsWithin, formula, max_bytes}
 use Rattle.runs.specs.Run.{IsUnreadable}
-use Rattle.runs.specs.Gathered.{StopsInRightAnswer}
-use Rattle.runs.specs.Stored.{IsProofText}
+use Rattle.runs.specs.Stored.{IsProofText, StopsInRightAnswer}
 use Rattle.runs.specs.declared.fault.RunFault.{RunFault}
 use Rattle.runs.specs.declared.fault.RunFault.TheVariants.{Read, NoMemory, ProofWriteFailed, AnswerWriteFailed, ProofReadFailed}
 

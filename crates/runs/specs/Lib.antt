@@ -2,7 +2,6 @@
 pub mod Faults
 pub mod Answer
 pub mod Run
-pub mod Gathered
 pub mod Answered
 pub mod Limited
 pub mod Check

@@ -16,11 +16,12 @@ use Rattle.cubes.specs.declared.tree.Tree.{Tree}
 use Rattle.cubes.specs.declared.tree.Tree.TheVariants.{Model, Refuted}
 use Rattle.join.specs.Joining.{Joined, behind, on_nodes}
 use Rattle.join.specs.Walking.{joined, IsJoining}
+use Rattle.runs.specs.Answer.{IsRight}
 use Rattle.runs.specs.Run.{IsUnreadable}
-use Rattle.runs.specs.Gathered.{StopsInRightAnswer}
 use Rattle.runs.specs.declared.fault.RunFault.{RunFault}
 use Rattle.runs.specs.declared.fault.RunFault.TheVariants.{Read, NoMemory, ProofWriteFailed, AnswerWriteFailed, ProofReadFailed}
 use Rattle.runs.specs.declared.proof_stream.ProofStream.{ProofStream}
+use Rattle.runs.specs.declared.verdict.Verdict.{Verdict}
 
 -- the first line of those that came stands in the buffer, and the others are left
 pub record PutsFirst (old new : Joined) (before after : List ℕ) : Type 0 where
@@ -82,6 +83,24 @@ IsUnwritten a b e = ((e ≡ NoMemory) × Keeps a b) ⊎ (e ≡ ProofWriteFailed)
 -- what a store gives is true for the formula of the bytes that a reader gives, where it tells them
 abbrev pub AreTrueStored : {S : Type 0} → (S → Option (List Fact)) → Limits → Option (List ℕ) → Plan → S → Type 0
 AreTrueStored facts L known plan s = (bytes : List ℕ) (F : truth.Formula) → IfSome known (λ xs. bytes ≡ take (max_bytes L + 1) xs) → ReadsWithin L bytes (formula F) → AreTrueFacts facts F plan s
+
+-- the texts are right for the formula of the bytes that a reader gave, where it tells them
+pub record AreRightTexts (L : Limits) (search : Search) (known : Option (List ℕ)) (proof answer : List ℕ) : Type 0 where
+  pub bytes : List ℕ
+  pub are : IfSome known (λ xs. bytes ≡ take (max_bytes L + 1) xs)
+  pub value : truth.Formula
+  pub reads : ReadsWithin L bytes (formula value)
+  pub verdict : Verdict
+  pub right : IsRight L search value verdict proof answer
+
+-- a right proof is written whole, and a beginning of the answer
+pub record StopsInRightAnswer (L : Limits) (search : Search) (known proof_old proof_new answer_old answer_new : Option (List ℕ)) : Type 0 where
+  pub proof : List ℕ
+  pub answer : List ℕ
+  pub right : AreRightTexts L search known proof answer
+  pub count : ℕ
+  pub proof_written : Appends proof_old proof_new proof
+  pub answer_written : Appends answer_old answer_new (take count answer)
 
 -- what a fault leaves, whatever a store gives: no answer stands behind a proof that isn't whole
 abbrev pub LeavesStored : Limits → Search → Option (List ℕ) → Option (List ℕ) → Option (List ℕ) → Option (List ℕ) → Option (List ℕ) → RunFault → Type 0

@@ -6,8 +6,8 @@ ghost use Rattle.theory.specs.Reading.{standard};
 ghost use Rattle.theory.specs.Texts.{proof_text};
 ghost use Rattle.cnf.specs.Limits.{limits_of};
 ghost use Rattle.join.specs.Walking.{lines_left, IsBetweenNodes};
-ghost use Rattle.cubes.specs.Result.{IsResultOf, IsCheckedResultOf, Says};
-ghost use Rattle.runs.specs.Answer.{IsRight, IsRightAnswer};
+ghost use Rattle.cubes.specs.Result.{IsResultOf, Says};
+ghost use Rattle.runs.specs.Answer.{IsRightAnswer};
 ghost use Rattle.runs.specs.Run.{AreTexts, RunSays};
 ghost use Rattle.runs.specs.Written.{IsAnswer};
 
@@ -68,34 +68,6 @@ pub(crate) fn answer_of<L>(
     }
 }
 
-/// What is to be written for a formula, whose result is the tree, or one that nobody vouches for and
-/// that was checked. From here on the run takes no more memory.
-pub(crate) fn checked_output_of(
-    alloc: Global,
-    formula: &Formula,
-    limits: Limits,
-    plan: Plan,
-    tree: Tree<Row>,
-) -> Result<Output, AllocError>
-    requires checked { IsCheckedResultOf plan.search formula.now tree }
-    requires says { Says plan.search formula.now tree }
-    ensures right { IfOk result (λ o. IsRight (limits_of limits) plan.search formula.now o.verdict (proof_text (lines_left o.lines)) o.answer.items) }
-    ensures texts { IsResultOf formula.now plan tree → IfOk result (λ o. AreTexts (limits_of limits) formula.now plan o.verdict (proof_text (lines_left o.lines)) o.answer.items) }
-    ensures lines { IfOk result (λ o. IsBetweenNodes o.lines) }
-    ensures buffer { IfOk result (λ o. o.buffer.items ≡ []) }
-{
-    let (_limits, _plan) = (limits, plan); // they are there for the contract alone
-    let (verdict, answer) = answer_of(alloc, formula, &tree)?;
-    let lines = Lines::of(alloc, formula, tree)?;
-    let buffer = room(alloc, &lines)?;
-    Ok(Output {
-        verdict,
-        lines,
-        buffer,
-        answer,
-    })
-}
-
 /// What is to be written for a formula, whose result is the tree. From here on the run takes no
 /// more memory, but for the parts of several hands.
 pub(crate) fn output_of(
@@ -111,9 +83,17 @@ pub(crate) fn output_of(
     ensures lines { IfOk result (λ o. IsBetweenNodes o.lines) }
     ensures buffer { IfOk result (λ o. o.buffer.items ≡ []) }
 {
+    let (_limits, _plan) = (limits, plan); // they are there for the contract alone
     let _vars = formula.vars(); // it ensures what the proof needs of the formula
-    let output = checked_output_of(alloc, formula, limits, plan, tree)?;
-    Ok(output)
+    let (verdict, answer) = answer_of(alloc, formula, &tree)?;
+    let lines = Lines::of(alloc, formula, tree)?;
+    let buffer = room(alloc, &lines)?;
+    Ok(Output {
+        verdict,
+        lines,
+        buffer,
+        answer,
+    })
 }
 
 /// Decides the formula of a DIMACS text by the plan: writes the proof, flushes it, and then writes

@@ -1,6 +1,5 @@
 //! A run that writes an answer and no proof.
 ghost use Rattle.std.specs.Prelude.{◌≤◌, IfOk, MatchOption};
-ghost use Rattle.theory.specs.Reading.{standard};
 ghost use Rattle.cnf.specs.Limits.{limits_of};
 ghost use Rattle.cubes.specs.Decided.{IsModelOf, IsRefuted};
 ghost use Rattle.runs.specs.Answered.{AnswerSays, IsAnswerFor};
@@ -104,21 +103,4 @@ pub fn answer_within<T: Threads + Wait + Clock + Sync, R: Read + Drop, W: Write,
     answer_observed(
         rt, alloc, input, limits, answer, plan, hands, gate, &observer,
     )
-}
-
-/// `answer_within` the standard limits.
-pub fn answer_by_plan<T: Threads + Wait + Clock + Sync, R: Read + Drop, W: Write, G: Gate + Sync>(
-    rt: &T,
-    alloc: Global,
-    input: R,
-    answer: &mut W,
-    plan: Plan,
-    hands: usize,
-    gate: &G,
-) -> Result<Verdict, RunFault>
-    requires { (1 ≤ hands) × (hands ≤ 16) }
-    ensures { AnswerSays standard (R.remaining input) plan (W.contents answer.old) (W.contents answer.new) result }
-{
-    let limits = Limits::Standard;
-    answer_within(rt, alloc, input, limits, answer, plan, hands, gate)
 }

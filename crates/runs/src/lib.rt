@@ -9,7 +9,6 @@ mod by_hands;
 mod check;
 mod checked_line;
 mod fault;
-mod gathered;
 mod laws;
 mod limit;
 mod limited;
@@ -22,17 +21,15 @@ mod threaded;
 mod verdict;
 
 pub use alone::{run_one, run_one_by_plan};
-pub use answered::{answer_by_plan, answer_within};
+pub use answered::answer_within;
 pub use at_once::{gather_at_once, gather_at_once_by_hands};
 pub use check::{Told, check_run, check_run_within, check_told};
 pub use checked_line::Checked;
 pub use fault::RunFault;
-pub use gathered::{Gathered, PackCounts, gather_within};
 pub use laws::runs_write_the_same;
 pub use limit::{Limit, TimeLimit};
 pub use limited::{
-    answer_limited, answer_limited_observed, answer_limited_within, run_limited,
-    run_limited_observed, run_limited_within,
+    answer_limited_observed, answer_limited_within, run_limited_observed, run_limited_within,
 };
 pub use stored::{GatheredFrom, gather_stored, gather_stored_by_hands};
 pub use threaded::{run, run_by_plan, run_within};

@@ -1,6 +1,5 @@
 //! A run that ends where a limit is reached.
 ghost use Rattle.std.specs.Prelude.{◌≡◌, ◌≤◌, IfOk, IfSome};
-ghost use Rattle.theory.specs.Reading.{standard};
 ghost use Rattle.cnf.specs.Limits.{limits_of};
 ghost use Rattle.runs.specs.Answer.{IsRightAnswer};
 ghost use Rattle.runs.specs.Limited.{EndsUnsolved, LimitedAnswerSays, LimitedRunSays};
@@ -146,30 +145,6 @@ pub fn answer_limited_within<
     )
 }
 
-/// `answer_limited_within` the standard limits.
-pub fn answer_limited<
-    T: Threads + Wait + Clock + Sync,
-    R: Read + Drop,
-    W: Write,
-    G: Gate + Sync,
-    L: Limit + Sync,
->(
-    rt: &T,
-    alloc: Global,
-    input: R,
-    answer: &mut W,
-    plan: Plan,
-    hands: usize,
-    gate: &G,
-    limit: &L,
-) -> Result<Option<Verdict>, RunFault>
-    requires { (1 ≤ hands) × (hands ≤ 16) }
-    ensures { LimitedAnswerSays standard (L.is_reached limit.now) (R.remaining input) plan (W.contents answer.old) (W.contents answer.new) result }
-{
-    let limits = Limits::Standard;
-    answer_limited_within(rt, alloc, input, limits, answer, plan, hands, gate, limit)
-}
-
 /// What `run_within` does, unless the limit is reached before the formula is solved: then it
 /// writes `s UNKNOWN` as the answer and no proof, and there is no verdict. Where the limit isn't
 /// reached, it writes the same bytes as without one. `RunFault` says when each fault comes and what
@@ -209,34 +184,5 @@ pub fn run_limited_within<
         gate,
         limit,
         &Unobserved,
-    )
-}
-
-/// `run_limited_within` the standard limits.
-pub fn run_limited<
-    T: Threads + Wait + Clock + Sync,
-    R: Read + Drop,
-    W: Write,
-    P: Write,
-    G: Gate + Sync,
-    L: Limit + Sync,
->(
-    rt: &T,
-    alloc: Global,
-    input: R,
-    answer: &mut W,
-    proof: &mut P,
-    plan: Plan,
-    hands: usize,
-    gate: &G,
-    limit: &L,
-) -> Result<Option<Verdict>, RunFault>
-    requires hands { (1 ≤ hands) × (hands ≤ 16) }
-    ensures says { LimitedRunSays standard (L.is_reached limit.now) (R.remaining input) plan (P.contents proof.old) (P.contents proof.new) (W.contents answer.old) (W.contents answer.new) result }
-    ensures answer_is_right { IfOk result (λ v. IfSome v (IsRightAnswer standard plan.search (R.remaining input) (P.contents proof.old) (P.contents proof.new) (W.contents answer.old) (W.contents answer.new))) }
-{
-    let limits = Limits::Standard;
-    run_limited_within(
-        rt, alloc, input, limits, answer, proof, plan, hands, gate, limit,
     )
 }

@@ -1,7 +1,7 @@
 //! What stands after a fault of a run over stored facts that goes through the tree once.
 
+use crate::facts_in_memory::FactsInMemory;
 use cdcl::Plan;
-use gathering::FactsInMemory;
 use runs::{RunFault, gather_at_once, run_one_by_plan};
 use samples::faulty::{Limited, Limits, ROOMY, UNFLUSHED};
 use samples::{FOUR, FOUR_PROOF};

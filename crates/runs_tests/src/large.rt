@@ -4,10 +4,7 @@ ghost use Rattle.std.specs.Prelude.{◌≤◌};
 use cdcl::Plan;
 use cnf::{Limits, Place, ReadFault};
 use cubes::OpenGate;
-use runs::{
-    Checked, RunFault, Verdict, answer_by_plan, answer_within, check_run, check_run_within,
-    run_within,
-};
+use runs::{Checked, RunFault, Verdict, answer_within, check_run, check_run_within, run_within};
 use samples::{FOUR, FOUR_PROOF};
 use std::alloc::Global;
 use std::sync::Wait;
@@ -49,7 +46,8 @@ fn is_refusal(fault: RunFault) -> Result<bool, RunFault> {
 fn answers(rt: &(impl Threads + Wait + Clock + Sync), alloc: Global) -> Result<bool, RunFault> {
     let (plan, gate) = (Plan::ordered(1000), OpenGate);
     let mut said = Vec::new(alloc);
-    let Err(fault) = answer_by_plan(rt, alloc, WIDE, &mut said, plan, 1, &gate) else {
+    let Err(fault) = answer_within(rt, alloc, WIDE, Limits::Standard, &mut said, plan, 1, &gate)
+    else {
         return Ok(false);
     };
     let is_refused = is_refusal(fault)? && said.is_empty();

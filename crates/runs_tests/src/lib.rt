@@ -1,8 +1,8 @@
 //! Worked rows: the bytes of the proof and the answer for the bytes of a formula, by both searches,
 //! and the line for those of a proof; what failing readers and writers leave; two hands at a gate;
 //! proofs of many steps, one that three hands make, and those with one byte changed; examples from
-//! end to end; runs that end where a limit is reached; and runs over packs and over stored facts, by
-//! one hand and by several.
+//! end to end; runs that end where a limit is reached; and runs over stored facts, by one hand and by
+//! several, and the tables by which a store finds them.
 #![tactic(auto)]
 
 #[cfg(test)]
@@ -12,9 +12,13 @@ mod check;
 #[cfg(test)]
 mod check_faults;
 #[cfg(test)]
+mod cube_tables;
+#[cfg(test)]
 mod divided;
 #[cfg(test)]
 mod examples;
+#[cfg(test)]
+mod facts_in_memory;
 #[cfg(test)]
 mod faults;
 #[cfg(test)]
@@ -37,5 +41,7 @@ mod other_solvers;
 mod rows;
 #[cfg(test)]
 mod stored_hands;
+#[cfg(test)]
+mod taken_facts;
 #[cfg(test)]
 mod true_packs;

@@ -1,11 +1,11 @@
-//! `run_limited` in memory: what it writes, and what it comes to, by how often its limit is asked
+//! `run_limited_within` in memory: what it writes, and what it comes to, by how often its limit is asked
 //! before it is reached.
 ghost use Rattle.std.specs.Prelude.{◌≤◌, ⊤};
 
 use cdcl::Plan;
 use cnf::{Place, ReadFault};
 use cubes::OpenGate;
-use runs::{Limit, RunFault, Verdict, run_limited};
+use runs::{Limit, RunFault, Verdict, run_limited_within};
 use samples::faulty::{Limited, Limits};
 use samples::{FOUR, FOUR_PROOF};
 use std::alloc::Global;
@@ -117,10 +117,11 @@ fn holds<R: Threads + Wait + Clock + Sync>(rt: &R, alloc: Global, row: &Row, han
     let input = row.formula.as_bytes();
     let plan = Plan::ordered(1);
     let gate = OpenGate;
-    let result = run_limited(
+    let result = run_limited_within(
         rt,
         alloc,
         input,
+        cnf::Limits::Standard,
         &mut answer,
         &mut proof,
         plan,

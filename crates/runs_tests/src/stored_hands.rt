@@ -1,9 +1,10 @@
 //! Runs over stored facts by several hands: whatever the facts are, they write what one hand does, and
 //! take as many facts.
+
+use crate::facts_in_memory::FactsInMemory;
 use crate::true_packs::{pack_of, plan_of};
 use cdcl::{Plan, Search};
 use cnf::{Limits, read_formula};
-use gathering::FactsInMemory;
 use lines::Row;
 use packs::{Claim, Fact, read_pack};
 use runs::{GatheredFrom, RunFault, gather_stored, gather_stored_by_hands};

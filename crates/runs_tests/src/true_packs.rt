@@ -1,13 +1,12 @@
-//! Runs over packs that solvers made: all that they say is taken, and the bytes are those of a run.
+//! Runs over the facts of packs that solvers made: all that they say is taken, and the bytes are those
+//! of a run.
 
+use crate::facts_in_memory::FactsInMemory;
 use cdcl::{Plan, Search, Solver};
 use cnf::{Formula, Limits, read_formula};
-use gathering::{FactsInMemory, fact_of};
+use gathering::fact_of;
 use packs::{Claim, read_pack, write_fact};
-use runs::{
-    Gathered, GatheredFrom, RunFault, Verdict, gather_at_once, gather_stored, gather_within,
-    run_one_by_plan,
-};
+use runs::{GatheredFrom, RunFault, Verdict, gather_at_once, gather_stored, run_one_by_plan};
 use samples::{EIGHT, SIXTEEN, TWO_MODELS, cube_of};
 use std::alloc::{AllocError, Global};
 use std::test::Fail;
@@ -67,25 +66,6 @@ struct Written<T> {
     answer: Vec<u8>,
 }
 
-/// A run over packs.
-fn gathered(
-    alloc: Global,
-    text: &str,
-    packs: &[Vec<u8>],
-    plan: Plan,
-) -> Result<Written<Gathered>, RunFault> {
-    let mut proof = Vec::new(alloc);
-    let mut answer = Vec::new(alloc);
-    let limits = Limits::Standard;
-    let input = text.as_bytes();
-    let gathered = gather_within(alloc, input, limits, packs, &mut answer, &mut proof, plan)?;
-    Ok(Written {
-        gathered,
-        proof,
-        answer,
-    })
-}
-
 /// A run over the facts of a pack that a store keeps.
 fn gathered_from(
     alloc: Global,
@@ -124,7 +104,7 @@ fn gathered_at_once(
     })
 }
 
-/// Whether a run without packs comes to this verdict and writes the same.
+/// Whether a run without facts comes to this verdict and writes the same.
 fn is_written_by_run<T>(
     alloc: Global,
     text: &str,
@@ -160,22 +140,6 @@ pub(crate) fn plan_of(search: Search) -> Plan {
     }
 }
 
-/// Whether all that a pack of the tree says is taken, but for models, and the bytes are a run's.
-fn is_taken(alloc: Global, row: &Row) -> Result<bool, Fail> {
-    let (text, search, facts, models) = *row;
-    let plan = plan_of(search);
-    let formula = read_formula(alloc, text.as_bytes())?;
-    let mut packs = Vec::new(alloc);
-    packs.push(pack_of(alloc, &formula, plan)?)?;
-    let written = gathered(alloc, text, &packs, plan)?;
-    let counts = written.gathered.packs;
-    Ok(
-        counts.facts == facts
-            && counts.checked.saturating_add(models) == facts
-            && is_written_by_run(alloc, text, plan, written.gathered.verdict, &written)?,
-    )
-}
-
 /// A store of the facts of a formula's tree.
 fn store_of(alloc: Global, text: &str, plan: Plan) -> Result<FactsInMemory, Fail> {
     let formula = read_formula(alloc, text.as_bytes())?;
@@ -183,8 +147,9 @@ fn store_of(alloc: Global, text: &str, plan: Plan) -> Result<FactsInMemory, Fail
     Ok(FactsInMemory::new(alloc, pack.facts)?)
 }
 
-/// The same of a store: what is taken of the tree on the way to the answer, and what is solved.
-fn is_taken_from_store(alloc: Global, row: &Row) -> Result<bool, Fail> {
+/// Whether all that a store of the tree says is taken on the way to the answer, but for models, and the
+/// bytes are a run's.
+fn is_taken(alloc: Global, row: &Row) -> Result<bool, Fail> {
     let (text, search, facts, models) = *row;
     let plan = plan_of(search);
     let store = store_of(alloc, text, plan)?;
@@ -222,12 +187,6 @@ fn is_taken_at_once(alloc: Global, row: &Row) -> Result<bool, Fail> {
 fn true_packs_are_taken(rt: HostRuntime) -> Result<(), Fail> {
     for row in &ROWS {
         assert!(rt; is_taken(rt.alloc(), row)?, "{} of {}", row.2, row.0);
-        assert!(rt;
-            is_taken_from_store(rt.alloc(), row)?,
-            "{} of {} in a store",
-            row.2,
-            row.0
-        );
         assert!(rt;
             is_taken_at_once(rt.alloc(), row)?,
             "{} of {} at once",

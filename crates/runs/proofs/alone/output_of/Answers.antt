@@ -1,9 +1,14 @@
 use Rattle.cubes.proofs.GatheringLemmas.{IsCheckedResultBy-IsResultBy}
+use Rattle.cnf.specs.Limits.{limits_of}
+use Rattle.join.specs.Walking.{lines_left}
+use Rattle.runs.proofs.TextLemmas.{result-texts}
 use Rattle.runs.proofs.alone.output_of.Goals as goal
 
 -- the formula's result is a checked one
-pub checked_output_of-requires-clause-checked : goal.checked_output_of-requires-clause-checked
-checked_output_of-requires-clause-checked c = IsCheckedResultBy-IsResultBy (λ lines. lines) c.args.formula.now c.args.plan c.args.tree c.vars-vars.ensures.within.formula c.requires.result
+pub of-requires : goal.of-requires
+of-requires c = (c.args.plan.search, IsCheckedResultBy-IsResultBy (λ lines. lines) c.args.formula.now c.args.plan c.args.tree c.vars-vars.ensures.within.formula c.requires.result)
 
 pub returns-clause-texts : goal.returns-clause-texts
-returns-clause-texts c = c.in_ok-output.ensures.texts c.requires.result
+returns-clause-texts c =
+    result-texts (limits_of c.args.limits) c.args.formula.now c.args.plan c.args.tree _ (lines_left c.in_ok-lines.lines) _ c.requires.result c.requires.says c.in_ok-verdict.ensures c.in_ok-lines.ensures.steps
+    c.in_ok-lines.ensures.within c.in_ok-lines.ensures.accepted

@@ -3,8 +3,8 @@ use Rattle.cnf.specs.Limits.{limits_of}
 use Rattle.runs.specs.Faults.{fault_of_read}
 use Rattle.runs.specs.declared.verdict.Verdict.TheVariants.{Unsatisfiable}
 use Rattle.runs.proofs.RunLemmas.{IsRunOf-made, RunSays-unread}
-use Rattle.runs.proofs.GatheredLemmas.{AreRightTexts-made, IsRightAnswer-made, says-Leaves}
-use Rattle.runs.proofs.StoredLemmas.{refuted-right, refuted-texts, stored-truths, Leaves-Stored, unanswered-Stored}
+use Rattle.runs.proofs.RightAnswers.{IsRightAnswer-made}
+use Rattle.runs.proofs.StoredLemmas.{refuted-right, refuted-texts, stored-truths, AreRightTexts-made, says-Stored, unanswered-Stored}
 use Rattle.runs.proofs.AtOnceLemmas.{HasNoProof-made, Stored-AtOnce, IfErr-AtOnce}
 use Rattle.runs.proofs.at_once.gather_at_once_by.Goals as goal
 
@@ -16,8 +16,7 @@ returns-in-Err-clause-leaves g c =
     let known = g.R.Read.remaining c.args.input in
     let fault = fault_of_read c.in-Err.fault in
     rw c.of_read.ensures
-    (Stored-AtOnce L c.args.plan.search known p p a a fault
-    (Leaves-Stored L c.args.plan.search known p p a a fault (says-Leaves L known c.args.plan p p a a fault (RunSays-unread L known p a c.args.plan c.in-Err.fault c.in-Err.ensures))))
+    (Stored-AtOnce L c.args.plan.search known p p a a fault (says-Stored L known c.args.plan p p a a fault (RunSays-unread L known p a c.args.plan c.in-Err.fault c.in-Err.ensures)))
 
 pub returns-then-not-branch-clause-none : goal.returns-then-not-branch-clause-none
 returns-then-not-branch-clause-none g c = λ is_none.

@@ -3,8 +3,8 @@ use Rattle.cnf.specs.Limits.{limits_of}
 use Rattle.runs.specs.Faults.{fault_of_read}
 use Rattle.runs.proofs.RunLemmas.{IsRunOf-made, RunSays-unread}
 use Rattle.runs.proofs.WrittenLemmas.{Keeps-same}
-use Rattle.runs.proofs.GatheredLemmas.{AreRightTexts-made, IsRightAnswer-made, says-Leaves}
-use Rattle.runs.proofs.StoredLemmas.{stored-right, stored-texts, stored-truths, Leaves-Stored, unanswered-Stored}
+use Rattle.runs.proofs.RightAnswers.{IsRightAnswer-made}
+use Rattle.runs.proofs.StoredLemmas.{stored-right, stored-texts, stored-truths, AreRightTexts-made, says-Stored, unanswered-Stored}
 use Rattle.runs.proofs.stored.gather_stored_by.Goals as goal
 
 pub returns-in-Err-clause-leaves : goal.returns-in-Err-clause-leaves
@@ -13,8 +13,7 @@ returns-in-Err-clause-leaves g c =
     let a = g.W.Write.contents c.args.answer.now in
     let known = g.R.Read.remaining c.args.input in
     rw c.of_read.ensures
-    (Leaves-Stored (limits_of c.args.limits) c.args.plan.search known p p a a (fault_of_read c.in-Err.fault)
-    (says-Leaves (limits_of c.args.limits) known c.args.plan p p a a (fault_of_read c.in-Err.fault) (RunSays-unread (limits_of c.args.limits) known p a c.args.plan c.in-Err.fault c.in-Err.ensures)))
+    (says-Stored (limits_of c.args.limits) known c.args.plan p p a a (fault_of_read c.in-Err.fault) (RunSays-unread (limits_of c.args.limits) known p a c.args.plan c.in-Err.fault c.in-Err.ensures))
 
 pub answer_of-requires : goal.answer_of-requires
 answer_of-requires g c = (c.args.plan.search, c.in-Ok-go_through.ensures.says)
