@@ -2,27 +2,11 @@
 //! are for other programs are passed on.
 #![tactic(auto)]
 
-mod anew;
-mod arguments;
-mod checking;
-mod effort;
-mod explanations;
-mod fault_lines;
 mod gathering_hands;
-mod input;
-mod notes;
-mod placed_proof;
 mod program;
-mod refusals;
-mod same_file;
-mod solving;
-mod spread_arguments;
 mod spreading;
-mod watched;
-mod worded;
 
-pub use explanations::explanation;
-pub use fault_lines::Screen;
+pub use commands::{Screen, explanation};
 pub use program::{command, command_in_folders, command_on, command_with_input};
 pub use runs::{
     Checked, Limit, RunFault, Verdict, answer_limited_within, answer_within, check_run,

@@ -1,13 +1,10 @@
 //! The program: a command line, and what is done for it.
 
-use crate::arguments::{Request, request_of};
-use crate::checking::check;
-use crate::explanations::explanation;
-use crate::fault_lines::{FAILED, Screen, print_fault};
-use crate::solving::solve;
 use crate::spreading::work_on;
 use clap::Error;
 use clap::error::ErrorKind;
+use command_line::{Request, request_of};
+use commands::{FAILED, Screen, check, explanation, print_fault, solve};
 use messages::say_no_memory;
 use runs::RunFault;
 use std::alloc::Global;

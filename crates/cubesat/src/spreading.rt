@@ -1,16 +1,13 @@
 //! `divide`, `conquer` and `gather`: what is printed of them, and their statuses.
 
-use crate::arguments::{MAX_BUDGET, MAX_DIVIDE};
-use crate::effort::plan_of;
-use crate::fault_lines::{FAILED, print_fault_of, print_no_memory, print_not_opened};
 use crate::gathering_hands::{gather_at_once_by, gather_stored_by};
-use crate::input::{Input, open_input};
-use crate::placed_proof::{PlacedProof, begin_proof};
-use crate::solving::{SATISFIABLE, UNSATISFIABLE, print_not_begun};
-use crate::spread_arguments::{Part, Spread};
-use crate::worded::Known;
 use cdcl::{Plan, Search};
 use cnf::{Limits, ReadFault, read_formula_within};
+use command_line::{MAX_BUDGET, MAX_DIVIDE, Part, Spread, plan_of};
+use commands::{
+    FAILED, Input, Known, PlacedProof, SATISFIABLE, UNSATISFIABLE, begin_proof, open_input,
+    print_fault_of, print_no_memory, print_not_begun, print_not_opened,
+};
 use noticed::{NoticedReader, NoticedWriter};
 use runs::{GatheredFrom, RunFault, Verdict};
 use spread::{

@@ -1,0 +1,2 @@
+-- The plan that the command line asks for.
+pub mod Arguments

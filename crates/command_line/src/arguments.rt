@@ -1,0 +1,396 @@
+//! The command line.
+
+use crate::effort::Asked;
+use crate::refusals::refusal_of;
+use crate::spread_arguments::{
+    Spread, conquer_command, conquer_request, divide_command, divide_request, gather_command,
+    gather_request,
+};
+use cdcl::Search;
+use clap::error::ErrorKind;
+use clap::{Arg, ArgAction, ArgMatches, Command, Error};
+use cnf::Limits;
+use std::alloc::{AllocError, Global};
+
+/// The name by which a command line asks for standard input.
+pub const STANDARD_INPUT: &str = "-";
+
+/// The largest budget.
+pub const MAX_BUDGET: u32 = 100_000;
+
+/// The budget of the ordered search, where none is asked for.
+const ORDERED_BUDGET: u32 = 1000;
+
+/// That of the focused search. It loses more by a split, since both halves begin from nothing.
+const FOCUSED_BUDGET: u32 = 100_000;
+
+/// The most cubes that a formula may be divided into.
+pub const MAX_DIVIDE: u32 = 65_536;
+
+/// The most hands.
+const MAX_HANDS: u32 = 16;
+
+/// The names of the searches.
+static SEARCHES: [&str; 2] = ["ordered", "focused"];
+
+const SOLVE_LARGE: &str =
+    "Read a formula of up to 100,000,000 variables and 1,000,000,000 clauses, by no fixed limit less";
+
+const CHECK_LARGE: &str =
+    "Read a formula of up to 100,000,000 variables and 1,000,000,000 clauses, and a proof of any size";
+
+const SOLVE_STATS: &str =
+    "Print to standard error what the run took: conflicts, cubes, lines, times, memory";
+
+const CHECK_STATS: &str =
+    "Print to standard error what the run took: lines and bytes that were read, time, memory";
+
+const SOLVE_PROGRESS: &str = "Print to standard error about once a second how far the run is";
+
+const CHECK_PROGRESS: &str =
+    "Print to standard error about once a second how much of the proof is read";
+
+const VERBOSE: &str = "Print to standard error what is done, and what a fault or refusal means";
+
+const FORMULA_FILE: &str = "The formula, in DIMACS CNF; - is standard input";
+
+const PROOF_FILE: &str = "The proof, in LRAT; - is standard input";
+
+const DISTINCT_STATUS: &str = "Exit with status 2 on a fault, and with 1 for a refused proof alone";
+
+/// What is shown of a run, beside its answer and its faults.
+#[derive(Clone, Copy)]
+pub struct Shown {
+    pub stats: bool,
+    pub progress: bool,
+    pub verbose: bool,
+}
+
+/// What the command line asks for.
+#[derive(Clone, Copy)]
+pub enum Request<'a> {
+    /// Decide the formula in `file`, and write its proof to `proof`, if there is to be one.
+    Solve {
+        asked: Asked,
+        proof: Option<&'a str>,
+        file: &'a str,
+        shown: Shown,
+    },
+    /// Check the proof in `proof` against the formula in `formula`.
+    Check {
+        formula: &'a str,
+        proof: &'a str,
+        limits: Limits,
+        /// Whether a fault and a refused proof are to have two exit statuses.
+        distinct_status: bool,
+        shown: Shown,
+    },
+    /// Say what a number that the program printed means, and the one behind it.
+    Explain {
+        number: u32,
+        behind: Option<u32>,
+    },
+    /// Work on a run that is spread over machines.
+    Spread(Spread<'a>),
+}
+
+/// An option that takes no value.
+pub(crate) fn flag<'a>(alloc: Global, name: &'a str, help: &'a str) -> Arg<'a> {
+    Arg::new(alloc, name)
+        .long(name)
+        .action(ArgAction::SetTrue)
+        .help(help)
+}
+
+pub(crate) fn search_option<'a>(alloc: Global) -> Arg<'a> {
+    Arg::new(alloc, "search")
+        .long("search")
+        .value_name("NAME")
+        .value_parser(SEARCHES.as_slice())
+        .default_value("ordered")
+        .help(
+            "Ordered gives the first model; focused gives one of several, and decides most large formulas sooner",
+        )
+}
+
+pub(crate) fn budget_option<'a>(alloc: Global) -> Arg<'a> {
+    Arg::new(alloc, "budget")
+        .long("budget")
+        .value_name("N")
+        .value_parser(clap::value_parser!(u32).range(1..=100_000))
+        .help(
+            "Conflicts that the first cube may have before it is split, 1 to 100000; a cube of d literals has d + 1 times as many, at most 1000000 [default: 1000 with the ordered search, 100000 with the focused one]",
+        )
+}
+
+fn divide_option<'a>(alloc: Global) -> Arg<'a> {
+    Arg::new(alloc, "divide")
+        .long("divide")
+        .value_name("N")
+        .value_parser(clap::value_parser!(u32).range(0..=65_536))
+        .help(
+            "Cubes into which the focused search divides a formula first, if its first conflicts tell that this helps, 0 to 65536; 0 and 1 divide none [default: 64 with the focused search, 0 with the ordered one]",
+        )
+}
+
+fn hands_option<'a>(alloc: Global) -> Arg<'a> {
+    Arg::new(alloc, "hands")
+        .long("hands")
+        .value_name("N")
+        .value_parser(clap::value_parser!(u32).range(1..=16))
+        .default_value("1")
+        .help("Hands that solve cubes side by side, 1 to 16")
+}
+
+fn seconds_option<'a>(alloc: Global) -> Arg<'a> {
+    Arg::new(alloc, "seconds")
+        .long("seconds")
+        .value_name("N")
+        .value_parser(clap::value_parser!(u32).range(1..=1_000_000_000))
+        .help("Answer `s UNKNOWN`, status 0, unless the formula is decided in so many seconds")
+}
+
+fn proof_option<'a>(alloc: Global) -> Arg<'a> {
+    Arg::new(alloc, "proof")
+        .long("proof")
+        .value_name("PATH")
+        .help(
+            "Where the LRAT proof is written, in PATH.part until it is whole; without it none is written",
+        )
+}
+
+/// A word without an option before it, which must be given.
+pub(crate) fn word<'a>(alloc: Global, name: &'a str, help: &'a str) -> Arg<'a> {
+    Arg::new(alloc, name).required(true).help(help)
+}
+
+/// The options of how a formula is solved.
+fn with_search<'a>(alloc: Global, command: Command<'a>) -> Result<Command<'a>, AllocError> {
+    command
+        .arg(search_option(alloc))?
+        .arg(budget_option(alloc))?
+        .arg(divide_option(alloc))?
+        .arg(hands_option(alloc))?
+        .arg(seconds_option(alloc))?
+        .arg(proof_option(alloc))
+}
+
+/// The options of how large files may be and of what is shown, with the helps that differ.
+fn with_flags<'a>(
+    alloc: Global,
+    command: Command<'a>,
+    large: &'a str,
+    stats: &'a str,
+    progress: &'a str,
+) -> Result<Command<'a>, AllocError> {
+    command
+        .arg(flag(alloc, "large", large))?
+        .arg(flag(alloc, "stats", stats))?
+        .arg(flag(alloc, "progress", progress))?
+        .arg(flag(alloc, "verbose", VERBOSE))
+}
+
+fn solve_command<'a>(alloc: Global) -> Result<Command<'a>, AllocError> {
+    let command = Command::new(alloc, "solve").about(
+        "Decide a formula: status 10 satisfiable, 20 unsatisfiable, 0 unknown, 1 on a fault",
+    );
+    let command = with_search(alloc, command)?;
+    let command = with_flags(alloc, command, SOLVE_LARGE, SOLVE_STATS, SOLVE_PROGRESS)?;
+    command.arg(word(alloc, "FILE", FORMULA_FILE))
+}
+
+fn check_command<'a>(alloc: Global) -> Result<Command<'a>, AllocError> {
+    let command = Command::new(alloc, "check")
+        .about("Check a proof: status 0 accepted, 1 refused or on a fault")
+        .arg(flag(alloc, "distinct-status", DISTINCT_STATUS))?;
+    with_flags(alloc, command, CHECK_LARGE, CHECK_STATS, CHECK_PROGRESS)?
+        .arg(word(alloc, "FORMULA", FORMULA_FILE))?
+        .arg(word(alloc, "PROOF", PROOF_FILE))
+}
+
+fn number_word<'a>(alloc: Global) -> Arg<'a> {
+    word(alloc, "NUMBER", "The number behind `fault` or `refused`").value_parser(
+        clap::value_parser!(u32),
+    )
+}
+
+fn refusal_word<'a>(alloc: Global) -> Arg<'a> {
+    Arg::new(alloc, "REFUSAL")
+        .value_parser(clap::value_parser!(u32))
+        .help("The number behind `refusal`")
+}
+
+fn explain_command<'a>(alloc: Global) -> Result<Command<'a>, AllocError> {
+    Command::new(alloc, "explain")
+        .about("Say what a number means that `solve` or `check` printed, and what to change")
+        .arg(number_word(alloc))?
+        .arg(refusal_word(alloc))
+}
+
+/// The version, and the logic in which the program is proved. Several kits have one logic; README
+/// names the one that proved this version last.
+const VERSION: &str = "0.3.0 (logic dac8208d650f15bf)";
+
+const EXAMPLES: &str = "Examples:
+  cubesat solve --proof f.lrat f.cnf                     decide f.cnf, with its first model
+  cubesat solve --search focused --proof f.lrat f.cnf    mostly sooner, with one of its models
+  cubesat solve --search focused --hands 4 f.cnf         the same bytes as with one, by four threads
+  cubesat solve --stats --proof f.lrat f.cnf             and what it took
+  xz -dc f.cnf.xz | cubesat solve -                      standard input, and no proof
+  cubesat check f.cnf f.lrat                             check the proof
+  cubesat divide --into RUN --search focused f.cnf       begin a run on many machines
+  cubesat explain 51 5                                   what `fault 51: refusal 5` means";
+
+/// The command with a subcommand, if there was memory for that one.
+fn with_subcommand<'a>(
+    command: Command<'a>,
+    subcommand: Result<Command<'a>, AllocError>,
+) -> Result<Command<'a>, AllocError> {
+    command.subcommand(subcommand?)
+}
+
+fn whole_command<'a>(alloc: Global) -> Result<Command<'a>, AllocError> {
+    let command = Command::new(alloc, "cubesat")
+        .bin_name("cubesat")?
+        .about("A SAT solver with LRAT proofs")
+        .version(VERSION)
+        .after_help(EXAMPLES)
+        .subcommand_required(true);
+    let command = with_subcommand(command, solve_command(alloc))?;
+    let command = with_subcommand(command, check_command(alloc))?;
+    let command = with_subcommand(command, divide_command(alloc))?;
+    let command = with_subcommand(command, conquer_command(alloc))?;
+    let command = with_subcommand(command, gather_command(alloc))?;
+    with_subcommand(command, explain_command(alloc))
+}
+
+/// The search of this name.
+pub(crate) fn search_named(name: &str) -> Option<Search> {
+    match name {
+        "ordered" => Some(Search::Ordered),
+        "focused" => Some(Search::Focused),
+        _ => None,
+    }
+}
+
+/// How large the formula and the proof may be.
+pub(crate) fn limits_of(matches: &ArgMatches<'_>) -> Limits {
+    if matches.get_flag("large") {
+        Limits::Large
+    } else {
+        Limits::Standard
+    }
+}
+
+/// The budget of the root where none is asked for.
+pub(crate) fn default_budget(search: Search) -> u32 {
+    match search {
+        Search::Ordered => ORDERED_BUDGET,
+        Search::Focused => FOCUSED_BUDGET,
+    }
+}
+
+/// What is to be shown of a run.
+fn shown_of(matches: &ArgMatches<'_>) -> Shown {
+    Shown {
+        stats: matches.get_flag("stats"),
+        progress: matches.get_flag("progress"),
+        verbose: matches.get_flag("verbose"),
+    }
+}
+
+/// How a formula is to be solved. The command has been built so that each value is there and in its
+/// range; this is tested again, since no clause of the parser's says it of a subcommand.
+fn asked_in(matches: &ArgMatches<'_>) -> Option<Asked> {
+    let search = search_named(matches.get_str("search")?)?;
+    let budget = match matches.get_one::<u32>("budget") {
+        Some(budget) => budget,
+        None => default_budget(search),
+    };
+    let divide = match matches.get_one::<u32>("divide") {
+        Some(cubes) if cubes > MAX_DIVIDE => return None,
+        divide => divide,
+    };
+    let hands = matches.get_one::<u32>("hands")?;
+    if budget < 1 || budget > MAX_BUDGET || hands < 1 || hands > MAX_HANDS {
+        return None;
+    }
+    Some(Asked {
+        search,
+        budget,
+        divide,
+        hands: hands as usize,
+        seconds: matches.get_one::<u32>("seconds"),
+        limits: limits_of(matches),
+    })
+}
+
+fn solve_request<'a>(matches: &ArgMatches<'a>) -> Option<Request<'a>> {
+    let asked = asked_in(matches)?;
+    let file = matches.get_str("FILE")?;
+    Some(Request::Solve {
+        asked,
+        proof: matches.get_str("proof"),
+        file,
+        shown: shown_of(matches),
+    })
+}
+
+fn check_request<'a>(matches: &ArgMatches<'a>) -> Option<Request<'a>> {
+    let formula = matches.get_str("FORMULA")?;
+    let proof = matches.get_str("PROOF")?;
+    Some(Request::Check {
+        formula,
+        proof,
+        limits: limits_of(matches),
+        distinct_status: matches.get_flag("distinct-status"),
+        shown: shown_of(matches),
+    })
+}
+
+fn explain_request<'a>(matches: &ArgMatches<'a>) -> Option<Request<'a>> {
+    let number = matches.get_one::<u32>("NUMBER")?;
+    let behind = matches.get_one::<u32>("REFUSAL");
+    Some(Request::Explain { number, behind })
+}
+
+/// The request of what matched the words, if it is one.
+fn request_in<'a>(matches: &ArgMatches<'a>) -> Option<Request<'a>> {
+    let (name, matches) = matches.subcommand()?;
+    match name {
+        "check" => check_request(matches),
+        "explain" => explain_request(matches),
+        "divide" => Some(Request::Spread(divide_request(matches)?)),
+        "conquer" => Some(Request::Spread(conquer_request(matches)?)),
+        "gather" => Some(Request::Spread(gather_request(matches)?)),
+        _ => solve_request(matches),
+    }
+}
+
+/// The request that these words make of the command, if they make one.
+fn parsed<'a>(
+    command: &mut Command<'a>,
+    words: &'a [&'a str],
+) -> Result<Option<Request<'a>>, Error> {
+    let matches = command.try_get_matches_from_mut(words)?;
+    Ok(request_in(&matches))
+}
+
+/// What the words ask for by this command.
+fn request_by<'a>(command: &mut Command<'a>, words: &'a [&'a str]) -> Result<Request<'a>, Error> {
+    let Some(request) = parsed(command, words)? else {
+        return Err(command.error(ErrorKind::InvalidValue, "no request")?);
+    };
+    match refusal_of(&request) {
+        Some(message) => Err(command.error(ErrorKind::ArgumentConflict, message)?),
+        None => Ok(request),
+    }
+}
+
+/// What the words ask for; the program's name is the first one. An error is the parser's, with its
+/// message: a help or a version that was asked for, words that are no command line, or want of
+/// memory.
+pub fn request_of<'a>(alloc: Global, words: &'a [&'a str]) -> Result<Request<'a>, Error> {
+    let mut command = whole_command(alloc)?;
+    request_by(&mut command, words)
+}

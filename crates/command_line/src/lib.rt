@@ -1,0 +1,11 @@
+//! The program's command line: what its words ask for.
+#![tactic(auto)]
+
+mod arguments;
+mod effort;
+mod refusals;
+mod spread_arguments;
+
+pub use arguments::{MAX_BUDGET, MAX_DIVIDE, Request, STANDARD_INPUT, Shown, request_of};
+pub use effort::{Asked, Effort, plan_of};
+pub use spread_arguments::{Part, Spread};

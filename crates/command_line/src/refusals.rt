@@ -1,0 +1,42 @@
+//! Command lines that are refused, though each of their words is right by itself.
+
+use crate::arguments::{Request, STANDARD_INPUT};
+use crate::effort::Asked;
+use crate::spread_arguments::Spread;
+use cdcl::Search;
+
+/// Why a request is refused, if it is. `-` is the name of standard input, and of standard output.
+pub(crate) fn refusal_of(request: &Request) -> Option<&'static str> {
+    match request {
+        Request::Solve {
+            asked: Asked {
+                search: Search::Ordered,
+                divide: Some(_),
+                ..
+            },
+            ..
+        } => Some(
+            "only the focused search divides formulas; give --search focused too, or leave --divide out",
+        ),
+        Request::Solve {
+            proof: Some(path),
+            ..
+        } if *path == STANDARD_INPUT => Some(
+            "the proof can't be written to standard output, where the answer goes; give --proof a file, or leave it out",
+        ),
+        Request::Check { formula, proof, .. }
+            if *formula == STANDARD_INPUT && *proof == STANDARD_INPUT => {
+            Some("standard input can't be both the formula and the proof")
+        }
+        Request::Spread(Spread::Conquer { part: None, .. }) => {
+            Some("a part is K/M, the K-th of M, as --part 3/16 is the third of sixteen")
+        }
+        Request::Spread(Spread::Begin { formula, .. }) if *formula == STANDARD_INPUT => {
+            Some("a run keeps its formula, which can't be standard input; give a file")
+        }
+        Request::Spread(Spread::Gather { proof, .. }) if *proof == STANDARD_INPUT => Some(
+            "the proof can't be written to standard output, where the answer goes; give --proof a file",
+        ),
+        _ => None,
+    }
+}

@@ -1,0 +1,212 @@
+//! The command lines of runs that are spread over machines.
+
+use crate::arguments::{
+    budget_option, default_budget, flag, limits_of, search_named, search_option, word,
+};
+use cdcl::Search;
+use clap::{Arg, ArgMatches, Command};
+use cnf::Limits;
+use std::alloc::{AllocError, Global};
+
+const LARGE: &str =
+    "Read a formula of up to 100,000,000 variables and 1,000,000,000 clauses, by no fixed limit less";
+
+const RUN: &str = "The folder of the run";
+
+/// What is asked for of a run that is spread over machines.
+#[derive(Clone, Copy)]
+pub enum Spread<'a> {
+    /// Make the run of a formula.
+    Begin {
+        into: &'a str,
+        formula: &'a str,
+        search: Search,
+        /// The budget of the root, 1 to 100,000 conflicts.
+        budget: u32,
+        limits: Limits,
+        /// How many cubes are to be open, at least: 1 to 65,536.
+        wanted: u32,
+    },
+    /// Write the next round of a run.
+    Next {
+        into: &'a str,
+    },
+    /// Solve the cubes of a part of a round, for so many minutes.
+    Conquer {
+        run: &'a str,
+        round: u32,
+        part: Option<Part>,
+        minutes: Option<u32>,
+        /// From 1 to 16.
+        hands: u32,
+    },
+    /// Put the result together, and write the proof and the answer.
+    Gather {
+        run: &'a str,
+        proof: &'a str,
+        /// From 1 to 16.
+        hands: u32,
+        stats: bool,
+    },
+}
+
+fn into_option<'a>(alloc: Global) -> Arg<'a> {
+    Arg::new(alloc, "into")
+        .long("into")
+        .value_name("RUN")
+        .required(true)
+        .help(RUN)
+}
+
+fn wanted_option<'a>(alloc: Global) -> Arg<'a> {
+    Arg::new(alloc, "divide")
+        .long("divide")
+        .value_name("N")
+        .value_parser(clap::value_parser!(u32).range(1..=65_536))
+        .default_value("1024")
+        .help("Cubes that are to be open for the machines, 1 to 65536")
+}
+
+fn round_option<'a>(alloc: Global) -> Arg<'a> {
+    Arg::new(alloc, "round")
+        .long("round")
+        .value_name("R")
+        .value_parser(clap::value_parser!(u32).range(1..=9999))
+        .required(true)
+        .help("The round, from 1 on")
+}
+
+fn part_option<'a>(alloc: Global) -> Arg<'a> {
+    Arg::new(alloc, "part")
+        .long("part")
+        .value_name("K/M")
+        .required(true)
+        .help("Solve each M-th cube of the round, from the K-th on")
+}
+
+fn minutes_option<'a>(alloc: Global) -> Arg<'a> {
+    Arg::new(alloc, "minutes")
+        .long("minutes")
+        .value_name("T")
+        .value_parser(clap::value_parser!(u32).range(1..=1_000_000))
+        .help("End with status 75 after so many minutes; the cubes that are left stay open")
+}
+
+fn hands_option<'a>(alloc: Global, help: &'a str) -> Arg<'a> {
+    Arg::new(alloc, "hands")
+        .long("hands")
+        .value_name("H")
+        .value_parser(clap::value_parser!(u32).range(1..=16))
+        .default_value("1")
+        .help(help)
+}
+
+fn proof_option<'a>(alloc: Global) -> Arg<'a> {
+    Arg::new(alloc, "proof")
+        .long("proof")
+        .value_name("PATH")
+        .required(true)
+        .help("Where the LRAT proof is written, in PATH.part until it is whole")
+}
+
+fn formula_word<'a>(alloc: Global) -> Arg<'a> {
+    Arg::new(alloc, "FORMULA").help(
+        "The formula, in DIMACS CNF; without it the next round of the run is written",
+    )
+}
+
+pub(crate) fn divide_command<'a>(alloc: Global) -> Result<Command<'a>, AllocError> {
+    Command::new(alloc, "divide")
+        .about(
+            "Begin a run on many machines, or its next round: status 0 and how many cubes are open, or the answer",
+        )
+        .arg(into_option(alloc))?
+        .arg(search_option(alloc))?
+        .arg(budget_option(alloc))?
+        .arg(wanted_option(alloc))?
+        .arg(flag(alloc, "large", LARGE))?
+        .arg(formula_word(alloc))
+}
+
+pub(crate) fn conquer_command<'a>(alloc: Global) -> Result<Command<'a>, AllocError> {
+    Command::new(alloc, "conquer")
+        .about("Solve a part of a round's cubes: status 0, or 75 where the time is over")
+        .arg(round_option(alloc))?
+        .arg(part_option(alloc))?
+        .arg(minutes_option(alloc))?
+        .arg(hands_option(
+            alloc,
+            "Threads that solve cubes of the part side by side, 1 to 16",
+        ))?
+        .arg(word(alloc, "RUN", RUN))
+}
+
+pub(crate) fn gather_command<'a>(alloc: Global) -> Result<Command<'a>, AllocError> {
+    Command::new(alloc, "gather")
+        .about("Check what a run has found, solve what is missing, and write proof and answer")
+        .arg(proof_option(alloc))?
+        .arg(hands_option(
+            alloc,
+            "Threads that check what was found side by side, 1 to 16",
+        ))?
+        .arg(flag(alloc, "stats", "Print to standard error what the packs had"))?
+        .arg(word(alloc, "RUN", RUN))
+}
+
+pub(crate) fn divide_request<'a>(matches: &ArgMatches<'a>) -> Option<Spread<'a>> {
+    let into = matches.get_str("into")?;
+    let Some(formula) = matches.get_str("FORMULA") else {
+        return Some(Spread::Next { into });
+    };
+    let search = search_named(matches.get_str("search")?)?;
+    let budget = match matches.get_one::<u32>("budget") {
+        Some(budget) => budget,
+        None => default_budget(search),
+    };
+    Some(Spread::Begin {
+        into,
+        formula,
+        search,
+        budget,
+        limits: limits_of(matches),
+        wanted: matches.get_one::<u32>("divide")?,
+    })
+}
+
+/// The numbers of `K/M`, with K from 1 to M. A request holds them as they are, as it does that of
+/// the hands, since the borrow checker follows none that holds a type with an invariant.
+#[derive(Clone, Copy)]
+pub struct Part {
+    pub number: u32,
+    pub parts: u32,
+}
+
+/// The part of a round that `K/M` names, if there is one.
+fn part_of(word: &str) -> Option<Part> {
+    let (number, parts) = word.split_once('/')?;
+    let number = number.parse::<u32>().ok()?;
+    let parts = parts.parse::<u32>().ok()?;
+    if number < 1 || number > parts {
+        return None;
+    }
+    Some(Part { number, parts })
+}
+
+pub(crate) fn conquer_request<'a>(matches: &ArgMatches<'a>) -> Option<Spread<'a>> {
+    Some(Spread::Conquer {
+        run: matches.get_str("RUN")?,
+        round: matches.get_one::<u32>("round")?,
+        part: part_of(matches.get_str("part")?),
+        minutes: matches.get_one::<u32>("minutes"),
+        hands: matches.get_one::<u32>("hands")?,
+    })
+}
+
+pub(crate) fn gather_request<'a>(matches: &ArgMatches<'a>) -> Option<Spread<'a>> {
+    Some(Spread::Gather {
+        run: matches.get_str("RUN")?,
+        proof: matches.get_str("proof")?,
+        hands: matches.get_one::<u32>("hands")?,
+        stats: matches.get_flag("stats"),
+    })
+}

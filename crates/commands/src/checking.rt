@@ -1,0 +1,262 @@
+//! `check`: its files, and what is printed of the run.
+ghost use Rattle.std.specs.Prelude.{◌≡◌, Ok};
+ghost use Rattle.std.specs.Thread.{IsSync};
+ghost use Rattle.cnf.specs.Limits.{limits_of};
+ghost use Rattle.runs.specs.Check.{checked_by, CheckSays};
+ghost use Rattle.commands.specs.CheckStatus.{check_status, IsCheckEnd};
+ghost use Rattle.commands.specs.Ends.{end_of, CheckEnds};
+
+use crate::fault_lines::{FAILED, Screen, print_fault_of, print_not_opened};
+use crate::input::{open_input, size_of};
+use crate::notes::{note_check, note_number};
+use crate::watched::check_counted;
+use crate::worded::{Known, Opened, say_refused};
+use cnf::Limits;
+use command_line::Shown;
+use messages::Refused;
+use noticed::{NoticedReader, NoticedWriter};
+use runs::{Checked, RunFault, Told, check_told};
+use statistics::{Board, Showing, Unobserved, print_check_statistics, show_progress};
+use std::alloc::Global;
+use std::fs::Files;
+use std::io::{Read, Write};
+use std::sync::Wait;
+use std::thread;
+use std::thread::Threads;
+use std::time::Clock;
+
+/// The status of a proof that is accepted.
+const ACCEPTED: u8 = 0;
+
+/// The status of a fault, where a refused proof is to have another one.
+const DISTINCT_FAULT: u8 = 2;
+
+/// How a check ended.
+#[derive(Clone, Copy)]
+pub enum CheckEnd {
+    Accepted,
+    Refused,
+    Fault,
+}
+
+impl CheckEnd {
+    /// The end of a check that answered so.
+    fn of(checked: Checked) -> CheckEnd
+        ensures { result ≡ end_of (Ok checked) }
+    {
+        match checked {
+            Checked::Accepted => CheckEnd::Accepted,
+            Checked::Refused => CheckEnd::Refused,
+        }
+    }
+
+    /// The exit status. A fault has that of a refused proof, unless the two are to be distinct.
+    pub fn status(self, are_distinct: bool) -> u8
+        ensures { result ≡ check_status self are_distinct }
+    {
+        match self {
+            CheckEnd::Accepted => ACCEPTED,
+            CheckEnd::Fault if are_distinct => DISTINCT_FAULT,
+            CheckEnd::Refused | CheckEnd::Fault => FAILED,
+        }
+    }
+}
+
+/// A check that is counted, with its progress shown by a thread beside it. Where that can't be
+/// started, nothing is shown.
+fn check_beside<
+    R: Files + Threads + Wait + Clock + Sync,
+    F: Read + Drop,
+    P: Read + Drop,
+    W: Write,
+    E: Write + Send,
+>(
+    rt: &R,
+    alloc: Global,
+    board: &Board,
+    mut formula: F,
+    mut proof: P,
+    limits: Limits,
+    answer: &mut W,
+    faults: &mut E,
+    screen: Screen,
+) -> Result<Told, RunFault>
+    ensures { CheckSays (limits_of limits) (F.remaining formula) (P.remaining proof) (W.contents answer.old) (W.contents answer.new) (checked_by result) }
+{
+    let showing = Showing::of(Some(screen.manner()), false);
+    let (_, result) = thread::join_mut(
+        rt,
+        &mut || show_progress(rt, board, faults, showing),
+        &mut || -> Result<Told, RunFault>
+            ensures { CheckSays (limits_of limits) (F.remaining formula.entry) (P.remaining proof.entry) (W.contents answer.entry.now) (W.contents answer.exit.now) (checked_by result) }
+        { check_counted(rt, alloc, board, &mut formula, &mut proof, limits, answer) },
+    );
+    result
+}
+
+/// Runs the check of what is opened, with what is to be shown of it. It writes what `check_run`
+/// writes. The proof has so many bytes, if that is known.
+fn check_opened<
+    R: Files + Threads + Wait + Clock + Sync,
+    F: Read + Drop,
+    P: Read + Drop,
+    W: Write,
+    E: Write + Send,
+>(
+    rt: &R,
+    alloc: Global,
+    formula: F,
+    proof: P,
+    limits: Limits,
+    size: Option<u64>,
+    shown: Shown,
+    answer: &mut W,
+    faults: &mut E,
+    screen: Screen,
+) -> Result<Told, RunFault>
+    ensures { CheckSays (limits_of limits) (F.remaining formula) (P.remaining proof) (W.contents answer.old) (W.contents answer.new) (checked_by result) }
+{
+    if !shown.progress && !shown.stats {
+        return check_told(alloc, formula, proof, limits, answer, &Unobserved);
+    }
+    let board = Board::of_proof(rt, size);
+    let result = if shown.progress {
+        check_beside(
+            rt, alloc, &board, formula, proof, limits, answer, faults, screen,
+        )
+    } else {
+        check_counted(rt, alloc, &board, formula, proof, limits, answer)
+    };
+    if shown.stats {
+        print_check_statistics(faults, &board.look(rt));
+    }
+    result
+}
+
+/// Says why the proof, which begins with these bytes, was refused, and what
+/// that means where it is to be explained.
+fn print_refused<R: Files, E: Write>(
+    rt: &R,
+    faults: &mut E,
+    known: &Known<'_>,
+    beginning: &[u8],
+    why: Refused,
+    is_explained: bool,
+) {
+    say_refused(rt, faults, known, why, beginning);
+    if is_explained {
+        note_number(faults, why.number);
+    }
+}
+
+/// How a check ended that answered so, of a proof that begins with these bytes. It says what
+/// happened unless the proof is accepted.
+fn end_check<R: Files, E: Write>(
+    rt: &R,
+    faults: &mut E,
+    answered: Result<Told, RunFault>,
+    known: &Known<'_>,
+    beginning: &[u8],
+    is_explained: bool,
+) -> CheckEnd
+    ensures { result ≡ end_of (checked_by answered) }
+{
+    match answered {
+        Ok(told) => {
+            if let Some(why) = told.why {
+                print_refused(rt, faults, known, beginning, why, is_explained);
+            }
+            CheckEnd::of(told.checked)
+        }
+        Err(fault) => {
+            print_fault_of(rt, faults, fault, known, is_explained);
+            CheckEnd::Fault
+        }
+    }
+}
+
+/// Checks the open proof, of so many bytes, if that is known, against the open formula, and says
+/// what happened unless it accepts.
+fn check_files<
+    R: Files + Threads + Wait + Clock + Sync,
+    F: Read + Drop,
+    P: Read + Drop,
+    W: Write,
+    E: Write + Send,
+>(
+    rt: &R,
+    alloc: Global,
+    formula: Opened<'_, F>,
+    proof: Opened<'_, P>,
+    limits: Limits,
+    size: Option<u64>,
+    shown: Shown,
+    answer: &mut NoticedWriter<W>,
+    faults: &mut E,
+    screen: Screen,
+) -> CheckEnd
+    ensures end { IsCheckEnd (limits_of limits) (F.remaining formula.entry.file) (P.remaining proof.entry.file) result }
+    ensures says { CheckEnds (limits_of limits) (F.remaining formula.entry.file) (P.remaining proof.entry.file) (⟦<NoticedWriter<W> as Write>⟧.contents answer.old) (⟦<NoticedWriter<W> as Write>⟧.contents answer.new) result }
+{
+    let mut text = NoticedReader::of(formula.file);
+    let mut steps = NoticedReader::of(proof.file);
+    let answered = check_opened(
+        rt, alloc, &mut text, &mut steps, limits, size, shown, answer, faults, screen,
+    );
+    let known = Known {
+        formula: formula.path,
+        proof: proof.path,
+        beginning: text.beginning(),
+        formula_error: text.error(),
+        proof_error: steps.error(),
+        answer_error: answer.error(),
+        limits,
+    };
+    let beginning = steps.beginning();
+    end_check(rt, faults, answered, &known, beginning, shown.verbose)
+}
+
+/// Checks the proof in the file against the formula in the other, one of which may be the standard
+/// input.
+pub fn check<R: Files + Threads + Wait + Clock + Sync, I: Read + Drop, W: Write, E: Write + Send>(
+    rt: &R,
+    alloc: Global,
+    file: &str,
+    path: &str,
+    limits: Limits,
+    standard: I,
+    shown: Shown,
+    answer: &mut W,
+    faults: &mut E,
+    screen: Screen,
+) -> CheckEnd {
+    if shown.verbose {
+        note_check(faults, file, path);
+    }
+    let mut standard = Some(standard);
+    let formula = match open_input(rt, file, &mut standard) {
+        Ok(formula) => formula,
+        Err(error) => {
+            print_not_opened(faults, file, error, shown.verbose);
+            return CheckEnd::Fault;
+        }
+    };
+    let proof = match open_input(rt, path, &mut standard) {
+        Ok(proof) => proof,
+        Err(error) => {
+            print_not_opened(faults, path, error, shown.verbose);
+            return CheckEnd::Fault;
+        }
+    };
+    let formula = Opened {
+        path: file,
+        file: formula,
+    };
+    let size = size_of(&proof);
+    let proof = Opened { path, file: proof };
+    let mut answer = NoticedWriter::of(answer);
+    let answer = &mut answer;
+    check_files(
+        rt, alloc, formula, proof, limits, size, shown, answer, faults, screen,
+    )
+}

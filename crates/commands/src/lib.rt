@@ -1,0 +1,24 @@
+//! The commands that decide a formula and check a proof: their files, statuses, words and figures.
+#![tactic(auto)]
+
+mod anew;
+mod checking;
+mod explanations;
+mod fault_lines;
+mod input;
+mod notes;
+mod placed_proof;
+mod same_file;
+mod solving;
+mod watched;
+mod worded;
+
+pub use checking::{CheckEnd, check};
+pub use explanations::explanation;
+pub use fault_lines::{
+    FAILED, Screen, print_fault, print_fault_of, print_no_memory, print_not_opened,
+};
+pub use input::{Input, open_input};
+pub use placed_proof::{NotBegun, PlacedProof, begin_proof};
+pub use solving::{SATISFIABLE, UNSATISFIABLE, print_not_begun, solve};
+pub use worded::Known;

@@ -1,0 +1,332 @@
+//! `solve`: its files, and what is printed of the run.
+ghost use Rattle.std.specs.Prelude.{◌≡◌, IsSome, option_map};
+ghost use Rattle.std.specs.Thread.{IsSync};
+ghost use Rattle.cnf.specs.Limits.{limits_of};
+ghost use Rattle.runs.specs.Limited.{LimitedSays};
+ghost use Rattle.commands.specs.Status.{solve_status, IsSolveStatus};
+ghost use Rattle.commands.specs.Ends.{SolveEnds};
+
+use crate::fault_lines::{
+    FAILED, Screen, print_fault_of, print_no_memory, print_not_created, print_not_opened,
+};
+use crate::input::{open_input, shown_name};
+use crate::notes::{note_files, note_number, note_solve};
+use crate::placed_proof::{NotBegun, begin_proof};
+use crate::watched::run_counted;
+use crate::worded::{Known, Opened};
+use cdcl::{Plan, Search};
+use command_line::{Effort, Shown};
+use cubes::OpenGate;
+use messages::say_same_file;
+use noticed::{NoticedReader, NoticedWriter};
+use runs::{RunFault, TimeLimit, Verdict, answer_limited_within, run_limited_within};
+use statistics::{Board, Showing, print_statistics, show_progress};
+use std::alloc::Global;
+use std::fs::Files;
+use std::io::{Read, Write};
+use std::sync::Wait;
+use std::thread;
+use std::thread::Threads;
+use std::time::Clock;
+
+/// The status of a satisfiable formula.
+pub const SATISFIABLE: u8 = 10;
+
+/// The status of an unsatisfiable formula.
+pub const UNSATISFIABLE: u8 = 20;
+
+/// The status of a formula that isn't decided within the limit of time.
+const UNKNOWN: u8 = 0;
+
+/// What stands for the proof's path where no proof is asked for.
+const NO_PATH: &str = "not written";
+
+/// Prints that the proof would be written over the formula; the status.
+fn print_same_file<E: Write>(faults: &mut E, file: &str, proof: &str, is_explained: bool) -> u8 {
+    let _ = writeln!(
+        faults,
+        "fault 57: the proof would be written over the formula"
+    );
+    say_same_file(faults, shown_name(file));
+    if is_explained {
+        note_number(faults, 57);
+        note_files(faults, 57, file, proof);
+    }
+    FAILED
+}
+
+/// What is shown of a run while it goes on. On a terminal, the ordered search names the focused one
+/// when it takes long.
+fn showing_of(shown: Shown, plan: Plan, screen: Screen) -> Showing {
+    let progress = if shown.progress {
+        Some(screen.manner())
+    } else {
+        None
+    };
+    let names_focused = screen == Screen::Terminal && plan.search() == Search::Ordered;
+    Showing::of(progress, names_focused)
+}
+
+/// A run that is counted, with what is shown of it by a thread beside it. Where that can't be
+/// started, nothing is shown.
+fn run_beside<
+    R: Files + Threads + Wait + Clock + Sync,
+    I: Read + Drop,
+    W: Write,
+    P: Write + Drop,
+    E: Write + Send,
+>(
+    rt: &R,
+    alloc: Global,
+    board: &Board,
+    effort: Effort,
+    mut input: I,
+    answer: &mut W,
+    mut proof: Option<P>,
+    faults: &mut E,
+    showing: Showing,
+) -> Result<Option<Verdict>, RunFault>
+    ensures { LimitedSays (limits_of effort.limits) (IsSome effort.seconds) (I.remaining input) effort.plan (option_map P.contents proof) (W.contents answer.old) (W.contents answer.new) result }
+{
+    let (_, result) = thread::join_mut(
+        rt,
+        &mut || show_progress(rt, board, faults, showing),
+        &mut || -> Result<Option<Verdict>, RunFault>
+            requires { IsSync R.row }
+            ensures { LimitedSays (limits_of effort.limits) (IsSome effort.seconds) (I.remaining input.entry) effort.plan (option_map P.contents proof.entry) (W.contents answer.entry.now) (W.contents answer.exit.now) result }
+        { run_counted(rt, alloc, board, effort, &mut input, answer, proof.take()) },
+    );
+    result
+}
+
+/// A run with what is shown of it. It writes what `run_plain` writes.
+fn run_shown<
+    R: Files + Threads + Wait + Clock + Sync,
+    I: Read + Drop,
+    W: Write,
+    P: Write + Drop,
+    E: Write + Send,
+>(
+    rt: &R,
+    alloc: Global,
+    effort: Effort,
+    input: I,
+    answer: &mut W,
+    proof: Option<P>,
+    stats: bool,
+    faults: &mut E,
+    showing: Showing,
+) -> Result<Option<Verdict>, RunFault>
+    ensures { LimitedSays (limits_of effort.limits) (IsSome effort.seconds) (I.remaining input) effort.plan (option_map P.contents proof) (W.contents answer.old) (W.contents answer.new) result }
+{
+    let hands = effort.hands;
+    let board = Board::of_search(rt, effort.plan.search(), hands, proof.is_some());
+    let result = if showing.is_any() {
+        run_beside(
+            rt, alloc, &board, effort, input, answer, proof, faults, showing,
+        )
+    } else {
+        run_counted(rt, alloc, &board, effort, input, answer, proof)
+    };
+    if stats {
+        let figures = board.look(rt);
+        print_statistics(faults, &figures, hands);
+    }
+    result
+}
+
+/// A run of which nothing is shown. Its proof goes to this writer; without one, none is made.
+fn run_plain<R: Files + Threads + Wait + Clock + Sync, I: Read + Drop, W: Write, P: Write + Drop>(
+    rt: &R,
+    alloc: Global,
+    effort: Effort,
+    input: I,
+    answer: &mut W,
+    proof: Option<P>,
+) -> Result<Option<Verdict>, RunFault>
+    ensures { LimitedSays (limits_of effort.limits) (IsSome effort.seconds) (I.remaining input) effort.plan (option_map P.contents proof) (W.contents answer.old) (W.contents answer.new) result }
+{
+    let (limits, gate) = (effort.limits, OpenGate);
+    let (plan, hands) = (effort.plan, effort.hands);
+    let limit = TimeLimit::begin(rt, effort.seconds);
+    match proof {
+        Some(mut proof) => {
+            let proof = &mut proof;
+            run_limited_within(
+                rt, alloc, input, limits, answer, proof, plan, hands, &gate, &limit,
+            )
+        }
+        None => answer_limited_within(rt, alloc, input, limits, answer, plan, hands, &gate, &limit),
+    }
+}
+
+/// A run with what is to be shown of it. It writes what `run_plain` writes.
+fn run_opened<
+    R: Files + Threads + Wait + Clock + Sync,
+    I: Read + Drop,
+    W: Write,
+    P: Write + Drop,
+    E: Write + Send,
+>(
+    rt: &R,
+    alloc: Global,
+    effort: Effort,
+    input: I,
+    answer: &mut W,
+    proof: Option<P>,
+    shown: Shown,
+    faults: &mut E,
+    screen: Screen,
+) -> Result<Option<Verdict>, RunFault>
+    ensures { LimitedSays (limits_of effort.limits) (IsSome effort.seconds) (I.remaining input) effort.plan (option_map P.contents proof) (W.contents answer.old) (W.contents answer.new) result }
+{
+    let showing = showing_of(shown, effort.plan, screen);
+    if shown.stats || showing.is_any() {
+        let stats = shown.stats;
+        return run_shown(
+            rt, alloc, effort, input, answer, proof, stats, faults, showing,
+        );
+    }
+    run_plain(rt, alloc, effort, input, answer, proof)
+}
+
+/// The proof's writer, if there is to be one, as it is looked at.
+fn noticed_proof<P: Write>(proof: Option<Opened<'_, P>>) -> Option<NoticedWriter<P>>
+    ensures { option_map ⟦<NoticedWriter<P> as Write>⟧.contents result ≡ option_map (λ o. P.contents o.file) proof.entry }
+{
+    match proof {
+        Some(proof) => Some(NoticedWriter::of(proof.file)),
+        None => None,
+    }
+}
+
+/// The status of what a run answered, of which it says what happened if it came to no verdict.
+fn end_solve<R: Files, E: Write>(
+    rt: &R,
+    faults: &mut E,
+    answered: Result<Option<Verdict>, RunFault>,
+    known: &Known<'_>,
+    is_explained: bool,
+) -> u8
+    ensures { result ≡ solve_status answered }
+{
+    match answered {
+        Ok(Some(Verdict::Satisfiable)) => SATISFIABLE,
+        Ok(Some(Verdict::Unsatisfiable)) => UNSATISFIABLE,
+        Ok(None) => UNKNOWN,
+        Err(fault) => print_fault_of(rt, faults, fault, known, is_explained),
+    }
+}
+
+/// Decides the formula that is open, with its proof written to what is open, if there is to be one,
+/// and says what happened if it comes to no verdict; the status.
+fn solve_opened<
+    R: Files + Threads + Wait + Clock + Sync,
+    I: Read + Drop,
+    P: Write + Drop,
+    W: Write,
+    E: Write + Send,
+>(
+    rt: &R,
+    alloc: Global,
+    effort: Effort,
+    formula: Opened<'_, I>,
+    proof: Option<Opened<'_, P>>,
+    shown: Shown,
+    answer: &mut NoticedWriter<W>,
+    faults: &mut E,
+    screen: Screen,
+) -> u8
+    ensures status { IsSolveStatus (limits_of effort.limits) (IsSome effort.seconds) effort.plan.search (I.remaining formula.entry.file) (⟦<NoticedWriter<W> as Write>⟧.contents answer.old) (⟦<NoticedWriter<W> as Write>⟧.contents answer.new) result }
+    ensures says { SolveEnds (limits_of effort.limits) (IsSome effort.seconds) (I.remaining formula.entry.file) effort.plan (option_map (λ o. P.contents o.file) proof.entry) (⟦<NoticedWriter<W> as Write>⟧.contents answer.old) (⟦<NoticedWriter<W> as Write>⟧.contents answer.new) result }
+{
+    let limits = effort.limits;
+    let path = match &proof {
+        Some(proof) => proof.path,
+        None => NO_PATH,
+    };
+    let mut input = NoticedReader::of(formula.file);
+    let mut output = noticed_proof(proof);
+    let answered = run_opened(
+        rt,
+        alloc,
+        effort,
+        &mut input,
+        answer,
+        output.as_mut(),
+        shown,
+        faults,
+        screen,
+    );
+    let known = Known {
+        formula: formula.path,
+        proof: path,
+        beginning: input.beginning(),
+        formula_error: input.error(),
+        proof_error: output.as_ref().and_then(|output| output.error()),
+        answer_error: answer.error(),
+        limits,
+    };
+    end_solve(rt, faults, answered, &known, shown.verbose)
+}
+
+/// Prints why the proof's file isn't begun; the status.
+pub fn print_not_begun<E: Write>(
+    faults: &mut E,
+    why: NotBegun,
+    file: &str,
+    path: &str,
+    is_explained: bool,
+) -> u8 {
+    match why {
+        NotBegun::Formula => print_same_file(faults, file, path, is_explained),
+        NotBegun::Answer => {
+            let _ = writeln!(
+                faults,
+                "cubesat: the proof would be written over the answer, which goes to the same file"
+            );
+            FAILED
+        }
+        NotBegun::NoFile(error) => print_not_created(faults, path, error, is_explained),
+        NotBegun::NoMemory => print_no_memory(faults, file, is_explained),
+    }
+}
+
+/// Decides the formula in the file, or in the standard input, with its proof written to the other,
+/// if there is to be one; the status. The proof isn't written over the formula.
+pub fn solve<R: Files + Threads + Wait + Clock + Sync, I: Read + Drop, W: Write, E: Write + Send>(
+    rt: &R,
+    alloc: Global,
+    effort: Effort,
+    proof: Option<&str>,
+    file: &str,
+    standard: I,
+    shown: Shown,
+    answer: &mut W,
+    faults: &mut E,
+    screen: Screen,
+) -> u8 {
+    if shown.verbose {
+        note_solve(faults, &effort, file, proof);
+    }
+    let input = match open_input(rt, file, &mut Some(standard)) {
+        Ok(input) => input,
+        Err(error) => return print_not_opened(faults, file, error, shown.verbose),
+    };
+    let proof = match proof {
+        Some(path) => match begin_proof(rt, alloc, path, &input) {
+            Ok(placed) => Some(Opened { path, file: placed }),
+            Err(why) => return print_not_begun(faults, why, file, path, shown.verbose),
+        },
+        None => None,
+    };
+    let formula = Opened {
+        path: file,
+        file: input,
+    };
+    let mut answer = NoticedWriter::of(answer);
+    let answer = &mut answer;
+    solve_opened(
+        rt, alloc, effort, formula, proof, shown, answer, faults, screen,
+    )
+}

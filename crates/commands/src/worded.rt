@@ -1,0 +1,87 @@
+//! What is said in words of a run's fault, and of a proof that is refused.
+
+use crate::anew::excerpt_of;
+use crate::input::shown_name;
+use cnf::{Limits, Place, ReadFault};
+use messages::{
+    Refused, say_answer_not_written, say_formula_refused, say_no_memory, say_not_read,
+    say_proof_not_written, say_proof_refused,
+};
+use runs::RunFault;
+use std::fs::Files;
+use std::io;
+use std::io::Write;
+
+/// A file that is open, and its path.
+#[derive(Drop)]
+pub(crate) struct Opened<'a, F> {
+    pub(crate) path: &'a str,
+    pub(crate) file: F,
+}
+
+/// What is known of a run's files, for words about its fault.
+#[derive(Clone, Copy)]
+pub struct Known<'a> {
+    pub formula: &'a str,
+    pub proof: &'a str,
+    /// The first bytes that the formula's file gave.
+    pub beginning: &'a [u8],
+    /// The last errors that the system answered.
+    pub formula_error: Option<io::Error>,
+    pub proof_error: Option<io::Error>,
+    pub answer_error: Option<io::Error>,
+    /// Within which limits the files are read.
+    pub limits: Limits,
+}
+
+/// Says why a file wasn't read, if the system answered an error.
+fn say_error<E: Write>(out: &mut E, file: &str, error: Option<io::Error>) {
+    if let Some(error) = error {
+        say_not_read(out, shown_name(file), error);
+    }
+}
+
+/// Says why a formula wasn't read.
+fn say_unread<R: Files, E: Write>(rt: &R, out: &mut E, fault: ReadFault, known: &Known<'_>) {
+    match fault.place() {
+        Some(place) => {
+            let excerpt = excerpt_of(rt, known.formula, place);
+            let file = shown_name(known.formula);
+            let (limits, beginning) = (known.limits, known.beginning);
+            say_formula_refused(out, file, fault, limits, beginning, excerpt.as_ref());
+        }
+        None => say_error(out, known.formula, known.formula_error),
+    }
+}
+
+/// Says what happened in a run that came to no verdict.
+pub(crate) fn say_fault<R: Files, E: Write>(
+    rt: &R,
+    out: &mut E,
+    fault: RunFault,
+    known: &Known<'_>,
+) {
+    match fault {
+        RunFault::Read(read) => say_unread(rt, out, read, known),
+        RunFault::NoMemory => say_no_memory(out, shown_name(known.formula)),
+        RunFault::ProofWriteFailed => say_proof_not_written(out, known.proof, known.proof_error),
+        RunFault::AnswerWriteFailed => say_answer_not_written(out, known.answer_error),
+        RunFault::ProofReadFailed => say_error(out, known.proof, known.proof_error),
+    }
+}
+
+/// Says why the proof, which begins with these bytes, was refused.
+pub(crate) fn say_refused<R: Files, E: Write>(
+    rt: &R,
+    out: &mut E,
+    known: &Known<'_>,
+    refused: Refused,
+    beginning: &[u8],
+) {
+    let excerpt = match refused.line {
+        Some(line) => excerpt_of(rt, known.proof, Place { line, column: 1 }),
+        None => None,
+    };
+    let (file, limits) = (shown_name(known.proof), known.limits);
+    say_proof_refused(out, file, refused, limits, beginning, excerpt.as_ref());
+}

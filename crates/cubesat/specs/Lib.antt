@@ -1,7 +1,0 @@
--- What a status says, what the program has written by it, the plan that the command line asks for,
--- and what is left of what a command reads.
-pub mod Status
-pub mod CheckStatus
-pub mod Ends
-pub mod Arguments
-pub mod Inputs
