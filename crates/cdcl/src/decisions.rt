@@ -22,7 +22,7 @@ pub(crate) struct Decisions {
     pub(crate) saved: Saved,
 }
 
-// written out, so that proofs of its owners stay short (docs/CHANGING.md)
+// written out, so that proofs of its owners stay short (docs/PROVING.md)
 impl Drop for Decisions {
     fn drop(self) {
         let Decisions {

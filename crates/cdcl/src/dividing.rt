@@ -65,7 +65,7 @@ pub(crate) struct DividingSearch {
     pub(crate) root: Root,
 }
 
-// written out, so that proofs of its owners stay short (docs/CHANGING.md)
+// written out, so that proofs of its owners stay short (docs/PROVING.md)
 impl Drop for DividingSearch {
     fn drop(self) {
         let DividingSearch {

@@ -56,7 +56,7 @@ pub(crate) struct FocusedSearch {
     pub(crate) tally: Tally,
 }
 
-// written out, so that proofs of its owners stay short (docs/CHANGING.md)
+// written out, so that proofs of its owners stay short (docs/PROVING.md)
 impl Drop for FocusedSearch {
     fn drop(self) {
         let FocusedSearch {

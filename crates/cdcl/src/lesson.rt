@@ -27,7 +27,7 @@ pub(crate) struct Analysis {
     pub(crate) levels: Numbers,
 }
 
-// written out, so that proofs of its owners stay short (docs/CHANGING.md)
+// written out, so that proofs of its owners stay short (docs/PROVING.md)
 impl Drop for Analysis {
     fn drop(self) {
         let Analysis {

@@ -28,7 +28,7 @@ pub(crate) struct Marks {
     pub(crate) pending: Places,
 }
 
-// written out, so that proofs of its owners stay short (docs/CHANGING.md)
+// written out, so that proofs of its owners stay short (docs/PROVING.md)
 impl Drop for Marks {
     fn drop(self) {
         let Marks {

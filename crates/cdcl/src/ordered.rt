@@ -38,7 +38,7 @@ pub(crate) struct OrderedSearch {
     pub(crate) learnt: Learnt,
 }
 
-// written out, so that proofs of its owners stay short (docs/CHANGING.md)
+// written out, so that proofs of its owners stay short (docs/PROVING.md)
 impl Drop for OrderedSearch {
     fn drop(self) {
         let OrderedSearch {

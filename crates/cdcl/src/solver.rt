@@ -35,7 +35,7 @@ pub struct Solver {
     short: bool,
 }
 
-// written out, so that proofs of its owners stay short (docs/CHANGING.md)
+// written out, so that proofs of its owners stay short (docs/PROVING.md)
 impl Drop for Solver {
     fn drop(self) {
         let Solver {

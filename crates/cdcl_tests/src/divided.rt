@@ -239,7 +239,7 @@ fn comes(alloc: Global, row: &Row) -> Result<bool, Fail> {
 }
 
 /// These rows. The proof of a function that names a table goes through all of its parts, so that this
-/// one names nothing else (docs/CHANGING.md).
+/// one names nothing else (docs/PROVING.md).
 fn rows() -> &'static [Row<'static>] {
     &ROWS
 }

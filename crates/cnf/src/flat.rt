@@ -36,7 +36,7 @@ pub(crate) struct FlatClauses {
     ends: Vec<usize>,
 }
 
-// written out, so that proofs of its owners stay short (docs/CHANGING.md)
+// written out, so that proofs of its owners stay short (docs/PROVING.md)
 impl Drop for FlatClauses {
     fn drop(self) {
         let FlatClauses {

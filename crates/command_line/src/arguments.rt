@@ -229,7 +229,7 @@ fn explain_command<'a>(alloc: Global) -> Result<Command<'a>, AllocError> {
 
 /// The version, and the logic in which the program is proved. Several kits have one logic; README
 /// names the one that proved this version last.
-const VERSION: &str = "0.3.0 (logic dac8208d650f15bf)";
+const VERSION: &str = "0.4.0 (logic dac8208d650f15bf)";
 
 const EXAMPLES: &str = "Examples:
   cubesat solve --proof f.lrat f.cnf                     decide f.cnf, with its first model

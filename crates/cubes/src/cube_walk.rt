@@ -14,7 +14,7 @@ pub(crate) struct CubeWalk {
     pub(crate) walk: Walk<()>,
 }
 
-// written out, so that proofs of its owners stay short (docs/CHANGING.md)
+// written out, so that proofs of its owners stay short (docs/PROVING.md)
 impl Drop for CubeWalk {
     fn drop(self) {
         let CubeWalk { cube: _, walk: _ } = self;

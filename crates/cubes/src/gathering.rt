@@ -16,7 +16,7 @@ pub(crate) struct Gathering<L> {
     pub(crate) nodes: Vec<Node<L>>,
 }
 
-// written out, so that proofs of its owners stay short (docs/CHANGING.md)
+// written out, so that proofs of its owners stay short (docs/PROVING.md)
 impl<L: Drop> Drop for Gathering<L> {
     fn drop(self) {
         let Gathering { at: _, nodes: _ } = self;

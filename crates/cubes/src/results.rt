@@ -30,7 +30,7 @@ pub struct OwnSolver {
     pub(crate) root: Root,
 }
 
-// written out, so that proofs of its owners stay short (docs/CHANGING.md)
+// written out, so that proofs of its owners stay short (docs/PROVING.md)
 impl Drop for OwnSolver {
     fn drop(self) {
         let OwnSolver { solver: _, root: _ } = self;
@@ -78,7 +78,7 @@ pub(crate) struct Source<L> {
     pub(crate) solver: OwnSolver,
 }
 
-// written out, so that proofs of its owners stay short (docs/CHANGING.md)
+// written out, so that proofs of its owners stay short (docs/PROVING.md)
 impl<L: Drop> Drop for Source<L> {
     fn drop(self) {
         let Source {

@@ -48,7 +48,7 @@ struct Names {
     other: String,
 }
 
-// written out, so that proofs of its owners stay short (docs/CHANGING.md)
+// written out, so that proofs of its owners stay short (docs/PROVING.md)
 impl Drop for Names {
     fn drop(self) {
         let Names {

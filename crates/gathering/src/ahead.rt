@@ -49,7 +49,7 @@ pub struct AheadOutcomes<'a, R, S> {
     pub(crate) taken: u64,
 }
 
-// written out, so that proofs of its owners stay short (docs/CHANGING.md)
+// written out, so that proofs of its owners stay short (docs/PROVING.md)
 impl<R, S: Drop> Drop for AheadOutcomes<'_, R, S> {
     fn drop(self) {
         let AheadOutcomes {

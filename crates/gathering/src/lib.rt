@@ -1,5 +1,5 @@
-//! The result of a formula from facts of its cubes that nobody vouches for: each is checked, and
-//! what is missing or isn't so is solved again.
+//! Outcomes of a formula's cubes from facts that nobody vouches for: each is checked, and what is
+//! missing or isn't so is solved again.
 #![tactic(auto)]
 
 mod ahead;

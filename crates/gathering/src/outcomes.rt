@@ -33,7 +33,7 @@ pub struct StoredOutcomes<S> {
     pub solved: u64,
 }
 
-// written out, so that proofs of its owners stay short (docs/CHANGING.md)
+// written out, so that proofs of its owners stay short (docs/PROVING.md)
 impl<S: Drop> Drop for StoredOutcomes<S> {
     fn drop(self) {
         let StoredOutcomes {

@@ -62,7 +62,7 @@ pub struct Joiner {
     line: ProofLine,
 }
 
-// written out, so that proofs of its owners stay short (docs/CHANGING.md)
+// written out, so that proofs of its owners stay short (docs/PROVING.md)
 impl Drop for Joiner {
     fn drop(self) {
         let Joiner {

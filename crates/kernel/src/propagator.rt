@@ -51,7 +51,7 @@ pub struct Propagator {
     pub visits: u64,
 }
 
-// written out, so that proofs of its owners stay short (docs/CHANGING.md)
+// written out, so that proofs of its owners stay short (docs/PROVING.md)
 impl Drop for Propagator {
     fn drop(self) {
         let Propagator {

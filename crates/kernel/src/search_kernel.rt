@@ -58,7 +58,7 @@ pub struct SearchKernel {
     counts: Counts,
 }
 
-// written out, so that proofs of its owners stay short (docs/CHANGING.md)
+// written out, so that proofs of its owners stay short (docs/PROVING.md)
 impl Drop for SearchKernel {
     fn drop(self) {
         let SearchKernel {

@@ -34,7 +34,7 @@ pub struct Store {
     arranged: Clauses,
 }
 
-// written out, so that proofs of its owners stay short (docs/CHANGING.md)
+// written out, so that proofs of its owners stay short (docs/PROVING.md)
 impl Drop for Store {
     fn drop(self) {
         let Store {

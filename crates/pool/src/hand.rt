@@ -22,7 +22,7 @@ pub struct Hand {
     words: WordSeat,
 }
 
-// written out, so that proofs of its owners stay short (docs/CHANGING.md)
+// written out, so that proofs of its owners stay short (docs/PROVING.md)
 impl Drop for Hand {
     fn drop(self) {
         let Hand {

@@ -23,7 +23,7 @@ pub struct Diary {
     pub least: Option<u64>,
 }
 
-// written out, so that proofs of its owners stay short (docs/CHANGING.md)
+// written out, so that proofs of its owners stay short (docs/PROVING.md)
 impl Drop for Diary {
     fn drop(self) {
         let Diary {

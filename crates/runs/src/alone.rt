@@ -35,7 +35,7 @@ pub(crate) struct Output {
     pub(crate) answer: Vec<u8>,
 }
 
-// written out, so that proofs of its owners stay short (docs/CHANGING.md)
+// written out, so that proofs of its owners stay short (docs/PROVING.md)
 impl Drop for Output {
     fn drop(self) {
         let Output {

@@ -30,7 +30,7 @@ pub(crate) struct Part {
     failed: bool,
 }
 
-// written out, so that proofs of its owners stay short (docs/CHANGING.md)
+// written out, so that proofs of its owners stay short (docs/PROVING.md)
 impl Drop for Part {
     fn drop(self) {
         let Part {

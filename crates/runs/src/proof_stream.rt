@@ -25,7 +25,7 @@ pub(crate) struct ProofStream {
     write_failed: bool,
 }
 
-// written out, so that proofs of its owners stay short (docs/CHANGING.md)
+// written out, so that proofs of its owners stay short (docs/PROVING.md)
 impl Drop for ProofStream {
     fn drop(self) {
         let ProofStream {

@@ -63,7 +63,7 @@ struct BothHalves {
     let_go: Mark,
 }
 
-// written out, so that proofs of its owners stay short (docs/CHANGING.md)
+// written out, so that proofs of its owners stay short (docs/PROVING.md)
 impl Drop for BothHalves {
     fn drop(self) {
         let BothHalves {
@@ -106,7 +106,7 @@ struct RightFirst {
     let_go: Mark,
 }
 
-// written out, so that proofs of its owners stay short (docs/CHANGING.md)
+// written out, so that proofs of its owners stay short (docs/PROVING.md)
 impl Drop for RightFirst {
     fn drop(self) {
         let RightFirst {

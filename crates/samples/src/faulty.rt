@@ -112,7 +112,7 @@ pub struct Limited {
     pub refusals: usize,
 }
 
-// written out, so that proofs of its owners stay short (docs/CHANGING.md)
+// written out, so that proofs of its owners stay short (docs/PROVING.md)
 impl Drop for Limited {
     fn drop(self) {
         let Limited {

@@ -135,7 +135,7 @@ pub struct Fake<'a, R, C> {
     refused: Option<Call>,
 }
 
-// written out, so that proofs of its owners stay short (docs/CHANGING.md)
+// written out, so that proofs of its owners stay short (docs/PROVING.md)
 impl<R, C> Drop for Fake<'_, R, C> {
     fn drop(self) {
         let Fake {

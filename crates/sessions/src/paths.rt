@@ -18,7 +18,7 @@ pub struct Paths {
     pub missing: String,
 }
 
-// written out, so that proofs of its owners stay short (docs/CHANGING.md)
+// written out, so that proofs of its owners stay short (docs/PROVING.md)
 impl Drop for Paths {
     fn drop(self) {
         let Paths {
@@ -103,7 +103,7 @@ pub struct Parts {
     pub part: String,
 }
 
-// written out, so that proofs of its owners stay short (docs/CHANGING.md)
+// written out, so that proofs of its owners stay short (docs/PROVING.md)
 impl Drop for Parts {
     fn drop(self) {
         let Parts { paths: _, part: _ } = self;

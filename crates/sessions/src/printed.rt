@@ -10,7 +10,7 @@ pub struct Printed {
     pub faults: Vec<u8>,
 }
 
-// written out, so that proofs of its owners stay short (docs/CHANGING.md)
+// written out, so that proofs of its owners stay short (docs/PROVING.md)
 impl Drop for Printed {
     fn drop(self) {
         let Printed {

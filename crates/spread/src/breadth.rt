@@ -25,7 +25,7 @@ pub(crate) struct Division {
     pub(crate) has_model: bool,
 }
 
-// written out, so that proofs of its owners stay short (docs/CHANGING.md)
+// written out, so that proofs of its owners stay short (docs/PROVING.md)
 impl Drop for Division {
     fn drop(self) {
         let Division {

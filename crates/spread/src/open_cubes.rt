@@ -39,7 +39,7 @@ struct Tops {
     longest: usize,
 }
 
-// written out, so that proofs of its owners stay short (docs/CHANGING.md)
+// written out, so that proofs of its owners stay short (docs/PROVING.md)
 impl Drop for Tops {
     fn drop(self) {
         let Tops {
@@ -89,7 +89,7 @@ pub(crate) struct Words {
     by_cube: HashMap<Vec<Lit>, Word>,
 }
 
-// written out, so that proofs of its owners stay short (docs/CHANGING.md)
+// written out, so that proofs of its owners stay short (docs/PROVING.md)
 impl Drop for Words {
     fn drop(self) {
         let Words {

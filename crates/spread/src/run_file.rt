@@ -48,7 +48,7 @@ pub struct RunFile {
     pub sum: String,
 }
 
-// written out, so that proofs of its owners stay short (docs/CHANGING.md)
+// written out, so that proofs of its owners stay short (docs/PROVING.md)
 impl Drop for RunFile {
     fn drop(self) {
         let RunFile {

@@ -12,7 +12,7 @@ pub(crate) struct Place {
     pub(crate) part: String,
 }
 
-// written out, so that proofs of its owners stay short (docs/CHANGING.md)
+// written out, so that proofs of its owners stay short (docs/PROVING.md)
 impl Drop for Place {
     fn drop(self) {
         let Place {

@@ -28,7 +28,7 @@ fn goes_well<R: Files + AllocGlobal>(rt: &R, path: &str, trial: Trial) -> io::Re
 }
 
 /// Whether a trial goes well where this call is refused. All trials go through this function, since
-/// the proof of a call by such a system is long (docs/CHANGING.md).
+/// the proof of a call by such a system is long (docs/PROVING.md).
 fn goes_without<R: Files + AllocGlobal>(
     rt: &R,
     path: &str,
