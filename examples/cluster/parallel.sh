@@ -24,6 +24,7 @@ has_ended_well() { awk 'NR > 1 && $7 == 0 { found = 1 } END { exit !found }' "$r
 failed=0
 while true; do
     before=$(packs)
+    rm -f "$run/joblog.$round" # one of an earlier try would speak for a round that isn't begun
     # A part whose time is over has status 75, and leaves cubes for the next round: it isn't tried again.
     # One that failed on a machine is, on others; and what is left then is in the next round too.
     job="$(printf '%q ' "$program" conquer --round "$((10#$round))") --part {}/$parts --minutes $minutes --hands $hands $(printf '%q' "$run") || [ \$? = 75 ]"
