@@ -1,6 +1,7 @@
-"""The two searches, division by lookahead, the tree and the text of its proof, in the plainest form:
-without watches, a heap or marks. `bin/fuzz` compares what the program writes with it, byte for byte; docs/DEFINITIONS.md has
-the rules in words. Literals are whole numbers, as in DIMACS."""
+"""The two searches, division by lookahead, the tree and the text of its proof, the automatic search
+and its lowering of a model, in the plainest form: without watches, a heap or marks. `bin/fuzz`
+compares what the program writes with it, byte for byte; docs/DEFINITIONS.md has the rules in words.
+Literals are whole numbers, as in DIMACS."""
 import collections
 
 MAX_BUDGET = 1_000_000
@@ -11,7 +12,9 @@ GREATEST_STEP, DIVISOR = 2**40, 2**24
 WINDOW = 50
 FIRST_INTERVAL, INTERVAL_GAIN, KEPT_GLUE = 2000, 300, 2
 
-# into how many cubes the program divides a formula, where no number is given
+# the budgets of the two searches, and into how many cubes the program divides a formula, where no
+# number is given
+ORDERED_BUDGET, FOCUSED_BUDGET = 1000, 100_000
 DEFAULT_DIVIDE = 64
 # at this conflict the first search is asked whether the formula is divisible
 FIRST_CONFLICTS = 20_000
@@ -149,7 +152,7 @@ class Search(Trail):
 
     def __init__(self, variables, clauses, cube, budget):
         super().__init__(variables, clauses, cube)
-        self.lines, self.decisions = [], 0
+        self.lines, self.decisions, self.conflicts, self.restarts, self.forgettings = [], 0, 0, 0, 0
         self.outcome = None
         self.begin()
         while self.outcome is None:
@@ -165,6 +168,7 @@ class Search(Trail):
                 self.push(literal, None, self.level() + 1)
                 self.decisions += 1
             return
+        self.conflicts += 1
         clause, hints = self.learn(conflict)
         if self.level() == 0:
             self.outcome = ("refuted", [*self.lines, (clause, hints)])
@@ -213,7 +217,6 @@ class Focused(Search):
         self.saved = [False] * (self.variables + 1)
         self.glues, self.recent = [], []
         self.interval = self.next = FIRST_INTERVAL
-        self.restarts = self.forgettings = 0
 
     def best(self, variables):
         return max(variables, key=lambda it: (self.scores[it], it), default=None)
@@ -325,26 +328,38 @@ class Satisfied(Exception):
     """A cube has a model, whose literals these are."""
 
 
+def budget_of(budget, cube):
+    return min(budget * (len(cube) + 1), MAX_BUDGET)
+
+
+def first_clauses(variables, clauses):
+    """The clauses that each search begins with: those of the formula, and the units of its pure variables."""
+    positive = {it for clause in clauses for it in clause if it > 0}
+    return [*clauses, *([-it] for it in range(1, variables + 1) if it not in positive)]
+
+
+def values_of(literals):
+    return tuple(it > 0 for it in sorted(literals, key=abs))
+
+
 class Tree:
     """The tree of cubes and its proof, up to the first cube from the left that has a model. `model` is
     the values of the variables, or None; `proof` is empty where there is a model; `is_divided` says
     whether cubes were looked at. The ordered search divides no formula."""
 
     def __init__(self, variables, clauses, budget, search, divide):
-        positive = {it for clause in clauses for it in clause if it > 0}
-        pure = [-it for it in range(1, variables + 1) if it not in positive]
         self.variables, self.budget, self.search = variables, budget, SEARCHES[search]
         self.divide = divide if search == "focused" else 0
         self.is_divided = False
-        self.clauses = [*clauses, *([it] for it in pure)]
-        self.text = [f"{len(clauses) + at} {it} 0 0\n" for at, it in enumerate(pure, 1)]
+        self.clauses = first_clauses(variables, clauses)
+        self.text = [f"{at} {unit[0]} 0 0\n" for at, unit in enumerate(self.clauses, 1) if at > len(clauses)]
         self.last = len(self.clauses)
         self.searched = []
         try:
             self.cube([])
             self.model, self.proof = None, "".join(self.text)
         except Satisfied as satisfied:
-            self.model, self.proof = tuple(it > 0 for it in sorted(satisfied.args[0], key=abs)), ""
+            self.model, self.proof = values_of(satisfied.args[0]), ""
 
     def add(self, literals, hints):
         self.last += 1
@@ -360,7 +375,7 @@ class Tree:
         if self.is_divided and 2 ** len(cube) < self.divide:
             return Look(self.variables, self.clauses, cube).outcome
         search = First if not cube and self.divide >= 2 else self.search
-        self.searched.append(search(self.variables, self.clauses, cube, min(self.budget * (len(cube) + 1), MAX_BUDGET)))
+        self.searched.append(search(self.variables, self.clauses, cube, budget_of(self.budget, cube)))
         if self.searched[-1].outcome[0] == "divisible":
             self.is_divided = True
             return self.outcome(cube)
@@ -382,3 +397,55 @@ class Tree:
                 self.add([*clause, *denied], [it if it <= count else first + it - count - 1 for it in hints])
             self.delete(cube, list(range(first, self.last)))
         return self.last
+
+
+class Lowering:
+    """From a model to the first one. The cubes of questions are searched by the focused search,
+    undivided. `model` is the first model; `questions` says of each question whether it had a model."""
+
+    def __init__(self, variables, clauses, budget, model):
+        self.variables, self.clauses, self.budget = variables, first_clauses(variables, clauses), budget
+        self.model, self.questions, self.conflicts = model, [], 0
+        prefix = []
+        for it in range(1, variables + 1):
+            if not self.follows(prefix, it):
+                prefix.append(it if self.model[it - 1] and not self.lowers([*prefix, -it]) else -it)
+
+    def follows(self, prefix, variable):
+        """Whether the variable has a value once propagation from the prefix has come to rest."""
+        trail = Trail(self.variables, self.clauses, prefix)
+        trail.propagate()
+        return variable in trail.entry
+
+    def lowers(self, cube):
+        """A question: whether there is a model in the cube, which then is the one at hand."""
+        found = self.model_in(cube)
+        self.questions.append(found is not None)
+        if found is not None:
+            self.model = found
+        return self.questions[-1]
+
+    def model_in(self, cube):
+        search = Focused(self.variables, self.clauses, cube, budget_of(self.budget, cube))
+        self.conflicts += search.conflicts
+        kind, found = search.outcome
+        if kind == "exhausted":
+            return self.model_in([*cube, -found]) or self.model_in([*cube, found])
+        return values_of(found) if kind == "model" else None
+
+
+class Automatic:
+    """The automatic search: the ordered search of the cube without literals with so many conflicts,
+    and where they are used up the focused search by this plan. `tree` is that of the plan that
+    decides, `lowering` that of its model, or None where there is no lowering."""
+
+    def __init__(self, variables, clauses, first, divide, is_any_model, budget=FOCUSED_BUDGET):
+        self.first = Ordered(variables, first_clauses(variables, clauses), [], first)
+        self.is_decided = self.first.outcome[0] != "exhausted"
+        plan = (first, "ordered", 0) if self.is_decided else (budget, "focused", divide)
+        self.tree = Tree(variables, clauses, *plan)
+        self.model, self.proof = self.tree.model, self.tree.proof
+        self.is_divided, self.searched, self.lowering = self.tree.is_divided, self.tree.searched, None
+        if not (self.is_decided or self.model is None or is_any_model):
+            self.lowering = Lowering(variables, clauses, budget, self.model)
+            self.model = self.lowering.model

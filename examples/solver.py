@@ -49,7 +49,7 @@ def program():
     return found
 
 
-def solve(formula, *, search="ordered", refuted=None):
+def solve(formula, *, search="automatic", refuted=None):
     """The names that are true in the model that the search finds, or None where there is none. What
     that means, where it is given, is printed: the proof was checked."""
     try:

@@ -66,9 +66,10 @@ def solve(
     clauses: Iterable[Iterable[int]],
     *,
     variables: int | None = None,
-    search: str = "ordered",
+    search: str | None = None,
     budget: int | None = None,
     divide: int | None = None,
+    any_model: bool = False,
     hands: int = 1,
     seconds: int | None = None,
     large: bool = False,
@@ -82,14 +83,19 @@ def solve(
     `cubesat check` accepted the proof.
 
     variables: how many there are; without it, up to the greatest that a clause has
-    search:    "ordered" gives the first model in the order of assignments, false before true and the
-               least variable first; "focused" gives one of several, and decides most large formulas
-               sooner
+    search:    "automatic", "ordered" or "focused"; without it automatic, or ordered where a budget is
+               given. "ordered" gives the first model in the order of assignments, false before true
+               and the least variable first; "focused" gives one of several, and decides most large
+               formulas sooner. "automatic" makes the ordered search with few conflicts, then the
+               focused one, and lowers the model that this finds to the first one
     budget:    conflicts of the first cube, 1 to 100,000; without it 1000 for "ordered", and 100,000
-               for "focused". Another budget gives another proof, and by "focused" maybe another model
-    divide:    by "focused", cubes into which a formula is divided first, if its first conflicts tell
-               that this helps, 0 to 65,536; without it 64, and 0 and 1 divide none. Another number
-               may give another proof and another model. "ordered" takes none
+               for "focused"; for "automatic" those of the ordered search, 1000. Another budget gives
+               another proof, and by "focused" maybe another model
+    divide:    cubes into which the focused search divides a formula first, if its first conflicts
+               tell that this helps, 0 to 65,536; without it 64, and 0 and 1 divide none. Another
+               number may give another proof and another model. "ordered" takes none
+    any_model: whether "automatic" may answer the model that the focused search finds, which spares the
+               time of lowering it
     hands:     threads, 1 to 16; they change neither the answer nor the proof
     seconds:   after how many the search is given up, with OutOfTime; without it, never
     large:     whether the formula may have up to 100,000,000 variables, 1,000,000,000 clauses and
@@ -108,8 +114,10 @@ def solve(
         written = os.path.join(folder, "proof.lrat") if proof is None else os.path.abspath(proof)
         with open(formula, "w") as file:
             file.write(text)
-        options = ["--search", search, "--hands", str(hands)] + ([] if budget is None else ["--budget", str(budget)])
+        options = ["--hands", str(hands)] + ([] if search is None else ["--search", search])
+        options += [] if budget is None else ["--budget", str(budget)]
         options += [] if divide is None else ["--divide", str(divide)]
+        options += ["--any-model"] if any_model else []
         options += [] if seconds is None else ["--seconds", str(seconds)]
         options += ["--large"] if large else []
         options += ["--proof", written] if check or proof is not None else []

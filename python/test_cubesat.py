@@ -24,6 +24,8 @@ def pigeons(count):
 PIGEONS = pigeons(3)
 # Its models are those in which 1 differs from 2 and 2 from 3.
 ALTERNATING = [[1, 2], [-1, -2], [2, 3], [-2, -3]]
+# 1 is true in each model, which takes a conflict to find; one of 4 and 5 is true
+FORCED = [[1, 2, 3], [1, 2, -3], [1, -2, 3], [1, -2, -3], [4, 5]]
 
 FIRST_MODELS = [
     ("alternating", ALTERNATING, None, [-1, 2, -3]),
@@ -85,6 +87,21 @@ class Answers(InFolder):
             with self.subTest(f"budget {budget}, hands {hands}"):
                 self.assertEqual(cubesat.solve(ALTERNATING, budget=budget, hands=hands), [-1, 2, -3])
                 self.assertIsNone(cubesat.solve(PIGEONS, budget=budget, hands=hands))
+
+    def test_automatic_search_gives_the_first_model(self):
+        """One conflict isn't enough for the search that is made first."""
+        for options in ({}, {"search": "automatic"}, {"search": "automatic", "budget": 1}, {"search": "automatic", "budget": 1, "hands": 4, "divide": 0}):
+            with self.subTest(options):
+                self.assertEqual(cubesat.solve(FORCED, **options), [1, -2, -3, -4, 5])
+                self.assertIsNone(cubesat.solve(PIGEONS, **options))
+
+    def test_any_model(self):
+        for options in ({}, {"budget": 1}, {"search": "automatic", "budget": 1}, {"search": "focused"}, {"search": "ordered"}):
+            with self.subTest(options):
+                model = cubesat.solve(FORCED, any_model=True, **options)
+                self.assertEqual([*map(abs, model)], [1, 2, 3, 4, 5])
+                self.assertTrue(all({*clause} & {*model} for clause in FORCED))
+                self.assertIsNone(cubesat.solve(PIGEONS, any_model=True, **options))
 
     def test_focused_search_finds_a_model_or_none(self):
         self.assertIn(cubesat.solve(ALTERNATING, search="focused"), ([-1, 2, -3], [1, -2, 3]))
@@ -161,12 +178,12 @@ class Refusals(InFolder):
         self.assertEqual(str(caught.exception), f"fault 56\n{words}")
 
     def test_out_of_time(self):
-        """Thirteen pigeons in twelve holes take hours, by either search. The proof that was there stays."""
+        """Thirteen pigeons in twelve holes take hours, by each search. The proof that was there stays."""
         hard = pigeons(13)
         proof = os.path.join(self.folder, "f.lrat")
         with open(proof, "w") as file:
             file.write("old\n")
-        for options in ({}, {"search": "focused"}, {"hands": 4, "budget": 10}):
+        for options in ({}, {"search": "ordered"}, {"search": "focused"}, {"hands": 4, "budget": 10}):
             with self.subTest(options), self.assertRaises(cubesat.OutOfTime):
                 cubesat.solve(hard, seconds=1, proof=proof, **options)
             self.assertEqual(os.listdir(self.folder), ["f.lrat"])
@@ -175,7 +192,8 @@ class Refusals(InFolder):
 
     def test_options_out_of_range_are_a_fault(self):
         bad = [{"seconds": 0}, {"hands": 0}, {"hands": 17}, {"budget": 0}, {"budget": 100_001}, {"search": "x"}]
-        bad += [{"search": "focused", "divide": 65_537}, {"search": "focused", "divide": -1}, {"divide": 2}]
+        bad += [{"divide": 65_537}, {"search": "focused", "divide": -1}, {"search": "ordered", "divide": 2}, {"budget": 1, "divide": 2}]
+        bad += [{"search": "automatic", "budget": 100_001}]
         for options in bad:
             with self.subTest(options), self.assertRaises(cubesat.Fault):
                 cubesat.solve(ALTERNATING, **options)

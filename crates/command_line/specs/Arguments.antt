@@ -1,19 +1,33 @@
--- The plan that the command line asks for.
-use Rattle.std.specs.Prelude.{ℕ, Option, unwrap_or}
+-- The plan and the strategy that the command line asks for.
+use Rattle.std.specs.Prelude.{ℕ, Bool, true, false, Option, Some, unwrap_or, if◌then◌else◌}
 use Rattle.theory.specs.Plans.{Plan, default_constants}
 use Rattle.cdcl.specs.declared.plan.Search.{Search}
-use Rattle.cdcl.specs.declared.plan.Search.TheVariants.{Ordered, Focused}
+use Rattle.cdcl.specs.declared.plan.Search.TheVariants as search
 use Rattle.cdcl.specs.Plans.{search_of}
+use Rattle.strategies.specs.Strategies.{Strategy, by_plan}
+use Rattle.command_line.specs.declared.effort.Choice.{Choice}
+use Rattle.command_line.specs.declared.effort.Choice.TheVariants.{Automatic, Ordered, Focused}
 
 -- how many cubes are wanted, where this number is asked for, or none is
 abbrev pub cubes_wanted : Search → Option ℕ → ℕ
-cubes_wanted Ordered divide = 0
-cubes_wanted Focused divide = unwrap_or divide 64
+cubes_wanted search.Ordered divide = 0
+cubes_wanted search.Focused divide = unwrap_or divide 64
 
 -- the plan that is asked for
 abbrev pub plan_asked : Search → ℕ → Option ℕ → Plan
-plan_asked search budget divide = record {
-  search = search_of search default_constants;
+plan_asked s budget divide = record {
+  search = search_of s default_constants;
   budget = budget;
-  divide = cubes_wanted search divide;
+  divide = cubes_wanted s divide;
 }
+
+-- the strategy that is asked for, where any model will do or not: with the automatic choice the
+-- ordered search has this budget, and the focused one behind it has its own
+abbrev pub strategy_asked : Choice → ℕ → Option ℕ → Bool → Strategy
+strategy_asked Automatic budget divide any_model = record {
+  first = Some budget;
+  plan = plan_asked search.Focused 100000 divide;
+  lowers = if any_model then false else true;
+}
+strategy_asked Ordered budget divide any_model = by_plan (plan_asked search.Ordered budget divide)
+strategy_asked Focused budget divide any_model = by_plan (plan_asked search.Focused budget divide)

@@ -1,2 +1,2 @@
--- The plan that the command line asks for.
+-- The plan and the strategy that the command line asks for.
 pub mod Arguments

@@ -1,12 +1,11 @@
 //! The command line.
 
-use crate::effort::Asked;
+use crate::effort::{Asked, Choice, FOCUSED_BUDGET};
 use crate::refusals::refusal_of;
 use crate::spread_arguments::{
     Spread, conquer_command, conquer_request, divide_command, divide_request, gather_command,
     gather_request,
 };
-use cdcl::Search;
 use clap::error::ErrorKind;
 use clap::{Arg, ArgAction, ArgMatches, Command, Error};
 use cnf::Limits;
@@ -18,11 +17,8 @@ pub const STANDARD_INPUT: &str = "-";
 /// The largest budget.
 pub const MAX_BUDGET: u32 = 100_000;
 
-/// The budget of the ordered search, where none is asked for.
+/// The budget of the ordered search, where none is asked for, also where it is tried first.
 const ORDERED_BUDGET: u32 = 1000;
-
-/// That of the focused search. It loses more by a split, since both halves begin from nothing.
-const FOCUSED_BUDGET: u32 = 100_000;
 
 /// The most cubes that a formula may be divided into.
 pub const MAX_DIVIDE: u32 = 65_536;
@@ -31,7 +27,10 @@ pub const MAX_DIVIDE: u32 = 65_536;
 const MAX_HANDS: u32 = 16;
 
 /// The names of the searches.
-static SEARCHES: [&str; 2] = ["ordered", "focused"];
+static SEARCHES: [&str; 3] = ["automatic", "ordered", "focused"];
+
+const ANY_MODEL: &str =
+    "Answer the model that is found, where the automatic search would go on to the first one";
 
 const SOLVE_LARGE: &str =
     "Read a formula of up to 100,000,000 variables and 1,000,000,000 clauses, by no fixed limit less";
@@ -107,9 +106,8 @@ pub(crate) fn search_option<'a>(alloc: Global) -> Arg<'a> {
         .long("search")
         .value_name("NAME")
         .value_parser(SEARCHES.as_slice())
-        .default_value("ordered")
         .help(
-            "Ordered gives the first model; focused gives one of several, and decides most large formulas sooner",
+            "Automatic tries the ordered search first, then the focused one, and gives the first model; ordered gives the first model; focused gives one of several, and decides most large formulas sooner [default: automatic, or ordered where a budget is given]",
         )
 }
 
@@ -119,7 +117,7 @@ pub(crate) fn budget_option<'a>(alloc: Global) -> Arg<'a> {
         .value_name("N")
         .value_parser(clap::value_parser!(u32).range(1..=100_000))
         .help(
-            "Conflicts that the first cube may have before it is split, 1 to 100000; a cube of d literals has d + 1 times as many, at most 1000000 [default: 1000 with the ordered search, 100000 with the focused one]",
+            "Conflicts that the first cube may have before it is split, 1 to 100000; a cube of d literals has d + 1 times as many, at most 1000000; with the automatic search, those of the ordered search that it tries first [default: 1000, or 100000 with the focused search]",
         )
 }
 
@@ -131,6 +129,10 @@ fn divide_option<'a>(alloc: Global) -> Arg<'a> {
         .help(
             "Cubes into which the focused search divides a formula first, if its first conflicts tell that this helps, 0 to 65536; 0 and 1 divide none [default: 64 with the focused search, 0 with the ordered one]",
         )
+}
+
+pub(crate) fn any_model_flag<'a>(alloc: Global) -> Arg<'a> {
+    flag(alloc, "any-model", ANY_MODEL)
 }
 
 fn hands_option<'a>(alloc: Global) -> Arg<'a> {
@@ -170,6 +172,7 @@ fn with_search<'a>(alloc: Global, command: Command<'a>) -> Result<Command<'a>, A
         .arg(search_option(alloc))?
         .arg(budget_option(alloc))?
         .arg(divide_option(alloc))?
+        .arg(any_model_flag(alloc))?
         .arg(hands_option(alloc))?
         .arg(seconds_option(alloc))?
         .arg(proof_option(alloc))
@@ -229,16 +232,16 @@ fn explain_command<'a>(alloc: Global) -> Result<Command<'a>, AllocError> {
 
 /// The version, and the logic in which the program is proved. Several kits have one logic; README
 /// names the one that proved this version last.
-const VERSION: &str = "0.4.0 (logic dac8208d650f15bf)";
+const VERSION: &str = "0.5.0 (logic dac8208d650f15bf)";
 
 const EXAMPLES: &str = "Examples:
   cubesat solve --proof f.lrat f.cnf                     decide f.cnf, with its first model
-  cubesat solve --search focused --proof f.lrat f.cnf    mostly sooner, with one of its models
-  cubesat solve --search focused --hands 4 f.cnf         the same bytes as with one, by four threads
+  cubesat solve --any-model --proof f.lrat f.cnf         sooner, with one of its models
+  cubesat solve --hands 4 f.cnf                          the same bytes as with one, by four threads
   cubesat solve --stats --proof f.lrat f.cnf             and what it took
   xz -dc f.cnf.xz | cubesat solve -                      standard input, and no proof
   cubesat check f.cnf f.lrat                             check the proof
-  cubesat divide --into RUN --search focused f.cnf       begin a run on many machines
+  cubesat divide --into RUN f.cnf                        begin a run on many machines
   cubesat explain 51 5                                   what `fault 51: refusal 5` means";
 
 /// The command with a subcommand, if there was memory for that one.
@@ -264,13 +267,26 @@ fn whole_command<'a>(alloc: Global) -> Result<Command<'a>, AllocError> {
     with_subcommand(command, explain_command(alloc))
 }
 
-/// The search of this name.
-pub(crate) fn search_named(name: &str) -> Option<Search> {
+/// The choice of this name.
+fn choice_named(name: &str) -> Option<Choice> {
     match name {
-        "ordered" => Some(Search::Ordered),
-        "focused" => Some(Search::Focused),
+        "automatic" => Some(Choice::Automatic),
+        "ordered" => Some(Choice::Ordered),
+        "focused" => Some(Choice::Focused),
         _ => None,
     }
+}
+
+/// How a formula is to be decided, and the budget. Where a budget is named and no search, it is the
+/// ordered search.
+pub(crate) fn choice_in(matches: &ArgMatches<'_>) -> Option<(Choice, u32)> {
+    let budget = matches.get_one::<u32>("budget");
+    let choice = match matches.get_str("search") {
+        Some(name) => choice_named(name)?,
+        None if budget.is_some() => Choice::Ordered,
+        None => Choice::Automatic,
+    };
+    Some((choice, budget.unwrap_or(default_budget(choice))))
 }
 
 /// How large the formula and the proof may be.
@@ -283,10 +299,10 @@ pub(crate) fn limits_of(matches: &ArgMatches<'_>) -> Limits {
 }
 
 /// The budget of the root where none is asked for.
-pub(crate) fn default_budget(search: Search) -> u32 {
-    match search {
-        Search::Ordered => ORDERED_BUDGET,
-        Search::Focused => FOCUSED_BUDGET,
+fn default_budget(choice: Choice) -> u32 {
+    match choice {
+        Choice::Automatic | Choice::Ordered => ORDERED_BUDGET,
+        Choice::Focused => FOCUSED_BUDGET,
     }
 }
 
@@ -302,11 +318,7 @@ fn shown_of(matches: &ArgMatches<'_>) -> Shown {
 /// How a formula is to be solved. The command has been built so that each value is there and in its
 /// range; this is tested again, since no clause of the parser's says it of a subcommand.
 fn asked_in(matches: &ArgMatches<'_>) -> Option<Asked> {
-    let search = search_named(matches.get_str("search")?)?;
-    let budget = match matches.get_one::<u32>("budget") {
-        Some(budget) => budget,
-        None => default_budget(search),
-    };
+    let (choice, budget) = choice_in(matches)?;
     let divide = match matches.get_one::<u32>("divide") {
         Some(cubes) if cubes > MAX_DIVIDE => return None,
         divide => divide,
@@ -316,9 +328,10 @@ fn asked_in(matches: &ArgMatches<'_>) -> Option<Asked> {
         return None;
     }
     Some(Asked {
-        search,
+        choice,
         budget,
         divide,
+        any_model: matches.get_flag("any-model"),
         hands: hands as usize,
         seconds: matches.get_one::<u32>("seconds"),
         limits: limits_of(matches),

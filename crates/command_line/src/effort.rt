@@ -1,22 +1,39 @@
 //! How a formula is to be solved: as the command line says, and as a run takes it.
 ghost use Rattle.std.specs.Prelude.{◌≡◌, ◌≤◌, IfSome};
 ghost use Rattle.std.proofs.Props.{props};
-ghost use Rattle.command_line.specs.Arguments.{plan_asked};
+ghost use Rattle.command_line.specs.Arguments.{plan_asked, strategy_asked};
 
 use cdcl::{Plan, Search};
 use cnf::Limits;
+use strategies::Strategy;
+
+/// The budget of the focused search, where none is asked for. It loses more by a split than the
+/// ordered one, since both halves begin from nothing.
+pub(crate) const FOCUSED_BUDGET: u32 = 100_000;
 
 /// Into how many cubes the focused search divides a formula, where no number is asked for.
 const FOCUSED_DIVIDE: u32 = 64;
 
+/// By which search a formula is to be decided.
+#[derive(Clone, Copy, Debug, PartialEq, Eq)]
+pub enum Choice {
+    /// The ordered one is tried first, then the focused one; the answer is the first model.
+    Automatic,
+    Ordered,
+    Focused,
+}
+
 /// What the command line says.
 #[derive(Clone, Copy)]
 pub struct Asked {
-    pub search: Search,
-    /// The budget of the root, 1 to 100,000 conflicts.
+    pub choice: Choice,
+    /// The budget of the root, 1 to 100,000 conflicts; with the automatic choice that of the ordered
+    /// search which is tried first.
     pub budget: u32,
     /// Into how many cubes the formula is to be divided, 0 to 65,536, if that is asked for.
     pub divide: Option<u32>,
+    /// Whether any model will do where the automatic choice would give the first one.
+    pub any_model: bool,
     /// How many hands solve it, 1 to 16.
     pub hands: usize,
     /// After how many seconds a run ends without a verdict, if it isn't solved by then.
@@ -29,7 +46,7 @@ pub struct Asked {
 #[derive(Clone, Copy)]
 pub struct Effort {
     pub limits: Limits,
-    pub plan: Plan,
+    pub strategy: Strategy,
     /// How many hands solve it, 1 to 16.
     pub hands: usize,
     /// After how many seconds a run ends without a verdict, if it isn't solved by then.
@@ -39,7 +56,7 @@ pub struct Effort {
 
 /// The plan that is asked for: a search, with this budget for the root, and for the focused one into
 /// how many cubes a formula is divided, if a number is given.
-pub fn plan_of(search: Search, budget: u32, divide: Option<u32>) -> Plan
+fn plan_of(search: Search, budget: u32, divide: Option<u32>) -> Plan
     requires { (1 ≤ budget) × (budget ≤ 100000) × IfSome divide (λ cubes. cubes ≤ 65536) }
     ensures { result ≡ plan_asked search budget divide }
 {
@@ -49,17 +66,43 @@ pub fn plan_of(search: Search, budget: u32, divide: Option<u32>) -> Plan
     }
 }
 
+/// The ordered search with this budget, and behind it the focused one with its own.
+fn automatic(budget: u32, divide: Option<u32>, any_model: bool) -> Strategy
+    requires { (1 ≤ budget) × (budget ≤ 100000) × IfSome divide (λ cubes. cubes ≤ 65536) }
+    ensures { result ≡ strategy_asked Choice.Automatic budget divide any_model }
+{
+    let plan = plan_of(Search::Focused, FOCUSED_BUDGET, divide);
+    let strategy = Strategy::automatic(budget, plan);
+    if any_model {
+        strategy.with_any_model()
+    } else {
+        strategy
+    }
+}
+
+/// The strategy that is asked for.
+pub fn strategy_of(choice: Choice, budget: u32, divide: Option<u32>, any_model: bool) -> Strategy
+    requires { (1 ≤ budget) × (budget ≤ 100000) × IfSome divide (λ cubes. cubes ≤ 65536) }
+    ensures { result ≡ strategy_asked choice budget divide any_model }
+{
+    match choice {
+        Choice::Automatic => automatic(budget, divide, any_model),
+        Choice::Ordered => Strategy::of(plan_of(Search::Ordered, budget, divide)),
+        Choice::Focused => Strategy::of(plan_of(Search::Focused, budget, divide)),
+    }
+}
+
 impl Asked {
     /// What a run takes that does what is asked for.
     pub fn effort(self) -> Effort
-        ensures plan { result.plan ≡ plan_asked self.search self.budget self.divide }
+        ensures strategy { result.strategy ≡ strategy_asked self.choice self.budget self.divide self.any_model }
         ensures hands { result.hands ≡ self.hands }
         ensures seconds { result.seconds ≡ self.seconds }
         ensures limits { result.limits ≡ self.limits }
     {
         Effort {
             limits: self.limits,
-            plan: plan_of(self.search, self.budget, self.divide),
+            strategy: strategy_of(self.choice, self.budget, self.divide, self.any_model),
             hands: self.hands,
             seconds: self.seconds,
         }

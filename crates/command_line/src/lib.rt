@@ -7,5 +7,5 @@ mod refusals;
 mod spread_arguments;
 
 pub use arguments::{MAX_BUDGET, MAX_DIVIDE, Request, STANDARD_INPUT, Shown, request_of};
-pub use effort::{Asked, Effort, plan_of};
+pub use effort::{Asked, Choice, Effort, strategy_of};
 pub use spread_arguments::{Part, Spread};

@@ -1,16 +1,15 @@
 //! Command lines that are refused, though each of their words is right by itself.
 
 use crate::arguments::{Request, STANDARD_INPUT};
-use crate::effort::Asked;
+use crate::effort::{Asked, Choice};
 use crate::spread_arguments::Spread;
-use cdcl::Search;
 
 /// Why a request is refused, if it is. `-` is the name of standard input, and of standard output.
 pub(crate) fn refusal_of(request: &Request) -> Option<&'static str> {
     match request {
         Request::Solve {
             asked: Asked {
-                search: Search::Ordered,
+                choice: Choice::Ordered,
                 divide: Some(_),
                 ..
             },

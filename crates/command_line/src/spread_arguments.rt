@@ -1,9 +1,9 @@
 //! The command lines of runs that are spread over machines.
 
 use crate::arguments::{
-    budget_option, default_budget, flag, limits_of, search_named, search_option, word,
+    any_model_flag, budget_option, choice_in, flag, limits_of, search_option, word,
 };
-use cdcl::Search;
+use crate::effort::Choice;
 use clap::{Arg, ArgMatches, Command};
 use cnf::Limits;
 use std::alloc::{AllocError, Global};
@@ -20,9 +20,12 @@ pub enum Spread<'a> {
     Begin {
         into: &'a str,
         formula: &'a str,
-        search: Search,
-        /// The budget of the root, 1 to 100,000 conflicts.
+        choice: Choice,
+        /// The budget of the root, 1 to 100,000 conflicts; with the automatic choice that of the
+        /// ordered search which is tried first.
         budget: u32,
+        /// Whether any model will do where the automatic choice would give the first one.
+        any_model: bool,
         limits: Limits,
         /// How many cubes are to be open, at least: 1 to 65,536.
         wanted: u32,
@@ -124,6 +127,7 @@ pub(crate) fn divide_command<'a>(alloc: Global) -> Result<Command<'a>, AllocErro
         .arg(search_option(alloc))?
         .arg(budget_option(alloc))?
         .arg(wanted_option(alloc))?
+        .arg(any_model_flag(alloc))?
         .arg(flag(alloc, "large", LARGE))?
         .arg(formula_word(alloc))
 }
@@ -158,16 +162,13 @@ pub(crate) fn divide_request<'a>(matches: &ArgMatches<'a>) -> Option<Spread<'a>>
     let Some(formula) = matches.get_str("FORMULA") else {
         return Some(Spread::Next { into });
     };
-    let search = search_named(matches.get_str("search")?)?;
-    let budget = match matches.get_one::<u32>("budget") {
-        Some(budget) => budget,
-        None => default_budget(search),
-    };
+    let (choice, budget) = choice_in(matches)?;
     Some(Spread::Begin {
         into,
         formula,
-        search,
+        choice,
         budget,
+        any_model: matches.get_flag("any-model"),
         limits: limits_of(matches),
         wanted: matches.get_one::<u32>("divide")?,
     })

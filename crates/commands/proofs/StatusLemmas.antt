@@ -3,7 +3,7 @@ use Rattle.std.proofs.Common.{◌≡◌, ℕ, List, Option, Some, None, Result, 
 use Rattle.std.specs.Prelude.{option_map}
 use Rattle.std.specs.Option.{option_copied_mut}
 use Rattle.theory.specs.Reading.{Limits}
-use Rattle.theory.specs.Plans.{Plan}
+use Rattle.strategies.specs.Strategies.{Strategy, search_by}
 use Rattle.theory.specs.Truth as truth
 use Rattle.theory.specs.ProofReading.{ProofReading, ProofReadsWithin, steps, line_fault, too_long}
 use Rattle.theory.specs.Checking.{checks, accepted, refused, no_empty_clause}
@@ -25,20 +25,20 @@ use Rattle.commands.specs.CheckStatus.{IsProofOf, AreRead, IsCheckEnd}
 use Rattle.commands.specs.Ends.{end_of}
 
 -- an answer with its proof, and one without
-both-answers : (L : Limits) (known : Option (List ℕ)) (plan : Plan) (p q a b : Option (List ℕ)) (verdict : Verdict) → WritesBoth L known plan p q a b verdict → Answers L plan.search known a b verdict
-both-answers L known plan p q a b verdict w = record {
+both-answers : (L : Limits) (known : Option (List ℕ)) (strategy : Strategy) (p q a b : Option (List ℕ)) (verdict : Verdict) → WritesBoth L known strategy p q a b verdict → Answers L (search_by strategy) known a b verdict
+both-answers L known strategy p q a b verdict w = record {
   bytes = w.run.bytes;
   are = w.run.are;
   value = w.run.value;
   reads = w.run.reads;
   proof = w.proof;
   answer = w.answer;
-  right = texts-right L w.run.value plan verdict w.proof w.answer w.run.texts;
+  right = texts-right L w.run.value strategy verdict w.proof w.answer w.run.texts;
   written = w.answer_written;
 }
 
-alone-answers : (L : Limits) (known : Option (List ℕ)) (plan : Plan) (a b : Option (List ℕ)) (verdict : Verdict) → WritesAnswer L known plan a b verdict → Answers L plan.search known a b verdict
-alone-answers L known plan a b verdict w = record {
+alone-answers : (L : Limits) (known : Option (List ℕ)) (strategy : Strategy) (a b : Option (List ℕ)) (verdict : Verdict) → WritesAnswer L known strategy a b verdict → Answers L (search_by strategy) known a b verdict
+alone-answers L known strategy a b verdict w = record {
   bytes = w.is_answer.run.bytes;
   are = w.is_answer.run.are;
   value = w.is_answer.run.value;
@@ -49,22 +49,22 @@ alone-answers L known plan a b verdict w = record {
   written = w.written;
 }
 
-verdict-answers : (L : Limits) (limited : Type 0) (known : Option (List ℕ)) (plan : Plan) (p : Option (Option (List ℕ))) (a b : Option (List ℕ)) (verdict : Verdict)
-    → LimitedSays L limited known plan p a b (Ok (Some verdict)) → Answers L plan.search known a b verdict
-verdict-answers L limited known plan None a b verdict says = alone-answers L known plan a b verdict says
-verdict-answers L limited known plan (Some p) a b verdict says = both-answers L known plan p says.0 a b verdict says.1
+verdict-answers : (L : Limits) (limited : Type 0) (known : Option (List ℕ)) (strategy : Strategy) (p : Option (Option (List ℕ))) (a b : Option (List ℕ)) (verdict : Verdict)
+    → LimitedSays L limited known strategy p a b (Ok (Some verdict)) → Answers L (search_by strategy) known a b verdict
+verdict-answers L limited known strategy None a b verdict says = alone-answers L known strategy a b verdict says
+verdict-answers L limited known strategy (Some p) a b verdict says = both-answers L known strategy p says.0 a b verdict says.1
 
-unknown-status : (L : Limits) (limited : Type 0) (known : Option (List ℕ)) (plan : Plan) (p : Option (Option (List ℕ))) (a b : Option (List ℕ))
-    → LimitedSays L limited known plan p a b (Ok None) → IsSolveStatus L limited plan.search known a b 0
-unknown-status L limited known plan None a b says = inr (inr (inl (refl, says.0, says.1)))
-unknown-status L limited known plan (Some p) a b says = inr (inr (inl (refl, says.1.0, says.1.2)))
+unknown-status : (L : Limits) (limited : Type 0) (known : Option (List ℕ)) (strategy : Strategy) (p : Option (Option (List ℕ))) (a b : Option (List ℕ))
+    → LimitedSays L limited known strategy p a b (Ok None) → IsSolveStatus L limited (search_by strategy) known a b 0
+unknown-status L limited known strategy None a b says = inr (inr (inl (refl, says.0, says.1)))
+unknown-status L limited known strategy (Some p) a b says = inr (inr (inl (refl, says.1.0, says.1.2)))
 
-pub solve-status : (L : Limits) (limited : Type 0) (known : Option (List ℕ)) (plan : Plan) (p : Option (Option (List ℕ))) (a b : Option (List ℕ)) (r : Result (Option Verdict) RunFault)
-    → LimitedSays L limited known plan p a b r → IsSolveStatus L limited plan.search known a b (solve_status r)
-solve-status L limited known plan p a b (Ok (Some Satisfiable)) says = inl (refl, verdict-answers L limited known plan p a b Satisfiable says)
-solve-status L limited known plan p a b (Ok (Some Unsatisfiable)) says = inr (inl (refl, verdict-answers L limited known plan p a b Unsatisfiable says))
-solve-status L limited known plan p a b (Ok None) says = unknown-status L limited known plan p a b says
-solve-status L limited known plan p a b (Err fault) says = inr (inr (inr refl))
+pub solve-status : (L : Limits) (limited : Type 0) (known : Option (List ℕ)) (strategy : Strategy) (p : Option (Option (List ℕ))) (a b : Option (List ℕ)) (r : Result (Option Verdict) RunFault)
+    → LimitedSays L limited known strategy p a b r → IsSolveStatus L limited (search_by strategy) known a b (solve_status r)
+solve-status L limited known strategy p a b (Ok (Some Satisfiable)) says = inl (refl, verdict-answers L limited known strategy p a b Satisfiable says)
+solve-status L limited known strategy p a b (Ok (Some Unsatisfiable)) says = inr (inl (refl, verdict-answers L limited known strategy p a b Unsatisfiable says))
+solve-status L limited known strategy p a b (Ok None) says = unknown-status L limited known strategy p a b says
+solve-status L limited known strategy p a b (Err fault) says = inr (inr (inr refl))
 
 -- what a writer holds that is lent, if there is one
 lent : {T : Type 0} (f : T → Option (List ℕ)) (o : Option (MutBor T)) → option_map (λ r. f r.now) o ≡ option_map f (option_copied_mut o)
@@ -75,9 +75,9 @@ pub held-lent : {T : Type 0} (f : T → Option (List ℕ)) (o : Option (MutBor T
 held-lent f o x p same held = lent f o ∙ ap (option_map f) same ∙ held
 
 -- what a run said that was passed a reader and writers with the bytes of others
-pub passed-on : (L : Limits) (limited : Type 0) (plan : Plan) (known' known : Option (List ℕ)) (p' p : Option (Option (List ℕ))) (a b : Option (List ℕ)) (r : Result (Option Verdict) RunFault)
-    → known' ≡ known → p' ≡ p → LimitedSays L limited known' plan p' a b r → LimitedSays L limited known plan p a b r
-passed-on L limited plan known' known p' p a b r of_known of_p says = rw (← of_known, ← of_p) says
+pub passed-on : (L : Limits) (limited : Type 0) (strategy : Strategy) (known' known : Option (List ℕ)) (p' p : Option (Option (List ℕ))) (a b : Option (List ℕ)) (r : Result (Option Verdict) RunFault)
+    → known' ≡ known → p' ≡ p → LimitedSays L limited known' strategy p' a b r → LimitedSays L limited known strategy p a b r
+passed-on L limited strategy known' known p' p a b r of_known of_p says = rw (← of_known, ← of_p) says
 
 checks-accept : (c : theory.Checked) → Accepted ≡ checked_of c → c ≡ accepted
 checks-accept accepted e = refl

@@ -1,7 +1,7 @@
 -- What `solve` and `check` have read and written, by how they end.
 use Rattle.std.specs.Prelude.{◌≡◌, ℕ, List, Option, Result, Ok, Err}
 use Rattle.theory.specs.Reading.{Limits}
-use Rattle.theory.specs.Plans.{Plan}
+use Rattle.strategies.specs.Strategies.{Strategy}
 use Rattle.runs.specs.Limited.{LimitedSays}
 use Rattle.runs.specs.Check.{CheckSays}
 use Rattle.runs.specs.declared.fault.RunFault.{RunFault}
@@ -13,8 +13,8 @@ use Rattle.commands.specs.declared.checking.CheckEnd.{CheckEnd}
 use Rattle.commands.specs.declared.checking.CheckEnd.TheVariants.{Accepted, Refused, Fault}
 
 -- what a run with a limit says, by the status
-abbrev pub SolveEnds : Limits → Type 0 → Option (List ℕ) → Plan → Option (Option (List ℕ)) → Option (List ℕ) → Option (List ℕ) → ℕ → Type 0
-SolveEnds L reached known plan p a b status = (r : Result (Option Verdict) RunFault) × LimitedSays L reached known plan p a b r × (status ≡ solve_status r)
+abbrev pub SolveEnds : Limits → Type 0 → Option (List ℕ) → Strategy → Option (Option (List ℕ)) → Option (List ℕ) → Option (List ℕ) → ℕ → Type 0
+SolveEnds L reached known strategy p a b status = (r : Result (Option Verdict) RunFault) × LimitedSays L reached known strategy p a b r × (status ≡ solve_status r)
 
 abbrev pub end_of : Result Checked RunFault → CheckEnd
 end_of (Ok checked.Accepted) = Accepted

@@ -16,7 +16,7 @@ use command_line::Shown;
 use messages::Refused;
 use noticed::{NoticedReader, NoticedWriter};
 use runs::{Checked, RunFault, Told, check_told};
-use statistics::{Board, Showing, Unobserved, print_check_statistics, show_progress};
+use statistics::{Board, Unobserved, print_check_statistics, show_progress};
 use std::alloc::Global;
 use std::fs::Files;
 use std::io::{Read, Write};
@@ -83,10 +83,10 @@ fn check_beside<
 ) -> Result<Told, RunFault>
     ensures { CheckSays (limits_of limits) (F.remaining formula) (P.remaining proof) (W.contents answer.old) (W.contents answer.new) (checked_by result) }
 {
-    let showing = Showing::of(Some(screen.manner()), false);
+    let manner = screen.manner();
     let (_, result) = thread::join_mut(
         rt,
-        &mut || show_progress(rt, board, faults, showing),
+        &mut || show_progress(rt, board, faults, manner),
         &mut || -> Result<Told, RunFault>
             ensures { CheckSays (limits_of limits) (F.remaining formula.entry) (P.remaining proof.entry) (W.contents answer.entry.now) (W.contents answer.exit.now) (checked_by result) }
         { check_counted(rt, alloc, board, &mut formula, &mut proof, limits, answer) },

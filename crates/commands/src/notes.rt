@@ -11,19 +11,32 @@ fn note<E: Write>(out: &mut E, said: &str, what: &str) {
     let _ = writeln!(out, "c {said} {what}");
 }
 
-/// What `solve` is about to do.
-pub(crate) fn note_solve<E: Write>(out: &mut E, effort: &Effort, file: &str, proof: Option<&str>) {
-    note(out, "reading the formula from", shown_name(file));
-    let search = match effort.plan.search() {
+/// By which search a formula is about to be solved.
+fn note_search<E: Write>(out: &mut E, effort: &Effort) {
+    let (hands, plan) = (effort.hands, effort.strategy.plan());
+    if let Some(first) = effort.strategy.first() {
+        let _ = writeln!(
+            out,
+            "c solving it by the automatic search, hands {hands}, first {first} conflicts of the ordered search"
+        );
+        return;
+    }
+    let search = match plan.search() {
         Search::Ordered => "ordered",
         Search::Focused => "focused",
     };
-    let (hands, budget) = (effort.hands, effort.plan.budget());
+    let budget = plan.budget();
     let _ = writeln!(
         out,
         "c solving it by the {search} search, hands {hands}, budget {budget} conflicts"
     );
-    let cubes = effort.plan.divide();
+}
+
+/// What `solve` is about to do.
+pub(crate) fn note_solve<E: Write>(out: &mut E, effort: &Effort, file: &str, proof: Option<&str>) {
+    note(out, "reading the formula from", shown_name(file));
+    note_search(out, effort);
+    let cubes = effort.strategy.plan().divide();
     if cubes > 1 {
         let _ = writeln!(
             out,

@@ -2,6 +2,7 @@
 ghost use Rattle.std.specs.Prelude.{◌≡◌, IsSome, option_map};
 ghost use Rattle.std.specs.Thread.{IsSync};
 ghost use Rattle.cnf.specs.Limits.{limits_of};
+ghost use Rattle.strategies.specs.Strategies.{search_by};
 ghost use Rattle.runs.specs.Limited.{LimitedSays};
 ghost use Rattle.commands.specs.Status.{solve_status, IsSolveStatus};
 ghost use Rattle.commands.specs.Ends.{SolveEnds};
@@ -14,13 +15,12 @@ use crate::notes::{note_files, note_number, note_solve};
 use crate::placed_proof::{NotBegun, begin_proof};
 use crate::watched::run_counted;
 use crate::worded::{Known, Opened};
-use cdcl::{Plan, Search};
 use command_line::{Effort, Shown};
 use cubes::OpenGate;
 use messages::say_same_file;
 use noticed::{NoticedReader, NoticedWriter};
 use runs::{RunFault, TimeLimit, Verdict, answer_limited_within, run_limited_within};
-use statistics::{Board, Showing, print_statistics, show_progress};
+use statistics::{Board, Manner, print_statistics, show_progress};
 use std::alloc::Global;
 use std::fs::Files;
 use std::io::{Read, Write};
@@ -55,19 +55,7 @@ fn print_same_file<E: Write>(faults: &mut E, file: &str, proof: &str, is_explain
     FAILED
 }
 
-/// What is shown of a run while it goes on. On a terminal, the ordered search names the focused one
-/// when it takes long.
-fn showing_of(shown: Shown, plan: Plan, screen: Screen) -> Showing {
-    let progress = if shown.progress {
-        Some(screen.manner())
-    } else {
-        None
-    };
-    let names_focused = screen == Screen::Terminal && plan.search() == Search::Ordered;
-    Showing::of(progress, names_focused)
-}
-
-/// A run that is counted, with what is shown of it by a thread beside it. Where that can't be
+/// A run that is counted, with its progress shown by a thread beside it. Where that can't be
 /// started, nothing is shown.
 fn run_beside<
     R: Files + Threads + Wait + Clock + Sync,
@@ -84,22 +72,33 @@ fn run_beside<
     answer: &mut W,
     mut proof: Option<P>,
     faults: &mut E,
-    showing: Showing,
+    manner: Manner,
 ) -> Result<Option<Verdict>, RunFault>
-    ensures { LimitedSays (limits_of effort.limits) (IsSome effort.seconds) (I.remaining input) effort.plan (option_map P.contents proof) (W.contents answer.old) (W.contents answer.new) result }
+    ensures { LimitedSays (limits_of effort.limits) (IsSome effort.seconds) (I.remaining input) effort.strategy (option_map P.contents proof) (W.contents answer.old) (W.contents answer.new) result }
 {
     let (_, result) = thread::join_mut(
         rt,
-        &mut || show_progress(rt, board, faults, showing),
+        &mut || show_progress(rt, board, faults, manner),
         &mut || -> Result<Option<Verdict>, RunFault>
             requires { IsSync R.row }
-            ensures { LimitedSays (limits_of effort.limits) (IsSome effort.seconds) (I.remaining input.entry) effort.plan (option_map P.contents proof.entry) (W.contents answer.entry.now) (W.contents answer.exit.now) result }
+            ensures { LimitedSays (limits_of effort.limits) (IsSome effort.seconds) (I.remaining input.entry) effort.strategy (option_map P.contents proof.entry) (W.contents answer.entry.now) (W.contents answer.exit.now) result }
         { run_counted(rt, alloc, board, effort, &mut input, answer, proof.take()) },
     );
     result
 }
 
-/// A run with what is shown of it. It writes what `run_plain` writes.
+/// Says that the limit of time was reached while a model was lowered, where it was.
+fn print_cut_off<E: Write>(faults: &mut E, is_unknown: bool, is_lowering: bool) {
+    if is_unknown && is_lowering {
+        let _ = writeln!(
+            faults,
+            "c the time was over while a model was lowered to the first one; --any-model answers without that"
+        );
+    }
+}
+
+/// A run that is counted, with its progress in this manner, if in any. It writes what `run_plain`
+/// writes, and says where it was cut off.
 fn run_shown<
     R: Files + Threads + Wait + Clock + Sync,
     I: Read + Drop,
@@ -115,23 +114,23 @@ fn run_shown<
     proof: Option<P>,
     stats: bool,
     faults: &mut E,
-    showing: Showing,
+    manner: Option<Manner>,
 ) -> Result<Option<Verdict>, RunFault>
-    ensures { LimitedSays (limits_of effort.limits) (IsSome effort.seconds) (I.remaining input) effort.plan (option_map P.contents proof) (W.contents answer.old) (W.contents answer.new) result }
+    ensures { LimitedSays (limits_of effort.limits) (IsSome effort.seconds) (I.remaining input) effort.strategy (option_map P.contents proof) (W.contents answer.old) (W.contents answer.new) result }
 {
     let hands = effort.hands;
-    let board = Board::of_search(rt, effort.plan.search(), hands, proof.is_some());
-    let result = if showing.is_any() {
-        run_beside(
-            rt, alloc, &board, effort, input, answer, proof, faults, showing,
-        )
-    } else {
-        run_counted(rt, alloc, &board, effort, input, answer, proof)
+    let board = Board::of_strategy(rt, effort.strategy, hands, proof.is_some());
+    let result = match manner {
+        Some(manner) => run_beside(
+            rt, alloc, &board, effort, input, answer, proof, faults, manner,
+        ),
+        None => run_counted(rt, alloc, &board, effort, input, answer, proof),
     };
+    let figures = board.look(rt);
     if stats {
-        let figures = board.look(rt);
         print_statistics(faults, &figures, hands);
     }
+    print_cut_off(faults, matches!(result, Ok(None)), figures.is_lowering());
     result
 }
 
@@ -144,20 +143,27 @@ fn run_plain<R: Files + Threads + Wait + Clock + Sync, I: Read + Drop, W: Write,
     answer: &mut W,
     proof: Option<P>,
 ) -> Result<Option<Verdict>, RunFault>
-    ensures { LimitedSays (limits_of effort.limits) (IsSome effort.seconds) (I.remaining input) effort.plan (option_map P.contents proof) (W.contents answer.old) (W.contents answer.new) result }
+    ensures { LimitedSays (limits_of effort.limits) (IsSome effort.seconds) (I.remaining input) effort.strategy (option_map P.contents proof) (W.contents answer.old) (W.contents answer.new) result }
 {
     let (limits, gate) = (effort.limits, OpenGate);
-    let (plan, hands) = (effort.plan, effort.hands);
+    let (strategy, hands) = (effort.strategy, effort.hands);
     let limit = TimeLimit::begin(rt, effort.seconds);
     match proof {
         Some(mut proof) => {
             let proof = &mut proof;
             run_limited_within(
-                rt, alloc, input, limits, answer, proof, plan, hands, &gate, &limit,
+                rt, alloc, input, limits, answer, proof, strategy, hands, &gate, &limit,
             )
         }
-        None => answer_limited_within(rt, alloc, input, limits, answer, plan, hands, &gate, &limit),
+        None => answer_limited_within(
+            rt, alloc, input, limits, answer, strategy, hands, &gate, &limit,
+        ),
     }
+}
+
+/// Whether it is to be told if a limit of time was reached while a model was lowered.
+fn tells_cut_off(effort: &Effort) -> bool {
+    effort.seconds.is_some() && effort.strategy.lowers()
 }
 
 /// A run with what is to be shown of it. It writes what `run_plain` writes.
@@ -178,13 +184,17 @@ fn run_opened<
     faults: &mut E,
     screen: Screen,
 ) -> Result<Option<Verdict>, RunFault>
-    ensures { LimitedSays (limits_of effort.limits) (IsSome effort.seconds) (I.remaining input) effort.plan (option_map P.contents proof) (W.contents answer.old) (W.contents answer.new) result }
+    ensures { LimitedSays (limits_of effort.limits) (IsSome effort.seconds) (I.remaining input) effort.strategy (option_map P.contents proof) (W.contents answer.old) (W.contents answer.new) result }
 {
-    let showing = showing_of(shown, effort.plan, screen);
-    if shown.stats || showing.is_any() {
+    let manner = if shown.progress {
+        Some(screen.manner())
+    } else {
+        None
+    };
+    if shown.stats || manner.is_some() || tells_cut_off(&effort) {
         let stats = shown.stats;
         return run_shown(
-            rt, alloc, effort, input, answer, proof, stats, faults, showing,
+            rt, alloc, effort, input, answer, proof, stats, faults, manner,
         );
     }
     run_plain(rt, alloc, effort, input, answer, proof)
@@ -237,8 +247,8 @@ fn solve_opened<
     faults: &mut E,
     screen: Screen,
 ) -> u8
-    ensures status { IsSolveStatus (limits_of effort.limits) (IsSome effort.seconds) effort.plan.search (I.remaining formula.entry.file) (⟦<NoticedWriter<W> as Write>⟧.contents answer.old) (⟦<NoticedWriter<W> as Write>⟧.contents answer.new) result }
-    ensures says { SolveEnds (limits_of effort.limits) (IsSome effort.seconds) (I.remaining formula.entry.file) effort.plan (option_map (λ o. P.contents o.file) proof.entry) (⟦<NoticedWriter<W> as Write>⟧.contents answer.old) (⟦<NoticedWriter<W> as Write>⟧.contents answer.new) result }
+    ensures status { IsSolveStatus (limits_of effort.limits) (IsSome effort.seconds) (search_by effort.strategy) (I.remaining formula.entry.file) (⟦<NoticedWriter<W> as Write>⟧.contents answer.old) (⟦<NoticedWriter<W> as Write>⟧.contents answer.new) result }
+    ensures says { SolveEnds (limits_of effort.limits) (IsSome effort.seconds) (I.remaining formula.entry.file) effort.strategy (option_map (λ o. P.contents o.file) proof.entry) (⟦<NoticedWriter<W> as Write>⟧.contents answer.old) (⟦<NoticedWriter<W> as Write>⟧.contents answer.new) result }
 {
     let limits = effort.limits;
     let path = match &proof {

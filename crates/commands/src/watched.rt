@@ -33,11 +33,11 @@ fn run_on_board<
     answer: &mut W,
     proof: Option<P>,
 ) -> Result<Option<Verdict>, RunFault>
-    ensures { LimitedSays (limits_of effort.limits) (IsSome effort.seconds) (I.remaining input) effort.plan (option_map P.contents proof) (W.contents answer.old) (W.contents answer.new) result }
+    ensures { LimitedSays (limits_of effort.limits) (IsSome effort.seconds) (I.remaining input) effort.strategy (option_map P.contents proof) (W.contents answer.old) (W.contents answer.new) result }
 {
     let watch = Watch { rt, board };
     let limit = TimeLimit::begin(rt, effort.seconds);
-    let (limits, plan, hands) = (effort.limits, effort.plan, effort.hands);
+    let (limits, strategy, hands) = (effort.limits, effort.strategy, effort.hands);
     match proof {
         Some(proof) => {
             let mut counted = CountedWriter {
@@ -46,11 +46,11 @@ fn run_on_board<
             };
             let proof = &mut counted;
             run_limited_observed(
-                rt, alloc, input, limits, answer, proof, plan, hands, &watch, &limit, &watch,
+                rt, alloc, input, limits, answer, proof, strategy, hands, &watch, &limit, &watch,
             )
         }
         None => answer_limited_observed(
-            rt, alloc, input, limits, answer, plan, hands, &watch, &limit, &watch,
+            rt, alloc, input, limits, answer, strategy, hands, &watch, &limit, &watch,
         ),
     }
 }
@@ -71,7 +71,7 @@ pub(crate) fn run_counted<
     answer: &mut W,
     proof: Option<P>,
 ) -> Result<Option<Verdict>, RunFault>
-    ensures { LimitedSays (limits_of effort.limits) (IsSome effort.seconds) (I.remaining input) effort.plan (option_map P.contents proof) (W.contents answer.old) (W.contents answer.new) result }
+    ensures { LimitedSays (limits_of effort.limits) (IsSome effort.seconds) (I.remaining input) effort.strategy (option_map P.contents proof) (W.contents answer.old) (W.contents answer.new) result }
 {
     let result = run_on_board(rt, alloc, board, effort, input, answer, proof);
     board.end_progress(rt);

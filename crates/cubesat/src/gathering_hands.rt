@@ -1,4 +1,5 @@
 //! Gathering by so many hands: one of them needs no thread of its own.
+ghost use Rattle.std.specs.Prelude.{◌≡◌, None};
 
 use cdcl::Plan;
 use cnf::Limits;
@@ -11,6 +12,7 @@ use std::alloc::Global;
 use std::fs::Files;
 use std::io::{Read, Write};
 use std::thread::Threads;
+use strategies::Strategy;
 
 /// What `gather_stored` does of packs, by so many hands.
 pub(crate) fn gather_stored_by<R: Files + Threads + Sync, I: Read + Drop, W: Write, P: Write>(
@@ -21,14 +23,18 @@ pub(crate) fn gather_stored_by<R: Files + Threads + Sync, I: Read + Drop, W: Wri
     store: PackStore<'_, R>,
     answer: &mut W,
     proof: &mut P,
-    plan: Plan,
+    strategy: Strategy,
     hands: HandCount,
-) -> Result<GatheredFrom, RunFault> {
+) -> Result<GatheredFrom, RunFault>
+    requires { strategy.first ≡ None }
+{
     let hands = hands.get();
     if hands == 1 {
-        return gather_stored(alloc, input, limits, store, answer, proof, plan);
+        return gather_stored(alloc, input, limits, store, answer, proof, strategy);
     }
-    gather_stored_by_hands(rt, alloc, input, limits, store, answer, proof, plan, hands)
+    gather_stored_by_hands(
+        rt, alloc, input, limits, store, answer, proof, strategy, hands,
+    )
 }
 
 /// What `gather_at_once` does of packs, by so many hands.

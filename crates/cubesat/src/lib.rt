@@ -6,6 +6,7 @@ mod gathering_hands;
 mod program;
 mod spreading;
 
+pub use cdcl::Plan;
 pub use commands::{Screen, explanation};
 pub use program::{command, command_in_folders, command_on, command_with_input};
 pub use runs::{
@@ -14,5 +15,6 @@ pub use runs::{
     runs_write_the_same,
 };
 pub use statistics::{
-    Board, CubeCounts, Figures, Manner, Showing, Stage, TextSize, print_line, show_progress,
+    Board, CubeCounts, Figures, Manner, Stage, TextSize, print_line, show_progress,
 };
+pub use strategies::Strategy;

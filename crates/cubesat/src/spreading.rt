@@ -1,9 +1,8 @@
 //! `divide`, `conquer` and `gather`: what is printed of them, and their statuses.
 
 use crate::gathering_hands::{gather_at_once_by, gather_stored_by};
-use cdcl::{Plan, Search};
 use cnf::{Limits, ReadFault, read_formula_within};
-use command_line::{MAX_BUDGET, MAX_DIVIDE, Part, Spread, plan_of};
+use command_line::{Choice, MAX_BUDGET, MAX_DIVIDE, Part, Spread, strategy_of};
 use commands::{
     FAILED, Input, Known, PlacedProof, SATISFIABLE, UNSATISFIABLE, begin_proof, open_input,
     print_fault_of, print_no_memory, print_not_begun, print_not_opened,
@@ -20,6 +19,7 @@ use std::io;
 use std::io::{Empty, Write};
 use std::thread::Threads;
 use std::time::Clock;
+use strategies::Strategy;
 
 /// The status where cubes are open, and where a part is solved.
 const DONE: u8 = 0;
@@ -187,7 +187,7 @@ fn gather_twice<R: Files + Threads + Sync, W: Write, E: Write>(
         store,
         &mut answer,
         &mut output,
-        run.held.run.plan,
+        run.held.run.strategy(),
         run.hands,
     );
     let known = Known {
@@ -291,12 +291,13 @@ where
     gather_opened(rt, alloc, &run, store, answer, faults)
 }
 
-/// The plan of a run, if its numbers are in their ranges, as those of a command line are.
-fn plan_asked(search: Search, budget: u32, wanted: u32) -> Option<Plan> {
+/// How a run's formula is decided, if the numbers are in their ranges, as those of a command line
+/// are. The focused search wants as many cubes as are to be open.
+fn strategy_asked(choice: Choice, budget: u32, wanted: u32, any_model: bool) -> Option<Strategy> {
     if budget < 1 || budget > MAX_BUDGET || wanted > MAX_DIVIDE {
         return None;
     }
-    Some(plan_of(search, budget, Some(wanted)))
+    Some(strategy_of(choice, budget, Some(wanted), any_model))
 }
 
 /// Makes a run; the status.
@@ -305,13 +306,13 @@ fn begin<R: Files, W: Write, E: Write>(
     alloc: Global,
     into: &str,
     formula: &str,
-    plan: Option<Plan>,
+    strategy: Option<Strategy>,
     limits: Limits,
     wanted: u32,
     answer: &mut W,
     faults: &mut E,
 ) -> u8 {
-    let Some(plan) = plan else {
+    let Some(strategy) = strategy else {
         return FAILED;
     };
     let folder = Folder { path: into };
@@ -320,7 +321,7 @@ fn begin<R: Files, W: Write, E: Write>(
         alloc,
         folder,
         formula,
-        plan,
+        strategy,
         limits,
         wanted as usize,
         faults,
@@ -371,14 +372,15 @@ where
         Spread::Begin {
             into,
             formula,
-            search,
+            choice,
             budget,
+            any_model,
             limits,
             wanted,
         } => {
-            let plan = plan_asked(search, budget, wanted);
+            let strategy = strategy_asked(choice, budget, wanted, any_model);
             begin(
-                rt, alloc, into, formula, plan, limits, wanted, answer, faults,
+                rt, alloc, into, formula, strategy, limits, wanted, answer, faults,
             )
         }
         Spread::Next { into } => {

@@ -2,6 +2,7 @@
 //! one named. And the numbers that are explained.
 use crate::command_lines::{REFUTED, Row, check_rows, run};
 use samples::EIGHT;
+use sessions::Wanted;
 use std::test::Fail;
 
 /// The proof of the eight clauses at budgets that exhaust the root.
@@ -28,7 +29,59 @@ const BUDGET_4: Row = Row {
     ..BUDGET_1
 };
 
-static ROWS: [Row; 11] = [
+/// Where the conflicts of the ordered search are used up, the focused one comes behind it, with a
+/// budget of its own.
+const FOCUSED_BEHIND: Row = Row {
+    words: &[
+        "cubesat",
+        "solve",
+        "--search",
+        "automatic",
+        "--budget",
+        "1",
+        "--proof",
+        "PROOF",
+        "FORMULA",
+    ],
+    after: "9 2 3 0 1 5 0\n10 3 0 9 3 7 0\n11 -2 0 10 4 8 0\n12 0 10 11 2 6 0\n",
+    ..BUDGET_1
+};
+
+/// Each model has 2; the focused search comes to one with 1, and then it is asked for the first one.
+const LOWERED: Row = Row {
+    formula: "p cnf 3 4\n1 2 3 0\n1 2 -3 0\n-1 2 3 0\n-1 2 -3 0\n",
+    wanted: Wanted {
+        status: 10,
+        answer: "s SATISFIABLE\nv -1 2 -3 0\n",
+        faults: "",
+    },
+    after: "",
+    ..FOCUSED_BEHIND
+};
+
+/// Any model will do.
+const NOT_LOWERED: Row = Row {
+    words: &[
+        "cubesat",
+        "solve",
+        "--search",
+        "automatic",
+        "--budget",
+        "1",
+        "--any-model",
+        "--proof",
+        "PROOF",
+        "FORMULA",
+    ],
+    wanted: Wanted {
+        status: 10,
+        answer: "s SATISFIABLE\nv 1 2 -3 0\n",
+        faults: "",
+    },
+    ..LOWERED
+};
+
+static ROWS: [Row; 20] = [
     BUDGET_1,
     Row {
         words: &[
@@ -55,7 +108,11 @@ static ROWS: [Row; 11] = [
         ],
         ..BUDGET_4
     },
-    // the ordered search is the one of no name
+    // with no option, the ordered search of 1000 conflicts comes first
+    Row {
+        words: &["cubesat", "solve", "--proof", "PROOF", "FORMULA"],
+        ..BUDGET_4
+    },
     Row {
         words: &[
             "cubesat", "solve", "--search", "ordered", "--proof", "PROOF", "FORMULA",
@@ -86,6 +143,85 @@ static ROWS: [Row; 11] = [
             "cubesat", "solve", "--hands", "16", "--proof", "PROOF", "FORMULA",
         ],
         ..BUDGET_4
+    },
+    Row {
+        words: &[
+            "cubesat",
+            "solve",
+            "--search",
+            "automatic",
+            "--budget",
+            "4",
+            "--proof",
+            "PROOF",
+            "FORMULA",
+        ],
+        ..BUDGET_4
+    },
+    FOCUSED_BEHIND,
+    Row {
+        words: &[
+            "cubesat",
+            "solve",
+            "--search",
+            "automatic",
+            "--budget",
+            "3",
+            "--hands",
+            "8",
+            "--any-model",
+            "--proof",
+            "PROOF",
+            "FORMULA",
+        ],
+        ..FOCUSED_BEHIND
+    },
+    LOWERED,
+    Row {
+        words: &[
+            "cubesat",
+            "solve",
+            "--search",
+            "automatic",
+            "--budget",
+            "1",
+            "--hands",
+            "8",
+            "FORMULA",
+        ],
+        before: Some("old"),
+        after: "old",
+        ..LOWERED
+    },
+    NOT_LOWERED,
+    Row {
+        words: &[
+            "cubesat",
+            "solve",
+            "--search",
+            "focused",
+            "--any-model",
+            "--proof",
+            "PROOF",
+            "FORMULA",
+        ],
+        ..NOT_LOWERED
+    },
+    // the ordered search comes to the first model by itself
+    Row {
+        words: &[
+            "cubesat",
+            "solve",
+            "--search",
+            "automatic",
+            "--budget",
+            "2",
+            "--any-model",
+            "--proof",
+            "PROOF",
+            "FORMULA",
+        ],
+        ..LOWERED
     },
 ];
 

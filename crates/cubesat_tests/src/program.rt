@@ -104,7 +104,7 @@ fn runs_and_checks(rt: HostRuntime) -> Result<(), Fail> {
     check_rows(&rt, "program.cnf", &ROWS)
 }
 
-static WRONG: [&[&str]; 27] = [
+static WRONG: [&[&str]; 29] = [
     // no subcommand
     &["cubesat"],
     // no words
@@ -150,6 +150,17 @@ static WRONG: [&[&str]; 27] = [
         "cubesat", "solve", "--search", "Focused", "--proof", "x.lrat", "x.cnf",
     ],
     &["cubesat", "solve", "--proof", "x.lrat", "x.cnf", "--search"],
+    &[
+        "cubesat",
+        "solve",
+        "--search",
+        "automatic",
+        "--budget",
+        "0",
+        "x.cnf",
+    ],
+    // a model that is none
+    &["cubesat", "solve", "--any-model=first", "x.cnf"],
     // numbers of cubes that are none
     &[
         "cubesat", "solve", "--search", "focused", "--divide", "x", "x.cnf",

@@ -188,7 +188,7 @@ const REFUTED: Row = Row {
     begins: &[
         "c reading the formula from ",
         "FORMULA",
-        "\nc solving it by the ordered search, hands 1, budget 1000 conflicts\nc writing the proof to ",
+        "\nc solving it by the automatic search, hands 1, first 1000 conflicts of the ordered search\nc dividing it into cubes, 64 wanted, if its first conflicts tell that this helps\nc writing the proof to ",
         "PROOF",
         "\n",
     ],
@@ -213,7 +213,7 @@ static RUNS: [Row; 10] = [
         begins: &[
             "c reading the formula from ",
             "FORMULA",
-            "\nc solving it by the ordered search, hands 1, budget 1000 conflicts\nc for 1000000000 seconds at most\nc writing the proof to ",
+            "\nc solving it by the automatic search, hands 1, first 1000 conflicts of the ordered search\nc dividing it into cubes, 64 wanted, if its first conflicts tell that this helps\nc for 1000000000 seconds at most\nc writing the proof to ",
             "PROOF",
             "\n",
         ],
@@ -231,7 +231,7 @@ static RUNS: [Row; 10] = [
         begins: &[
             "c reading the formula from ",
             "FORMULA",
-            "\nc solving it by the ordered search, hands 1, budget 1000 conflicts\nc for 3600 seconds at most\nc writing no proof\n",
+            "\nc solving it by the automatic search, hands 1, first 1000 conflicts of the ordered search\nc dividing it into cubes, 64 wanted, if its first conflicts tell that this helps\nc for 3600 seconds at most\nc writing no proof\n",
         ],
         ..REFUTED
     },
@@ -240,7 +240,7 @@ static RUNS: [Row; 10] = [
         begins: &[
             "c reading the formula from ",
             "FORMULA",
-            "\nc solving it by the ordered search, hands 1, budget 1000 conflicts\nc writing no proof\n",
+            "\nc solving it by the automatic search, hands 1, first 1000 conflicts of the ordered search\nc dividing it into cubes, 64 wanted, if its first conflicts tell that this helps\nc writing no proof\n",
         ],
         ..REFUTED
     },
@@ -249,7 +249,7 @@ static RUNS: [Row; 10] = [
         status: 1,
         answer: "",
         begins: &[
-            "c reading the formula from standard input\nc solving it by the ordered search, hands 1, budget 1000 conflicts\nc writing the proof to ",
+            "c reading the formula from standard input\nc solving it by the automatic search, hands 1, first 1000 conflicts of the ordered search\nc dividing it into cubes, 64 wanted, if its first conflicts tell that this helps\nc writing the proof to ",
             "PROOF",
             "\n",
         ],
@@ -303,7 +303,7 @@ static RUNS: [Row; 10] = [
         begins: &[
             "c reading the formula from ",
             "FORMULA",
-            "\nc solving it by the ordered search, hands 1, budget 1000 conflicts\nc writing the proof to ",
+            "\nc solving it by the automatic search, hands 1, first 1000 conflicts of the ordered search\nc dividing it into cubes, 64 wanted, if its first conflicts tell that this helps\nc writing the proof to ",
             "MISSING",
             "\n",
         ],
@@ -326,7 +326,7 @@ static RUNS: [Row; 10] = [
         begins: &[
             "c reading the formula from ",
             "FORMULA",
-            "\nc solving it by the ordered search, hands 1, budget 1000 conflicts\nc writing the proof to /dev/full\n",
+            "\nc solving it by the automatic search, hands 1, first 1000 conflicts of the ordered search\nc dividing it into cubes, 64 wanted, if its first conflicts tell that this helps\nc writing the proof to /dev/full\n",
         ],
         fault: "fault 53\nc /dev/full: no room on the device\nc the proof isn't whole; make room for all of it, or name another place\n",
         numbers: &[53],
@@ -347,7 +347,7 @@ static RUNS: [Row; 10] = [
         begins: &[
             "c reading the formula from ",
             "FORMULA",
-            "\nc solving it by the ordered search, hands 1, budget 1000 conflicts\nc writing the proof to ",
+            "\nc solving it by the automatic search, hands 1, first 1000 conflicts of the ordered search\nc dividing it into cubes, 64 wanted, if its first conflicts tell that this helps\nc writing the proof to ",
             "FORMULA",
             "\n",
         ],

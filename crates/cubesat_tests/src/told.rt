@@ -50,7 +50,7 @@ const SAID: Row = Row {
 /// The ordered search divides nothing, which is said before a file is opened.
 const REFUSED: Row = Row {
     words: &[
-        "cubesat", "solve", "--divide", "64", "--proof", "PROOF", "MISSING",
+        "cubesat", "solve", "--budget", "1000", "--divide", "64", "--proof", "PROOF", "MISSING",
     ],
     status: 1,
     answer: NOTHING,
@@ -68,7 +68,7 @@ const IN_FOLDERS: Row = Row {
     ..REFUSED
 };
 
-static ROWS: [Row; 17] = [
+static ROWS: [Row; 20] = [
     SHOWN,
     Row {
         words: &["./another_name", "--version"],
@@ -149,6 +149,41 @@ static ROWS: [Row; 17] = [
             "MISSING",
         ],
         faults: Known::Piece("budget 1000 conflicts\nc writing no proof\n"),
+        ..SAID
+    },
+    // where a budget is named and no search, it is the ordered one
+    Row {
+        words: &["cubesat", "solve", "--verbose", "--budget", "7", "MISSING"],
+        faults: Known::Piece(
+            "\nc solving it by the ordered search, hands 1, budget 7 conflicts\nc writing no proof\n",
+        ),
+        ..SAID
+    },
+    // where none is, it is the automatic one
+    Row {
+        words: &["cubesat", "solve", "--verbose", "--divide", "1", "MISSING"],
+        faults: Known::Piece(
+            "\nc solving it by the automatic search, hands 1, first 1000 conflicts of the ordered search\nc writing no proof\n",
+        ),
+        ..SAID
+    },
+    Row {
+        words: &[
+            "cubesat",
+            "solve",
+            "--verbose",
+            "--search",
+            "automatic",
+            "--budget",
+            "7",
+            "--hands",
+            "3",
+            "--any-model",
+            "MISSING",
+        ],
+        faults: Known::Piece(
+            "\nc solving it by the automatic search, hands 3, first 7 conflicts of the ordered search\nc dividing it into cubes, 64 wanted, if its first conflicts tell that this helps\nc writing no proof\n",
+        ),
         ..SAID
     },
     REFUSED,

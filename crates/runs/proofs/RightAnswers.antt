@@ -3,7 +3,8 @@ use Rattle.std.proofs.Common.{◌≡◌, ℕ, List, Option, Result, Ok, Err, IfO
 use Rattle.std.specs.Io.KnownBytes.{Appends}
 use Rattle.theory.specs.Reading.{Limits}
 use Rattle.theory.specs.Truth.{Formula}
-use Rattle.theory.specs.Plans.{Search, Plan}
+use Rattle.theory.specs.Plans.{Search}
+use Rattle.strategies.specs.Strategies.{Strategy, search_by}
 use Rattle.cnf.specs.declared.fault.ReadFault.{ReadFault}
 use Rattle.cnf.specs.declared.fault.ReadFault.TheVariants as reading
 use Rattle.cnf.specs.Faults.{IsReadOf}
@@ -13,26 +14,26 @@ use Rattle.runs.specs.declared.fault.RunFault.{RunFault}
 use Rattle.runs.specs.declared.verdict.Verdict.{Verdict}
 use Rattle.runs.specs.declared.verdict.Verdict.TheVariants.{Satisfiable, Unsatisfiable}
 
-pub texts-right : (L : Limits) (F : Formula) (plan : Plan) (verdict : Verdict) (proof answer : List ℕ) → AreTexts L F plan verdict proof answer → IsRight L plan.search F verdict proof answer
-texts-right L F plan Satisfiable proof answer t = (t.model, t.found, t.answer_is)
-texts-right L F plan Unsatisfiable proof answer t = (t.0.unsatisfiable, t.1, t.0.answer_is)
+pub texts-right : (L : Limits) (F : Formula) (strategy : Strategy) (verdict : Verdict) (proof answer : List ℕ) → AreTexts L F strategy verdict proof answer → IsRight L (search_by strategy) F verdict proof answer
+texts-right L F strategy Satisfiable proof answer t = (t.model, t.found, t.answer_is)
+texts-right L F strategy Unsatisfiable proof answer t = (t.0.text.unsatisfiable, t.1, t.0.text.answer_is)
 
-written-right : (L : Limits) (known : Option (List ℕ)) (plan : Plan) (p q a b : Option (List ℕ)) (verdict : Verdict) → WritesBoth L known plan p q a b verdict → IsRightAnswer L plan.search known p q a b verdict
-written-right L known plan p q a b verdict w = record {
+written-right : (L : Limits) (known : Option (List ℕ)) (strategy : Strategy) (p q a b : Option (List ℕ)) (verdict : Verdict) → WritesBoth L known strategy p q a b verdict → IsRightAnswer L (search_by strategy) known p q a b verdict
+written-right L known strategy p q a b verdict w = record {
   bytes = w.run.bytes;
   are = w.run.are;
   value = w.run.value;
   reads = w.run.reads;
   proof = w.proof;
   answer = w.answer;
-  right = texts-right L w.run.value plan verdict w.proof w.answer w.run.texts;
+  right = texts-right L w.run.value strategy verdict w.proof w.answer w.run.texts;
   proof_written = w.proof_written;
   answer_written = w.answer_written;
 }
 
-pub says-right : (L : Limits) (known : Option (List ℕ)) (plan : Plan) (p q a b : Option (List ℕ)) (r : Result Verdict RunFault) → RunSays L known plan p q a b r → IfOk r (IsRightAnswer L plan.search known p q a b)
-says-right L known plan p q a b (Ok verdict) says = written-right L known plan p q a b verdict says
-says-right L known plan p q a b (Err fault) says = tt
+pub says-right : (L : Limits) (known : Option (List ℕ)) (strategy : Strategy) (p q a b : Option (List ℕ)) (r : Result Verdict RunFault) → RunSays L known strategy p q a b r → IfOk r (IsRightAnswer L (search_by strategy) known p q a b)
+says-right L known strategy p q a b (Ok verdict) says = written-right L known strategy p q a b verdict says
+says-right L known strategy p q a b (Err fault) says = tt
 
 -- right texts for a formula that was read, which are written whole
 pub IsRightAnswer-made : (L : Limits) (search : Search) (known p q a b : Option (List ℕ)) (F : Formula) (verdict : Verdict) (proof answer : List ℕ)

@@ -12,6 +12,7 @@ use Rattle.theory.specs.Texts.{step_text, proof_text, answer_text}
 use Rattle.theory.specs.Trees as trees
 use Rattle.theory.specs.Proofs.{proof}
 use Rattle.theory.specs.Checked.{IsCheckedResult}
+use Rattle.theory.specs.Written.{IsUnsatisfiableText}
 use Rattle.cnf.specs.declared.fault.ReadFault.{ReadFault}
 use Rattle.cnf.specs.declared.fault.ReadFault.TheVariants as reading
 use Rattle.cnf.specs.Faults.{IsReadOf}
@@ -20,7 +21,11 @@ use Rattle.packs.specs.declared.fact.Fact.{Fact}
 use Rattle.gathering.specs.Stored.{AreTrueFacts}
 use Rattle.cubes.specs.declared.tree.Tree.{Tree}
 use Rattle.cubes.specs.declared.tree.Tree.TheVariants.{Model, Refuted}
-use Rattle.cubes.specs.Result.{LinesNode, LinesTree, node_of, IsResultOf, Says}
+use Rattle.cubes.specs.Result.{LinesNode, LinesTree, node_of, Says}
+use Rattle.strategies.specs.Strategies.{Strategy, search_by}
+use Rattle.strategies.specs.Choosing.{IsChosen, alone}
+use Rattle.strategies.specs.Deciding.{IsDecidedBy}
+use Rattle.strategies.specs.Texts.{IsRefutationText}
 use Rattle.cubes.specs.Streaming.{IsCheckedNode}
 use Rattle.join.specs.Joining.{Joined, behind, before_nodes, after_nodes, on_node, on_nodes}
 use Rattle.join.specs.Walking.{joined}
@@ -187,27 +192,30 @@ accepted-proof L F search t text within checked same =
     ))
 
 -- with it the verdict is right
-pub refuted-right : (L : Limits) (F : Formula) (plan : Plan) (are_true : Type 0) (text answer : List ℕ) → IsWithinLimits large F → ¬ (Satisfiable F) → answer ≡ answer_text None → IsProofText F plan are_true text → IsRight L plan.search F Unsatisfiable text answer
-refuted-right L F plan are_true text answer within says is of = (says, accepted-proof L F plan.search of.tree text within of.checked of.text_is, is)
+pub refuted-right : (L : Limits) (F : Formula) (plan : Plan) (search : Search) (are_true : Type 0) (text answer : List ℕ) → IsWithinLimits large F → ¬ (Satisfiable F) → answer ≡ answer_text None → IsProofText F plan are_true text → IsRight L search F Unsatisfiable text answer
+refuted-right L F plan search are_true text answer within says is of = (says, accepted-proof L F plan.search of.tree text within of.checked of.text_is, is)
 
--- and where the facts are true, the texts are those of the plan
-pub refuted-texts : (L : Limits) (F : Formula) (plan : Plan) (are_true : Type 0) (text answer : List ℕ) → IsWithinLimits large F → are_true → ¬ (Satisfiable F) → answer ≡ answer_text None → IsProofText F plan are_true text → AreTexts L F plan Unsatisfiable text answer
-refuted-texts L F plan are_true text answer within are says is of =
+-- and where the facts are true, the texts are those of a strategy that has chosen the plan
+pub refuted-texts : (L : Limits) (F : Formula) (plan : Plan) (s : Strategy) (are_true : Type 0) (text answer : List ℕ) → IsWithinLimits large F → IsChosen F s plan → are_true → ¬ (Satisfiable F) → answer ≡ answer_text None → IsProofText F plan are_true text
+    → AreTexts L F s Unsatisfiable text answer
+refuted-texts L F plan s are_true text answer within chosen are says is of =
     let own = of.own are in
-    (record { unsatisfiable = says; tree = own.0; is_tree = own.1.0; proof_is = own.2; answer_is = is }, accepted-proof L F plan.search of.tree text within of.checked of.text_is)
+    let written : IsUnsatisfiableText F plan text answer = record { unsatisfiable = says; tree = own.0; is_tree = own.1.0; proof_is = own.2; answer_is = is } in
+    let refutation : IsRefutationText F s text answer = record { plan = plan; chosen = chosen; text = written } in
+    (refutation, accepted-proof L F plan.search of.tree text within of.checked of.text_is)
 
 -- a checked result is enough for the answer to be right
-pub stored-right : {K : Type 0} (L : Limits) (F : Formula) (plan : Plan) (are_true : Type 0) (tree : Tree K) (verdict : Verdict) (text answer : List ℕ) → IsWithinLimits large F → Says plan.search F tree → IsAnswer tree verdict answer → IsProofOf F plan are_true tree text
-    → IsRight L plan.search F verdict text answer
-stored-right L F plan are_true (Model values) verdict text answer within says is of = rw is.0 (values.items, says, is.1)
-stored-right L F plan are_true (Refuted nodes) verdict text answer within says is of = rw is.0 (refuted-right L F plan are_true text answer within says is.1 of)
+pub stored-right : {K : Type 0} (L : Limits) (F : Formula) (plan : Plan) (search : Search) (are_true : Type 0) (tree : Tree K) (verdict : Verdict) (text answer : List ℕ) → IsWithinLimits large F → Says search F tree → IsAnswer tree verdict answer
+    → IsProofOf F plan are_true tree text → IsRight L search F verdict text answer
+stored-right L F plan search are_true (Model values) verdict text answer within says is of = rw is.0 (values.items, says, is.1)
+stored-right L F plan search are_true (Refuted nodes) verdict text answer within says is of = rw is.0 (refuted-right L F plan search are_true text answer within says is.1 of)
 
--- and of true facts, for the plan's own texts
-pub stored-texts : (L : Limits) (F : Formula) (plan : Plan) (are_true : Type 0) (tree : LinesTree) (verdict : Verdict) (text answer : List ℕ) → IsWithinLimits large F → are_true → IsResultOf F plan tree → Says plan.search F tree → IsAnswer tree verdict answer
-    → IsProofOf F plan are_true tree text → AreTexts L F plan verdict text answer
-stored-texts L F plan are_true (Model values) verdict text answer within are result says is of =
-    rw is.0 (record { model = values.items; found = says; is_result = result; proof_is = of; answer_is = is.1 })
-stored-texts L F plan are_true (Refuted nodes) verdict text answer within are result says is of = rw is.0 (refuted-texts L F plan are_true text answer within are says is.1 of)
+-- and of true facts, for the strategy's own texts
+pub stored-texts : (L : Limits) (F : Formula) (s : Strategy) (plan : Plan) (are_true : Type 0) (tree : LinesTree) (verdict : Verdict) (text answer : List ℕ) → IsWithinLimits large F → s.first ≡ None → plan ≡ s.plan → are_true → IsDecidedBy F s tree → Says (search_by s) F tree
+    → IsAnswer tree verdict answer → IsProofOf F plan are_true tree text → AreTexts L F s verdict text answer
+stored-texts L F s plan are_true (Model values) verdict text answer within lone e are result says is of =
+    rw is.0 (record { model = values.items; found = says; is_answer = result; proof_is = of; answer_is = is.1 })
+stored-texts L F s plan are_true (Refuted nodes) verdict text answer within lone e are result says is of = rw is.0 (refuted-texts L F plan s are_true text answer within (subst (IsChosen F s) (sym e) (alone lone)) are says is.1 of)
 
 -- right texts for a formula that was read
 pub AreRightTexts-made : (L : Limits) (search : Search) (known : Option (List ℕ)) (F : Formula) (verdict : Verdict) (proof answer : List ℕ)
@@ -216,20 +224,20 @@ AreRightTexts-made L search known F verdict proof answer (inl e) right = absurd 
 AreRightTexts-made L search known F verdict proof answer (inr r) right = record { bytes = r.bytes; are = r.are; value = F; reads = r.is_read; verdict = verdict; right = right }
 
 -- what a run leaves on a fault
-pub says-Stored : (L : Limits) (known : Option (List ℕ)) (plan : Plan) (p q a b : Option (List ℕ)) (fault : RunFault) → RunSays L known plan p q a b (Err fault) → LeavesStored L plan.search known p q a b fault
-says-Stored L known plan p q a b (Read fault) says = says
-says-Stored L known plan p q a b NoMemory says = says
-says-Stored L known plan p q a b ProofWriteFailed says = says.answer_kept
-says-Stored L known plan p q a b AnswerWriteFailed says =
+pub says-Stored : (L : Limits) (known : Option (List ℕ)) (s : Strategy) (p q a b : Option (List ℕ)) (fault : RunFault) → RunSays L known s p q a b (Err fault) → LeavesStored L (search_by s) known p q a b fault
+says-Stored L known s p q a b (Read fault) says = says
+says-Stored L known s p q a b NoMemory says = says
+says-Stored L known s p q a b ProofWriteFailed says = says.answer_kept
+says-Stored L known s p q a b AnswerWriteFailed says =
     let run = says.run in record {
       proof = says.proof;
       answer = says.answer;
-      right = record { bytes = run.bytes; are = run.are; value = run.value; reads = run.reads; verdict = says.verdict; right = texts-right L run.value plan says.verdict says.proof says.answer run.texts };
+      right = record { bytes = run.bytes; are = run.are; value = run.value; reads = run.reads; verdict = says.verdict; right = texts-right L run.value s says.verdict says.proof says.answer run.texts };
       count = says.count;
       proof_written = says.proof_written;
       answer_written = says.answer_written;
     }
-says-Stored L known plan p q a b ProofReadFailed says = says
+says-Stored L known s p q a b ProofReadFailed says = says
 
 -- an answer that could not be written
 pub unanswered-Stored : {X : Type 0} (L : Limits) (search : Search) (known p q a b : Option (List ℕ)) (r : Result X RunFault) (e : RunFault) (proof answer : List ℕ) → r ≡ Err e → AreRightTexts L search known proof answer → Appends p q proof

@@ -3,7 +3,7 @@ use Rattle.std.specs.Prelude.{◌≡◌, ◌≢◌, ℕ, List, Option, take, Res
 use Rattle.std.specs.Io.KnownBytes.{Appends, Keeps}
 use Rattle.theory.specs.Reading.{Limits}
 use Rattle.theory.specs.Truth as truth
-use Rattle.theory.specs.Plans.{Plan}
+use Rattle.strategies.specs.Strategies.{Strategy, search_by}
 use Rattle.cnf.specs.declared.fault.ReadFault.{ReadFault}
 use Rattle.cnf.specs.declared.fault.ReadFault.TheVariants as reading
 use Rattle.cnf.specs.Faults.{IsReadOf}
@@ -13,28 +13,28 @@ use Rattle.runs.specs.declared.fault.RunFault.{RunFault}
 use Rattle.runs.specs.declared.fault.RunFault.TheVariants.{Read, NoMemory, ProofWriteFailed, AnswerWriteFailed, ProofReadFailed}
 use Rattle.runs.specs.declared.verdict.Verdict.{Verdict}
 
--- the verdict and the text of the answer for a formula and a plan: those that go with its proof
-abbrev pub IsAnswerFor : Limits → truth.Formula → Plan → Verdict → List ℕ → Type 0
-IsAnswerFor L F plan verdict answer = (proof : List ℕ) × AreTexts L F plan verdict proof answer
+-- the verdict and the text of the answer for a formula and a strategy: those that go with its proof
+abbrev pub IsAnswerFor : Limits → truth.Formula → Strategy → Verdict → List ℕ → Type 0
+IsAnswerFor L F strategy verdict answer = (proof : List ℕ) × AreTexts L F strategy verdict proof answer
 
 -- the answer of the run whose proof this would be, to the formula of the bytes that a reader gave,
 -- and it is right
-pub record IsAnswerOf (L : Limits) (known : Option (List ℕ)) (plan : Plan) (verdict : Verdict) (answer : List ℕ) : Type 0 where
+pub record IsAnswerOf (L : Limits) (known : Option (List ℕ)) (strategy : Strategy) (verdict : Verdict) (answer : List ℕ) : Type 0 where
   pub proof : List ℕ
-  pub run : IsRunOf L known plan verdict proof answer
-  pub right : IsRight L plan.search run.value verdict proof answer
+  pub run : IsRunOf L known strategy verdict proof answer
+  pub right : IsRight L (search_by strategy) run.value verdict proof answer
 
 -- the answer is written whole
-pub record WritesAnswer (L : Limits) (known : Option (List ℕ)) (plan : Plan) (old new : Option (List ℕ)) (verdict : Verdict) : Type 0 where
+pub record WritesAnswer (L : Limits) (known : Option (List ℕ)) (strategy : Strategy) (old new : Option (List ℕ)) (verdict : Verdict) : Type 0 where
   pub answer : List ℕ
-  pub is_answer : IsAnswerOf L known plan verdict answer
+  pub is_answer : IsAnswerOf L known strategy verdict answer
   pub written : Appends old new answer
 
 -- a beginning of it is written
-pub record BeginsAnswer (L : Limits) (known : Option (List ℕ)) (plan : Plan) (old new : Option (List ℕ)) : Type 0 where
+pub record BeginsAnswer (L : Limits) (known : Option (List ℕ)) (strategy : Strategy) (old new : Option (List ℕ)) : Type 0 where
   pub verdict : Verdict
   pub answer : List ℕ
-  pub is_answer : IsAnswerOf L known plan verdict answer
+  pub is_answer : IsAnswerOf L known strategy verdict answer
   pub count : ℕ
   pub written : Appends old new (take count answer)
 
@@ -46,10 +46,10 @@ pub record IsUnanswered (L : Limits) (known old new : Option (List ℕ)) (fault 
   pub kept : Keeps old new
 
 -- what a run without a proof answers of the bytes of its reader, and what it leaves in its writer
-abbrev pub AnswerSays : Limits → Option (List ℕ) → Plan → Option (List ℕ) → Option (List ℕ) → Result Verdict RunFault → Type 0
-AnswerSays L known plan old new (Ok verdict) = WritesAnswer L known plan old new verdict
-AnswerSays L known plan old new (Err (Read fault)) = IsUnanswered L known old new fault
-AnswerSays L known plan old new (Err NoMemory) = Keeps old new
-AnswerSays L known plan old new (Err ProofWriteFailed) = ⊥
-AnswerSays L known plan old new (Err AnswerWriteFailed) = BeginsAnswer L known plan old new
-AnswerSays L known plan old new (Err ProofReadFailed) = ⊥
+abbrev pub AnswerSays : Limits → Option (List ℕ) → Strategy → Option (List ℕ) → Option (List ℕ) → Result Verdict RunFault → Type 0
+AnswerSays L known strategy old new (Ok verdict) = WritesAnswer L known strategy old new verdict
+AnswerSays L known strategy old new (Err (Read fault)) = IsUnanswered L known old new fault
+AnswerSays L known strategy old new (Err NoMemory) = Keeps old new
+AnswerSays L known strategy old new (Err ProofWriteFailed) = ⊥
+AnswerSays L known strategy old new (Err AnswerWriteFailed) = BeginsAnswer L known strategy old new
+AnswerSays L known strategy old new (Err ProofReadFailed) = ⊥

@@ -2,7 +2,7 @@
 use Rattle.std.specs.Prelude.{ℕ, List, Option, Some, None, take, Result, Ok, Err, ◌⊎◌}
 use Rattle.std.specs.Io.KnownBytes.{Appends, Keeps}
 use Rattle.theory.specs.Reading.{Limits}
-use Rattle.theory.specs.Plans.{Plan}
+use Rattle.strategies.specs.Strategies.{Strategy}
 use Rattle.runs.specs.Answer.{unknown_text}
 use Rattle.runs.specs.Run.{RunSays}
 use Rattle.runs.specs.Answered.{AnswerSays}
@@ -23,21 +23,21 @@ EndsUnsolved reached a b r = ⊥
 
 -- what a run with a limit answers: what a run does, or, where the limit is reached and nothing is
 -- written, that the answer is unknown
-abbrev pub LimitedRunSays : Limits → Type 0 → Option (List ℕ) → Plan → Option (List ℕ) → Option (List ℕ) → Option (List ℕ) → Option (List ℕ) → Result (Option Verdict) RunFault → Type 0
-LimitedRunSays L reached known plan p q a b (Ok (Some verdict)) = RunSays L known plan p q a b (Ok verdict)
-LimitedRunSays L reached known plan p q a b (Ok None) = reached × Keeps p q × Appends a b unknown_text
-LimitedRunSays L reached known plan p q a b (Err AnswerWriteFailed) = RunSays L known plan p q a b (Err AnswerWriteFailed) ⊎ (reached × Keeps p q × BeginsUnknown a b)
-LimitedRunSays L reached known plan p q a b (Err fault) = RunSays L known plan p q a b (Err fault)
+abbrev pub LimitedRunSays : Limits → Type 0 → Option (List ℕ) → Strategy → Option (List ℕ) → Option (List ℕ) → Option (List ℕ) → Option (List ℕ) → Result (Option Verdict) RunFault → Type 0
+LimitedRunSays L reached known strategy p q a b (Ok (Some verdict)) = RunSays L known strategy p q a b (Ok verdict)
+LimitedRunSays L reached known strategy p q a b (Ok None) = reached × Keeps p q × Appends a b unknown_text
+LimitedRunSays L reached known strategy p q a b (Err AnswerWriteFailed) = RunSays L known strategy p q a b (Err AnswerWriteFailed) ⊎ (reached × Keeps p q × BeginsUnknown a b)
+LimitedRunSays L reached known strategy p q a b (Err fault) = RunSays L known strategy p q a b (Err fault)
 
 -- the same of a run without a proof
-abbrev pub LimitedAnswerSays : Limits → Type 0 → Option (List ℕ) → Plan → Option (List ℕ) → Option (List ℕ) → Result (Option Verdict) RunFault → Type 0
-LimitedAnswerSays L reached known plan a b (Ok (Some verdict)) = AnswerSays L known plan a b (Ok verdict)
-LimitedAnswerSays L reached known plan a b (Ok None) = reached × Appends a b unknown_text
-LimitedAnswerSays L reached known plan a b (Err AnswerWriteFailed) = AnswerSays L known plan a b (Err AnswerWriteFailed) ⊎ (reached × BeginsUnknown a b)
-LimitedAnswerSays L reached known plan a b (Err fault) = AnswerSays L known plan a b (Err fault)
+abbrev pub LimitedAnswerSays : Limits → Type 0 → Option (List ℕ) → Strategy → Option (List ℕ) → Option (List ℕ) → Result (Option Verdict) RunFault → Type 0
+LimitedAnswerSays L reached known strategy a b (Ok (Some verdict)) = AnswerSays L known strategy a b (Ok verdict)
+LimitedAnswerSays L reached known strategy a b (Ok None) = reached × Appends a b unknown_text
+LimitedAnswerSays L reached known strategy a b (Err AnswerWriteFailed) = AnswerSays L known strategy a b (Err AnswerWriteFailed) ⊎ (reached × BeginsUnknown a b)
+LimitedAnswerSays L reached known strategy a b (Err fault) = AnswerSays L known strategy a b (Err fault)
 
 -- the same where there may be a writer for the proof, which is given away: what it held before, and
 -- what it holds in the end
-abbrev pub LimitedSays : Limits → Type 0 → Option (List ℕ) → Plan → Option (Option (List ℕ)) → Option (List ℕ) → Option (List ℕ) → Result (Option Verdict) RunFault → Type 0
-LimitedSays L reached known plan None a b r = LimitedAnswerSays L reached known plan a b r
-LimitedSays L reached known plan (Some p) a b r = (q : Option (List ℕ)) × LimitedRunSays L reached known plan p q a b r
+abbrev pub LimitedSays : Limits → Type 0 → Option (List ℕ) → Strategy → Option (Option (List ℕ)) → Option (List ℕ) → Option (List ℕ) → Result (Option Verdict) RunFault → Type 0
+LimitedSays L reached known strategy None a b r = LimitedAnswerSays L reached known strategy a b r
+LimitedSays L reached known strategy (Some p) a b r = (q : Option (List ℕ)) × LimitedRunSays L reached known strategy p q a b r

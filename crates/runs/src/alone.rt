@@ -2,11 +2,13 @@
 ghost use Rattle.std.specs.Prelude.{◌≡◌, ◌≤◌, [], IfOk};
 ghost use Rattle.theory.specs.Plans as plans;
 ghost use Rattle.theory.specs.Plans.{ordered, ordered_within};
+ghost use Rattle.strategies.specs.Strategies.{by_plan, search_by};
+ghost use Rattle.strategies.specs.Deciding.{IsDecidedBy};
 ghost use Rattle.theory.specs.Reading.{standard};
 ghost use Rattle.theory.specs.Texts.{proof_text};
 ghost use Rattle.cnf.specs.Limits.{limits_of};
 ghost use Rattle.join.specs.Walking.{lines_left, IsBetweenNodes};
-ghost use Rattle.cubes.specs.Result.{IsResultOf, Says};
+ghost use Rattle.cubes.specs.Result.{Says};
 ghost use Rattle.runs.specs.Answer.{IsRightAnswer};
 ghost use Rattle.runs.specs.Run.{AreTexts, RunSays};
 ghost use Rattle.runs.specs.Written.{IsAnswer};
@@ -22,6 +24,7 @@ use join::{Lines, answer_bytes};
 use lines::Row;
 use std::alloc::{AllocError, Global};
 use std::io::{Read, Write};
+use strategies::Strategy;
 
 /// What a run is to write.
 pub(crate) struct Output {
@@ -68,22 +71,22 @@ pub(crate) fn answer_of<L>(
     }
 }
 
-/// What is to be written for a formula, whose result is the tree. From here on the run takes no
+/// What is to be written for a formula, which came to the tree by the strategy. From here on the run takes no
 /// more memory, but for the parts of several hands.
 pub(crate) fn output_of(
     alloc: Global,
     formula: &Formula,
     limits: Limits,
-    plan: Plan,
+    strategy: Strategy,
     tree: Tree<Row>,
 ) -> Result<Output, AllocError>
-    requires result { IsResultOf formula.now plan tree }
-    requires says { Says plan.search formula.now tree }
-    ensures texts { IfOk result (λ o. AreTexts (limits_of limits) formula.now plan o.verdict (proof_text (lines_left o.lines)) o.answer.items) }
+    requires result { IsDecidedBy formula.now strategy tree }
+    requires says { Says (search_by strategy) formula.now tree }
+    ensures texts { IfOk result (λ o. AreTexts (limits_of limits) formula.now strategy o.verdict (proof_text (lines_left o.lines)) o.answer.items) }
     ensures lines { IfOk result (λ o. IsBetweenNodes o.lines) }
     ensures buffer { IfOk result (λ o. o.buffer.items ≡ []) }
 {
-    let (_limits, _plan) = (limits, plan); // they are there for the contract alone
+    let (_limits, _strategy) = (limits, strategy); // they are there for the contract alone
     let _vars = formula.vars(); // it ensures what the proof needs of the formula
     let (verdict, answer) = answer_of(alloc, formula, &tree)?;
     let lines = Lines::of(alloc, formula, tree)?;
@@ -107,7 +110,7 @@ pub fn run_one_by_plan<R: Read + Drop, W: Write, P: Write>(
     proof: &mut P,
     plan: Plan,
 ) -> Result<Verdict, RunFault>
-    ensures says { RunSays standard (R.remaining input) plan (P.contents proof.old) (P.contents proof.new) (W.contents answer.old) (W.contents answer.new) result }
+    ensures says { RunSays standard (R.remaining input) (by_plan plan) (P.contents proof.old) (P.contents proof.new) (W.contents answer.old) (W.contents answer.new) result }
     ensures answer_is_right { IfOk result (IsRightAnswer standard plan.search (R.remaining input) (P.contents proof.old) (P.contents proof.new) (W.contents answer.old) (W.contents answer.new)) }
 {
     let formula = match read_from(alloc, input) {
@@ -117,7 +120,8 @@ pub fn run_one_by_plan<R: Read + Drop, W: Write, P: Write>(
     let Ok(tree) = solve_one_by_plan(alloc, &formula, plan) else {
         return Err(RunFault::NoMemory);
     };
-    let mut output = match output_of(alloc, &formula, Limits::Standard, plan, tree) {
+    let strategy = Strategy::of(plan);
+    let mut output = match output_of(alloc, &formula, Limits::Standard, strategy, tree) {
         Ok(output) => output,
         Err(_) => return Err(RunFault::NoMemory),
     };
@@ -135,7 +139,7 @@ pub fn run_one<R: Read + Drop, W: Write, P: Write>(
     budget: u32,
 ) -> Result<Verdict, RunFault>
     requires { (1 ≤ budget) × (budget ≤ 100000) }
-    ensures says { RunSays standard (R.remaining input) (ordered_within budget) (P.contents proof.old) (P.contents proof.new) (W.contents answer.old) (W.contents answer.new) result }
+    ensures says { RunSays standard (R.remaining input) (by_plan (ordered_within budget)) (P.contents proof.old) (P.contents proof.new) (W.contents answer.old) (W.contents answer.new) result }
     ensures answer_is_right { IfOk result (IsRightAnswer standard ordered (R.remaining input) (P.contents proof.old) (P.contents proof.new) (W.contents answer.old) (W.contents answer.new)) }
 {
     run_one_by_plan(alloc, input, answer, proof, Plan::ordered(budget))

@@ -1,15 +1,14 @@
 //! A run that writes an answer and no proof.
 ghost use Rattle.std.specs.Prelude.{◌≤◌, IfOk, MatchOption};
 ghost use Rattle.cnf.specs.Limits.{limits_of};
-ghost use Rattle.cubes.specs.Decided.{IsModelOf, IsRefuted};
+ghost use Rattle.strategies.specs.Deciding.{IsModelOf, IsRefuted};
 ghost use Rattle.runs.specs.Answered.{AnswerSays, IsAnswerFor};
 
 use crate::fault::RunFault;
 use crate::output::write_text;
 use crate::verdict::Verdict;
-use cdcl::Plan;
 use cnf::{Formula, Limits, read_from_within};
-use cubes::{Gate, decide_by_plan};
+use cubes::Gate;
 use join::answer_bytes;
 use statistics::{Observer, Unobserved};
 use std::alloc::{AllocError, Global};
@@ -17,19 +16,20 @@ use std::io::{Read, Write};
 use std::sync::Wait;
 use std::thread::Threads;
 use std::time::Clock;
+use strategies::{Stages, Strategy, decide_by_strategy};
 
 /// The verdict, and the text of the answer, where the formula has this model, or none.
 fn text_of(
     alloc: Global,
     formula: &Formula,
     limits: Limits,
-    plan: Plan,
+    strategy: Strategy,
     found: Option<Vec<bool>>,
 ) -> Result<(Verdict, Vec<u8>), AllocError>
-    requires { MatchOption found (IsRefuted formula.now plan) (λ values. IsModelOf formula.now plan values.items) }
-    ensures { IfOk result (λ p. IsAnswerFor (limits_of limits) formula.now plan p.0 p.1.items) }
+    requires { MatchOption found (IsRefuted formula.now strategy) (λ values. IsModelOf formula.now strategy values.items) }
+    ensures { IfOk result (λ p. IsAnswerFor (limits_of limits) formula.now strategy p.0 p.1.items) }
 {
-    let (_limits, _plan) = (limits, plan); // they are there for the contract alone
+    let (_limits, _strategy) = (limits, strategy); // they are there for the contract alone
     let _vars = formula.vars(); // it ensures what the proof needs of the formula
     match found {
         Some(values) => {
@@ -50,31 +50,32 @@ pub(crate) fn answer_observed<
     R: Read + Drop,
     W: Write,
     G: Gate + Sync,
-    O: Observer,
+    O: Observer + Stages,
 >(
     rt: &T,
     alloc: Global,
     input: R,
     limits: Limits,
     answer: &mut W,
-    plan: Plan,
+    strategy: Strategy,
     hands: usize,
     gate: &G,
     observer: &O,
 ) -> Result<Verdict, RunFault>
     requires { (1 ≤ hands) × (hands ≤ 16) }
-    ensures { AnswerSays (limits_of limits) (R.remaining input) plan (W.contents answer.old) (W.contents answer.new) result }
+    ensures { AnswerSays (limits_of limits) (R.remaining input) strategy (W.contents answer.old) (W.contents answer.new) result }
 {
     let formula = match read_from_within(alloc, input, limits) {
         Ok(formula) => formula,
         Err(fault) => return Err(RunFault::of_read(fault)),
     };
     observer.read(&formula);
-    let Ok(found) = decide_by_plan(rt, alloc, &formula, plan, hands, gate) else {
+    let decided = decide_by_strategy(rt, alloc, &formula, strategy, hands, gate, observer);
+    let Ok(found) = decided else {
         return Err(RunFault::NoMemory);
     };
     observer.decided();
-    let (verdict, text) = match text_of(alloc, &formula, limits, plan, found) {
+    let (verdict, text) = match text_of(alloc, &formula, limits, strategy, found) {
         Ok(pair) => pair,
         Err(_) => return Err(RunFault::NoMemory),
     };
@@ -83,7 +84,7 @@ pub(crate) fn answer_observed<
     Ok(verdict)
 }
 
-/// Decides the formula of a DIMACS text by the plan, by 1 to 16 hands, and writes and flushes the
+/// Decides the formula of a DIMACS text by the strategy, by 1 to 16 hands, and writes and flushes the
 /// answer: the bytes that `run_within` writes. No proof is made of it, and none of its lines is
 /// kept. `RunFault` says when each fault comes and what is written then.
 pub fn answer_within<T: Threads + Wait + Clock + Sync, R: Read + Drop, W: Write, G: Gate + Sync>(
@@ -92,15 +93,15 @@ pub fn answer_within<T: Threads + Wait + Clock + Sync, R: Read + Drop, W: Write,
     input: R,
     limits: Limits,
     answer: &mut W,
-    plan: Plan,
+    strategy: Strategy,
     hands: usize,
     gate: &G,
 ) -> Result<Verdict, RunFault>
     requires { (1 ≤ hands) × (hands ≤ 16) }
-    ensures { AnswerSays (limits_of limits) (R.remaining input) plan (W.contents answer.old) (W.contents answer.new) result }
+    ensures { AnswerSays (limits_of limits) (R.remaining input) strategy (W.contents answer.old) (W.contents answer.new) result }
 {
     let observer = Unobserved;
     answer_observed(
-        rt, alloc, input, limits, answer, plan, hands, gate, &observer,
+        rt, alloc, input, limits, answer, strategy, hands, gate, &observer,
     )
 }

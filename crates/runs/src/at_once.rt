@@ -2,6 +2,7 @@
 //! through the formula's tree once: the proof is written as the nodes come.
 ghost use Rattle.std.specs.Prelude.{◌≡◌, ◌⊎◌, [], length, IsNone, IfOk, IfErr, IfSome, MatchResult};
 ghost use Rattle.theory.specs.Pure.{pure_literals};
+ghost use Rattle.strategies.specs.Strategies.{by_plan};
 ghost use Rattle.cnf.specs.Limits.{limits_of};
 ghost use Rattle.join.specs.Joining.{before_nodes};
 ghost use Rattle.join.specs.Walking.{joined};
@@ -68,7 +69,7 @@ fn gather_at_once_by<R: Read + Drop, S: KeepsFacts + Drop, H: OpensOutcomes<S>, 
     ensures none { IfOk result (λ o. IsNone o → HasNoProof (limits_of limits) (R.remaining input) (W.contents answer.old) (W.contents answer.new)) }
     ensures leaves { IfErr result (LeavesAtOnce (limits_of limits) plan.search (R.remaining input) (P.contents proof.old) (P.contents proof.new) (W.contents answer.old) (W.contents answer.new)) }
     ensures says { AreTrueStored S.facts (limits_of limits) (R.remaining input) plan store →
-        IfOk result (λ o. IfSome o (λ g. WritesBoth (limits_of limits) (R.remaining input) plan (P.contents proof.old) (P.contents proof.new) (W.contents answer.old) (W.contents answer.new) g.verdict)) }
+        IfOk result (λ o. IfSome o (λ g. WritesBoth (limits_of limits) (R.remaining input) (by_plan plan) (P.contents proof.old) (P.contents proof.new) (W.contents answer.old) (W.contents answer.new) g.verdict)) }
 {
     let formula = match read_from_within(alloc, input, limits) {
         Ok(formula) => formula,
@@ -114,7 +115,7 @@ pub fn gather_at_once<R: Read + Drop, S: KeepsFacts + Drop, W: Write, P: Write>(
     ensures none { IfOk result (λ o. IsNone o → HasNoProof (limits_of limits) (R.remaining input) (W.contents answer.old) (W.contents answer.new)) }
     ensures leaves { IfErr result (LeavesAtOnce (limits_of limits) plan.search (R.remaining input) (P.contents proof.old) (P.contents proof.new) (W.contents answer.old) (W.contents answer.new)) }
     ensures says { AreTrueStored S.facts (limits_of limits) (R.remaining input) plan store →
-        IfOk result (λ o. IfSome o (λ g. WritesBoth (limits_of limits) (R.remaining input) plan (P.contents proof.old) (P.contents proof.new) (W.contents answer.old) (W.contents answer.new) g.verdict)) }
+        IfOk result (λ o. IfSome o (λ g. WritesBoth (limits_of limits) (R.remaining input) (by_plan plan) (P.contents proof.old) (P.contents proof.new) (W.contents answer.old) (W.contents answer.new) g.verdict)) }
 {
     gather_at_once_by(alloc, input, limits, store, answer, proof, plan, &OneHand)
 }
@@ -143,7 +144,7 @@ pub fn gather_at_once_by_hands<
     ensures none { IfOk result (λ o. IsNone o → HasNoProof (limits_of limits) (R.remaining input) (W.contents answer.old) (W.contents answer.new)) }
     ensures leaves { IfErr result (LeavesAtOnce (limits_of limits) plan.search (R.remaining input) (P.contents proof.old) (P.contents proof.new) (W.contents answer.old) (W.contents answer.new)) }
     ensures says { AreTrueStored S.facts (limits_of limits) (R.remaining input) plan store →
-        IfOk result (λ o. IfSome o (λ g. WritesBoth (limits_of limits) (R.remaining input) plan (P.contents proof.old) (P.contents proof.new) (W.contents answer.old) (W.contents answer.new) g.verdict)) }
+        IfOk result (λ o. IfSome o (λ g. WritesBoth (limits_of limits) (R.remaining input) (by_plan plan) (P.contents proof.old) (P.contents proof.new) (W.contents answer.old) (W.contents answer.new) g.verdict)) }
 {
     let hands = ManyHands { rt, count: hands };
     gather_at_once_by(alloc, input, limits, store, answer, proof, plan, &hands)

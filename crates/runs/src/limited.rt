@@ -1,5 +1,6 @@
 //! A run that ends where a limit is reached.
 ghost use Rattle.std.specs.Prelude.{◌≡◌, ◌≤◌, IfOk, IfSome};
+ghost use Rattle.strategies.specs.Strategies.{search_by};
 ghost use Rattle.cnf.specs.Limits.{limits_of};
 ghost use Rattle.runs.specs.Answer.{IsRightAnswer};
 ghost use Rattle.runs.specs.Limited.{EndsUnsolved, LimitedAnswerSays, LimitedRunSays};
@@ -10,7 +11,6 @@ use crate::limit::{Limit, LimitedGate};
 use crate::output::write_text;
 use crate::threaded::run_observed;
 use crate::verdict::Verdict;
-use cdcl::Plan;
 use cnf::Limits;
 use cubes::Gate;
 use statistics::{Observer, Unobserved};
@@ -19,6 +19,7 @@ use std::io::{Read, Write};
 use std::sync::Wait;
 use std::thread::Threads;
 use std::time::Clock;
+use strategies::{Stages, Strategy};
 
 /// What a run answers that wasn't solved: where the limit is reached, it writes that the answer is
 /// unknown, and else memory was refused.
@@ -46,7 +47,7 @@ pub fn run_limited_observed<
     P: Write,
     G: Gate + Sync,
     L: Limit + Sync,
-    O: Observer,
+    O: Observer + Stages,
 >(
     rt: &T,
     alloc: Global,
@@ -54,19 +55,19 @@ pub fn run_limited_observed<
     limits: Limits,
     answer: &mut W,
     proof: &mut P,
-    plan: Plan,
+    strategy: Strategy,
     hands: usize,
     gate: &G,
     limit: &L,
     observer: &O,
 ) -> Result<Option<Verdict>, RunFault>
     requires hands { (1 ≤ hands) × (hands ≤ 16) }
-    ensures says { LimitedRunSays (limits_of limits) (L.is_reached limit.now) (R.remaining input) plan (P.contents proof.old) (P.contents proof.new) (W.contents answer.old) (W.contents answer.new) result }
-    ensures answer_is_right { IfOk result (λ v. IfSome v (IsRightAnswer (limits_of limits) plan.search (R.remaining input) (P.contents proof.old) (P.contents proof.new) (W.contents answer.old) (W.contents answer.new))) }
+    ensures says { LimitedRunSays (limits_of limits) (L.is_reached limit.now) (R.remaining input) strategy (P.contents proof.old) (P.contents proof.new) (W.contents answer.old) (W.contents answer.new) result }
+    ensures answer_is_right { IfOk result (λ v. IfSome v (IsRightAnswer (limits_of limits) (search_by strategy) (R.remaining input) (P.contents proof.old) (P.contents proof.new) (W.contents answer.old) (W.contents answer.new))) }
 {
     let gate = LimitedGate { gate, limit };
     match run_observed(
-        rt, alloc, input, limits, answer, proof, plan, hands, &gate, observer,
+        rt, alloc, input, limits, answer, proof, strategy, hands, &gate, observer,
     ) {
         Ok(verdict) => Ok(Some(verdict)),
         Err(RunFault::NoMemory) => end_unsolved(answer, limit, observer),
@@ -82,25 +83,25 @@ pub fn answer_limited_observed<
     W: Write,
     G: Gate + Sync,
     L: Limit + Sync,
-    O: Observer,
+    O: Observer + Stages,
 >(
     rt: &T,
     alloc: Global,
     input: R,
     limits: Limits,
     answer: &mut W,
-    plan: Plan,
+    strategy: Strategy,
     hands: usize,
     gate: &G,
     limit: &L,
     observer: &O,
 ) -> Result<Option<Verdict>, RunFault>
     requires { (1 ≤ hands) × (hands ≤ 16) }
-    ensures { LimitedAnswerSays (limits_of limits) (L.is_reached limit.now) (R.remaining input) plan (W.contents answer.old) (W.contents answer.new) result }
+    ensures { LimitedAnswerSays (limits_of limits) (L.is_reached limit.now) (R.remaining input) strategy (W.contents answer.old) (W.contents answer.new) result }
 {
     let gate = LimitedGate { gate, limit };
     match answer_observed(
-        rt, alloc, input, limits, answer, plan, hands, &gate, observer,
+        rt, alloc, input, limits, answer, strategy, hands, &gate, observer,
     ) {
         Ok(verdict) => Ok(Some(verdict)),
         Err(RunFault::NoMemory) => end_unsolved(answer, limit, observer),
@@ -123,13 +124,13 @@ pub fn answer_limited_within<
     input: R,
     limits: Limits,
     answer: &mut W,
-    plan: Plan,
+    strategy: Strategy,
     hands: usize,
     gate: &G,
     limit: &L,
 ) -> Result<Option<Verdict>, RunFault>
     requires { (1 ≤ hands) × (hands ≤ 16) }
-    ensures { LimitedAnswerSays (limits_of limits) (L.is_reached limit.now) (R.remaining input) plan (W.contents answer.old) (W.contents answer.new) result }
+    ensures { LimitedAnswerSays (limits_of limits) (L.is_reached limit.now) (R.remaining input) strategy (W.contents answer.old) (W.contents answer.new) result }
 {
     answer_limited_observed(
         rt,
@@ -137,7 +138,7 @@ pub fn answer_limited_within<
         input,
         limits,
         answer,
-        plan,
+        strategy,
         hands,
         gate,
         limit,
@@ -163,14 +164,14 @@ pub fn run_limited_within<
     limits: Limits,
     answer: &mut W,
     proof: &mut P,
-    plan: Plan,
+    strategy: Strategy,
     hands: usize,
     gate: &G,
     limit: &L,
 ) -> Result<Option<Verdict>, RunFault>
     requires hands { (1 ≤ hands) × (hands ≤ 16) }
-    ensures says { LimitedRunSays (limits_of limits) (L.is_reached limit.now) (R.remaining input) plan (P.contents proof.old) (P.contents proof.new) (W.contents answer.old) (W.contents answer.new) result }
-    ensures answer_is_right { IfOk result (λ v. IfSome v (IsRightAnswer (limits_of limits) plan.search (R.remaining input) (P.contents proof.old) (P.contents proof.new) (W.contents answer.old) (W.contents answer.new))) }
+    ensures says { LimitedRunSays (limits_of limits) (L.is_reached limit.now) (R.remaining input) strategy (P.contents proof.old) (P.contents proof.new) (W.contents answer.old) (W.contents answer.new) result }
+    ensures answer_is_right { IfOk result (λ v. IfSome v (IsRightAnswer (limits_of limits) (search_by strategy) (R.remaining input) (P.contents proof.old) (P.contents proof.new) (W.contents answer.old) (W.contents answer.new))) }
 {
     run_limited_observed(
         rt,
@@ -179,7 +180,7 @@ pub fn run_limited_within<
         limits,
         answer,
         proof,
-        plan,
+        strategy,
         hands,
         gate,
         limit,

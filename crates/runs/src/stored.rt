@@ -1,10 +1,12 @@
 //! A run without threads, over facts that are kept elsewhere and that nobody vouches for. Its proof
 //! is written while they are read again, so that no more than one of them is in memory.
-ghost use Rattle.std.specs.Prelude.{List, IfOk, IfErr, MatchResult, ℕ};
+ghost use Rattle.std.specs.Prelude.{◌≡◌, List, None, IfOk, IfErr, MatchResult, ℕ};
 ghost use Rattle.std.specs.Io.KnownBytes.{Appends};
 ghost use Rattle.theory.specs.Truth.{Satisfiable};
+ghost use Rattle.theory.specs.Plans as plans;
 ghost use Rattle.cnf.specs.Limits.{limits_of};
 ghost use Rattle.cubes.specs.Result.{Says};
+ghost use Rattle.strategies.specs.Strategies.{search_by};
 ghost use Rattle.runs.specs.Answer.{IsRightAnswer};
 ghost use Rattle.runs.specs.Run.{WritesBoth};
 ghost use Rattle.runs.specs.Stored.{AreTrueStored, IsProofOf, IsProofText, IsUnwritten, LeavesStored};
@@ -17,11 +19,12 @@ use crate::proof_stream::ProofStream;
 use crate::verdict::Verdict;
 use cdcl::{Plan, Unkept};
 use cnf::{Formula, Limits, read_from_within};
-use cubes::{GivesOutcomes, Tree, Untaken, go_through};
+use cubes::{GivesOutcomes, OpenGate, Tree, Untaken, go_through};
 use gathering::{CountsOutcomes, KeepsFacts, ManyHands, OneHand, OpensOutcomes};
 use std::alloc::Global;
 use std::io::{Read, Write};
 use std::thread::Threads;
+use strategies::{Strategy, Unstaged, answered};
 
 /// What a run over stored facts comes to.
 #[derive(Clone, Copy, Debug, PartialEq, Eq)]
@@ -67,7 +70,7 @@ fn write_proof_of<O: GivesOutcomes, P: Write>(
     proof: &mut P,
 ) -> Result<(), RunFault>
     requires gives { O.gives outcomes.old formula.now plan }
-    requires says { Says plan.search formula.now tree.now }
+    requires says { (search : plans.Search) × Says search formula.now tree.now }
     ensures { MatchResult result
         (λ _. (text : List ℕ) × IsProofOf formula.now plan (O.gives_own outcomes.old formula.now plan) tree.now text × Appends (P.contents proof.old) (P.contents proof.new) text)
         (IsUnwritten (P.contents proof.old) (P.contents proof.new)) }
@@ -86,20 +89,22 @@ fn gather_stored_by<R: Read + Drop, S: KeepsFacts + Drop, H: OpensOutcomes<S>, W
     store: S,
     answer: &mut W,
     proof: &mut P,
-    plan: Plan,
+    strategy: Strategy,
     hands: &H,
 ) -> Result<GatheredFrom, RunFault>
-    requires { H.opens hands.now }
-    ensures answer_is_right { IfOk result (λ g. IsRightAnswer (limits_of limits) plan.search (R.remaining input) (P.contents proof.old) (P.contents proof.new) (W.contents answer.old) (W.contents answer.new) g.verdict) }
-    ensures leaves { IfErr result (LeavesStored (limits_of limits) plan.search (R.remaining input) (P.contents proof.old) (P.contents proof.new) (W.contents answer.old) (W.contents answer.new)) }
-    ensures says { AreTrueStored S.facts (limits_of limits) (R.remaining input) plan store →
-        IfOk result (λ g. WritesBoth (limits_of limits) (R.remaining input) plan (P.contents proof.old) (P.contents proof.new) (W.contents answer.old) (W.contents answer.new) g.verdict) }
+    requires opens { H.opens hands.now }
+    requires alone { strategy.first ≡ None }
+    ensures answer_is_right { IfOk result (λ g. IsRightAnswer (limits_of limits) (search_by strategy) (R.remaining input) (P.contents proof.old) (P.contents proof.new) (W.contents answer.old) (W.contents answer.new) g.verdict) }
+    ensures leaves { IfErr result (LeavesStored (limits_of limits) (search_by strategy) (R.remaining input) (P.contents proof.old) (P.contents proof.new) (W.contents answer.old) (W.contents answer.new)) }
+    ensures says { AreTrueStored S.facts (limits_of limits) (R.remaining input) strategy.plan store →
+        IfOk result (λ g. WritesBoth (limits_of limits) (R.remaining input) strategy (P.contents proof.old) (P.contents proof.new) (W.contents answer.old) (W.contents answer.new) g.verdict) }
 {
     let formula = match read_from_within(alloc, input, limits) {
         Ok(formula) => formula,
         Err(fault) => return Err(RunFault::of_read(fault)),
     };
     let _vars = formula.vars(); // it ensures what the proof needs of the formula
+    let plan = strategy.plan();
     let Ok(mut outcomes) = hands.open(alloc, &formula, plan, store) else {
         return Err(RunFault::NoMemory);
     };
@@ -107,6 +112,9 @@ fn gather_stored_by<R: Read + Drop, S: KeepsFacts + Drop, H: OpensOutcomes<S>, W
         return Err(RunFault::NoMemory);
     };
     let (taken, solved) = (outcomes.taken(), outcomes.solved());
+    let Ok(tree) = answered(alloc, &formula, strategy, tree, &OpenGate, &Unstaged) else {
+        return Err(RunFault::NoMemory);
+    };
     let (verdict, text) = match answer_of(alloc, &formula, &tree) {
         Ok(pair) => pair,
         Err(_) => return Err(RunFault::NoMemory),
@@ -126,8 +134,9 @@ fn gather_stored_by<R: Read + Drop, S: KeepsFacts + Drop, H: OpensOutcomes<S>, W
 /// cubes that it needs, it takes what a check bears out, each time, and solves the others. So its
 /// answer is right whatever the store gives, and also where that changes in between; where the store
 /// tells what it gives, and all of that is true of the formula by the plan, the very bytes of
-/// `run_one_by_plan` are written. It takes memory by the formula, a few bytes for each node of the
-/// tree, and the longest fact. `RunFault` says when each fault comes; in the second way through the
+/// `run_within` are written. The strategy has no search before its plan: whoever began the run has
+/// chosen that; its model may be lowered to the first one. It takes memory by the formula, a few
+/// bytes for each node of the tree, and the longest fact. `RunFault` says when each fault comes; in the second way through the
 /// tree want of memory is a proof that can't be written.
 pub fn gather_stored<R: Read + Drop, S: KeepsFacts + Drop, W: Write, P: Write>(
     alloc: Global,
@@ -136,14 +145,17 @@ pub fn gather_stored<R: Read + Drop, S: KeepsFacts + Drop, W: Write, P: Write>(
     store: S,
     answer: &mut W,
     proof: &mut P,
-    plan: Plan,
+    strategy: Strategy,
 ) -> Result<GatheredFrom, RunFault>
-    ensures answer_is_right { IfOk result (λ g. IsRightAnswer (limits_of limits) plan.search (R.remaining input) (P.contents proof.old) (P.contents proof.new) (W.contents answer.old) (W.contents answer.new) g.verdict) }
-    ensures leaves { IfErr result (LeavesStored (limits_of limits) plan.search (R.remaining input) (P.contents proof.old) (P.contents proof.new) (W.contents answer.old) (W.contents answer.new)) }
-    ensures says { AreTrueStored S.facts (limits_of limits) (R.remaining input) plan store →
-        IfOk result (λ g. WritesBoth (limits_of limits) (R.remaining input) plan (P.contents proof.old) (P.contents proof.new) (W.contents answer.old) (W.contents answer.new) g.verdict) }
+    requires { strategy.first ≡ None }
+    ensures answer_is_right { IfOk result (λ g. IsRightAnswer (limits_of limits) (search_by strategy) (R.remaining input) (P.contents proof.old) (P.contents proof.new) (W.contents answer.old) (W.contents answer.new) g.verdict) }
+    ensures leaves { IfErr result (LeavesStored (limits_of limits) (search_by strategy) (R.remaining input) (P.contents proof.old) (P.contents proof.new) (W.contents answer.old) (W.contents answer.new)) }
+    ensures says { AreTrueStored S.facts (limits_of limits) (R.remaining input) strategy.plan store →
+        IfOk result (λ g. WritesBoth (limits_of limits) (R.remaining input) strategy (P.contents proof.old) (P.contents proof.new) (W.contents answer.old) (W.contents answer.new) g.verdict) }
 {
-    gather_stored_by(alloc, input, limits, store, answer, proof, plan, &OneHand)
+    gather_stored_by(
+        alloc, input, limits, store, answer, proof, strategy, &OneHand,
+    )
 }
 
 /// What `gather_stored` does, by so many hands: each checks facts in a thread of its own, where one
@@ -163,14 +175,15 @@ pub fn gather_stored_by_hands<
     store: S,
     answer: &mut W,
     proof: &mut P,
-    plan: Plan,
+    strategy: Strategy,
     hands: usize,
 ) -> Result<GatheredFrom, RunFault>
-    ensures answer_is_right { IfOk result (λ g. IsRightAnswer (limits_of limits) plan.search (R.remaining input) (P.contents proof.old) (P.contents proof.new) (W.contents answer.old) (W.contents answer.new) g.verdict) }
-    ensures leaves { IfErr result (LeavesStored (limits_of limits) plan.search (R.remaining input) (P.contents proof.old) (P.contents proof.new) (W.contents answer.old) (W.contents answer.new)) }
-    ensures says { AreTrueStored S.facts (limits_of limits) (R.remaining input) plan store →
-        IfOk result (λ g. WritesBoth (limits_of limits) (R.remaining input) plan (P.contents proof.old) (P.contents proof.new) (W.contents answer.old) (W.contents answer.new) g.verdict) }
+    requires { strategy.first ≡ None }
+    ensures answer_is_right { IfOk result (λ g. IsRightAnswer (limits_of limits) (search_by strategy) (R.remaining input) (P.contents proof.old) (P.contents proof.new) (W.contents answer.old) (W.contents answer.new) g.verdict) }
+    ensures leaves { IfErr result (LeavesStored (limits_of limits) (search_by strategy) (R.remaining input) (P.contents proof.old) (P.contents proof.new) (W.contents answer.old) (W.contents answer.new)) }
+    ensures says { AreTrueStored S.facts (limits_of limits) (R.remaining input) strategy.plan store →
+        IfOk result (λ g. WritesBoth (limits_of limits) (R.remaining input) strategy (P.contents proof.old) (P.contents proof.new) (W.contents answer.old) (W.contents answer.new) g.verdict) }
 {
     let hands = ManyHands { rt, count: hands };
-    gather_stored_by(alloc, input, limits, store, answer, proof, plan, &hands)
+    gather_stored_by(alloc, input, limits, store, answer, proof, strategy, &hands)
 }

@@ -10,6 +10,7 @@ use runs::{gather_at_once, gather_stored};
 use samples::{FOUR, FOUR_PROOF};
 use std::alloc::{AllocError, Global};
 use std::test::Fail;
+use strategies::Strategy;
 
 /// The cube without literals is split on 1, or on 2, or on 3.
 const SPLIT_1: &[u8] = &[0, 2, 1, 0];
@@ -288,7 +289,7 @@ fn writes(alloc: Global, row: &Row) -> Result<bool, Fail> {
         store,
         &mut answer,
         &mut proof,
-        plan_of(row.search),
+        Strategy::of(plan_of(row.search)),
     )?;
     Ok(
         gathered.taken == row.taken

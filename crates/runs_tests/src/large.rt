@@ -11,6 +11,7 @@ use std::sync::Wait;
 use std::test::Fail;
 use std::thread::Threads;
 use std::time::Clock;
+use strategies::Strategy;
 
 /// One more variable than the standard limits allow, and two clauses that refute it.
 const WIDE: &[u8] = b"p cnf 262144 2\n1 0\n-1 0\n";
@@ -20,11 +21,12 @@ const REFUSED: RunFault = RunFault::Read(ReadFault::OverLimit(Place { line: 1, c
 
 /// Whether a run within the large limits writes the four clauses' proof.
 fn runs(rt: &(impl Threads + Wait + Clock + Sync), alloc: Global) -> Result<bool, RunFault> {
-    let (limits, plan, gate) = (Limits::Large, Plan::ordered(1), OpenGate);
+    let (limits, gate) = (Limits::Large, OpenGate);
+    let strategy = Strategy::of(Plan::ordered(1));
     let (mut said, mut lines) = (Vec::new(alloc), Vec::new(alloc));
     let formula = FOUR.as_bytes();
     let verdict = run_within(
-        rt, alloc, formula, limits, &mut said, &mut lines, plan, 2, &gate,
+        rt, alloc, formula, limits, &mut said, &mut lines, strategy, 2, &gate,
     )?;
     Ok(
         verdict == Verdict::Unsatisfiable
@@ -44,14 +46,23 @@ fn is_refusal(fault: RunFault) -> Result<bool, RunFault> {
 /// Whether the wide formula is refused within the standard limits, and answered within the large
 /// ones.
 fn answers(rt: &(impl Threads + Wait + Clock + Sync), alloc: Global) -> Result<bool, RunFault> {
-    let (plan, gate) = (Plan::ordered(1000), OpenGate);
+    let (strategy, gate) = (Strategy::of(Plan::ordered(1000)), OpenGate);
     let mut said = Vec::new(alloc);
-    let Err(fault) = answer_within(rt, alloc, WIDE, Limits::Standard, &mut said, plan, 1, &gate)
-    else {
+    let standard = Limits::Standard;
+    let Err(fault) = answer_within(rt, alloc, WIDE, standard, &mut said, strategy, 1, &gate) else {
         return Ok(false);
     };
     let is_refused = is_refusal(fault)? && said.is_empty();
-    let verdict = answer_within(rt, alloc, WIDE, Limits::Large, &mut said, plan, 1, &gate)?;
+    let verdict = answer_within(
+        rt,
+        alloc,
+        WIDE,
+        Limits::Large,
+        &mut said,
+        strategy,
+        1,
+        &gate,
+    )?;
     Ok(
         is_refused
             && verdict == Verdict::Unsatisfiable

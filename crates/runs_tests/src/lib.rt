@@ -1,12 +1,14 @@
-//! Worked rows: the bytes of the proof and the answer for the bytes of a formula, by both searches,
-//! and the line for those of a proof; what failing readers and writers leave; two hands at a gate;
-//! proofs of many steps, one that three hands make, and those with one byte changed; examples from
-//! end to end; runs that end where a limit is reached; and runs over stored facts, by one hand and by
-//! several, and the tables by which a store finds them.
+//! Worked rows: the bytes of the proof and the answer for the bytes of a formula, by both searches
+//! and by strategies of them, and the line for those of a proof; what failing readers and writers
+//! leave; two hands at a gate; proofs of many steps, one that three hands make, and those with one
+//! byte changed; examples from end to end; runs that end where a limit is reached; and runs over
+//! stored facts, by one hand and by several, and the tables by which a store finds them.
 #![tactic(auto)]
 
 #[cfg(test)]
 mod at_once;
+#[cfg(test)]
+mod by_strategy;
 #[cfg(test)]
 mod check;
 #[cfg(test)]

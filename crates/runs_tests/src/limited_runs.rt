@@ -13,6 +13,7 @@ use std::sync::Wait;
 use std::sync::atomic::{AtomicU64, Ordering};
 use std::thread::Threads;
 use std::time::Clock;
+use strategies::Strategy;
 
 /// A limit that is reached once it was asked so often.
 #[derive(Drop)]
@@ -115,7 +116,7 @@ fn holds<R: Threads + Wait + Clock + Sync>(rt: &R, alloc: Global, row: &Row, han
     let mut answer = Limited::new(alloc, Limits::of(row.room));
     let mut proof = Vec::new(alloc);
     let input = row.formula.as_bytes();
-    let plan = Plan::ordered(1);
+    let strategy = Strategy::of(Plan::ordered(1));
     let gate = OpenGate;
     let result = run_limited_within(
         rt,
@@ -124,7 +125,7 @@ fn holds<R: Threads + Wait + Clock + Sync>(rt: &R, alloc: Global, row: &Row, han
         cnf::Limits::Standard,
         &mut answer,
         &mut proof,
-        plan,
+        strategy,
         hands,
         &gate,
         &limit,

@@ -12,6 +12,7 @@ use samples::{EIGHT, SIXTEEN, TWO_MODELS};
 use std::alloc::{AllocError, Global};
 use std::test::Fail;
 use std::thread::Threads;
+use strategies::Strategy;
 
 /// What becomes of the facts of a whole tree.
 #[derive(Clone, Copy)]
@@ -113,7 +114,16 @@ fn written_alone(
     let (mut proof, mut answer) = (Vec::new(alloc), Vec::new(alloc));
     let limits = Limits::Standard;
     let input = text.as_bytes();
-    let gathered = gather_stored(alloc, input, limits, store, &mut answer, &mut proof, plan)?;
+    let strategy = Strategy::of(plan);
+    let gathered = gather_stored(
+        alloc,
+        input,
+        limits,
+        store,
+        &mut answer,
+        &mut proof,
+        strategy,
+    )?;
     Ok(Written {
         gathered,
         proof,
@@ -142,7 +152,7 @@ fn written_by<R: Threads + Sync>(
         store,
         &mut answer,
         &mut proof,
-        plan,
+        Strategy::of(plan),
         hands,
     )?;
     Ok(Written {

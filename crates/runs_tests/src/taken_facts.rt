@@ -10,6 +10,7 @@ use runs::{GatheredFrom, RunFault, gather_at_once, gather_stored};
 use samples::{FOUR, cube_of};
 use std::alloc::{AllocError, Global};
 use std::test::Fail;
+use strategies::Strategy;
 
 /// What is said of a cube; where it is refuted, by an empty clause with these hints.
 #[derive(Clone, Copy)]
@@ -200,7 +201,7 @@ fn is_taken(alloc: Global, case: &Case, store: FactsInMemory) -> Result<bool, Ru
         store,
         &mut answer,
         &mut proof,
-        plan_of(case.search),
+        Strategy::of(plan_of(case.search)),
     )?;
     let GatheredFrom { taken, solved, .. } = gathered;
     Ok(taken == case.taken && solved == case.solved && answer.as_slice() == case.answer.as_bytes())

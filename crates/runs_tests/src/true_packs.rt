@@ -10,6 +10,7 @@ use runs::{GatheredFrom, RunFault, Verdict, gather_at_once, gather_stored, run_o
 use samples::{EIGHT, SIXTEEN, TWO_MODELS, cube_of};
 use std::alloc::{AllocError, Global};
 use std::test::Fail;
+use strategies::Strategy;
 
 /// Puts what is so of a cube behind a pack. It answers the variable that the cube is split on.
 fn put_fact(
@@ -77,7 +78,16 @@ fn gathered_from(
     let mut answer = Vec::new(alloc);
     let limits = Limits::Standard;
     let input = text.as_bytes();
-    let gathered = gather_stored(alloc, input, limits, store, &mut answer, &mut proof, plan)?;
+    let strategy = Strategy::of(plan);
+    let gathered = gather_stored(
+        alloc,
+        input,
+        limits,
+        store,
+        &mut answer,
+        &mut proof,
+        strategy,
+    )?;
     Ok(Written {
         gathered,
         proof,

@@ -1,9 +1,11 @@
 -- What the file of a run says.
-use Rattle.std.specs.Prelude.{◌≡◌, ℕ, List, string_bytes}
+use Rattle.std.specs.Prelude.{◌≡◌, ℕ, List, None, string_bytes}
 use Rattle.theory.specs.Truth as truth
 use Rattle.theory.specs.Plans.{Plan, ordered_within, focused, default_constants}
 use Rattle.theory.specs.Reading.{ReadsWithin, formula}
 use Rattle.cnf.specs.Limits.{limits_of}
+use Rattle.strategies.specs.Strategies.{Strategy}
+use Rattle.strategies.specs.Choosing.{IsChosen}
 use Rattle.cdcl.specs.declared.plan.Search.{Search}
 use Rattle.cdcl.specs.declared.plan.Search.TheVariants.{Ordered, Focused}
 use Rattle.spread.specs.declared.run_file.RunFile.{RunFile}
@@ -13,6 +15,15 @@ use Rattle.spread.specs.Sums.{sum_of}
 abbrev pub plan_by : Search → (budget divide : ℕ) → Plan
 plan_by Ordered budget divide = ordered_within budget
 plan_by Focused budget divide = record { search = focused default_constants; budget = budget; divide = divide }
+
+-- the strategy decides the formula by its plan alone, the one that was chosen by another
+abbrev pub IsSettled : truth.Formula → Strategy → Strategy → Type 0
+IsSettled F s t = (plan : Plan) × IsChosen F s plan × (t ≡ record s { first = None; plan = plan })
+
+-- by what the proof and the answer of a run are written: its plan, and the first model where it
+-- says so
+abbrev pub written_by : RunFile → Strategy
+written_by run = record { first = None; plan = run.plan; lowers = run.lowers }
 
 -- the formula of a run: bytes with its sum are read as it, within its limits
 pub record IsFormulaOf (run : RunFile) (F : truth.Formula) : Type 0 where

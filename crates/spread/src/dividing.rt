@@ -2,6 +2,7 @@
 ghost use Rattle.std.specs.Prelude.{◌≡◌, All, IfOk, length};
 ghost use Rattle.gathering.specs.Facts.{IsTrueFact};
 ghost use Rattle.spread.specs.Progress.{progress_by};
+ghost use Rattle.spread.specs.RunFiles.{IsSettled};
 
 use crate::breadth::{Division, by_breadth};
 use crate::files::{read_file, write_file};
@@ -12,13 +13,14 @@ use crate::round_file::{next_round, write_round};
 use crate::run_file::{RunFile, formula_in, formula_of, run_in, run_of, run_text};
 use crate::said::{Said, say, say_error, say_no_memory};
 use crate::sums::sum_of;
-use cdcl::Plan;
 use cnf::{Formula, Limits};
+use cubes::OpenGate;
 use kernel::Cube;
 use std::alloc::{AllocError, Global};
 use std::fs::Files;
 use std::io::{ErrorKind, Write};
 use std::{fs, io};
+use strategies::{Strategy, Unstaged, chosen};
 
 /// What is known of the formula of a run.
 #[derive(Clone, Copy, Debug, PartialEq, Eq)]
@@ -68,22 +70,23 @@ fn has_run<R: Files>(rt: &R, alloc: Global, folder: Folder) -> io::Result<bool> 
 /// The text of the file that says what the run is.
 fn text_for(
     alloc: Global,
-    plan: &Plan,
+    strategy: Strategy,
     limits: Limits,
     bytes: &[u8],
 ) -> Result<String, AllocError> {
     let sum = sum_of(alloc, bytes)?;
-    run_text(alloc, plan, limits, sum.as_str())
+    let (plan, lowers) = (strategy.plan(), strategy.lowers());
+    run_text(alloc, &plan, lowers, limits, sum.as_str())
 }
 
-/// The run of a plan, some limits and a formula's bytes, with its text.
+/// The run of a strategy's plan, some limits and a formula's bytes, with its text.
 fn new_run(
     alloc: Global,
-    plan: &Plan,
+    strategy: Strategy,
     limits: Limits,
     bytes: &[u8],
 ) -> Result<Option<(RunFile, String)>, AllocError> {
-    let text = text_for(alloc, plan, limits, bytes)?;
+    let text = text_for(alloc, strategy, limits, bytes)?;
     match run_of(alloc, text.as_bytes())? {
         Some(run) => Ok(Some((run, text))),
         None => Ok(None),
@@ -157,14 +160,23 @@ fn write_division<R: Files, E: Write>(
     write_run(rt, alloc, folder, run, text, formula, &mut division, faults)
 }
 
-/// Makes the run of a formula: solves its cubes by breadth until at least `wanted` are open, and
-/// writes what was found, the formula and the open cubes into the folder.
+/// The strategy whose plan is the chosen one.
+fn settled(alloc: Global, formula: &Formula, strategy: Strategy) -> Result<Strategy, AllocError>
+    ensures { IfOk result (IsSettled formula.now strategy) }
+{
+    let plan = chosen(alloc, formula, strategy, &OpenGate, &Unstaged)?;
+    Ok(strategy.chosen(plan))
+}
+
+/// Makes the run of a formula: finds the plan that decides it by the strategy, solves its cubes by
+/// breadth until at least `wanted` are open, and writes what was found, the formula and the open
+/// cubes into the folder.
 pub fn divide<R: Files, E: Write>(
     rt: &R,
     alloc: Global,
     folder: Folder,
     path: &str,
-    plan: Plan,
+    strategy: Strategy,
     limits: Limits,
     wanted: usize,
     faults: &mut E,
@@ -178,7 +190,10 @@ pub fn divide<R: Files, E: Write>(
     if let Err(error) = make_folders(rt, alloc, folder, &bytes) {
         return Err(say_error(faults, folder.path, error));
     }
-    let Ok(Some((run, text))) = new_run(alloc, &plan, limits, &bytes) else {
+    let Ok(strategy) = settled(alloc, &formula, strategy) else {
+        return Err(say_no_memory(faults, path));
+    };
+    let Ok(Some((run, text))) = new_run(alloc, strategy, limits, &bytes) else {
         return Err(say_no_memory(faults, folder.path));
     };
     let text = text.as_str();

@@ -3,7 +3,7 @@ ghost use Rattle.std.specs.Prelude.{◌≡◌, ◌≤◌, ◌↔◌, IfOk, IfSom
 ghost use Rattle.theory.specs.Reading.{ReadsWithin, formula};
 ghost use Rattle.cnf.specs.Limits.{limits_of};
 ghost use Rattle.spread.specs.Sums.{sum_of};
-ghost use Rattle.spread.specs.RunFiles.{plan_by, IsFormulaOf};
+ghost use Rattle.spread.specs.RunFiles.{plan_by, written_by, IsFormulaOf};
 
 use crate::files::read_file;
 use crate::folder::Folder;
@@ -16,6 +16,7 @@ use std::fs::Files;
 use std::io::Write;
 use std::str;
 use std::str::Lines;
+use strategies::Strategy;
 
 /// The largest budget of a root.
 const MAX_BUDGET: u32 = 100_000;
@@ -40,6 +41,8 @@ fn plan_of(search: Search, budget: u32, divide: u32) -> Option<Plan>
 /// What a run is.
 pub struct RunFile {
     pub plan: Plan,
+    /// Whether the answer is the first model, and not the one that the plan finds.
+    pub lowers: bool,
     /// How large the formula may be.
     pub limits: Limits,
     /// The SHA-256 of the formula's bytes.
@@ -53,10 +56,25 @@ impl Drop for RunFile {
     fn drop(self) {
         let RunFile {
             plan: _,
+            lowers: _,
             limits: _,
             formula_sum: _,
             sum: _,
         } = self;
+    }
+}
+
+impl RunFile {
+    /// By what its proof and its answer are written.
+    pub fn strategy(&self) -> Strategy
+        ensures { result ≡ written_by self.now }
+    {
+        let strategy = Strategy::of(self.plan);
+        if self.lowers {
+            strategy.with_first_model()
+        } else {
+            strategy
+        }
     }
 }
 
@@ -90,18 +108,28 @@ fn limits_name(limits: Limits) -> &'static str {
     }
 }
 
+/// The line that says that the answer is the first model. Where it isn't there, the answer is the
+/// model that the plan finds.
+const FIRST_MODEL: &str = "model first";
+
 /// The text of the file for a formula with this sum.
 pub(crate) fn run_text(
     alloc: Global,
     plan: &Plan,
+    lowers: bool,
     limits: Limits,
     formula_sum: &str,
 ) -> Result<String, AllocError> {
     let search = name_of(plan.search());
     let (budget, divide) = (plan.budget(), plan.divide());
+    let (model, end) = if lowers {
+        (FIRST_MODEL, "\n")
+    } else {
+        ("", "")
+    };
     let limits = limits_name(limits);
     format!(in alloc;
-        "cubesat run 1\nsearch {search}\nbudget {budget}\ndivide {divide}\nlimits {limits}\nformula {formula_sum}\n"
+        "cubesat run 1\nsearch {search}\nbudget {budget}\ndivide {divide}\n{model}{end}limits {limits}\nformula {formula_sum}\n"
     )
 }
 
@@ -118,15 +146,38 @@ fn plan_in(lines: &mut Lines<'_>) -> Option<Plan> {
     plan_of(search, budget, divide)
 }
 
-/// The plan, the limits and the formula's sum that the lines of the file say.
-fn parts_of<'a>(lines: &mut Lines<'a>) -> Option<(Plan, Limits, &'a str)> {
+/// Whether the next lines say that the answer is the first model, and the limits behind that.
+fn limits_in(lines: &mut Lines<'_>) -> Option<(bool, Limits)> {
+    let line = lines.next()?;
+    if line == FIRST_MODEL {
+        return Some((true, limits_named(value_of(lines, "limits ")?)?));
+    }
+    Some((false, limits_named(line.strip_prefix("limits ")?)?))
+}
+
+/// What the lines of the file say.
+#[derive(Clone, Copy)]
+struct Parts<'a> {
+    plan: Plan,
+    lowers: bool,
+    limits: Limits,
+    formula_sum: &'a str,
+}
+
+/// What they say, if they are those of a run.
+fn parts_of<'a>(lines: &mut Lines<'a>) -> Option<Parts<'a>> {
     if lines.next() != Some("cubesat run 1") {
         return None;
     }
     let plan = plan_in(lines)?;
-    let limits = limits_named(value_of(lines, "limits ")?)?;
-    let sum = value_of(lines, "formula ")?;
-    Some((plan, limits, sum))
+    let (lowers, limits) = limits_in(lines)?;
+    let formula_sum = value_of(lines, "formula ")?;
+    Some(Parts {
+        plan,
+        lowers,
+        limits,
+        formula_sum,
+    })
 }
 
 /// What the bytes of the file say, if they are those of a run.
@@ -136,13 +187,14 @@ pub(crate) fn run_of(alloc: Global, bytes: &[u8]) -> Result<Option<RunFile>, All
     let Ok(text) = str::from_utf8(bytes) else {
         return Ok(None);
     };
-    let Some((plan, limits, formula_sum)) = parts_of(&mut text.lines()) else {
+    let Some(parts) = parts_of(&mut text.lines()) else {
         return Ok(None);
     };
     Ok(Some(RunFile {
-        plan,
-        limits,
-        formula_sum: String::from_str(alloc, formula_sum)?,
+        plan: parts.plan,
+        lowers: parts.lowers,
+        limits: parts.limits,
+        formula_sum: String::from_str(alloc, parts.formula_sum)?,
         sum: sum_of(alloc, bytes)?,
     }))
 }

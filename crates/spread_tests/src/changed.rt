@@ -114,7 +114,7 @@ where
         store,
         &mut answer,
         &mut proof,
-        run.plan,
+        run.strategy(),
     );
     match gathered {
         Ok(gathered) => Ok(

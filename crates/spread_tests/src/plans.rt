@@ -20,7 +20,7 @@ static PLANS: [Step; 8] = [
     }),
     Step::Holds(
         "spread_plans1/run",
-        "cubesat run 1\nsearch ordered\nbudget 1000\ndivide 0\nlimits standard\nformula bdcfed14408fb3f368fe82437336d283a9dedc953677460e9c7317724c5e1e58\n",
+        "cubesat run 1\nsearch ordered\nbudget 1000\ndivide 0\nmodel first\nlimits standard\nformula bdcfed14408fb3f368fe82437336d283a9dedc953677460e9c7317724c5e1e58\n",
     ),
     Step::Ends(Row {
         words: &[
@@ -86,6 +86,83 @@ static PLANS: [Step; 8] = [
         "cubesat run 1\nsearch ordered\nbudget 100000\ndivide 0\nlimits standard\nformula bdcfed14408fb3f368fe82437336d283a9dedc953677460e9c7317724c5e1e58\n",
     ),
 ];
+
+/// The plan that the automatic search chooses is the run's, and whether its model is the first one.
+static CHOSEN: [Step; 6] = [
+    Step::Ends(Row {
+        words: &[
+            "cubesat",
+            "divide",
+            "--into",
+            "spread_plans5",
+            "--search",
+            "automatic",
+            "--budget",
+            "1",
+            "--divide",
+            "1",
+            "spread_plans.cnf",
+        ],
+        status: 0,
+        answer: "1\n",
+        faults: "",
+    }),
+    Step::Holds(
+        "spread_plans5/run",
+        "cubesat run 1\nsearch focused\nbudget 100000\ndivide 1\nmodel first\nlimits standard\nformula bdcfed14408fb3f368fe82437336d283a9dedc953677460e9c7317724c5e1e58\n",
+    ),
+    Step::Ends(Row {
+        words: &[
+            "cubesat",
+            "divide",
+            "--into",
+            "spread_plans6",
+            "--search",
+            "automatic",
+            "--budget",
+            "1",
+            "--any-model",
+            "spread_plans.cnf",
+        ],
+        status: 20,
+        answer: "s UNSATISFIABLE\n",
+        faults: "",
+    }),
+    Step::Holds(
+        "spread_plans6/run",
+        "cubesat run 1\nsearch focused\nbudget 100000\ndivide 1024\nlimits standard\nformula bdcfed14408fb3f368fe82437336d283a9dedc953677460e9c7317724c5e1e58\n",
+    ),
+    Step::Ends(Row {
+        words: &[
+            "cubesat",
+            "divide",
+            "--into",
+            "spread_plans7",
+            "--budget",
+            "2",
+            "--search",
+            "automatic",
+            "--large",
+            "spread_plans.cnf",
+        ],
+        status: 20,
+        answer: "s UNSATISFIABLE\n",
+        faults: "",
+    }),
+    Step::Holds(
+        "spread_plans7/run",
+        "cubesat run 1\nsearch ordered\nbudget 2\ndivide 0\nmodel first\nlimits large\nformula bdcfed14408fb3f368fe82437336d283a9dedc953677460e9c7317724c5e1e58\n",
+    ),
+];
+
+#[test]
+fn a_run_is_by_the_chosen_plan(rt: HostRuntime) -> Result<(), Fail> {
+    begin(&rt, "spread_plans5", "spread_plans.cnf", FOUR)?;
+    begin(&rt, "spread_plans6", "spread_plans.cnf", FOUR)?;
+    begin(&rt, "spread_plans7", "spread_plans.cnf", FOUR)?;
+    check_steps(&rt, &CHOSEN);
+    Ok(())
+}
 
 #[test]
 fn a_run_is_the_one_that_is_asked_for(rt: HostRuntime) -> Result<(), Fail> {

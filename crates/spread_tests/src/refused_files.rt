@@ -12,7 +12,7 @@ const RUN: &str = "spread_bad/run";
 const ROUND: &str = "spread_bad/rounds/0001";
 
 /// A run's files that say no run.
-static NO_RUNS: [&str; 8] = [
+static NO_RUNS: [&str; 11] = [
     "cubesat run 2\nsearch ordered\nbudget 1\ndivide 0\nlimits standard\nformula bdcfed14408fb3f368fe82437336d283a9dedc953677460e9c7317724c5e1e58\n",
     "cubesat run 1\nsearch other\nbudget 1\ndivide 0\nlimits standard\nformula bdcfed14408fb3f368fe82437336d283a9dedc953677460e9c7317724c5e1e58\n",
     "cubesat run 1\nsearch ordered\nbudget 0\ndivide 0\nlimits standard\nformula bdcfed14408fb3f368fe82437336d283a9dedc953677460e9c7317724c5e1e58\n",
@@ -21,6 +21,9 @@ static NO_RUNS: [&str; 8] = [
     "cubesat run 1\nsearch ordered\nbudget 1\ndivide 0\nlimits none\nformula bdcfed14408fb3f368fe82437336d283a9dedc953677460e9c7317724c5e1e58\n",
     "cubesat run 1\nsearch ordered\ndivide 0\nlimits standard\nformula bdcfed14408fb3f368fe82437336d283a9dedc953677460e9c7317724c5e1e58\n",
     "cubesat run 1\nsearch ordered\nbudget 1\ndivide 0\nlimits standard\n",
+    "cubesat run 1\nsearch ordered\nbudget 1\ndivide 0\nmodel last\nlimits standard\nformula bdcfed14408fb3f368fe82437336d283a9dedc953677460e9c7317724c5e1e58\n",
+    "cubesat run 1\nsearch ordered\nbudget 1\ndivide 0\nmodel first\nmodel first\nlimits standard\nformula bdcfed14408fb3f368fe82437336d283a9dedc953677460e9c7317724c5e1e58\n",
+    "cubesat run 1\nsearch automatic\nbudget 1\ndivide 0\nlimits standard\nformula bdcfed14408fb3f368fe82437336d283a9dedc953677460e9c7317724c5e1e58\n",
 ];
 
 /// Rounds that hold other than cubes over the two variables.

@@ -167,3 +167,80 @@ fn a_satisfiable_formula_has_its_first_model(rt: HostRuntime) -> Result<(), Fail
     assert!(rt; holds(&rt, "spread_two.lrat", "")?);
     Ok(())
 }
+
+/// One cube by the focused search, which comes to 1 2 -3: the answer is that of `solve` with the same
+/// options.
+static AUTOMATIC: [Row; 4] = [
+    Row {
+        words: &[
+            "cubesat",
+            "divide",
+            "--into",
+            "spread_lowered",
+            "--search",
+            "automatic",
+            "--budget",
+            "1",
+            "--divide",
+            "1",
+            "spread_lowered.cnf",
+        ],
+        status: 0,
+        answer: "1\n",
+        faults: "",
+    },
+    Row {
+        words: &[
+            "cubesat",
+            "conquer",
+            "--round",
+            "1",
+            "--part",
+            "1/1",
+            "spread_lowered",
+        ],
+        status: 0,
+        answer: "",
+        faults: "",
+    },
+    Row {
+        words: &[
+            "cubesat",
+            "gather",
+            "--proof",
+            "spread_lowered.lrat",
+            "spread_lowered",
+        ],
+        status: 10,
+        answer: "s SATISFIABLE\nv -1 2 -3 0\n",
+        faults: "",
+    },
+    // by several hands, from the same packs
+    Row {
+        words: &[
+            "cubesat",
+            "gather",
+            "--hands",
+            "2",
+            "--proof",
+            "spread_lowered.lrat",
+            "spread_lowered",
+        ],
+        status: 10,
+        answer: "s SATISFIABLE\nv -1 2 -3 0\n",
+        faults: "",
+    },
+];
+
+#[test]
+fn a_model_of_an_automatic_run_is_lowered(rt: HostRuntime) -> Result<(), Fail> {
+    begin(
+        &rt,
+        "spread_lowered",
+        "spread_lowered.cnf",
+        "p cnf 3 4\n1 2 3 0\n1 2 -3 0\n-1 2 3 0\n-1 2 -3 0\n",
+    )?;
+    assert!(rt; first_other(&rt, &AUTOMATIC).is_none());
+    assert!(rt; holds(&rt, "spread_lowered.lrat", "")?);
+    Ok(())
+}

@@ -2,10 +2,10 @@
 //! them.
 
 use crate::figures::{Figures, Stage};
-use cdcl::Search;
 use std::sync::{Mutex, Wait};
 use std::thread;
 use std::time::{Clock, Duration, Instant};
+use strategies::Strategy;
 
 /// How long is slept between two looks at a line that another thread is to erase.
 const LOOK: u64 = 1;
@@ -23,11 +23,16 @@ impl Board {
         Board::of(rt, Figures::none(stage))
     }
 
-    /// A run begins that decides a formula by a search and so many hands, and writes its proof if
+    /// A run begins that decides a formula by a strategy and so many hands, and writes its proof if
     /// there is to be one.
-    pub fn of_search<R: Clock>(rt: &R, search: Search, hands: usize, has_proof: bool) -> Board {
+    pub fn of_strategy<R: Clock>(
+        rt: &R,
+        strategy: Strategy,
+        hands: usize,
+        has_proof: bool,
+    ) -> Board {
         let mut figures = Figures::none(Stage::Reading);
-        figures.search = search;
+        figures.set_strategy(strategy);
         figures.hands = hands;
         figures.has_no_proof = !has_proof;
         Board::of(rt, figures)

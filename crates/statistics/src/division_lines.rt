@@ -11,7 +11,7 @@ fn print_whole<E: Write>(out: &mut E, first: FirstSearch) {
     let _ = if first.answer == FirstAnswer::Ended {
         writeln!(
             out,
-            "c not divided: the first search ended after {conflicts} conflicts"
+            "c not divided: the focused search ended after {conflicts} conflicts"
         )
     } else {
         writeln!(
@@ -41,7 +41,7 @@ fn solved_of(figures: &Figures) -> u64 {
 /// Prints how many cubes were looked at, how many literals failed there and how long that took, and
 /// how many cubes were searched: each one that was solved and not looked at.
 fn print_looks<E: Write>(out: &mut E, figures: &Figures) {
-    let counts = figures.counts.sum();
+    let counts = figures.searched();
     let (looks, failed) = (counts.looks, counts.failed_literals);
     let searched = solved_of(figures).saturating_sub(looks);
     let time = figures.division.look_time();

@@ -2,6 +2,7 @@
 
 use crate::cube_counts::CubeCounts;
 use crate::division::DivisionCounts;
+use crate::first_counts::FirstCounts;
 use crate::hand_times::HandTimes;
 use crate::search_counts::SearchCounts;
 use cdcl::{Counts, FirstSearch, Search};
@@ -9,6 +10,7 @@ use cnf::Formula;
 pub use cubes::TreeSize;
 use std::fmt;
 use std::fmt::{Display, Formatter};
+use strategies::{LoweringCounts, Strategy};
 
 /// The size of a formula.
 #[derive(Clone, Copy)]
@@ -98,8 +100,10 @@ pub enum Stage {
 pub struct Figures {
     /// What it is at.
     pub(crate) stage: Stage,
-    /// By which search the formula is solved.
+    /// By which search hands solve the formula.
     pub search: Search,
+    /// The search that is made before that, if there is one.
+    pub first: Option<FirstCounts>,
     /// Whether no more progress is to be shown.
     pub(crate) is_ended: bool,
     /// Whether a line of progress stands on the terminal.
@@ -116,6 +120,8 @@ pub struct Figures {
     pub times: HandTimes,
     /// What the hands' solvers have done.
     pub counts: SearchCounts,
+    /// How far the lowering of a model to the first one is, once it has begun.
+    pub lowering: Option<LoweringCounts>,
     /// The size of the tree, once the formula is solved with a proof and has no model.
     pub(crate) tree: Option<TreeSize>,
     /// The formula's text, as far as `check` has read it.
@@ -144,6 +150,7 @@ impl Figures {
         Figures {
             stage,
             search: Search::Ordered,
+            first: None,
             is_ended: false,
             is_drawn: false,
             formula: None,
@@ -152,6 +159,7 @@ impl Figures {
             division: DivisionCounts::none(),
             times: HandTimes::none(),
             counts: SearchCounts::none(),
+            lowering: None,
             tree: None,
             text: TextSize::none(),
             proof: TextSize::none(),
@@ -163,6 +171,62 @@ impl Figures {
             written: None,
             checked: None,
         }
+    }
+
+    /// The run goes by this strategy.
+    pub fn set_strategy(&mut self, strategy: Strategy) {
+        self.search = strategy.plan().search();
+        self.first = match strategy.first() {
+            Some(_) => Some(FirstCounts::none()),
+            None => None,
+        };
+    }
+
+    /// The search that is made first has done so much.
+    pub(crate) fn count_first(&mut self, counts: Counts) {
+        if let Some(first) = &mut self.first {
+            first.count(counts);
+        }
+    }
+
+    /// That search has ended, and decided the formula or not.
+    pub(crate) fn end_first(&mut self, is_decided: bool) {
+        if let Some(first) = &mut self.first {
+            first.end(is_decided);
+        }
+    }
+
+    /// The lowering is so far.
+    pub(crate) fn count_lowering(&mut self, counts: LoweringCounts) {
+        self.lowering = Some(counts);
+    }
+
+    /// Whether a model is known, and one before it looked for.
+    pub fn is_lowering(&self) -> bool {
+        self.lowering.is_some()
+    }
+
+    /// How many conflicts the search that is made first has had, if there is one and hands haven't
+    /// begun behind it.
+    pub(crate) fn first_conflicts(&self) -> Option<u64> {
+        let first = self.first?;
+        if first.is_used_up() {
+            return None;
+        }
+        Some(first.counts().conflicts)
+    }
+
+    /// What all searches have done together: the one that is made first, those of hands, and those
+    /// of the lowering.
+    pub(crate) fn searched(&self) -> Counts {
+        let mut sum = self.counts.sum();
+        if let Some(first) = self.first {
+            sum = sum.with(first.counts());
+        }
+        if let Some(lowering) = self.lowering {
+            sum = sum.with(lowering.search);
+        }
+        sum
     }
 
     /// Whether it is asked when each cube begins and ends: for the time of looks, and for the time

@@ -3,6 +3,7 @@
 use cnf::Formula;
 use cubes::Tree;
 use lines::Row;
+use strategies::Stages;
 
 /// Told of each stage of a run as it ends. What an observer does changes nothing that the run
 /// writes.
@@ -43,3 +44,5 @@ impl Observer for Unobserved {
 
     fn answers(&self) {}
 }
+
+impl Stages for Unobserved {}

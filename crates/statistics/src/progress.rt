@@ -1,4 +1,4 @@
-//! Lines that show how far a run is, about one a second, and one that names the focused search.
+//! Lines that show how far a run is, about one a second.
 
 use crate::board::Board;
 use crate::figures::{Figures, Stage};
@@ -14,9 +14,6 @@ const PAUSE: u64 = 1000;
 /// How many milliseconds are slept at most between two looks at the figures. A run that has ended
 /// is left after as many.
 const LOOK: u64 = 20;
-
-/// How many milliseconds the ordered search goes on before the focused one is named.
-const PATIENCE: u64 = 10_000;
 
 /// How progress is shown.
 #[derive(Clone, Copy, Debug, PartialEq, Eq)]
@@ -42,59 +39,6 @@ impl Manner {
             Manner::Rewritten => "\x1b[K",
         }
     }
-}
-
-/// What is shown of a run while it goes on.
-#[derive(Clone, Copy, Debug)]
-pub struct Showing {
-    /// How its progress is shown, if it is.
-    pub progress: Option<Manner>,
-    /// After how many milliseconds the focused search is named, if it is and wasn't yet.
-    pub hint: Option<u64>,
-}
-
-impl Showing {
-    /// Progress in this manner, if in any; and the focused search after ten seconds, where it may
-    /// be named.
-    pub fn of(progress: Option<Manner>, names_focused: bool) -> Showing {
-        let hint = if names_focused { Some(PATIENCE) } else { None };
-        Showing { progress, hint }
-    }
-
-    /// Whether anything is shown.
-    pub fn is_any(&self) -> bool {
-        self.progress.is_some() || self.hint.is_some()
-    }
-
-    /// Whether the focused search is to be named, in this stage and after so many milliseconds. It
-    /// is named once.
-    fn takes_hint(&mut self, stage: Stage, now: u64) -> bool {
-        match self.hint {
-            Some(after) if now >= after && stage == Stage::Solving => {
-                self.hint = None;
-                true
-            }
-            _ => false,
-        }
-    }
-}
-
-/// Names the focused search in a line of its own, unless the run has ended. A line of progress that
-/// stands on the terminal is written over.
-fn print_hint<R: Wait, E: Write>(rt: &R, board: &Board, out: &mut E, progress: Option<Manner>) {
-    if !board.figures().lock(rt).draw() {
-        return;
-    }
-    let start = if progress == Some(Manner::Rewritten) {
-        "\r\x1b[K"
-    } else {
-        ""
-    };
-    let _ = writeln!(
-        out,
-        "{start}c --search focused decides most large formulas sooner, with a model that need not be the first"
-    );
-    board.figures().lock(rt).erase();
 }
 
 /// Prints the line of these figures, so many seconds after the run began. A failed write changes
@@ -175,13 +119,13 @@ fn show_line<R: Wait, E: Write>(
     }
 }
 
-/// Shows what is to be shown of a run until it ends. On a terminal nothing is left of its progress.
-/// The first looks come one soon after another, so that a short run isn't held up.
+/// Shows in this manner how far a run is, until it ends. On a terminal nothing is left of that. The
+/// first looks come one soon after another, so that a short run isn't held up.
 pub fn show_progress<R: Wait + Clock, E: Write>(
     rt: &R,
     board: &Board,
     out: &mut E,
-    mut showing: Showing,
+    manner: Manner,
 ) {
     let mut due = PAUSE;
     let mut look = 1u64;
@@ -191,14 +135,9 @@ pub fn show_progress<R: Wait + Clock, E: Write>(
             break;
         }
         let now = board.now(rt);
-        if showing.takes_hint(figures.stage, now) {
-            print_hint(rt, board, out, showing.progress);
-        }
-        if let Some(manner) = showing.progress {
-            if now >= due {
-                due = now.saturating_add(PAUSE);
-                show_line(rt, board, out, manner, now, &figures);
-            }
+        if now >= due {
+            due = now.saturating_add(PAUSE);
+            show_line(rt, board, out, manner, now, &figures);
         }
         thread::sleep(rt, Duration::from_millis(look));
         look = look.saturating_mul(2).min(LOOK);

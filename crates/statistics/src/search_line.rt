@@ -8,11 +8,12 @@ use cdcl::Search;
 use std::fmt;
 use std::fmt::{Display, Formatter};
 
-/// What is shown of a search that goes on. Its conflicts come first: by the focused search most
+/// What is shown of hands' search that goes on. Its conflicts come first: by the focused search most
 /// formulas are one cube for long, of which the cubes say nothing.
 #[derive(Clone, Copy)]
-pub(crate) struct SearchLine {
+pub(crate) struct HandsLine {
     search: Search,
+    /// Those of a search that was made first are among them.
     conflicts: u64,
     /// How many a second, where the clock went on.
     speed: Option<u64>,
@@ -21,11 +22,10 @@ pub(crate) struct SearchLine {
     done: Option<Done>,
 }
 
-impl SearchLine {
-    /// Of these figures, so many milliseconds after the run began.
-    pub(crate) fn of(figures: &Figures, now: u64) -> SearchLine {
-        let conflicts = figures.counts.sum().conflicts;
-        SearchLine {
+impl HandsLine {
+    fn of(figures: &Figures, now: u64) -> HandsLine {
+        let conflicts = figures.searched().conflicts;
+        HandsLine {
             search: figures.search,
             conflicts,
             speed: a_second(conflicts, now.saturating_sub(figures.began_solving())),
@@ -35,7 +35,7 @@ impl SearchLine {
     }
 }
 
-impl Display for SearchLine {
+impl Display for HandsLine {
     fn fmt<W: fmt::Write>(&self, f: &mut Formatter<W>) -> fmt::Result {
         let (conflicts, cubes) = (self.conflicts, self.cubes);
         write!(f, "{conflicts} conflicts, ")?;
@@ -50,5 +50,63 @@ impl Display for SearchLine {
         }
         let solved = cubes.solved();
         write!(f, "{solved} cubes solved")
+    }
+}
+
+/// How far a lowering is, of so many variables.
+#[derive(Clone, Copy)]
+pub(crate) struct LoweringLine {
+    variable: u32,
+    vars: u32,
+    questions: u64,
+}
+
+/// What is shown while a formula is solved.
+#[derive(Clone, Copy)]
+pub(crate) enum SearchLine {
+    /// The search that is made first has had so many conflicts, and hands haven't begun.
+    First(u64),
+    Hands(HandsLine),
+    Lowering(LoweringLine),
+}
+
+impl SearchLine {
+    /// Of these figures, so many milliseconds after the run began.
+    pub(crate) fn of(figures: &Figures, now: u64) -> SearchLine {
+        if let Some(lowering) = figures.lowering {
+            let vars = match figures.formula {
+                Some(formula) => formula.vars,
+                None => 0,
+            };
+            return SearchLine::Lowering(LoweringLine {
+                variable: lowering.variable,
+                vars,
+                questions: lowering.questions,
+            });
+        }
+        match figures.first_conflicts() {
+            Some(conflicts) => SearchLine::First(conflicts),
+            None => SearchLine::Hands(HandsLine::of(figures, now)),
+        }
+    }
+}
+
+impl Display for SearchLine {
+    fn fmt<W: fmt::Write>(&self, f: &mut Formatter<W>) -> fmt::Result {
+        match self {
+            SearchLine::First(conflicts) => write!(f, "first search, {conflicts} conflicts"),
+            SearchLine::Hands(line) => write!(f, "{line}"),
+            SearchLine::Lowering(line) => {
+                let LoweringLine {
+                    variable,
+                    vars,
+                    questions,
+                } = line;
+                write!(
+                    f,
+                    "lowering, variable {variable} of {vars}, {questions} questions"
+                )
+            }
+        }
     }
 }

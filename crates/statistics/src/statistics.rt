@@ -80,9 +80,36 @@ fn print_hands<E: Write>(out: &mut E, figures: &Figures, hands: usize) {
     let _ = writeln!(out);
 }
 
-/// Prints what the solvers of all hands have done.
+/// Prints how far the search came that was made first, where there is one.
+fn print_first<E: Write>(out: &mut E, figures: &Figures) {
+    let Some(first) = figures.first else {
+        return;
+    };
+    let conflicts = first.counts().conflicts;
+    let end = if first.has_decided() {
+        "decided"
+    } else {
+        "undecided"
+    };
+    let _ = writeln!(out, "c first search: ordered, {conflicts} conflicts, {end}");
+}
+
+/// Prints how far a lowering came, where one was begun.
+fn print_lowering<E: Write>(out: &mut E, figures: &Figures) {
+    let Some(lowering) = figures.lowering else {
+        return;
+    };
+    let (questions, models) = (lowering.questions, lowering.models);
+    let (refuted, conflicts) = (lowering.refuted, lowering.search.conflicts);
+    let _ = writeln!(
+        out,
+        "c lowering: {questions} questions, {models} with a model, {refuted} without, {conflicts} conflicts"
+    );
+}
+
+/// Prints what all searches have done.
 fn print_counts<E: Write>(out: &mut E, figures: &Figures) {
-    let done = figures.counts.sum();
+    let done = figures.searched();
     let (conflicts, decisions) = (done.conflicts, done.decisions);
     let (propagations, restarts) = (done.propagations, done.restarts);
     let (learnt, forgotten) = (done.learnt, done.forgotten);
@@ -99,7 +126,7 @@ fn print_speed<E: Write>(out: &mut E, figures: &Figures) {
         return;
     };
     let time = end.at.saturating_sub(figures.began_solving());
-    if let Some(speed) = a_second(figures.counts.sum().conflicts, time) {
+    if let Some(speed) = a_second(figures.searched().conflicts, time) {
         let _ = writeln!(out, "c conflicts a second: {speed}");
     }
 }
@@ -114,11 +141,13 @@ pub fn print_statistics<E: Write>(out: &mut E, figures: &Figures, hands: usize) 
         out,
         "c formula: {vars} variables, {clauses} clauses, {literals} literals\nc hands: {hands}"
     );
+    print_first(out, figures);
     print_counts(out, figures);
     print_division(out, figures);
     print_cubes(out, figures);
     print_hands(out, figures, hands);
     print_waits(out, figures, hands);
+    print_lowering(out, figures);
     if !figures.has_no_proof {
         let proof = figures.proof;
         let _ = writeln!(out, "c proof: {proof}");

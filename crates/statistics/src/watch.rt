@@ -14,6 +14,7 @@ use lines::Row;
 use std::rt::Files;
 use std::sync::Wait;
 use std::time::Clock;
+use strategies::{LoweringCounts, Stages};
 
 /// Counts a run on a board.
 #[derive(Drop)]
@@ -129,6 +130,20 @@ impl<R: Wait + Clock> Gate for Watch<'_, R> {
 
     fn counted(&self, hand: usize, counts: Counts) {
         self.board.figures().lock(self.rt).count(hand, counts);
+    }
+}
+
+impl<R: Wait + Clock> Stages for Watch<'_, R> {
+    fn searched_first(&self, counts: Counts) {
+        self.board.figures().lock(self.rt).count_first(counts);
+    }
+
+    fn ended_first(&self, is_decided: bool) {
+        self.board.figures().lock(self.rt).end_first(is_decided);
+    }
+
+    fn lowering(&self, counts: LoweringCounts) {
+        self.board.figures().lock(self.rt).count_lowering(counts);
     }
 }
 

@@ -1,12 +1,11 @@
 //! A run that ends between a look at its figures and the line that is due: a terminal doesn't show
 //! it any more.
 use sessions::fake::Fake;
-use statistics::{Board, Manner, Showing, Stage, show_progress};
+use statistics::{Board, Manner, Stage, show_progress};
 use std::alloc::Global;
 use std::io;
 use std::io::ErrorKind;
 use std::sync::Wait;
-use std::test::Fail;
 use std::time::{Clock, Duration};
 
 /// A clock that shows a time at which each line is due, and ends the run as it is read.
@@ -27,36 +26,17 @@ impl<R: Wait + Clock> Clock for Ending<'_, R> {
     }
 }
 
-/// What is to be shown: progress on a terminal, the focused search's name, or both.
-static SHOWINGS: [Showing; 3] = [
-    Showing {
-        progress: Some(Manner::Rewritten),
-        hint: None,
-    },
-    Showing {
-        progress: None,
-        hint: Some(0),
-    },
-    Showing {
-        progress: Some(Manner::Rewritten),
-        hint: Some(0),
-    },
-];
-
-/// What is printed of a run that ends so.
-fn shown<R: Wait + Clock>(rt: &R, alloc: Global, showing: Showing) -> Vec<u8> {
+/// What is printed on a terminal of a run that ends so.
+fn shown<R: Wait + Clock>(rt: &R, alloc: Global) -> Vec<u8> {
     let board = Board::new(rt, Stage::Solving);
     let ending = Ending { rt, board: &board };
     let fake = Fake::by(rt, &ending);
     let mut out = Vec::new(alloc);
-    show_progress(&fake, &board, &mut out, showing);
+    show_progress(&fake, &board, &mut out, Manner::Rewritten);
     out
 }
 
 #[test]
-fn no_line_is_drawn_of_a_run_that_has_ended(rt: HostRuntime) -> Result<(), Fail> {
-    for showing in &SHOWINGS {
-        assert!(rt; shown(&rt, rt.alloc(), *showing).is_empty(), "{showing:?}");
-    }
-    Ok(())
+fn no_line_is_drawn_of_a_run_that_has_ended(rt: HostRuntime) {
+    assert!(rt; shown(&rt, rt.alloc()).is_empty());
 }

@@ -1,6 +1,7 @@
 //! Figures of a run, as tests begin with them.
 use cdcl::{Counts, Search};
-use statistics::{CubeCounts, Figures, SearchCounts, Stage, TextSize};
+use statistics::{CubeCounts, Figures, FirstCounts, SearchCounts, Stage, TextSize};
+use strategies::LoweringCounts;
 
 /// Cubes of a root that was split, with both halves split again, and one half of these. Hand 0 has
 /// solved the root and both halves, and is at the depth 2; hand 1 has solved a half of a half, and
@@ -63,4 +64,39 @@ pub fn some_figures(stage: Stage, search: Search) -> Figures {
     figures.add_proof(TextSize::of(b"ab\nc"));
     figures.add_proof(TextSize::of(b"d\ne"));
     figures
+}
+
+/// What another search has done, with so many conflicts.
+fn some_search(conflicts: u64) -> Counts {
+    Counts {
+        conflicts,
+        decisions: 3000,
+        propagations: 40_000,
+        restarts: 0,
+        learnt: 800,
+        forgotten: 0,
+        looks: 0,
+        failed_literals: 0,
+    }
+}
+
+/// A search was made first, which has ended if this is said, and decided the formula or not.
+pub fn put_first(figures: &mut Figures, is_decided: Option<bool>) {
+    let mut first = FirstCounts::none();
+    first.count(some_search(1000));
+    if let Some(is_decided) = is_decided {
+        first.end(is_decided);
+    }
+    figures.first = Some(first);
+}
+
+/// A lowering is at its fourth question.
+pub fn put_lowering(figures: &mut Figures) {
+    figures.lowering = Some(LoweringCounts {
+        variable: 2,
+        questions: 3,
+        models: 1,
+        refuted: 2,
+        search: some_search(500),
+    });
 }

@@ -1,5 +1,5 @@
 //! What `--stats` prints of known figures.
-use crate::figures::some_figures;
+use crate::figures::{put_first, put_lowering, some_figures};
 use cdcl::Search;
 use cnf::{Formula, read_formula};
 use samples::FOUR;
@@ -24,10 +24,21 @@ type End = (u64, Option<u64>);
 /// A hand, and when it began and ended its last cube.
 type Last = (usize, u64, u64);
 
-/// The search, the size of the tree, the ends of the four stages, if they are ended, the last cubes of
+/// What is known of other searches than that of hands.
+#[derive(Clone, Copy)]
+enum Beside {
+    Nothing,
+    /// A search was made first, and decided the formula or not, if it has ended.
+    First(Option<bool>),
+    /// It didn't, and a model was lowered.
+    Lowered,
+}
+
+/// The search, what is known beside it, the size of the tree, the ends of the four stages, if they are ended, the last cubes of
 /// hands, how many hands there are, and what is printed.
 type Row = (
     Search,
+    Beside,
     Option<TreeSize>,
     &'static [End],
     &'static [Last],
@@ -35,9 +46,10 @@ type Row = (
     &'static str,
 );
 
-static ROWS: [Row; 4] = [
+static ROWS: [Row; 7] = [
     (
         Search::Focused,
+        Beside::Nothing,
         None,
         &[
             (500, Some(1024)),
@@ -64,6 +76,7 @@ c conflicts a second: 29166
     ),
     (
         Search::Focused,
+        Beside::Nothing,
         Some(TREE),
         &[(3, None), (1003, None), (1004, Some(1024)), (1024, None)],
         &[(0, 3, 903), (1, 5, 1003)],
@@ -87,6 +100,7 @@ c conflicts a second: 350000
     // the clock stands still while the formula is solved
     (
         Search::Focused,
+        Beside::Nothing,
         None,
         &[(500, None), (500, None), (500, None), (510, None)],
         &[(0, 500, 500)],
@@ -104,8 +118,71 @@ c joining: 0.000 s
 c writing: 0.010 s
 ",
     ),
+    // the search that was made first decides it
+    (
+        Search::Focused,
+        Beside::First(Some(true)),
+        None,
+        &[(500, None), (1500, None)],
+        &[(0, 1500, 1500)],
+        1,
+        "c formula: 2 variables, 4 clauses, 8 literals
+c hands: 1
+c first search: ordered, 1000 conflicts, decided
+c search: 351000 conflicts, 1603000 decisions, 20040000 propagations, 750 restarts
+c clauses: 338800 learnt, 80000 forgotten
+c cubes: 4 solved, at least 3 split, skipped unknown
+c solved by each hand: 3
+c proof: 2 lines, 7 bytes
+c reading: 0.500 s
+c solving: 1.000 s
+c conflicts a second: 351000
+",
+    ),
+    // it is cut off
+    (
+        Search::Focused,
+        Beside::First(None),
+        None,
+        &[(500, None)],
+        &[],
+        1,
+        "c formula: 2 variables, 4 clauses, 8 literals
+c hands: 1
+c first search: ordered, 1000 conflicts, undecided
+c search: 351000 conflicts, 1603000 decisions, 20040000 propagations, 750 restarts
+c clauses: 338800 learnt, 80000 forgotten
+c cubes: 4 solved, at least 3 split, skipped unknown
+c solved by each hand: 3
+c proof: 2 lines, 7 bytes
+c reading: 0.500 s
+",
+    ),
+    // the lowering's line stands behind those of hands
+    (
+        Search::Focused,
+        Beside::Lowered,
+        None,
+        &[(500, None), (1500, None)],
+        &[(0, 500, 1000), (1, 500, 1500)],
+        2,
+        "c formula: 2 variables, 4 clauses, 8 literals
+c hands: 2
+c first search: ordered, 1000 conflicts, undecided
+c search: 351500 conflicts, 1606000 decisions, 20080000 propagations, 750 restarts
+c clauses: 339600 learnt, 80000 forgotten
+c cubes: 4 solved, at least 3 split, skipped unknown
+c solved by each hand: 3 1
+c hands waited: 0.500 s in all, 25.0 % of the hands' time
+c lowering: 3 questions, 1 with a model, 2 without, 500 conflicts
+c proof: 2 lines, 7 bytes
+c reading: 0.500 s
+c solving: 1.000 s
+c conflicts a second: 351500
+",
+    ),
     // the formula wasn't read
-    (Search::Ordered, None, &[], &[], 1, ""),
+    (Search::Ordered, Beside::Nothing, None, &[], &[], 1, ""),
 ];
 
 fn stage_end(end: End) -> StageEnd {
@@ -115,13 +192,20 @@ fn stage_end(end: End) -> StageEnd {
     }
 }
 
-/// All stages of a row are ended.
+/// The stages of a row are ended, as many as are said.
 fn end_stages(figures: &mut Figures, formula: &Formula, row: &Row) {
-    if let [reading, solving, joining, writing] = row.2 {
-        figures.end_reading(FormulaSize::of(formula), stage_end(*reading));
-        figures.end_solving(row.1, stage_end(*solving));
-        figures.end_joining(stage_end(*joining));
-        figures.end_writing(stage_end(*writing));
+    let mut ends = row.3.iter();
+    if let Some(end) = ends.next() {
+        figures.end_reading(FormulaSize::of(formula), stage_end(*end));
+    }
+    if let Some(end) = ends.next() {
+        figures.end_solving(row.2, stage_end(*end));
+    }
+    if let Some(end) = ends.next() {
+        figures.end_joining(stage_end(*end));
+    }
+    if let Some(end) = ends.next() {
+        figures.end_writing(stage_end(*end));
     }
 }
 
@@ -129,12 +213,20 @@ fn end_stages(figures: &mut Figures, formula: &Formula, row: &Row) {
 fn printed(alloc: Global, formula: &Formula, row: &Row) -> Vec<u8> {
     let mut figures = some_figures(Stage::Reading, row.0);
     end_stages(&mut figures, formula, row);
-    for (hand, began, ended) in row.3 {
+    match row.1 {
+        Beside::Nothing => {}
+        Beside::First(is_decided) => put_first(&mut figures, is_decided),
+        Beside::Lowered => {
+            put_first(&mut figures, Some(false));
+            put_lowering(&mut figures);
+        }
+    }
+    for (hand, began, ended) in row.4 {
         figures.times.begin(*hand, *began);
         figures.times.end(*hand, *ended);
     }
     let mut text = Vec::new(alloc);
-    print_statistics(&mut text, &figures, row.4);
+    print_statistics(&mut text, &figures, row.5);
     text
 }
 
@@ -143,7 +235,7 @@ fn statistics_of_known_figures(rt: HostRuntime) -> Result<(), Fail> {
     let formula = read_formula(rt.alloc(), FOUR.as_bytes())?;
     for row in &ROWS {
         let text = printed(rt.alloc(), &formula, row);
-        assert!(rt; text.as_slice() == row.5.as_bytes(), "{}", row.5);
+        assert!(rt; text.as_slice() == row.6.as_bytes(), "{}", row.6);
     }
     Ok(())
 }

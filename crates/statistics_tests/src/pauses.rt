@@ -1,7 +1,7 @@
 //! Between two lines of progress a second passes, also where a look comes late.
 use sessions::clocks::Readings;
 use sessions::fake::Fake;
-use statistics::{Board, Manner, Showing, Stage, show_progress};
+use statistics::{Board, Manner, Stage, show_progress};
 use std::alloc::Global;
 use std::io;
 use std::io::Write;
@@ -74,12 +74,7 @@ fn printed<R: Wait + Clock>(rt: &R, alloc: Global, left: usize) -> Vec<u8> {
         left,
         text: Vec::new(alloc),
     };
-    show_progress(
-        rt,
-        &board,
-        &mut out,
-        Showing::of(Some(Manner::Listed), false),
-    );
+    show_progress(rt, &board, &mut out, Manner::Listed);
     out.text
 }
 

@@ -1,5 +1,5 @@
 //! The lines of `--progress` of known figures, at each stage, as a list has them and a terminal.
-use crate::figures::some_figures;
+use crate::figures::{put_first, put_lowering, some_figures};
 use cdcl::{FirstAnswer, FirstSearch, Search};
 use cnf::read_formula;
 use samples::FOUR;
@@ -17,12 +17,16 @@ enum Beside {
     Read(u64),
     /// How many cubes are wanted, and how many literals each refuted cube has.
     Divided(u32, &'static [usize]),
+    /// A search was made first, and decided the formula or not, if it has ended.
+    First(Option<bool>),
+    /// It didn't, and a model is lowered.
+    Lowered,
 }
 
 /// A stage, a search, what is known beside some figures, how many seconds a run takes, and its line.
 type Row = (Stage, Search, Beside, u64, &'static str);
 
-static ROWS: [Row; 23] = [
+static ROWS: [Row; 28] = [
     (
         Stage::Reading,
         Search::Ordered,
@@ -195,6 +199,43 @@ static ROWS: [Row; 23] = [
         12,
         "c 12 s: 350000 conflicts, 29166 a second, 0 of at most 128 cubes done, 0 %",
     ),
+    (
+        Stage::Solving,
+        Search::Focused,
+        Beside::First(None),
+        12,
+        "c 12 s: first search, 1000 conflicts",
+    ),
+    (
+        Stage::Solving,
+        Search::Focused,
+        Beside::First(Some(true)),
+        12,
+        "c 12 s: first search, 1000 conflicts",
+    ),
+    // its conflicts count among those of hands
+    (
+        Stage::Solving,
+        Search::Focused,
+        Beside::First(Some(false)),
+        12,
+        "c 12 s: 351000 conflicts, 29250 a second, 4 cubes solved",
+    ),
+    (
+        Stage::Reading,
+        Search::Focused,
+        Beside::Lowered,
+        12,
+        "c 12 s: lowering, variable 2 of 2, 3 questions",
+    ),
+    // the stages have their own lines
+    (
+        Stage::Joining,
+        Search::Focused,
+        Beside::First(None),
+        12,
+        "c 12 s: joining",
+    ),
 ];
 
 /// The formula is read.
@@ -229,6 +270,12 @@ fn figures_of(alloc: Global, row: &Row) -> Result<Figures, Fail> {
         Beside::Whole(bytes) => figures.whole = Some(bytes),
         Beside::Read(millis) => end_reading(alloc, &mut figures, millis)?,
         Beside::Divided(cubes, refuted) => divide(&mut figures, cubes, refuted),
+        Beside::First(is_decided) => put_first(&mut figures, is_decided),
+        Beside::Lowered => {
+            end_reading(alloc, &mut figures, 0)?;
+            put_first(&mut figures, Some(false));
+            put_lowering(&mut figures);
+        }
     }
     Ok(figures)
 }

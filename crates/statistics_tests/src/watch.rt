@@ -1,6 +1,6 @@
 //! What a gate is told of two hands is counted of the hand that did it, and each waits from its last
-//! cube on.
-use cdcl::{Counts, Search};
+//! cube on; what is told of other searches is counted with that.
+use cdcl::{Counts, Plan};
 use cnf::read_formula;
 use cubes::Gate;
 use samples::{FOUR, cube_of};
@@ -13,6 +13,7 @@ use std::alloc::{AllocError, Global};
 use std::sync::Wait;
 use std::test::Fail;
 use std::time::Clock;
+use strategies::{LoweringCounts, Stages, Strategy};
 
 /// What a hand has done in all, with so many conflicts.
 fn counts_of(conflicts: u64) -> Counts {
@@ -130,7 +131,8 @@ c conflicts a second: 0
 fn wait_from_last_cubes<R: Wait + Clock>(rt: &R, alloc: Global) -> Result<bool, Fail> {
     let clock = Readings::new(&TIMES);
     let fake = Fake::by(rt, &clock);
-    let board = Board::of_search(&fake, Search::Focused, 2, false);
+    let strategy = Strategy::of(Plan::focused(1000));
+    let board = Board::of_strategy(&fake, strategy, 2, false);
     watch_halves(&fake, alloc, &board)?;
     let mut figures = board.look(rt);
     let formula = read_formula(alloc, FOUR.as_bytes())?;
@@ -141,9 +143,53 @@ fn wait_from_last_cubes<R: Wait + Clock>(rt: &R, alloc: Global) -> Result<bool, 
     Ok(text.as_slice() == WAITED.as_bytes())
 }
 
+/// A run by the search that is made first, by a hand, and in the lowering.
+fn watch_stages<R: Wait + Clock>(rt: &R, alloc: Global, board: &Board) -> Result<(), AllocError> {
+    let watch = Watch { rt, board };
+    watch.searched_first(counts_of(4));
+    watch.searched_first(counts_of(10));
+    watch.ended_first(false);
+    let cube = cube_of(alloc, 2, &[])?;
+    watch.before(0, &cube);
+    watch.counted(0, counts_of(5));
+    watch.after(0, &cube);
+    let mut lowering = LoweringCounts::none();
+    watch.lowering(lowering);
+    lowering.questions = 1;
+    lowering.models = 1;
+    lowering.search = counts_of(2);
+    watch.lowering(lowering);
+    Ok(())
+}
+
+const STAGES: &str = "c formula: 2 variables, 4 clauses, 8 literals
+c hands: 1
+c first search: ordered, 10 conflicts, undecided
+c search: 17 conflicts, 9 decisions, 60 propagations, 0 restarts
+c clauses: 6 learnt, 0 forgotten
+c cubes: 1 solved, at least 0 split, skipped unknown
+c solved by each hand: 1
+c lowering: 1 questions, 1 with a model, 0 without, 2 conflicts
+c reading: 0.500 s
+";
+
+/// Whether each stage is counted by itself, and all together.
+fn count_by_stages<R: Wait + Clock>(rt: &R, alloc: Global) -> Result<bool, Fail> {
+    let strategy = Strategy::automatic(10, Plan::focused(1000));
+    let board = Board::of_strategy(rt, strategy, 1, false);
+    watch_stages(rt, alloc, &board)?;
+    let mut figures = board.look(rt);
+    let formula = read_formula(alloc, FOUR.as_bytes())?;
+    figures.end_reading(FormulaSize::of(&formula), stage_end(500));
+    let mut text = Vec::new(alloc);
+    print_statistics(&mut text, &figures, 1);
+    Ok(text.as_slice() == STAGES.as_bytes())
+}
+
 #[test]
-fn two_hands(rt: HostRuntime) -> Result<(), Fail> {
+fn hands_and_stages(rt: HostRuntime) -> Result<(), Fail> {
     assert!(rt; are_told_apart(&rt, rt.alloc())?);
     assert!(rt; wait_from_last_cubes(&rt, rt.alloc())?);
+    assert!(rt; count_by_stages(&rt, rt.alloc())?);
     Ok(())
 }

@@ -129,7 +129,7 @@ c conflicts a second: 2
 c hands: 1
 c search: 2 conflicts, 1 decisions, 4 propagations, 0 restarts
 c clauses: 1 learnt, 0 forgotten
-c not divided: the first search ended after 2 conflicts
+c not divided: the focused search ended after 2 conflicts
 c cubes: 1 solved, at least 0 split, skipped unknown
 c solved by each hand: 1
 c reading: 1.234 s

@@ -9,9 +9,7 @@ mod divided;
 #[cfg(test)]
 mod hands;
 #[cfg(test)]
-mod hints;
-#[cfg(test)]
-mod named;
+mod lowered;
 #[cfg(test)]
 mod progress;
 #[cfg(test)]

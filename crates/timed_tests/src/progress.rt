@@ -1,5 +1,6 @@
 //! `--progress` of runs that take seconds by their clock: each line, and that none of them stands
 //! on a terminal when the answer comes, with a proof and without one.
+use crate::lowered::HIGHER;
 use crate::slow_runs::{SOLVED, SlowRun, holds};
 use cubesat::Screen;
 use samples::{EIGHT, FOUR, FOUR_PROOF};
@@ -10,7 +11,14 @@ use std::test::Fail;
 
 /// No proof is asked for.
 const UNPROVED: SlowRun = SlowRun {
-    words: &["cubesat", "solve", "--progress", "FORMULA"],
+    words: &[
+        "cubesat",
+        "solve",
+        "--progress",
+        "--search",
+        "ordered",
+        "FORMULA",
+    ],
     waits: &[1, 2],
     log: "c 1 s: reading\nc 2 s: 2 conflicts, 1 cubes solved, at most 2 waiting, depth 0, at least 0.00 % of the tree closed\ns UNSATISFIABLE\n",
     ..SOLVED
@@ -33,6 +41,25 @@ const CUT_OFF: SlowRun = SlowRun {
     ..SOLVED
 };
 
+/// The search that is made first meets a conflict, and the focused one another; then it is asked for
+/// models in which the first variable is false, and the second.
+const LOWERED: SlowRun = SlowRun {
+    formula: HIGHER,
+    words: &[
+        "cubesat",
+        "solve",
+        "--progress",
+        "--search",
+        "automatic",
+        "--budget",
+        "1",
+        "FORMULA",
+    ],
+    status: 10,
+    log: "c 1 s: reading\nc 2 s: lowering, variable 2 of 3, 2 questions\ns SATISFIABLE\nv -1 2 -3 0\n",
+    ..UNPROVED
+};
+
 /// A check of the proof of the four clauses, line under line.
 const CHECKED: SlowRun = SlowRun {
     formula: FOUR,
@@ -45,7 +72,7 @@ const CHECKED: SlowRun = SlowRun {
     log: "c 1 s: 0 lines, 0 bytes of the proof read, 0 %\nc 2 s: 3 lines, 35 bytes of the proof read, 100 %\naccepted\n",
 };
 
-static RUNS: [SlowRun; 20] = [
+static RUNS: [SlowRun; 24] = [
     SOLVED,
     SlowRun {
         screen: Screen::Terminal,
@@ -163,13 +190,48 @@ static RUNS: [SlowRun; 20] = [
         ],
         ..CUT_OFF
     },
-    // a terminal names the focused search without progress
+    // the search that is made first decides the formula
     SlowRun {
-        words: &["cubesat", "solve", "--proof", "PROOF", "FORMULA"],
+        words: &["cubesat", "solve", "--progress", "FORMULA"],
+        log: "c 1 s: reading\nc 2 s: first search, 2 conflicts\ns UNSATISFIABLE\n",
+        ..UNPROVED
+    },
+    // its one conflict is used up, and the focused search has two
+    SlowRun {
+        words: &[
+            "cubesat",
+            "solve",
+            "--progress",
+            "--search",
+            "automatic",
+            "--budget",
+            "1",
+            "FORMULA",
+        ],
+        log: "c 1 s: reading\nc 2 s: 3 conflicts, 1 a second, 1 cubes solved\ns UNSATISFIABLE\n",
+        ..UNPROVED
+    },
+    LOWERED,
+    // no line of it stands on a terminal when the answer comes
+    SlowRun {
         screen: Screen::Terminal,
-        waits: &[0, 1],
-        log: "c --search focused decides most large formulas sooner, with a model that need not be the first\ns UNSATISFIABLE\n",
-        ..SOLVED
+        log: "\rc 1 s: reading\x1b[K\rc 2 s: lowering, variable 2 of 3, 2 questions\x1b[K\r\x1b[Ks SATISFIABLE\nv -1 2 -3 0\n",
+        ..LOWERED
+    },
+    SlowRun {
+        words: &[
+            "cubesat",
+            "solve",
+            "--progress",
+            "--search",
+            "automatic",
+            "--budget",
+            "1",
+            "--any-model",
+            "FORMULA",
+        ],
+        log: "c 1 s: reading\nc 2 s: 2 conflicts, 0 a second, 1 cubes solved\ns SATISFIABLE\nv 1 2 -3 0\n",
+        ..LOWERED
     },
     CHECKED,
     SlowRun {

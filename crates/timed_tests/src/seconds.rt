@@ -107,7 +107,15 @@ const ONE_CUBE: Row = Row {
     ..ENDED
 };
 
-static ROWS: [Row; 22] = [
+/// With the automatic search the clock is read as the run begins too, and as the formula is read. The
+/// limit is reached before the search that is made first.
+const AUTOMATIC: Row = Row {
+    words: &["cubesat", "solve", "FORMULA", "--seconds", "10"],
+    clock: &[5_000, 5_000, 5_000, 15_000],
+    ..ENDED
+};
+
+static ROWS: [Row; 25] = [
     ENDED,
     Row {
         clock: &[5_000, 14_999, 15_000],
@@ -140,12 +148,47 @@ static ROWS: [Row; 22] = [
     },
     // no proof is asked for
     Row {
-        words: &["cubesat", "solve", "FORMULA", "--seconds", "10"],
+        words: &[
+            "cubesat",
+            "solve",
+            "FORMULA",
+            "--search",
+            "ordered",
+            "--seconds",
+            "10",
+        ],
         ..ENDED
     },
     Row {
-        words: &["cubesat", "solve", "--seconds", "1", "FORMULA"],
+        words: &[
+            "cubesat",
+            "solve",
+            "--search",
+            "ordered",
+            "--seconds",
+            "1",
+            "FORMULA",
+        ],
         clock: &[5_000, 6_000],
+        ..ENDED
+    },
+    AUTOMATIC,
+    Row {
+        clock: &[5_000, 5_000, 5_000, 14_999],
+        status: 20,
+        answer: "s UNSATISFIABLE\n",
+        ..AUTOMATIC
+    },
+    // it isn't said of another model than the first one that it is cut off
+    Row {
+        words: &[
+            "cubesat",
+            "solve",
+            "--seconds",
+            "10",
+            "--any-model",
+            "FORMULA",
+        ],
         ..ENDED
     },
     Row {

@@ -128,7 +128,7 @@ pub(crate) fn holds<R: Files + AllocGlobal + Threads + Wait + Clock + Sync>(
     Ok(status == run.status && is_printed && is_left_soon(pace))
 }
 
-/// `solve` on the four clauses, line under line.
+/// `solve` on the four clauses by the ordered search, line under line.
 pub(crate) const SOLVED: SlowRun = SlowRun {
     formula: FOUR,
     proof: "",
@@ -136,6 +136,8 @@ pub(crate) const SOLVED: SlowRun = SlowRun {
         "cubesat",
         "solve",
         "--progress",
+        "--search",
+        "ordered",
         "--proof",
         "PROOF",
         "FORMULA",

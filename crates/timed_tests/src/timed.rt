@@ -70,11 +70,12 @@ c conflicts a second: 2
     fault: "",
 };
 
-/// By one cube.
+/// By one cube, which the search that is made first decides.
 const WHOLE: Row = Row {
     words: &["cubesat", "solve", "--stats", "--proof", "PROOF", "FORMULA"],
     lines: "c formula: 3 variables, 8 clauses, 24 literals
 c hands: 1
+c first search: ordered, 4 conflicts, decided
 c search: 4 conflicts, 3 decisions, 10 propagations, 0 restarts
 c clauses: 3 learnt, 0 forgotten
 c cubes: 1 solved, 0 split, 0 skipped
@@ -292,7 +293,7 @@ fn has_lines(faults: &[u8], row: &Row) -> bool {
 }
 
 /// Whether a row's command line prints what is wanted.
-fn holds<R: Files + AllocGlobal + Threads + Wait + Clock + Sync>(
+pub(crate) fn holds<R: Files + AllocGlobal + Threads + Wait + Clock + Sync>(
     rt: &R,
     paths: &Paths,
     row: &Row,

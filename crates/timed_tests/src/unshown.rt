@@ -1,4 +1,4 @@
-//! No progress is shown, and no search is named, where that isn't asked for.
+//! No progress is shown where that isn't asked for.
 use crate::slow_runs::{SOLVED, SlowRun, printed};
 use cubesat::Screen;
 use sessions::Paths;
@@ -14,11 +14,16 @@ use std::time::Clock;
 const MANY: u64 = 100;
 
 /// Where such command lines print, and the file whose second read waits in vain for lines: of
-/// `solve` at the end of solving, where the ordered search would be called slow, and of `check` in
-/// the formula.
-static SILENT: [SlowRun; 8] = [
+/// `solve` at the end of solving, and of `check` in the formula.
+static SILENT: [SlowRun; 9] = [
     SlowRun {
         words: &["cubesat", "solve", "--proof", "PROOF", "FORMULA"],
+        waits: &[0, MANY],
+        ..SOLVED
+    },
+    // it is counted, so that it could be said what was cut off
+    SlowRun {
+        words: &["cubesat", "solve", "--seconds", "1000", "FORMULA"],
         waits: &[0, MANY],
         ..SOLVED
     },
@@ -82,8 +87,7 @@ static SILENT: [SlowRun; 8] = [
     },
 ];
 
-/// Whether a command line shows no line of progress, and doesn't name the focused search, while its
-/// slow file is read.
+/// Whether a command line shows no line of progress while its slow file is read.
 fn is_silent<R: Files + AllocGlobal + Threads + Wait + Clock + Sync>(
     rt: &R,
     paths: &Paths,
@@ -92,7 +96,7 @@ fn is_silent<R: Files + AllocGlobal + Threads + Wait + Clock + Sync>(
 ) -> Result<bool, Fail> {
     let (_, log) = printed(rt, paths, run, pace)?;
     let text = str::from_utf8(&log)?;
-    Ok(!text.contains(" s: ") && !text.contains("--search"))
+    Ok(!text.contains(" s: "))
 }
 
 #[test]

@@ -7,7 +7,7 @@ use Rattle.commands.proofs.solving.solve_opened.Goals as goal
 pub returns-clause-says : goal.returns-clause-says
 returns-clause-says g c = (
   c.run_opened-answered.result,
-  passed-on (limits_of c.args.effort.limits) (IsSome c.args.effort.seconds) c.args.effort.plan _ (g.I.Read.remaining c.args.formula.file) _ (option_map (λ o. g.P.Write.contents o.file) c.args.proof) _ _ c.run_opened-answered.result
+  passed-on (limits_of c.args.effort.limits) (IsSome c.args.effort.seconds) c.args.effort.strategy _ (g.I.Read.remaining c.args.formula.file) _ (option_map (λ o. g.P.Write.contents o.file) c.args.proof) _ _ c.run_opened-answered.result
       (ap g.I.Read.remaining c.of-input.ensures) (held-lent _ c.as_mut.result _ _ c.as_mut.ensures.value c.noticed_proof-output.ensures) c.run_opened-answered.ensures,
   c.end_solve.ensures,
 )
@@ -17,4 +17,4 @@ unfolding returns-clause-says
 returns-clause-status g c =
     let ends = returns-clause-says g c in
     rw c.end_solve.ensures
-    (solve-status (limits_of c.args.effort.limits) (IsSome c.args.effort.seconds) (g.I.Read.remaining c.args.formula.file) c.args.effort.plan (option_map (λ o. g.P.Write.contents o.file) c.args.proof) _ _ c.run_opened-answered.result ends.1)
+    (solve-status (limits_of c.args.effort.limits) (IsSome c.args.effort.seconds) (g.I.Read.remaining c.args.formula.file) c.args.effort.strategy (option_map (λ o. g.P.Write.contents o.file) c.args.proof) _ _ c.run_opened-answered.result ends.1)

@@ -1,4 +1,6 @@
 use Rattle.std.proofs.Common.{rules, refl}
+use Rattle.strategies.specs.Strategies.{by_plan}
+use Rattle.strategies.specs.Choosing.{alone}
 use Rattle.cnf.specs.Limits.{limits_of}
 use Rattle.runs.specs.Faults.{fault_of_read}
 use Rattle.runs.specs.declared.verdict.Verdict.TheVariants.{Unsatisfiable}
@@ -16,7 +18,7 @@ returns-in-Err-clause-leaves g c =
     let known = g.R.Read.remaining c.args.input in
     let fault = fault_of_read c.in-Err.fault in
     rw c.of_read.ensures
-    (Stored-AtOnce L c.args.plan.search known p p a a fault (says-Stored L known c.args.plan p p a a fault (RunSays-unread L known p a c.args.plan c.in-Err.fault c.in-Err.ensures)))
+    (Stored-AtOnce L c.args.plan.search known p p a a fault (says-Stored L known (by_plan c.args.plan) p p a a fault (RunSays-unread L known p a (by_plan c.args.plan) c.in-Err.fault c.in-Err.ensures)))
 
 pub returns-then-not-branch-clause-none : goal.returns-then-not-branch-clause-none
 returns-then-not-branch-clause-none g c = λ is_none.
@@ -35,7 +37,7 @@ returns-in_err-write_text-clause-leaves g c =
     let are_true = g.H.Outcomes.GivesOutcomes.gives_own c.in-Ok-open.outcomes F c.args.plan in
     let written = rw c.if-not-branch.false at c.in_ok-write_if_refuted.ensures in
     let answer = c.in-Ok-answer_bytes.text.items in
-    let right = refuted-right L F c.args.plan are_true written.1 answer c.vars-vars.ensures.within written.0 c.in-Ok-answer_bytes.ensures written.2 in
+    let right = refuted-right L F c.args.plan c.args.plan.search are_true written.1 answer c.vars-vars.ensures.within written.0 c.in-Ok-answer_bytes.ensures written.2 in
     IfErr-AtOnce L search_by known p q a b c.from_residual-in_err-write_text.result
     (unanswered-Stored L search_by known p q a b c.from_residual-in_err-write_text.result c.in_err-write_text.field-0.0 written.1 answer (search rules) (AreRightTexts-made L search_by known F Unsatisfiable written.1 answer c.in-Ok.ensures right) written.3
     (rw c.deref.ensures.value at c.in_err-write_text.ensures))
@@ -48,7 +50,7 @@ returns-clause-answer_is_right g c =
     let written = rw c.if-not-branch.false at c.in_ok-write_if_refuted.ensures in
     let answer = c.in-Ok-answer_bytes.text.items in
     IsRightAnswer-made L c.args.plan.search (g.R.Read.remaining c.args.input) (g.P.Write.contents c.args.proof.now) (g.P.Write.contents c.write_if_refuted.new.proof) (g.W.Write.contents c.args.answer.now) (g.W.Write.contents c.write_text.new.writer) F Unsatisfiable
-    written.1 answer c.in-Ok.ensures (refuted-right L F c.args.plan are_true written.1 answer c.vars-vars.ensures.within written.0 c.in-Ok-answer_bytes.ensures written.2) written.3 (rw c.deref.ensures.value at c.in_ok-write_text.ensures)
+    written.1 answer c.in-Ok.ensures (refuted-right L F c.args.plan c.args.plan.search are_true written.1 answer c.vars-vars.ensures.within written.0 c.in-Ok-answer_bytes.ensures written.2) written.3 (rw c.deref.ensures.value at c.in_ok-write_text.ensures)
 
 pub returns-clause-says : goal.returns-clause-says
 returns-clause-says g c = λ are.
@@ -59,11 +61,11 @@ returns-clause-says g c = λ are.
     let opened = c.in-Ok-open.ensures.own (stored-truths g.S.KeepsFacts.facts L known c.args.plan c.args.store c.args.store F c.in-Ok.ensures refl are) in
     let written = rw c.if-not-branch.false at c.in_ok-write_if_refuted.ensures in
     let answer = c.in-Ok-answer_bytes.text.items in
-    let texts = refuted-texts L F c.args.plan are_true written.1 answer c.vars-vars.ensures.within opened written.0 c.in-Ok-answer_bytes.ensures written.2 in
+    let texts = refuted-texts L F c.args.plan (by_plan c.args.plan) are_true written.1 answer c.vars-vars.ensures.within (alone refl) opened written.0 c.in-Ok-answer_bytes.ensures written.2 in
     record {
       proof = written.1;
       answer = answer;
-      run = IsRunOf-made L known c.args.plan F Unsatisfiable written.1 answer c.in-Ok.ensures texts;
+      run = IsRunOf-made L known (by_plan c.args.plan) F Unsatisfiable written.1 answer c.in-Ok.ensures texts;
       proof_written = written.3;
       answer_written = rw c.deref.ensures.value at c.in_ok-write_text.ensures;
     }

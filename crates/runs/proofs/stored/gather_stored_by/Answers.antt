@@ -1,4 +1,5 @@
 use Rattle.std.proofs.Common.{rules, refl}
+use Rattle.strategies.specs.Strategies.{search_by}
 use Rattle.cnf.specs.Limits.{limits_of}
 use Rattle.runs.specs.Faults.{fault_of_read}
 use Rattle.runs.proofs.RunLemmas.{IsRunOf-made, RunSays-unread}
@@ -13,10 +14,13 @@ returns-in-Err-clause-leaves g c =
     let a = g.W.Write.contents c.args.answer.now in
     let known = g.R.Read.remaining c.args.input in
     rw c.of_read.ensures
-    (says-Stored (limits_of c.args.limits) known c.args.plan p p a a (fault_of_read c.in-Err.fault) (RunSays-unread (limits_of c.args.limits) known p a c.args.plan c.in-Err.fault c.in-Err.ensures))
+    (says-Stored (limits_of c.args.limits) known c.args.strategy p p a a (fault_of_read c.in-Err.fault) (RunSays-unread (limits_of c.args.limits) known p a c.args.strategy c.in-Err.fault c.in-Err.ensures))
 
 pub answer_of-requires : goal.answer_of-requires
-answer_of-requires g c = (c.args.plan.search, c.in-Ok-go_through.ensures.says)
+answer_of-requires g c = (search_by c.args.strategy, c.in-Ok-answered.ensures.says)
+
+pub write_proof_of-requires-clause-says : goal.write_proof_of-requires-clause-says
+write_proof_of-requires-clause-says g c = (search_by c.args.strategy, c.in-Ok-answered.ensures.says)
 
 pub returns-in-Err-answer_of-clause-leaves : goal.returns-in-Err-answer_of-clause-leaves
 returns-in-Err-answer_of-clause-leaves g c = (Keeps-same (g.P.Write.contents c.args.proof.now), Keeps-same (g.W.Write.contents c.args.answer.now))
@@ -25,39 +29,39 @@ pub returns-in_err-write_text-clause-leaves : goal.returns-in_err-write_text-cla
 returns-in_err-write_text-clause-leaves g c =
     let F = c.in-Ok.formula in
     let known = g.R.Read.remaining c.args.input in
-    let are_true = g.H.Outcomes.GivesOutcomes.gives_own c.go_through.new.source F c.args.plan in
+    let are_true = g.H.Outcomes.GivesOutcomes.gives_own c.go_through.new.source F c.plan-plan.result in
     let written = c.in_ok-write_proof_of.ensures in
     let answer = c.in-Ok-answer_of.pair.1.items in
-    let right = stored-right (limits_of c.args.limits) F c.args.plan are_true c.in-Ok-go_through.tree c.in-Ok-answer_of.pair.0 written.0 answer c.vars-vars.ensures.within c.in-Ok-go_through.ensures.says c.in-Ok-answer_of.ensures written.1 in
-    unanswered-Stored (limits_of c.args.limits) c.args.plan.search known (g.P.Write.contents c.args.proof.now) (g.P.Write.contents c.write_proof_of.new.proof) (g.W.Write.contents c.args.answer.now) (g.W.Write.contents c.write_text.new.writer)
+    let right = stored-right (limits_of c.args.limits) F c.plan-plan.result (search_by c.args.strategy) are_true c.in-Ok-answered.tree c.in-Ok-answer_of.pair.0 written.0 answer c.vars-vars.ensures.within c.in-Ok-answered.ensures.says c.in-Ok-answer_of.ensures written.1 in
+    unanswered-Stored (limits_of c.args.limits) (search_by c.args.strategy) known (g.P.Write.contents c.args.proof.now) (g.P.Write.contents c.write_proof_of.new.proof) (g.W.Write.contents c.args.answer.now) (g.W.Write.contents c.write_text.new.writer)
     c.from_residual-in_err-write_text.result c.in_err-write_text.field-0.0 written.0 answer (search rules)
-    (AreRightTexts-made (limits_of c.args.limits) c.args.plan.search known F c.in-Ok-answer_of.pair.0 written.0 answer c.in-Ok.ensures right) written.2 (rw c.deref.ensures.value at c.in_err-write_text.ensures)
+    (AreRightTexts-made (limits_of c.args.limits) (search_by c.args.strategy) known F c.in-Ok-answer_of.pair.0 written.0 answer c.in-Ok.ensures right) written.2 (rw c.deref.ensures.value at c.in_err-write_text.ensures)
 
 pub returns-clause-answer_is_right : goal.returns-clause-answer_is_right
 returns-clause-answer_is_right g c =
     let F = c.in-Ok.formula in
-    let are_true = g.H.Outcomes.GivesOutcomes.gives_own c.go_through.new.source F c.args.plan in
+    let are_true = g.H.Outcomes.GivesOutcomes.gives_own c.go_through.new.source F c.plan-plan.result in
     let written = c.in_ok-write_proof_of.ensures in
     let answer = c.in-Ok-answer_of.pair.1.items in
-    IsRightAnswer-made (limits_of c.args.limits) c.args.plan.search (g.R.Read.remaining c.args.input) (g.P.Write.contents c.args.proof.now) (g.P.Write.contents c.write_proof_of.new.proof) (g.W.Write.contents c.args.answer.now) (g.W.Write.contents c.write_text.new.writer) F
+    IsRightAnswer-made (limits_of c.args.limits) (search_by c.args.strategy) (g.R.Read.remaining c.args.input) (g.P.Write.contents c.args.proof.now) (g.P.Write.contents c.write_proof_of.new.proof) (g.W.Write.contents c.args.answer.now) (g.W.Write.contents c.write_text.new.writer) F
     c.in-Ok-answer_of.pair.0 written.0 answer c.in-Ok.ensures
-    (stored-right (limits_of c.args.limits) F c.args.plan are_true c.in-Ok-go_through.tree c.in-Ok-answer_of.pair.0 written.0 answer c.vars-vars.ensures.within c.in-Ok-go_through.ensures.says c.in-Ok-answer_of.ensures written.1) written.2
+    (stored-right (limits_of c.args.limits) F c.plan-plan.result (search_by c.args.strategy) are_true c.in-Ok-answered.tree c.in-Ok-answer_of.pair.0 written.0 answer c.vars-vars.ensures.within c.in-Ok-answered.ensures.says c.in-Ok-answer_of.ensures written.1) written.2
     (rw c.deref.ensures.value at c.in_ok-write_text.ensures)
 
 pub returns-clause-says : goal.returns-clause-says
 returns-clause-says g c = λ are.
     let F = c.in-Ok.formula in
     let known = g.R.Read.remaining c.args.input in
-    let are_true = g.H.Outcomes.GivesOutcomes.gives_own c.go_through.new.source F c.args.plan in
-    let opened = c.in-Ok-open.ensures.own (stored-truths g.S.KeepsFacts.facts (limits_of c.args.limits) known c.args.plan c.args.store c.args.store F c.in-Ok.ensures refl are) in
+    let are_true = g.H.Outcomes.GivesOutcomes.gives_own c.go_through.new.source F c.plan-plan.result in
+    let opened = c.in-Ok-open.ensures.own (stored-truths g.S.KeepsFacts.facts (limits_of c.args.limits) known c.plan-plan.result c.args.store c.args.store F c.in-Ok.ensures refl (rw c.plan-plan.ensures are)) in
     let written = c.in_ok-write_proof_of.ensures in
     let answer = c.in-Ok-answer_of.pair.1.items in
-    let texts = stored-texts (limits_of c.args.limits) F c.args.plan are_true c.in-Ok-go_through.tree c.in-Ok-answer_of.pair.0 written.0 answer c.vars-vars.ensures.within (c.in-Ok-go_through.ensures.still_own opened) (c.in-Ok-go_through.ensures.own opened)
-    c.in-Ok-go_through.ensures.says c.in-Ok-answer_of.ensures written.1 in
+    let texts = stored-texts (limits_of c.args.limits) F c.args.strategy c.plan-plan.result are_true c.in-Ok-answered.tree c.in-Ok-answer_of.pair.0 written.0 answer c.vars-vars.ensures.within c.requires.alone c.plan-plan.ensures (c.in-Ok-go_through.ensures.still_own opened)
+    (c.in-Ok-answered.ensures.own (rw c.plan-plan.ensures at (c.in-Ok-go_through.ensures.own opened))) c.in-Ok-answered.ensures.says c.in-Ok-answer_of.ensures written.1 in
     record {
       proof = written.0;
       answer = answer;
-      run = IsRunOf-made (limits_of c.args.limits) known c.args.plan F c.in-Ok-answer_of.pair.0 written.0 answer c.in-Ok.ensures texts;
+      run = IsRunOf-made (limits_of c.args.limits) known c.args.strategy F c.in-Ok-answer_of.pair.0 written.0 answer c.in-Ok.ensures texts;
       proof_written = written.2;
       answer_written = rw c.deref.ensures.value at c.in_ok-write_text.ensures;
     }

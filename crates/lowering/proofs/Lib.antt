@@ -1,0 +1,4 @@
+pub mod FirstBelow
+pub mod TrueTrails
+pub mod OpenCubes
+pub mod SettledPrefixes

@@ -1,0 +1,2 @@
+-- How far a lowering is.
+pub mod Lowering

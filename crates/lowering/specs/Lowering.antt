@@ -1,0 +1,46 @@
+-- How far a lowering is: a model, and the literals that are settled. Source: the search for a
+-- lexicographically least model, one query a variable (Nadel and Ryvchin, SAT 2016, 'Bit-vector
+-- optimization'; the order is this project's, false before true).
+use Rattle.std.specs.Prelude.{◌≡◌, ℕ, ◌≤◌, ◌<◌, true, false, List, All, IsTrue, IfSome}
+use Rattle.theory.specs.Literals.{Literal, has_var}
+use Rattle.theory.specs.Truth.{Formula, Assignment, IsOver, Satisfies, AreTrue, value}
+use Rattle.theory.specs.FirstModel.{comes_before}
+use Rattle.theory.specs.Trails.{literals}
+use Rattle.theory.specs.Propagation.{quiet, by_place, Propagates}
+use Rattle.theory.specs.Search.{first_clauses, searched}
+use Rattle.kernel.specs.declared.order.Order.TheVariants.{ByPlace}
+use Rattle.lowering.specs.declared.prefix.Prefix.{Prefix}
+use Rattle.lowering.specs.declared.settling.Lowering.{Lowering}
+
+-- no assignment satisfies the formula and the cube
+abbrev pub HasNoModelIn : Formula → List Literal → Type 0
+HasNoModelIn F Q = (M : Assignment) → Satisfies F M → ¬ (AreTrue (value M) Q)
+
+-- N has the values of M below variable x
+abbrev pub Agrees : ℕ → Assignment → Assignment → Type 0
+Agrees x M N = (u : ℕ) → 1 ≤ u → u < x → value N u ≡ value M u
+
+-- M satisfies the formula, and what satisfies it and comes before M has its values below x
+pub record IsFirstBelow (F : Formula) (x : ℕ) (M : Assignment) : Type 0 where
+  pub satisfies : Satisfies F M
+  pub agrees : (N : Assignment) → Satisfies F N → IsTrue (comes_before N M) → Agrees x M N
+
+-- the cube is of variables below x and true in M; on the trail, where propagation has come to rest,
+-- stand all variables below x, and only what is true in each model of the cube
+pub record IsPrefix (F : Formula) (x : ℕ) (M : Assignment) (p : Prefix) : Type 0 where
+  pub over : IsOver F.vars p.cube
+  pub below : All (λ l. l.var < x) p.cube
+  pub holds : AreTrue (value M) p.cube
+  pub vars : p.kernel.vars ≡ F.vars
+  pub clauses : p.kernel.clauses ≡ first_clauses F
+  pub in_order : p.kernel.order ≡ ByPlace
+  pub has_memory : p.kernel.short ≡ false
+  pub rests : Propagates by_place (first_clauses F) p.kernel.trail quiet p.kernel.trail
+  pub follows : (N : Assignment) → Satisfies (searched F) N → AreTrue (value N) p.cube → AreTrue (value N) (literals p.kernel.trail)
+  pub settled : (u : ℕ) → 1 ≤ u → u < x → has_var (literals p.kernel.trail) u ≡ true
+
+-- the variables below x are settled: the model at hand has the first model's values there
+pub record IsLowering (F : Formula) (x : ℕ) (l : Lowering) : Type 0 where
+  pub first : IsFirstBelow (searched F) x l.model.items
+  pub prefix : IsPrefix F x l.model.items l.prefix
+  pub solver : IfSome l.questions.solver (λ s. s.formula ≡ F)

@@ -1,0 +1,5 @@
+pub mod FoundModels
+pub mod DecidedTrees
+pub mod OneStrategy
+pub mod StrategyTexts
+pub mod FirstSearches

@@ -1,0 +1,5 @@
+use Rattle.strategies.proofs.DecidedTrees.{refuted-says}
+use Rattle.strategies.proofs.deciding.solve_by_strategy.Goals as goal
+
+pub returns-in-Refuted-clause-says : goal.returns-in-Refuted-clause-says
+returns-in-Refuted-clause-says g c = refuted-says c.args.formula.now c.args.strategy c.in_ok-plan.plan c.in-Refuted.nodes c.vars-vars.ensures.within.formula (rw c.in-Refuted.is at c.in_ok-plan.ensures)

@@ -1,0 +1,96 @@
+//! The search that is made first, and the plan that is chosen by it.
+ghost use Rattle.std.specs.Prelude.{◌≡◌, ◌≤◌, [], IfOk};
+ghost use Rattle.theory.specs.Plans.{ordered_within};
+ghost use Rattle.theory.specs.Runs.{Runs};
+ghost use Rattle.cdcl.specs.Outcome.{outcome_of};
+ghost use Rattle.strategies.specs.Choosing.{Decides, IsChosen};
+
+use crate::strategy::{Stages, Strategy};
+use cdcl::{Counts, Outcome, Plan, Solver, Watcher};
+use cnf::Formula;
+use cubes::Gate;
+use kernel::Cube;
+use lines::Row;
+use std::alloc::{AllocError, Global};
+
+/// Watches the search that is made first.
+#[derive(Drop)]
+struct FirstWatcher<'a, G, S> {
+    gate: &'a G,
+    stages: &'a S,
+}
+
+impl<G: Gate, S: Stages> Watcher for FirstWatcher<'_, G, S> {
+    fn counted(&self, counts: Counts) {
+        self.stages.searched_first(counts);
+    }
+
+    fn stops(&self) -> bool {
+        self.gate.stops()
+    }
+}
+
+/// Whether the outcome of the cube without literals decides the formula.
+fn decides(outcome: &Outcome<Row>) -> bool
+    ensures { Decides (outcome_of outcome.now) result }
+{
+    match outcome {
+        Outcome::Exhausted(_) => false,
+        _ => true,
+    }
+}
+
+/// Where the formula is decided, no hand gets the cube without literals: so the gate is told of it
+/// here.
+fn tell<G: Gate>(alloc: Global, gate: &G, outcome: &Outcome<Row>) {
+    if !decides(outcome) {
+        return;
+    }
+    let root = Cube::root(alloc);
+    gate.before(0, &root);
+    if let Outcome::Refuted(_) = outcome {
+        gate.refuted(0, &root);
+    }
+    gate.after(0, &root);
+}
+
+/// The outcome of the whole formula as one cube by the ordered search, with 1 to 100,000 conflicts.
+/// It fails where a request for memory is refused or the gate stops it.
+pub(crate) fn first_outcome<G: Gate, S: Stages>(
+    alloc: Global,
+    formula: &Formula,
+    budget: u32,
+    gate: &G,
+    stages: &S,
+) -> Result<Outcome<Row>, AllocError>
+    requires { (1 ≤ budget) × (budget ≤ 100000) }
+    ensures { IfOk result (λ o. Runs formula.now (ordered_within budget) [] (outcome_of o)) }
+{
+    let root = Cube::root(alloc);
+    let mut solver = Solver::open(alloc, formula, Plan::ordered(budget))?;
+    let outcome = solver.solve_watched(&root, &FirstWatcher { gate, stages })?;
+    stages.ended_first(decides(&outcome));
+    tell(alloc, gate, &outcome);
+    Ok(outcome)
+}
+
+/// The plan that decides the formula by the strategy. It takes the time of the search that is made
+/// first, and fails where a request for memory is refused or the gate stops that.
+pub fn chosen<G: Gate, S: Stages>(
+    alloc: Global,
+    formula: &Formula,
+    strategy: Strategy,
+    gate: &G,
+    stages: &S,
+) -> Result<Plan, AllocError>
+    ensures { IfOk result (IsChosen formula.now strategy) }
+{
+    let Some(budget) = strategy.first() else {
+        return Ok(strategy.plan());
+    };
+    let outcome = first_outcome(alloc, formula, budget, gate, stages)?;
+    if decides(&outcome) {
+        return Ok(Plan::ordered(budget));
+    }
+    Ok(strategy.plan())
+}

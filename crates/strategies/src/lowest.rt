@@ -1,0 +1,48 @@
+//! The model that is the answer, from the one that a plan found.
+ghost use Rattle.std.specs.Prelude.{IfOk};
+ghost use Rattle.theory.specs.Truth.{Satisfies};
+ghost use Rattle.theory.specs.FirstModel.{IsFirst};
+ghost use Rattle.theory.specs.Search.{searched};
+
+use crate::strategy::Stages;
+use cdcl::Plan;
+use cnf::Formula;
+use cubes::Gate;
+use lowering::{LoweringCounts, LoweringWatcher, lowered};
+use std::alloc::{AllocError, Global};
+
+/// Watches a lowering.
+#[derive(Drop)]
+struct Lowers<'a, G, S> {
+    gate: &'a G,
+    stages: &'a S,
+}
+
+impl<G: Gate, S: Stages> LoweringWatcher for Lowers<'_, G, S> {
+    fn lowering(&self, counts: LoweringCounts) {
+        self.stages.lowering(counts);
+    }
+
+    fn stops(&self) -> bool {
+        self.gate.stops()
+    }
+}
+
+/// The formula's first model, from a model in which its pure variables are false, as each search's
+/// models have them: questions are searched by the plan, undivided. It fails where a request for
+/// memory is refused or the gate stops it.
+pub(crate) fn first_model<G: Gate, S: Stages>(
+    alloc: Global,
+    formula: &Formula,
+    plan: Plan,
+    model: Vec<bool>,
+    gate: &G,
+    stages: &S,
+) -> Result<Vec<bool>, AllocError>
+    requires { Satisfies (searched formula.now) model.items }
+    ensures { IfOk result (λ values. IsFirst formula.now values.items) }
+{
+    let plan = plan.divided(0);
+    let watcher = Lowers { gate, stages };
+    lowered(alloc, formula, plan, model, &watcher)
+}

@@ -1,0 +1,141 @@
+//! `solve --stats` of runs that lower a model, by a clock that a test sets.
+use crate::timed::{Row, SPLIT, holds};
+use sessions::Paths;
+use sessions::clocks::Readings;
+use sessions::fake::Fake;
+use std::test::Fail;
+
+/// At a run's beginning, when its limit of ten seconds begins, at the end of reading, before the search
+/// that is made first, that of hands, the first question and the second.
+const LOWERED_SO_FAR: [u64; 7] = [5_000, 5_000, 6_234, 6_300, 6_400, 14_999, 15_000];
+
+const CUT_OFF_LOWERING: &str =
+    "c the time was over while a model was lowered to the first one; --any-model answers without that\n";
+
+/// The ordered search comes to -1 2 -3, and the focused one to 1 2 -3, each after a conflict.
+pub(crate) const HIGHER: &str = "p cnf 3 4\n1 2 3 0\n1 2 -3 0\n-1 2 3 0\n-1 2 -3 0\n";
+
+/// The search that is made first decides -1 and -2, and 3 brings the conflict. The focused one decides
+/// -3 and -2, and 1 brings it; it learns 2 or 3, of which 2 follows, and decides 1. In the cube -1 the
+/// search for another model decides -3, and 2 follows; in that of -1 and -2 the conflict comes with 3.
+const LOWERED: Row = Row {
+    formula: HIGHER,
+    words: &[
+        "cubesat",
+        "solve",
+        "--stats",
+        "--search",
+        "automatic",
+        "--budget",
+        "1",
+        "FORMULA",
+    ],
+    tells: false,
+    status: 10,
+    lines: "c formula: 3 variables, 4 clauses, 12 literals
+c hands: 1
+c first search: ordered, 1 conflicts, undecided
+c search: 3 conflicts, 6 decisions, 14 propagations, 0 restarts
+c clauses: 1 learnt, 0 forgotten
+c not divided: the focused search ended after 1 conflicts
+c cubes: 1 solved, at least 0 split, skipped unknown
+c solved by each hand: 1
+c lowering: 2 questions, 1 with a model, 1 without, 1 conflicts
+c reading: 1.234 s
+c solving: 2.050 s
+c conflicts a second: 1
+",
+    ..SPLIT
+};
+
+static ROWS: [Row; 4] = [
+    LOWERED,
+    Row {
+        words: &[
+            "cubesat",
+            "solve",
+            "--stats",
+            "--search",
+            "automatic",
+            "--budget",
+            "1",
+            "--any-model",
+            "FORMULA",
+        ],
+        lines: "c formula: 3 variables, 4 clauses, 12 literals
+c hands: 1
+c first search: ordered, 1 conflicts, undecided
+c search: 2 conflicts, 5 decisions, 8 propagations, 0 restarts
+c clauses: 1 learnt, 0 forgotten
+c not divided: the focused search ended after 1 conflicts
+c cubes: 1 solved, at least 0 split, skipped unknown
+c solved by each hand: 1
+c reading: 1.234 s
+c solving: 2.050 s
+c conflicts a second: 0
+",
+        ..LOWERED
+    },
+    // the limit is reached before the second question
+    Row {
+        words: &[
+            "cubesat",
+            "solve",
+            "--search",
+            "automatic",
+            "--budget",
+            "1",
+            "--seconds",
+            "10",
+            "FORMULA",
+        ],
+        times: &LOWERED_SO_FAR,
+        status: 0,
+        lines: "",
+        fault: CUT_OFF_LOWERING,
+        ..LOWERED
+    },
+    Row {
+        words: &[
+            "cubesat",
+            "solve",
+            "--stats",
+            "--search",
+            "automatic",
+            "--budget",
+            "1",
+            "--seconds",
+            "10",
+            "--proof",
+            "PROOF",
+            "FORMULA",
+        ],
+        times: &LOWERED_SO_FAR,
+        status: 0,
+        lines: "c formula: 3 variables, 4 clauses, 12 literals
+c hands: 1
+c first search: ordered, 1 conflicts, undecided
+c search: 2 conflicts, 6 decisions, 11 propagations, 0 restarts
+c clauses: 1 learnt, 0 forgotten
+c not divided: the focused search ended after 1 conflicts
+c cubes: 1 solved, at least 0 split, skipped unknown
+c solved by each hand: 1
+c lowering: 1 questions, 1 with a model, 0 without, 0 conflicts
+c proof: 0 lines, 0 bytes
+c reading: 1.234 s
+",
+        fault: CUT_OFF_LOWERING,
+        ..LOWERED
+    },
+];
+
+#[test]
+fn figures_of_lowerings(rt: HostRuntime) -> Result<(), Fail> {
+    let paths = Paths::of(&rt, "lowered.cnf")?;
+    for row in &ROWS {
+        let clock = Readings::new(row.times);
+        let fake = Fake::telling(&rt, &clock, paths.missing.as_str());
+        assert!(rt; holds(&fake, &paths, row)?, "{} {}", row.lines, row.fault);
+    }
+    Ok(())
+}
