@@ -7,10 +7,10 @@ import collections
 MAX_BUDGET = 1_000_000
 
 # the numbers of the focused search
-FIRST_STEP, GROWTH = 65_536, 20
-GREATEST_STEP, DIVISOR = 2**40, 2**24
-WINDOW = 50
-FIRST_INTERVAL, INTERVAL_GAIN, KEPT_GLUE = 2000, 300, 2
+FIRST_STEP, RESTARTING_GROWTH, STABLE_GROWTH = 65_536, 5, 20
+GREATEST_STEP, DIVISOR = 2**56, 2**40
+WINDOW, ABOVE, APART = 32, 35, 5
+MODE_LENGTH, ROUND_LENGTH, KEPT_GLUE = 1000, 300, 3
 
 # the budgets of the two searches, and into how many cubes the program divides a formula, where no
 # number is given
@@ -131,19 +131,26 @@ class Trail:
         number, literal = unit
         return max((self.entry[abs(it)].place for it in self.clauses.literals[number] if it != literal), default=0), number
 
-    def learn(self, conflict):
-        """Resolution from the conflict back to the first unique implication point: the clause by rising
-        variable, without the cube's literals, and the hints."""
+    def resolve(self, conflict, entries, removable=frozenset()):
+        """Resolution from the conflict back over these entries of the trail: on those of level 0, on
+        those whose negation is removable, and on those of the current level while two literals of it
+        are left. The set that is left, and the numbers of the clauses, as their entries stand."""
         current = self.level()
-        left, reasons = {*self.clauses.literals[conflict]}, []
-        for entry in reversed(self.trail):
+        left, clauses = {*self.clauses.literals[conflict]}, [conflict]
+        for entry in reversed(entries):
             if -entry.literal not in left or entry.reason is None:
                 continue
             of_level = sum(self.level_of(it) == current for it in left)
-            if entry.level == 0 or (entry.level == current and of_level >= 2):
+            if entry.level == 0 or -entry.literal in removable or (entry.level == current and of_level >= 2):
                 left = (left - {-entry.literal}) | (self.clauses.literals[entry.reason] - {entry.literal})
-                reasons.append(entry.reason)
-        return sorted((it for it in left if self.level_of(it) > 0), key=abs), [*reversed(reasons), conflict]
+                clauses.insert(0, entry.reason)
+        return left, clauses
+
+    def learn(self, conflict, removable=frozenset()):
+        """The line of a conflict: the first unique implication point's clause, without what is removable
+        and without the cube's literals, by rising variable; and the hints."""
+        left, hints = self.resolve(conflict, self.trail, removable)
+        return sorted((it for it in left if self.level_of(it) > 0), key=abs), hints
 
 
 class Search(Trail):
@@ -152,8 +159,8 @@ class Search(Trail):
 
     def __init__(self, variables, clauses, cube, budget):
         super().__init__(variables, clauses, cube)
-        self.lines, self.decisions, self.conflicts, self.restarts, self.forgettings = [], 0, 0, 0, 0
-        self.outcome = None
+        self.lines, self.decisions, self.conflicts, self.outcome = [], 0, 0, None
+        self.counts = collections.Counter()
         self.begin()
         while self.outcome is None:
             self.step(budget)
@@ -169,16 +176,14 @@ class Search(Trail):
                 self.decisions += 1
             return
         self.conflicts += 1
-        clause, hints = self.learn(conflict)
         if self.level() == 0:
-            self.outcome = ("refuted", [*self.lines, (clause, hints)])
+            self.outcome = ("refuted", [*self.lines, self.learn(conflict)])
         elif self.is_divisible_at(len(self.lines) + 1, budget):
             self.outcome = ("divisible", None)
         elif len(self.lines) + 1 == budget:
             self.outcome = ("exhausted", self.splits_on())
         else:
-            self.lines.append((clause, hints))
-            self.learnt(clause, hints)
+            self.learn_from(conflict)
 
     def is_divisible_at(self, conflicts, budget):
         return False
@@ -204,81 +209,148 @@ class Ordered(Search):
     def splits_on(self):
         return self.decided
 
-    def learnt(self, clause, hints):
+    def learn_from(self, conflict):
+        self.lines.append(self.learn(conflict))
+        clause = self.lines[-1][0]
         self.back_to(self.back_level(clause))
         self.clauses.add(clause)
 
 
 class Focused(Search):
-    """It decides the variables that gained most in conflicts, restarts, and forgets learnt clauses."""
+    """It decides the variables that gained most in conflicts, in two modes, learns shorter lines,
+    restarts, and forgets learnt clauses in rounds. Each line is of a conflict above level 0, so `lines`
+    counts these. `counts` says how often it does what."""
 
     def begin(self):
+        self.is_stable, self.mode_length, self.mode_end = False, MODE_LENGTH, MODE_LENGTH
+        # of the stable modes
+        self.stable_decisions, self.stable_conflicts = 0, 0
         self.score_step, self.scores = FIRST_STEP, [0] * (self.variables + 1)
-        self.saved = [False] * (self.variables + 1)
-        self.glues, self.recent = [], []
-        self.interval = self.next = FIRST_INTERVAL
+        self.saved = [True] * (self.variables + 1)
+        # of each line, and of those of the restarting modes
+        self.glues, self.mode_glues, self.restarted = [], [], 0
+        # the numbers of the clauses used since the last round
+        self.used = set()
+        self.round, self.round_end = 1, ROUND_LENGTH
 
     def best(self, variables):
         return max(variables, key=lambda it: (self.scores[it], it), default=None)
 
     def decision(self):
         best = self.best(self.free_variables())
-        return best if best is None or self.saved[best] else -best
+        if best is None:
+            return None
+        self.stable_decisions += self.is_stable
+        return best if self.saved[best] else -best
 
     def splits_on(self):
         return self.best(it for it in range(1, self.variables + 1) if it not in self.entry or self.level_of(it) > 0)
 
-    def learnt(self, clause, hints):
+    def learn_from(self, conflict):
+        left, resolved = self.resolve(conflict, [it for it in self.trail if it.level == self.level()])
+        removable = self.removable(left)
+        clause, hints = self.learn(conflict, removable)
+        self.counts["removed literals"] += len(left & removable)
+        self.lines.append((clause, hints))
         glue, back = len({self.level_of(it) for it in clause}), self.back_level(clause)
-        self.gain({abs(it) for number in hints for it in self.clauses.literals[number]})
+        self.used.update(resolved)
+        self.gain(self.seen(resolved, clause))
         for entry in self.trail:
             self.saved[abs(entry.literal)] = entry.literal > 0
-        self.back_to(0 if self.restarts_at(glue) else back)
-        self.forget()
+        self.stable_conflicts += self.is_stable
+        self.go_back(glue, back)
         self.glues.append(glue)
         self.clauses.add(clause)
+        self.used.add(self.first + len(self.lines))
+
+    def removable(self, left):
+        """Of entries between level 0 and the current one the negation is removable where each other
+        literal of the reason is of level 0, in the set that is left at the current level, or removable."""
+        removable = set()
+        for entry in self.trail:
+            if 0 < entry.level < self.level() and entry.reason is not None:
+                others = self.clauses.literals[entry.reason] - {entry.literal}
+                if all(self.level_of(it) == 0 or it in left or it in removable for it in others):
+                    removable.add(-entry.literal)
+        return removable
+
+    def seen(self, resolved, clause):
+        """The variables above level 0 in a clause that was resolved at the current level, or in the
+        reason of an entry whose negation the line has."""
+        against = [self.entry[abs(it)].reason for it in clause]
+        numbers = [*resolved, *(it for it in against if it is not None)]
+        return {abs(it) for number in numbers for it in self.clauses.literals[number] if self.level_of(it) > 0}
 
     def gain(self, seen):
-        """The variables that the conflict has seen above level 0 gain a step, and the step grows."""
+        """The variables seen gain a step, and the step grows, faster in a restarting mode."""
         for it in seen:
-            if self.level_of(it) > 0:
-                self.scores[it] += self.score_step
-        self.score_step += self.score_step // GROWTH
+            self.scores[it] += self.score_step
+        self.score_step += self.score_step // (STABLE_GROWTH if self.is_stable else RESTARTING_GROWTH)
         if self.score_step >= GREATEST_STEP:
             self.score_step //= DIVISOR
             self.scores = [it // DIVISOR for it in self.scores]
+            self.counts["divisions of scores"] += 1
+
+    def go_back(self, glue, back):
+        """To level 0 where the round ends or it restarts, and else to the line's level."""
+        is_over, restarts = len(self.lines) >= self.round_end, self.restarts_at(glue)
+        if is_over or restarts:
+            back, self.restarted = 0, len(self.lines)
+        self.counts["restarts"] += restarts
+        self.back_to(back)
+        if is_over:
+            self.end_round()
 
     def restarts_at(self, glue):
-        """Whether the mean of the recent glues, of which this is the last, is above 5/4 of the mean of all."""
-        self.recent = [*self.recent, glue][-WINDOW:]
-        if len(self.recent) < WINDOW or sum(self.recent) * len(self.lines) * 4 <= (sum(self.glues) + glue) * WINDOW * 5:
+        """Whether the mean of the recent glues of restarting modes, of which this is the last, is above
+        35/32 of the mean of all, and the last restart or end of a round is some conflicts ago."""
+        if self.is_stable:
             return False
-        self.recent = []
-        self.restarts += 1
-        return True
+        self.mode_glues.append(glue)
+        recent, all_glues = self.mode_glues[-WINDOW:], self.mode_glues
+        return (len(self.lines) >= self.restarted + APART and len(recent) == WINDOW
+                and sum(recent) * len(all_glues) > sum(all_glues) * ABOVE)
+
+    def end_round(self):
+        self.forget()
+        self.rephase()
+        self.counts["rounds"] += 1
+        self.round += 1
+        self.round_end = len(self.lines) + ROUND_LENGTH * self.round
+        if len(self.lines) >= self.mode_end:
+            self.is_stable = not self.is_stable
+            self.mode_length *= 2
+            self.mode_end = len(self.lines) + self.mode_length
+            self.counts["changes of mode"] += 1
 
     def forget(self):
-        """Forgets the worse half of the learnt clauses that may go, where it is time."""
-        if len(self.lines) < self.next:
-            return
-        self.interval += INTERVAL_GAIN
-        self.next = len(self.lines) + self.interval
-        reasons = {it.reason for it in self.trail}
+        """Of the learnt clauses that weren't used since the last round, have too great a glue and are no
+        reasons, all but the better quarter are forgotten."""
+        kept = self.used | {it.reason for it in self.trail}
         learnt = enumerate(self.glues, self.first + 1)
         may_go = [(glue, len(self.clauses.literals[it]), -it) for it, glue in learnt
-                  if self.clauses.literals[it] != {1, -1} and glue > KEPT_GLUE and it not in reasons]
-        kept = len(may_go) - len(may_go) // 2
-        self.clauses.forget({-it for _, _, it in sorted(may_go)[kept:]})
-        self.forgettings += 1
+                  if glue > KEPT_GLUE and self.clauses.literals[it] != {1, -1} and it not in kept]
+        late = sorted(may_go)[len(may_go) // 4:]
+        self.clauses.forget({-it for _, _, it in late})
+        self.used = set()
+        self.counts["forgotten clauses"] += len(late)
+
+    def rephase(self):
+        """All saved values become true, in the next round the other ones, then false, and so on."""
+        kind = self.round % 3
+        self.saved = [kind == 1 or (kind == 2 and not it) for it in self.saved]
+        self.counts["rephasings to " + ("false", "true", "other values")[kind]] += 1
 
 
 class First(Focused):
     """The focused search of the cube without literals, where the formula is divided if it is divisible."""
 
     def is_divisible_at(self, conflicts, budget):
-        """Whether this is the conflict at which the search is asked, and it decided at most three
-        literals for two conflicts. Those that were taken back count too."""
-        return conflicts == min(FIRST_CONFLICTS, budget) and 2 * self.decisions <= 3 * conflicts
+        """Whether this is the conflict at which the search is asked, and its stable modes decided less
+        than five literals for four conflicts, of which this may be one. Decisions that were taken back
+        count too."""
+        stable = self.stable_conflicts + self.is_stable
+        return conflicts == min(FIRST_CONFLICTS, budget) and 4 * self.stable_decisions < 5 * stable
 
 
 class Look(Trail):

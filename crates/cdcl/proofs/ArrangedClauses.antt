@@ -90,7 +90,7 @@ begun-arranged k c d lawful p h =
     joined-same (literals k.trail) c d [] (one_signed k lawful) (covers c d p) (covered c d p) (Refutes-from_is_false (literals k.trail) c h) (λ l a. absurd (cc a)) tt
 
 -- a resolvent
-pub resolved-arranged : (k : State) (S c d : Clause) (x : Literal) (bound : ℕ) (m : Marks) → IsLawful k.clauses k.trail → IsPermutation c d → IsSet k S bound m
+pub resolved-arranged : {R : List Literal} (k : State) (S c d : Clause) (x : Literal) (bound : ℕ) (m : Marks) → IsLawful k.clauses k.trail → IsPermutation c d → IsSet k R S bound m
     → is_false (literals (take bound k.trail)) (without c x) ≡ true → resolved S x d ≡ resolved S x c
 resolved-arranged k S c d x bound m lawful p h f =
     joined-same (literals k.trail) (without c x) (without d x) (without S (negated x)) (one_signed k lawful)

@@ -1,13 +1,15 @@
 -- A look at a cube, and what the first search says of a formula's division.
-use Rattle.std.proofs.Common.{◌≡◌, ◌≢◌, min, take, ℕ, ◌*◌, ◌/◌, ◌^◌, ◌≤◌, false, nat_lt, le-ltb, List, [], Option, Some, refl, ap, ap₂, sym, subst, ◌∙◌, arith}
+use Rattle.std.proofs.Common.{◌≡◌, ◌≢◌, min, take, ℕ, ◌+◌, ◌*◌, ◌^◌, ◌<◌, ◌≤◌, false, nat_lt, le-ltb, List, [], Option, Some, refl, ap, ap₂, sym, subst, ◌∙◌, arith}
 use Rattle.std.proofs.Math.Pow.{pow_mono}
 use Rattle.theory.specs.Literals.{Literal, Clause}
 use Rattle.theory.specs.Truth.{Formula}
 use Rattle.theory.specs.Plans.{Constants, focused, Plan}
 use Rattle.theory.specs.Trails.{Trail, literals, cube_trail, least_free}
 use Rattle.theory.specs.Propagation.{Closed, quiet, by_place, Propagates}
-use Rattle.theory.specs.Search.{Outcome, exhausted, Next, ends, goes_on, first_clauses}
-use Rattle.theory.specs.Focused.{FocusedState, begin, after, splits_on, IsFocusedStep}
+use Rattle.theory.specs.Search.{Outcome, exhausted, Next, ends, goes_on, first_clauses, max_budget}
+use Rattle.theory.proofs.literals.OverVariables.{AreOver-from_IsOver}
+use Rattle.lookahead.proofs.TrailLengths.{length-lawful}
+use Rattle.theory.specs.Focused.{FocusedState, if_stable, begin, after, splits_on, IsFocusedStep}
 use Rattle.theory.specs.Looking.{Chooses, no_choice, best_ones, max_candidates, ranks, SplitsInto, Looks}
 use Rattle.theory.specs.Dividing.{LeadsTo, stays, moves, HasFewDecisions, first_conflicts, IsDivisible}
 use Rattle.theory.proofs.searching.PropagationLemmas.{Propagates-unique}
@@ -21,7 +23,7 @@ use Rattle.cdcl.specs.declared.dividing.First.TheVariants.{Ended, FewDecisions, 
 use Rattle.cdcl.specs.declared.focused.FocusedSearch.{FocusedSearch}
 use Rattle.cdcl.specs.Outcome.{outcome_of}
 use Rattle.cdcl.specs.Searching.{IsReady}
-use Rattle.cdcl.specs.Focusing.{state_of, RunsTo, Reaches, IsKept}
+use Rattle.cdcl.specs.Focusing.{state_of, stable_at, RunsTo, Reaches, IsSpent, IsKept}
 use Rattle.cdcl.specs.declared.dividing.DividingSearch.{DividingSearch}
 use Rattle.cdcl.specs.Solving.{IsKnown, IsDivisionOf, FirstSays, IsDividing}
 
@@ -55,24 +57,38 @@ step-unique c V budget s m n h k =
     let one = Propagates-unique by_place s.clauses s.trail h.trail k.trail h.answer k.answer h.propagates k.propagates in
     sym h.follows ∙ ap₂ (λ (T : Trail) (a : Closed). after c V budget (record s { trail = T }) a) one.0 one.1 ∙ k.follows
 
+-- what was counted at its last conflict is less than the program's numbers
+pub spent-counts : (last : ℕ) (s : FocusedSearch) → IsSpent last s → last ≤ max_budget → (s.decided < 2 ^ 60) × (s.stable_conflicts < 2 ^ 31)
+spent-counts last s h within =
+    let f = h.focusing in
+    let k = s.kernel in
+    let long = length-lawful k.vars k.clauses k.trail f.searching.lawful (AreOver-from_IsOver k.vars (literals k.trail) f.searching.trail_over) in
+    let few = f.searching.few in
+    let most = f.decided in
+    let stable = f.stable in
+    let counted = h.counted in
+    (omega (arith, long, few, most, counted, within), omega (arith, stable, counted, within))
+
 -- the first search says whether there are few decisions
-pub few-decisions : (c : Constants) (F : Formula) (t : ℕ) (s : FocusedSearch) → Reaches c F.vars t (begin c F []) s → s.decided ≤ 3 * t / 2 → HasFewDecisions c F t
+pub few-decisions : (c : Constants) (F : Formula) (t : ℕ) (s : FocusedSearch) → Reaches c F.vars t (begin c F []) s → 4 * s.decided < 5 * stable_at s → HasFewDecisions c F t
 few-decisions c F t s r few = record {
   state = r.final;
   var = splits_on F.vars (state_of s r.values);
   leads = r.leads;
   last = r.ends_there;
-  few = let same = r.decided in omega (arith, same, few);
+  few = let same = r.decided in let stable = r.stable in omega (arith, same, stable, few);
 }
 
-many-decisions : (c : Constants) (F : Formula) (t : ℕ) (s : FocusedSearch) → Reaches c F.vars t (begin c F []) s → HasFewDecisions c F t → s.decided ≤ 3 * t / 2
+many-decisions : (c : Constants) (F : Formula) (t : ℕ) (s : FocusedSearch) → Reaches c F.vars t (begin c F []) s → HasFewDecisions c F t → 4 * s.decided < 5 * stable_at s
 many-decisions c F t s r h =
     let x = splits_on F.vars (state_of s r.values) in
     let one = ends-unique (IsFocusedStep c F.vars t) (step-unique c F.vars t) (begin c F []) r.final h.state (exhausted x) (exhausted h.var) r.leads r.ends_there h.leads h.last in
     let same = ap (λ (u : FocusedState). u.decisions) one.0 in
     let counted = r.decided in
+    let stable = ap (λ (u : FocusedState). u.stable_conflicts + if_stable u) one.0 in
+    let counted_too = r.stable in
     let few = h.few in
-    omega (arith, same, counted, few)
+    omega (arith, same, counted, stable, counted_too, few)
 
 own-outcome : (c : Constants) (F : Formula) (t count : ℕ) (o : Outcome) → RunsTo c F.vars t (begin c F []) o count → HasFewDecisions c F t → (x : ℕ) × (o ≡ exhausted x)
 own-outcome c F t count o r h = (h.var, (ends-unique (IsFocusedStep c F.vars t) (step-unique c F.vars t) (begin c F []) r.final h.state o (exhausted h.var) r.leads r.last h.leads h.last).1)

@@ -8,7 +8,8 @@ use Rattle.theory.specs.Trails.{Trail, literals, current_level, up_to}
 use Rattle.theory.specs.Propagation.{least_false}
 use Rattle.theory.specs.Lawful.{IsLawful}
 use Rattle.theory.specs.Learnable.{IsOpenBelow}
-use Rattle.theory.specs.Learning.{learn}
+use Rattle.theory.specs.Learning.{learn_removing}
+use Rattle.theory.specs.Removing.{first_walk, removable}
 use Rattle.theory.specs.Forgetting.{forgotten, forget}
 use Rattle.theory.proofs.trails.LawfulTrails.{least_false-at}
 use Rattle.theory.proofs.searching.LearnableLines.{back_level-learn, free-learn, current_level-learn, IsLearnable-learn}
@@ -41,33 +42,37 @@ least_false-push P (d ∷ K) c h f = first (is_false P d) h (λ r. least_false-p
     first false e more = ap (option_map (λ k. k + 1)) (more (none (least_false P K) e))
 
 -- where the search went back, no clause is false, the learnt one neither
-pub none-false-learnt : (K : List Clause) (T : Trail) (n level : ℕ) → IsLawful K T → IsOpenBelow K T → 1 ≤ current_level T → least_false (literals T) K ≡ Some n → level < current_level T
-    → least_false (literals (up_to T level)) (K ++ (learn K T n).clause ∷ []) ≡ None
-none-false-learnt K T n level lawful low_open above clash lower = least_false-push (literals (up_to T level)) K c (low_open level lower) not_false
+pub none-false-learnt : (R : List Literal) (K : List Clause) (T : Trail) (n level : ℕ) → IsLawful K T → IsOpenBelow K T → 1 ≤ current_level T → least_false (literals T) K ≡ Some n → level < current_level T
+    → least_false (literals (up_to T level)) (K ++ (learn_removing R K T n).clause ∷ []) ≡ None
+none-false-learnt R K T n level lawful low_open above clash lower = least_false-push (literals (up_to T level)) K c (low_open level lower) not_false
   where
     c : Clause
-    c = (learn K T n).clause
+    c = (learn_removing R K T n).clause
 
     not_false : is_false (literals (up_to T level)) c ≡ false
     not_false =
-        let u = free-learn K T n lawful low_open above clash in
+        let u = free-learn R K T n lawful low_open above clash in
         false_unless (is_false (literals (up_to T level)) c) (λ t. true_false (has_var (literals (up_to T level)) u.0.var)
         (has_var-has (literals (up_to T level)) (negated u.0) (Refutes-from_is_false (literals (up_to T level)) c t u.0 u.1)) (u.2 level lower))
 
-pub low-learnt : (K : List Clause) (T : Trail) (n level : ℕ) → IsLawful K T → IsOpenBelow K T → 1 ≤ current_level T → least_false (literals T) K ≡ Some n → level < current_level T
-    → IsOpenBelow (K ++ (learn K T n).clause ∷ []) (up_to T level)
-low-learnt K T n level lawful low_open above clash lower low less =
+pub low-learnt : (R : List Literal) (K : List Clause) (T : Trail) (n level : ℕ) → IsLawful K T → IsOpenBelow K T → 1 ≤ current_level T → least_false (literals T) K ≡ Some n → level < current_level T
+    → IsOpenBelow (K ++ (learn_removing R K T n).clause ∷ []) (up_to T level)
+low-learnt R K T n level lawful low_open above clash lower low less =
     let most : current_level (up_to T level) ≤ level = current_level-up_to T level in
-    ap (λ (U : Trail). least_false (literals U) (K ++ (learn K T n).clause ∷ [])) (up_to-up_to T level low (omega (arith, less, most)))
-    ∙ none-false-learnt K T n low lawful low_open above clash (omega (arith, less, most, lower))
+    ap (λ (U : Trail). least_false (literals U) (K ++ (learn_removing R K T n).clause ∷ [])) (up_to-up_to T level low (omega (arith, less, most)))
+    ∙ none-false-learnt R K T n low lawful low_open above clash (omega (arith, less, most, lower))
+
+-- what is removable at a conflict
+abbrev pub removed : List Clause → Trail → ℕ → List Literal
+removed K T n = removable K T (first_walk K T n).0 T []
 
 -- the level to which the search goes back
 pub lower-level : (k : State) (n : ℕ) (clause : Clause) (level : ℕ) (restarts : Bool) → IsSearching ByPlace k → IsTaught k n clause level
     → (level < current_level k.trail) × ((if restarts then 0 else level) ≤ level) × (current_level (up_to k.trail level) ≡ level)
 lower-level k n clause level restarts h t = (
-  rw t.back (back_level-learn k.clauses k.trail n h.lawful h.open_below t.above t.conflict),
+  rw t.back (back_level-learn (removed k.clauses k.trail n) k.clauses k.trail n h.lawful h.open_below t.above t.conflict),
   go restarts,
-  rw t.back (current_level-learn k.clauses k.trail n h.lawful h.open_below t.above t.conflict),
+  rw t.back (current_level-learn (removed k.clauses k.trail n) k.clauses k.trail n h.lawful h.open_below t.above t.conflict),
 )
   where
     go : (b : Bool) → (if b then 0 else level) ≤ level
@@ -77,11 +82,13 @@ lower-level k n clause level restarts h t = (
 -- the learnt clause is no forgotten one
 pub IsPlain-learn : (k : State) (n : ℕ) (clause : Clause) (level : ℕ) → IsSearching ByPlace k → IsTaught k n clause level → IsPlain k.vars clause
 IsPlain-learn k n clause level h t =
+    let R = removed k.clauses k.trail n in
     let at = least_false-at (literals k.trail) k.clauses n t.conflict in
-    let learnable = IsLearnable-learn k.clauses k.trail n h.lawful h.open_below t.above t.conflict in
+    let learnable = IsLearnable-learn R k.clauses k.trail n h.lawful h.open_below t.above t.conflict in
     rw t.learnt (inl (
-      has_both_signs-learn_clause k.clauses k.trail n h.lawful at.2,
-      length-distinct k.vars (learn k.clauses k.trail n).clause learnable.distinct (AreOver-from_IsOver k.vars (learn k.clauses k.trail n).clause (IsOver-learn k.vars k.clauses k.trail n h.lawful h.trail_over t.conflict)),
+      has_both_signs-learn_clause R k.clauses k.trail n h.lawful at.2,
+      length-distinct k.vars (learn_removing R k.clauses k.trail n).clause learnable.distinct
+          (AreOver-from_IsOver k.vars (learn_removing R k.clauses k.trail n).clause (IsOver-learn k.vars R k.clauses k.trail n h.lawful h.trail_over t.conflict)),
     ))
 
 -- forgetting leaves such clauses

@@ -1,11 +1,13 @@
 -- The steps of the focused search, as the definition has them.
-use Rattle.std.proofs.Common.{◌≡◌, ℕ, zero, suc, ◌+◌, ◌-◌, ◌*◌, ◌^◌, ◌<◌, ◌≤◌, false, List, [], ◌∷◌, ◌++◌, length, length-append, refl, ap, sym, subst, ◌∙◌, nat_eq, eq-eqb, ◌⊎◌, inl, inr, Option, Some, None, Result, Ok, Err, IfOk, All, arith}
+use Rattle.std.proofs.Common.{◌≡◌, ℕ, zero, suc, ◌+◌, ◌-◌, ◌*◌, ◌^◌, ◌<◌, ◌≤◌, Bool, true, false, List, [], ◌∷◌, ◌++◌, length, length-append, refl, ap, sym, subst, ◌∙◌, nat_eq, eq-eqb, ◌⊎◌, inl, inr, Option, Some, None, Result, Ok, Err, IfOk, All, arith, if◌then◌else◌}
 use Rattle.theory.specs.Literals.{Clause, IsVariable, has_var}
 use Rattle.theory.specs.Truth.{Assignment, IsOver, value}
 use Rattle.theory.specs.Trails.{Trail, Entry, literals, current_level}
 use Rattle.theory.specs.Propagation.{Closed, quiet, conflict, by_place, Propagates, least_false}
 use Rattle.theory.specs.Lawful.{IsLawful}
 use Rattle.theory.specs.Learning.{learn}
+use Rattle.theory.specs.Lessons.{lesson_of}
+use Rattle.theory.specs.Modes.{is_restarting}
 use Rattle.theory.specs.Plans.{Constants}
 use Rattle.theory.specs.Search.{RunsFrom, stops, steps, Next, ends, goes_on, exhausted, values}
 use Rattle.theory.specs.Dividing.{LeadsTo, stays, moves}
@@ -24,7 +26,9 @@ use Rattle.cdcl.specs.declared.focused.FocusedSearch.{FocusedSearch}
 use Rattle.cdcl.specs.declared.focused.Stop.{Stop}
 use Rattle.cdcl.specs.declared.focused.Stop.TheVariants.{Ended, Spent}
 use Rattle.cdcl.specs.declared.decisions.Decisions.{Decisions}
+use Rattle.cdcl.specs.Outcome.{LinesOutcome, outcome_of}
 use Rattle.cdcl.specs.Saving.{AreWaiting}
+use Rattle.cdcl.specs.Removing.{HasRoomFor}
 use Rattle.cdcl.specs.Focusing.{state_of, RunsTo, HasSaved, IsEquipped, IsFocusing, StepsAs, IsSpent, Follows, GoesOnward, Onward, IsFocusedSearchStep, Reaches, Stops}
 use Rattle.cdcl.proofs.SearchingLemmas.{IsSearching-Propagates}
 use Rattle.lookahead.proofs.TrailLengths.{length-lawful, length-Propagates}
@@ -48,14 +52,15 @@ IsFocusing-Propagates s k a f vars clauses first order memory closes =
         waiting = rw (vars, more.1) (AreWaiting-longer s.kernel.vars s.kernel.trail more.0 s.decisions f.equipped.waiting);
         seen = rw vars f.equipped.seen;
         levels = rw vars f.equipped.levels;
+        removing = rw vars f.equipped.removing;
         scored = f.equipped.scored;
         averaged = f.equipped.averaged;
       };
-      scores = f.scores;
-      total = f.total;
+      taken = f.taken;
+      stable = f.stable;
       decided = let long = length-Propagates by_place s.kernel.clauses s.kernel.trail k.trail a closes in let most = f.decided in omega arith;
       learnt = rw (clauses, first) f.learnt;
-      glues = f.glues;
+      marks = f.marks;
       plain = rw (vars, clauses, first) f.plain;
     }
 
@@ -99,6 +104,7 @@ step-from last s t k a (Ok o) vars clauses closes more h = λ saved has.
       spent = i.spent;
       saves = i.saves;
       decided = i.decided;
+      stable = i.stable;
       resumes = λ later next w. as_before saved later next (subst (λ V. IsFocusedStep s.constants V later (state_of (record s { kernel = k }) saved) next) vars (i.resumes later next (subst (λ V. IsFocusedStep s.constants V later (state_of t values) next) (sym vars) w)));
     }
     onward saved None values i = record { saves = i.saves; focusing = i.focusing; counted = i.counted; moves = moves i.moves }
@@ -116,7 +122,7 @@ pub Follows-decided : (budget : ℕ) (s t : FocusedSearch) (saved : Assignment) 
     → t.kernel ≡ record s.kernel { trail = s.kernel.trail ++ record { lit = saved_literal s.decisions.saved x; reason = None; level = current_level s.kernel.trail + 1 } ∷ [] }
     → IsLawful t.kernel.clauses t.kernel.trail → IsOver t.kernel.vars (literals t.kernel.trail) → All (IsOver t.kernel.vars) t.kernel.clauses
     → AreWaiting s.kernel.vars (literals s.kernel.trail) t.decisions → t.decisions.scores.scores ≡ s.decisions.scores.scores → t.decisions.scores.constants ≡ s.decisions.scores.constants
-    → t.decisions.saved ≡ s.decisions.saved → t ≡ record s { kernel = t.kernel; decisions = t.decisions; decided = s.decided + 1 } → Follows budget quiet s saved None t
+    → t.decisions.saved ≡ s.decisions.saved → t ≡ record s { kernel = t.kernel; decisions = t.decisions; decided = s.decided + (if is_restarting s.pace.mode then 0 else 1) } → Follows budget quiet s saved None t
 Follows-decided budget s t saved x f counted calm best has went lawful over clauses_over waiting scores constants same is = record {
   values = saved;
   next = ap (definition.on_quiet s.kernel.vars (state_of s saved)) best ∙ ap goes_on next;
@@ -150,15 +156,22 @@ Follows-decided budget s t saved x f counted calm best has went lawful over clau
     next = sym (rw (trail, clauses, scores) (subst (λ (u : FocusedSearch). record {
       clauses = s.kernel.clauses;
       trail = s.kernel.trail ++ e ∷ [];
-      conflicts = u.conflicts;
-      decisions = u.decided;
       lines = u.lines;
-      glues = u.glues.items;
+      marks = u.marks.items;
+      conflicts = u.conflicts;
+      stable_conflicts = u.stable_conflicts;
+      decisions = u.decided;
       scores = s.decisions.scores.scores;
       saved = saved;
       averages = u.averages.glues;
-      schedule = u.schedule;
+      restarted = u.restarted;
+      pace = u.pace;
+      round = u.round;
     } ≡ decided_next (state_of s saved) x) (sym is) (rw literal-is refl)))
+
+    at-most-one : (b : Bool) → (if b then 0 else 1) ≤ 1
+    at-most-one true = omega arith
+    at-most-one false = omega arith
 
     focusing : IsFocusing t
     focusing = record {
@@ -174,12 +187,12 @@ Follows-decided budget s t saved x f counted calm best has went lawful over clau
       };
       few = rw vars f.few;
       equipped = equipped;
-      scores = subst (λ (u : FocusedSearch). All (λ y. y ≤ u.conflicts * 2 ^ 40) t.decisions.scores.scores.scores) (sym is) (rw scores f.scores);
-      total = subst (λ (u : FocusedSearch). u.averages.glues.total ≤ u.conflicts * 2 ^ 27) (sym is) f.total;
+      taken = subst (λ (u : FocusedSearch). u.averages.glues.count ≤ u.conflicts) (sym is) f.taken;
+      stable = subst (λ (u : FocusedSearch). u.stable_conflicts ≤ u.conflicts) (sym is) f.stable;
       decided = subst (λ (u : FocusedSearch). u.decided ≤ u.conflicts * 2 ^ 27 + length t.kernel.trail) (sym is)
-          (let one = length-append s.kernel.trail (e ∷ []) in let long = ap length trail in let most = f.decided in omega arith);
+          (let one = length-append s.kernel.trail (e ∷ []) in let long = ap length trail in let most = f.decided in let more = at-most-one (is_restarting s.pace.mode) in omega arith);
       learnt = subst (λ (u : FocusedSearch). length t.kernel.clauses ≡ t.kernel.first + length u.lines) (sym is) (rw (clauses, ap (λ (k : State). k.first) went) f.learnt);
-      glues = subst (λ (u : FocusedSearch). length u.glues.items ≡ length u.lines) (sym is) f.glues;
+      marks = subst (λ (u : FocusedSearch). length u.marks.items ≡ length u.lines) (sym is) f.marks;
       plain = rw (vars, clauses, ap (λ (k : State). k.first) went) f.plain;
     }
       where
@@ -188,9 +201,19 @@ Follows-decided budget s t saved x f counted calm best has went lawful over clau
           waiting = rw (vars, trail) (AreWaiting-longer s.kernel.vars s.kernel.trail (e ∷ []) t.decisions waiting);
           seen = subst (λ (u : FocusedSearch). t.kernel.vars < u.analysis.seen.bound) (sym is) (rw vars f.equipped.seen);
           levels = subst (λ (u : FocusedSearch). t.kernel.vars < u.analysis.levels.bound) (sym is) (rw vars f.equipped.levels);
+          removing = subst (λ (u : FocusedSearch). HasRoomFor t.kernel.vars u.analysis.removing) (sym is) (rw vars f.equipped.removing);
           scored = subst (λ (u : FocusedSearch). t.decisions.scores.constants ≡ u.constants) (sym is) (constants ∙ f.equipped.scored);
           averaged = subst (λ (u : FocusedSearch). u.averages.constants ≡ u.constants) (sym is) f.equipped.averaged;
         }
+
+-- a conflict at level 0
+pub Follows-refuted : (last n : ℕ) (s t : FocusedSearch) (saved : Assignment) (o : LinesOutcome) → current_level s.kernel.trail ≡ 0
+    → outcome_of o ≡ search.refuted (s.lines ++ learn s.kernel.clauses s.kernel.trail n ∷ []) → t.decided ≡ s.decided → Follows last (conflict n) s saved (Some (Ended o)) t
+Follows-refuted last n s t saved o level is decided = record {
+  values = saved;
+  next = rw (eq-eqb (current_level s.kernel.trail) 0 level) (ap ends (sym is));
+  onward = (decided, λ x e. (let both : search.refuted (s.lines ++ learn s.kernel.clauses s.kernel.trail n ∷ []) ≡ exhausted x = sym is ∙ e in cc));
+}
 
 -- the last conflict
 pub Follows-spent : (last n : ℕ) (s : FocusedSearch) (saved : Assignment) → IsFocusing s → nat_eq (current_level s.kernel.trail) 0 ≡ false → s.conflicts + 1 ≡ last
@@ -202,6 +225,7 @@ Follows-spent last n s saved f above counted has = record {
     spent = record { focusing = f; above = positive (current_level s.kernel.trail) above; counted = counted };
     saves = has;
     decided = refl;
+    stable = refl;
     resumes = λ later next w. w;
   };
 }
@@ -211,7 +235,7 @@ Follows-spent last n s saved f above counted has = record {
     positive (suc n) e = omega arith
 
 pub Follows-learns : (budget n : ℕ) (s t : FocusedSearch) (saved values : Assignment) → nat_eq (current_level s.kernel.trail) 0 ≡ false → nat_eq (s.conflicts + 1) budget ≡ false → s.conflicts + 1 < budget
-    → state_of t values ≡ learnt_next s.constants s.kernel.vars (state_of s saved) (learn s.kernel.clauses s.kernel.trail n) → HasSaved t values → IsFocusing t
+    → state_of t values ≡ learnt_next s.constants s.kernel.vars (state_of s saved) (lesson_of s.kernel.clauses s.kernel.trail n) → HasSaved t values → IsFocusing t
     → t.conflicts ≡ s.conflicts + 1 → Follows budget (conflict n) s saved None t
 Follows-learns budget n s t saved values above more fewer next saves focusing counted = record {
   values = values;
@@ -284,6 +308,7 @@ GoesTo-stops last s t u Spent constants vars same leads step saved h =
       ends_there = rw (same, constants, vars) at w.step;
       saves = w.onward.saves;
       decided = sym w.onward.decided;
+      stable = sym w.onward.stable;
       resumes = rw (constants, vars) at w.onward.resumes;
     }
 

@@ -1,4 +1,4 @@
--- Candidates to be forgotten, and what is left when half of them were.
+-- Candidates to be forgotten, and what is left when all but the first quarter of them were.
 use Rattle.std.proofs.Common.{◌≡◌, ℕ, suc, zero, ◌+◌, ◌-◌, ◌<◌, ◌≤◌, true, false, List, [], ◌∷◌, ◌++◌, length, drop, get_or, slice_get, refl, ap, sym, ◌∙◌, nat_eq, inl, inr, All, arith, length-append, if◌then◌else◌, unwrap_or}
 use Rattle.std.specs.List.{list_any}
 use Rattle.std.proofs.lemmas.List.{length-drop}
@@ -7,60 +7,60 @@ use Rattle.theory.specs.Plans.{Constants}
 use Rattle.std.proofs.lemmas.List.Elements.{All-head, All-drop}
 use Rattle.theory.specs.Trails.{Trail}
 use Rattle.theory.specs.Propagation.{clause_at}
-use Rattle.cdcl.specs.Forgetful.{IsPlain}
-use Rattle.theory.specs.Forgetting.{Candidate, candidates, may_go, last_half, forget, forget_half, is_reason}
-use Rattle.theory.proofs.searching.ForgettingNumbers.{forget-push, half_numbers, half-number}
-use Rattle.heuristics.proofs.HalfLemmas.{forget-same}
+use Rattle.cdcl.specs.Forgetful.{IsPlain, late_numbers}
+use Rattle.theory.specs.Forgetting.{Mark, Candidate, candidates, may_go, late_ones, forget, is_reason}
+use Rattle.theory.proofs.searching.ForgettingNumbers.{forget-push, late-number}
+use Rattle.heuristics.proofs.LateLemmas.{forget-same}
 use Rattle.cdcl.specs.Numbers.{is_one_of}
 use Rattle.cdcl.proofs.SeenLemmas.{All-one_of}
 
--- clauses without a glue are none
-pub candidates-append : (c : Constants) (T : Trail) (n : ℕ) (A B : List Clause) (glues : List ℕ) → length glues ≤ length A → candidates c T n (A ++ B) glues ≡ candidates c T n A glues
+-- clauses without a mark are none
+pub candidates-append : (c : Constants) (T : Trail) (n : ℕ) (A B : List Clause) (marks : List Mark) → length marks ≤ length A → candidates c T n (A ++ B) marks ≡ candidates c T n A marks
 candidates-append c T n [] B [] h = go B
   where
     go : (B : List Clause) → candidates c T n B [] ≡ []
     go [] = refl
     go (d ∷ B) = refl
-candidates-append c T n [] B (g ∷ glues) h = absurd (omega arith)
+candidates-append c T n [] B (m ∷ marks) h = absurd (omega arith)
 candidates-append c T n (d ∷ A) B [] h = refl
-candidates-append c T n (d ∷ A) B (g ∷ glues) h =
-    ap (λ (more : List Candidate). if may_go c T n d g then record { number = n; glue = g; size = length d } ∷ more else more) (candidates-append c T (n + 1) A B glues (omega arith))
+candidates-append c T n (d ∷ A) B (m ∷ marks) h =
+    ap (λ (more : List Candidate). if may_go c T n d m then record { number = n; glue = m.glue; size = length d } ∷ more else more) (candidates-append c T (n + 1) A B marks (omega arith))
 
--- half of those learnt before the last one
-pub forget-half : (c : Constants) (T : Trail) (K : List Clause) (clause : Clause) (glues ns : List ℕ) (from : ℕ) → length glues ≤ length K → from ≡ length K - length glues + 1
-    → ((n : ℕ) → list_any (nat_eq n) ns ≡ list_any (nat_eq n) (last_half (candidates c T from (drop (from - 1) (K ++ clause ∷ [])) glues)))
-    → ((n : ℕ) → is_one_of ns n ≡ is_one_of (half_numbers c T glues K) n)
-forget-half c T K clause glues ns from many start same n =
-    same n ∙ ap (λ (all : List Candidate). list_any (nat_eq n) (last_half all)) (begun ∙ candidates-append c T (length K - length glues + 1) (drop (length K - length glues) K) (clause ∷ []) glues enough)
+-- the late ones of those learnt before the last one
+pub forget-late : (c : Constants) (T : Trail) (K : List Clause) (clause : Clause) (marks : List Mark) (ns : List ℕ) (from : ℕ) → length marks ≤ length K → from ≡ length K - length marks + 1
+    → ((n : ℕ) → list_any (nat_eq n) ns ≡ list_any (nat_eq n) (late_ones (candidates c T from (drop (from - 1) (K ++ clause ∷ [])) marks)))
+    → ((n : ℕ) → is_one_of ns n ≡ is_one_of (late_numbers c T marks K) n)
+forget-late c T K clause marks ns from many start same n =
+    same n ∙ ap (λ (all : List Candidate). list_any (nat_eq n) (late_ones all)) (begun ∙ candidates-append c T (length K - length marks + 1) (drop (length K - length marks) K) (clause ∷ []) marks enough)
   where
-    low : from - 1 ≡ length K - length glues
+    low : from - 1 ≡ length K - length marks
     low = omega (arith, start)
 
-    enough : length glues ≤ length (drop (length K - length glues) K)
-    enough = let left = length-drop (length K - length glues) K in omega (arith, left, many)
+    enough : length marks ≤ length (drop (length K - length marks) K)
+    enough = let left = length-drop (length K - length marks) K in omega (arith, left, many)
 
-    begun : candidates c T from (drop (from - 1) (K ++ clause ∷ [])) glues ≡ candidates c T (length K - length glues + 1) (drop (length K - length glues) K ++ clause ∷ []) glues
-    begun = rw (low, start) (ap (λ (L : List Clause). candidates c T (length K - length glues + 1) L glues) (dropped (length K - length glues) K (omega arith)))
+    begun : candidates c T from (drop (from - 1) (K ++ clause ∷ [])) marks ≡ candidates c T (length K - length marks + 1) (drop (length K - length marks) K ++ clause ∷ []) marks
+    begun = rw (low, start) (ap (λ (L : List Clause). candidates c T (length K - length marks + 1) L marks) (dropped (length K - length marks) K (omega arith)))
       where
         dropped : (i : ℕ) (L : List Clause) → i ≤ length L → drop i (L ++ clause ∷ []) ≡ drop i L ++ clause ∷ []
         dropped zero L h = refl
         dropped (suc i) [] h = absurd (omega arith)
         dropped (suc i) (d ∷ L) h = dropped i L (omega arith)
 
-pub forgotten-half : (c : Constants) (T : Trail) (K : List Clause) (clause : Clause) (glues ns : List ℕ) → ((n : ℕ) → is_one_of ns n ≡ is_one_of (half_numbers c T glues K) n)
-    → forget ns 1 (K ++ clause ∷ []) ≡ forget_half c T glues K ++ clause ∷ []
-forgotten-half c T K clause glues ns same =
-    forget-same ns (half_numbers c T glues K) 1 (K ++ clause ∷ []) same ∙ forget-push (half_numbers c T glues K) K clause (λ k t. (half-number c T glues K k t).1)
+pub forgotten-late : (c : Constants) (T : Trail) (K : List Clause) (clause : Clause) (marks : List Mark) (ns : List ℕ) → ((n : ℕ) → is_one_of ns n ≡ is_one_of (late_numbers c T marks K) n)
+    → forget ns 1 (K ++ clause ∷ []) ≡ forget (late_numbers c T marks K) 1 K ++ clause ∷ []
+forgotten-late c T K clause marks ns same =
+    forget-same ns (late_numbers c T marks K) 1 (K ++ clause ∷ []) same ∙ forget-push (late_numbers c T marks K) K clause (λ k t. (late-number c T K marks k t).1)
 
 -- which numbers these are
-pub half-learnt : (c : Constants) (T : Trail) (K : List Clause) (clause : Clause) (glues ns : List ℕ) (first : ℕ) → length K ≡ first + length glues → ((n : ℕ) → is_one_of ns n ≡ is_one_of (half_numbers c T glues K) n)
+pub late-learnt : (c : Constants) (T : Trail) (K : List Clause) (clause : Clause) (marks : List Mark) (ns : List ℕ) (first : ℕ) → length K ≡ first + length marks → ((n : ℕ) → is_one_of ns n ≡ is_one_of (late_numbers c T marks K) n)
     → All (λ n. (first < n) × (n ≤ length (K ++ clause ∷ []))) ns
-half-learnt c T K clause glues ns first many same =
+late-learnt c T K clause marks ns first many same =
     All-one_of (λ n. (first < n) × (n ≤ length (K ++ clause ∷ []))) ns
-    (λ n t. (let h = half-number c T glues K n (sym (same n) ∙ t) in let low = h.0 in let high = h.1 in let long = length-append K (clause ∷ []) in (omega (arith, low, many), omega (arith, high, long))))
+    (λ n t. (let h = late-number c T K marks n (sym (same n) ∙ t) in let low = h.0 in let high = h.1 in let long = length-append K (clause ∷ []) in (omega (arith, low, many), omega (arith, high, long))))
 
-pub half-no_reasons : (c : Constants) (T : Trail) (K : List Clause) (glues ns : List ℕ) → ((n : ℕ) → is_one_of ns n ≡ is_one_of (half_numbers c T glues K) n) → All (λ n. is_reason T n ≡ false) ns
-half-no_reasons c T K glues ns same = All-one_of (λ n. is_reason T n ≡ false) ns (λ n t. (half-number c T glues K n (sym (same n) ∙ t)).2)
+pub late-no_reasons : (c : Constants) (T : Trail) (K : List Clause) (marks : List Mark) (ns : List ℕ) → ((n : ℕ) → is_one_of ns n ≡ is_one_of (late_numbers c T marks K) n) → All (λ n. is_reason T n ≡ false) ns
+late-no_reasons c T K marks ns same = All-one_of (λ n. is_reason T n ≡ false) ns (λ n t. (late-number c T K marks n (sym (same n) ∙ t)).2)
 
 -- the candidates of one clause more
 drop-clause : (i : ℕ) (K : List Clause) → i < length K → drop i K ≡ unwrap_or (slice_get K i) [] ∷ drop (i + 1) K
@@ -68,26 +68,26 @@ drop-clause i [] h = absurd (omega arith)
 drop-clause zero (c ∷ K) h = refl
 drop-clause (suc i) (c ∷ K) h = let up : suc i + 1 ≡ suc (i + 1) = omega arith in rw up (drop-clause i K (omega arith))
 
-drop-glue : (i : ℕ) (glues : List ℕ) (g : ℕ) → i < length glues → drop i glues ≡ get_or glues i g ∷ drop (i + 1) glues
-drop-glue i [] g h = absurd (omega arith)
-drop-glue zero (x ∷ glues) g h = refl
-drop-glue (suc i) (x ∷ glues) g h = let up : suc i + 1 ≡ suc (i + 1) = omega arith in rw up (drop-glue i glues g (omega arith))
+drop-mark : (i : ℕ) (marks : List Mark) (m : Mark) → i < length marks → drop i marks ≡ get_or marks i m ∷ drop (i + 1) marks
+drop-mark i [] m h = absurd (omega arith)
+drop-mark zero (x ∷ marks) m h = refl
+drop-mark (suc i) (x ∷ marks) m h = let up : suc i + 1 ≡ suc (i + 1) = omega arith in rw up (drop-mark i marks m (omega arith))
 
-pub candidates-next : (c : Constants) (T : Trail) (K : List Clause) (glues : List ℕ) (from at g : ℕ) (clause : Clause) → 1 ≤ from → from - 1 + at < length K → at < length glues → clause ≡ clause_at K (from + at)
-    → g ≡ get_or glues at 0
-    → candidates c T (from + at) (drop (from - 1 + at) K) (drop at glues)
-    ≡ (if may_go c T (from + at) clause g then record { number = from + at; glue = g; size = length clause } ∷ candidates c T (from + (at + 1)) (drop (from - 1 + (at + 1)) K) (drop (at + 1) glues)
-    else candidates c T (from + (at + 1)) (drop (from - 1 + (at + 1)) K) (drop (at + 1) glues))
-candidates-next c T K glues from at g clause some inside within is read =
+pub candidates-next : (c : Constants) (T : Trail) (K : List Clause) (marks : List Mark) (from at : ℕ) (m : Mark) (clause : Clause) → 1 ≤ from → from - 1 + at < length K → at < length marks
+    → clause ≡ clause_at K (from + at) → m ≡ get_or marks at m
+    → candidates c T (from + at) (drop (from - 1 + at) K) (drop at marks)
+    ≡ (if may_go c T (from + at) clause m then record { number = from + at; glue = m.glue; size = length clause } ∷ candidates c T (from + (at + 1)) (drop (from - 1 + (at + 1)) K) (drop (at + 1) marks)
+    else candidates c T (from + (at + 1)) (drop (from - 1 + (at + 1)) K) (drop (at + 1) marks))
+candidates-next c T K marks from at m clause some inside within is read =
     let place : from + at - 1 ≡ from - 1 + at = omega arith in
     let number : from + at + 1 ≡ from + (at + 1) = omega arith in
     let next : from - 1 + at + 1 ≡ from - 1 + (at + 1) = omega arith in
     let same : clause ≡ unwrap_or (slice_get K (from - 1 + at)) [] = is ∙ ap (λ i. unwrap_or (slice_get K i) []) place in
     let first : drop (from - 1 + at) K ≡ clause ∷ drop (from - 1 + (at + 1)) K =
     drop-clause (from - 1 + at) K inside ∙ (ap (λ (d : Clause). d ∷ drop (from - 1 + at + 1) K) (sym same) ∙ ap (λ i. clause ∷ drop i K) next) in
-    let second : drop at glues ≡ g ∷ drop (at + 1) glues = drop-glue at glues 0 within ∙ ap (λ x. x ∷ drop (at + 1) glues) (sym read) in
-    rw (first, second) (ap (λ n. if may_go c T (from + at) clause g then record { number = from + at; glue = g; size = length clause } ∷ candidates c T n (drop (from - 1 + (at + 1)) K) (drop (at + 1) glues)
-    else candidates c T n (drop (from - 1 + (at + 1)) K) (drop (at + 1) glues)) number)
+    let second : drop at marks ≡ m ∷ drop (at + 1) marks = drop-mark at marks m within ∙ ap (λ (x : Mark). x ∷ drop (at + 1) marks) (sym read) in
+    rw (first, second) (ap (λ n. if may_go c T (from + at) clause m then record { number = from + at; glue = m.glue; size = length clause } ∷ candidates c T n (drop (from - 1 + (at + 1)) K) (drop (at + 1) marks)
+    else candidates c T n (drop (from - 1 + (at + 1)) K) (drop (at + 1) marks)) number)
 
 -- a learnt clause
 pub plain-at : (V : ℕ) (K : List Clause) (from at : ℕ) (clause : Clause) → 1 ≤ from → from - 1 + at < length K → clause ≡ clause_at K (from + at) → All (IsPlain V) (drop (from - 1) K) → IsPlain V clause
@@ -111,15 +111,15 @@ pub length-plain : (V : ℕ) (c : Clause) → IsPlain V c → has_both_signs c �
 length-plain V c (inl h) none = h.1
 length-plain V c (inr e) none = absurd (let both : has_both_signs c ≡ true = ap has_both_signs e in let clash : true ≡ false = sym both ∙ none in cc)
 
--- no glue is left
-pub candidates-end : (c : Constants) (T : Trail) (n at : ℕ) (K : List Clause) (glues : List ℕ) → length glues ≤ at → candidates c T n K (drop at glues) ≡ []
-candidates-end c T n at K glues h = ap (candidates c T n K) (past at glues h) ∙ none K
+-- no mark is left
+pub candidates-end : (c : Constants) (T : Trail) (n at : ℕ) (K : List Clause) (marks : List Mark) → length marks ≤ at → candidates c T n K (drop at marks) ≡ []
+candidates-end c T n at K marks h = ap (candidates c T n K) (past at marks h) ∙ none K
   where
-    past : (at : ℕ) (glues : List ℕ) → length glues ≤ at → drop at glues ≡ []
+    past : (at : ℕ) (marks : List Mark) → length marks ≤ at → drop at marks ≡ []
     past zero [] h = refl
     past (suc at) [] h = refl
-    past zero (g ∷ glues) h = absurd (omega arith)
-    past (suc at) (g ∷ glues) h = past at glues (omega arith)
+    past zero (m ∷ marks) h = absurd (omega arith)
+    past (suc at) (m ∷ marks) h = past at marks (omega arith)
 
     none : (L : List Clause) → candidates c T n L [] ≡ []
     none [] = refl
@@ -137,11 +137,11 @@ snoc (c ∷ []) h = record { front = []; last = c; parts = refl }
 snoc (c ∷ d ∷ L) h = let s = snoc (d ∷ L) (omega arith) in record { front = c ∷ s.front; last = s.last; parts = ap (λ (M : List Clause). c ∷ M) s.parts }
 
 -- the numbers that are found among all candidates, where the last clause is set apart
-pub half-found : (d : Constants) (T : Trail) (L K : List Clause) (clause : Clause) (glues ns : List ℕ) (first number from : ℕ) (all : List Candidate) → L ≡ K ++ clause ∷ [] → length L ≡ first + length glues + 1
-    → number ≡ length L → from ≡ number - length glues → all ≡ candidates d T from (drop (from - 1) L) glues → ((n : ℕ) → list_any (nat_eq n) ns ≡ list_any (nat_eq n) (last_half all))
-    → (n : ℕ) → is_one_of ns n ≡ is_one_of (half_numbers d T glues K) n
-half-found d T L K clause glues ns first number from all parts learnt last begin is found =
+pub late-found : (d : Constants) (T : Trail) (L K : List Clause) (clause : Clause) (marks : List Mark) (ns : List ℕ) (first number from : ℕ) (all : List Candidate) → L ≡ K ++ clause ∷ [] → length L ≡ first + length marks + 1
+    → number ≡ length L → from ≡ number - length marks → all ≡ candidates d T from (drop (from - 1) L) marks → ((n : ℕ) → list_any (nat_eq n) ns ≡ list_any (nat_eq n) (late_ones all))
+    → (n : ℕ) → is_one_of ns n ≡ is_one_of (late_numbers d T marks K) n
+late-found d T L K clause marks ns first number from all parts learnt last begin is found =
     let one = length-append K (clause ∷ []) in
     let whole = ap length parts in
-    forget-half d T K clause glues ns from (omega arith) (omega arith)
-    (λ n. found n ∙ ap (λ (a : List Candidate). list_any (nat_eq n) (last_half a)) (is ∙ ap (λ (M : List Clause). candidates d T from (drop (from - 1) M) glues) parts))
+    forget-late d T K clause marks ns from (omega arith) (omega arith)
+    (λ n. found n ∙ ap (λ (a : List Candidate). list_any (nat_eq n) (late_ones a)) (is ∙ ap (λ (M : List Clause). candidates d T from (drop (from - 1) M) marks) parts))

@@ -1,8 +1,7 @@
 -- The glue of a clause, counted by the levels that are met.
-use Rattle.std.proofs.Common.{◌≡◌, ℕ, zero, suc, ◌+◌, ◌<◌, ◌≤◌, Bool, true, false, ◌&&◌, ◌||◌, List, [], ◌∷◌, ◌++◌, length, count_by, refl, ap, sym, ◌∙◌, cond, nat_eq, nat_le, nat_lt, eqb-true, eq-eqb, leb-true, le-leb, lt-ltb, ◌⊎◌, inl, inr, Option, Some, None, arith}
+use Rattle.std.proofs.Common.{◌≡◌, ℕ, zero, suc, ◌+◌, ◌≤◌, Bool, true, false, ◌&&◌, ◌||◌, List, [], ◌∷◌, ◌++◌, length, count_by, refl, ap, sym, ◌∙◌, cond, nat_eq, nat_le, nat_lt, eqb-true, eq-eqb, leb-true, le-leb, lt-ltb, Option, Some, None, arith}
 use Rattle.std.specs.List.{list_any}
 use Rattle.std.proofs.lemmas.List.Sums.{sum_by_push}
-use Rattle.std.proofs.lemmas.Bool.{cases_lt, cases_eq}
 use Rattle.theory.specs.Literals.{Literal, Clause}
 use Rattle.theory.specs.Trails.{Entry, Trail, current_level, entry_of, level_of, level_at, variables}
 use Rattle.theory.specs.Lawful.{IsLawful}
@@ -16,7 +15,7 @@ use Rattle.lookahead.proofs.TrailLengths.{length-lawful}
 use Rattle.theory.proofs.literals.LiteralSets.{false_unless, or-false_right}
 use Rattle.theory.proofs.trails.TrailLevels.{level_of-most}
 use Rattle.cdcl.specs.Numbers.{is_one_of, StandOnce}
-use Rattle.cdcl.proofs.NumberSets.{count-cons, one-counted, none-counted}
+use Rattle.cdcl.proofs.NumberSets.{count-cons, one-counted, none-counted, count-more}
 use Rattle.cdcl.proofs.TrailValues.{entry_of-there}
 
 -- no level is above the current one
@@ -34,36 +33,6 @@ level-most K T l lawful = go (entry_of T l.var) refl
 -- the levels so far, of the literals so far
 abbrev pub AreLevelsOf : Trail → Clause → List ℕ → Type 0
 AreLevelsOf T c levels = (n : ℕ) → is_one_of levels n ≡ (nat_lt 0 n && list_any (λ l. nat_eq (level_of T l) n) c)
-
--- so many of the numbers 1 to V stand there as numbers up to V
-count-more : (V : ℕ) (xs : List ℕ) → count_by (λ x. nat_le x (suc V)) xs ≡ count_by (λ x. nat_le x V) xs + count_by (nat_eq (suc V)) xs
-count-more V [] = refl
-count-more V (x ∷ xs) =
-    let rest = count-more V xs in
-    let here = one (cases_lt x (suc V)) in
-    let a = count-cons (λ x. nat_le x (suc V)) x xs in
-    let b = count-cons (λ x. nat_le x V) x xs in
-    let c = count-cons (nat_eq (suc V)) x xs in
-    omega (arith, rest, here, a, b, c)
-  where
-    one : (x < suc V) ⊎ (suc V ≤ x) → cond (nat_le x (suc V)) 1 0 ≡ cond (nat_le x V) 1 0 + cond (nat_eq (suc V) x) 1 0
-    one (inl less) =
-        let a : nat_le x (suc V) ≡ true = le-leb x (suc V) (omega arith) in
-        let b : nat_le x V ≡ true = le-leb x V (omega arith) in
-        let c : nat_eq (suc V) x ≡ false = false_unless (nat_eq (suc V) x) (λ t. let e = eqb-true (suc V) x t in absurd (omega arith)) in
-        rw (a, b, c) refl
-    one (inr more) = elim (cases_eq x (suc V)) [
-      | inl same ↦
-          let a : nat_le x (suc V) ≡ true = le-leb x (suc V) (omega arith) in
-          let b : nat_le x V ≡ false = false_unless (nat_le x V) (λ t. let e = leb-true x V t in absurd (omega arith)) in
-          let c : nat_eq (suc V) x ≡ true = eq-eqb (suc V) x (sym same) in
-          rw (a, b, c) refl
-      | inr other ↦
-          let a : nat_le x (suc V) ≡ false = false_unless (nat_le x (suc V)) (λ t. let e = leb-true x (suc V) t in other (omega arith)) in
-          let b : nat_le x V ≡ false = false_unless (nat_le x V) (λ t. let e = leb-true x V t in absurd (omega arith)) in
-          let c : nat_eq (suc V) x ≡ false = false_unless (nat_eq (suc V) x) (λ t. other (sym (eqb-true (suc V) x t))) in
-          rw (a, b, c) refl
-    ]
 
 once-counted : (xs : List ℕ) (n : ℕ) → StandOnce xs → count_by (nat_eq n) xs ≡ cond (is_one_of xs n) 1 0
 once-counted xs n once = go (is_one_of xs n) refl

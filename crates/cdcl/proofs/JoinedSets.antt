@@ -42,13 +42,13 @@ AreSeen-less : (vars : ℕ) (S : Clause) (l : Literal) (seen : List ℕ) → Are
 AreSeen-less vars S l seen h = record { within = h.within; all = λ v a. h.all v (has_var-from_without l S v a) }
 
 -- the negation of the literal at a place is put in, which wasn't there
-pub IsSet-more : (k : State) (S : Clause) (bound place : ℕ) (e : Entry) (old new : Marks) → IsLawful k.clauses k.trail → IsOver k.vars (literals k.trail)
-    → slice_get k.trail place ≡ Some e → place < bound → slice_index_or old.marked.items e.lit.var false ≡ false → IsSet k S bound old
+pub IsSet-more : {R : List Literal} (k : State) (S : Clause) (bound place : ℕ) (e : Entry) (old new : Marks) → IsLawful k.clauses k.trail → IsOver k.vars (literals k.trail)
+    → slice_get k.trail place ≡ Some e → place < bound → slice_index_or old.marked.items e.lit.var false ≡ false → IsSet k R S bound old
     → new.marked.items ≡ slice_set old.marked.items e.lit.var true → new.seen.items ≡ old.seen.items ++ e.lit.var ∷ []
     → new.current ≡ cond (nat_eq e.level (current_level k.trail)) 1 0 + old.current
-    → ((q : ℕ) → count_by (λ p. nat_eq p q) new.pending ≡ cond (is_resolvable k.trail e && nat_eq place q) 1 0 + count_by (λ p. nat_eq p q) old.pending)
-    → IsSet k (with_literal (negated e.lit) S) bound new
-IsSet-more k S bound place e old new lawful over at below is_new h marked seen current pending =
+    → ((q : ℕ) → count_by (λ p. nat_eq p q) new.pending ≡ cond (is_resolvable k.trail R e && nat_eq place q) 1 0 + count_by (λ p. nat_eq p q) old.pending)
+    → IsSet k R (with_literal (negated e.lit) S) bound new
+IsSet-more {R} k S bound place e old new lawful over at below is_new h marked seen current pending =
     let there = entry_of-placed k.clauses k.trail place e lawful at in
     let f = entry-false k.trail e there in
     let here = AreOver-from_IsOver k.vars (literals k.trail) over (negated (negated e.lit)) f in
@@ -57,57 +57,57 @@ IsSet-more k S bound place e old new lawful over at below is_new h marked seen c
       is = IsMarked-more k S old.marked.items new.marked.items old.current new.current (negated e.lit) lawful h.is f is_new
           (inside k old.marked.items (negated e.lit) over h.is.long f) marked (rw level current);
       seen = AreSeen-more k.vars S (negated e.lit) old.seen.items new.seen.items here.1 h.seen seen;
-      pending = pending-more k.clauses k.trail S bound place e old.pending new.pending lawful at below (sym (h.is.marks e.lit.var) ∙ is_new) h.pending pending;
+      pending = pending-more k.clauses k.trail R S bound place e old.pending new.pending lawful at below (sym (h.is.marks e.lit.var) ∙ is_new) h.pending pending;
     }
 
 -- a literal that is in already
-pub IsSet-there : (k : State) (S : Clause) (bound : ℕ) (l : Literal) (m : Marks) → IsLawful k.clauses k.trail → has (literals k.trail) (negated l) ≡ true
-    → slice_index_or m.marked.items l.var false ≡ true → IsSet k S bound m → IsSet k (with_literal l S) bound m
-IsSet-there k S bound l m lawful f e h =
-    subst (λ U. IsSet k U bound m) (sym (with_literal-there l S h.is.rising (is_in k S m.marked.items m.current l lawful h.is f e))) h
+pub IsSet-there : {R : List Literal} (k : State) (S : Clause) (bound : ℕ) (l : Literal) (m : Marks) → IsLawful k.clauses k.trail → has (literals k.trail) (negated l) ≡ true
+    → slice_index_or m.marked.items l.var false ≡ true → IsSet k R S bound m → IsSet k R (with_literal l S) bound m
+IsSet-there {R} k S bound l m lawful f e h =
+    subst (λ U. IsSet k R U bound m) (sym (with_literal-there l S h.is.rising (is_in k S m.marked.items m.current l lawful h.is f e))) h
 
 -- the negation of the literal looked at last is taken out
-pub IsSet-less : (k : State) (S : Clause) (bound : ℕ) (e : Entry) (old new : Marks) → IsLawful k.clauses k.trail → IsOver k.vars (literals k.trail)
-    → slice_get k.trail bound ≡ Some e → has S (negated e.lit) ≡ true → IsSet k S bound old
+pub IsSet-less : {R : List Literal} (k : State) (S : Clause) (bound : ℕ) (e : Entry) (old new : Marks) → IsLawful k.clauses k.trail → IsOver k.vars (literals k.trail)
+    → slice_get k.trail bound ≡ Some e → has S (negated e.lit) ≡ true → IsSet k R S bound old
     → new.marked.items ≡ slice_set old.marked.items e.lit.var false → new.current ≡ old.current - cond (nat_eq e.level (current_level k.trail)) 1 0
-    → new.seen.items ≡ old.seen.items → new.pending ≡ old.pending → IsSet k (without S (negated e.lit)) bound new
-IsSet-less k S bound e old new lawful over at a h marked current seen pending =
+    → new.seen.items ≡ old.seen.items → new.pending ≡ old.pending → IsSet k R (without S (negated e.lit)) bound new
+IsSet-less {R} k S bound e old new lawful over at a h marked current seen pending =
     let there = entry_of-placed k.clauses k.trail bound e lawful at in
     let level : level_of k.trail (negated e.lit) ≡ e.level = ap level_at there in
     record {
       is = IsMarked-less k S old.marked.items new.marked.items old.current new.current (negated e.lit) lawful h.is a
           (inside k old.marked.items (negated e.lit) over h.is.long (entry-false k.trail e there)) marked (rw level current);
       seen = rw seen (AreSeen-less k.vars S (negated e.lit) old.seen.items h.seen);
-      pending = rw pending (pending-less k.clauses k.trail S bound e old.pending lawful at h.pending);
+      pending = rw pending (pending-less k.clauses k.trail R S bound e old.pending lawful at h.pending);
     }
 
 -- the greatest place is looked at
-pub IsSet-top : (k : State) (S : Clause) (bound place : ℕ) (old new : Marks) → IsSet k S bound old → new.marked ≡ old.marked → new.current ≡ old.current → new.seen ≡ old.seen
-    → IsTop k.trail S bound place new.pending → IsSet k S place new
-IsSet-top k S bound place old new h marked current seen top = record {
+pub IsSet-top : {R : List Literal} (k : State) (S : Clause) (bound place : ℕ) (old new : Marks) → IsSet k R S bound old → new.marked ≡ old.marked → new.current ≡ old.current → new.seen ≡ old.seen
+    → IsTop k.trail R S bound place new.pending → IsSet k R S place new
+IsSet-top {R} k S bound place old new h marked current seen top = record {
   is = rw (marked, current) h.is;
   seen = rw seen h.seen;
   pending = top.pending;
 }
 
 -- all places were looked at
-pub IsSet-done : (k : State) (S : Clause) (bound : ℕ) (m : Marks) → m.pending ≡ [] → IsSet k S bound m → IsSet k S 0 m
-IsSet-done k S bound m none h = record {
+pub IsSet-done : {R : List Literal} (k : State) (S : Clause) (bound : ℕ) (m : Marks) → m.pending ≡ [] → IsSet k R S bound m → IsSet k R S 0 m
+IsSet-done {R} k S bound m none h = record {
   is = h.is;
   seen = h.seen;
-  pending = rw none (pending-done k.trail S);
+  pending = rw none (pending-done k.trail R S);
 }
 
 -- room without a mark
-pub IsSet-clear : (k : State) (bound : ℕ) (m : Marks) → k.vars < length m.marked.items → IsClear m → IsSet k [] bound m
-IsSet-clear k bound m long h = record {
+pub IsSet-clear : {R : List Literal} (k : State) (bound : ℕ) (m : Marks) → k.vars < length m.marked.items → IsClear m → IsSet k R [] bound m
+IsSet-clear {R} k bound m long h = record {
   is = IsMarked-none k m.marked.items m.current long h.none h.zero;
   seen = record { within = rw h.unseen (λ i d inside. absurd (omega (arith, inside))); all = λ v a. absurd (cc) };
-  pending = rw h.done (pending-empty k.trail bound);
+  pending = rw h.done (pending-empty k.trail R bound);
 }
 
 -- what a call for one literal of the clause asks, once the marks stand for more
-pub CanJoin-one : (k : State) (c : Clause) (l : Literal) (old new : Marks) → (h : CanJoin k c old) → has c l ≡ true → {U : Clause} → IsSet k U h.bound new → CanJoin k (l ∷ []) new
+pub CanJoin-one : (k : State) (c : Clause) (l : Literal) (old new : Marks) → (h : CanJoin k c old) → has c l ≡ true → {U : Clause} → IsSet k [] U h.bound new → CanJoin k (l ∷ []) new
 CanJoin-one k c l old new h a {U} is = record {
   lawful = h.lawful;
   over = h.over;
@@ -133,7 +133,7 @@ CanResolve-none k e c m h = record {
   is_in = h.is_in;
 }
 
-pub CanJoin-taken : (k : State) (e : Entry) (c : Clause) (old new : Marks) → (h : CanResolve k e c old) → IsSet k (without h.joins.set (negated e.lit)) h.joins.bound new → CanJoin k c new
+pub CanJoin-taken : (k : State) (e : Entry) (c : Clause) (old new : Marks) → (h : CanResolve k e c old) → IsSet k [] (without h.joins.set (negated e.lit)) h.joins.bound new → CanJoin k c new
 CanJoin-taken k e c old new h is = record {
   lawful = h.joins.lawful;
   over = h.joins.over;
@@ -149,14 +149,14 @@ pub false-whole : (T : Trail) (c : Clause) → is_false (literals T) c ≡ true 
 false-whole T c h = subst (λ (U : Trail). is_false (literals U) c ≡ true) (sym (take-length T)) h
 
 -- the variables seen, in more room
-pub IsSet-moved : (k : State) (S : Clause) (bound : ℕ) (old new : Marks) → new.marked ≡ old.marked → new.current ≡ old.current → new.pending ≡ old.pending
-    → new.seen.items ≡ old.seen.items → IsSet k S bound old → IsSet k S bound new
-IsSet-moved k S bound old new marked current pending seen h = record { is = rw (marked, current) h.is; seen = rw seen h.seen; pending = rw pending h.pending }
+pub IsSet-moved : {R : List Literal} (k : State) (S : Clause) (bound : ℕ) (old new : Marks) → new.marked ≡ old.marked → new.current ≡ old.current → new.pending ≡ old.pending
+    → new.seen.items ≡ old.seen.items → IsSet k R S bound old → IsSet k R S bound new
+IsSet-moved {R} k S bound old new marked current pending seen h = record { is = rw (marked, current) h.is; seen = rw seen h.seen; pending = rw pending h.pending }
 
 -- the variables seen, in another order
-pub IsSet-sorted : (k : State) (S : Clause) (bound : ℕ) (old new : Marks) → new.marked ≡ old.marked → new.current ≡ old.current → new.pending ≡ old.pending
-    → IsPermutation old.seen.items new.seen.items → IsSet k S bound old → IsSet k S bound new
-IsSet-sorted k S bound old new marked current pending moved h = record {
+pub IsSet-sorted : {R : List Literal} (k : State) (S : Clause) (bound : ℕ) (old new : Marks) → new.marked ≡ old.marked → new.current ≡ old.current → new.pending ≡ old.pending
+    → IsPermutation old.seen.items new.seen.items → IsSet k R S bound old → IsSet k R S bound new
+IsSet-sorted {R} k S bound old new marked current pending moved h = record {
   is = rw (marked, current) h.is;
   seen = record {
     within = All-permutation (λ v. v ≤ k.vars) old.seen.items new.seen.items moved h.seen.within;
@@ -166,18 +166,18 @@ IsSet-sorted k S bound old new marked current pending moved h = record {
 }
 
 -- those of the variables seen that are marked
-pub IsSet-marked : (k : State) (S : Clause) (bound : ℕ) (old new : Marks) → new.marked ≡ old.marked → new.current ≡ old.current → new.pending ≡ old.pending
-    → new.seen.items ≡ filter (λ v. slice_index_or old.marked.items v false) old.seen.items → IsSet k S bound old → IsSet k S bound new
-IsSet-marked k S bound old new marked current pending kept h = record {
+pub IsSet-marked : {R : List Literal} (k : State) (S : Clause) (bound : ℕ) (old new : Marks) → new.marked ≡ old.marked → new.current ≡ old.current → new.pending ≡ old.pending
+    → new.seen.items ≡ filter (λ v. slice_index_or old.marked.items v false) old.seen.items → IsSet k R S bound old → IsSet k R S bound new
+IsSet-marked {R} k S bound old new marked current pending kept h = record {
   is = rw (marked, current) h.is;
   seen = AreSeen-marked k S old.marked.items old.current old.seen.items new.seen.items h.is kept h.seen;
   pending = rw pending h.pending;
 }
 
 -- no places in the place of none
-pub IsSet-empty : (k : State) (S : Clause) (bound : ℕ) (old new : Marks) → new.marked ≡ old.marked → new.current ≡ old.current → new.seen ≡ old.seen
-    → old.pending ≡ [] → new.pending ≡ [] → IsSet k S bound old → IsSet k S bound new
-IsSet-empty k S bound old new marked current seen none empty h = record {
+pub IsSet-empty : {R : List Literal} (k : State) (S : Clause) (bound : ℕ) (old new : Marks) → new.marked ≡ old.marked → new.current ≡ old.current → new.seen ≡ old.seen
+    → old.pending ≡ [] → new.pending ≡ [] → IsSet k R S bound old → IsSet k R S bound new
+IsSet-empty {R} k S bound old new marked current seen none empty h = record {
   is = rw (marked, current) h.is;
   seen = rw seen h.seen;
   pending = rw empty (rw none at h.pending);

@@ -1,280 +1,232 @@
--- A conflict that the focused search learns from.
-use Rattle.std.proofs.Common.{◌≡◌, ℕ, ◌+◌, ◌*◌, ◌^◌, ◌<◌, ◌≤◌, Bool, true, false, List, [], ◌∷◌, ◌++◌, length, take, drop, refl, ap, sym, subst, ◌∙◌, All, None, arith, length-append, nat_eq, if◌then◌else◌}
-use Rattle.std.specs.List.{list_any}
+-- A conflict that the focused search learns from: what its parts did, one after the other, and what
+-- the search is behind them.
+use Rattle.std.proofs.Common.{◌≡◌, ℕ, ◌+◌, ◌≤◌, Bool, true, false, List, [], ◌∷◌, ◌++◌, refl, ap, sym, ◌∙◌, All, Some, if◌then◌else◌}
 use Rattle.theory.specs.Literals.{Clause}
-use Rattle.theory.specs.Truth.{Assignment, IsOver}
-use Rattle.theory.specs.Trails.{Trail, literals, current_level, up_to}
+use Rattle.theory.specs.Truth.{IsOver}
+use Rattle.theory.specs.Plans.{Constants}
+use Rattle.theory.specs.Trails.{literals, current_level, up_to}
 use Rattle.theory.specs.Propagation.{least_false}
 use Rattle.theory.specs.Lawful.{IsLawful}
-use Rattle.theory.specs.Learnable.{IsOpenBelow}
-use Rattle.theory.specs.Learning.{Line, learn, back_level}
-use Rattle.theory.specs.Scores.{Scores, is_seen, scores_after}
-use Rattle.theory.specs.Restarts as restarting
-use Rattle.theory.specs.Restarts.{Glues, glue, with_glue, restarted}
-use Rattle.theory.specs.Forgetting.{is_due, rescheduled, forget, forget_half}
-use Rattle.theory.specs.Focused.{FocusedState, learnt_next, saved_after}
-use Rattle.theory.proofs.searching.ForgettingNumbers.{length-forget, half_numbers, half-number, forget-push, IsOpenBelow-forget}
-use Rattle.theory.proofs.trails.LawfulTrails.{IsLawful-append, IsLawful-up_to}
-use Rattle.theory.proofs.literals.OverVariables.{AreOver-from_IsOver}
-use Rattle.heuristics.specs.Rankings.{Ranking, after_conflict, vars_of}
-use Rattle.heuristics.specs.Averages.{Averages}
+use Rattle.theory.specs.Learning.{Line, back_level}
+use Rattle.theory.specs.Lessons.{lesson_of}
+use Rattle.theory.specs.Modes.{Pace, pace_after}
+use Rattle.theory.specs.Scores.{is_seen}
+use Rattle.theory.specs.Forgetting.{Mark, fresh_mark, with_used, unused, forget}
+use Rattle.theory.specs.Rephasing.{Turn, is_over, next_turn, rephased}
+use Rattle.theory.specs.Focused.{saved_after}
+use Rattle.heuristics.specs.Averages.{with_next}
 use Rattle.kernel.specs.State.{State}
 use Rattle.cdcl.specs.declared.focused.FocusedSearch.{FocusedSearch}
-use Rattle.cdcl.specs.declared.decisions.Decisions.{Decisions}
-use Rattle.cdcl.specs.Forgetful.{IsPlain}
+use Rattle.cdcl.specs.declared.lesson.Analysis.{Analysis}
+use Rattle.cdcl.specs.Forgetful.{late_numbers}
+use Rattle.cdcl.specs.Learnt.{line_of}
 use Rattle.cdcl.specs.Numbers.{is_one_of}
+use Rattle.cdcl.specs.Removing.{HasRoomFor}
 use Rattle.cdcl.specs.Saving.{AgreeOutside, AreWaiting, AreKept}
-use Rattle.cdcl.specs.Focusing.{state_of, HasSaved, IsEquipped, IsFocusing, IsTaught, Learns, Continues, CanForget}
-use Rattle.cdcl.proofs.FocusedLemmas.{none-false-learnt, low-learnt, lower-level, IsPlain-learn, AllPlain-forget, AllPlain-push, take-push, take-forget}
-use Rattle.cdcl.proofs.SeenLemmas.{scores_after-same}
-use Rattle.lookahead.proofs.TrailLengths.{length-lawful}
-use Rattle.cdcl.proofs.WaitingLemmas.{AgreeOutside-saved}
+use Rattle.cdcl.specs.Focusing.{IsTaught, Weighs, EndsRound, stable_at}
 
--- what the parts of the step did, one after the other
+-- the round ends or goes on
+abbrev pub EndsIf : Bool → FocusedSearch → FocusedSearch → Type 0
+EndsIf true b e = EndsRound b e
+EndsIf false b e = e ≡ b
+
+pub ends-if : (o : Bool) (b e : FocusedSearch) → (o ≡ true → EndsRound b e) → (o ≡ false → e ≡ b) → EndsIf o b e
+ends-if true b e ends goes_on = ends refl
+ends-if false b e ends goes_on = goes_on refl
+
+-- what the parts of the step did, one after the other: marks were used, the conflict was weighed,
+-- the search went back, and a round may have ended
 pub record IsLearning (s : FocusedSearch) (n : ℕ) (t : FocusedSearch) : Type 0 where
   pub clause : Clause
   pub hints : List ℕ
   pub level : ℕ
   pub g : ℕ
-  pub seen : List ℕ
-  pub middle : Decisions
-  pub back : State
   pub restarts : Bool
+  pub marked : FocusedSearch
+  pub weighed : FocusedSearch
+  pub back : FocusedSearch
+  pub ended : FocusedSearch
   pub taught : IsTaught s.kernel n clause level
-  pub line : record { clause = clause; hints = hints } ≡ learn s.kernel.clauses s.kernel.trail n
-  pub glue_is : g ≡ glue s.kernel.trail (learn s.kernel.clauses s.kernel.trail n).clause
+  pub line : record { clause = clause; hints = hints } ≡ (lesson_of s.kernel.clauses s.kernel.trail n).line
+  pub glue_is : g ≡ (lesson_of s.kernel.clauses s.kernel.trail n).glue
   pub few : g ≤ s.kernel.vars
-  pub sees : (v : ℕ) → is_one_of seen v ≡ is_seen s.kernel.clauses s.kernel.trail (learn s.kernel.clauses s.kernel.trail n).hints v
-  pub gained : middle.scores ≡ after_conflict s.decisions.scores seen
-  pub gained_most : (b : ℕ) → All (λ x. x ≤ b) s.decisions.scores.scores.scores → All (λ x. x ≤ b + 2 ^ 40) middle.scores.scores.scores
-  pub saved_as : middle.saved ≡ s.decisions.saved
-  pub restart : restarts ≡ restarting.restarts s.averages.constants (s.conflicts + 1) (with_glue s.averages.constants g s.averages.glues)
-  pub averaged : t.averages ≡ record s.averages {
-    glues = if restarts then restarted (with_glue s.averages.constants g s.averages.glues) else with_glue s.averages.constants g s.averages.glues;
-  }
-  pub went_back : back ≡ record s.kernel { clauses = s.kernel.clauses ++ clause ∷ []; trail = up_to s.kernel.trail (if restarts then 0 else level) }
-  pub waiting : AreWaiting s.kernel.vars (literals (up_to s.kernel.trail (if restarts then 0 else level))) t.decisions
-  pub saves : AgreeOutside s.kernel.vars (literals (up_to s.kernel.trail (if restarts then 0 else level))) t.decisions.saved (saved_after s.kernel.vars s.kernel.trail middle.saved)
-  pub kept : AreKept middle t.decisions
-  pub forgot : t.kernel ≡ record back {
-    clauses = (if is_due s.schedule (s.conflicts + 1) then forget_half s.constants back.trail s.glues.items s.kernel.clauses else s.kernel.clauses) ++ clause ∷ [];
-  }
-  pub scheduled : t.schedule ≡ (if is_due s.schedule (s.conflicts + 1) then rescheduled s.constants (s.conflicts + 1) s.schedule else s.schedule)
-  pub counted : t.conflicts ≡ s.conflicts + 1
-  pub decided : t.decided ≡ s.decided
-  pub lines : t.lines ≡ s.lines ++ record { clause = clause; hints = hints } ∷ []
-  pub glues : t.glues.items ≡ s.glues.items ++ g ∷ []
-  pub constants : t.constants ≡ s.constants
-  pub bounds : (t.analysis.seen.bound ≡ s.analysis.seen.bound) × (t.analysis.levels.bound ≡ s.analysis.levels.bound)
+  pub sees : (v : ℕ) → is_one_of marked.analysis.seen.numbers v ≡ is_seen s.kernel.clauses s.kernel.trail (lesson_of s.kernel.clauses s.kernel.trail n).seen v
+  pub used : marked.marks.items ≡ with_used (lesson_of s.kernel.clauses s.kernel.trail n).resolved (s.kernel.first + 1) s.marks.items
+  pub bounds : (marked.analysis.seen.bound ≡ s.analysis.seen.bound) × (marked.analysis.levels.bound ≡ s.analysis.levels.bound)
+  pub room : HasRoomFor s.kernel.vars marked.analysis.removing
+  pub same_marked : marked ≡ record s { analysis = marked.analysis; marks = marked.marks }
+  pub weighs : Weighs marked g restarts weighed
+  pub went_back : back.kernel ≡ record s.kernel { clauses = s.kernel.clauses ++ clause ∷ []; trail = up_to s.kernel.trail (if restarts then 0 else level) }
+  pub waiting : AreWaiting s.kernel.vars (literals (up_to s.kernel.trail (if restarts then 0 else level))) back.decisions
+  pub saves : AgreeOutside s.kernel.vars (literals (up_to s.kernel.trail (if restarts then 0 else level))) back.decisions.saved (saved_after s.kernel.vars s.kernel.trail weighed.decisions.saved)
+  pub kept : AreKept weighed.decisions back.decisions
+  pub same_back : back ≡ record weighed { kernel = back.kernel; decisions = back.decisions }
+  pub ends : is_over back.round back.conflicts ≡ true → EndsRound back ended
+  pub goes_on : is_over back.round back.conflicts ≡ false → ended ≡ back
+  pub lines : t.lines ≡ ended.lines ++ record { clause = clause; hints = hints } ∷ []
+  pub marks : t.marks.items ≡ ended.marks.items ++ fresh_mark g ∷ []
+  pub same : t ≡ record ended { lines = t.lines; marks = t.marks }
   pub lawful : IsLawful t.kernel.clauses t.kernel.trail
   pub over : IsOver t.kernel.vars (literals t.kernel.trail)
   pub clauses_over : All (IsOver t.kernel.vars) t.kernel.clauses
 
-module _ (s : FocusedSearch) (n : ℕ) (t : FocusedSearch) (f : IsFocusing s) (l : IsLearning s n t) where
-  clause-is : l.clause ≡ (learn s.kernel.clauses s.kernel.trail n).clause
-  clause-is = l.taught.learnt
+-- what a round's end leaves, or no end
+module _ (b e : FocusedSearch) where
+  ended-kernel : (o : Bool) (K : List Clause) (c : Clause) → EndsIf o b e → b.kernel.clauses ≡ K ++ c ∷ []
+      → e.kernel ≡ record b.kernel { clauses = (if o then forget (late_numbers b.constants b.kernel.trail b.marks.items K) 1 K else K) ++ c ∷ [] }
+  ended-kernel true K c h parts = h.kernel K c parts
+  ended-kernel false K c h parts = ap (λ (s : FocusedSearch). s.kernel) h ∙ ap (λ (L : List Clause). record b.kernel { clauses = L }) parts
 
-  abbrev pub target : ℕ
-  target = if l.restarts then 0 else l.level
+  ended-marks : (o : Bool) → EndsIf o b e → e.marks.items ≡ (if o then unused b.marks.items else b.marks.items)
+  ended-marks true h = h.marks
+  ended-marks false h = ap (λ (s : FocusedSearch). s.marks.items) h
 
-  trail-is : t.kernel.trail ≡ up_to s.kernel.trail (if l.restarts then 0 else l.level)
-  trail-is = ap (λ (k : State). k.trail) l.forgot ∙ ap (λ (k : State). k.trail) l.went_back
+  ended-scores : (o : Bool) → EndsIf o b e → e.decisions.scores ≡ b.decisions.scores
+  ended-scores true h = h.scores
+  ended-scores false h = ap (λ (s : FocusedSearch). s.decisions.scores) h
 
-  vars-is : t.kernel.vars ≡ s.kernel.vars
-  vars-is = ap (λ (k : State). k.vars) l.forgot ∙ ap (λ (k : State). k.vars) l.went_back
+  ended-saved : (o : Bool) → EndsIf o b e → e.decisions.saved ≡ (if o then rephased b.round.number b.decisions.saved else b.decisions.saved)
+  ended-saved true h = h.saved
+  ended-saved false h = ap (λ (s : FocusedSearch). s.decisions.saved) h
 
-  first-is : t.kernel.first ≡ s.kernel.first
-  first-is = ap (λ (k : State). k.first) l.forgot ∙ ap (λ (k : State). k.first) l.went_back
+  ended-round : (o : Bool) → EndsIf o b e → e.round ≡ (if o then next_turn b.constants b.conflicts b.round else b.round)
+  ended-round true h = h.round
+  ended-round false h = ap (λ (s : FocusedSearch). s.round) h
 
-  abbrev pub left : List Clause
-  left = if is_due s.schedule (s.conflicts + 1) then forget_half s.constants (up_to s.kernel.trail (if l.restarts then 0 else l.level)) s.glues.items s.kernel.clauses else s.kernel.clauses
+  ended-pace : (o : Bool) → EndsIf o b e → e.pace ≡ (if o then pace_after b.conflicts b.pace else b.pace)
+  ended-pace true h = h.pace
+  ended-pace false h = ap (λ (s : FocusedSearch). s.pace) h
 
-  clauses-is : t.kernel.clauses ≡ left ++ l.clause ∷ []
-  clauses-is = ap (λ (k : State). k.clauses) l.forgot
-      ∙ ap (λ (T : Trail). (if is_due s.schedule (s.conflicts + 1) then forget_half s.constants T s.glues.items s.kernel.clauses else s.kernel.clauses) ++ l.clause ∷ []) (ap (λ (k : State). k.trail) l.went_back)
+  ended-same : (o : Bool) → EndsIf o b e → e ≡ record b { kernel = e.kernel; marks = e.marks; decisions = e.decisions; round = e.round; pace = e.pace }
+  ended-same true h = h.same
+  ended-same false h = h ∙ ap (λ (s : FocusedSearch). record b { kernel = s.kernel; marks = s.marks; decisions = s.decisions; round = s.round; pace = s.pace }) (sym h)
 
-  line-is : record { clause = l.clause; hints = l.hints } ≡ learn s.kernel.clauses s.kernel.trail n
-  line-is = l.line
-
-  -- the state that the definition gives, from what the parts gave
-  abbrev pub made : Assignment → Bool → ℕ → ℕ → Line → Scores → FocusedState
-  made saved r level g line scores = record {
-    clauses = (if is_due s.schedule (s.conflicts + 1) then forget_half s.constants (up_to s.kernel.trail (if r then 0 else level)) s.glues.items s.kernel.clauses else s.kernel.clauses) ++ line.clause ∷ [];
-    trail = up_to s.kernel.trail (if r then 0 else level);
-    conflicts = s.conflicts + 1;
-    decisions = s.decided;
-    lines = s.lines ++ line ∷ [];
-    glues = s.glues.items ++ g ∷ [];
-    scores = scores;
-    saved = saved;
-    averages = if r then restarted (with_glue s.constants g s.averages.glues) else with_glue s.constants g s.averages.glues;
-    schedule = if is_due s.schedule (s.conflicts + 1) then rescheduled s.constants (s.conflicts + 1) s.schedule else s.schedule;
+-- what the search is behind them
+pub record IsNext (s : FocusedSearch) (n : ℕ) (t : FocusedSearch) (l : IsLearning s n t) : Type 0 where
+  pub kernel : t.kernel ≡ record s.kernel {
+    clauses = (if is_over s.round (s.conflicts + 1) then forget (late_numbers s.constants (up_to s.kernel.trail (if l.restarts then 0 else l.level)) l.marked.marks.items s.kernel.clauses) 1 s.kernel.clauses
+        else s.kernel.clauses) ++ l.clause ∷ [];
+    trail = up_to s.kernel.trail (if l.restarts then 0 else l.level);
   }
+  pub conflicts : t.conflicts ≡ s.conflicts + 1
+  pub stable : t.stable_conflicts ≡ stable_at s
+  pub decided : t.decided ≡ s.decided
+  pub lines : t.lines ≡ s.lines ++ record { clause = l.clause; hints = l.hints } ∷ []
+  pub marks : t.marks.items ≡ (if is_over s.round (s.conflicts + 1) then unused l.marked.marks.items else l.marked.marks.items) ++ fresh_mark l.g ∷ []
+  pub scores : t.decisions.scores ≡ l.back.decisions.scores
+  pub saved : t.decisions.saved ≡ (if is_over s.round (s.conflicts + 1) then rephased s.round.number l.back.decisions.saved else l.back.decisions.saved)
+  pub averages : t.averages ≡ with_next s.averages s.pace.mode l.g
+  pub restarted : t.restarted ≡ (if l.restarts then s.conflicts + 1 else s.restarted)
+  pub pace : t.pace ≡ (if is_over s.round (s.conflicts + 1) then pace_after (s.conflicts + 1) s.pace else s.pace)
+  pub round : t.round ≡ (if is_over s.round (s.conflicts + 1) then next_turn s.constants (s.conflicts + 1) s.round else s.round)
+  pub constants : t.constants ≡ s.constants
+  pub analysis : t.analysis ≡ l.marked.analysis
 
-  abbrev pub line : Line
-  line = learn s.kernel.clauses s.kernel.trail n
+module _ (s : FocusedSearch) (n : ℕ) (t : FocusedSearch) (l : IsLearning s n t) where
+  -- of the search where it went back
+  weighed-of : {X : Type 0} (f : FocusedSearch → X) → f l.weighed ≡ f (record l.marked {
+    decisions = l.weighed.decisions;
+    conflicts = l.weighed.conflicts;
+    stable_conflicts = l.weighed.stable_conflicts;
+    averages = l.weighed.averages;
+    restarted = l.weighed.restarted;
+  })
+  weighed-of f = ap f l.weighs.same
 
-  abbrev pub R : Bool
-  R = restarting.restarts s.constants (s.conflicts + 1) (with_glue s.constants (glue s.kernel.trail line.clause) s.averages.glues)
+  pub marked-of : {X : Type 0} (f : FocusedSearch → X) → f l.marked ≡ f (record s { analysis = l.marked.analysis; marks = l.marked.marks })
+  marked-of f = ap f l.same_marked
 
-  restarts-is : l.restarts ≡ R
-  restarts-is =
-      l.restart ∙ (ap (λ c. restarting.restarts c (s.conflicts + 1) (with_glue c l.g s.averages.glues)) f.equipped.averaged
-      ∙ ap (λ g. restarting.restarts s.constants (s.conflicts + 1) (with_glue s.constants g s.averages.glues)) l.glue_is)
+  back-of : {X : Type 0} (f : FocusedSearch → X) → f l.back ≡ f (record l.weighed { kernel = l.back.kernel; decisions = l.back.decisions })
+  back-of f = ap f l.same_back
 
-  scores-is : t.decisions.scores.scores ≡ scores_after s.constants s.kernel.vars (is_seen s.kernel.clauses s.kernel.trail line.hints) s.decisions.scores.scores
-  scores-is =
-      l.kept.scores ∙ (ap (λ (r : Ranking). r.scores) l.gained
-      ∙ (ap (λ c. scores_after c (vars_of s.decisions.scores) (is_one_of l.seen) s.decisions.scores.scores) f.equipped.scored
-      ∙ (ap (λ V. scores_after s.constants V (is_one_of l.seen) s.decisions.scores.scores) f.equipped.waiting.vars
-      ∙ scores_after-same s.constants s.kernel.vars (is_one_of l.seen) (is_seen s.kernel.clauses s.kernel.trail line.hints) s.decisions.scores.scores l.sees)))
+  conflicts-back : l.back.conflicts ≡ s.conflicts + 1
+  conflicts-back = back-of (λ x. x.conflicts) ∙ (l.weighs.conflicts ∙ marked-of (λ x. x.conflicts + 1))
 
-  averages-is : t.averages.glues ≡ (if l.restarts then restarted (with_glue s.constants l.g s.averages.glues) else with_glue s.constants l.g s.averages.glues)
-  averages-is =
-      ap (λ (a : Averages). a.glues) l.averaged
-      ∙ ap (λ c. if l.restarts then restarted (with_glue c l.g s.averages.glues) else with_glue c l.g s.averages.glues) f.equipped.averaged
+  round-back : l.back.round ≡ s.round
+  round-back = back-of (λ x. x.round) ∙ (weighed-of (λ x. x.round) ∙ marked-of (λ x. x.round))
 
-  pub next-state : (saved : Assignment) → state_of t (saved_after s.kernel.vars s.kernel.trail saved) ≡ learnt_next s.constants s.kernel.vars (state_of s saved) line
-  next-state saved =
-      let S = saved_after s.kernel.vars s.kernel.trail saved in
-      let scores = scores_after s.constants s.kernel.vars (is_seen s.kernel.clauses s.kernel.trail line.hints) s.decisions.scores.scores in
-      let first : state_of t S ≡ made S l.restarts l.level l.g (record { clause = l.clause; hints = l.hints }) scores =
-      rw (clauses-is, trail-is, l.counted, l.decided, l.lines, l.glues, scores-is, averages-is, l.scheduled) refl in
-      first ∙ (ap (λ r. made S r l.level l.g (record { clause = l.clause; hints = l.hints }) scores) restarts-is
-      ∙ (ap (λ level. made S R level l.g (record { clause = l.clause; hints = l.hints }) scores) l.taught.back
-      ∙ (ap (λ g. made S R (back_level s.kernel.trail line.clause) g (record { clause = l.clause; hints = l.hints }) scores) l.glue_is
-      ∙ ap (λ (x : Line). made S R (back_level s.kernel.trail line.clause) (glue s.kernel.trail line.clause) x scores) l.line)))
+  pace-back : l.back.pace ≡ s.pace
+  pace-back = back-of (λ x. x.pace) ∙ (weighed-of (λ x. x.pace) ∙ marked-of (λ x. x.pace))
 
-  pub next-saved : (saved : Assignment) → HasSaved s saved → HasSaved t (saved_after s.kernel.vars s.kernel.trail saved)
-  next-saved saved h =
-      rw (vars-is, trail-is) (AgreeOutside-saved s.kernel.vars s.kernel.trail (literals (up_to s.kernel.trail (if l.restarts then 0 else l.level))) t.decisions.saved s.decisions.saved saved h
-      (subst (λ (M : Assignment). AgreeOutside s.kernel.vars (literals (up_to s.kernel.trail (if l.restarts then 0 else l.level))) t.decisions.saved (saved_after s.kernel.vars s.kernel.trail M)) l.saved_as l.saves))
+  constants-back : l.back.constants ≡ s.constants
+  constants-back = back-of (λ x. x.constants) ∙ (weighed-of (λ x. x.constants) ∙ marked-of (λ x. x.constants))
 
-  -- the level is below the current one
-  lower : (if l.restarts then 0 else l.level) < current_level s.kernel.trail
-  lower = let h = lower-level s.kernel n l.clause l.level l.restarts f.searching l.taught in let a = h.0 in let b = h.1 in omega arith
+  marks-back : l.back.marks ≡ l.marked.marks
+  marks-back = back-of (λ x. x.marks) ∙ weighed-of (λ x. x.marks)
 
-  abbrev pub all : List Clause
-  all = s.kernel.clauses ++ l.clause ∷ []
+  -- of the search where a round may have ended
+  over-is : is_over l.back.round l.back.conflicts ≡ is_over s.round (s.conflicts + 1)
+  over-is = ap (λ (r : Turn). is_over r l.back.conflicts) round-back ∙ ap (is_over s.round) conflicts-back
 
-  low-all : IsOpenBelow all (up_to s.kernel.trail (if l.restarts then 0 else l.level))
-  low-all =
-      subst (λ (c : Clause). IsOpenBelow (s.kernel.clauses ++ c ∷ []) (up_to s.kernel.trail (if l.restarts then 0 else l.level))) (sym clause-is)
-      (low-learnt s.kernel.clauses s.kernel.trail n (if l.restarts then 0 else l.level) f.searching.lawful f.searching.open_below l.taught.above l.taught.conflict lower)
+  ends : EndsIf (is_over s.round (s.conflicts + 1)) l.back l.ended
+  ends = ends-if (is_over s.round (s.conflicts + 1)) l.back l.ended (λ o. l.ends (over-is ∙ o)) (λ o. l.goes_on (over-is ∙ o))
 
-  lawful-all : IsLawful all (up_to s.kernel.trail (if l.restarts then 0 else l.level))
-  lawful-all = IsLawful-append s.kernel.clauses (l.clause ∷ []) (up_to s.kernel.trail (if l.restarts then 0 else l.level))
-      (IsLawful-up_to s.kernel.clauses s.kernel.trail (if l.restarts then 0 else l.level) f.searching.lawful)
+  ended-of : {X : Type 0} (f : FocusedSearch → X) → f l.ended ≡ f (record l.back { kernel = l.ended.kernel; marks = l.ended.marks; decisions = l.ended.decisions; round = l.ended.round; pace = l.ended.pace })
+  ended-of f = ap f (ended-same l.back l.ended (is_over s.round (s.conflicts + 1)) ends)
 
-  within : s.kernel.first ≤ length s.kernel.clauses
-  within = f.searching.within
+  last-of : {X : Type 0} (f : FocusedSearch → X) → f t ≡ f (record l.ended { lines = t.lines; marks = t.marks })
+  last-of f = ap f l.same
 
-  plain-all : All (IsPlain s.kernel.vars) (drop s.kernel.first all)
-  plain-all = AllPlain-push s.kernel.vars s.kernel.first s.kernel.clauses l.clause within f.plain (IsPlain-learn s.kernel n l.clause l.level f.searching l.taught)
+  over : Bool
+  over = is_over s.round (s.conflicts + 1)
 
-  abbrev pub ns : List ℕ
-  ns = half_numbers s.constants (up_to s.kernel.trail (if l.restarts then 0 else l.level)) s.glues.items s.kernel.clauses
-
-  most : (k : ℕ) → list_any (nat_eq k) ns ≡ true → k ≤ length s.kernel.clauses
-  most k h = (half-number s.constants (up_to s.kernel.trail (if l.restarts then 0 else l.level)) s.glues.items s.kernel.clauses k h).1
-
-  least : (k : ℕ) → list_any (nat_eq k) ns ≡ true → 1 + s.kernel.first ≤ k
-  least k h =
-      let low = (half-number s.constants (up_to s.kernel.trail (if l.restarts then 0 else l.level)) s.glues.items s.kernel.clauses k h).0 in
-      let learnt = f.learnt in
-      let glues = f.glues in
-      omega arith
-
-  pushed : forget ns 1 all ≡ forget ns 1 s.kernel.clauses ++ l.clause ∷ []
-  pushed = forget-push ns s.kernel.clauses l.clause most
-
-  -- what holds of all clauses, and of all with some forgotten, holds of the clauses that are left
-  Holds : (List Clause → Type 0) → Type 0
-  Holds P = P all → P (forget ns 1 all) → P t.kernel.clauses
-
-  holds : (P : List Clause → Type 0) → P all → P (forget ns 1 all) → P t.kernel.clauses
-  holds P whole half = subst P (sym clauses-is) (go (is_due s.schedule (s.conflicts + 1)))
-    where
-      go : (b : Bool) → P ((if b then forget ns 1 s.kernel.clauses else s.kernel.clauses) ++ l.clause ∷ [])
-      go true = subst P pushed half
-      go false = whole
-
-  many : length t.kernel.clauses ≡ length s.kernel.clauses + 1
-  many =
-      let one = length-append s.kernel.clauses (l.clause ∷ []) in
-      let same = length-forget ns 1 all in
-      holds (λ K. length K ≡ length s.kernel.clauses + 1) one (same ∙ one)
-
-  more-scores : s.conflicts * 2 ^ 40 + 2 ^ 40 ≡ t.conflicts * 2 ^ 40
-  more-scores = let c = l.counted in omega arith
-
-  total-is : t.averages.glues.total ≡ s.averages.glues.total + l.g
-  total-is = ap (λ (a : Glues). a.total) averages-is ∙ go l.restarts
-    where
-      go : (b : Bool) → (if b then restarted (with_glue s.constants l.g s.averages.glues) else with_glue s.constants l.g s.averages.glues).total ≡ s.averages.glues.total + l.g
-      go true = refl
-      go false = refl
-
-  equipped : IsEquipped t
-  equipped = record {
-    waiting = rw (vars-is, trail-is) l.waiting;
-    seen = let a = l.bounds.0 in let b = f.equipped.seen in let v = vars-is in omega arith;
-    levels = let a = l.bounds.1 in let b = f.equipped.levels in let v = vars-is in omega arith;
-    scored = l.kept.constants ∙ (ap (λ (r : Ranking). r.constants) l.gained ∙ (f.equipped.scored ∙ sym l.constants));
-    averaged = ap (λ (a : Averages). a.constants) l.averaged ∙ (f.equipped.averaged ∙ sym l.constants);
+  kernel-next : t.kernel ≡ record s.kernel {
+    clauses = (if is_over s.round (s.conflicts + 1) then forget (late_numbers s.constants (up_to s.kernel.trail (if l.restarts then 0 else l.level)) l.marked.marks.items s.kernel.clauses) 1 s.kernel.clauses
+        else s.kernel.clauses) ++ l.clause ∷ [];
+    trail = up_to s.kernel.trail (if l.restarts then 0 else l.level);
   }
+  kernel-next =
+      let o = is_over s.round (s.conflicts + 1) in
+      let K = s.kernel.clauses in
+      last-of (λ x. x.kernel)
+      ∙ (ended-kernel l.back l.ended o K l.clause ends (ap (λ (k : State). k.clauses) l.went_back)
+      ∙ (ap (λ (c : Constants). record l.back.kernel { clauses = (if o then forget (late_numbers c l.back.kernel.trail l.back.marks.items K) 1 K else K) ++ l.clause ∷ [] }) constants-back
+      ∙ (ap (λ m. record l.back.kernel { clauses = (if o then forget (late_numbers s.constants l.back.kernel.trail m K) 1 K else K) ++ l.clause ∷ [] }) (ap (λ x. x.items) marks-back)
+      ∙ ap (λ (k : State). record k { clauses = (if o then forget (late_numbers s.constants k.trail l.marked.marks.items K) 1 K else K) ++ l.clause ∷ [] }) l.went_back)))
 
-  pub next-focusing : IsFocusing t
-  next-focusing = record {
-    searching = record {
-      has_memory = ap (λ (k : State). k.short) l.forgot ∙ (ap (λ (k : State). k.short) l.went_back ∙ f.searching.has_memory);
-      in_order = ap (λ (k : State). k.order) l.forgot ∙ (ap (λ (k : State). k.order) l.went_back ∙ f.searching.in_order);
-      few = let v = vars-is in let few = f.searching.few in omega arith;
-      within = let a = first-is in let b = many in let c = within in omega arith;
-      lawful = l.lawful;
-      open_below = subst (IsOpenBelow t.kernel.clauses) (sym trail-is) (holds (λ K. IsOpenBelow K (up_to s.kernel.trail (if l.restarts then 0 else l.level))) low-all
-          (IsOpenBelow-forget ns all (up_to s.kernel.trail (if l.restarts then 0 else l.level)) lawful-all low-all));
-      clauses_over = l.clauses_over;
-      trail_over = l.over;
-    };
-    few = let v = vars-is in let few = f.few in omega arith;
-    equipped = equipped;
-    scores = rw l.kept.scores (subst (λ b. All (λ x. x ≤ b) l.middle.scores.scores.scores) more-scores (l.gained_most (s.conflicts * 2 ^ 40) f.scores));
-    total = let a = total-is in let b = f.total in let g = l.few in let v = f.few in let c = l.counted in omega arith;
-    decided =
-        let most = length-lawful s.kernel.vars s.kernel.clauses s.kernel.trail f.searching.lawful (AreOver-from_IsOver s.kernel.vars (literals s.kernel.trail) f.searching.trail_over) in
-        let v = f.few in let c = l.counted in let d = l.decided in let before = f.decided in omega arith;
-    learnt = let a = many in let b = first-is in let c = f.learnt in let d = ap length l.lines in let e = length-append s.lines (record { clause = l.clause; hints = l.hints } ∷ []) in omega arith;
-    glues = let a = ap length l.glues in let b = length-append s.glues.items (l.g ∷ []) in let c = f.glues in let d = ap length l.lines in let e = length-append s.lines (record { clause = l.clause; hints = l.hints } ∷ []) in omega arith;
-    plain = rw (vars-is, first-is) (holds (λ K. All (IsPlain s.kernel.vars) (drop s.kernel.first K)) plain-all (AllPlain-forget s.kernel.vars ns 1 s.kernel.first all plain-all));
-  }
+  pub is-next : IsNext s n t l
+  is-next =
+      let o = is_over s.round (s.conflicts + 1) in record {
+        kernel = kernel-next;
+        conflicts = last-of (λ x. x.conflicts) ∙ (ended-of (λ x. x.conflicts) ∙ conflicts-back);
+        stable = last-of (λ x. x.stable_conflicts) ∙ (ended-of (λ x. x.stable_conflicts) ∙ (back-of (λ x. x.stable_conflicts) ∙ (l.weighs.stable ∙ marked-of stable_at)));
+        decided = last-of (λ x. x.decided) ∙ (ended-of (λ x. x.decided) ∙ (back-of (λ x. x.decided) ∙ (weighed-of (λ x. x.decided) ∙ marked-of (λ x. x.decided))));
+        lines = l.lines
+            ∙ ap (λ ls. ls ++ record { clause = l.clause; hints = l.hints } ∷ []) (ended-of (λ x. x.lines) ∙ (back-of (λ x. x.lines) ∙ (weighed-of (λ x. x.lines) ∙ marked-of (λ x. x.lines))));
+        marks = l.marks ∙ ap (λ (ms : List Mark). ms ++ fresh_mark l.g ∷ []) (ended-marks l.back l.ended o ends ∙ ap (λ m. if o then unused m else m) (ap (λ x. x.items) marks-back));
+        scores = last-of (λ x. x.decisions.scores) ∙ ended-scores l.back l.ended o ends;
+        saved = last-of (λ x. x.decisions.saved) ∙ (ended-saved l.back l.ended o ends ∙ ap (λ (r : Turn). if o then rephased r.number l.back.decisions.saved else l.back.decisions.saved) round-back);
+        averages = last-of (λ x. x.averages)
+            ∙ (ended-of (λ x. x.averages) ∙ (back-of (λ x. x.averages) ∙ (l.weighs.averages ∙ marked-of (λ x. with_next x.averages x.pace.mode l.g))));
+        restarted = last-of (λ x. x.restarted)
+            ∙ (ended-of (λ x. x.restarted) ∙ (back-of (λ x. x.restarted) ∙ (l.weighs.restarted ∙ marked-of (λ x. if l.restarts then x.conflicts + 1 else x.restarted))));
+        pace = last-of (λ x. x.pace)
+            ∙ (ended-pace l.back l.ended o ends ∙ (ap (λ (p : Pace). if o then pace_after l.back.conflicts p else p) pace-back ∙ ap (λ k. if o then pace_after k s.pace else s.pace) conflicts-back));
+        round = last-of (λ x. x.round)
+            ∙ (ended-round l.back l.ended o ends ∙ (ap (λ (c : Constants). if o then next_turn c l.back.conflicts l.back.round else l.back.round) constants-back
+            ∙ (ap (λ k. if o then next_turn s.constants k l.back.round else l.back.round) conflicts-back ∙ ap (λ (r : Turn). if o then next_turn s.constants (s.conflicts + 1) r else r) round-back)));
+        constants = last-of (λ x. x.constants) ∙ (ended-of (λ x. x.constants) ∙ constants-back);
+        analysis = last-of (λ x. x.analysis) ∙ (ended-of (λ x. x.analysis) ∙ (back-of (λ x. x.analysis) ∙ weighed-of (λ x. x.analysis)));
+      }
 
-  pub next-continues : Continues s t
-  next-continues = record {
-    goes_on = (
-      vars-is,
-      first-is,
-      holds (λ K. take s.kernel.first K ≡ take s.kernel.first s.kernel.clauses) (take-push s.kernel.first s.kernel.clauses l.clause within)
-          (take-forget ns 1 s.kernel.first all least ∙ take-push s.kernel.first s.kernel.clauses l.clause within),
-      ap (λ (k : State). k.short) l.forgot ∙ (ap (λ (k : State). k.short) l.went_back ∙ f.searching.has_memory),
-      ap (λ (k : State). k.order) l.forgot ∙ ap (λ (k : State). k.order) l.went_back,
-    );
-    constants = l.constants;
-    equipped = equipped;
-  }
+-- what was learnt stays the same behind the conflict's weighing, and behind the round's end
+pub analysis-weighed : (s m w : FocusedSearch) (a : Analysis) (g : ℕ) (restarts : Bool) → m ≡ record s { analysis = a; marks = m.marks } → Weighs m g restarts w → w.analysis ≡ a
+analysis-weighed s m w a g restarts e h = ap (λ (x : FocusedSearch). x.analysis) h.same ∙ ap (λ (x : FocusedSearch). x.analysis) e
 
-pub Learns-from : (s : FocusedSearch) (n : ℕ) (t : FocusedSearch) → IsFocusing s → IsLearning s n t → (saved : Assignment) → HasSaved s saved → Learns s saved n t
-Learns-from s n t f l saved h = record { next = next-state s n t f l saved; saves = next-saved s n t f l saved h; focusing = next-focusing s n t f l }
+pub kernel-weighed : (s m w : FocusedSearch) (a : Analysis) (g : ℕ) (restarts : Bool) → m ≡ record s { analysis = a; marks = m.marks } → Weighs m g restarts w → w.kernel ≡ s.kernel
+kernel-weighed s m w a g restarts e h = ap (λ (x : FocusedSearch). x.kernel) h.same ∙ ap (λ (x : FocusedSearch). x.kernel) e
 
--- what is forgotten from, where the search went back
-pub CanForget-back : (s : FocusedSearch) (n : ℕ) (clause : Clause) (level : ℕ) (restarts : Bool) (back : State) → IsFocusing s → IsTaught s.kernel n clause level
-    → back ≡ record s.kernel { clauses = s.kernel.clauses ++ clause ∷ []; trail = up_to s.kernel.trail (if restarts then 0 else level) } → CanForget back (length s.glues.items)
-CanForget-back s n clause level restarts back f t went = subst (λ (k : State). CanForget k (length s.glues.items)) (sym went) (record {
-  has_memory = f.searching.has_memory;
-  few = f.searching.few;
-  learnt = let a = length-append s.kernel.clauses (clause ∷ []) in let b = f.learnt in let c = f.glues in omega arith;
-  none_false = subst (λ (c : Clause). least_false (literals (up_to s.kernel.trail (if restarts then 0 else level))) (s.kernel.clauses ++ c ∷ []) ≡ None) (sym t.learnt)
-      (none-false-learnt s.kernel.clauses s.kernel.trail n (if restarts then 0 else level) f.searching.lawful f.searching.open_below t.above t.conflict
-      (let h = lower-level s.kernel n clause level restarts f.searching t in let a = h.0 in let b = h.1 in omega arith));
-  plain = AllPlain-push s.kernel.vars s.kernel.first s.kernel.clauses clause f.searching.within f.plain (IsPlain-learn s.kernel n clause level f.searching t);
-})
+pub analysis-ended : (b e : FocusedSearch) (o : Bool) → EndsIf o b e → e.analysis ≡ b.analysis
+analysis-ended b e o h = ap (λ (x : FocusedSearch). x.analysis) (ended-same b e o h)
+
+-- the conflict teaches what was learnt
+pub taught-weighed : (s m w : FocusedSearch) (a : Analysis) (n g : ℕ) (restarts : Bool) → least_false (literals s.kernel.trail) s.kernel.clauses ≡ Some n → 1 ≤ current_level s.kernel.trail
+    → line_of a.learnt ≡ (lesson_of s.kernel.clauses s.kernel.trail n).line → a.learnt.level ≡ back_level s.kernel.trail (lesson_of s.kernel.clauses s.kernel.trail n).line.clause
+    → m ≡ record s { analysis = a; marks = m.marks } → Weighs m g restarts w → IsTaught s.kernel n w.analysis.learnt.clause.items w.analysis.learnt.level
+taught-weighed s m w a n g restarts clash above line level e h =
+    let is = analysis-weighed s m w a g restarts e h in record {
+      conflict = clash;
+      above = above;
+      learnt = ap (λ (x : Analysis). x.learnt.clause.items) is ∙ ap (λ (x : Line). x.clause) line;
+      back = ap (λ (x : Analysis). x.learnt.level) is ∙ level;
+    }

@@ -1,11 +1,12 @@
 -- A search that may count more conflicts goes the same way as one that may count fewer, up to the
 -- last conflict of that one.
-use Rattle.std.proofs.Common.{◌≡◌, ◌≢◌, ℕ, ◌+◌, ◌<◌, ◌≤◌, Bool, true, false, ◌++◌, ◌∷◌, [], nat_eq, eqb-true, eq-eqb, Option, Some, None, refl, ap, if◌then◌else◌, arith}
+use Rattle.std.proofs.Common.{◌≡◌, ◌≢◌, ℕ, ◌+◌, ◌<◌, ◌≤◌, Bool, true, false, ◌++◌, ◌∷◌, [], nat_eq, eqb-true, eq-eqb, Option, Some, None, refl, ap, ◌∙◌, if◌then◌else◌, arith}
 use Rattle.theory.specs.Truth.{Assignment}
 use Rattle.theory.specs.Plans.{Constants}
 use Rattle.theory.specs.Trails.{literals, current_level}
 use Rattle.theory.specs.Propagation.{Closed, quiet, conflict}
-use Rattle.theory.specs.Learning.{Line, learn}
+use Rattle.theory.specs.Learning.{learn}
+use Rattle.theory.specs.Lessons.{lesson_of}
 use Rattle.theory.specs.Search.{Outcome, refuted, exhausted, Next, ends, goes_on, RunsFrom, stops, steps}
 use Rattle.theory.specs.Scores.{best_outside}
 use Rattle.theory.specs.Focused.{FocusedState, IsFocusedStep, on_quiet, on_conflict, after, decided_next, learnt_next, splits_on}
@@ -13,19 +14,20 @@ use Rattle.theory.specs.Dividing.{LeadsTo, stays, moves}
 use Rattle.theory.proofs.literals.LiteralSets.{true_false}
 use Rattle.cdcl.specs.declared.focused.FocusedSearch.{FocusedSearch}
 use Rattle.cdcl.specs.Focusing.{state_of, HasSaved, RunsTo, Reaches}
+use Rattle.cdcl.proofs.NextStates.{learnt_next-flat}
 use Rattle.cdcl.proofs.FocusedSteps.{leads-runs, RunsTo-runs}
 
 on_quiet-goes : (V : ℕ) (s t : FocusedState) (x : Option ℕ) → on_quiet V s x ≡ goes_on t → t.conflicts ≡ s.conflicts
 on_quiet-goes V s t None e = absurd (cc)
 on_quiet-goes V s t (Some x) e = let is : t ≡ decided_next s x = cc in ap (λ (u : FocusedState). u.conflicts) is
 
-on_conflict-goes : (c : Constants) (V few many : ℕ) (s t : FocusedState) (line : Line) → few ≤ many → s.conflicts < few → on_conflict c V few s line ≡ goes_on t
-    → (on_conflict c V many s line ≡ goes_on t) × (t.conflicts < few)
-on_conflict-goes c V few many s t line within counted e = level (nat_eq (current_level s.trail) 0) e
+on_conflict-goes : (c : Constants) (V few many : ℕ) (s t : FocusedState) (n : ℕ) → few ≤ many → s.conflicts < few → on_conflict c V few s n ≡ goes_on t
+    → (on_conflict c V many s n ≡ goes_on t) × (t.conflicts < few)
+on_conflict-goes c V few many s t n within counted e = level (nat_eq (current_level s.trail) 0) e
   where
     count : (b d : Bool) → nat_eq (s.conflicts + 1) few ≡ b → nat_eq (s.conflicts + 1) many ≡ d
-        → (if b then ends (exhausted (splits_on V s)) else goes_on (learnt_next c V s line)) ≡ goes_on t
-        → ((if d then ends (exhausted (splits_on V s)) else goes_on (learnt_next c V s line)) ≡ goes_on t) × (t.conflicts < few)
+        → (if b then ends (exhausted (splits_on V s)) else goes_on (learnt_next c V s (lesson_of s.clauses s.trail n))) ≡ goes_on t
+        → ((if d then ends (exhausted (splits_on V s)) else goes_on (learnt_next c V s (lesson_of s.clauses s.trail n))) ≡ goes_on t) × (t.conflicts < few)
     count true d is other q = absurd (cc)
     count false true is other q =
         let last : s.conflicts + 1 ≡ few → ⊥ = λ l. true_false (nat_eq (s.conflicts + 1) few) (eq-eqb (s.conflicts + 1) few l) is in
@@ -33,36 +35,36 @@ on_conflict-goes c V few many s t line within counted e = level (nat_eq (current
         absurd (last (omega arith))
     count false false is other q =
         let last : s.conflicts + 1 ≡ few → ⊥ = λ l. true_false (nat_eq (s.conflicts + 1) few) (eq-eqb (s.conflicts + 1) few l) is in
-        let next : t ≡ learnt_next c V s line = cc in
-        let one : t.conflicts ≡ s.conflicts + 1 = ap (λ (u : FocusedState). u.conflicts) next in
+        let next : t ≡ learnt_next c V s (lesson_of s.clauses s.trail n) = cc in
+        let one : t.conflicts ≡ s.conflicts + 1 = ap (λ (u : FocusedState). u.conflicts) (next ∙ learnt_next-flat c V s (lesson_of s.clauses s.trail n)) in
         (q, omega (arith, one, last))
 
     level : (b : Bool)
-        → (if b then ends (refuted (s.lines ++ line ∷ [])) else if nat_eq (s.conflicts + 1) few then ends (exhausted (splits_on V s)) else goes_on (learnt_next c V s line)) ≡ goes_on t
-        → ((if b then ends (refuted (s.lines ++ line ∷ [])) else if nat_eq (s.conflicts + 1) many then ends (exhausted (splits_on V s)) else goes_on (learnt_next c V s line)) ≡ goes_on t) × (t.conflicts < few)
+        → (if b then ends (refuted (s.lines ++ learn s.clauses s.trail n ∷ [])) else if nat_eq (s.conflicts + 1) few then ends (exhausted (splits_on V s)) else goes_on (learnt_next c V s (lesson_of s.clauses s.trail n))) ≡ goes_on t
+        → ((if b then ends (refuted (s.lines ++ learn s.clauses s.trail n ∷ [])) else if nat_eq (s.conflicts + 1) many then ends (exhausted (splits_on V s)) else goes_on (learnt_next c V s (lesson_of s.clauses s.trail n))) ≡ goes_on t) × (t.conflicts < few)
     level true q = absurd (cc)
     level false q = count (nat_eq (s.conflicts + 1) few) (nat_eq (s.conflicts + 1) many) refl refl q
 
-on_conflict-ends : (c : Constants) (V few many : ℕ) (s : FocusedState) (line : Line) (o : Outcome) → ((x : ℕ) → o ≢ exhausted x) → on_conflict c V few s line ≡ ends o → on_conflict c V many s line ≡ ends o
-on_conflict-ends c V few many s line o own e = level (nat_eq (current_level s.trail) 0) e
+on_conflict-ends : (c : Constants) (V few many : ℕ) (s : FocusedState) (n : ℕ) (o : Outcome) → ((x : ℕ) → o ≢ exhausted x) → on_conflict c V few s n ≡ ends o → on_conflict c V many s n ≡ ends o
+on_conflict-ends c V few many s n o own e = level (nat_eq (current_level s.trail) 0) e
   where
-    count : (b : Bool) → (if b then ends (exhausted (splits_on V s)) else goes_on (learnt_next c V s line)) ≡ ends o → ⊥
+    count : (b : Bool) → (if b then ends (exhausted (splits_on V s)) else goes_on (learnt_next c V s (lesson_of s.clauses s.trail n))) ≡ ends o → ⊥
     count true q = own (splits_on V s) (let same : o ≡ exhausted (splits_on V s) = cc in same)
     count false q = absurd (cc)
 
     level : (b : Bool)
-        → (if b then ends (refuted (s.lines ++ line ∷ [])) else if nat_eq (s.conflicts + 1) few then ends (exhausted (splits_on V s)) else goes_on (learnt_next c V s line)) ≡ ends o
-        → (if b then ends (refuted (s.lines ++ line ∷ [])) else if nat_eq (s.conflicts + 1) many then ends (exhausted (splits_on V s)) else goes_on (learnt_next c V s line)) ≡ ends o
+        → (if b then ends (refuted (s.lines ++ learn s.clauses s.trail n ∷ [])) else if nat_eq (s.conflicts + 1) few then ends (exhausted (splits_on V s)) else goes_on (learnt_next c V s (lesson_of s.clauses s.trail n))) ≡ ends o
+        → (if b then ends (refuted (s.lines ++ learn s.clauses s.trail n ∷ [])) else if nat_eq (s.conflicts + 1) many then ends (exhausted (splits_on V s)) else goes_on (learnt_next c V s (lesson_of s.clauses s.trail n))) ≡ ends o
     level true q = q
     level false q = absurd (count (nat_eq (s.conflicts + 1) few) q)
 
 after-goes : (c : Constants) (V few many : ℕ) (s t : FocusedState) (a : Closed) → few ≤ many → s.conflicts < few → after c V few s a ≡ goes_on t → (after c V many s a ≡ goes_on t) × (t.conflicts < few)
 after-goes c V few many s t quiet within counted e = (e, let same = on_quiet-goes V s t (best_outside V (literals s.trail) s.scores) e in omega (arith, same, counted))
-after-goes c V few many s t (conflict n) within counted e = on_conflict-goes c V few many s t (learn s.clauses s.trail n) within counted e
+after-goes c V few many s t (conflict n) within counted e = on_conflict-goes c V few many s t n within counted e
 
 after-ends : (c : Constants) (V few many : ℕ) (s : FocusedState) (a : Closed) (o : Outcome) → ((x : ℕ) → o ≢ exhausted x) → after c V few s a ≡ ends o → after c V many s a ≡ ends o
 after-ends c V few many s quiet o own e = e
-after-ends c V few many s (conflict n) o own e = on_conflict-ends c V few many s (learn s.clauses s.trail n) o own e
+after-ends c V few many s (conflict n) o own e = on_conflict-ends c V few many s n o own e
 
 -- the steps before the last one
 leads-longer : (c : Constants) (V few many : ℕ) (s t : FocusedState) → few ≤ many → s.conflicts < few → LeadsTo (IsFocusedStep c V few) s t → LeadsTo (IsFocusedStep c V many) s t

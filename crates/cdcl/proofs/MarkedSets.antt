@@ -127,35 +127,35 @@ entry-false T e h = subst (λ l. has (literals T) l ≡ true) (sym (negated-nega
 pub entry-inside : (k : State) (marked : List Bool) (e : Entry) → IsOver k.vars (literals k.trail) → k.vars < length marked → entry_of k.trail e.lit.var ≡ Some e → e.lit.var < length marked
 entry-inside k marked e over long there = inside k marked (negated e.lit) over long (entry-false k.trail e there)
 
-pub resolvable-current : (T : Trail) (e : Entry) → nat_eq e.level (current_level T) ≡ true → is_resolvable T e ≡ true
+pub resolvable-current : (T : Trail) (e : Entry) → nat_eq e.level (current_level T) ≡ true → is_resolvable T [] e ≡ true
 resolvable-current T e h = rw h (go (nat_eq e.level 0))
   where
     go : (b : Bool) → b || true ≡ true
     go true = refl
     go false = refl
 
-pub resolvable-zero : (T : Trail) (e : Entry) → nat_eq e.level 0 ≡ true → is_resolvable T e ≡ true
+pub resolvable-zero : (T : Trail) (e : Entry) → nat_eq e.level 0 ≡ true → is_resolvable T [] e ≡ true
 resolvable-zero T e h = rw h refl
 
-pub resolvable-neither : (T : Trail) (e : Entry) → nat_eq e.level 0 ≡ false → nat_eq e.level (current_level T) ≡ false → is_resolvable T e ≡ false
+pub resolvable-neither : (T : Trail) (e : Entry) → nat_eq e.level 0 ≡ false → nat_eq e.level (current_level T) ≡ false → is_resolvable T [] e ≡ false
 resolvable-neither T e h k = rw (h, k) refl
 
 -- an open entry's negation is in the set
 pub is_in-open : (k : State) (S : Clause) (marked : List Bool) (n : ℕ) (e : Entry) → IsLawful k.clauses k.trail → IsMarked k S marked n → entry_of k.trail e.lit.var ≡ Some e
-    → is_open k.trail S (Some e) ≡ true → has S (negated e.lit) ≡ true
+    → is_open k.trail [] S (Some e) ≡ true → has S (negated e.lit) ≡ true
 is_in-open k S marked n e lawful h there o =
-    is_in k S marked n (negated e.lit) lawful h (entry-false k.trail e there) (h.marks e.lit.var ∙ and-left (has_var S e.lit.var) (is_resolvable k.trail e) o)
+    is_in k S marked n (negated e.lit) lawful h (entry-false k.trail e there) (h.marks e.lit.var ∙ and-left (has_var S e.lit.var) (is_resolvable k.trail [] e) o)
 
 -- the reason that is used at an open entry
 pub reason-level_0 : (k : State) (S : Clause) (marked : List Bool) (n : ℕ) (e : Entry) → IsLawful k.clauses k.trail → IsMarked k S marked n → entry_of k.trail e.lit.var ≡ Some e
-    → is_open k.trail S (Some e) ≡ true → e.level ≡ 0 → e.reason ≡ reason_used k.trail S e
+    → is_open k.trail [] S (Some e) ≡ true → e.level ≡ 0 → e.reason ≡ reason_used k.trail [] S e
 reason-level_0 k S marked n e lawful h there o zero_level = rw (is_in-open k S marked n e lawful h there o, eq-eqb e.level 0 zero_level) refl
 
 pub reason-many : (k : State) (S : Clause) (marked : List Bool) (n : ℕ) (e : Entry) → IsLawful k.clauses k.trail → IsMarked k S marked n → entry_of k.trail e.lit.var ≡ Some e
-    → is_open k.trail S (Some e) ≡ true → 2 ≤ n → e.reason ≡ reason_used k.trail S e
+    → is_open k.trail [] S (Some e) ≡ true → 2 ≤ n → e.reason ≡ reason_used k.trail [] S e
 reason-many k S marked n e lawful h there o two =
     let many : nat_le 2 (at_current_level k.trail S) ≡ true = le-leb 2 (at_current_level k.trail S) (let is = h.counted in omega arith) in
-    let resolvable = and-right (has_var S e.lit.var) (is_resolvable k.trail e) o in
+    let resolvable = and-right (has_var S e.lit.var) (is_resolvable k.trail [] e) o in
     rw (is_in-open k S marked n e lawful h there o, many) (go (nat_eq e.level 0) (nat_eq e.level (current_level k.trail)) resolvable)
   where
     go : (a b : Bool) → a || b ≡ true → e.reason ≡ (if a || (b && true) then e.reason else None)

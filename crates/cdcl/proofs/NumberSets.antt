@@ -1,10 +1,11 @@
 -- Sets of numbers, kept as flags beside their list.
-use Rattle.std.proofs.Common.{◌≡◌, ℕ, inl, inr, ◌+◌, ◌<◌, ◌≤◌, Bool, true, false, ◌||◌, List, [], ◌∷◌, ◌++◌, length, count_by, refl, ap, sym, ◌∙◌, cond, nat_eq, eqb-true, eq-eqb, slice_index_or, if◌then◌else◌, All, arith}
-use Rattle.std.proofs.lemmas.Bool.{cases_lt}
+use Rattle.std.proofs.Common.{◌≡◌, ℕ, inl, inr, ◌+◌, ◌<◌, ◌≤◌, Bool, true, false, ◌||◌, List, [], ◌∷◌, ◌++◌, length, count_by, get_or, zero, suc, refl, ap, ap₂, sym, ◌⊎◌, nat_le, le-leb, leb-true, ◌∙◌, cond, nat_eq, eqb-true, eq-eqb, slice_index_or, if◌then◌else◌, All, arith}
+use Rattle.std.proofs.lemmas.Bool.{cases_lt, cases_eq}
 use Rattle.std.proofs.lemmas.List.Sums.{sum_by-cons, sum_by_push}
 use Rattle.std.proofs.lemmas.List.{get_or_past}
 use Rattle.std.proofs.lemmas.List.Elements.{All-nil, All-cons}
-use Rattle.theory.proofs.literals.LiteralSets.{true_false}
+use Rattle.theory.proofs.literals.LiteralLemmas.{or-right}
+use Rattle.theory.proofs.literals.LiteralSets.{true_false, false_unless}
 use Rattle.cdcl.specs.Numbers.{AreFlagged, is_one_of, AreWith, StandOnce}
 
 pub count-cons : {X : Type 0} (p : X → Bool) (x : X) (xs : List X) → count_by p (x ∷ xs) ≡ cond (p x) 1 0 + count_by p xs
@@ -84,3 +85,70 @@ inside-flagged flags xs h = all xs (λ n t. inside n t)
 -- all flags are set back
 pub unset-all : (flags : List Bool) → ((n : ℕ) → slice_index_or flags n false ≡ false) → AreFlagged flags []
 unset-all flags h n = rw (h n) refl
+
+-- where a number stands
+pub index_of : (xs : List ℕ) (n : ℕ) → is_one_of xs n ≡ true → (i : ℕ) × (i < length xs) × (get_or xs i 0 ≡ n)
+index_of [] n h = absurd (cc)
+index_of (x ∷ xs) n h = go (nat_eq n x) refl h (index_of xs n)
+  where
+    go : (b : Bool) → nat_eq n x ≡ b → (b || is_one_of xs n) ≡ true → (is_one_of xs n ≡ true → (i : ℕ) × (i < length xs) × (get_or xs i 0 ≡ n)) → (i : ℕ) × (i < suc (length xs)) × (get_or (x ∷ xs) i 0 ≡ n)
+    go true e k more = (0, omega arith, sym (eqb-true n x e))
+    go false e k more = let at = more k in (suc at.0, (let less = at.1 in omega (arith, less)), at.2)
+
+count-same : (p q : ℕ → Bool) (xs : List ℕ) → ((x : ℕ) → p x ≡ q x) → count_by p xs ≡ count_by q xs
+count-same p q [] h = refl
+count-same p q (x ∷ xs) h = count-cons p x xs ∙ (ap₂ (λ b n. cond b 1 0 + n) (h x) (count-same p q xs h) ∙ sym (count-cons q x xs))
+
+-- one number more
+pub count-more : (V : ℕ) (xs : List ℕ) → count_by (λ x. nat_le x (suc V)) xs ≡ count_by (λ x. nat_le x V) xs + count_by (nat_eq (suc V)) xs
+count-more V [] = refl
+count-more V (x ∷ xs) =
+    let rest = count-more V xs in
+    let here = one (cases_lt x (suc V)) in
+    let a = count-cons (λ x. nat_le x (suc V)) x xs in
+    let b = count-cons (λ x. nat_le x V) x xs in
+    let c = count-cons (nat_eq (suc V)) x xs in
+    omega (arith, rest, here, a, b, c)
+  where
+    one : (x < suc V) ⊎ (suc V ≤ x) → cond (nat_le x (suc V)) 1 0 ≡ cond (nat_le x V) 1 0 + cond (nat_eq (suc V) x) 1 0
+    one (inl less) =
+        let a : nat_le x (suc V) ≡ true = le-leb x (suc V) (omega arith) in
+        let b : nat_le x V ≡ true = le-leb x V (omega arith) in
+        let c : nat_eq (suc V) x ≡ false = false_unless (nat_eq (suc V) x) (λ t. let e = eqb-true (suc V) x t in absurd (omega arith)) in
+        rw (a, b, c) refl
+    one (inr more) = elim (cases_eq x (suc V)) [
+      | inl same ↦
+          let a : nat_le x (suc V) ≡ true = le-leb x (suc V) (omega arith) in
+          let b : nat_le x V ≡ false = false_unless (nat_le x V) (λ t. let e = leb-true x V t in absurd (omega arith)) in
+          let c : nat_eq (suc V) x ≡ true = eq-eqb (suc V) x (sym same) in
+          rw (a, b, c) refl
+      | inr other ↦
+          let a : nat_le x (suc V) ≡ false = false_unless (nat_le x (suc V)) (λ t. let e = leb-true x (suc V) t in other (omega arith)) in
+          let b : nat_le x V ≡ false = false_unless (nat_le x V) (λ t. let e = leb-true x V t in absurd (omega arith)) in
+          let c : nat_eq (suc V) x ≡ false = false_unless (nat_eq (suc V) x) (λ t. other (sym (eqb-true (suc V) x t))) in
+          rw (a, b, c) refl
+    ]
+
+count-few : (V : ℕ) (xs : List ℕ) → StandOnce xs → count_by (λ x. nat_le x V) xs ≤ suc V
+count-few zero xs once = let same = count-same (λ x. nat_le x 0) (nat_eq 0) xs least in let one = once 0 in omega (arith, same, one)
+  where
+    least : (x : ℕ) → nat_le x 0 ≡ nat_eq 0 x
+    least zero = refl
+    least (suc x) =
+        let a : nat_le (suc x) 0 ≡ false = false_unless (nat_le (suc x) 0) (λ t. (let most = leb-true (suc x) 0 t in omega (arith, most))) in
+        let b : nat_eq 0 (suc x) ≡ false = false_unless (nat_eq 0 (suc x)) (λ t. (let same = eqb-true 0 (suc x) t in omega (arith, same))) in
+        a ∙ sym b
+count-few (suc V) xs once = let more = count-more V xs in let few = count-few V xs once in let one = once (suc V) in omega (arith, more, few, one)
+
+count-all : (p : ℕ → Bool) (xs : List ℕ) → ((n : ℕ) → is_one_of xs n ≡ true → p n ≡ true) → count_by p xs ≡ length xs
+count-all p [] h = refl
+count-all p (x ∷ xs) h = count-cons p x xs ∙ (let here : ◌≡◌ {A = ℕ} (cond (p x) 1 0) 1 = ap (λ b. cond b 1 0) (h x (rw (eq-eqb x x refl) refl)) in let rest = count-all p xs (λ n t. h n (or-right (nat_eq n x) (is_one_of xs n) t)) in omega (arith, here, rest))
+
+-- numbers that stand once, all below a bound, are no more than it
+pub once-few : (xs : List ℕ) (bound : ℕ) → StandOnce xs → All (λ n. n < bound) xs → length xs ≤ bound
+once-few [] zero once inside = omega arith
+once-few (x ∷ xs) zero once inside = let none : x < 0 = inside 0 0 (omega arith) in absurd (omega (arith, none))
+once-few xs (suc V) once inside =
+    let all = count-all (λ x. nat_le x V) xs (λ n t. (let at = index_of xs n t in let less : get_or xs at.0 0 < suc V = inside at.0 0 at.1 in le-leb n V (let is = at.2 in omega (arith, less, is)))) in
+    let few = count-few V xs once in
+    omega (arith, all, few)

@@ -1,5 +1,5 @@
 -- The entries of a lawful trail by their places.
-use Rattle.std.proofs.Common.{◌≡◌, ℕ, zero, suc, ◌<◌, Bool, true, false, ◌&&◌, ◌||◌, List, [], ◌∷◌, ◌++◌, length, take, drop, get_or, Some, None, slice_get, refl, ap, sym, subst, ◌∙◌, nat_eq, nat_le, inl, inr, arith}
+use Rattle.std.proofs.Common.{◌≡◌, ℕ, zero, suc, ◌<◌, Bool, true, false, ◌&&◌, ◌||◌, List, [], ◌∷◌, ◌++◌, length, take, drop, get_or, Some, None, slice_get, refl, ap, sym, subst, ◌∙◌, nat_eq, nat_le, nat_lt, inl, inr, arith}
 use Rattle.std.proofs.Math.Seq.{split_at, take-length}
 use Rattle.theory.specs.Literals.{Literal, Clause, negated, has, has_var}
 use Rattle.theory.specs.Trails.{Trail, Entry, literals, entry_of, current_level}
@@ -101,17 +101,21 @@ entry_of-false K T bound l lawful h =
     (f.entry, subst (λ (x : Literal). entry_of T x.var ≡ Some f.entry) f.is (entry_of-placed K T f.place f.entry lawful f.at))
 
 -- a set isn't resolved on an entry that isn't open
-pub reason_used-closed : (T : Trail) (S : Clause) (e : Entry) → is_open T S (Some e) ≡ false → None ≡ reason_used T S e
-reason_used-closed T S e h =
-    let not_used : is_resolved_on T S e ≡ false = false_unless (is_resolved_on T S e) (λ t. true_false (is_open T S (Some e)) (used t) h) in
+pub reason_used-closed : (T : Trail) (R : List Literal) (S : Clause) (e : Entry) → is_open T R S (Some e) ≡ false → None ≡ reason_used T R S e
+reason_used-closed T R S e h =
+    let not_used : is_resolved_on T R S e ≡ false = false_unless (is_resolved_on T R S e) (λ t. true_false (is_open T R S (Some e)) (used t) h) in
     rw not_used refl
   where
-    either : (a b c : Bool) → a || (b && c) ≡ true → a || b ≡ true
-    either true b c k = refl
-    either false b c k = and-left b c k
+    removed : Bool
+    removed = has R (negated e.lit) && nat_lt e.level (current_level T)
 
-    used : is_resolved_on T S e ≡ true → is_open T S (Some e) ≡ true
+    either : (a b c d : Bool) → a || (b || (c && d)) ≡ true → a || (b || c) ≡ true
+    either true b c d k = refl
+    either false true c d k = refl
+    either false false c d k = and-left c d k
+
+    used : is_resolved_on T R S e ≡ true → is_open T R S (Some e) ≡ true
     used t =
-        let level = nat_eq e.level 0 || (nat_eq e.level (current_level T) && nat_le 2 (at_current_level T S)) in
-        and-true (has_var S e.lit.var) (is_resolvable T e) (has_var-has S (negated e.lit) (and-left (has S (negated e.lit)) level t))
-        (either (nat_eq e.level 0) (nat_eq e.level (current_level T)) (nat_le 2 (at_current_level T S)) (and-right (has S (negated e.lit)) level t))
+        let level = nat_eq e.level 0 || (removed || (nat_eq e.level (current_level T) && nat_le 2 (at_current_level T S))) in
+        and-true (has_var S e.lit.var) (is_resolvable T R e) (has_var-has S (negated e.lit) (and-left (has S (negated e.lit)) level t))
+        (either (nat_eq e.level 0) removed (nat_eq e.level (current_level T)) (nat_le 2 (at_current_level T S)) (and-right (has S (negated e.lit)) level t))

@@ -64,7 +64,7 @@ not_last V budget n s t e = level (nat_eq (current_level s.trail) 0) e
 after-clash : (V budget : ℕ) (s : OrderedState) (n : ℕ) → IsLawful s.clauses s.trail → All (IsOver V) s.clauses → IsOver V (literals s.trail) → s.conflicts + 1 < budget
     → least_false (literals s.trail) s.clauses ≡ Some n → Progresses V budget s (conflict_next s n)
 after-clash V budget s n lawful clauses trail counted clash = record {
-  clauses_over = All-push (IsOver V) s.clauses (learn s.clauses s.trail n).clause clauses (IsOver-learn V s.clauses s.trail n lawful trail clash);
+  clauses_over = All-push (IsOver V) s.clauses (learn s.clauses s.trail n).clause clauses (IsOver-learn V [] s.clauses s.trail n lawful trail clash);
   trail_over = AreOver-up_to V s.trail (back_level s.trail (learn s.clauses s.trail n).clause) (AreOver-from_IsOver V (literals s.trail) trail);
   counted = counted;
   less = more_left V budget s.conflicts (V + 1 - length (up_to s.trail (back_level s.trail (learn s.clauses s.trail n).clause))) (V + 1 - length s.trail) counted (omega arith);

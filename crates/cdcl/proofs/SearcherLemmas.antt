@@ -1,5 +1,5 @@
 -- What the outcome of a cube is and says, by either search.
-use Rattle.std.proofs.Common.{◌≡◌, ◌≢◌, ℕ, ◌≤◌, min, List, [], map, false, take, All, Result, Ok, Err, IfOk, OnOk, ap, sym, subst, ◌∙◌, arith}
+use Rattle.std.proofs.Common.{◌≡◌, ◌≢◌, ℕ, ◌≤◌, min, List, [], map, true, take, All, Result, Ok, Err, IfOk, OnOk, ap, sym, subst, ◌∙◌, arith}
 use Rattle.std.proofs.lemmas.List.Elements.{All-take}
 use Rattle.theory.specs.Literals.{Literal, IsCube}
 use Rattle.theory.specs.Truth.{Formula, Assignment, IsOver}
@@ -62,7 +62,7 @@ runs-focused : (Q : List Literal) (budget decided : ℕ) (s begun : FocusedSearc
     → (F : Formula) (B : ℕ) → IsReady ByPlace F s.kernel → budget ≡ budget_of B Q → RunsBy (focused s.constants) F B Q (outcome_of o)
 runs-focused Q budget decided s begun o begins runs F B ready is =
     let b = begins F ready in
-    rw (b.constants, b.ready.vars, is, b.begun) at (RunsTo-runs begun.constants begun.kernel.vars budget (state_of begun (map (λ v. false) (variables F.vars))) (outcome_of o) decided (runs (map (λ v. false) (variables F.vars)) b.saves))
+    rw (b.constants, b.ready.vars, is, b.begun) at (RunsTo-runs begun.constants begun.kernel.vars budget (state_of begun (map (λ v. true) (variables F.vars))) (outcome_of o) decided (runs (map (λ v. true) (variables F.vars)) b.saves))
 
 -- the search of a plan
 pub search-runs : {E : Type 0} (Q : List Literal) (budget decided : ℕ) (s : DividingSearch) (begun : FocusedSearch) (r : Result LinesOutcome E)
@@ -76,7 +76,7 @@ search-runs Q budget decided s begun (Ok o) begins runs = λ F plan d is.
 -- the first search, of the cube without literals
 pub first-stops : (F : Formula) (c : Constants) (t : ℕ) (begun s : FocusedSearch) (stop : Stop) → focused_search.Begins F c [] begun
     → ((saved : Assignment) → HasSaved begun saved → Stops begun.constants begun.kernel.vars t (state_of begun saved) stop s) → Stops c F.vars t (definition.begin c F []) stop s
-first-stops F c t begun s stop b stops = rw (b.constants, b.ready.vars, b.begun) at (stops (map (λ v. false) (variables F.vars)) b.saves)
+first-stops F c t begun s stop b stops = rw (b.constants, b.ready.vars, b.begun) at (stops (map (λ v. true) (variables F.vars)) b.saves)
 
 -- what it comes to is the outcome by the plan, where that doesn't divide the formula
 pub first-runs : (F : Formula) (plan : Plan) (c : Constants) (t budget count : ℕ) (o : Outcome) → plan.search ≡ focused c → min first_conflicts plan.budget ≡ t → budget ≡ budget_of plan.budget [] → 1 ≤ t

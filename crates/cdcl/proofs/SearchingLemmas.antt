@@ -1,13 +1,13 @@
 -- What a search keeps from step to step, and why it ends: with each step a conflict more is
 -- counted, or the trail is longer.
 use Rattle.std.proofs.Common.{◌≡◌, ◌∙◌, ℕ, ◌≤◌, false, Result, Ok, Err, IfOk, OnOk, if◌then◌else◌, List, Option, Some}
-use Rattle.theory.specs.Literals.{Clause, negations}
+use Rattle.theory.specs.Literals.{Literal, Clause, negations}
 use Rattle.theory.specs.Truth.{IsOver}
 use Rattle.theory.specs.Trails.{Trail, literals, current_level, up_to}
 use Rattle.theory.specs.Propagation.{Closed, IsRule, by_number, Propagates, least_false}
 use Rattle.theory.specs.Lawful.{IsLawful, cube_of}
 use Rattle.theory.specs.Learnable.{IsLearnable}
-use Rattle.theory.specs.Learning.{learn, back_level}
+use Rattle.theory.specs.Learning.{learn_removing, back_level}
 use Rattle.theory.specs.Ordered.{after}
 use Rattle.theory.proofs.trails.LawfulTrails.{IsLawful-Propagates, least_false-at}
 use Rattle.theory.proofs.searching.LearnableLines.{IsLearnable-learn}
@@ -42,18 +42,19 @@ IsSearching-Propagates order k l a h vars clauses first same_order memory closes
   trail_over = rw vars (IsOver-from_AreOver k.vars (literals l.trail) (AreOver-Propagates (rule_of order) (IsRule-of order) k.vars k.clauses k.trail l.trail a h.clauses_over closes (AreOver-from_IsOver k.vars (literals k.trail) h.trail_over)));
 }
 
--- the learnt clause is over the variables
-pub IsOver-learn : (V : ℕ) (K : List Clause) (T : Trail) (n : ℕ) → IsLawful K T → IsOver V (literals T) → least_false (literals T) K ≡ Some n → IsOver V (learn K T n).clause
-IsOver-learn V K T n lawful over h =
+-- the learnt clause is over the variables, whatever is removable
+pub IsOver-learn : (V : ℕ) (R : List Literal) (K : List Clause) (T : Trail) (n : ℕ) → IsLawful K T → IsOver V (literals T) → least_false (literals T) K ≡ Some n → IsOver V (learn_removing R K T n).clause
+IsOver-learn V R K T n lawful over h =
     let at = least_false-at (literals T) K n h in
-    IsOver-left V (learn K T n).clause (negations (cube_of T)) (IsOver-from_AreOver V _ (IsVariable-learn V K T n lawful (AreOver-from_IsOver V (literals T) over) at.2))
+    IsOver-left V (learn_removing R K T n).clause (negations (cube_of T)) (IsOver-from_AreOver V _ (IsVariable-learn V R K T n lawful (AreOver-from_IsOver V (literals T) over) at.2))
 
 -- the kernel after going back may learn the clause
-pub may_learn : (order : Order) (k l : State) (c : Clause) (level n : ℕ) → IsSearching order k → 1 ≤ current_level k.trail → least_false (literals k.trail) k.clauses ≡ Some n → c ≡ (learn k.clauses k.trail n).clause
-    → level ≡ back_level k.trail (learn k.clauses k.trail n).clause → l ≡ (if k.short then k else record k { trail = up_to k.trail level }) → IsOver l.vars c × IsLearnable l.trail c
-may_learn order k l c level n h above clash clause back went =
+pub may_learn : (order : Order) (R : List Literal) (k l : State) (c : Clause) (level n : ℕ) → IsSearching order k → 1 ≤ current_level k.trail → least_false (literals k.trail) k.clauses ≡ Some n
+    → c ≡ (learn_removing R k.clauses k.trail n).clause → level ≡ back_level k.trail (learn_removing R k.clauses k.trail n).clause
+    → l ≡ (if k.short then k else record k { trail = up_to k.trail level }) → IsOver l.vars c × IsLearnable l.trail c
+may_learn order R k l c level n h above clash clause back went =
     rw (rw (h.has_memory, back) at went, clause)
-    (IsOver-learn k.vars k.clauses k.trail n h.lawful h.trail_over clash, IsLearnable-learn k.clauses k.trail n h.lawful h.open_below above clash)
+    (IsOver-learn k.vars R k.clauses k.trail n h.lawful h.trail_over clash, IsLearnable-learn R k.clauses k.trail n h.lawful h.open_below above clash)
 
 -- a step from what propagation left
 pub IsSearchStep-from : {E : Type 0} (budget : ℕ) (old new middle : OrderedSearch) (a : Closed) (r : Result (Option LinesOutcome) E) → Propagates by_number old.kernel.clauses old.kernel.trail a middle.kernel.trail

@@ -5,6 +5,7 @@ use Rattle.std.proofs.lemmas.List.Elements.{All-nil, All-cons}
 use Rattle.theory.specs.Literals.{Clause, IsVariable, has_var}
 use Rattle.theory.specs.Truth.{IsOver}
 use Rattle.theory.specs.Plans.{Constants}
+use Rattle.theory.specs.Modes.{Mode}
 use Rattle.theory.specs.Trails.{Trail, Entry, literals, entry_of, level_at}
 use Rattle.theory.specs.Propagation.{clause_at}
 use Rattle.theory.specs.Scores.{Scores, is_seen, scores_after}
@@ -62,5 +63,5 @@ AreDistinct-once xs once i j less inside same =
     omega (arith, twice, most)
 
 -- the same variables gain
-pub scores_after-same : (c : Constants) (V : ℕ) (f g : ℕ → Bool) (s : Scores) → ((v : ℕ) → f v ≡ g v) → scores_after c V f s ≡ scores_after c V g s
-scores_after-same c V f g s h = ap (λ (seen : ℕ → Bool). scores_after c V seen s) (λ i v. h v i)
+pub scores_after-same : (c : Constants) (mode : Mode) (V : ℕ) (f g : ℕ → Bool) (s : Scores) → ((v : ℕ) → f v ≡ g v) → scores_after c mode V f s ≡ scores_after c mode V g s
+scores_after-same c mode V f g s h = ap (λ (seen : ℕ → Bool). scores_after c mode V seen s) (λ i v. h v i)

@@ -1,22 +1,31 @@
 -- The state of a focused search, as the definition of the search has it, and its steps.
-use Rattle.std.specs.Prelude.{◌≡◌, ◌≢◌, ℕ, ◌+◌, ◌*◌, ◌^◌, ◌<◌, ◌≤◌, ◌⊎◌, false, Option, Some, None, List, length, map, drop, All}
+use Rattle.std.specs.Prelude.{◌≡◌, ◌≢◌, ℕ, ◌+◌, ◌*◌, ◌^◌, ◌<◌, ◌≤◌, ◌⊎◌, ◌∷◌, ◌++◌, [], Bool, true, false, ◌||◌, Option, Some, None, List, length, map, drop, All, if◌then◌else◌}
 use Rattle.theory.specs.Literals.{Literal, Clause}
 use Rattle.theory.specs.Truth.{Formula, Assignment}
 use Rattle.theory.specs.Reading.{large, max_vars}
 use Rattle.theory.specs.Plans.{Constants}
 use Rattle.theory.specs.Trails.{literals, current_level, variables}
 use Rattle.theory.specs.Propagation.{Closed, least_false}
-use Rattle.theory.specs.Learning.{learn, back_level}
+use Rattle.theory.specs.Learning.{back_level}
+use Rattle.theory.specs.Lessons.{lesson_of}
+use Rattle.theory.specs.Modes.{is_restarting, pace_after}
+use Rattle.theory.specs.Restarts.{glues_after, restarts}
+use Rattle.theory.specs.Rephasing.{is_over, next_turn, rephased}
+use Rattle.theory.specs.Forgetting.{unused, forget}
 use Rattle.theory.specs.Search.{Outcome, exhausted, Next, ends, goes_on}
 use Rattle.theory.specs.Dividing.{LeadsTo}
 use Rattle.theory.specs.Focused as definition
-use Rattle.theory.specs.Focused.{FocusedState, IsFocusedStep, learnt_next, saved_after, splits_on}
+use Rattle.theory.specs.Focused.{FocusedState, IsFocusedStep, if_stable, learnt_next, saved_after, splits_on}
+use Rattle.heuristics.specs.Averages.{with_next}
+use Rattle.heuristics.specs.Rankings as rankings
+use Rattle.heuristics.specs.Rankings.{after_conflict, vars_of}
 use Rattle.kernel.specs.State.{State}
 use Rattle.kernel.specs.declared.order.Order.TheVariants.{ByPlace}
 use Rattle.cdcl.specs.declared.focused.FocusedSearch.{FocusedSearch}
 use Rattle.cdcl.specs.declared.focused.Stop.{Stop}
 use Rattle.cdcl.specs.declared.focused.Stop.TheVariants.{Ended, Spent}
-use Rattle.cdcl.specs.Forgetful.{IsPlain}
+use Rattle.cdcl.specs.Forgetful.{IsPlain, late_numbers}
+use Rattle.cdcl.specs.Removing.{HasRoomFor}
 use Rattle.cdcl.specs.Outcome.{LinesOutcome, outcome_of}
 use Rattle.cdcl.specs.Saving.{AgreeOutside, AreWaiting}
 use Rattle.cdcl.specs.Searching.{IsReady, IsSearching, GoesOn}
@@ -26,15 +35,22 @@ abbrev pub state_of : FocusedSearch → Assignment → FocusedState
 state_of s saved = record {
   clauses = s.kernel.clauses;
   trail = s.kernel.trail;
-  conflicts = s.conflicts;
-  decisions = s.decided;
   lines = s.lines;
-  glues = s.glues.items;
+  marks = s.marks.items;
+  conflicts = s.conflicts;
+  stable_conflicts = s.stable_conflicts;
+  decisions = s.decided;
   scores = s.decisions.scores.scores;
   saved = saved;
   averages = s.averages.glues;
-  schedule = s.schedule;
+  restarted = s.restarted;
+  pace = s.pace;
+  round = s.round;
 }
+
+-- the conflicts of stable mode, where the one that it stands at is counted too
+abbrev pub stable_at : FocusedSearch → ℕ
+stable_at s = s.stable_conflicts + (if is_restarting s.pace.mode then 0 else 1)
 
 -- the values that the definition has saved are those of the search, for each variable that is free:
 -- the search saves a value when its variable leaves the trail
@@ -46,36 +62,78 @@ pub record IsEquipped (s : FocusedSearch) : Type 0 where
   pub waiting : AreWaiting s.kernel.vars (literals s.kernel.trail) s.decisions
   pub seen : s.kernel.vars < s.analysis.seen.bound
   pub levels : s.kernel.vars < s.analysis.levels.bound
+  pub removing : HasRoomFor s.kernel.vars s.analysis.removing
   pub scored : s.decisions.scores.constants ≡ s.constants
   pub averaged : s.averages.constants ≡ s.constants
 
--- what it keeps from step to step: each score gains less than 2 ^ 40 at a conflict, each glue is at
--- most 2 ^ 27, and between two conflicts fewer than 2 ^ 27 literals are decided, each of which is on
--- the trail
+-- what it keeps from step to step: between two conflicts fewer than 2 ^ 27 literals are decided, each
+-- of which is on the trail
 pub record IsFocusing (s : FocusedSearch) : Type 0 where
   pub searching : IsSearching ByPlace s.kernel
   pub few : s.kernel.vars ≤ max_vars large
   pub equipped : IsEquipped s
-  pub scores : All (λ x. x ≤ s.conflicts * 2 ^ 40) s.decisions.scores.scores.scores
-  pub total : s.averages.glues.total ≤ s.conflicts * 2 ^ 27
+  -- of the conflicts, those of restarting mode gave a glue, and the others are counted
+  pub taken : s.averages.glues.count ≤ s.conflicts
+  pub stable : s.stable_conflicts ≤ s.conflicts
   pub decided : s.decided ≤ s.conflicts * 2 ^ 27 + length s.kernel.trail
-  -- behind the first clauses stand those of the lines, each with its glue
+  -- behind the first clauses stand those of the lines, each with its mark
   pub learnt : length s.kernel.clauses ≡ s.kernel.first + length s.lines
-  pub glues : length s.glues.items ≡ length s.lines
+  pub marks : length s.marks.items ≡ length s.lines
   pub plain : All (IsPlain s.kernel.vars) (drop s.kernel.first s.kernel.clauses)
 
 -- the clause and the level are those that the conflict with clause n teaches, above level 0
 pub record IsTaught (k : State) (n : ℕ) (clause : Clause) (level : ℕ) : Type 0 where
   pub conflict : least_false (literals k.trail) k.clauses ≡ Some n
   pub above : 1 ≤ current_level k.trail
-  pub learnt : clause ≡ (learn k.clauses k.trail n).clause
-  pub back : level ≡ back_level k.trail (learn k.clauses k.trail n).clause
+  pub learnt : clause ≡ (lesson_of k.clauses k.trail n).line.clause
+  pub back : level ≡ back_level k.trail (lesson_of k.clauses k.trail n).line.clause
 
--- of the clauses behind the first ones, all but the last have glues, of which there are so many
-pub record CanForget (k : State) (glues : ℕ) : Type 0 where
+-- the conflict's glue and the variables that it has seen may be taken
+pub record CanWeigh (s : FocusedSearch) (glue : ℕ) : Type 0 where
+  pub glue_within : glue ≤ 2 ^ 27
+  pub taken : s.averages.glues.count < 2 ^ 30
+  pub counted : s.conflicts + 1 < 2 ^ 32
+  pub stable : s.stable_conflicts ≤ s.conflicts
+  pub seen : All (λ v. (1 ≤ v) × (v ≤ vars_of s.decisions.scores)) s.analysis.seen.numbers
+
+-- the conflict was counted, its glue and the variables that it has seen were taken; and whether the
+-- search goes back to level 0
+pub record Weighs (old : FocusedSearch) (glue : ℕ) (back : Bool) (new : FocusedSearch) : Type 0 where
+  pub scores : new.decisions.scores ≡ after_conflict old.decisions.scores old.pace.mode old.analysis.seen.numbers
+  pub kept : rankings.IsKept old.decisions.scores new.decisions.scores
+  pub saved : new.decisions.saved ≡ old.decisions.saved
+  pub conflicts : new.conflicts ≡ old.conflicts + 1
+  pub stable : new.stable_conflicts ≡ stable_at old
+  pub averages : new.averages ≡ with_next old.averages old.pace.mode glue
+  pub goes_back : back ≡ (is_over old.round (old.conflicts + 1)
+      || restarts old.averages.constants old.pace.mode old.restarted (old.conflicts + 1) (glues_after old.averages.constants old.pace.mode glue old.averages.glues))
+  pub restarted : new.restarted ≡ (if back then old.conflicts + 1 else old.restarted)
+  -- all else stays
+  pub same : new ≡ record old {
+    decisions = new.decisions;
+    conflicts = new.conflicts;
+    stable_conflicts = new.stable_conflicts;
+    averages = new.averages;
+    restarted = new.restarted;
+  }
+
+-- a round ended, in which of the clauses but the last some were forgotten
+pub record EndsRound (old new : FocusedSearch) : Type 0 where
+  pub kernel : (K : List Clause) (clause : Clause) → old.kernel.clauses ≡ K ++ clause ∷ []
+      → new.kernel ≡ record old.kernel { clauses = forget (late_numbers old.constants old.kernel.trail old.marks.items K) 1 K ++ clause ∷ [] }
+  pub marks : new.marks.items ≡ unused old.marks.items
+  pub scores : new.decisions.scores ≡ old.decisions.scores
+  pub saved : new.decisions.saved ≡ rephased old.round.number old.decisions.saved
+  pub round : new.round ≡ next_turn old.constants old.conflicts old.round
+  pub pace : new.pace ≡ pace_after old.conflicts old.pace
+  -- all else stays
+  pub same : new ≡ record old { kernel = new.kernel; marks = new.marks; decisions = new.decisions; round = new.round; pace = new.pace }
+
+-- of the clauses behind the first ones, all but the last have marks, of which there are so many
+pub record CanForget (k : State) (marks : ℕ) : Type 0 where
   pub has_memory : k.short ≡ false
   pub few : k.vars < 2 ^ 31
-  pub learnt : length k.clauses ≡ k.first + glues + 1
+  pub learnt : length k.clauses ≡ k.first + marks + 1
   pub none_false : least_false (literals k.trail) k.clauses ≡ None
   pub plain : All (IsPlain k.vars) (drop k.first k.clauses)
 
@@ -89,12 +147,18 @@ pub record Continues (old new : FocusedSearch) : Type 0 where
 abbrev pub IsKept : FocusedSearch → FocusedSearch → Type 0
 IsKept old new = ((F : Formula) → IsReady ByPlace F old.kernel → IsReady ByPlace F new.kernel) × IsEquipped new × (new.constants ≡ old.constants)
 
+-- the values that the definition has saved after a conflict, which a round's end changes
+abbrev pub values_after : FocusedSearch → Assignment → Assignment
+values_after s saved =
+    let M = saved_after s.kernel.vars s.kernel.trail saved in
+    if is_over s.round (s.conflicts + 1) then rephased s.round.number M else M
+
 -- the conflict with the clause of number n is learnt from, where the definition has these saved
 -- values
 pub record Learns (old : FocusedSearch) (saved : Assignment) (n : ℕ) (new : FocusedSearch) : Type 0 where
-  pub next : state_of new (saved_after old.kernel.vars old.kernel.trail saved)
-      ≡ learnt_next old.constants old.kernel.vars (state_of old saved) (learn old.kernel.clauses old.kernel.trail n)
-  pub saves : HasSaved new (saved_after old.kernel.vars old.kernel.trail saved)
+  pub next : state_of new (values_after old saved)
+      ≡ learnt_next old.constants old.kernel.vars (state_of old saved) (lesson_of old.kernel.clauses old.kernel.trail n)
+  pub saves : HasSaved new (values_after old saved)
   pub focusing : IsFocusing new
 
 -- what follows where a step stopped the search, or left the state with these saved values
@@ -125,6 +189,7 @@ pub record StopsAt (last : ℕ) (old : FocusedSearch) (saved : Assignment) (new 
   pub spent : IsSpent last new
   pub saves : HasSaved new values
   pub decided : new.decided ≡ old.decided
+  pub stable : stable_at new ≡ stable_at old
   pub resumes : StepsAs old.constants old.kernel.vars (state_of old saved) (state_of new values)
 
 -- an outcome that a search comes to by itself
@@ -164,6 +229,7 @@ pub record Reaches (c : Constants) (V last : ℕ) (s : FocusedState) (new : Focu
   pub ends_there : IsFocusedStep c V last final (ends (exhausted (splits_on V (state_of new values))))
   pub saves : HasSaved new values
   pub decided : final.decisions ≡ new.decided
+  pub stable : final.stable_conflicts + if_stable final ≡ stable_at new
   pub resumes : StepsAs c V final (state_of new values)
 
 -- it stops so
@@ -177,5 +243,5 @@ pub record Begins (F : Formula) (c : Constants) (Q : List Literal) (s : FocusedS
   pub focusing : IsFocusing s
   pub constants : s.constants ≡ c
   pub counted : s.conflicts ≡ 0
-  pub saves : HasSaved s (map (λ v. false) (variables F.vars))
-  pub begun : state_of s (map (λ v. false) (variables F.vars)) ≡ definition.begin c F Q
+  pub saves : HasSaved s (map (λ v. true) (variables F.vars))
+  pub begun : state_of s (map (λ v. true) (variables F.vars)) ≡ definition.begin c F Q

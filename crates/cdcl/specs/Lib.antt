@@ -10,3 +10,4 @@ pub mod Forgetful
 pub mod Focusing
 pub mod Solving
 pub mod Marks
+pub mod Removing

@@ -1,5 +1,5 @@
 -- Sets of numbers below a bound.
-use Rattle.std.specs.Prelude.{◌≡◌, ℕ, ◌≤◌, ◌||◌, Bool, true, false, nat_eq, List, count_by, slice_index_or, if◌then◌else◌}
+use Rattle.std.specs.Prelude.{◌≡◌, ℕ, ◌<◌, ◌≤◌, ◌||◌, Bool, true, false, nat_eq, List, length, count_by, slice_index_or, if◌then◌else◌}
 use Rattle.std.specs.List.{list_any}
 
 -- a set of numbers below the bound, in the order in which they were put in
@@ -18,6 +18,10 @@ is_one_of numbers n = list_any (nat_eq n) numbers
 -- each number whose flag is set is one of these
 abbrev pub AreAmong : List ℕ → List Bool → Type 0
 AreAmong numbers flags = (n : ℕ) → slice_index_or flags n false ≡ true → is_one_of numbers n ≡ true
+
+-- each place where a flag isn't set is one of these
+abbrev pub AreSetBut : List ℕ → List Bool → Type 0
+AreSetBut places flags = (n : ℕ) → n < length flags → slice_index_or flags n false ≡ false → is_one_of places n ≡ true
 
 -- the same numbers, and this one
 abbrev pub AreWith : ℕ → List ℕ → List ℕ → Type 0

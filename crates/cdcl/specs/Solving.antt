@@ -1,5 +1,5 @@
 -- Solving cubes of a formula by a plan.
-use Rattle.std.specs.Prelude.{◌≡◌, ℕ, ◌*◌, ◌/◌, ◌≤◌, Bool, [], min}
+use Rattle.std.specs.Prelude.{◌≡◌, ℕ, ◌*◌, ◌<◌, ◌≤◌, Bool, [], min}
 use Rattle.theory.specs.Truth.{Formula}
 use Rattle.theory.specs.Plans.{Constants, ordered, focused, Plan}
 use Rattle.theory.specs.Search.{exhausted, first_clauses, max_budget}
@@ -20,7 +20,7 @@ use Rattle.cdcl.specs.declared.searcher.Searcher.{Searcher}
 use Rattle.cdcl.specs.declared.searcher.Searcher.TheVariants.{Ordered, Focused}
 use Rattle.cdcl.specs.Searching.{IsReady}
 use Rattle.cdcl.specs.Outcome.{outcome_of}
-use Rattle.cdcl.specs.Focusing.{IsEquipped, RunsTo, IsOwn, Reaches}
+use Rattle.cdcl.specs.Focusing.{IsEquipped, RunsTo, IsOwn, Reaches, stable_at}
 
 -- what a solver is seen as: which formula it solves cubes of, by which plan, and whether it has met
 -- want of memory
@@ -52,11 +52,11 @@ IsRootOf F plan (Searched x) = ¬ (IsDivisible F plan) × Runs F plan [] (exhaus
 IsRootOf F plan (LookedAt x) = IsDivisible F plan × Runs F plan [] (exhausted x)
 
 -- the first search has come to this, up to its conflict number t: an outcome, or the conflict, with
--- at most three decisions for two conflicts or with more
+-- fewer than five decisions for four conflicts of stable mode, or with more
 abbrev pub FirstSays : Constants → Formula → ℕ → First → FocusedSearch → Type 0
 FirstSays c F t (Ended o) s = RunsTo c F.vars t (begin c F []) (outcome_of o) s.decided × IsOwn o
-FirstSays c F t FewDecisions s = Reaches c F.vars t (begin c F []) s × (s.decided ≤ 3 * t / 2)
-FirstSays c F t ManyDecisions s = Reaches c F.vars t (begin c F []) s × ¬ (s.decided ≤ 3 * t / 2)
+FirstSays c F t FewDecisions s = Reaches c F.vars t (begin c F []) s × (4 * s.decided < 5 * stable_at s)
+FirstSays c F t ManyDecisions s = Reaches c F.vars t (begin c F []) s × ¬ (4 * s.decided < 5 * stable_at s)
 
 -- the search goes by the plan, and may go over to a cube of the formula
 pub record IsDividing (plan : Plan) (F : Formula) (s : DividingSearch) : Type 0 where

@@ -37,12 +37,16 @@ impl Learnt {
 }
 
 /// Puts the literals of a conflict into the empty set.
-fn put_conflict(kernel: &SearchKernel, marks: &mut Marks, conflict: u64) -> Result<(), AllocError>
+pub(crate) fn put_conflict(
+    kernel: &SearchKernel,
+    marks: &mut Marks,
+    conflict: u64,
+) -> Result<(), AllocError>
     requires conflict { least_false (literals kernel.now.trail) kernel.now.clauses ≡ Some conflict }
     requires few { kernel.now.vars < 2 ^ 32 }
     requires long { kernel.now.vars < length marks.old.marked.items }
     requires clear { IsClear marks.old }
-    ensures set { OnOk result (IsSet kernel.now (with_literals (clause_at kernel.now.clauses conflict) []) (length kernel.now.trail) marks.new) }
+    ensures set { OnOk result (IsSet kernel.now [] (with_literals (clause_at kernel.now.clauses conflict) []) (length kernel.now.trail) marks.new) }
     ensures met { OnOk result (HaveMet kernel.now.clauses (conflict ∷ []) marks.new) }
 {
     let _trail = kernel.trail(); // it ensures what the proof needs of the trail
@@ -53,7 +57,7 @@ fn put_conflict(kernel: &SearchKernel, marks: &mut Marks, conflict: u64) -> Resu
 
 /// Looks at the entry whose place came last: where the set is resolved on it, resolves with its
 /// reason, and puts that behind the hints.
-fn look_at(
+pub(crate) fn look_at(
     kernel: &SearchKernel,
     marks: &mut Marks,
     hints: &mut Vec<u64>,
@@ -62,8 +66,8 @@ fn look_at(
 ) -> Result<(), AllocError>
     requires level { level ≡ current_level kernel.now.trail }
     requires marks { CanLookAt kernel.now entry marks.old }
-    ensures set { OnOk result ((S : Clause) → (bound : ℕ) → slice_get kernel.now.trail bound ≡ Some entry → is_open kernel.now.trail S (Some entry) ≡ true
-        → IsSet kernel.now S bound marks.old → Resolves kernel.now entry S bound hints.old.items marks.new hints.new.items) }
+    ensures set { OnOk result ((S : Clause) → (bound : ℕ) → slice_get kernel.now.trail bound ≡ Some entry → is_open kernel.now.trail [] S (Some entry) ≡ true
+        → IsSet kernel.now [] S bound marks.old → Resolves kernel.now [] entry S bound hints.old.items marks.new hints.new.items) }
     ensures met { OnOk result (HaveMet kernel.now.clauses hints.old.items marks.old → HaveMet kernel.now.clauses hints.new.items marks.new) }
 {
     if let Some(number) = reason_used(marks, entry) {
@@ -81,14 +85,14 @@ fn walk(
     conflict: u64,
 ) -> Result<(), AllocError>
     requires few { kernel.now.vars < 2 ^ 32 }
-    requires set { IsSet kernel.now (with_literals (clause_at kernel.now.clauses conflict) []) (length kernel.now.trail) marks.old }
+    requires set { IsSet kernel.now [] (with_literals (clause_at kernel.now.clauses conflict) []) (length kernel.now.trail) marks.old }
     requires hints { hints.old.items ≡ conflict ∷ [] }
-    ensures set { OnOk result (IsSet kernel.now
-        (walk kernel.now.clauses kernel.now.trail kernel.now.trail (with_literals (clause_at kernel.now.clauses conflict) []) (conflict ∷ [])).0
+    ensures set { OnOk result (IsSet kernel.now []
+        (walk kernel.now.clauses kernel.now.trail [] kernel.now.trail (with_literals (clause_at kernel.now.clauses conflict) []) (conflict ∷ [])).0
         0 marks.new) }
     ensures done { OnOk result (marks.new.pending ≡ []) }
     ensures hints { OnOk result (reverse hints.new.items
-        ≡ (walk kernel.now.clauses kernel.now.trail kernel.now.trail (with_literals (clause_at kernel.now.clauses conflict) []) (conflict ∷ [])).1) }
+        ≡ (walk kernel.now.clauses kernel.now.trail [] kernel.now.trail (with_literals (clause_at kernel.now.clauses conflict) []) (conflict ∷ [])).1) }
     ensures met { OnOk result (HaveMet kernel.now.clauses hints.old.items marks.old → HaveMet kernel.now.clauses hints.new.items marks.new) }
 {
     let trail = kernel.trail();
@@ -139,9 +143,9 @@ fn take_clause(
     requires long { kernel.now.vars < length marks.old.marked.items }
     requires seen { All (λ v. v ≤ kernel.now.vars) marks.old.seen.items }
     requires done { marks.old.pending ≡ [] }
-    ensures clause { OnOk result ((S : Clause) → (bound : ℕ) → IsSet kernel.now S bound marks.old
+    ensures clause { OnOk result ((S : Clause) → (bound : ℕ) → IsSet kernel.now [] S bound marks.old
         → clause.new.items ≡ filter (λ l. not (is_of_cube kernel.now.trail l)) S) }
-    ensures clear { OnOk result ((S : Clause) → (bound : ℕ) → IsSet kernel.now S bound marks.old → IsClear marks.new) }
+    ensures clear { OnOk result ((S : Clause) → (bound : ℕ) → IsSet kernel.now [] S bound marks.old → IsClear marks.new) }
 {
     let _trail = kernel.trail(); // it ensures what the proof needs of the trail
     keep_marked(&mut marks.seen, &marks.marked);
@@ -171,8 +175,8 @@ pub(crate) fn resolve_conflict(
     requires few { kernel.now.vars < 2 ^ 32 }
     requires long { kernel.now.vars < length marks.old.marked.items }
     requires clear { IsClear marks.old }
-    ensures set { OnOk result (IsSet kernel.now
-        (walk kernel.now.clauses kernel.now.trail kernel.now.trail (with_literals (clause_at kernel.now.clauses conflict) []) (conflict ∷ [])).0 0 marks.new) }
+    ensures set { OnOk result (IsSet kernel.now []
+        (walk kernel.now.clauses kernel.now.trail [] kernel.now.trail (with_literals (clause_at kernel.now.clauses conflict) []) (conflict ∷ [])).0 0 marks.new) }
     ensures done { OnOk result (marks.new.pending ≡ []) }
     ensures hints { OnOk result (hints.new.items ≡ (learn kernel.now.clauses kernel.now.trail conflict).hints) }
     ensures met { OnOk result (HaveMet kernel.now.clauses hints.new.items marks.new) }
@@ -191,9 +195,9 @@ pub(crate) fn take_up(
     marks: &mut Marks,
     learnt: &mut Learnt,
 ) -> Result<(), AllocError>
-    requires set { (S : Clause) × (bound : ℕ) × IsSet kernel.now S bound marks.old }
+    requires set { (S : Clause) × (bound : ℕ) × IsSet kernel.now [] S bound marks.old }
     requires done { marks.old.pending ≡ [] }
-    ensures clause { OnOk result ((S : Clause) → (bound : ℕ) → IsSet kernel.now S bound marks.old
+    ensures clause { OnOk result ((S : Clause) → (bound : ℕ) → IsSet kernel.now [] S bound marks.old
         → learnt.new.clause.items ≡ filter (λ l. not (is_of_cube kernel.now.trail l)) S) }
     ensures level { OnOk result (learnt.new.level ≡ back_level kernel.now.trail learnt.new.clause.items) }
     ensures hints { learnt.new.hints.items ≡ learnt.old.hints.items }

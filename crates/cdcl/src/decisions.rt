@@ -5,12 +5,13 @@ ghost use Rattle.theory.specs.Truth.{value};
 ghost use Rattle.theory.specs.Trails.{literals, up_to};
 ghost use Rattle.theory.specs.Scores.{best_outside, first_scores};
 ghost use Rattle.theory.specs.Focused.{saved_after, saved_literal};
+ghost use Rattle.heuristics.specs.Changes.{changed};
 ghost use Rattle.heuristics.specs.Rankings.{first_ranking, vars_of, with_waiting};
 ghost use Rattle.cdcl.specs.Saving.{AgreeOutside, AreWaiting, AreKept};
 
 use crate::saved::Saved;
 use cnf::Lit;
-use heuristics::{Constants, Scores};
+use heuristics::{Change, Constants, Scores};
 use kernel::{Entry, SearchKernel};
 use std::alloc::{AllocError, Global};
 
@@ -124,12 +125,20 @@ impl Decisions {
         Ok(())
     }
 
+    /// Changes all saved values.
+    pub(crate) fn rephase(&mut self, change: Change)
+        ensures scores { self.new.scores ≡ self.old.scores }
+        ensures saved { self.new.saved ≡ changed change self.old.saved }
+    {
+        self.saved.change(change);
+    }
+
     /// As it was before the first cube, where each variable waits. It takes time by what the last
     /// cube changed.
     pub(crate) fn begin_again(&mut self)
         ensures scores { self.new.scores ≡ record self.old.scores { scores = first_scores self.old.scores.constants (vars_of self.old.scores) } }
         ensures long { length self.new.saved ≡ length self.old.saved }
-        ensures none { (v : ℕ) → value self.new.saved v ≡ false }
+        ensures all { (v : ℕ) → IsVariable (length self.old.saved) v → value self.new.saved v ≡ true }
     {
         self.scores.begin_again();
         self.saved.clear();

@@ -13,12 +13,12 @@ ghost use Rattle.lookahead.specs.declared.ranking.Ranked.{Ranked};
 ghost use Rattle.lookahead.specs.Rankings.{IsRanking};
 ghost use Rattle.cdcl.specs.declared.dividing.Division.TheVariants.{Whole, Divided};
 ghost use Rattle.cdcl.specs.declared.dividing.First.TheVariants.{FewDecisions, ManyDecisions};
-ghost use Rattle.cdcl.specs.Focusing.{IsEquipped, IsKept, IsSpent, Begins};
+ghost use Rattle.cdcl.specs.Focusing.{IsEquipped, IsKept, IsSpent, Begins, stable_at};
 ghost use Rattle.cdcl.specs.Solving.{IsKnown, IsDivisionOf, IsRootOf, FirstSays, IsDividing};
 
 use crate::counts::Watcher;
 use crate::first_search::{FirstAnswer, FirstSearch};
-use crate::focused::{FocusedSearch, Stop};
+use crate::focused::{FocusedSearch, Stop, if_stable};
 use crate::outcome::Outcome;
 use crate::plan::Plan;
 use crate::root::Root;
@@ -47,7 +47,7 @@ pub(crate) enum Division {
 pub(crate) enum First {
     /// An outcome before it.
     Ended(Outcome<Row>),
-    /// The conflict, with so few decisions that the formula is divided.
+    /// The conflict, with so few decisions in stable mode that the formula is divided.
     FewDecisions,
     /// The conflict, with more decisions.
     ManyDecisions,
@@ -86,12 +86,13 @@ fn is_upper(literals: usize, divide: u32) -> bool
     literals < 17 && 2_u32.pow(literals as u32) < divide
 }
 
-/// Whether so many decisions are at most three for two conflicts.
+/// Whether so many decisions are fewer than five for four conflicts.
 fn are_few(decided: u64, conflicts: u32) -> bool
-    ensures few { result ≡ true → decided ≤ 3 * conflicts / 2 }
-    ensures many { result ≡ false → ¬ (decided ≤ 3 * conflicts / 2) }
+    requires { decided < 2 ^ 60 }
+    ensures few { result ≡ true → 4 * decided < 5 * conflicts }
+    ensures many { result ≡ false → ¬ (4 * decided < 5 * conflicts) }
 {
-    decided <= 3 * u64::from(conflicts) / 2
+    4 * decided < 5 * u64::from(conflicts)
 }
 
 impl FocusedSearch {
@@ -121,13 +122,23 @@ impl FocusedSearch {
         match self.run_to(conflicts, watcher)? {
             Stop::Ended(outcome) => Ok(First::Ended(outcome)),
             Stop::Spent => {
-                if are_few(self.decided, conflicts) {
+                if self.has_few_decisions() {
                     Ok(First::FewDecisions)
                 } else {
                     Ok(First::ManyDecisions)
                 }
             }
         }
+    }
+
+    /// Whether it decided few literals in stable mode, where it stands at a conflict.
+    fn has_few_decisions(&self) -> bool
+        requires { (self.now.decided < 2 ^ 60) × (self.now.stable_conflicts < 2 ^ 31) }
+        ensures few { result ≡ true → 4 * self.now.decided < 5 * stable_at self.now }
+        ensures many { result ≡ false → ¬ (4 * self.now.decided < 5 * stable_at self.now) }
+    {
+        let stable = self.stable_conflicts + if_stable(self.pace.mode());
+        are_few(self.decided, stable)
     }
 
     /// Whether the formula is divided, by what the first search has come to.
@@ -193,14 +204,18 @@ impl DividingSearch {
     /// What a watcher is told of the first search, which has come to this, where so many conflicts
     /// were met before it.
     fn figures_of_first(&self, first: &First, before: u64) -> FirstSearch {
-        let answer = match first {
-            First::Ended(_) => FirstAnswer::Ended,
-            First::FewDecisions => FirstAnswer::Divided(self.divide),
-            First::ManyDecisions => FirstAnswer::Whole,
+        let search = &self.search;
+        // the conflict at which it is asked isn't counted yet
+        let (answer, last) = match first {
+            First::Ended(_) => (FirstAnswer::Ended, 0),
+            First::FewDecisions => (FirstAnswer::Divided(self.divide), 1),
+            First::ManyDecisions => (FirstAnswer::Whole, 1),
         };
+        let stable = last * if_stable(search.pace.mode());
         FirstSearch {
-            decisions: self.search.decided,
-            conflicts: self.search.counts().conflicts.saturating_sub(before),
+            decisions: search.decided,
+            conflicts: search.counts().conflicts.saturating_sub(before),
+            stable_conflicts: u64::from(search.stable_conflicts.saturating_add(stable)),
             answer,
         }
     }

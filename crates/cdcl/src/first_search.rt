@@ -14,10 +14,12 @@ pub enum FirstAnswer {
 /// What the first search had done when it was asked or ended, and what it answers.
 #[derive(Clone, Copy, Debug, PartialEq, Eq)]
 pub struct FirstSearch {
-    /// Literals that were decided, also those that were taken back.
+    /// Literals that were decided in stable mode, also those that were taken back.
     pub decisions: u64,
     /// Conflicts that were met. Where the search was asked, that was at the last of them.
     pub conflicts: u64,
+    /// Those of stable mode among them: the search is asked by these and by its decisions.
+    pub stable_conflicts: u64,
     /// Whether the formula is divided, if the search was asked.
     pub answer: FirstAnswer,
 }

@@ -1,33 +1,29 @@
 //! The focused search in one cube, up to a budget of conflicts.
-ghost use Rattle.std.specs.Prelude.{◌≡◌, ◌≤◌, ◌<◌, ◌+◌, ◌++◌, ◌∷◌, [], ℕ, List, false, Some, None, IfOk, OnOk, length, if◌then◌else◌};
-ghost use Rattle.theory.specs.Literals.{Clause};
+ghost use Rattle.std.specs.Prelude.{◌≡◌, ◌≤◌, ◌<◌, ◌+◌, ◌++◌, ◌∷◌, [], ℕ, false, Some, None, IfOk, OnOk, if◌then◌else◌};
 ghost use Rattle.theory.specs.Truth.{Formula, Assignment, IsOver};
-ghost use Rattle.theory.specs.Plans as plans;
-ghost use Rattle.theory.specs.Trails.{literals, current_level, up_to};
+ghost use Rattle.theory.specs.Modes.{is_restarting};
+ghost use Rattle.theory.specs.Trails.{literals, current_level};
 ghost use Rattle.theory.specs.Propagation.{by_place, Propagates, quiet, conflict, least_false};
 ghost use Rattle.theory.specs.Search.{refuted, max_budget};
 ghost use Rattle.theory.specs.Learning.{learn};
-ghost use Rattle.theory.specs.Scores.{best_outside};
-ghost use Rattle.theory.specs.Forgetting.{is_due, rescheduled, forget_half};
-ghost use Rattle.theory.specs.Focused.{splits_on, saved_after};
+ghost use Rattle.theory.specs.Focused.{splits_on};
+ghost use Rattle.heuristics.specs.Modes.{mode_of};
 ghost use Rattle.kernel.specs.declared.order.Order.TheVariants.{ByPlace};
 ghost use Rattle.cdcl.specs.Outcome.{outcome_of};
-ghost use Rattle.cdcl.specs.Searching.{IsReady, IsSearching, GoesOn};
-ghost use Rattle.cdcl.specs.Saving.{AgreeOutside, AreWaiting, AreKept};
+ghost use Rattle.cdcl.specs.Searching.{IsReady};
 ghost use Rattle.cdcl.specs.declared.focused.Stop.TheVariants.{Spent};
-ghost use Rattle.cdcl.specs.Focusing.{state_of, RunsTo, Stops, IsSpent, HasSaved, IsEquipped, IsFocusing, IsTaught, CanForget, Learns, Follows, IsFocusedSearchStep, Begins, Continues};
+ghost use Rattle.cdcl.specs.Focusing.{state_of, RunsTo, Stops, IsSpent, HasSaved, IsEquipped, IsFocusing, Follows, IsFocusedSearchStep, Begins, Continues};
 
-use crate::analysis::Learnt;
 use crate::counts::{Counts, Watcher, tell};
 use crate::decisions::{Decisions, count_up_to};
-use crate::forgetting::candidates;
 use crate::lesson::Analysis;
+use crate::line_marks::Mark;
 use crate::opening::open_kernel;
 use crate::outcome::Outcome;
 use crate::tally::Tally;
 use crate::values::{refute, values};
 use cnf::Formula;
-use heuristics::{Constants, Glues, Schedule, last_half};
+use heuristics::{Constants, Glues, Mode, Pace, Turn};
 use kernel::{Closed, Cube, Order, SearchKernel};
 use lines::Row;
 use std::alloc::{AllocError, Global};
@@ -38,18 +34,24 @@ pub(crate) struct FocusedSearch {
     pub(crate) kernel: SearchKernel,
     /// How many conflicts above level 0 were counted.
     pub(crate) conflicts: u32,
-    /// How many literals were decided, also those that were taken back.
+    /// How many of these were counted in stable mode.
+    pub(crate) stable_conflicts: u32,
+    /// How many literals were decided in stable mode, also those that were taken back.
     pub(crate) decided: u64,
     /// The lines learnt, also those of clauses that were forgotten.
     pub(crate) lines: Row,
-    /// The glues of these lines.
-    pub(crate) glues: Vec<u32>,
+    /// The marks of these lines.
+    pub(crate) marks: Vec<Mark>,
     /// By what variables are decided.
     pub(crate) decisions: Decisions,
     /// By what the search restarts.
     pub(crate) averages: Glues,
-    /// When it forgets.
-    pub(crate) schedule: Schedule,
+    /// The last conflict at which it restarted, or a round ended.
+    pub(crate) restarted: u32,
+    /// Its mode.
+    pub(crate) pace: Pace,
+    /// Its round.
+    pub(crate) round: Turn,
     /// Room for the analysis of conflicts.
     pub(crate) analysis: Analysis,
     /// What the kernel doesn't count.
@@ -63,12 +65,15 @@ impl Drop for FocusedSearch {
             constants: _,
             kernel: _,
             conflicts: _,
+            stable_conflicts: _,
             decided: _,
             lines: _,
-            glues: _,
+            marks: _,
             decisions: _,
             averages: _,
-            schedule: _,
+            restarted: _,
+            pace: _,
+            round: _,
             analysis: _,
             tally: _,
         } = self;
@@ -84,74 +89,11 @@ pub(crate) enum Stop {
     Spent,
 }
 
-/// The level to go back to.
-fn level_back(level: u32, restarts: bool) -> u32
-    ensures { result ≡ (if restarts then 0 else level) }
+/// 1 in stable mode.
+pub(crate) fn if_stable(mode: Mode) -> u32
+    ensures { result ≡ (if is_restarting (mode_of mode) then 0 else 1) }
 {
-    if restarts { 0 } else { level }
-}
-
-/// Goes back to a level, unless it is the current one.
-fn back_to(kernel: &mut SearchKernel, level: u32)
-    requires memory { kernel.old.short ≡ false }
-    requires level { level ≤ current_level kernel.old.trail }
-    ensures { kernel.new ≡ record kernel.old { trail = up_to kernel.old.trail level } }
-{
-    let _trail = kernel.trail(); // it ensures what the proof needs of the trail
-    if level < kernel.level() {
-        kernel.back_to(level);
-    }
-}
-
-/// Goes back to a line's level, where its clause gets the next number, and from there to level 0,
-/// if the search restarts.
-fn go_back(
-    kernel: &mut SearchKernel,
-    decisions: &mut Decisions,
-    learnt: &Learnt,
-    restarts: bool,
-) -> Result<u64, AllocError>
-    requires searching { IsSearching ByPlace kernel.old }
-    requires waiting { AreWaiting kernel.old.vars (literals kernel.old.trail) decisions.old }
-    requires taught { (n : ℕ) × IsTaught kernel.old n learnt.now.clause.items learnt.now.level }
-    ensures number { IfOk result (λ n. n ≡ length kernel.old.clauses + 1) }
-    ensures kernel { OnOk result (kernel.new ≡ record kernel.old {
-      clauses = kernel.old.clauses ++ learnt.now.clause.items ∷ [];
-      trail = up_to kernel.old.trail (if restarts then 0 else learnt.now.level);
-    }) }
-    ensures waiting { OnOk result (AreWaiting kernel.old.vars (literals (up_to kernel.old.trail (if restarts then 0 else learnt.now.level))) decisions.new) }
-    ensures saved { OnOk result (AgreeOutside kernel.old.vars (literals (up_to kernel.old.trail (if restarts then 0 else learnt.now.level)))
-        decisions.new.saved (saved_after kernel.old.vars kernel.old.trail decisions.old.saved)) }
-    ensures kept { OnOk result (AreKept decisions.old decisions.new) }
-{
-    let level = level_back(learnt.level, restarts);
-    let kept = count_up_to(kernel, level);
-    decisions.release(kernel, kept)?;
-    kernel.back_to(learnt.level);
-    let number = kernel.learn(&learnt.clause)?;
-    back_to(kernel, level);
-    Ok(number)
-}
-
-/// Forgets half of the clauses that may be, of those that were learnt before the last one, which
-/// has this number. They have these glues.
-fn forget(
-    kernel: &mut SearchKernel,
-    number: u64,
-    glues: &Vec<u32>,
-    kept_glue: u32,
-) -> Result<(), AllocError>
-    requires last { number ≡ length kernel.old.clauses }
-    requires learnt { CanForget kernel.old (length glues.now.items) }
-    ensures { OnOk result ((c : plans.Constants) (K : List Clause) (clause : Clause) → c.kept_glue ≡ kept_glue → kernel.old.clauses ≡ K ++ clause ∷ [] →
-        kernel.new ≡ record kernel.old { clauses = forget_half c kernel.old.trail glues.now.items K ++ clause ∷ [] }) }
-{
-    let alloc = *glues.allocator();
-    let from = number - glues.len() as u64;
-    let mut candidates = candidates(alloc, kernel, from, glues, kept_glue)?;
-    let numbers = last_half(alloc, &mut candidates)?;
-    kernel.forget(&numbers)?;
-    Ok(())
+    if mode.is_restarting() { 0 } else { 1 }
 }
 
 impl FocusedSearch {
@@ -174,12 +116,15 @@ impl FocusedSearch {
             constants,
             kernel,
             conflicts: 0,
+            stable_conflicts: 0,
             decided: 0,
             lines: Row::new(alloc),
-            glues: Vec::new(alloc),
+            marks: Vec::new(alloc),
             decisions,
             averages,
-            schedule: Schedule::first(constants),
+            restarted: 0,
+            pace: Pace::first(constants),
+            round: Turn::first(constants),
             analysis,
             tally: Tally::none(),
         })
@@ -196,11 +141,14 @@ impl FocusedSearch {
         self.decisions.begin_again();
         self.kernel.restart(cube)?;
         self.conflicts = 0;
+        self.stable_conflicts = 0;
         self.decided = 0;
         self.lines.clear();
-        self.glues.clear();
+        self.marks.clear();
         self.averages.begin_again();
-        self.schedule = Schedule::first(self.constants);
+        self.restarted = 0;
+        self.pace = Pace::first(self.constants);
+        self.round = Turn::first(self.constants);
         Ok(())
     }
 
@@ -276,7 +224,7 @@ impl FocusedSearch {
             }
             Some(var) => {
                 self.kernel.decide(self.decisions.literal(var));
-                self.decided += 1;
+                self.decided += u64::from(if_stable(self.pace.mode()));
                 let _trail = self.kernel.trail(); // it ensures what the proof needs of the trail
                 Ok(None)
             }
@@ -333,59 +281,5 @@ impl FocusedSearch {
         self.decisions.release(&self.kernel, kept)?;
         self.kernel.back_to(0);
         Ok(self.decisions.best_free(&self.kernel).unwrap_or(0))
-    }
-
-    /// A conflict that is learnt from.
-    fn learn_from(&mut self, number: u64) -> Result<(), AllocError>
-        requires focusing { IsFocusing self.old }
-        requires conflict { least_false (literals self.old.kernel.trail) self.old.kernel.clauses ≡ Some number }
-        requires level { 1 ≤ current_level self.old.kernel.trail }
-        requires counted { self.old.conflicts + 1 ≤ max_budget }
-        ensures next { OnOk result ((saved : Assignment) → HasSaved self.old saved → Learns self.old saved number self.new) }
-        ensures kept { OnOk result (Continues self.old self.new) }
-    {
-        let glue = self.analysis.lesson(&self.kernel, number)?;
-        self.decisions.scores.learn_from(self.analysis.seen.list())?;
-        self.conflicts += 1;
-        let restarts = self.averages.take_glue(glue, self.conflicts);
-        let last = go_back(
-            &mut self.kernel,
-            &mut self.decisions,
-            &self.analysis.learnt,
-            restarts,
-        )?;
-        self.forget_where_due(last)?;
-        let _trail = self.kernel.trail(); // it ensures what the proof needs of the kernel
-        let learnt = &self.analysis.learnt;
-        self.lines.push(&learnt.clause, &learnt.hints)?;
-        self.glues.push(glue)?;
-        Ok(())
-    }
-
-    /// Forgets half of the clauses that may be, of those that were learnt before the last one,
-    /// where it is time.
-    fn forget_where_due(&mut self, last: u64) -> Result<(), AllocError>
-        requires last { last ≡ length self.old.kernel.clauses }
-        requires learnt { CanForget self.old.kernel (length self.old.glues.items) }
-        ensures forgotten { OnOk result ((K : List Clause) (clause : Clause) → self.old.kernel.clauses ≡ K ++ clause ∷ [] →
-            self.new ≡ record self.old {
-              kernel = record self.old.kernel {
-                clauses = (if is_due self.old.schedule self.old.conflicts
-                    then forget_half self.old.constants self.old.kernel.trail self.old.glues.items K else K) ++ clause ∷ [];
-              };
-              schedule = if is_due self.old.schedule self.old.conflicts
-                  then rescheduled self.old.constants self.old.conflicts self.old.schedule else self.old.schedule;
-            }) }
-    {
-        if !self.schedule.is_due(self.conflicts) {
-            return Ok(());
-        }
-        self.schedule.advance(self.constants, self.conflicts);
-        forget(
-            &mut self.kernel,
-            last,
-            &self.glues,
-            self.constants.kept_glue,
-        )
     }
 }

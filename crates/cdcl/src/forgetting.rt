@@ -5,6 +5,7 @@ ghost use Rattle.theory.specs.Plans as plans;
 ghost use Rattle.theory.specs.Forgetting.{candidates, forgotten, is_reason};
 ghost use Rattle.cdcl.specs.Forgetful.{IsPlain};
 
+use crate::line_marks::Mark;
 use cnf::Lit;
 use heuristics::Candidate;
 use kernel::SearchKernel;
@@ -20,11 +21,11 @@ fn is_forgotten(clause: &[Lit]) -> bool
 }
 
 /// Whether a learnt clause may be forgotten.
-fn may_go(clause: &[Lit], glue: u32, kept_glue: u32, is_reason: bool) -> bool
+fn may_go(clause: &[Lit], mark: Mark, kept_glue: u32, is_reason: bool) -> bool
     requires { has_both_signs clause.now ≡ true → length clause.now ≡ 2 }
-    ensures { result ≡ (not (has_both_signs clause.now) && (nat_lt kept_glue glue && not is_reason)) }
+    ensures { result ≡ (nat_lt kept_glue mark.glue && (not mark.used && (not (has_both_signs clause.now) && not is_reason))) }
 {
-    glue > kept_glue && !is_reason && !is_forgotten(clause)
+    mark.glue > kept_glue && !mark.used && !is_reason && !is_forgotten(clause)
 }
 
 /// Notes that the clause of a number is a reason, if it is one of those from a number on.
@@ -57,28 +58,29 @@ fn reasons(
     Ok(reasons)
 }
 
-/// Those of the learnt clauses from a number on that may be forgotten, where they have these glues.
-/// It takes time by the trail and by how many glues there are.
+/// Those of the learnt clauses from a number on that may be forgotten, where they have these marks.
+/// It takes time by the trail and by how many marks there are.
 pub(crate) fn candidates(
     alloc: Global,
     kernel: &SearchKernel,
     from: u64,
-    glues: &[u32],
+    marks: &[Mark],
     kept_glue: u32,
 ) -> Result<Vec<Candidate>, AllocError>
-    requires learnt { (1 ≤ from) × (from - 1 + length glues.now ≤ length kernel.now.clauses) }
-    requires few { (from + length glues.now < 2 ^ 64) × (kernel.now.vars < 2 ^ 31) }
+    requires learnt { (1 ≤ from) × (from - 1 + length marks.now ≤ length kernel.now.clauses) }
+    requires few { (from + length marks.now < 2 ^ 64) × (kernel.now.vars < 2 ^ 31) }
     requires plain { All (IsPlain kernel.now.vars) (drop (from - 1) kernel.now.clauses) }
     ensures { IfOk result (λ all. (c : plans.Constants) → c.kept_glue ≡ kept_glue →
-        all.items ≡ candidates c kernel.now.trail from (drop (from - 1) kernel.now.clauses) glues.now) }
+        all.items ≡ candidates c kernel.now.trail from (drop (from - 1) kernel.now.clauses) marks.now) }
 {
-    let reasons = reasons(alloc, kernel, from, glues.len())?;
+    let reasons = reasons(alloc, kernel, from, marks.len())?;
     let mut candidates = Vec::new(alloc);
-    for at in 0..glues.len() {
+    for at in 0..marks.len() {
         let number = from + at as u64;
         let clause = kernel.arranged(number);
-        let glue = glues[at];
-        if may_go(clause, glue, kept_glue, reasons[at]) {
+        let mark = marks[at];
+        if may_go(clause, mark, kept_glue, reasons[at]) {
+            let glue = mark.glue;
             let size = clause.len() as u32;
             candidates.push(Candidate { number, glue, size })?;
         }

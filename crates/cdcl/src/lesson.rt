@@ -1,17 +1,24 @@
-//! What a conflict teaches the focused search.
-ghost use Rattle.std.specs.Prelude.{◌≡◌, ◌<◌, ◌≤◌, ℕ, Some, IfOk, OnOk};
-ghost use Rattle.theory.specs.Trails.{literals};
-ghost use Rattle.theory.specs.Propagation.{least_false};
-ghost use Rattle.theory.specs.Learning.{learn, back_level};
+//! What a conflict above level 0 teaches the focused search.
+ghost use Rattle.std.specs.Prelude.{◌≡◌, ◌<◌, ◌≤◌, ◌-◌, ◌^◌, ◌∷◌, [], ℕ, Some, IfOk, OnOk, length, drop};
+ghost use Rattle.theory.specs.Trails.{literals, current_level};
+ghost use Rattle.theory.specs.Propagation.{least_false, clause_at};
+ghost use Rattle.theory.specs.Learning.{back_level, learn_removing, walk, with_literals};
+ghost use Rattle.theory.specs.Removing.{first_walk};
+ghost use Rattle.theory.specs.Lessons.{lesson_of};
 ghost use Rattle.theory.specs.Scores.{is_seen};
-ghost use Rattle.theory.specs.Restarts.{glue};
 ghost use Rattle.cdcl.specs.Learnt.{line_of};
+ghost use Rattle.cdcl.specs.Marks.{IsSet, IsClear};
 ghost use Rattle.cdcl.specs.Numbers.{is_one_of};
+ghost use Rattle.cdcl.specs.Removing.{removable_of, HasRoomFor};
 
-use crate::analysis::{Learnt, resolve_conflict, take_up};
+use crate::analysis::{Learnt, put_conflict, take_up};
+use crate::below::{wait_for_removable, walk_below};
+use crate::current_level::walk_current;
 use crate::glue::glue;
-use crate::marks::Room;
+use crate::marks::{Marks, Room};
 use crate::numbers::Numbers;
+use crate::reasons::see_reasons;
+use crate::removing::Removing;
 use crate::seen::see_all;
 use kernel::SearchKernel;
 use std::alloc::{AllocError, Global};
@@ -21,10 +28,14 @@ pub(crate) struct Analysis {
     pub(crate) room: Room,
     /// What the last conflict teaches.
     pub(crate) learnt: Learnt,
+    /// How many of the line's hints, the last ones, are clauses that were resolved at the current level.
+    pub(crate) resolved: usize,
     /// The variables that the last conflict has seen.
     pub(crate) seen: Numbers,
     /// The levels of the clause that was learnt last.
     pub(crate) levels: Numbers,
+    /// Which literals are removable.
+    pub(crate) removing: Removing,
 }
 
 // written out, so that proofs of its owners stay short (docs/PROVING.md)
@@ -33,34 +44,56 @@ impl Drop for Analysis {
         let Analysis {
             room: _,
             learnt: _,
+            resolved: _,
             seen: _,
             levels: _,
+            removing: _,
         } = self;
     }
 }
 
-/// What `analyze_in` does, and takes up which variables the conflict has seen.
-fn analyze_seeing(
+/// Makes the empty set what a conflict's literals come to: by resolution over the current level,
+/// whose clauses' variables are seen, and then below it on what is removable or of level 0. It
+/// gives how many clauses were resolved at the current level.
+fn resolve_short(
     kernel: &SearchKernel,
-    room: &mut Room,
-    conflict: u64,
-    learnt: &mut Learnt,
+    marks: &mut Marks,
+    removing: &mut Removing,
     seen: &mut Numbers,
-) -> Result<(), AllocError>
+    hints: &mut Vec<u64>,
+    conflict: u64,
+) -> Result<usize, AllocError>
     requires conflict { least_false (literals kernel.now.trail) kernel.now.clauses ≡ Some conflict }
+    requires above { 1 ≤ current_level kernel.now.trail }
+    requires few { kernel.now.vars < 2 ^ 32 }
+    requires long { kernel.now.vars < length marks.old.marked.items }
+    requires clear { IsClear marks.old }
+    requires room { HasRoomFor kernel.now.vars removing.old }
     requires seen { kernel.now.vars < seen.old.bound }
-    ensures line { OnOk result (line_of learnt.new ≡ learn kernel.now.clauses kernel.now.trail conflict) }
-    ensures level { OnOk result (learnt.new.level ≡ back_level kernel.now.trail (learn kernel.now.clauses kernel.now.trail conflict).clause) }
+    ensures set { OnOk result (IsSet kernel.now (removable_of kernel.now (first_walk kernel.now.clauses kernel.now.trail conflict).0)
+        (walk kernel.now.clauses kernel.now.trail (removable_of kernel.now (first_walk kernel.now.clauses kernel.now.trail conflict).0) kernel.now.trail
+        (with_literals (clause_at kernel.now.clauses conflict) []) (conflict ∷ [])).0 0 marks.new) }
+    ensures done { OnOk result (marks.new.pending ≡ []) }
+    ensures hints { OnOk result (hints.new.items ≡ (lesson_of kernel.now.clauses kernel.now.trail conflict).line.hints) }
+    ensures resolved { IfOk result (λ r. (r ≤ length hints.new.items)
+        × (drop (length hints.new.items - r) hints.new.items ≡ (lesson_of kernel.now.clauses kernel.now.trail conflict).resolved)) }
     ensures seen { OnOk result ((v : ℕ) → is_one_of seen.new.numbers v
-        ≡ is_seen kernel.now.clauses kernel.now.trail (learn kernel.now.clauses kernel.now.trail conflict).hints v) }
+        ≡ is_seen kernel.now.clauses kernel.now.trail (lesson_of kernel.now.clauses kernel.now.trail conflict).resolved v) }
     ensures bound { seen.new.bound ≡ seen.old.bound }
+    ensures room { OnOk result (HasRoomFor kernel.now.vars removing.new) }
 {
-    let mut marks = room.take(*learnt.hints.allocator(), kernel.vars())?;
-    resolve_conflict(kernel, &mut marks, conflict, &mut learnt.hints)?;
+    let _trail = kernel.trail(); // it ensures what the proof needs of the trail
+    put_conflict(kernel, marks, conflict)?;
+    hints.clear();
+    hints.push(conflict)?;
+    walk_current(kernel, marks, hints, conflict)?;
+    let resolved = hints.len();
     see_all(kernel, seen, &marks.seen)?;
-    take_up(kernel, &mut marks, learnt)?;
-    room.put_back(marks);
-    Ok(())
+    removing.ask_for_all(kernel, marks)?;
+    wait_for_removable(kernel, marks, removing)?;
+    walk_below(kernel, marks, hints, conflict)?;
+    hints.reverse();
+    Ok(resolved)
 }
 
 impl Analysis {
@@ -68,39 +101,75 @@ impl Analysis {
     pub(crate) fn open(alloc: Global, vars: u32) -> Result<Analysis, AllocError>
         ensures seen { IfOk result (λ a. vars < a.seen.bound) }
         ensures levels { IfOk result (λ a. vars < a.levels.bound) }
+        ensures removing { IfOk result (λ a. HasRoomFor vars a.removing) }
     {
         let bound = vars as usize + 1;
         let seen = Numbers::with_room(alloc, bound)?;
         let levels = Numbers::with_room(alloc, bound)?;
+        let removing = Removing::with_room(alloc, bound)?;
         Ok(Analysis {
             room: Room::new(),
             learnt: Learnt::none(alloc),
+            resolved: 0,
             seen,
             levels,
+            removing,
         })
     }
 
+    /// Takes up the line of a conflict, and which variables it has seen.
+    fn take_line(&mut self, kernel: &SearchKernel, conflict: u64) -> Result<(), AllocError>
+        requires conflict { least_false (literals kernel.now.trail) kernel.now.clauses ≡ Some conflict }
+        requires above { 1 ≤ current_level kernel.now.trail }
+        requires seen { kernel.now.vars < self.old.seen.bound }
+        requires removing { HasRoomFor kernel.now.vars self.old.removing }
+        ensures line { OnOk result (line_of self.new.learnt ≡ (lesson_of kernel.now.clauses kernel.now.trail conflict).line) }
+        ensures level { OnOk result (self.new.learnt.level ≡ back_level kernel.now.trail (lesson_of kernel.now.clauses kernel.now.trail conflict).line.clause) }
+        ensures resolved { OnOk result ((self.new.resolved ≤ length self.new.learnt.hints.items)
+            × (drop (length self.new.learnt.hints.items - self.new.resolved) self.new.learnt.hints.items ≡ (lesson_of kernel.now.clauses kernel.now.trail conflict).resolved)) }
+        ensures seen { OnOk result ((v : ℕ) → is_one_of self.new.seen.numbers v
+            ≡ is_seen kernel.now.clauses kernel.now.trail (lesson_of kernel.now.clauses kernel.now.trail conflict).resolved v) }
+        ensures bounds { (self.new.seen.bound ≡ self.old.seen.bound) × (self.new.levels.bound ≡ self.old.levels.bound) }
+        ensures removing { OnOk result (HasRoomFor kernel.now.vars self.new.removing) }
+    {
+        let alloc = *self.learnt.hints.allocator();
+        let mut marks = self.room.take(alloc, kernel.vars())?;
+        self.resolved = resolve_short(
+            kernel,
+            &mut marks,
+            &mut self.removing,
+            &mut self.seen,
+            &mut self.learnt.hints,
+            conflict,
+        )?;
+        take_up(kernel, &mut marks, &mut self.learnt)?;
+        self.room.put_back(marks);
+        Ok(())
+    }
+
     /// Takes up what the conflict with the clause of this number teaches, and which variables it
-    /// has seen; gives the glue of the learnt clause.
+    /// has seen: those of the clauses that were resolved at the current level, and those of the
+    /// reasons behind the learnt clause. It gives the glue of that clause.
     pub(crate) fn lesson(&mut self, kernel: &SearchKernel, conflict: u64) -> Result<u32, AllocError>
         requires conflict { least_false (literals kernel.now.trail) kernel.now.clauses ≡ Some conflict }
+        requires above { 1 ≤ current_level kernel.now.trail }
         requires seen { kernel.now.vars < self.old.seen.bound }
         requires levels { kernel.now.vars < self.old.levels.bound }
-        ensures line { OnOk result (line_of self.new.learnt ≡ learn kernel.now.clauses kernel.now.trail conflict) }
-        ensures level { OnOk result (self.new.learnt.level ≡ back_level kernel.now.trail (learn kernel.now.clauses kernel.now.trail conflict).clause) }
-        ensures glue { IfOk result (λ g. g ≡ glue kernel.now.trail (learn kernel.now.clauses kernel.now.trail conflict).clause) }
+        requires removing { HasRoomFor kernel.now.vars self.old.removing }
+        ensures line { OnOk result (line_of self.new.learnt ≡ (lesson_of kernel.now.clauses kernel.now.trail conflict).line) }
+        ensures level { OnOk result (self.new.learnt.level ≡ back_level kernel.now.trail (lesson_of kernel.now.clauses kernel.now.trail conflict).line.clause) }
+        ensures glue { IfOk result (λ g. g ≡ (lesson_of kernel.now.clauses kernel.now.trail conflict).glue) }
         ensures few { IfOk result (λ g. g ≤ kernel.now.vars) }
+        ensures resolved { OnOk result ((self.new.resolved ≤ length self.new.learnt.hints.items)
+            × (drop (length self.new.learnt.hints.items - self.new.resolved) self.new.learnt.hints.items ≡ (lesson_of kernel.now.clauses kernel.now.trail conflict).resolved)) }
         ensures seen { OnOk result ((v : ℕ) → is_one_of self.new.seen.numbers v
-            ≡ is_seen kernel.now.clauses kernel.now.trail (learn kernel.now.clauses kernel.now.trail conflict).hints v) }
+            ≡ is_seen kernel.now.clauses kernel.now.trail (lesson_of kernel.now.clauses kernel.now.trail conflict).seen v) }
         ensures bounds { (self.new.seen.bound ≡ self.old.seen.bound) × (self.new.levels.bound ≡ self.old.levels.bound) }
+        ensures removing { OnOk result (HasRoomFor kernel.now.vars self.new.removing) }
     {
-        analyze_seeing(
-            kernel,
-            &mut self.room,
-            conflict,
-            &mut self.learnt,
-            &mut self.seen,
-        )?;
+        let _trail = kernel.trail(); // it ensures what the proof needs of the trail
+        self.take_line(kernel, conflict)?;
+        see_reasons(kernel, &mut self.seen, &self.learnt.clause)?;
         let glue = glue(kernel, &mut self.levels, &self.learnt.clause)?;
         Ok(glue)
     }

@@ -3,9 +3,11 @@
 #![tactic(auto)]
 
 mod analysis;
+mod below;
 mod budget;
 mod compatible;
 mod counts;
+mod current_level;
 mod decisions;
 mod dividing;
 mod first_search;
@@ -15,8 +17,10 @@ mod forgetting;
 mod glue;
 mod halves;
 mod keeping;
+mod learning;
 mod lesson;
 mod level;
+mod line_marks;
 mod looking;
 mod marks;
 mod numbers;
@@ -25,6 +29,8 @@ mod ordered;
 mod outcome;
 mod places;
 mod plan;
+mod reasons;
+mod removing;
 mod root;
 mod saved;
 mod searcher;

@@ -72,7 +72,7 @@ fn put_at(
     requires inside { place < length kernel.now.trail }
     requires is_new { (e : Entry) → slice_get kernel.now.trail place ≡ Some e → slice_index_or marks.old.marked.items e.lit.var false ≡ false }
     ensures set { OnOk result ((S : Clause) → (bound : ℕ) → (e : Entry) → slice_get kernel.now.trail place ≡ Some e → place < bound
-        → IsSet kernel.now S bound marks.old → IsSet kernel.now (with_literal (negated e.lit) S) bound marks.new) }
+        → IsSet kernel.now [] S bound marks.old → IsSet kernel.now [] (with_literal (negated e.lit) S) bound marks.new) }
     ensures met { OnOk result ((e : Entry) → slice_get kernel.now.trail place ≡ Some e → Meets marks.old (negated e.lit ∷ []) marks.new) }
     ensures room { (n : ℕ) → HasRoom (n + 1) marks.old → HasRoom n marks.new }
 {
@@ -96,7 +96,7 @@ fn put(kernel: &SearchKernel, marks: &mut Marks, level: u32, lit: Lit) -> Result
     requires room { HasRoom 1 marks.old }
     requires marks { CanJoin kernel.now (lit ∷ []) marks.old }
     ensures set { OnOk result ((S : Clause) → (bound : ℕ) → has (literals (take bound kernel.now.trail)) (negated lit) ≡ true
-        → IsSet kernel.now S bound marks.old → IsSet kernel.now (with_literal lit S) bound marks.new) }
+        → IsSet kernel.now [] S bound marks.old → IsSet kernel.now [] (with_literal lit S) bound marks.new) }
     ensures met { OnOk result (Meets marks.old (lit ∷ []) marks.new) }
     ensures room { (n : ℕ) → HasRoom (n + 1) marks.old → HasRoom n marks.new }
 {
@@ -121,7 +121,7 @@ pub(crate) fn put_all(
     requires level { level ≡ current_level kernel.now.trail }
     requires marks { CanJoin kernel.now clause.now marks.old }
     ensures set { OnOk result ((S : Clause) → (bound : ℕ) → is_false (literals (take bound kernel.now.trail)) clause.now ≡ true
-        → IsSet kernel.now S bound marks.old → IsSet kernel.now (with_literals clause.now S) bound marks.new) }
+        → IsSet kernel.now [] S bound marks.old → IsSet kernel.now [] (with_literals clause.now S) bound marks.new) }
     ensures met { OnOk result (Meets marks.old clause.now marks.new) }
 {
     let count = clause.len();
@@ -143,7 +143,7 @@ fn put_others(
     requires level { level ≡ current_level kernel.now.trail }
     requires marks { CanJoin kernel.now (without clause.now except) marks.old }
     ensures set { OnOk result ((S : Clause) → (bound : ℕ) → is_false (literals (take bound kernel.now.trail)) (without clause.now except) ≡ true
-        → IsSet kernel.now S bound marks.old → IsSet kernel.now (with_literals (without clause.now except) S) bound marks.new) }
+        → IsSet kernel.now [] S bound marks.old → IsSet kernel.now [] (with_literals (without clause.now except) S) bound marks.new) }
     ensures met { OnOk result (Meets marks.old (without clause.now except) marks.new) }
 {
     let count = clause.len();
@@ -161,8 +161,8 @@ fn put_others(
 fn take(kernel: &SearchKernel, marks: &mut Marks, level: u32, entry: Entry)
     requires level { level ≡ current_level kernel.now.trail }
     requires marks { CanResolve kernel.now entry [] marks.old }
-    ensures set { (S : Clause) → (bound : ℕ) → slice_get kernel.now.trail bound ≡ Some entry → IsSet kernel.now S bound marks.old
-        → IsSet kernel.now (without S (negated entry.lit)) bound marks.new }
+    ensures set { (S : Clause) → (bound : ℕ) → slice_get kernel.now.trail bound ≡ Some entry → IsSet kernel.now [] S bound marks.old
+        → IsSet kernel.now [] (without S (negated entry.lit)) bound marks.new }
     ensures seen { marks.new.seen ≡ marks.old.seen }
 {
     marks.marked[entry.lit.var() as usize] = false;
@@ -183,8 +183,8 @@ pub(crate) fn resolve(
     requires level { level ≡ current_level kernel.now.trail }
     requires marks { CanResolve kernel.now entry (without reason.now entry.lit) marks.old }
     ensures set { OnOk result ((S : Clause) → (bound : ℕ) → slice_get kernel.now.trail bound ≡ Some entry
-        → is_false (literals (take bound kernel.now.trail)) (without reason.now entry.lit) ≡ true → IsSet kernel.now S bound marks.old
-        → IsSet kernel.now (resolved S entry.lit reason.now) bound marks.new) }
+        → is_false (literals (take bound kernel.now.trail)) (without reason.now entry.lit) ≡ true → IsSet kernel.now [] S bound marks.old
+        → IsSet kernel.now [] (resolved S entry.lit reason.now) bound marks.new) }
     ensures met { OnOk result (Meets marks.old (without reason.now entry.lit) marks.new) }
 {
     take(kernel, marks, level, entry);
@@ -195,7 +195,7 @@ pub(crate) fn resolve(
 /// negation of whose literal is in the set.
 pub(crate) fn reason_used(marks: &Marks, entry: Entry) -> Option<u64>
     ensures { (k : State) → (S : Clause) → IsLawful k.clauses k.trail → IsMarked k S marks.now.marked.items marks.now.current
-        → entry_of k.trail entry.lit.var ≡ Some entry → is_open k.trail S (Some entry) ≡ true → result ≡ reason_used k.trail S entry }
+        → entry_of k.trail entry.lit.var ≡ Some entry → is_open k.trail [] S (Some entry) ≡ true → result ≡ reason_used k.trail [] S entry }
 {
     if entry.level == 0 || marks.current >= 2 {
         entry.reason

@@ -1,5 +1,5 @@
 //! Sets of numbers below a bound.
-ghost use Rattle.std.specs.Prelude.{◌≡◌, ◌<◌, ℕ, false, [], All, IfOk, OnOk, OnErr, length, slice_index_or};
+ghost use Rattle.std.specs.Prelude.{◌≡◌, ◌<◌, ◌≤◌, ◌++◌, ◌∷◌, ℕ, false, [], All, IfOk, OnOk, OnErr, length, slice_index_or};
 ghost use Rattle.cdcl.specs.Numbers.{AreWith, AreAmong, StandOnce, is_one_of};
 
 use cnf::put_last;
@@ -53,6 +53,7 @@ impl Numbers {
         requires { number < self.old.bound }
         ensures bound { self.new.bound ≡ self.old.bound }
         ensures inserted { OnOk result (AreWith number self.old.numbers self.new.numbers) }
+        ensures last { OnOk result (is_one_of self.old.numbers number ≡ false → self.new.numbers ≡ self.old.numbers ++ number ∷ []) }
         ensures refused { OnErr result (self.new ≡ self.old) }
     {
         if !self.flags[number as usize] {
@@ -60,6 +61,14 @@ impl Numbers {
             self.flags[number as usize] = true;
         }
         Ok(())
+    }
+
+    /// Whether a number is in.
+    pub(crate) fn contains(&self, number: u32) -> bool
+        requires { number < self.now.bound }
+        ensures { result ≡ is_one_of self.now.numbers number }
+    {
+        self.flags[number as usize]
     }
 
     /// Takes all numbers out.
@@ -75,6 +84,7 @@ impl Numbers {
         ensures numbers { result.now ≡ self.now.numbers }
         ensures once { StandOnce result.now }
         ensures inside { All (λ n. n < self.now.bound) result.now }
+        ensures few { length result.now ≤ self.now.bound }
     {
         &self.list
     }

@@ -9,7 +9,7 @@ use kernel::SearchKernel;
 use std::alloc::AllocError;
 
 /// Puts a variable in, if it is above level 0.
-fn see(kernel: &SearchKernel, seen: &mut Numbers, var: u32) -> Result<(), AllocError>
+pub(crate) fn see(kernel: &SearchKernel, seen: &mut Numbers, var: u32) -> Result<(), AllocError>
     requires { var < seen.old.bound }
     ensures bound { seen.new.bound ≡ seen.old.bound }
     ensures seen { OnOk result ((v : ℕ) → is_one_of seen.new.numbers v

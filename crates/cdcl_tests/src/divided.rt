@@ -7,7 +7,7 @@ use crate::outcomes::{Wanted, cube_by, is_wanted};
 use cdcl::{Outcome, Plan, Root, Solver};
 use cnf::{Formula, read_formula};
 use kernel::Cube;
-use samples::{FOUR, cube_of};
+use samples::{FIVE, FOUR, cube_of, soon_stable};
 use std::alloc::{AllocError, Global};
 use std::test::Fail;
 
@@ -21,27 +21,27 @@ struct Row<'a> {
     wanted: Wanted<'a>,
 }
 
-static ROWS: [Row; 14] = [
+static ROWS: [Row; 15] = [
     Row {
-        name: "four, both literals fail",
-        text: FOUR,
-        budget: 1,
+        name: "five, both literals of 2 fail",
+        text: FIVE,
+        budget: 2,
         divide: 2,
         cube: &[],
         wanted: Wanted::ExhaustedOn(2),
     },
     Row {
-        name: "four, the half with the negation is searched",
-        text: FOUR,
-        budget: 1,
+        name: "five, the half with the negation is searched",
+        text: FIVE,
+        budget: 2,
         divide: 2,
         cube: &[-2],
         wanted: Wanted::Refuted(&[(&[], &[1, 3])]),
     },
     Row {
-        name: "four, the other half is looked at",
-        text: FOUR,
-        budget: 1,
+        name: "five, the other half is looked at",
+        text: FIVE,
+        budget: 2,
         divide: 3,
         cube: &[2],
         wanted: Wanted::Refuted(&[(&[], &[2, 4])]),
@@ -52,88 +52,96 @@ static ROWS: [Row; 14] = [
         budget: 2,
         divide: 2,
         cube: &[],
-        wanted: Wanted::Refuted(&[(&[2], &[1, 3]), (&[], &[5, 2, 4])]),
+        wanted: Wanted::Refuted(&[(&[-2], &[2, 4]), (&[], &[5, 1, 3])]),
     },
     // 33 fails, but 32 variables rank before it
     Row {
         name: "more candidates than are tried",
-        text: "p cnf 33 34\n1 -2 0\n-1 2 0\n3 -4 0\n-3 4 0\n5 -6 0\n-5 6 0\n7 -8 0\n-7 8 0\n9 -10 0\n-9 10 0\n11 -12 0\n-11 12 0\n13 -14 0\n-13 14 0\n15 -16 0\n-15 16 0\n17 -18 0\n-17 18 0\n19 -20 0\n-19 20 0\n21 -22 0\n-21 22 0\n23 -24 0\n-23 24 0\n25 -26 0\n-25 26 0\n27 -28 0\n-27 28 0\n29 -30 0\n-29 30 0\n31 -32 0\n-31 32 0\n33 32 0\n33 -32 0\n",
-        budget: 1,
+        text: "p cnf 36 42\n1 -2 0\n-1 2 0\n3 -4 0\n-3 4 0\n5 -6 0\n-5 6 0\n7 -8 0\n-7 8 0\n9 -10 0\n-9 10 0\n11 -12 0\n-11 12 0\n13 -14 0\n-13 14 0\n15 -16 0\n-15 16 0\n17 -18 0\n-17 18 0\n19 -20 0\n-19 20 0\n21 -22 0\n-21 22 0\n23 -24 0\n-23 24 0\n25 -26 0\n-25 26 0\n27 -28 0\n-27 28 0\n29 -30 0\n-29 30 0\n31 -32 0\n-31 32 0\n33 32 0\n33 -32 0\n34 35 36 0\n34 35 -36 0\n34 -35 36 0\n34 -35 -36 0\n-34 35 36 0\n-34 35 -36 0\n-34 -35 36 0\n-34 -35 -36 0\n",
+        budget: 2,
         divide: 2,
         cube: &[],
         wanted: Wanted::ExhaustedOn(32),
     },
     Row {
         name: "refuted by a look",
-        text: "p cnf 6 26\n6 -1 0\n5 1 2 0\n-5 4 1 0\n5 6 -4 0\n-3 -4 -2 0\n1 -5 2 0\n-5 2 4 0\n3 6 0\n-1 -5 -3 0\n-5 1 6 0\n-4 1 0\n-3 6 -4 0\n-4 1 -5 0\n-3 4 0\n-3 2 0\n3 -2 5 0\n-4 -6 -3 0\n-6 4 3 0\n-2 6 -5 0\n3 -6 -1 0\n2 -5 -1 0\n4 6 0\n1 2 0\n1 -3 -6 0\n-5 -1 6 0\n3 5 6 0\n",
+        text: "p cnf 6 16\n3 -2 -5 0\n-6 -2 0\n3 4 -6 0\n-2 5 0\n-3 2 -6 0\n-5 -3 0\n1 -3 -6 0\n5 -4 6 0\n-3 4 2 0\n-1 -2 0\n2 3 0\n-5 3 0\n5 -2 -6 0\n3 -2 1 0\n-5 -1 6 0\n-1 6 0\n",
         budget: 2,
         divide: 8,
-        cube: &[-1],
-        wanted: Wanted::Refuted(&[(&[], &[11, 23, 3, 14, 16])]),
+        cube: &[1],
+        wanted: Wanted::Refuted(&[(&[], &[10, 16, 11, 5])]),
     },
     Row {
         name: "satisfied clauses count",
-        text: "p cnf 6 21\n4 3 0\n1 5 -4 0\n2 4 0\n-4 -3 -1 0\n-6 2 -1 0\n-1 -5 4 0\n5 -1 2 0\n-6 -2 1 0\n5 -3 -4 0\n5 3 2 0\n-6 3 -5 0\n-5 1 -3 0\n-3 5 4 0\n5 2 3 0\n3 -5 -6 0\n6 1 -5 0\n-5 3 0\n5 -1 6 0\n-5 -2 4 0\n2 -6 0\n-4 -1 -5 0\n",
-        budget: 2,
-        divide: 4,
-        cube: &[-5],
-        wanted: Wanted::ExhaustedOn(3),
+        text: "p cnf 6 16\n1 2 0\n4 1 0\n5 4 0\n-3 1 0\n2 -1 -3 0\n-6 3 4 0\n-6 3 -1 0\n2 -1 0\n2 4 -6 0\n4 5 2 0\n1 -2 4 0\n-3 -1 -6 0\n3 -2 0\n5 6 0\n-2 3 0\n-4 1 5 0\n",
+        budget: 3,
+        divide: 8,
+        cube: &[-6],
+        wanted: Wanted::ExhaustedOn(1),
     },
     Row {
         name: "fails on the left",
-        text: "p cnf 8 28\n8 -6 -7 0\n-4 -2 6 0\n7 3 5 0\n-3 2 -5 0\n4 5 -6 0\n-2 -6 -5 0\n-8 -2 -5 0\n2 4 -6 0\n2 -8 0\n4 1 0\n-8 3 -1 0\n2 -6 3 0\n5 -1 -2 0\n-1 7 0\n2 1 -6 0\n8 1 7 0\n-5 -7 -6 0\n5 -4 1 0\n-1 7 0\n-8 2 0\n-2 3 7 0\n-4 2 3 0\n-6 1 3 0\n1 -6 0\n-7 3 -1 0\n-1 -5 -8 0\n-6 7 -3 0\n-2 -3 -7 0\n",
+        text: "p cnf 6 16\n-3 -2 6 0\n3 -4 0\n-4 -6 -2 0\n-6 -5 2 0\n1 -3 5 0\n-5 3 1 0\n-4 -1 -3 0\n5 4 1 0\n4 -6 5 0\n-5 3 2 0\n-1 2 0\n4 1 -5 0\n6 5 0\n1 -3 4 0\n-5 4 0\n4 2 0\n",
+        budget: 2,
+        divide: 4,
+        cube: &[],
+        wanted: Wanted::ExhaustedOn(5),
+    },
+    Row {
+        name: "fails on the right",
+        text: "p cnf 6 16\n-4 -2 -3 0\n-4 6 -1 0\n-3 2 5 0\n-4 3 1 0\n-4 5 -2 0\n-4 1 2 0\n-5 -1 2 0\n1 6 -2 0\n5 6 -4 0\n1 -5 0\n-4 3 -6 0\n3 -5 0\n6 2 0\n-1 4 0\n-4 5 1 0\n-3 5 0\n",
+        budget: 2,
+        divide: 8,
+        cube: &[],
+        wanted: Wanted::ExhaustedOn(5),
+    },
+    Row {
+        name: "not divisible",
+        text: "p cnf 6 16\n-3 6 -2 0\n6 -4 0\n5 6 3 0\n3 -6 2 0\n-1 4 -6 0\n-1 -3 0\n1 6 2 0\n3 -5 6 0\n-1 -2 -4 0\n4 5 -1 0\n-3 -2 -6 0\n-6 5 4 0\n2 -5 0\n-3 2 0\n1 -2 -4 0\n6 -3 1 0\n",
+        budget: 3,
+        divide: 8,
+        cube: &[],
+        wanted: Wanted::ExhaustedOn(5),
+    },
+    Row {
+        name: "equal worth",
+        text: "p cnf 6 16\n-5 4 -6 0\n-3 4 5 0\n-2 -5 -3 0\n6 -5 -1 0\n4 6 5 0\n-6 2 0\n1 -3 2 0\n2 -4 6 0\n-5 3 -1 0\n3 -2 4 0\n-5 -3 1 0\n5 -3 -6 0\n-6 3 5 0\n-1 5 -6 0\n-5 -4 0\n-4 -3 -5 0\n",
+        budget: 2,
+        divide: 2,
+        cube: &[],
+        wanted: Wanted::ExhaustedOn(5),
+    },
+    Row {
+        name: "a model by a look",
+        text: "p cnf 6 16\n2 4 0\n-5 -1 6 0\n-6 2 4 0\n-3 -4 2 0\n-3 1 0\n-5 -1 0\n-1 -3 2 0\n4 3 -6 0\n-1 -5 0\n3 6 0\n-2 -1 -6 0\n-1 -5 -6 0\n3 6 2 0\n-2 3 0\n3 -4 2 0\n6 -4 -2 0\n",
+        budget: 3,
+        divide: 8,
+        cube: &[-4],
+        wanted: Wanted::Model(&[true, true, true, false, false, false]),
+    },
+    Row {
+        name: "worth not by the sum",
+        text: "p cnf 6 16\n5 -4 0\n-6 -5 3 0\n2 -6 4 0\n4 2 6 0\n-1 2 0\n-1 -4 -6 0\n-1 6 4 0\n2 -3 0\n3 -4 -2 0\n-3 -1 6 0\n-6 4 -3 0\n-1 4 -5 0\n-2 3 0\n-6 -1 4 0\n-5 -6 -4 0\n3 -1 -6 0\n",
+        budget: 2,
+        divide: 8,
+        cube: &[],
+        wanted: Wanted::ExhaustedOn(3),
+    },
+    Row {
+        name: "worth not by the product",
+        text: "p cnf 6 16\n5 -3 -1 0\n4 -2 6 0\n5 -4 3 0\n3 -4 6 0\n-3 1 -2 0\n-5 -2 6 0\n3 -1 0\n-4 3 2 0\n5 2 0\n2 6 5 0\n-6 -5 0\n-2 -5 0\n2 -4 -3 0\n3 5 -4 0\n4 -6 1 0\n4 1 6 0\n",
         budget: 2,
         divide: 8,
         cube: &[],
         wanted: Wanted::ExhaustedOn(1),
     },
     Row {
-        name: "fails on the right",
-        text: "p cnf 8 21\n4 -1 0\n5 -6 0\n-4 6 0\n-7 -4 -8 0\n2 -3 -4 0\n8 1 3 0\n5 1 2 0\n-4 -2 8 0\n7 -3 2 0\n8 -4 1 0\n8 -2 -5 0\n-6 2 1 0\n6 3 -7 0\n-6 -3 -7 0\n-8 -6 -7 0\n-7 4 0\n7 3 -1 0\n8 5 1 0\n-1 7 3 0\n-6 2 8 0\n-5 1 -2 0\n",
-        budget: 2,
-        divide: 8,
-        cube: &[],
-        wanted: Wanted::ExhaustedOn(7),
-    },
-    Row {
-        name: "not divisible",
-        text: "p cnf 7 20\n-6 -4 3 0\n-3 1 2 0\n7 1 -5 0\n-1 -7 -4 0\n-5 -6 -1 0\n3 -5 7 0\n-1 -3 -2 0\n-5 1 6 0\n-5 1 0\n4 -6 1 0\n-3 6 -1 0\n3 5 0\n-7 3 -1 0\n-6 -5 -7 0\n-4 -6 5 0\n1 -7 -2 0\n-4 7 -5 0\n4 -5 -2 0\n2 4 1 0\n6 -2 0\n",
-        budget: 3,
-        divide: 8,
-        cube: &[],
-        wanted: Wanted::ExhaustedOn(3),
-    },
-    Row {
-        name: "equal worth",
-        text: "p cnf 7 25\n-5 7 -3 0\n-1 -5 4 0\n-1 6 3 0\n-7 3 -1 0\n5 -4 3 0\n-3 -4 -2 0\n2 -5 -6 0\n2 -6 7 0\n6 -3 -4 0\n-3 -7 1 0\n-1 6 -2 0\n-2 5 0\n2 -5 6 0\n4 1 -2 0\n-7 1 5 0\n-6 1 3 0\n2 7 3 0\n-3 -4 -1 0\n-5 6 7 0\n6 3 1 0\n3 -6 -2 0\n-6 1 4 0\n-6 1 -5 0\n4 -3 2 0\n-1 6 3 0\n",
-        budget: 2,
-        divide: 3,
-        cube: &[],
-        wanted: Wanted::ExhaustedOn(2),
-    },
-    Row {
-        name: "a model by a look",
-        text: "p cnf 7 22\n-1 6 2 0\n4 -2 3 0\n-7 2 4 0\n-7 3 -5 0\n6 3 0\n2 -1 5 0\n7 -2 0\n-5 -6 -2 0\n-3 7 1 0\n2 -7 -5 0\n-6 -5 7 0\n-6 -2 7 0\n5 1 -7 0\n1 5 0\n-7 -3 -1 0\n3 1 -7 0\n5 -1 2 0\n-5 -6 -7 0\n6 -7 0\n7 -1 -6 0\n6 1 -5 0\n2 -3 0\n",
-        budget: 1,
-        divide: 3,
-        cube: &[7],
-        wanted: Wanted::Model(&[true, true, false, true, false, true, true]),
-    },
-    Row {
-        name: "worth not by the sum",
-        text: "p cnf 9 22\n9 -5 -3 0\n8 2 4 0\n-2 -1 0\n-5 -1 0\n8 -6 -7 0\n-4 9 1 0\n-5 7 9 0\n8 4 -7 0\n-9 3 5 0\n8 3 -6 0\n2 1 -3 0\n-6 8 5 0\n4 2 9 0\n-2 -3 0\n-4 -3 1 0\n5 3 7 0\n8 6 -1 0\n6 -3 0\n2 -7 0\n-8 9 4 0\n-2 5 1 0\n2 6 0\n",
-        budget: 2,
-        divide: 3,
-        cube: &[],
-        wanted: Wanted::ExhaustedOn(2),
-    },
-    Row {
         name: "searched and exhausted",
-        text: "p cnf 24 103\n21 19 -7 0\n19 21 12 0\n9 -12 23 0\n-18 -8 -3 0\n23 11 -20 0\n3 9 -17 0\n-9 -11 12 0\n19 14 -16 0\n-9 18 19 0\n-17 -1 -6 0\n-20 2 -13 0\n-17 -6 22 0\n18 5 -14 0\n-11 -10 -21 0\n22 1 6 0\n7 20 22 0\n16 -1 20 0\n16 1 -14 0\n-19 3 20 0\n-21 -14 -6 0\n3 -8 -16 0\n5 -6 1 0\n-5 16 -8 0\n-4 -23 -14 0\n21 24 -5 0\n12 -14 16 0\n-11 -20 21 0\n2 9 14 0\n-14 10 -13 0\n17 -3 7 0\n1 15 11 0\n-7 -13 22 0\n-9 -8 1 0\n-3 -16 17 0\n21 -9 10 0\n6 5 -16 0\n-21 23 24 0\n-6 21 -3 0\n6 -15 19 0\n-16 3 -8 0\n5 -11 -16 0\n12 -15 24 0\n1 -24 3 0\n-15 -23 -19 0\n24 8 -1 0\n-14 21 -12 0\n-1 -19 9 0\n20 4 16 0\n-4 6 -8 0\n-3 21 5 0\n-16 -18 12 0\n-13 9 -17 0\n15 7 -22 0\n12 -22 -11 0\n-18 10 22 0\n-16 15 13 0\n-1 -21 8 0\n4 -3 12 0\n13 -18 3 0\n-10 -23 20 0\n-13 -18 19 0\n-17 -15 -12 0\n-1 14 -5 0\n-8 11 -2 0\n10 -16 23 0\n-8 -12 -15 0\n-10 -21 7 0\n-23 -3 -14 0\n16 -14 -21 0\n-12 10 -7 0\n-24 -10 22 0\n-21 2 -4 0\n-15 -1 -22 0\n-17 -24 -22 0\n12 18 15 0\n-19 -14 -10 0\n-19 -18 -4 0\n-2 19 -12 0\n-15 -7 -9 0\n10 -24 11 0\n-3 6 -13 0\n2 18 -15 0\n21 -1 -23 0\n15 4 -8 0\n-11 -21 19 0\n17 15 12 0\n-13 18 19 0\n-6 8 -21 0\n22 -4 -13 0\n-14 -3 7 0\n-6 -16 15 0\n4 6 3 0\n14 -15 -3 0\n24 -9 3 0\n-11 4 10 0\n-19 4 -17 0\n-12 -24 -6 0\n4 -19 12 0\n19 -8 -5 0\n-7 -24 14 0\n-5 -6 -13 0\n-18 19 3 0\n-7 22 -3 0\n",
-        budget: 3,
-        divide: 3,
-        cube: &[-3, -18],
-        wanted: Wanted::ExhaustedOn(15),
+        text: "p cnf 9 32\n2 6 -1 0\n-1 -3 0\n-6 1 -5 0\n-5 9 -1 0\n-6 5 7 0\n5 3 9 0\n1 -5 6 0\n-5 -4 -9 0\n-3 -2 5 0\n-7 1 -5 0\n-5 3 0\n-9 -2 4 0\n-1 -4 -7 0\n-1 6 -8 0\n2 -7 -5 0\n-5 1 0\n-6 4 9 0\n-2 5 1 0\n9 5 -1 0\n-3 4 0\n-7 -2 6 0\n5 8 2 0\n-1 2 0\n-9 6 0\n4 -3 -6 0\n4 7 0\n1 6 -9 0\n2 1 0\n-8 -4 0\n2 -5 -3 0\n-7 -9 8 0\n3 -7 4 0\n",
+        budget: 2,
+        divide: 2,
+        cube: &[-8],
+        wanted: Wanted::ExhaustedOn(6),
     },
 ];
 
@@ -224,7 +232,7 @@ fn comes_told(alloc: Global, row: &Row) -> Result<bool, Fail> {
     if row.budget < 1 || row.budget > 100_000 || row.divide > 65_536 {
         return Ok(false);
     }
-    let plan = Plan::focused(row.budget).divided(row.divide);
+    let plan = Plan::focused_by(row.budget, soon_stable()).divided(row.divide);
     let formula = read_formula(alloc, row.text.as_bytes())?;
     Ok(is_told(alloc, &formula, plan, row)?)
 }
@@ -234,7 +242,7 @@ fn comes(alloc: Global, row: &Row) -> Result<bool, Fail> {
     if row.budget < 1 || row.budget > 100_000 || row.divide > 65_536 {
         return Ok(false);
     }
-    let plan = Plan::focused(row.budget).divided(row.divide);
+    let plan = Plan::focused_by(row.budget, soon_stable()).divided(row.divide);
     Ok(is_wanted(&cube_by(alloc, row.text, row.cube, plan)?, row.wanted)?)
 }
 
@@ -263,14 +271,18 @@ fn comes_told_at(alloc: Global, place: usize) -> Result<bool, Fail> {
     }
 }
 
-/// Whether one solver has one conflict in its first search and one in each look, and no more in the
+/// Whether one solver has two conflicts in its first search and one in each look, and no more in the
 /// same cube again.
 fn asks_once(alloc: Global) -> Result<bool, Fail> {
-    let formula = read_formula(alloc, FOUR.as_bytes())?;
-    let mut solver = Solver::open(alloc, &formula, Plan::focused(1).divided(2))?;
+    let formula = read_formula(alloc, FIVE.as_bytes())?;
+    let mut solver = Solver::open(
+        alloc,
+        &formula,
+        Plan::focused_by(2, soon_stable()).divided(2),
+    )?;
     let first = split_of(alloc, &mut solver)?;
     let again = split_of(alloc, &mut solver)?;
-    Ok(first == Some(2) && again == Some(2) && solver.counts().conflicts == 3)
+    Ok(first == Some(2) && again == Some(2) && solver.counts().conflicts == 4)
 }
 
 #[test]

@@ -16,6 +16,8 @@ mod kernels;
 #[cfg(test)]
 mod outcomes;
 #[cfg(test)]
+mod parts;
+#[cfg(test)]
 mod pure;
 #[cfg(test)]
 mod searches;

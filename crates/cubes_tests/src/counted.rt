@@ -6,7 +6,7 @@ use cdcl::{Counts, Plan, Search};
 use cnf::{Formula, read_formula};
 use cubes::{Gate, solve_by_plan};
 use kernel::Cube;
-use samples::{EIGHT, FOUR};
+use samples::{EIGHT, FIVE, FOUR};
 use std::alloc::Global;
 use std::sync::{Mutex, Wait};
 use std::test::Fail;
@@ -31,34 +31,35 @@ static ROWS: [Row; 11] = [
     // -1 is decided and gives 2, which makes the second clause false; 1 is learnt and gives 2,
     // which makes the fourth one false at level 0
     (FOUR, Search::Ordered, 2, 0, NONE, [2, 1, 4, 1, 0, 0]),
-    // the same with 1 and 2 exchanged
+    // the same with 1 and 2, and all signs, exchanged
     (FOUR, Search::Focused, 2, 0, NONE, [2, 1, 4, 1, 0, 0]),
     // -1, then -2 and 3, a conflict; (1 2) is learnt; 2 and 3, a conflict; 1 is learnt and gives
     // nothing; -2 is decided and gives 3, a conflict; 2 is learnt and gives 3, the last conflict
     (EIGHT, Search::Ordered, 1000, 0, NONE, [4, 3, 10, 3, 0, 0]),
-    // the same with 1 and 3 exchanged, but 2 is decided to be true, as it was last
+    // the same with 1 and 3, and all signs, exchanged, but 2 is decided to be false, as it was last
     (EIGHT, Search::Focused, 1000, 0, NONE, [4, 3, 10, 3, 0, 0]),
     // the first of these conflicts uses the root up; in each half its literal, then -2 and 3, a
     // conflict; a unit clause of 2 is learnt and gives 3, a conflict
     (EIGHT, Search::Ordered, 1, 0, NONE, [5, 4, 13, 2, 0, 0]),
     // -1 gives 2, a conflict; 1 is learnt; -2 is decided
     (ONE, Search::Ordered, 2, 0, NONE, [1, 2, 4, 1, 0, 0]),
-    // -2 is decided and gives 1
+    // 2 is decided and gives 1
     (ONE, Search::Focused, 2, 0, NONE, [0, 1, 2, 0, 0, 0]),
     // it is refuted before the first search is asked
     (FOUR, Search::Focused, 2, 2, [2, 1, 4, 1, 0, 0], NONE),
-    // -2 is decided and gives 1, a conflict, with few decisions; a look meets the same one; both
-    // halves are refuted by propagation
+    // 5, then 4 and 3, a conflict, behind which stable mode begins; (-4 -5) is learnt; 5 is decided and
+    // gives -4 and 3, a conflict, with few decisions; a look decides both literals of 5, 4 and 3, which
+    // bring nothing, and -2, which gives 1, a conflict; both halves are refuted by propagation
     (
-        FOUR,
+        FIVE,
         Search::Focused,
-        1,
         2,
-        [2, 2, 4, 0, 1, 1],
+        2,
+        [3, 10, 14, 1, 1, 1],
         [2, 0, 4, 0, 0, 0],
     ),
-    // -3, then -2 and 1, a conflict, with many decisions: it uses the root up too, and is counted
-    // once; each half is as above
+    // 3, then 2 and 1, a conflict, before stable mode: it uses the root up too, and is counted once;
+    // each half is as above
     (
         EIGHT,
         Search::Focused,
@@ -67,15 +68,16 @@ static ROWS: [Row; 11] = [
         [1, 2, 3, 0, 0, 0],
         [4, 2, 10, 2, 0, 0],
     ),
-    // -3, then -2 and 1, a conflict; (2 3) is learnt; 2 and 1, a conflict, with few decisions; a
-    // look decides both literals of each variable, which bring nothing; in each half its literal,
-    // then -2 and 1, a conflict, so -2 fails; each half of that is refuted by its literals and 1
+    // 3, then 2 and 1, a conflict, behind which stable mode begins; (-2 -3) is learnt; 3 is decided and
+    // gives -2 and 1, a conflict, with few decisions; a look decides both literals of each variable,
+    // which bring nothing; in each half its literal, then -2 and 1, a conflict, so -2 fails; each half
+    // of that is refuted by its literals and 1
     (
         EIGHT,
         Search::Focused,
         2,
         3,
-        [2, 8, 11, 1, 1, 0],
+        [2, 9, 12, 1, 1, 0],
         [6, 2, 18, 0, 2, 2],
     ),
 ];

@@ -6,7 +6,7 @@ use cdcl::{FirstAnswer, FirstSearch, Plan, Search};
 use cnf::{Formula, read_formula};
 use cubes::{Gate, solve_by_plan};
 use kernel::Cube;
-use samples::{EIGHT, FOUR};
+use samples::{EIGHT, FIVE, FOUR};
 use std::alloc::Global;
 use std::sync::{Mutex, Wait};
 use std::test::Fail;
@@ -16,8 +16,8 @@ use std::time::Clock;
 /// All of a tree; a cube of d literals is one part in 2^d of it.
 const WHOLE: u64 = 1024;
 
-/// Decisions and conflicts of the first search, and what it answers.
-type First = Option<(u64, u64, FirstAnswer)>;
+/// Decisions and conflicts of the first search in stable mode, all its conflicts, and what it answers.
+type First = Option<(u64, u64, u64, FirstAnswer)>;
 
 /// A text, a budget for the root, how many cubes are wanted, and the first search, if there is one.
 type Row = (&'static str, u32, u32, First);
@@ -25,15 +25,15 @@ type Row = (&'static str, u32, u32, First);
 static ROWS: [Row; 6] = [
     // no division is wanted
     (FOUR, 1, 1, None),
-    // -2 is decided, a conflict
-    (FOUR, 1, 2, Some((1, 1, FirstAnswer::Divided(2)))),
+    // 5 is decided in stable mode, a conflict
+    (FIVE, 2, 2, Some((1, 1, 2, FirstAnswer::Divided(2)))),
     // it goes on to a conflict without a decision
-    (FOUR, 2, 2, Some((1, 2, FirstAnswer::Ended))),
-    // -3 and -2 are decided, a conflict
-    (EIGHT, 1, 2, Some((2, 1, FirstAnswer::Whole))),
-    // and there is one more without a decision more
-    (EIGHT, 2, 3, Some((2, 2, FirstAnswer::Divided(3)))),
-    (EIGHT, 2, 64, Some((2, 2, FirstAnswer::Divided(64)))),
+    (FOUR, 2, 2, Some((0, 0, 2, FirstAnswer::Ended))),
+    // 3 and 2 are decided, a conflict, before stable mode
+    (EIGHT, 1, 2, Some((0, 0, 1, FirstAnswer::Whole))),
+    // 3 is decided in stable mode, a conflict
+    (EIGHT, 2, 3, Some((1, 1, 2, FirstAnswer::Divided(3)))),
+    (EIGHT, 2, 64, Some((1, 1, 2, FirstAnswer::Divided(64)))),
 ];
 
 /// What the first search answered, and how much of the tree is refuted.
@@ -50,7 +50,13 @@ impl<R: Wait> Gate for Told<'_, R> {
     fn after(&self, _hand: usize, _cube: &Cube) {}
 
     fn asked(&self, first: FirstSearch) {
-        let found = (first.decisions, first.conflicts, first.answer);
+        let FirstSearch {
+            decisions,
+            conflicts,
+            stable_conflicts,
+            answer,
+        } = first;
+        let found = (decisions, stable_conflicts, conflicts, answer);
         *self.first.lock(self.rt) = Some(found);
     }
 

@@ -13,14 +13,30 @@ type Decided = (&'static str, &'static str, &'static str, &'static str);
 
 const UNSATISFIABLE: &str = "s UNSATISFIABLE\n";
 
-const SPLIT: &str =
-    "9 2 3 0 1 5 0\n10 3 0 9 3 7 0\n10 d 9 0\n11 2 -3 0 2 6 0\n12 -3 0 11 4 8 0\n12 d 11 0\n13 0 10 12 0\n";
+const SPLIT: &str = "9 -2 3 0 3 7 0
+10 3 0 9 1 5 0
+10 d 9 0
+11 -2 -3 0 4 8 0
+12 -3 0 11 2 6 0
+12 d 11 0
+13 0 10 12 0
+";
 
 /// The variable of greatest score was 3 until the second conflict, and then it is 2.
-const SPLIT_LATER: &str =
-    "9 3 2 0 1 5 0\n10 2 0 9 2 6 0\n10 d 9 0\n11 3 -2 0 3 7 0\n12 -2 0 11 4 8 0\n12 d 11 0\n13 0 10 12 0\n";
+const SPLIT_LATER: &str = "9 -3 2 0 2 6 0
+10 2 0 9 1 5 0
+10 d 9 0
+11 -3 -2 0 4 8 0
+12 -2 0 11 3 7 0
+12 d 11 0
+13 0 10 12 0
+";
 
-const LEARNT: &str = "9 2 3 0 1 5 0\n10 3 0 9 3 7 0\n11 -2 0 10 4 8 0\n12 0 10 11 2 6 0\n";
+const LEARNT: &str = "9 -2 -3 0 4 8 0
+10 -3 0 9 2 6 0
+11 2 0 10 1 5 0
+12 0 10 11 3 7 0
+";
 
 /// The greatest of the variables of equal score is decided first, so that models differ from the
 /// first ones.
@@ -32,7 +48,7 @@ static DECIDED: [Decided; 13] = [
         UNSATISFIABLE,
         "5 2 0 1 3 0\n6 -2 0 2 4 0\n7 0 5 6 0\n",
     ),
-    (FOUR, "2", UNSATISFIABLE, "5 2 0 1 3 0\n6 0 5 2 4 0\n"),
+    (FOUR, "2", UNSATISFIABLE, "5 -2 0 2 4 0\n6 0 5 1 3 0\n"),
     (
         "p cnf 3 4\n1 2 0\n1 -2 0\n-1 2 0\n-1 -2 0\n",
         "1",
@@ -45,17 +61,17 @@ static DECIDED: [Decided; 13] = [
     (EIGHT, "4", UNSATISFIABLE, LEARNT),
     (EIGHT, "100000", UNSATISFIABLE, LEARNT),
     ("p cnf 0 0\n", "1", "s SATISFIABLE\nv 0\n", ""),
-    ("p cnf 2 1\n1 2 0\n", "1", "s SATISFIABLE\nv 1 -2 0\n", ""),
+    ("p cnf 2 1\n1 2 0\n", "1", "s SATISFIABLE\nv 1 2 0\n", ""),
     (
         "p cnf 3 4\n1 2 3 0\n1 2 -3 0\n-1 2 3 0\n-1 2 -3 0\n",
         "1",
-        "s SATISFIABLE\nv 1 2 -3 0\n",
+        "s SATISFIABLE\nv 1 2 3 0\n",
         "",
     ),
     (
-        "p cnf 3 4\n1 2 3 0\n-1 -2 3 0\n1 -2 -3 0\n-1 2 3 0\n",
+        "p cnf 3 4\n-1 -2 -3 0\n1 2 -3 0\n-1 2 3 0\n1 -2 -3 0\n",
         "2",
-        "s SATISFIABLE\nv -1 2 -3 0\n",
+        "s SATISFIABLE\nv 1 -2 3 0\n",
         "",
     ),
 ];

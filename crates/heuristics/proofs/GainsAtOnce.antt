@@ -40,11 +40,11 @@ AreNoted-pushed S G H xs k less inside h e = rw e (record {
   noted = noted-more (G ++ slice_index xs k ∷ []) xs k less (any-last (slice_index xs k) G) (λ v among. any-before (nat_eq v) G (slice_index xs k ∷ []) (h.noted v among));
 })
 
--- scores T after scores S, of which those seen have gained a step
-pub AreRanked-played : (S W G T X H seen : List ℕ) (step : ℕ) → length T ≡ length S → ((i : ℕ) → i < length seen → (1 ≤ slice_index seen i) × (slice_index seen i < length S)) → AreRanked S W G
+-- scores T after scores S, of which those seen have gained
+pub AreRanked-gained : (S W G T X H seen : List ℕ) (step : ℕ) → length T ≡ length S → ((i : ℕ) → i < length seen → (1 ≤ slice_index seen i) × (slice_index seen i < length S)) → AreRanked S W G
     → ((v : ℕ) → v < length S → slice_index T v ≡ slice_index S v + (if list_any (nat_eq v) seen then step else 0)) → IsPlayedBut T X 0
     → ((i : ℕ) → slice_index H i < length S) → ((v : ℕ) → slice_index S v ≢ 0 → list_any (nat_eq v) H ≡ true) → ((v : ℕ) → list_any (nat_eq v) seen ≡ true → list_any (nat_eq v) H ≡ true) → AreRanked T X H
-AreRanked-played S W G T X H seen step same variables h sums played within gained noted = record {
+AreRanked-gained S W G T X H seen step same variables h sums played within gained noted = record {
   played = played;
   none = none;
   within = λ i. (let less = within i in omega arith);

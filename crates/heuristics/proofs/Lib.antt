@@ -2,8 +2,9 @@ pub mod TournamentLemmas
 pub mod RaisedScores
 pub mod RankingLemmas
 pub mod GainsAtOnce
+pub mod KeptGains
 pub mod WaitingOnes
 pub mod RankingViews
 pub mod RecentGlues
 pub mod CandidateOrder
-pub mod HalfLemmas
+pub mod LateLemmas

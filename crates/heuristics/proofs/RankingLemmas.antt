@@ -119,3 +119,12 @@ room-left S now xs k step top distinct less inside h room =
     let before : slice_index now (slice_index xs k) ≡ slice_index S (slice_index xs k) + 0 = h (slice_index xs k) inside ∙ ap (λ (b : Bool). slice_index S (slice_index xs k) + (if b then step else 0)) out in
     let bound = room (slice_index xs k) in
     omega arith
+
+-- all scores are 0
+pub AreRanked-none : (T X G : List ℕ) → ((v : ℕ) → slice_index T v ≡ 0) → IsPlayedBut T X 0 → G ≡ [] → AreRanked T X G
+AreRanked-none T X G zeros played e = rw e (record {
+  played = played;
+  none = zeros 0;
+  within = λ i. played.field.some;
+  gained = λ v some. absurd (some (zeros v));
+})

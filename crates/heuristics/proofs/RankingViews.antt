@@ -1,17 +1,19 @@
 -- What a ranking shows of its tables: scores by variable, and which variables wait.
-use Rattle.std.proofs.Common.{◌^◌, ◌≡◌, ◌≢◌, ℕ, zero, suc, ◌+◌, ◌-◌, ◌*◌, ◌<◌, ◌≤◌, inl, inr, Bool, true, false, List, [], ◌∷◌, length, drop, map, filter, get_or, slice_index, slice_index_or, slice_set, nat_lt, nat_eq, ltb-true, refl, ap, sym, ◌∙◌, ◌^◌, subst, ⊎_elim, Some, None, replicate, All, arith, if◌then◌else◌}
+use Rattle.std.proofs.Common.{◌≡◌, ◌≢◌, ℕ, zero, suc, ◌+◌, ◌-◌, ◌*◌, ◌/◌, ◌<◌, ◌≤◌, inl, inr, Bool, true, false, List, [], ◌∷◌, length, drop, map, filter, get_or, slice_index, slice_index_or, slice_set, nat_lt, nat_eq, ltb-true, refl, ap, sym, ◌∙◌, subst, ⊎_elim, Some, None, replicate, All, arith, if◌then◌else◌}
 use Rattle.std.specs.List.{list_any}
 use Rattle.std.proofs.lemmas.Bool.{cases_eq, cases_lt, lt-ltb}
 use Rattle.std.proofs.lemmas.Grind.{get_or_after_one}
-use Rattle.std.proofs.lemmas.List.{get_or-drop, get_or_push, get_or_append_left, ext_get_or, length-drop, length-map, map-set, get_or_past, length-replicate}
-use Rattle.std.proofs.lemmas.List.Elements.{All-head, All-tail, All-weaker}
+use Rattle.std.proofs.lemmas.List.{get_or-drop, get_or_default, get_or_push, get_or_append_left, ext_get_or, length-drop, length-map, map-set, get_or_past, length-replicate}
+use Rattle.std.proofs.lemmas.List.Elements.{All-head, All-tail}
 use Rattle.theory.specs.Plans.{Constants}
+use Rattle.theory.specs.Modes.{Mode, restarting, stable}
 use Rattle.theory.specs.Trails.{variables}
-use Rattle.theory.specs.Scores.{Scores, score_of, best_of, first_scores, gained, scores_after}
-use Rattle.theory.proofs.searching.ScoreBounds.{scores-most}
+use Rattle.theory.specs.Scores.{Scores, score_of, best_of, first_scores, growth, gained, divided, scores_after}
+use Rattle.theory.proofs.searching.ScoreBounds.{scores-bound, step-stays, step-after}
 use Rattle.theory.proofs.searching.ModelLemmas.{length-variables}
+use Rattle.heuristics.specs.Ranges.{AreInRange}
 use Rattle.heuristics.specs.Tournaments.{Beats, IsField, IsPlayedBut}
-use Rattle.heuristics.specs.Rankings.{Ranking, ranking, waits, waiting_in, first_ranking, with_waiting, with_gains}
+use Rattle.heuristics.specs.Rankings.{Ranking, ranking, waits, waiting_in, AreBounded, first_ranking, with_waiting}
 use Rattle.heuristics.proofs.TournamentLemmas.{root-beats, node-from-leaf}
 use Rattle.theory.proofs.searching.BestOnes.{IsTop, best_of-top, best_of-nobody}
 
@@ -131,10 +133,10 @@ root-some c S step W h root = best_of-top (record { scores = drop 1 S; step = st
         }
 
 -- the scores of those seen have gained
-pub scores-gained : (c : Constants) (S T seen : List ℕ) (step : ℕ) → length T ≡ length S
+pub scores-gained : (c : Constants) (m : Mode) (S T seen : List ℕ) (step : ℕ) → length T ≡ length S
     → ((v : ℕ) → v < length S → slice_index T v ≡ slice_index S v + (if list_any (nat_eq v) seen then step else 0))
-    → drop 1 T ≡ (gained c (length (drop 1 S)) (λ v. list_any (nat_eq v) seen) (record { scores = drop 1 S; step = step })).scores
-scores-gained c S T seen step long h =
+    → drop 1 T ≡ (gained c m (length (drop 1 S)) (λ v. list_any (nat_eq v) seen) (record { scores = drop 1 S; step = step })).scores
+scores-gained c m S T seen step long h =
     let same : length (drop 1 T) ≡ length (drop 1 S) = (let a = length-drop 1 T in let b = length-drop 1 S in omega arith) in
     by-variables f T each ∙ ap (λ V. map f (variables V)) same
   where
@@ -153,6 +155,9 @@ pub same-ranking : (c d : Constants) (A B : List ℕ) (s t : ℕ) (a b : List Bo
     → ◌≡◌ {A = Ranking} (record { constants = c; scores = record { scores = A; step = s }; waiting = a }) (record { constants = d; scores = record { scores = B; step = t }; waiting = b })
 same-ranking c d A B s t a b e f g h = rw (e, f, g, h) refl
 
+same-parts : (c : Constants) (s t : Scores) (a b : List Bool) → s ≡ t → a ≡ b → ◌≡◌ {A = Ranking} (record { constants = c; scores = s; waiting = a }) (record { constants = c; scores = t; waiting = b })
+same-parts c s t a b e f = rw (e, f) refl
+
 -- a leaf is written, in winners Y as they are put back
 pub entered : (c : Constants) (S : List ℕ) (step : ℕ) (W X Y : List ℕ) (v x : ℕ) (b : Bool) → 1 ≤ v → nat_lt 0 x ≡ b → Y ≡ X → drop (length S) X ≡ slice_set (drop (length S) W) v x
     → ◌≡◌ {A = Ranking} (ranking c S step Y) (with_waiting (ranking c S step W) v b)
@@ -160,13 +165,17 @@ entered c S step W X Y v x b low is back leaves =
     same-ranking c c (drop 1 S) (drop 1 S) step step (waiting_in S Y) (slice_set (waiting_in S W) (v - 1) b) refl refl refl
     (ap (waiting_in S) back ∙ waiting-set S W X v x low leaves ∙ ap (slice_set (waiting_in S W) (v - 1)) is)
 
--- the scores of those seen have gained, in tables Z and Y as they are put back
-pub gained-view : (c : Constants) (S T Z seen : List ℕ) (step : ℕ) (W X Y : List ℕ) → Z ≡ T → Y ≡ X → length T ≡ length S → drop (length S) X ≡ drop (length S) W
+pub grown-after : (c : Constants) (m : Mode) (S T seen : List ℕ) (step part : ℕ) → length T ≡ length S → part ≡ growth c m
     → ((v : ℕ) → v < length S → slice_index T v ≡ slice_index S v + (if list_any (nat_eq v) seen then step else 0))
-    → ◌≡◌ {A = Ranking} (ranking c Z step Y) (with_gains (ranking c S step W) seen)
-gained-view c S T Z seen step W X Y e f long leaves h =
-    same-ranking c c (drop 1 Z) _ step step (waiting_in Z Y) (waiting_in S W) refl (ap (drop 1) e ∙ scores-gained c S T seen step long h) refl
-    (ap (λ (t : List ℕ). waiting_in t Y) e ∙ ap (waiting_in T) f ∙ waiting-same S T W X long leaves)
+    → divided c (record { scores = drop 1 T; step = step + step / part }) ≡ scores_after c m (length (drop 1 S)) (λ v. list_any (nat_eq v) seen) (record { scores = drop 1 S; step = step })
+grown-after c m S T seen step part same is h =
+    ap (λ p. divided c (record { scores = drop 1 T; step = step + step / p })) is
+    ∙ ap (λ (xs : List ℕ). divided c (record { scores = xs; step = step + step / growth c m })) (scores-gained c m S T seen step same h)
+
+-- the scores are others, and the leaves stay
+pub after-view : (c : Constants) (S U : List ℕ) (step next : ℕ) (W X : List ℕ) (s : Scores) → length U ≡ length S → drop (length S) X ≡ drop (length S) W
+    → ◌≡◌ {A = Scores} (record { scores = drop 1 U; step = next }) s → ◌≡◌ {A = Ranking} (ranking c U next X) (record (ranking c S step W) { scores = s })
+after-view c S U step next W X s same leaves e = same-parts c _ _ (waiting_in U X) (waiting_in S W) e (waiting-same S U W X same leaves)
 
 -- another cube begins
 pub reset-view : (c : Constants) (S T Z : List ℕ) (step first : ℕ) (W X Y : List ℕ) → first ≡ c.first_step → Z ≡ T → Y ≡ X → length T ≡ length S → drop (length S) X ≡ drop (length S) W
@@ -247,6 +256,21 @@ open-view c V S first W X Y is zeros back leaves wait =
     zero-at : (T : List ℕ) (n v : ℕ) → T ≡ replicate n 0 → slice_index T v ≡ 0
     zero-at T n v e = ap (λ (t : List ℕ). slice_index t v) e ∙ none n v
 
--- no score gains more than the greatest step
-pub bound-after : (c : Constants) (V : ℕ) (seen : ℕ → Bool) (s : Scores) (b : ℕ) → s.step ≤ 2 ^ 40 → All (λ x. x ≤ b) s.scores → All (λ x. x ≤ b + 2 ^ 40) (scores_after c V seen s).scores
-bound-after c V seen s b small h = All-weaker (λ x. x ≤ b + s.step) (λ x. x ≤ b + 2 ^ 40) (λ x l. omega arith) (scores_after c V seen s).scores (scores-most c V seen s b h)
+-- what the numbers of the search say of a mode's growth
+growth-within : (c : Constants) (m : Mode) → AreInRange c → (1 ≤ growth c m) × (growth c m ≤ 20)
+growth-within c restarting h = h.restarting_growth
+growth-within c stable h = h.stable_growth
+
+-- the bounds after a conflict
+pub bounds-after : (c : Constants) (m : Mode) (V : ℕ) (seen : ℕ → Bool) (s t : Scores) → AreInRange c → 64 ≤ s.step → s.step < c.greatest_step → All (λ x. x ≤ 32 * (s.step + 1)) s.scores
+    → t ≡ scores_after c m V seen s → (64 ≤ t.step) × (t.step < c.greatest_step) × All (λ x. x ≤ 32 * (t.step + 1)) t.scores
+bounds-after c m V seen s t range low high h e =
+    let within = growth-within c m range in
+    let parts = range.divisor in
+    let two = parts.0 in
+    rw e (step-stays c m V seen s 64 (omega arith) parts.1 low, step-after c m V seen s parts.0 high, scores-bound c m V seen s within.0 within.1 (omega arith) low h)
+
+pub bounded-first : (T : List ℕ) (step : ℕ) → ((v : ℕ) → slice_index T v ≡ 0) → AreBounded T step
+bounded-first T step zeros k d less =
+    let read : get_or (drop 1 T) k d ≡ 0 = get_or_default (drop 1 T) k d 0 less ∙ get_or_after_one T k 0 ∙ zeros (1 + k) in
+    omega arith

@@ -1,6 +1,8 @@
 -- What the focused search chooses by.
 pub mod Ranges
+pub mod Modes
+pub mod Changes
 pub mod Tournaments
 pub mod Rankings
 pub mod Averages
-pub mod Halves
+pub mod Lateness

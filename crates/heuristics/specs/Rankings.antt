@@ -1,10 +1,11 @@
 -- The variables by their scores, and which of them wait to be chosen.
-use Rattle.std.specs.Prelude.{◌≡◌, ◌≢◌, ℕ, ◌+◌, ◌-◌, ◌/◌, ◌<◌, Bool, true, false, List, map, filter, drop, length, Option, nat_eq, nat_lt, slice_index, slice_index_or, slice_set}
+use Rattle.std.specs.Prelude.{◌≡◌, ◌≢◌, ℕ, ◌+◌, ◌-◌, ◌*◌, ◌<◌, ◌≤◌, Bool, true, false, All, List, map, filter, drop, length, Option, nat_eq, nat_lt, slice_index, slice_index_or, slice_set}
 use Rattle.std.specs.List.{list_any}
 use Rattle.theory.specs.Literals.{Literal, IsVariable, has_var}
 use Rattle.theory.specs.Plans.{Constants}
+use Rattle.theory.specs.Modes.{Mode}
 use Rattle.theory.specs.Trails.{variables}
-use Rattle.theory.specs.Scores.{Scores, first_scores, best_of, gained, divided, scores_after}
+use Rattle.theory.specs.Scores.{Scores, first_scores, best_of, scores_after}
 use Rattle.heuristics.specs.Tournaments.{IsPlayedBut}
 
 -- the numbers of the search, the scores of the variables 1, 2 and so on, and whether each of them
@@ -37,17 +38,9 @@ AllWait r P = (v : ℕ) → IsVariable (vars_of r) v → has_var P v ≡ false �
 abbrev pub with_waiting : Ranking → ℕ → Bool → Ranking
 with_waiting r v b = record r { waiting = slice_set r.waiting (v - 1) b }
 
--- these variables have gained a step
-abbrev pub with_gains : Ranking → List ℕ → Ranking
-with_gains r seen = record r { scores = record { scores = (gained r.constants (vars_of r) (λ v. list_any (nat_eq v) seen) r.scores).scores; step = r.scores.step } }
-
--- the step has grown
-abbrev pub grown : Ranking → Ranking
-grown r = record r { scores = divided r.constants (record { scores = r.scores.scores; step = r.scores.step + r.scores.step / r.constants.growth }) }
-
--- the scores after a conflict that has seen these variables
-abbrev pub after_conflict : Ranking → List ℕ → Ranking
-after_conflict r seen = record r { scores = scores_after r.constants (vars_of r) (λ v. list_any (nat_eq v) seen) r.scores }
+-- the scores after a conflict in this mode that has seen these variables
+abbrev pub after_conflict : Ranking → Mode → List ℕ → Ranking
+after_conflict r mode seen = record r { scores = scores_after r.constants mode (vars_of r) (λ v. list_any (nat_eq v) seen) r.scores }
 
 -- all but the scores stays
 pub record IsKept (r s : Ranking) : Type 0 where
@@ -71,6 +64,10 @@ pub record AreRanked (S W G : List ℕ) : Type 0 where
   pub none : slice_index S 0 ≡ 0
   pub within : (i : ℕ) → slice_index G i < length S
   pub gained : (v : ℕ) → slice_index S v ≢ 0 → list_any (nat_eq v) G ≡ true
+
+-- scores S by variable are at most 32 times one more than the step
+abbrev pub AreBounded : List ℕ → ℕ → Type 0
+AreBounded S step = All (λ x. x ≤ 32 * (step + 1)) (drop 1 S)
 
 -- what scores by variable, a step and a tournament show
 abbrev pub ranking : Constants → List ℕ → ℕ → List ℕ → Ranking

@@ -4,7 +4,7 @@ ghost use Rattle.std.specs.List.{list_any};
 ghost use Rattle.std.specs.List.Sorted.{IsPermutation, IsSortedBy};
 ghost use Rattle.std.specs.Ordering.{is_lt};
 ghost use Rattle.theory.specs.Forgetting as forgetting;
-ghost use Rattle.heuristics.specs.Halves.{AreOfDistinctNumbers};
+ghost use Rattle.heuristics.specs.Lateness.{AreOfDistinctNumbers};
 
 use crate::candidate::Candidate;
 use std::alloc::{AllocError, Global};
@@ -32,17 +32,17 @@ fn sort(candidates: &mut [Candidate])
     candidates.sort_unstable_by(|a, b| compare(a, b));
 }
 
-/// The numbers of the last half of the candidates, in some order. It takes the time of a sort, and
-/// leaves the candidates in another order, also where memory runs out.
-pub fn last_half(alloc: Global, candidates: &mut [Candidate]) -> Result<Vec<u64>, AllocError>
+/// The numbers of all but the first quarter of the candidates, in some order. It takes the time of a
+/// sort, and leaves the candidates in another order, also where memory runs out.
+pub fn late_ones(alloc: Global, candidates: &mut [Candidate]) -> Result<Vec<u64>, AllocError>
     requires { AreOfDistinctNumbers candidates.old }
     ensures numbers { IfOk result (λ numbers. (n : ℕ) →
-        list_any (nat_eq n) numbers.items ≡ list_any (nat_eq n) (forgetting.last_half candidates.old)) }
-    ensures count { IfOk result (λ numbers. vec_len numbers ≡ length candidates.old / 2) }
+        list_any (nat_eq n) numbers.items ≡ list_any (nat_eq n) (forgetting.late_ones candidates.old)) }
+    ensures count { IfOk result (λ numbers. vec_len numbers ≡ length candidates.old - length candidates.old / 4) }
     ensures candidates { IsPermutation candidates.old candidates.new }
 {
     sort(candidates);
-    let kept = candidates.len() - candidates.len() / 2;
+    let kept = candidates.len() / 4;
     let mut numbers = Vec::new(alloc);
     for candidate in &candidates[kept..] {
         numbers.push(candidate.number)?;

@@ -5,9 +5,9 @@ ghost use Rattle.theory.specs.Literals.{Literal, Clause, has_var};
 ghost use Rattle.theory.specs.Plans as plans;
 ghost use Rattle.theory.specs.Trails.{Trail};
 ghost use Rattle.theory.specs.Scores.{best_outside};
-ghost use Rattle.theory.specs.Forgetting.{candidates, forget};
+ghost use Rattle.theory.specs.Forgetting.{Mark, candidates, forget};
 ghost use Rattle.heuristics.specs.Rankings.{Ranking, AllWait, vars_of, best_waiting};
-ghost use Rattle.heuristics.specs.Halves.{AreOfDistinctNumbers};
+ghost use Rattle.heuristics.specs.Lateness.{AreOfDistinctNumbers};
 
 /// Where each variable without a literal in a list waits, the best one that waits is the best one
 /// without, if it has none there; and where none waits, there is none.
@@ -21,8 +21,8 @@ pub fn best_waiting_is_best()
 /// The candidates of learnt clauses have distinct numbers; and clauses are forgotten by which
 /// numbers there are, in any order.
 pub fn numbers_decide()
-    ensures distinct { (c : plans.Constants) (T : Trail) (n : ℕ) (learnt : List Clause) (glues : List ℕ) →
-        AreOfDistinctNumbers (candidates c T n learnt glues) }
+    ensures distinct { (c : plans.Constants) (T : Trail) (n : ℕ) (learnt : List Clause) (marks : List Mark) →
+        AreOfDistinctNumbers (candidates c T n learnt marks) }
     ensures forgotten { (ms ns : List ℕ) (n : ℕ) (K : List Clause) → ((k : ℕ) → list_any (nat_eq k) ms ≡ list_any (nat_eq k) ns) →
         forget ms n K ≡ forget ns n K }
 {}

@@ -1,20 +1,24 @@
-//! What the focused search chooses by: the scores of variables, restarts, and which learnt clauses
-//! are forgotten.
+//! What the focused search chooses by: its modes and rounds, the scores of variables, restarts, and
+//! which learnt clauses are forgotten.
 #![tactic(auto)]
 
 mod candidate;
 mod constants;
 mod forgetting;
 mod laws;
+mod mode;
+mod pace;
 mod restarts;
-mod schedule;
 mod scores;
 mod tournament;
+mod turn;
 
 pub use candidate::Candidate;
 pub use constants::Constants;
-pub use forgetting::last_half;
+pub use forgetting::late_ones;
 pub use laws::{best_waiting_is_best, numbers_decide};
+pub use mode::Mode;
+pub use pace::Pace;
 pub use restarts::Glues;
-pub use schedule::Schedule;
 pub use scores::Scores;
+pub use turn::{Change, Turn};

@@ -1,15 +1,15 @@
 //! The scores of variables, by which the focused search decides and splits.
-ghost use Rattle.std.specs.Prelude.{◌≡◌, ◌≢◌, ◌<◌, ◌≤◌, ◌+◌, ◌/◌, ◌^◌, ℕ, true, false, map, drop, length, slice_index, slice_set, nat_eq, IfOk, OnOk, if◌then◌else◌};
+ghost use Rattle.std.specs.Prelude.{◌≡◌, ◌≢◌, ◌<◌, ◌≤◌, ◌+◌, ◌/◌, ◌^◌, ℕ, List, true, false, map, filter, drop, length, slice_index, nat_eq, nat_lt, IfOk, OnOk, OnErr, if◌then◌else◌};
 ghost use Rattle.std.specs.List.{list_any};
 ghost use Rattle.theory.specs.Literals.{IsVariable};
-ghost use Rattle.std.specs.Prelude.{List, All};
 ghost use Rattle.theory.specs.Trails.{variables};
-ghost use Rattle.heuristics.specs.Rankings.{waiting_in};
-ghost use Rattle.theory.specs.Scores.{first_scores};
+ghost use Rattle.theory.specs.Scores.{first_scores, divided, scores_after};
+ghost use Rattle.heuristics.specs.Modes.{mode_of};
 ghost use Rattle.heuristics.specs.Tournaments.{IsField, IsPlayedBut};
-ghost use Rattle.heuristics.specs.Rankings.{AreRanked, AreDistinct, first_ranking, vars_of, best_waiting, with_waiting, with_gains, grown, after_conflict, IsKept};
+ghost use Rattle.heuristics.specs.Rankings.{waiting_in, AreRanked, AreDistinct, first_ranking, vars_of, best_waiting, with_waiting, after_conflict, IsKept};
 
 use crate::constants::Constants;
+use crate::mode::Mode;
 use crate::tournament::{enter, play_all, raise, rescore};
 use std::alloc::{AllocError, Global};
 use std::marker::Model;
@@ -30,21 +30,21 @@ pub struct Scores {
     step: u64,
     // the tournament of those that wait
     winners: Vec<u32>,
-    // the variables that gained a step in this cube
+    // the variables that have a score, and perhaps others
     gained: Vec<u32>,
 }
 
 impl Model for Scores {
-    ghost use Rattle.std.specs.Prelude.{◌<◌};
+    ghost use Rattle.std.specs.Prelude.{◌<◌, ◌≤◌};
     ghost use Rattle.heuristics.specs.Ranges.{AreInRange};
-    ghost use Rattle.heuristics.specs.Rankings.{Ranking, AreRanked, ranking};
+    ghost use Rattle.heuristics.specs.Rankings.{Ranking, AreRanked, AreBounded, ranking};
 
     ghost Value = { Ranking };
 
     ghost view = { λ a. ranking a.constants a.scores.items a.step a.winners.items };
 
     ghost invariant = { λ a. AreRanked a.scores.items a.winners.items a.gained.items × AreInRange a.constants
-        × (a.step < a.constants.greatest_step) };
+        × (64 ≤ a.step) × (a.step < a.constants.greatest_step) × AreBounded a.scores.items a.step };
 }
 
 /// The leaf of each variable, which waits, and of number 0, in a tournament that isn't played yet.
@@ -58,54 +58,6 @@ fn leaves_of(alloc: Global, vars: u32) -> Result<Vec<u32>, AllocError>
         winners[count + variable] = variable as u32;
     }
     Ok(winners)
-}
-
-/// Adds a step to the score of a variable.
-fn gain(
-    scores: &mut [u64],
-    winners: &mut [u32],
-    gained: &mut Vec<u32>,
-    variable: u32,
-    step: u64,
-) -> Result<(), AllocError>
-    requires ranked { AreRanked scores.old winners.old gained.old.items }
-    requires inside { (1 ≤ variable) × (variable < length scores.old) }
-    requires room { slice_index scores.old variable + step < 2 ^ 64 }
-    ensures ranked { AreRanked scores.new winners.new gained.new.items }
-    ensures leaves { drop (length scores.old) winners.new ≡ drop (length scores.old) winners.old }
-    ensures gained { OnOk result (scores.new ≡ slice_set scores.old variable (slice_index scores.old variable + step)) }
-{
-    let score = scores[variable as usize];
-    if score == 0 {
-        gained.push(variable)?;
-    }
-    raise(scores, winners, variable, score + step);
-    Ok(())
-}
-
-/// Adds a step to the score of each variable of a list, and plays its matches again, one after the
-/// other. Where memory runs out, only those before gain it.
-fn gain_each(
-    scores: &mut [u64],
-    winners: &mut [u32],
-    gained: &mut Vec<u32>,
-    seen: &[u32],
-    step: u64,
-) -> Result<(), AllocError>
-    requires ranked { AreRanked scores.old winners.old gained.old.items }
-    requires variables { (i : ℕ) → i < length seen.now →
-        (1 ≤ slice_index seen.now i) × (slice_index seen.now i < length scores.old) }
-    requires distinct { AreDistinct seen.now }
-    requires room { (v : ℕ) → slice_index scores.old v + step < 2 ^ 64 }
-    ensures ranked { AreRanked scores.new winners.new gained.new.items }
-    ensures leaves { drop (length scores.old) winners.new ≡ drop (length scores.old) winners.old }
-    ensures gained { OnOk result ((v : ℕ) → v < length scores.old → slice_index scores.new v ≡
-        slice_index scores.old v + (if list_any (nat_eq v) seen.now then step else 0)) }
-{
-    for variable in seen {
-        gain(scores, winners, gained, *variable, step)?;
-    }
-    Ok(())
 }
 
 /// Notes each variable of a list that has the score 0 yet. Where memory runs out, only those before
@@ -140,58 +92,47 @@ fn add_to_all(scores: &mut [u64], seen: &[u32], step: u64)
     }
 }
 
-/// Adds a step to the score of each variable of a list, and then plays all matches. Where memory
-/// runs out, none gains it: they are noted before, so that no score changes without its matches.
-fn gain_at_once(
-    scores: &mut [u64],
-    winners: &mut [u32],
-    gained: &mut Vec<u32>,
-    seen: &[u32],
-    step: u64,
-) -> Result<(), AllocError>
-    requires ranked { AreRanked scores.old winners.old gained.old.items }
+/// Adds a step to the score of each variable of a list, and plays its matches again, one after the
+/// other.
+fn raise_each(scores: &mut [u64], winners: &mut [u32], seen: &[u32], step: u64)
+    requires played { IsPlayedBut scores.old winners.old 0 }
     requires variables { (i : ℕ) → i < length seen.now →
         (1 ≤ slice_index seen.now i) × (slice_index seen.now i < length scores.old) }
     requires distinct { AreDistinct seen.now }
     requires room { (v : ℕ) → slice_index scores.old v + step < 2 ^ 64 }
-    ensures ranked { AreRanked scores.new winners.new gained.new.items }
+    ensures played { IsPlayedBut scores.new winners.new 0 }
     ensures leaves { drop (length scores.old) winners.new ≡ drop (length scores.old) winners.old }
-    ensures gained { OnOk result ((v : ℕ) → v < length scores.old → slice_index scores.new v ≡
-        slice_index scores.old v + (if list_any (nat_eq v) seen.now then step else 0)) }
+    ensures gained { (v : ℕ) → v < length scores.old → slice_index scores.new v ≡
+        slice_index scores.old v + (if list_any (nat_eq v) seen.now then step else 0) }
 {
-    note_first_gains(scores, gained, seen)?;
-    add_to_all(scores, seen, step);
-    play_all(scores, winners);
-    Ok(())
+    for variable in seen {
+        let score = scores[*variable as usize] + step;
+        raise(scores, winners, *variable, score);
+    }
 }
 
-/// Adds a step to the score of each variable of a list. Where memory runs out, only some gain it.
-fn gain_all(
-    scores: &mut [u64],
-    winners: &mut [u32],
-    gained: &mut Vec<u32>,
-    seen: &[u32],
-    step: u64,
-) -> Result<(), AllocError>
-    requires ranked { AreRanked scores.old winners.old gained.old.items }
+/// Adds a step to the score of each variable of a list.
+fn gain_all(scores: &mut [u64], winners: &mut [u32], seen: &[u32], step: u64)
+    requires played { IsPlayedBut scores.old winners.old 0 }
     requires variables { (i : ℕ) → i < length seen.now →
         (1 ≤ slice_index seen.now i) × (slice_index seen.now i < length scores.old) }
     requires distinct { AreDistinct seen.now }
     requires room { (v : ℕ) → slice_index scores.old v + step < 2 ^ 64 }
-    ensures ranked { AreRanked scores.new winners.new gained.new.items }
+    ensures played { IsPlayedBut scores.new winners.new 0 }
     ensures leaves { drop (length scores.old) winners.new ≡ drop (length scores.old) winners.old }
-    ensures gained { OnOk result ((v : ℕ) → v < length scores.old → slice_index scores.new v ≡
-        slice_index scores.old v + (if list_any (nat_eq v) seen.now then step else 0)) }
+    ensures gained { (v : ℕ) → v < length scores.old → slice_index scores.new v ≡
+        slice_index scores.old v + (if list_any (nat_eq v) seen.now then step else 0) }
 {
     if seen.len() < scores.len() / LARGE_PART {
-        gain_each(scores, winners, gained, seen, step)?;
+        raise_each(scores, winners, seen, step);
     } else {
-        gain_at_once(scores, winners, gained, seen, step)?;
+        add_to_all(scores, seen, step);
+        play_all(scores, winners);
     }
-    Ok(())
 }
 
-/// Divides all scores, and plays the tournament anew, since scores may become equal.
+/// Divides all scores, and plays the tournament anew, since scores may become equal. Most are 0, and
+/// to look is quicker than to divide: of a million variables it takes half the time, 3 ms.
 fn divide_all(scores: &mut [u64], winners: &mut [u32], divisor: u64)
     requires played { IsPlayedBut scores.old winners.old 0 }
     requires divisor { 1 ≤ divisor }
@@ -200,9 +141,80 @@ fn divide_all(scores: &mut [u64], winners: &mut [u32], divisor: u64)
     ensures leaves { drop (length scores.old) winners.new ≡ drop (length scores.old) winners.old }
 {
     for score in scores.iter_mut() {
-        *score /= divisor;
+        if *score > 0 {
+            *score /= divisor;
+        }
     }
     play_all(scores, winners);
+}
+
+/// Takes out each variable whose score is 0, in place.
+fn keep_scored(gained: &mut Vec<u32>, scores: &[u64])
+    requires { (i : ℕ) → slice_index gained.old.items i < length scores.now }
+    ensures { gained.new.items ≡ filter (λ v. nat_lt 0 (slice_index scores.now v)) gained.old.items }
+{
+    let mut kept = 0;
+    for place in 0..gained.len() {
+        let variable = gained[place];
+        if scores[variable as usize] > 0 {
+            gained[kept] = variable;
+            kept += 1;
+        }
+    }
+    gained.truncate(kept);
+}
+
+/// The step, or, where it is the greatest one or above, a part of it; all scores are divided then
+/// too. Most are 0 from then on: these no longer count as gained, or they would be noted once more
+/// at each division.
+fn divide_where_due(
+    scores: &mut [u64],
+    winners: &mut [u32],
+    gained: &mut Vec<u32>,
+    step: u64,
+    constants: Constants,
+) -> u64
+    requires ranked { AreRanked scores.old winners.old gained.old.items }
+    requires divisor { 1 ≤ constants.divisor }
+    ensures divided { record { scores = drop 1 scores.new; step = result }
+        ≡ divided constants (record { scores = drop 1 scores.old; step = step }) }
+    ensures ranked { AreRanked scores.new winners.new gained.new.items }
+    ensures leaves { drop (length scores.old) winners.new ≡ drop (length scores.old) winners.old }
+{
+    if step < constants.greatest_step {
+        return step;
+    }
+    divide_all(scores, winners, constants.divisor);
+    keep_scored(gained, scores);
+    step / constants.divisor
+}
+
+/// Adds the step to the score of each variable of a list; and the step behind a conflict in this
+/// mode, by which all scores may have been divided. Where memory runs out, no score has changed.
+fn gain_and_grow(
+    scores: &mut [u64],
+    winners: &mut [u32],
+    gained: &mut Vec<u32>,
+    seen: &[u32],
+    step: u64,
+    constants: Constants,
+    mode: Mode,
+) -> Result<u64, AllocError>
+    requires ranked { AreRanked scores.old winners.old gained.old.items }
+    requires variables { (i : ℕ) → i < length seen.now →
+        (1 ≤ slice_index seen.now i) × (slice_index seen.now i < length scores.old) }
+    requires distinct { AreDistinct seen.now }
+    requires room { ((v : ℕ) → slice_index scores.old v + step < 2 ^ 63) × (step < 2 ^ 56) }
+    ensures after { IfOk result (λ next. record { scores = drop 1 scores.new; step = next }
+        ≡ scores_after constants (mode_of mode) (length (drop 1 scores.old)) (λ v. list_any (nat_eq v) seen.now) (record { scores = drop 1 scores.old; step = step })) }
+    ensures unchanged { OnErr result (scores.new ≡ scores.old) }
+    ensures ranked { AreRanked scores.new winners.new gained.new.items }
+    ensures leaves { drop (length scores.old) winners.new ≡ drop (length scores.old) winners.old }
+{
+    note_first_gains(scores, gained, seen)?;
+    gain_all(scores, winners, seen, step);
+    let next = step + step / constants.growth(mode);
+    Ok(divide_where_due(scores, winners, gained, next, constants))
 }
 
 /// Makes the scores of all variables that gained 0 again.
@@ -265,60 +277,31 @@ impl Scores {
         enter(&self.scores, &mut self.winners, variable, variable);
     }
 
-    /// Takes a conflict that has seen these variables, distinct ones: each one's score gains the
-    /// step, which then grows; where it comes to the greatest one, it and all scores are divided.
-    /// Where memory runs out, some of them have gained, and which ones wait stays. It takes
-    /// logarithmic time for each of them, or time by all variables where they are an eighth of
-    /// these, and where it divides.
-    pub fn learn_from(&mut self, seen: &[u32]) -> Result<(), AllocError>
+    /// Takes a conflict in this mode that has seen these variables, distinct ones: each one's score
+    /// gains the step, which then grows; where it comes to the greatest one, it and all scores are
+    /// divided. Where memory runs out, nothing has changed. It takes logarithmic time for each of
+    /// them, or time by all variables where they are an eighth of these, and where it divides.
+    pub fn learn_from(&mut self, seen: &[u32], mode: Mode) -> Result<(), AllocError>
         requires variables { (i : ℕ) → i < length seen.now → IsVariable (vars_of self.old) (slice_index seen.now i) }
         requires distinct { AreDistinct seen.now }
-        requires room { All (λ x. x ≤ 2 ^ 63) self.old.scores.scores }
-        ensures after { OnOk result (self.new ≡ after_conflict self.old seen.now) }
-        ensures bound { OnOk result ((b : ℕ) → All (λ x. x ≤ b) self.old.scores.scores →
-            All (λ x. x ≤ b + 2 ^ 40) self.new.scores.scores) }
+        ensures after { OnOk result (self.new ≡ after_conflict self.old (mode_of mode) seen.now) }
+        ensures unchanged { OnErr result (self.new ≡ self.old) }
         ensures kept { IsKept self.old self.new }
     {
-        self.gain(seen)?;
-        self.grow();
-        Ok(())
-    }
-
-    /// Adds the step to the score of each of these variables.
-    fn gain(&mut self, seen: &[u32]) -> Result<(), AllocError>
-        requires variables { (i : ℕ) → i < length seen.now → IsVariable (vars_of self.old) (slice_index seen.now i) }
-        requires distinct { AreDistinct seen.now }
-        requires room { All (λ x. x ≤ 2 ^ 63) self.old.scores.scores }
-        ensures after { OnOk result (self.new ≡ with_gains self.old seen.now) }
-        ensures step { self.old.scores.step ≤ 2 ^ 40 }
-        ensures kept { IsKept self.old self.new }
-    {
-        gain_all(
+        self.step = gain_and_grow(
             &mut self.scores,
             &mut self.winners,
             &mut self.gained,
             seen,
             self.step,
+            self.constants,
+            mode,
         )?;
         Ok(())
     }
 
-    /// Lets the step grow, and divides it and all scores where it comes to the greatest one.
-    fn grow(&mut self)
-        ensures { self.new ≡ grown self.old }
-    {
-        let constants = self.constants;
-        let step = self.step + self.step / constants.growth;
-        if step < constants.greatest_step {
-            self.step = step;
-            return;
-        }
-        divide_all(&mut self.scores, &mut self.winners, constants.divisor);
-        self.step = step / constants.divisor;
-    }
-
     /// The scores as another cube begins; which variables wait stays. It takes logarithmic time for
-    /// each gain since the last time.
+    /// each variable that has a score.
     pub fn begin_again(&mut self)
         ensures { self.new ≡ record self.old { scores = first_scores self.old.constants (vars_of self.old) } }
     {

@@ -1,2 +1,2 @@
 pub mod Numbered
-pub mod SeenScores
+pub mod FirstScores

@@ -1,3 +1,3 @@
 -- What the tests keep true of what they try.
-pub mod Bounds
+pub mod Counted
 pub mod Numbered

@@ -1,7 +1,7 @@
 -- Candidates that are numbered one after the other.
 use Rattle.std.specs.Prelude.{◌≡◌, ℕ, ◌≤◌, List, nat_eq, count_by}
 use Rattle.theory.specs.Forgetting.{Candidate}
-use Rattle.heuristics.specs.Halves.{AreOfDistinctNumbers}
+use Rattle.heuristics.specs.Lateness.{AreOfDistinctNumbers}
 
 -- distinct numbers below a bound
 pub record AreNumberedBelow (bound : ℕ) (all : List Candidate) : Type 0 where

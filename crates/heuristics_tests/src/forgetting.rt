@@ -1,42 +1,39 @@
-//! Worked times of forgetting, and which candidates are forgotten.
+//! Worked candidates: which of them are forgotten.
 ghost use Rattle.std.specs.Prelude.{◌≤◌, ◌+◌, length, IfOk};
 ghost use Rattle.heuristics_tests.specs.Numbered.{AreNumberedBelow};
 
-use crate::numbers::small;
-use heuristics::{Candidate, Schedule, last_half};
+use heuristics::{Candidate, late_ones};
 use std::alloc::{AllocError, Global};
 use std::test::Fail;
-
-/// The conflicts of a cube at which clauses are forgotten, of the first twenty.
-static TIMES: [u32; 4] = [2, 5, 9, 14];
-
-#[test]
-fn times_lie_further_apart(rt: HostRuntime) {
-    let numbers = small();
-    let mut schedule = Schedule::first(numbers);
-    for conflicts in 1..20 {
-        let due = schedule.is_due(conflicts);
-        assert!(rt; due == TIMES.contains(&conflicts), "at {conflicts}");
-        if due {
-            schedule.advance(numbers, conflicts);
-        }
-    }
-}
 
 /// The glues and sizes of candidates, which are numbered from 11 on.
 type Shapes = &'static [(u32, u32)];
 
 /// Candidates, and the numbers of those that are forgotten.
-static ROWS: [(Shapes, &[u64]); 6] = [
+static ROWS: [(Shapes, &[u64]); 7] = [
     (&[], &[]),
-    (&[(7, 7)], &[]),
-    // of the same glue and size the earlier one
-    (&[(3, 4), (3, 4)], &[11]),
-    (&[(3, 5), (3, 4), (3, 4), (3, 5)], &[11, 14]),
+    // of fewer than four all
+    (&[(7, 7)], &[11]),
+    // of the same glue and size the latest one is kept
+    (&[(3, 4), (3, 4), (3, 4), (3, 4)], &[11, 12, 13]),
+    (&[(3, 5), (3, 4), (3, 9), (3, 4)], &[11, 12, 13]),
     // a size tells less than a glue
-    (&[(3, 9), (4, 1), (3, 2), (9, 1)], &[12, 14]),
-    // of five, two
-    (&[(3, 4), (5, 2), (3, 4), (3, 9), (4, 1)], &[12, 15]),
+    (&[(3, 9), (4, 1), (9, 1), (3, 2)], &[11, 12, 13]),
+    // of five one is kept, of eight two
+    (&[(4, 1), (4, 1), (4, 1), (3, 9), (5, 2)], &[11, 12, 13, 15]),
+    (
+        &[
+            (3, 4),
+            (5, 2),
+            (3, 4),
+            (3, 9),
+            (4, 1),
+            (3, 4),
+            (4, 1),
+            (3, 3),
+        ],
+        &[11, 12, 13, 14, 15, 17],
+    ),
 ];
 
 /// Candidates of these glues and sizes.
@@ -59,7 +56,7 @@ fn forgotten(alloc: Global, shapes: &[(u32, u32)]) -> Result<Vec<u64>, AllocErro
         return Ok(Vec::new(alloc));
     }
     let mut candidates = numbered(alloc, shapes)?;
-    let mut numbers = last_half(alloc, &mut candidates)?;
+    let mut numbers = late_ones(alloc, &mut candidates)?;
     numbers.sort()?;
     Ok(numbers)
 }
@@ -76,7 +73,7 @@ fn first_failed(alloc: Global, rows: &[(Shapes, &[u64])]) -> Result<Option<usize
 }
 
 #[test]
-fn the_worse_half_is_forgotten(rt: HostRuntime) -> Result<(), Fail> {
+fn the_first_quarter_is_kept(rt: HostRuntime) -> Result<(), Fail> {
     assert_eq!(rt; first_failed(rt.alloc(), &ROWS)?, None);
     Ok(())
 }

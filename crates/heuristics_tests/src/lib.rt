@@ -1,4 +1,4 @@
-//! Worked rows of scores, restarts and forgetting.
+//! Worked rows of scores, restarts, rounds and forgetting.
 #![tactic(auto)]
 
 #[cfg(test)]
@@ -7,5 +7,7 @@ mod forgetting;
 mod numbers;
 #[cfg(test)]
 mod restarts;
+#[cfg(test)]
+mod rounds;
 #[cfg(test)]
 mod scores;

@@ -3,20 +3,23 @@ ghost use Rattle.std.specs.Prelude.{◌≡◌};
 
 use heuristics::Constants;
 
-/// A window of three glues; steps of 8, 9 and then divided by 4; times at the conflicts 2, 5, 9 and
-/// so on.
+/// Steps that double in restarting mode and grow by a half in stable mode, and are divided by 4 from
+/// 256 on; a window of three glues, whose sum is to be above four average ones, and restarts two
+/// conflicts apart; rounds that end with the conflicts 2, 6, 12 and 20.
 pub fn small() -> Constants
-    ensures window { result.window ≡ 3 }
-    ensures step { result.first_step ≡ 8 }
+    ensures { result.window ≡ 3 }
 {
     Constants {
-        first_step: 8,
-        growth: 8,
-        greatest_step: 10,
+        first_step: 64,
+        restarting_growth: 1,
+        stable_growth: 2,
+        greatest_step: 256,
         divisor: 4,
         window: 3,
-        first_interval: 2,
-        interval_gain: 1,
+        above: 4,
+        apart: 2,
+        mode_length: 4,
+        round_length: 2,
         kept_glue: 2,
     }
 }
@@ -24,8 +27,11 @@ pub fn small() -> Constants
 #[test]
 fn default_numbers(rt: HostRuntime) {
     let numbers = Constants::default();
-    assert!(rt; numbers.first_step == 65_536 && numbers.growth == 20);
-    assert!(rt; numbers.greatest_step == 1_099_511_627_776 && numbers.divisor == 16_777_216);
-    assert!(rt; numbers.window == 50 && numbers.kept_glue == 2);
-    assert!(rt; numbers.first_interval == 2000 && numbers.interval_gain == 300);
+    assert!(rt; numbers.first_step == 65_536);
+    assert!(rt; numbers.restarting_growth == 5 && numbers.stable_growth == 20);
+    assert!(rt; numbers.greatest_step == 72_057_594_037_927_936);
+    assert!(rt; numbers.divisor == 1_099_511_627_776);
+    assert!(rt; numbers.window == 32 && numbers.above == 35 && numbers.apart == 5);
+    assert!(rt; numbers.mode_length == 1000 && numbers.round_length == 300);
+    assert!(rt; numbers.kept_glue == 3);
 }

@@ -1,45 +1,61 @@
 //! Worked restarts, with a window of three glues.
-ghost use Rattle.std.specs.Prelude.{◌≡◌, ◌≤◌, ◌+◌, ◌*◌, length};
+ghost use Rattle.std.specs.Prelude.{◌≡◌, ◌≤◌, length};
 
 use crate::numbers::small;
-use heuristics::Glues;
+use heuristics::Mode::{Restarting, Stable};
+use heuristics::{Glues, Mode};
 use std::test::Fail;
 
-/// The glues of one cube's conflicts, and whether the search restarts there.
-static RISING: [(u8, bool); 11] = [
-    (2, false),
-    (2, false),
-    (2, false),
-    (6, false),
-    (6, true),
-    (9, false),
-    (9, false),
-    (9, true),
-    (1, false),
-    (1, false),
-    (1, false),
+/// The glue of a conflict's line, the mode, and whether the search restarts there.
+type Row = (u8, Mode, bool);
+
+/// One cube's conflicts. At the fifth one the sum of the recent glues, 14 times 5, isn't above 18
+/// times 4; at the sixth one it is; at the seventh one too, but that is too near.
+static RISING: [Row; 10] = [
+    (2, Restarting, false),
+    (2, Restarting, false),
+    (2, Restarting, false),
+    (6, Restarting, false),
+    (6, Restarting, false),
+    (9, Restarting, true),
+    (9, Restarting, false),
+    (1, Restarting, true),
+    (1, Restarting, false),
+    (1, Restarting, false),
 ];
 
-/// The same of another cube, at whose fifth conflict both averages are in the ratio of 5 to 4.
-static EVEN: [(u8, bool); 6] = [
-    (1, false),
-    (1, false),
-    (2, false),
-    (2, false),
-    (2, false),
-    (3, true),
+/// Another cube's conflicts, those in stable mode among them, whose glues don't count. At the eighth
+/// and the tenth one both sides are equal, 36 and 56.
+static IN_TURN: [Row; 12] = [
+    (1, Restarting, false),
+    (1, Restarting, false),
+    (9, Stable, false),
+    (1, Restarting, false),
+    (2, Restarting, false),
+    (9, Stable, false),
+    (2, Restarting, false),
+    (2, Restarting, false),
+    (2, Restarting, false),
+    (3, Restarting, false),
+    (9, Stable, false),
+    (9, Restarting, true),
 ];
 
 /// The first row at which a cube's glues, the first of which come now, restart otherwise than it
 /// says.
-fn first_failed(glues: &mut Glues, rows: &[(u8, bool)]) -> Option<usize>
+fn first_failed(glues: &mut Glues, rows: &[Row]) -> Option<usize>
     requires { length rows.now ≤ 100 }
 {
     glues.begin_again();
+    let mut restarted = 0;
     for place in 0..rows.len() {
-        let (glue, restarts) = rows[place];
-        if glues.take_glue(u32::from(glue), place as u32 + 1) != restarts {
+        let (glue, mode, restarts) = rows[place];
+        let conflicts = place as u32 + 1;
+        if glues.take_glue(u32::from(glue), mode, restarted, conflicts) != restarts {
             return Some(place);
+        }
+        if restarts {
+            restarted = conflicts;
         }
     }
     None
@@ -49,7 +65,8 @@ fn first_failed(glues: &mut Glues, rows: &[(u8, bool)]) -> Option<usize>
 fn restarts_by_averages(rt: HostRuntime) -> Result<(), Fail> {
     let mut glues = Glues::open(rt.alloc(), small())?;
     assert_eq!(rt; first_failed(&mut glues, &RISING), None);
-    assert_eq!(rt; first_failed(&mut glues, &EVEN), None);
+    assert_eq!(rt; first_failed(&mut glues, &IN_TURN), None);
     assert_eq!(rt; first_failed(&mut glues, &RISING), None);
+    assert!(rt; glues.restarts() == 5);
     Ok(())
 }

@@ -1,9 +1,11 @@
 //! Worked scores: which variable is the best after each act.
-ghost use Rattle.std.specs.Prelude.{◌≡◌, ◌<◌, ◌≤◌, ◌+◌, length, IfOk, OnOk};
-ghost use Rattle.heuristics_tests.specs.Bounds.{HasSeen, AreFromOne};
+ghost use Rattle.std.specs.Prelude.{◌≡◌, ◌<◌, ◌≤◌, length, IfOk, OnOk};
+ghost use Rattle.heuristics.specs.Rankings.{vars_of};
+ghost use Rattle.heuristics_tests.specs.Counted.{AreFromOne};
 
 use crate::numbers::small;
-use heuristics::Scores;
+use heuristics::Mode::{Restarting, Stable};
+use heuristics::{Mode, Scores};
 use std::alloc::{AllocError, Global};
 use std::test::Fail;
 
@@ -13,74 +15,77 @@ enum Act {
     TakeOut(u32),
     PutBack(u32),
     /// A conflict that has seen these two, the second the greater one.
-    See(u32, u32),
+    See(Mode, u32, u32),
     /// A conflict that has seen the variables 1 to this.
-    SeeTo(u32),
+    SeeTo(Mode, u32),
     BeginAgain,
 }
 
-/// Acts on four variables, and the best one after each. The steps are 8, 9, then 10, which is
-/// divided to 2, and 2 from then on.
-static ROWS: [(Act, Option<u32>); 19] = [
+/// Acts on four variables, and the best one after each.
+static ROWS: [(Act, Option<u32>); 21] = [
     // all scores are 0
     (Act::PutBack(4), Some(4)),
     (Act::TakeOut(4), Some(3)),
     (Act::PutBack(4), Some(4)),
-    // 0, 8, 8, 0
-    (Act::See(2, 3), Some(3)),
+    // 0, 64, 64, 0; the step is 128
+    (Act::See(Restarting, 2, 3), Some(3)),
     (Act::TakeOut(3), Some(2)),
-    // 9, 17, 8, 0, and by four 2, 4, 2, 0
-    (Act::See(1, 2), Some(2)),
+    // 128, 192, 64, 0 and the step 256, by four 32, 48, 16, 0 and 64
+    (Act::See(Restarting, 1, 2), Some(2)),
     (Act::TakeOut(2), Some(1)),
-    (Act::PutBack(3), Some(3)),
-    // 4, 4, 2, 2
-    (Act::See(1, 4), Some(1)),
-    // 4, 6, 4, 2
-    (Act::See(2, 3), Some(3)),
+    (Act::PutBack(3), Some(1)),
+    // 96, 48, 16, 64; the step is 96
+    (Act::See(Stable, 1, 4), Some(1)),
+    // 96, 144, 112, 64; the step is 144
+    (Act::See(Stable, 2, 3), Some(3)),
     (Act::TakeOut(3), Some(1)),
     (Act::TakeOut(1), Some(4)),
+    // 240, 144, 256, 64; the step is 216
+    (Act::See(Stable, 1, 3), Some(4)),
+    // 240, 144, 472, 280 and the step 432, by four 60, 36, 118, 70 and 108
+    (Act::See(Restarting, 3, 4), Some(4)),
     (Act::TakeOut(4), None),
     (Act::TakeOut(4), None),
     (Act::PutBack(3), Some(3)),
-    (Act::PutBack(2), Some(2)),
+    (Act::PutBack(2), Some(3)),
     (Act::BeginAgain, Some(3)),
     (Act::PutBack(1), Some(3)),
-    // 8, 8, 0, 0
-    (Act::See(1, 2), Some(2)),
+    // 64, 64, 0, 0
+    (Act::See(Restarting, 1, 2), Some(2)),
 ];
 
 /// The same on 24 variables: a conflict that has seen two of them has seen less than an eighth, and
 /// the others more.
 static MANY: [(Act, Option<u32>); 21] = [
-    // 8 at 3 and 7, and 0
-    (Act::See(3, 7), Some(7)),
+    // 64 at 3 and 7, and 0
+    (Act::See(Restarting, 3, 7), Some(7)),
     (Act::TakeOut(7), Some(3)),
-    // 17 at 3 and 7, and 9; by four 4 and 2
-    (Act::SeeTo(24), Some(3)),
+    // 192 at 3 and 7, and 128; by four 48 and 32
+    (Act::SeeTo(Restarting, 24), Some(3)),
     (Act::TakeOut(3), Some(24)),
-    // 4 at 3, 5, 7 and 20, and 2
-    (Act::See(5, 20), Some(20)),
+    // 96 at 5 and 20, 48 at 3 and 7, and 32
+    (Act::See(Restarting, 5, 20), Some(20)),
     (Act::TakeOut(5), Some(20)),
-    // 6 at 3, 5 and 7, 4 at the others up to 12 and at 20, and 2
-    (Act::SeeTo(12), Some(20)),
-    // 8, 6 up to 12, 4 at 20, and 2
-    (Act::SeeTo(12), Some(12)),
+    // 224 at 5, 176 at 3 and 7, 160 at the others up to 12, 96 at 20, and 32
+    (Act::SeeTo(Stable, 12), Some(12)),
+    // by four 104 at 5, 92 at 3 and 7, 88 up to 12, 24 at 20, and 8
+    (Act::SeeTo(Stable, 12), Some(12)),
     (Act::PutBack(7), Some(7)),
     (Act::PutBack(3), Some(7)),
     (Act::TakeOut(7), Some(3)),
     (Act::TakeOut(3), Some(12)),
-    // 8 at 1, 2, 3, 5 and 7, 6 up to 12, 4 at 20, and 2
-    (Act::See(1, 2), Some(2)),
-    // 10, 8, 6 and 4
-    (Act::SeeTo(24), Some(2)),
+    // 160 at 1 and 2
+    (Act::See(Restarting, 1, 2), Some(2)),
+    // 144 more at all
+    (Act::SeeTo(Stable, 24), Some(2)),
     (Act::TakeOut(2), Some(1)),
     // all scores are 0
     (Act::BeginAgain, Some(24)),
     (Act::TakeOut(24), Some(23)),
-    // all are 8
-    (Act::SeeTo(24), Some(23)),
-    // 17 at 1 and 3, and 8; by four 4 and 2
-    (Act::See(1, 3), Some(1)),
+    // all are 64
+    (Act::SeeTo(Restarting, 24), Some(23)),
+    // 192 at 1 and 3, and 64; by four 48 and 16
+    (Act::See(Restarting, 1, 3), Some(1)),
     (Act::PutBack(24), Some(1)),
     (Act::BeginAgain, Some(24)),
 ];
@@ -96,54 +101,27 @@ fn variables(alloc: Global, vars: u32) -> Result<Vec<u32>, AllocError>
     Ok(all)
 }
 
-/// The first scores of so many variables.
-fn first(alloc: Global, vars: u32) -> Result<Scores, AllocError>
-    ensures { IfOk result (HasSeen vars 0) }
-{
-    let scores = Scores::open(alloc, vars, small())?;
-    Ok(scores)
-}
-
 /// Takes a conflict that has seen two of so many variables.
 fn see(
     scores: &mut Scores,
     vars: usize,
-    conflicts: usize,
+    mode: Mode,
     first: u32,
     second: u32,
 ) -> Result<(), AllocError>
-    requires seen { HasSeen vars conflicts scores.old }
-    requires few { conflicts < 100 }
+    requires vars { vars_of scores.old ≡ vars }
     requires variables { (1 ≤ first) × (first < second) × (second ≤ vars) }
-    ensures { OnOk result (HasSeen vars (conflicts + 1) scores.new) }
+    ensures { OnOk result (vars_of scores.new ≡ vars) }
 {
-    scores.learn_from(&[first, second])?;
-    Ok(())
-}
-
-/// Takes a conflict that has seen these of so many variables.
-fn see_to(
-    scores: &mut Scores,
-    vars: usize,
-    conflicts: usize,
-    seen: &[u32],
-) -> Result<(), AllocError>
-    requires seen { HasSeen vars conflicts scores.old }
-    requires few { conflicts < 100 }
-    requires from_one { AreFromOne seen.now }
-    requires within { length seen.now ≤ vars }
-    ensures { OnOk result (HasSeen vars (conflicts + 1) scores.new) }
-{
-    scores.learn_from(seen)?;
+    scores.learn_from(&[first, second], mode)?;
     Ok(())
 }
 
 /// Does an act on all variables.
-fn perform(scores: &mut Scores, all: &[u32], conflicts: usize, act: Act) -> Result<(), AllocError>
-    requires seen { HasSeen (length all.now) conflicts scores.old }
-    requires few { conflicts < 100 }
+fn perform(scores: &mut Scores, all: &[u32], act: Act) -> Result<(), AllocError>
+    requires vars { vars_of scores.old ≡ length all.now }
     requires all { AreFromOne all.now }
-    ensures { OnOk result (HasSeen (length all.now) (conflicts + 1) scores.new) }
+    ensures { OnOk result (vars_of scores.new ≡ length all.now) }
 {
     let vars = all.len();
     match act {
@@ -153,11 +131,12 @@ fn perform(scores: &mut Scores, all: &[u32], conflicts: usize, act: Act) -> Resu
         Act::PutBack(variable) if 1 <= variable && variable as usize <= vars => {
             scores.put_back(variable);
         }
-        Act::See(first, second) if 1 <= first && first < second && second as usize <= vars => {
-            see(scores, vars, conflicts, first, second)?;
-        }
-        Act::SeeTo(last) if last as usize <= vars => {
-            see_to(scores, vars, conflicts, &all[..last as usize])?;
+        Act::See(mode, first, second) if 1 <= first && first < second && second as usize <= vars =>
+            {
+                see(scores, vars, mode, first, second)?;
+            }
+        Act::SeeTo(mode, last) if last as usize <= vars => {
+            scores.learn_from(&all[..last as usize], mode)?;
         }
         Act::BeginAgain => scores.begin_again(),
         _ => {}
@@ -171,13 +150,12 @@ fn first_failed(
     all: &[u32],
     rows: &[(Act, Option<u32>)],
 ) -> Result<Option<usize>, AllocError>
-    requires seen { HasSeen (length all.now) 0 scores.old }
+    requires vars { vars_of scores.old ≡ length all.now }
     requires all { AreFromOne all.now }
-    requires few { length rows.now ≤ 100 }
 {
     for place in 0..rows.len() {
         let (next, best) = rows[place];
-        perform(scores, all, place, next)?;
+        perform(scores, all, next)?;
         if scores.best() != best {
             return Ok(Some(place));
         }
@@ -190,11 +168,9 @@ fn failed(
     alloc: Global,
     vars: u32,
     rows: &[(Act, Option<u32>)],
-) -> Result<Option<usize>, AllocError>
-    requires { length rows.now ≤ 100 }
-{
+) -> Result<Option<usize>, AllocError> {
     let all = variables(alloc, vars)?;
-    let mut scores = first(alloc, vars)?;
+    let mut scores = Scores::open(alloc, vars, small())?;
     first_failed(&mut scores, &all, rows)
 }
 

@@ -1,11 +1,11 @@
-//! Whole runs by plans that divide the formula, by one hand and by several. The rows of `FOUR` and
+//! Whole runs by plans that divide the formula, by one hand and by several. The rows of `FIVE` and
 //! `EIGHT` are worked out by hand, the others by a program of its own, which goes by the definition.
 ghost use Rattle.std.specs.Prelude.{◌≤◌};
 
 use cdcl::Plan;
 use cubes::OpenGate;
 use runs::{RunFault, run_by_plan, run_one_by_plan};
-use samples::{EIGHT, FOUR};
+use samples::{EIGHT, FIVE, soon_stable};
 use std::alloc::Global;
 use std::sync::Wait;
 use std::test::Fail;
@@ -23,46 +23,46 @@ struct Row {
 
 static ROWS: [Row; 6] = [
     Row {
-        text: FOUR,
-        budget: 1,
+        text: FIVE,
+        budget: 2,
         divide: 2,
         answer: "s UNSATISFIABLE\n",
-        proof: "5 2 0 1 3 0\n6 -2 0 2 4 0\n7 0 5 6 0\n",
+        proof: "13 2 0 1 3 0\n14 -2 0 2 4 0\n15 0 13 14 0\n",
     },
     Row {
         text: EIGHT,
-        budget: 1,
-        divide: 2,
+        budget: 2,
+        divide: 3,
         answer: "s UNSATISFIABLE\n",
-        proof: "9 2 3 0 1 5 0\n10 3 0 9 3 7 0\n10 d 9 0\n11 2 -3 0 2 6 0\n12 -3 0 11 4 8 0\n12 d 11 0\n13 0 10 12 0\n",
+        proof: "9 3 2 0 1 5 0\n10 3 -2 0 3 7 0\n11 3 0 9 10 0\n11 d 9 10 0\n12 -3 2 0 2 6 0\n13 -3 -2 0 4 8 0\n14 -3 0 12 13 0\n14 d 12 13 0\n15 0 11 14 0\n",
     },
     Row {
         text: EIGHT,
-        budget: 1,
+        budget: 2,
         divide: 65536,
         answer: "s UNSATISFIABLE\n",
-        proof: "9 2 3 0 1 5 0\n10 3 0 9 3 7 0\n10 d 9 0\n11 2 -3 0 2 6 0\n12 -3 0 11 4 8 0\n12 d 11 0\n13 0 10 12 0\n",
+        proof: "9 3 2 0 1 5 0\n10 3 -2 0 3 7 0\n11 3 0 9 10 0\n11 d 9 10 0\n12 -3 2 0 2 6 0\n13 -3 -2 0 4 8 0\n14 -3 0 12 13 0\n14 d 12 13 0\n15 0 11 14 0\n",
     },
     Row {
-        text: "p cnf 7 31\n4 -5 6 0\n7 2 0\n-5 6 1 0\n5 6 0\n1 -7 0\n1 -4 0\n5 -2 3 0\n-4 5 1 0\n-1 7 -5 0\n1 -7 6 0\n6 -4 -7 0\n3 -1 -7 0\n2 7 1 0\n5 2 0\n7 2 0\n4 -2 -1 0\n1 -2 -6 0\n1 2 -6 0\n4 -1 6 0\n-3 7 0\n4 5 0\n-2 -3 0\n-6 -2 7 0\n4 5 1 0\n2 -6 -4 0\n5 2 -1 0\n5 -1 0\n6 1 7 0\n-3 7 5 0\n-3 6 5 0\n-4 3 -6 0\n",
+        text: "p cnf 7 21\n-7 -5 2 0\n5 -2 4 0\n6 -1 -5 0\n4 -5 0\n5 -4 -3 0\n-2 4 -1 0\n5 -2 -1 0\n-6 -5 -1 0\n4 -6 2 0\n7 5 6 0\n7 5 -4 0\n7 -2 0\n7 -2 1 0\n3 -2 0\n-4 5 0\n4 3 1 0\n5 6 3 0\n5 3 -6 0\n-1 -7 4 0\n3 5 -6 0\n-6 -5 -4 0\n",
         budget: 2,
-        divide: 4,
-        answer: "s SATISFIABLE\nv 1 -2 3 -4 5 6 7 0\n",
+        divide: 8,
+        answer: "s SATISFIABLE\nv -1 -2 3 -4 -5 -6 7 0\n",
         proof: "",
     },
     Row {
-        text: "p cnf 8 33\n-8 -1 -5 0\n3 -1 -6 0\n-6 -4 3 0\n2 5 7 0\n-5 2 4 0\n1 3 -7 0\n5 -6 4 0\n5 1 -4 0\n-5 1 -3 0\n5 -2 -3 0\n-4 -3 0\n5 -4 -3 0\n-1 -7 0\n-4 7 3 0\n8 2 0\n6 -3 -8 0\n3 6 -4 0\n-7 -8 0\n-6 -2 8 0\n2 -3 -4 0\n4 8 -1 0\n6 5 0\n-7 3 5 0\n-5 8 4 0\n5 2 -6 0\n-4 -8 -6 0\n-3 -5 6 0\n-7 8 2 0\n7 -2 -5 0\n-4 -6 0\n6 -5 -7 0\n2 7 -4 0\n2 -1 -8 0\n",
+        text: "p cnf 8 24\n-1 7 -3 0\n-4 5 3 0\n1 -7 -5 0\n-3 -8 -4 0\n2 8 7 0\n-6 -4 7 0\n5 -6 -1 0\n-5 1 0\n8 -5 -1 0\n-7 6 0\n-1 6 3 0\n2 -5 4 0\n3 -5 1 0\n-5 -1 0\n4 -2 5 0\n-2 -6 -7 0\n7 -5 -6 0\n7 2 -6 0\n-8 6 -5 0\n8 6 -4 0\n5 -6 2 0\n-7 -3 5 0\n-4 5 -7 0\n5 1 4 0\n",
         budget: 2,
         divide: 8,
         answer: "s UNSATISFIABLE\n",
-        proof: "34 5 0 22 7 30 0\n35 -5 3 4 0 5 24 29 18 0\n36 -5 3 -4 0 3 17 0\n37 -5 3 0 35 36 0\n37 d 35 36 0\n38 -5 -3 0 9 11 1 21 0\n39 -5 0 37 38 0\n39 d 37 38 0\n40 0 34 39 0\n",
+        proof: "25 -4 -8 5 7 6 0 2 4 0\n26 -1 5 7 6 0 1 11 0\n27 5 7 6 0 26 24 2 20 4 0\n27 d 25 26 0\n28 5 7 -6 0 6 7 24 0\n29 5 7 0 27 28 0\n29 d 27 28 0\n30 5 -7 0 10 23 7 24 0\n31 5 0 29 30 0\n31 d 29 30 0\n32 -5 0 8 14 0\n33 0 31 32 0\n",
     },
     Row {
-        text: "p cnf 8 31\n1 8 2 0\n6 -1 2 0\n-1 4 0\n4 -2 0\n1 2 0\n-3 -6 1 0\n4 -8 -6 0\n-6 -8 0\n2 -8 4 0\n3 -8 4 0\n6 -7 3 0\n4 2 7 0\n-2 1 7 0\n3 2 8 0\n4 2 -8 0\n-6 -7 0\n5 -3 0\n2 5 -8 0\n-4 2 5 0\n7 3 0\n-5 -6 0\n5 -1 3 0\n-5 4 -6 0\n5 -7 6 0\n-3 -5 6 0\n5 7 0\n8 5 -3 0\n5 1 2 0\n7 -2 -8 0\n6 8 7 0\n5 -3 7 0\n",
+        text: "p cnf 7 28\n4 1 -6 0\n1 7 2 0\n-7 6 -4 0\n7 2 -3 0\n3 1 4 0\n1 5 -3 0\n-7 -2 0\n-4 -1 3 0\n3 -5 4 0\n-3 6 4 0\n2 -3 1 0\n-5 -2 -6 0\n1 -5 0\n-2 3 0\n5 -3 0\n-2 -7 -1 0\n2 -1 5 0\n-1 -7 -6 0\n-6 5 -3 0\n1 7 -4 0\n1 -4 6 0\n-2 -4 0\n-7 -3 4 0\n5 1 -7 0\n-5 -6 1 0\n7 1 0\n1 6 -7 0\n-5 2 -4 0\n",
         budget: 2,
         divide: 8,
         answer: "s UNSATISFIABLE\n",
-        proof: "32 2 0 5 2 3 21 19 0\n33 -2 6 8 0 30 11 24 25 0\n34 -2 6 -8 0 29 11 24 25 0\n35 -2 6 0 33 34 0\n35 d 33 34 0\n36 -2 -6 0 16 21 26 0\n37 -2 0 35 36 0\n37 d 35 36 0\n38 0 32 37 0\n",
+        proof: "29 1 0 13 26 24 0\n30 -5 -6 -1 4 7 0 9 12 4 0\n31 5 -1 4 7 0 15 17 14 0\n32 -1 4 7 0 31 9 30 10 0\n32 d 30 31 0\n33 -1 4 -7 0 7 23 17 9 0\n34 -1 4 0 32 33 0\n34 d 32 33 0\n35 -1 -4 0 8 22 15 28 0\n36 -1 0 34 35 0\n36 d 34 35 0\n37 0 29 36 0\n",
     },
 ];
 
@@ -71,7 +71,7 @@ fn plan_of(row: &Row) -> Option<Plan> {
     if row.budget < 1 || row.budget > 100_000 || row.divide > 65_536 {
         return None;
     }
-    Some(Plan::focused(row.budget).divided(row.divide))
+    Some(Plan::focused_by(row.budget, soon_stable()).divided(row.divide))
 }
 
 /// Whether the answer and the proof are the row's.

@@ -168,7 +168,7 @@ fn a_satisfiable_formula_has_its_first_model(rt: HostRuntime) -> Result<(), Fail
     Ok(())
 }
 
-/// One cube by the focused search, which comes to 1 2 -3: the answer is that of `solve` with the same
+/// One cube by the focused search, which comes to 1 2 3: the answer is that of `solve` with the same
 /// options.
 static AUTOMATIC: [Row; 4] = [
     Row {

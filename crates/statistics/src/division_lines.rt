@@ -7,7 +7,7 @@ use std::io::Write;
 
 /// Prints by which figures of the first search the formula isn't divided.
 fn print_whole<E: Write>(out: &mut E, first: FirstSearch) {
-    let (decisions, conflicts) = (first.decisions, first.conflicts);
+    let (decisions, stable, conflicts) = (first.decisions, first.stable_conflicts, first.conflicts);
     let _ = if first.answer == FirstAnswer::Ended {
         writeln!(
             out,
@@ -16,17 +16,17 @@ fn print_whole<E: Write>(out: &mut E, first: FirstSearch) {
     } else {
         writeln!(
             out,
-            "c not divided: {decisions} decisions in {conflicts} conflicts"
+            "c not divided: {decisions} decisions in {stable} conflicts of stable mode"
         )
     };
 }
 
 /// Prints by which figures it is divided, and into how many cubes.
 fn print_divided<E: Write>(out: &mut E, first: FirstSearch, done: Done) {
-    let (decisions, conflicts, wanted) = (first.decisions, first.conflicts, done.wanted);
+    let (decisions, stable, wanted) = (first.decisions, first.stable_conflicts, done.wanted);
     let _ = writeln!(
         out,
-        "c divided: {decisions} decisions in {conflicts} conflicts, into at most {wanted} cubes"
+        "c divided: {decisions} decisions in {stable} conflicts of stable mode, into at most {wanted} cubes"
     );
 }
 

@@ -252,8 +252,9 @@ fn end_reading(alloc: Global, figures: &mut Figures, millis: u64) -> Result<(), 
 /// The formula is divided, and cubes are refuted.
 fn divide(figures: &mut Figures, cubes: u32, refuted: &[usize]) {
     let first = FirstSearch {
-        decisions: 25_000,
+        decisions: 12_000,
         conflicts: 20_000,
+        stable_conflicts: 10_000,
         answer: FirstAnswer::Divided(cubes),
     };
     figures.division.set_first(first, 0);

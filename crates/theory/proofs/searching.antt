@@ -6,6 +6,8 @@ pub mod Walks
 pub mod LearntLines
 pub mod EmptyLines
 pub mod NarrowedSets
+pub mod WalkParts
+pub mod ShorterLines
 pub mod LearnableLines
 pub mod ForgottenClauses
 pub mod ForgettingNumbers
@@ -36,6 +38,7 @@ pub mod Rows
 pub mod PureRows
 pub mod RuleRows
 pub mod FocusedRows
+pub mod PartRows
 pub mod RandomRows
 pub mod OutcomeLemmas
 pub mod FoundModels

@@ -1,27 +1,27 @@
 -- Which formulas are divided by lookahead before their cubes are searched, and into how many cubes.
 -- Source: decisions for each conflict as the sign by which formulas that gain from a division are
 -- told is this project's own, as measured.
-use Rattle.std.specs.Prelude.{ℕ, ◌*◌, ◌^◌, ◌≤◌, ◌<◌, min, List, [], length}
+use Rattle.std.specs.Prelude.{ℕ, ◌+◌, ◌*◌, ◌^◌, ◌≤◌, ◌<◌, min, List, [], length}
 use Rattle.theory.specs.Literals.{Literal}
 use Rattle.theory.specs.Truth.{Formula}
 use Rattle.theory.specs.Plans.{Constants, Search, ordered, focused, Plan}
 use Rattle.theory.specs.Search.{Next, ends, goes_on, exhausted}
-use Rattle.theory.specs.Focused.{FocusedState, IsFocusedStep, begin}
+use Rattle.theory.specs.Focused.{FocusedState, IsFocusedStep, begin, if_stable}
 
 -- by such steps the state s leads to the state t
 pub data LeadsTo {State : Type 0} (IsStep : State → Next State → Type 0) : State → State → Type 0 where
   stays : {s : State} → LeadsTo IsStep s s
   moves : {s t u : State} → IsStep s (goes_on t) → LeadsTo IsStep t u → LeadsTo IsStep s u
 
--- the search of the cube without literals, with t conflicts, uses them up, and decides at most
--- three literals for two conflicts; so it is where each half of a cube is much easier than the
--- whole
+-- the search of the cube without literals, with t conflicts, uses them up, and in stable mode
+-- decides fewer than five literals for four conflicts; so it is where each half of a cube is much
+-- easier than the whole
 pub record HasFewDecisions (c : Constants) (F : Formula) (t : ℕ) : Type 0 where
   pub state : FocusedState
   pub var : ℕ
   pub leads : LeadsTo (IsFocusedStep c F.vars t) (begin c F []) state
   pub last : IsFocusedStep c F.vars t state (ends (exhausted var))
-  pub few : 2 * state.decisions ≤ 3 * t
+  pub few : 4 * state.decisions < 5 * (state.stable_conflicts + if_stable state)
 
 -- after so many conflicts the first search is asked
 abbrev pub first_conflicts : ℕ

@@ -1,7 +1,8 @@
--- The focused search: it decides the variables that gained most in conflicts, restarts, and forgets
--- learnt clauses. Source: CDCL as in MiniSat (SAT 2003) and Glucose (IJCAI 2009), in natural
+-- The focused search: it decides the variables that gained most in conflicts, in two modes,
+-- restarts, and forgets learnt clauses in rounds. Source: CDCL as in MiniSat (SAT 2003) and Glucose
+-- (IJCAI 2009), with the modes and rounds of later solvers (Biere and Fleury, POS 2020), in natural
 -- numbers alone, so that the outcome is fixed by the formula, the plan and the cube.
-use Rattle.std.specs.Prelude.{◌≡◌, ℕ, ◌+◌, nat_eq, false, List, [], ◌∷◌, ◌++◌, map, Option, Some, None, if◌then◌else◌}
+use Rattle.std.specs.Prelude.{◌≡◌, ℕ, ◌+◌, ◌-◌, nat_eq, Bool, true, false, ◌||◌, List, [], ◌∷◌, ◌++◌, map, length, drop, Option, Some, None, if◌then◌else◌}
 use Rattle.std.specs.Option.{unwrap_or}
 use Rattle.theory.specs.Literals.{Literal, Clause, has, has_var, positive}
 use Rattle.theory.specs.Truth.{Formula, Assignment, value}
@@ -9,40 +10,55 @@ use Rattle.theory.specs.Plans.{Constants}
 use Rattle.theory.specs.Trails.{Trail, literals, current_level, cube_trail, decide, up_to, variables}
 use Rattle.theory.specs.Propagation.{Closed, quiet, conflict, by_place, Propagates}
 use Rattle.theory.specs.Learning.{Line, learn, back_level}
+use Rattle.theory.specs.Lessons.{Lesson, lesson_of}
 use Rattle.theory.specs.Search.{Outcome, model, refuted, exhausted, first_clauses, budget_of, values, Next, ends, goes_on, RunsFrom}
+use Rattle.theory.specs.Modes.{Pace, first_pace, is_restarting, pace_after}
 use Rattle.theory.specs.Scores.{Scores, first_scores, best_outside, is_seen, scores_after}
-use Rattle.theory.specs.Restarts.{glue, Glues, no_glues, with_glue, restarts, restarted}
-use Rattle.theory.specs.Forgetting.{Schedule, first_schedule, is_due, rescheduled, forget_half}
+use Rattle.theory.specs.Restarts.{Glues, no_glues, glues_after, restarts}
+use Rattle.theory.specs.Forgetting.{Mark, fresh_mark, with_used, unused, candidates, late_ones, forget}
+use Rattle.theory.specs.Rephasing.{Turn, first_turn, is_over, next_turn, rephased}
 
--- its state: the clauses, the trail, the conflicts and the decisions counted, the lines learnt with
--- their glues, and what choices are made by
+-- its state: the clauses, the trail, the lines learnt with their marks, and what choices are made
+-- by
 pub record FocusedState : Type 0 where
   pub clauses : List Clause
   pub trail : Trail
-  pub conflicts : ℕ
-  -- also those that were taken back
-  pub decisions : ℕ
   pub lines : List Line
-  pub glues : List ℕ
+  pub marks : List Mark
+  -- the conflicts above level 0; and of stable mode the conflicts, and the decisions, also those
+  -- that were taken back
+  pub conflicts : ℕ
+  pub stable_conflicts : ℕ
+  pub decisions : ℕ
   pub scores : Scores
   -- the value that each variable had last
   pub saved : Assignment
   pub averages : Glues
-  pub schedule : Schedule
+  -- the last conflict at which it restarted, or a round ended
+  pub restarted : ℕ
+  pub pace : Pace
+  pub round : Turn
 
 abbrev pub begin : Constants → Formula → List Literal → FocusedState
 begin c F Q = record {
   clauses = first_clauses F;
   trail = cube_trail Q;
-  conflicts = 0;
-  decisions = 0;
   lines = [];
-  glues = [];
+  marks = [];
+  conflicts = 0;
+  stable_conflicts = 0;
+  decisions = 0;
   scores = first_scores c F.vars;
-  saved = map (λ v. false) (variables F.vars);
+  saved = map (λ v. true) (variables F.vars);
   averages = no_glues;
-  schedule = first_schedule c;
+  restarted = 0;
+  pace = first_pace c;
+  round = first_turn c;
 }
+
+-- 1 in stable mode
+abbrev pub if_stable : FocusedState → ℕ
+if_stable s = if is_restarting s.pace.mode then 0 else 1
 
 -- the literal of a variable that is true where it has its saved value
 abbrev pub saved_literal : Assignment → ℕ → Literal
@@ -50,7 +66,7 @@ saved_literal saved x = record { var = x; positive = value saved x }
 
 -- the free variable of greatest score gets its saved value
 abbrev pub decided_next : FocusedState → ℕ → FocusedState
-decided_next s x = record s { trail = decide s.trail (saved_literal s.saved x); decisions = s.decisions + 1 }
+decided_next s x = record s { trail = decide s.trail (saved_literal s.saved x); decisions = s.decisions + if_stable s }
 
 abbrev pub on_quiet : ℕ → FocusedState → Option ℕ → Next FocusedState
 on_quiet V s None = ends (model (values V s.trail))
@@ -60,43 +76,73 @@ on_quiet V s (Some x) = goes_on (decided_next s x)
 abbrev pub saved_after : ℕ → Trail → Assignment → Assignment
 saved_after V T saved = map (λ v. if has_var (literals T) v then has (literals T) (positive v) else value saved v) (variables V)
 
--- the state after a line was learnt: the trail goes back to level 0 where the search restarts, and
--- else to the line's level; clauses that are reasons there aren't forgotten
-abbrev pub learnt_next : Constants → ℕ → FocusedState → Line → FocusedState
-learnt_next c V s line =
-    let n = s.conflicts + 1 in
-    let g = glue s.trail line.clause in
-    let averages = with_glue c g s.averages in
-    let restart = restarts c n averages in
-    let trail = up_to s.trail (if restart then 0 else back_level s.trail line.clause) in
-    record {
-      clauses = (if is_due s.schedule n then forget_half c trail s.glues s.clauses else s.clauses) ++ line.clause ∷ [];
-      trail = trail;
-      conflicts = n;
-      decisions = s.decisions;
-      lines = s.lines ++ line ∷ [];
-      glues = s.glues ++ g ∷ [];
-      scores = scores_after c V (is_seen s.clauses s.trail line.hints) s.scores;
-      saved = saved_after V s.trail s.saved;
-      averages = if restart then restarted averages else averages;
-      schedule = if is_due s.schedule n then rescheduled c n s.schedule else s.schedule;
-    }
+-- how many clauses are first ones
+abbrev pub first_count : FocusedState → ℕ
+first_count s = length s.clauses - length s.marks
+
+-- what choices are made by, after a conflict
+abbrev pub weighed : Constants → ℕ → FocusedState → Lesson → FocusedState
+weighed c V s l = record s {
+  marks = with_used l.resolved (first_count s + 1) s.marks;
+  conflicts = s.conflicts + 1;
+  stable_conflicts = s.stable_conflicts + if_stable s;
+  scores = scores_after c s.pace.mode V (is_seen s.clauses s.trail l.seen) s.scores;
+  saved = saved_after V s.trail s.saved;
+  averages = glues_after c s.pace.mode l.glue s.averages;
+}
+
+-- the trail goes back to level 0, where it restarts, or to this level
+abbrev pub gone_back : Bool → ℕ → FocusedState → FocusedState
+gone_back true level s = record s { trail = up_to s.trail 0; restarted = s.conflicts }
+gone_back false level s = record s { trail = up_to s.trail level }
+
+-- the numbers of the clauses that a round's end forgets
+abbrev pub to_forget : Constants → FocusedState → List ℕ
+to_forget c s = late_ones (candidates c s.trail (first_count s + 1) (drop (first_count s) s.clauses) s.marks)
+
+-- the end of a round
+abbrev pub round_ended : Constants → FocusedState → FocusedState
+round_ended c s = record s {
+  clauses = forget (to_forget c s) 1 s.clauses;
+  marks = unused s.marks;
+  saved = rephased s.round.number s.saved;
+  round = next_turn c s.conflicts s.round;
+  pace = pace_after s.conflicts s.pace;
+}
+
+-- the line's clause gets the next number
+abbrev pub with_lesson : FocusedState → Lesson → FocusedState
+with_lesson s l = record s {
+  clauses = s.clauses ++ l.line.clause ∷ [];
+  lines = s.lines ++ l.line ∷ [];
+  marks = s.marks ++ fresh_mark l.glue ∷ [];
+}
+
+-- the state after a conflict that it learns from: the trail goes back to level 0 where the round
+-- ends or the averages say so, and else to the line's level
+abbrev pub learnt_next : Constants → ℕ → FocusedState → Lesson → FocusedState
+learnt_next c V s l =
+    let w = weighed c V s l in
+    let over = is_over w.round w.conflicts in
+    let back = gone_back (over || restarts c w.pace.mode w.restarted w.conflicts w.averages) (back_level s.trail l.line.clause) w in
+    with_lesson (if over then round_ended c back else back) l
 
 -- the variable in which a cube is exhausted: of those that aren't on the trail at level 0, the one
 -- of greatest score
 abbrev pub splits_on : ℕ → FocusedState → ℕ
 splits_on V s = unwrap_or (best_outside V (literals (up_to s.trail 0)) s.scores) 0
 
-abbrev pub on_conflict : Constants → ℕ → ℕ → FocusedState → Line → Next FocusedState
-on_conflict c V budget s line =
-    if nat_eq (current_level s.trail) 0 then ends (refuted (s.lines ++ line ∷ []))
+-- a conflict with the clause of number n
+abbrev pub on_conflict : Constants → ℕ → ℕ → FocusedState → ℕ → Next FocusedState
+on_conflict c V budget s n =
+    if nat_eq (current_level s.trail) 0 then ends (refuted (s.lines ++ learn s.clauses s.trail n ∷ []))
     else if nat_eq (s.conflicts + 1) budget then ends (exhausted (splits_on V s))
-    else goes_on (learnt_next c V s line)
+    else goes_on (learnt_next c V s (lesson_of s.clauses s.trail n))
 
 -- what follows an answer of propagation
 abbrev pub after : Constants → ℕ → ℕ → FocusedState → Closed → Next FocusedState
 after c V budget s quiet = on_quiet V s (best_outside V (literals s.trail) s.scores)
-after c V budget s (conflict n) = on_conflict c V budget s (learn s.clauses s.trail n)
+after c V budget s (conflict n) = on_conflict c V budget s n
 
 -- a step: propagation, and what follows its answer
 pub record IsFocusedStep (c : Constants) (V budget : ℕ) (s : FocusedState) (next : Next FocusedState) : Type 0 where

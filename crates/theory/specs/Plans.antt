@@ -4,30 +4,37 @@ use Rattle.std.specs.Prelude.{ℕ, ◌^◌}
 
 -- the numbers of the focused search
 pub record Constants : Type 0 where
-  -- what a score gains at the first conflict; a step gains its quotient by growth; from
-  -- greatest_step on, scores and step are divided
+  -- what a score gains at the first conflict; a step gains its quotient by the growth of the mode;
+  -- from greatest_step on, scores and step are divided
   pub first_step : ℕ
-  pub growth : ℕ
+  pub restarting_growth : ℕ
+  pub stable_growth : ℕ
   pub greatest_step : ℕ
   pub divisor : ℕ
-  -- how many glues count as recent
+  -- how many glues count as recent; how many of the average glues their sum has to be above; and
+  -- how many conflicts are between two restarts at least
   pub window : ℕ
-  -- the conflicts up to the first forgetting; how much longer each further time is; the greatest
-  -- glue that is never forgotten
-  pub first_interval : ℕ
-  pub interval_gain : ℕ
+  pub above : ℕ
+  pub apart : ℕ
+  -- the conflicts of the first mode; by how many a round is longer than the one before; the
+  -- greatest glue that is never forgotten
+  pub mode_length : ℕ
+  pub round_length : ℕ
   pub kept_glue : ℕ
 
 abbrev pub default_constants : Constants
 default_constants = record {
   first_step = 65536;
-  growth = 20;
-  greatest_step = 2 ^ 40;
-  divisor = 2 ^ 24;
-  window = 50;
-  first_interval = 2000;
-  interval_gain = 300;
-  kept_glue = 2;
+  restarting_growth = 5;
+  stable_growth = 20;
+  greatest_step = 2 ^ 56;
+  divisor = 2 ^ 40;
+  window = 32;
+  above = 35;
+  apart = 5;
+  mode_length = 1000;
+  round_length = 300;
+  kept_glue = 3;
 }
 
 -- ordered: the least free variable is decided false, so that the first model is found. focused: the

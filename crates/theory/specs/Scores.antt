@@ -7,6 +7,7 @@ use Rattle.theory.specs.Literals.{Literal, Clause, has_var}
 use Rattle.theory.specs.Trails.{Trail, level_at, entry_of, variables}
 use Rattle.theory.specs.Plans.{Constants}
 use Rattle.theory.specs.Propagation.{clause_at}
+use Rattle.theory.specs.Modes.{Mode, restarting, stable}
 
 -- the scores of the variables 1, 2 and so on, and what a score gains
 pub record Scores : Type 0 where
@@ -38,14 +39,22 @@ best_outside V P s = best_of s (filter (λ v. not (has_var P v)) (variables V))
 abbrev pub is_seen : List Clause → Trail → List ℕ → ℕ → Bool
 is_seen K T numbers v = nat_lt 0 (level_at (entry_of T v)) && list_any (λ n. has_var (clause_at K n) v) numbers
 
+-- the part by which a step grows
+abbrev pub growth : Constants → Mode → ℕ
+growth c restarting = c.restarting_growth
+growth c stable = c.stable_growth
+
 -- the variables seen gain a step, and the step grows
-abbrev pub gained : Constants → ℕ → (ℕ → Bool) → Scores → Scores
-gained c V seen s = record { scores = map (λ v. score_of s v + (if seen v then s.step else 0)) (variables V); step = s.step + s.step / c.growth }
+abbrev pub gained : Constants → Mode → ℕ → (ℕ → Bool) → Scores → Scores
+gained c mode V seen s = record {
+  scores = map (λ v. score_of s v + (if seen v then s.step else 0)) (variables V);
+  step = s.step + s.step / growth c mode;
+}
 
 -- scores stay below a bound; of two scores the greater one stays no less, though they may become
 -- equal
 abbrev pub divided : Constants → Scores → Scores
 divided c s = if nat_le c.greatest_step s.step then record { scores = map (λ x. x / c.divisor) s.scores; step = s.step / c.divisor } else s
 
-abbrev pub scores_after : Constants → ℕ → (ℕ → Bool) → Scores → Scores
-scores_after c V seen s = divided c (gained c V seen s)
+abbrev pub scores_after : Constants → Mode → ℕ → (ℕ → Bool) → Scores → Scores
+scores_after c mode V seen s = divided c (gained c mode V seen s)

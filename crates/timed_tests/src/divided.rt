@@ -1,8 +1,12 @@
-//! `--stats` of runs that divide a formula, by a clock that a test sets. What the searches and looks
-//! do is worked out in the tests of `cubes`.
-use crate::timed::{Row, SPLIT};
-use samples::{EIGHT, FOUR};
-use sessions::clocks::UNREAD;
+//! `--stats` of runs that divide a formula, by a clock that a test sets. What the looks do is worked
+//! out in the tests of `cubes`, and what the searches do is from a program of its own.
+use crate::timed::{PROCESS, Row, SPLIT, holds, told_by};
+use samples::{EIGHT, FOUR, HARD_EIGHT, HARD_FOUR};
+use sessions::clocks::{Readings, UNREAD};
+use sessions::fake::Fake;
+use sessions::{Paths, path_of};
+use std::fs;
+use std::test::Fail;
 
 /// At a run's beginning, at the end of reading, when the first search is asked and when the look at
 /// the first cube ends; before and after the first cube and its halves, which hands take; and at the
@@ -20,82 +24,82 @@ const QUARTERS: [u64; 22] = [
 
 /// The first cube is looked at and split, since a literal fails; its halves are searched.
 const DIVIDED: Row = Row {
-    formula: FOUR,
+    formula: HARD_FOUR,
     words: &[
-        "cubesat", "solve", "--stats", "--search", "focused", "--budget", "1", "--divide", "2",
+        "cubesat", "solve", "--stats", "--search", "focused", "--budget", "1840", "--divide", "2",
         "--proof", "PROOF", "FORMULA",
     ],
     times: &HALVES,
     tells: false,
-    lines: "c formula: 2 variables, 4 clauses, 8 literals
+    lines: "c formula: 44 variables, 124 clauses, 360 literals
 c hands: 1
-c search: 4 conflicts, 2 decisions, 8 propagations, 0 restarts
-c clauses: 0 learnt, 0 forgotten
-c divided: 1 decisions in 1 conflicts, into at most 2 cubes
+c search: 1843 conflicts, 2529 decisions, 25009 propagations, 14 restarts
+c clauses: 1839 learnt, 530 forgotten
+c divided: 43 decisions in 40 conflicts of stable mode, into at most 2 cubes
 c looked at: 1 cubes, 1 failed literals, 0.150 s
 c searched: 2 cubes
 c cubes: 3 solved, 1 split, 0 skipped
 c learnt: 2 lines in refuted cubes, kept in 8 bytes
 c solved by each hand: 3
-c proof: 3 lines, 35 bytes
+c proof: 3 lines, 45 bytes
 c reading: 1.234 s
 c solving: 2.050 s
 c joining: 0.007 s
 c writing: 61.000 s
-c conflicts a second: 1
+c conflicts a second: 899
 ",
     ..SPLIT
 };
 
-pub(crate) const ROWS: [Row; 5] = [
+static ROWS: [Row; 5] = [
     DIVIDED,
     // halves are looked at too, and a literal fails in each
     Row {
-        formula: EIGHT,
+        formula: HARD_EIGHT,
         words: &[
-            "cubesat", "solve", "--stats", "--search", "focused", "--budget", "2", "--divide", "3",
-            "--proof", "PROOF", "FORMULA",
+            "cubesat", "solve", "--stats", "--search", "focused", "--budget", "1840", "--divide",
+            "3", "--proof", "PROOF", "FORMULA",
         ],
         times: &QUARTERS,
-        lines: "c formula: 3 variables, 8 clauses, 24 literals
+        lines: "c formula: 45 variables, 128 clauses, 384 literals
 c hands: 1
-c search: 8 conflicts, 10 decisions, 29 propagations, 0 restarts
-c clauses: 1 learnt, 0 forgotten
-c divided: 2 decisions in 2 conflicts, into at most 4 cubes
+c search: 1846 conflicts, 2594 decisions, 25085 propagations, 14 restarts
+c clauses: 1839 learnt, 530 forgotten
+c divided: 43 decisions in 40 conflicts of stable mode, into at most 4 cubes
 c looked at: 3 cubes, 2 failed literals, 0.450 s
 c searched: 4 cubes
 c cubes: 7 solved, 3 split, 0 skipped
 c learnt: 4 lines in refuted cubes, kept in 16 bytes
 c solved by each hand: 7
-c proof: 9 lines, 131 bytes
+c proof: 9 lines, 153 bytes
 c reading: 1.234 s
 c solving: 2.050 s
 c joining: 0.007 s
 c writing: 61.000 s
-c conflicts a second: 3
+c conflicts a second: 900
 ",
         ..DIVIDED
     },
     // and quarters, which are refuted by that; no tree is kept
     Row {
-        formula: EIGHT,
+        formula: HARD_EIGHT,
         words: &[
-            "cubesat", "solve", "--stats", "--search", "focused", "--budget", "2", "--divide",
+            "cubesat", "solve", "--stats", "--search", "focused", "--budget", "1840", "--divide",
             "64", "FORMULA",
         ],
         times: &QUARTERS,
-        lines: "c formula: 3 variables, 8 clauses, 24 literals
+        lines: "c formula: 45 variables, 128 clauses, 384 literals
 c hands: 1
-c search: 8 conflicts, 10 decisions, 29 propagations, 0 restarts
-c clauses: 1 learnt, 0 forgotten
-c divided: 2 decisions in 2 conflicts, into at most 64 cubes
+c search: 1846 conflicts, 2594 decisions, 25085 propagations, 14 restarts
+c clauses: 1839 learnt, 530 forgotten
+c divided: 43 decisions in 40 conflicts of stable mode, into at most 64 cubes
 c looked at: 7 cubes, 2 failed literals, 1.450 s
 c searched: 0 cubes
 c cubes: 7 solved, at least 3 split, skipped unknown
 c solved by each hand: 7
 c reading: 1.234 s
 c solving: 2.050 s
-c conflicts a second: 3
+c conflicts a second: 900
 ",
         ..DIVIDED
     },
@@ -111,7 +115,7 @@ c conflicts a second: 3
 c hands: 1
 c search: 5 conflicts, 4 decisions, 13 propagations, 0 restarts
 c clauses: 2 learnt, 0 forgotten
-c not divided: 2 decisions in 1 conflicts
+c not divided: 0 decisions in 0 conflicts of stable mode
 c cubes: 3 solved, at least 1 split, skipped unknown
 c solved by each hand: 3
 c reading: 1.234 s
@@ -121,6 +125,7 @@ c conflicts a second: 2
         ..DIVIDED
     },
     Row {
+        formula: FOUR,
         words: &[
             "cubesat", "solve", "--stats", "--search", "focused", "FORMULA",
         ],
@@ -139,3 +144,16 @@ c conflicts a second: 0
         ..DIVIDED
     },
 ];
+
+#[test]
+fn figures_of_divided_runs(rt: HostRuntime) -> Result<(), Fail> {
+    let paths = Paths::of(&rt, "divided.cnf")?;
+    let process = path_of(&rt, "divided_process")?;
+    fs::write(&rt, process.as_str(), PROCESS)?;
+    for row in &ROWS {
+        let clock = Readings::new(row.times);
+        let fake = Fake::telling(&rt, &clock, told_by(&paths, process.as_str(), row));
+        assert!(rt; holds(&fake, &paths, row)?, "{} {}", row.lines, row.fault);
+    }
+    Ok(())
+}

@@ -12,12 +12,12 @@ const LOWERED_SO_FAR: [u64; 7] = [5_000, 5_000, 6_234, 6_300, 6_400, 14_999, 15_
 const CUT_OFF_LOWERING: &str =
     "c the time was over while a model was lowered to the first one; --any-model answers without that\n";
 
-/// The ordered search comes to -1 2 -3, and the focused one to 1 2 -3, each after a conflict.
+/// The ordered search comes to -1 2 -3 after a conflict, and the focused one to 1 2 3.
 pub(crate) const HIGHER: &str = "p cnf 3 4\n1 2 3 0\n1 2 -3 0\n-1 2 3 0\n-1 2 -3 0\n";
 
 /// The search that is made first decides -1 and -2, and 3 brings the conflict. The focused one decides
-/// -3 and -2, and 1 brings it; it learns 2 or 3, of which 2 follows, and decides 1. In the cube -1 the
-/// search for another model decides -3, and 2 follows; in that of -1 and -2 the conflict comes with 3.
+/// 3, 2 and 1. In the cube -1 the search for another model decides 3, and 2 follows; in that of -1 and
+/// -2 the conflict comes with 3; in that of -1, 2 and -3 there is a model.
 const LOWERED: Row = Row {
     formula: HIGHER,
     words: &[
@@ -35,15 +35,15 @@ const LOWERED: Row = Row {
     lines: "c formula: 3 variables, 4 clauses, 12 literals
 c hands: 1
 c first search: ordered, 1 conflicts, undecided
-c search: 3 conflicts, 6 decisions, 14 propagations, 0 restarts
-c clauses: 1 learnt, 0 forgotten
-c not divided: the focused search ended after 1 conflicts
+c search: 2 conflicts, 6 decisions, 15 propagations, 0 restarts
+c clauses: 0 learnt, 0 forgotten
+c not divided: the focused search ended after 0 conflicts
 c cubes: 1 solved, at least 0 split, skipped unknown
 c solved by each hand: 1
-c lowering: 2 questions, 1 with a model, 1 without, 1 conflicts
+c lowering: 3 questions, 2 with a model, 1 without, 1 conflicts
 c reading: 1.234 s
 c solving: 2.050 s
-c conflicts a second: 1
+c conflicts a second: 0
 ",
     ..SPLIT
 };
@@ -65,9 +65,9 @@ static ROWS: [Row; 4] = [
         lines: "c formula: 3 variables, 4 clauses, 12 literals
 c hands: 1
 c first search: ordered, 1 conflicts, undecided
-c search: 2 conflicts, 5 decisions, 8 propagations, 0 restarts
-c clauses: 1 learnt, 0 forgotten
-c not divided: the focused search ended after 1 conflicts
+c search: 1 conflicts, 5 decisions, 6 propagations, 0 restarts
+c clauses: 0 learnt, 0 forgotten
+c not divided: the focused search ended after 0 conflicts
 c cubes: 1 solved, at least 0 split, skipped unknown
 c solved by each hand: 1
 c reading: 1.234 s
@@ -115,9 +115,9 @@ c conflicts a second: 0
         lines: "c formula: 3 variables, 4 clauses, 12 literals
 c hands: 1
 c first search: ordered, 1 conflicts, undecided
-c search: 2 conflicts, 6 decisions, 11 propagations, 0 restarts
-c clauses: 1 learnt, 0 forgotten
-c not divided: the focused search ended after 1 conflicts
+c search: 1 conflicts, 6 decisions, 9 propagations, 0 restarts
+c clauses: 0 learnt, 0 forgotten
+c not divided: the focused search ended after 0 conflicts
 c cubes: 1 solved, at least 0 split, skipped unknown
 c solved by each hand: 1
 c lowering: 1 questions, 1 with a model, 0 without, 0 conflicts

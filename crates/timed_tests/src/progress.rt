@@ -3,7 +3,7 @@
 use crate::lowered::HIGHER;
 use crate::slow_runs::{SOLVED, SlowRun, holds};
 use cubesat::Screen;
-use samples::{EIGHT, FOUR, FOUR_PROOF};
+use samples::{EIGHT, FOUR, FOUR_PROOF, HARD_EIGHT};
 use sessions::Paths;
 use sessions::clocks::{LONG, Pace};
 use sessions::fake::Fake;
@@ -41,8 +41,8 @@ const CUT_OFF: SlowRun = SlowRun {
     ..SOLVED
 };
 
-/// The search that is made first meets a conflict, and the focused one another; then it is asked for
-/// models in which the first variable is false, and the second.
+/// The search that is made first meets a conflict; then the focused one is asked for models in which
+/// the first variable is false, and the second, and the third.
 const LOWERED: SlowRun = SlowRun {
     formula: HIGHER,
     words: &[
@@ -56,7 +56,7 @@ const LOWERED: SlowRun = SlowRun {
         "FORMULA",
     ],
     status: 10,
-    log: "c 1 s: reading\nc 2 s: lowering, variable 2 of 3, 2 questions\ns SATISFIABLE\nv -1 2 -3 0\n",
+    log: "c 1 s: reading\nc 2 s: lowering, variable 3 of 3, 3 questions\ns SATISFIABLE\nv -1 2 -3 0\n",
     ..UNPROVED
 };
 
@@ -70,6 +70,7 @@ const CHECKED: SlowRun = SlowRun {
     waits: &[1, 2],
     status: 0,
     log: "c 1 s: 0 lines, 0 bytes of the proof read, 0 %\nc 2 s: 3 lines, 35 bytes of the proof read, 100 %\naccepted\n",
+    behind: "",
 };
 
 static RUNS: [SlowRun; 24] = [
@@ -96,14 +97,13 @@ static RUNS: [SlowRun; 24] = [
             "PROOF",
             "FORMULA",
         ],
-        log: "c 1 s: reading\nc 2 s: 5 conflicts, 2 a second, 3 cubes solved\nc 3 s: joining\nc 4 s: 7 lines, 94 bytes of the proof written\ns UNSATISFIABLE\n",
+        log: "c 1 s: reading\nc 2 s: 5 conflicts, 2 a second, 3 cubes solved\nc 3 s: joining\nc 4 s: 7 lines, 96 bytes of the proof written\ns UNSATISFIABLE\n",
         ..SOLVED
     },
-    // three conflicts before the formula is divided, one in each look at a half, and one in each of
-    // four quarters, which all close a quarter of the tree; so many that the speed is the same where
-    // the line comes a little later
+    // 1840 conflicts before the formula is divided, one in each look at a half, and one in each of four
+    // quarters, which all close a quarter of the tree
     SlowRun {
-        formula: EIGHT,
+        formula: HARD_EIGHT,
         words: &[
             "cubesat",
             "solve",
@@ -113,12 +113,13 @@ static RUNS: [SlowRun; 24] = [
             "--divide",
             "64",
             "--budget",
-            "3",
+            "1840",
             "--proof",
             "PROOF",
             "FORMULA",
         ],
-        log: "c 1 s: reading\nc 2 s: 9 conflicts, 4 a second, 64 of at most 64 cubes done, 100 %\nc 3 s: joining\nc 4 s: 9 lines, 131 bytes of the proof written\ns UNSATISFIABLE\n",
+        log: "c 1 s: reading\nc 2 s: 1846 conflicts, ",
+        behind: " a second, 64 of at most 64 cubes done, 100 %\nc 3 s: joining\nc 4 s: 9 lines, 153 bytes of the proof written\ns UNSATISFIABLE\n",
         ..SOLVED
     },
     SlowRun {
@@ -215,7 +216,7 @@ static RUNS: [SlowRun; 24] = [
     // no line of it stands on a terminal when the answer comes
     SlowRun {
         screen: Screen::Terminal,
-        log: "\rc 1 s: reading\x1b[K\rc 2 s: lowering, variable 2 of 3, 2 questions\x1b[K\r\x1b[Ks SATISFIABLE\nv -1 2 -3 0\n",
+        log: "\rc 1 s: reading\x1b[K\rc 2 s: lowering, variable 3 of 3, 3 questions\x1b[K\r\x1b[Ks SATISFIABLE\nv -1 2 -3 0\n",
         ..LOWERED
     },
     SlowRun {
@@ -230,7 +231,7 @@ static RUNS: [SlowRun; 24] = [
             "--any-model",
             "FORMULA",
         ],
-        log: "c 1 s: reading\nc 2 s: 2 conflicts, 0 a second, 1 cubes solved\ns SATISFIABLE\nv 1 2 -3 0\n",
+        log: "c 1 s: reading\nc 2 s: 1 conflicts, 0 a second, 1 cubes solved\ns SATISFIABLE\nv 1 2 3 0\n",
         ..LOWERED
     },
     CHECKED,

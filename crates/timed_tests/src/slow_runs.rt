@@ -64,8 +64,11 @@ pub(crate) struct SlowRun<'a> {
     pub(crate) slow: &'a str,
     pub(crate) waits: &'a [u64],
     pub(crate) status: u8,
-    /// Of a run with a fault, or that refuses a proof, what comes up to the words about it.
+    /// Of a run with a fault, or that refuses a proof, what comes up to the words about it; of one
+    /// whose speed goes by the clock, what comes up to that.
     pub(crate) log: &'a str,
+    /// What comes behind such a speed.
+    pub(crate) behind: &'a str,
 }
 
 /// Runs a command line whose answers and faults go to a log; the status.
@@ -120,8 +123,8 @@ pub(crate) fn holds<R: Files + AllocGlobal + Threads + Wait + Clock + Sync>(
     pace: &Pace,
 ) -> Result<bool, Fail> {
     let (status, log) = printed(rt, paths, run, pace)?;
-    let is_printed = if run.status == 1 {
-        log.starts_with(run.log.as_bytes())
+    let is_printed = if run.status == 1 || !run.behind.is_empty() {
+        log.starts_with(run.log.as_bytes()) && log.ends_with(run.behind.as_bytes())
     } else {
         log.as_slice() == run.log.as_bytes()
     };
@@ -147,4 +150,5 @@ pub(crate) const SOLVED: SlowRun = SlowRun {
     waits: &[1, 2, 3, 4],
     status: 20,
     log: "c 1 s: reading\nc 2 s: 2 conflicts, 1 cubes solved, at most 2 waiting, depth 0, at least 0.00 % of the tree closed\nc 3 s: joining\nc 4 s: 2 lines, 24 bytes of the proof written\ns UNSATISFIABLE\n",
+    behind: "",
 };

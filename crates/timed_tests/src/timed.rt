@@ -1,6 +1,6 @@
 //! `solve --stats` by a known clock and a known size of the process: each line to its last byte, also of
 //! runs that fail.
-use crate::{checks, divided};
+use crate::checks;
 use cubesat::command;
 use samples::faulty::{Limited, Limits};
 use samples::{EIGHT, FOUR};
@@ -22,7 +22,7 @@ pub(crate) const TIMES: [u64; 6] = [5_000, 6_234, 8_284, 8_291, 69_291, UNREAD];
 const LIMITED: [u64; 5] = [5_000, 5_000, 6_234, 8_284, 15_000];
 
 /// Where Linux tells of the process, with other numbers around the one of its most memory.
-const PROCESS: &str =
+pub(crate) const PROCESS: &str =
     "Name:\tcubesat\nVmPeak:\t   99999 kB\nVmSize:\t   88888 kB\nVmHWM:\t    4321 kB\nVmRSS:\t    1234 kB\nThreads:\t1\n";
 
 /// The texts of the formula's and the proof's file, a command line, what the clock shows, how many
@@ -152,7 +152,7 @@ c clauses: 1 learnt, 0 forgotten
 c cubes: 1 solved, 0 split, 0 skipped
 c learnt: 2 lines in refuted cubes, kept in 10 bytes
 c solved by each hand: 1
-c proof: 2 lines, 24 bytes
+c proof: 2 lines, 25 bytes
 c reading: 1.234 s, peak memory 4321 KiB
 c solving: 2.050 s, peak memory 4321 KiB
 c joining: 0.007 s, peak memory 4321 KiB
@@ -307,7 +307,16 @@ pub(crate) fn holds<R: Files + AllocGlobal + Threads + Wait + Clock + Sync>(
     Ok(status == row.status && has_lines(&faults, row))
 }
 
-static TABLES: [&[Row]; 3] = [&ROWS, &checks::ROWS, &divided::ROWS];
+/// The file that tells how large the process is, or one that isn't there.
+pub(crate) fn told_by<'a>(paths: &'a Paths, process: &'a str, row: &Row) -> &'a str {
+    if row.tells {
+        process
+    } else {
+        paths.missing.as_str()
+    }
+}
+
+static TABLES: [&[Row]; 2] = [&ROWS, &checks::ROWS];
 
 #[test]
 fn figures_and_times(rt: HostRuntime) -> Result<(), Fail> {
@@ -317,12 +326,7 @@ fn figures_and_times(rt: HostRuntime) -> Result<(), Fail> {
     for rows in &TABLES {
         for row in *rows {
             let clock = Readings::new(row.times);
-            let tells = if row.tells {
-                process.as_str()
-            } else {
-                paths.missing.as_str()
-            };
-            let fake = Fake::telling(&rt, &clock, tells);
+            let fake = Fake::telling(&rt, &clock, told_by(&paths, process.as_str(), row));
             assert!(rt; holds(&fake, &paths, row)?, "{} {}", row.lines, row.fault);
         }
     }

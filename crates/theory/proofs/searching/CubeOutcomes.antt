@@ -5,7 +5,7 @@ use Rattle.theory.specs.Literals.{Literal, Clause, has, negated}
 use Rattle.theory.specs.Truth.{AreTrue, value, is_true, is_true_clause, are_true}
 use Rattle.theory.specs.Trails.{Trail, literals, current_level, least_free}
 use Rattle.theory.specs.Propagation.{least_false}
-use Rattle.theory.specs.Learning.{Line, learn}
+use Rattle.theory.specs.Learning.{Line, learn_removing}
 use Rattle.theory.specs.Search.{Outcome, model, refuted, exhausted, values}
 use Rattle.theory.specs.Replaying.{AreRefutation}
 use Rattle.theory.specs.Kept.{IsSearchOf}
@@ -51,12 +51,12 @@ CubeSays-model V K Q C T lines full calm i = (length-values V T, and-left (are_t
         there-true V T l (AreOver-from_IsOver V (literals T) i.variables l there) there
         (false_unless (has (literals T) (negated l)) (λ t. literals-consistent C T l i.lawful there t))
 
-pub CubeSays-refuted : (V : ℕ) (K : List Clause) (Q : List Literal) (C : List Clause) (T : Trail) (lines : List Line) (n : ℕ) → least_false (literals T) C ≡ Some n → current_level T ≡ 0
-    → IsSearchOf V K Q C T lines → CubeSays V K Q (refuted (lines ++ learn C T n ∷ []))
-CubeSays-refuted V K Q C T lines n h level i = record {
-  replayed = AreReplayed-push V (length K) Q K lines (learn C T n) i.replayed (IsReplayed-learn V K Q C T lines n h i);
+pub CubeSays-refuted : (V : ℕ) (R : List Literal) (K : List Clause) (Q : List Literal) (C : List Clause) (T : Trail) (lines : List Line) (n : ℕ) → least_false (literals T) C ≡ Some n → current_level T ≡ 0
+    → IsSearchOf V K Q C T lines → CubeSays V K Q (refuted (lines ++ learn_removing R C T n ∷ []))
+CubeSays-refuted V R K Q C T lines n h level i = record {
+  replayed = AreReplayed-push V (length K) Q K lines (learn_removing R C T n) i.replayed (IsReplayed-learn V R K Q C T lines n h i);
   before = lines;
-  last = learn C T n;
+  last = learn_removing R C T n;
   ends = refl;
-  empty = clause-learn_empty C T n i.lawful level (least_false-at (literals T) C n h).2;
+  empty = clause-learn_empty R C T n i.lawful level (least_false-at (literals T) C n h).2;
 }

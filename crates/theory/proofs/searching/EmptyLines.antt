@@ -1,15 +1,14 @@
 -- The clause learnt from a conflict at level 0 is empty.
-use Rattle.std.proofs.Common.{◌≡◌, ℕ, Bool, true, false, not, ◌&&◌, ◌||◌, List, [], ◌∷◌, ◌++◌, refl, ap, sym, subst, ◌∙◌, nat_eq, nat_le, eq-eqb, ◌⊎◌, inl, inr, filter, Some, None, is_some, arith}
+use Rattle.std.proofs.Common.{◌≡◌, ℕ, Bool, true, false, not, List, [], ◌∷◌, ◌++◌, refl, ap, sym, subst, ◌∙◌, nat_eq, eq-eqb, ◌⊎◌, inl, inr, filter, Some, None, is_some, arith}
 use Rattle.theory.specs.Literals.{Literal, Clause, negated, same, has, has_var}
 use Rattle.theory.specs.Status.{is_false}
 use Rattle.theory.specs.Trails.{Entry, Trail, literals, current_level, entry_of, is_given}
 use Rattle.theory.specs.Propagation.{clause_at}
 use Rattle.theory.specs.Lawful.{IsLawful}
-use Rattle.theory.specs.Learning.{with_literals, resolved, is_resolved_on, reason_used, walk, is_of_cube, learn, at_current_level}
-use Rattle.theory.proofs.literals.LiteralLemmas.{or-left}
+use Rattle.theory.specs.Learning.{with_literals, resolved, reason_used, walk, is_of_cube, learn_removing}
 use Rattle.theory.proofs.literals.LiteralSets.{Refutes, and-true, negated-negated, other-same, has-head, has-tail, has-cases, has-append_cases, has_var-has, literal_of_var, has-from_resolved}
 use Rattle.theory.proofs.trails.TrailEntries.{IsAt, literals-at, has-literals_at, entry_of-at, level-at, literals-distinct}
-use Rattle.theory.proofs.searching.Walks.{walk-all, at-place, reason_used-none, grounded-place, Refutes-others, Refutes-resolved, Refutes-begin}
+use Rattle.theory.proofs.searching.Walks.{walk-all, at-place, reason_used-none, resolved-at_zero, grounded-place, Refutes-others, Refutes-resolved, Refutes-begin}
 
 -- each literal is of an entry before, or is of the cube
 record Settled (T before : Trail) (S : Clause) : Type 0 where
@@ -30,9 +29,9 @@ negation-of_entry K T e S l lawful at r a i =
     let one : e.lit ≡ negated l = literals-distinct K T e.lit (negated l) lawful (has-literals_at T e at) (r l a) i in
     sym (negated-negated l) ∙ sym (ap negated one)
 
-Settled-pass : (K : List Clause) (T before : Trail) (e : Entry) (es : Trail) (S : Clause) → IsLawful K T → current_level T ≡ 0 → T ≡ before ++ e ∷ es
-    → reason_used T S e ≡ None → Settled T (before ++ e ∷ []) S → Settled T before S
-Settled-pass K T before e es S lawful level place none s = record { refuted = s.refuted; settled = λ l a. first l a (s.settled l a) }
+Settled-pass : (K : List Clause) (T : Trail) (R : List Literal) (before : Trail) (e : Entry) (es : Trail) (S : Clause) → IsLawful K T → current_level T ≡ 0 → T ≡ before ++ e ∷ es
+    → reason_used T R S e ≡ None → Settled T (before ++ e ∷ []) S → Settled T before S
+Settled-pass K T R before e es S lawful level place none s = record { refuted = s.refuted; settled = λ l a. first l a (s.settled l a) }
   where
     at : IsAt T e
     at = at-place T before e es place
@@ -45,10 +44,8 @@ Settled-pass K T before e es S lawful level place none s = record { refuted = s.
         let met : has S (negated e.lit) ≡ true = subst (λ x. has S x ≡ true) i a in
         let found : entry_of T e.lit.var ≡ Some e = entry_of-at K T e lawful at in
         let zeroth : nat_eq e.level 0 ≡ true = eq-eqb e.level 0 zero_level in
-        let resolves : is_resolved_on T S e ≡ true
-        = and-true (has S (negated e.lit)) (nat_eq e.level 0 || (nat_eq e.level (current_level T) && nat_le 2 (at_current_level T S))) met
-        (or-left (nat_eq e.level 0) (nat_eq e.level (current_level T) && nat_le 2 (at_current_level T S)) zeroth) in
-        let bare : e.reason ≡ None = reason_used-none T S e none resolves in
+        let resolves = resolved-at_zero T R S e met zeroth in
+        let bare : e.reason ≡ None = reason_used-none T R S e none resolves in
         let here : is_given (entry_of T e.lit.var) ≡ true = ap is_given found ∙ and-true (nat_eq e.level 0) (not (is_some e.reason)) zeroth (ap (λ o. not (is_some o)) bare) in
         subst (λ (x : Literal). is_given (entry_of T x.var) ≡ true) (sym i) here
 
@@ -59,13 +56,13 @@ Settled-pass K T before e es S lawful level place none s = record { refuted = s.
       | inr j ↦ inl (given l a (negation-of_entry K T e S l lawful at s.refuted a j))
     ]
 
-Settled-resolve : (K : List Clause) (T before : Trail) (e : Entry) (es : Trail) (S : Clause) (n : ℕ) → IsLawful K T → T ≡ before ++ e ∷ es
-    → reason_used T S e ≡ Some n → Settled T (before ++ e ∷ []) S → Settled T before (resolved S e.lit (clause_at K n))
-Settled-resolve K T before e es S n lawful place used s = record {
-  refuted = Refutes-resolved K T before e es S n lawful place used s.refuted;
+Settled-resolve : (K : List Clause) (T : Trail) (R : List Literal) (before : Trail) (e : Entry) (es : Trail) (S : Clause) (n : ℕ) → IsLawful K T → T ≡ before ++ e ∷ es
+    → reason_used T R S e ≡ Some n → Settled T (before ++ e ∷ []) S → Settled T before (resolved S e.lit (clause_at K n))
+Settled-resolve K T R before e es S n lawful place used s = record {
+  refuted = Refutes-resolved K T R before e es S n lawful place used s.refuted;
   settled = λ l a. elim (has-from_resolved S (clause_at K n) e.lit l a) [
     | inl i ↦ old l i (s.settled l i.0)
-    | inr i ↦ inr (has_var-has (literals before) (negated l) (Refutes-others K (literals before) e.lit n (grounded-place K T before e es S n lawful place used).1 l i))
+    | inr i ↦ inr (has_var-has (literals before) (negated l) (Refutes-others K (literals before) e.lit n (grounded-place K T R before e es S n lawful place used).1 l i))
   ];
 }
   where
@@ -82,8 +79,8 @@ filter-nothing p [] h = refl
 filter-nothing p (k ∷ c) h = let out = h k (has-head k c) in let rest = filter-nothing p c (λ l a. h l (has-tail k l c a)) in rw (out, rest) refl
 
 -- at level 0 the learnt clause is empty
-pub clause-learn_empty : (K : List Clause) (T : Trail) (n : ℕ) → IsLawful K T → current_level T ≡ 0 → is_false (literals T) (clause_at K n) ≡ true → (learn K T n).clause ≡ []
-clause-learn_empty K T n lawful level clash = filter-nothing (λ l. not (is_of_cube T l)) (walk K T T S (n ∷ [])).0 out
+pub clause-learn_empty : (R : List Literal) (K : List Clause) (T : Trail) (n : ℕ) → IsLawful K T → current_level T ≡ 0 → is_false (literals T) (clause_at K n) ≡ true → (learn_removing R K T n).clause ≡ []
+clause-learn_empty R K T n lawful level clash = filter-nothing (λ l. not (is_of_cube T l)) (walk K T R T S (n ∷ [])).0 out
   where
     S : Clause
     S = with_literals (clause_at K n) []
@@ -91,9 +88,9 @@ clause-learn_empty K T n lawful level clash = filter-nothing (λ l. not (is_of_c
     begin : Settled T T S
     begin = record { refuted = Refutes-begin K T n clash; settled = λ l a. inr (has_var-has (literals T) (negated l) (Refutes-begin K T n clash l a)) }
 
-    end : Settled T [] (walk K T T S (n ∷ [])).0
-    end = walk-all K T (λ before w. Settled T before w.0) (λ before e es w place h i. Settled-pass K T before e es w.0 lawful level place h i)
-        (λ before e es w m place h i. Settled-resolve K T before e es w.0 m lawful place h i) S (n ∷ []) begin
+    end : Settled T [] (walk K T R T S (n ∷ [])).0
+    end = walk-all K T R (λ before w. Settled T before w.0) (λ before e es w place h i. Settled-pass K T R before e es w.0 lawful level place h i)
+        (λ before e es w m place h i. Settled-resolve K T R before e es w.0 m lawful place h i) S (n ∷ []) begin
 
-    out : (l : Literal) → has (walk K T T S (n ∷ [])).0 l ≡ true → not (is_of_cube T l) ≡ false
+    out : (l : Literal) → has (walk K T R T S (n ∷ [])).0 l ≡ true → not (is_of_cube T l) ≡ false
     out l a = elim (end.settled l a) [ inl i ↦ ap not i | inr i ↦ absurd (cc) ]

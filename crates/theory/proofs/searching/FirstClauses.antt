@@ -4,7 +4,7 @@ use Rattle.std.specs.List.{list_any}
 use Rattle.theory.specs.Literals.{Clause}
 use Rattle.theory.specs.Trails.{Trail, up_to}
 use Rattle.theory.specs.Propagation.{Rule}
-use Rattle.theory.specs.Learning.{Line, learn}
+use Rattle.theory.specs.Learning.{Line, learn_removing}
 use Rattle.theory.specs.Forgetting.{forget}
 use Rattle.theory.proofs.literals.LiteralSets.{false_unless}
 use Rattle.theory.proofs.searching.ForgettingNumbers.{length-forget, forget-append, forget-none}
@@ -49,5 +49,5 @@ pub IsInvariant-BeginsWith : (rule : Rule) (V : ℕ) (K : List Clause) → IsInv
 IsInvariant-BeginsWith rule V K = record {
   propagated = λ C T U lines a h i. record { learnt = i.learnt; are_clauses = i.are_clauses; many = i.many };
   decided = λ C T lines l calm v free i. record { learnt = i.learnt; are_clauses = i.are_clauses; many = i.many };
-  learnt = λ C T lines n ns level h above low own unused i. BeginsWith-learnt K C T (up_to T level) lines (learn C T n) ns own i;
+  learnt = λ R C T lines n ns level h above low own unused i. BeginsWith-learnt K C T (up_to T level) lines (learn_removing R C T n) ns own i;
 }

@@ -1,5 +1,5 @@
 -- What the outcomes of the focused search say.
-use Rattle.std.proofs.Common.{◌≡◌, ℕ, List, length, ap, sym, subst, ◌∙◌, None}
+use Rattle.std.proofs.Common.{◌≡◌, ℕ, List, [], length, ap, sym, subst, ◌∙◌, None}
 use Rattle.theory.specs.Literals.{Literal, Clause, IsCube}
 use Rattle.theory.specs.Truth.{Formula, Assignment, IsOver, IsFormula, Satisfies, AreTrue, value, are_true}
 use Rattle.theory.specs.Plans.{Constants}
@@ -23,7 +23,7 @@ EndsSo-says : (V : ℕ) (K : List Clause) (Q : List Literal) (o : Outcome) → E
 EndsSo-says V K Q (model M) e =
     subst (λ (x : Assignment). CubeSays V K Q (model x)) (sym e.is_values) (CubeSays-model V K Q e.clauses e.trail e.lines e.none_free e.none_false e.keeps)
 EndsSo-says V K Q (refuted lines) e =
-    subst (λ (x : List Line). CubeSays V K Q (refuted x)) (sym e.2) (CubeSays-refuted V K Q e.0.clauses e.0.trail e.0.lines e.0.number e.0.is_false e.1 e.0.keeps)
+    subst (λ (x : List Line). CubeSays V K Q (refuted x)) (sym e.2) (CubeSays-refuted V [] K Q e.0.clauses e.0.trail e.0.lines e.0.number e.0.is_false e.1 e.0.keeps)
 EndsSo-says V K Q (exhausted x) e = tt
 
 -- A refuted cube's lines replay, forgotten ones too, and the last one's clause is empty; a model
@@ -35,11 +35,11 @@ RunsFocused-says c F B Q o formed cube over runs =
     (IsSearchOf-begin F.vars (first_clauses F) Q (IsOver-first_clauses F formed) cube over) runs)
 
 -- what is kept by a step that goes on
-pub IsSearchOf-focused_step : (c : Constants) (V budget : ℕ) (K : List Clause) (Q : List Literal) (s t : FocusedState) → IsFocusedStep c V budget s (goes_on t) → length s.glues ≡ length s.lines
-    → IsSearchOf V K Q s.clauses s.trail s.lines → IsSearchOf V K Q t.clauses t.trail t.lines × (length t.glues ≡ length t.lines)
+pub IsSearchOf-focused_step : (c : Constants) (V budget : ℕ) (K : List Clause) (Q : List Literal) (s t : FocusedState) → IsFocusedStep c V budget s (goes_on t) → length s.marks ≡ length s.lines
+    → IsSearchOf V K Q s.clauses s.trail s.lines → IsSearchOf V K Q t.clauses t.trail t.lines × (length t.marks ≡ length t.lines)
 IsSearchOf-focused_step c V budget K Q s t step many i =
-    let k : Keeps (IsSearchOf V K Q) t = step-goes c V (IsSearchOf V K Q) (IsInvariant-IsSearchOf by_place IsRule-by_place V K Q) budget s (goes_on t) (record { kept = i; glues = many }) step in
-    (k.kept, k.glues)
+    let k : Keeps (IsSearchOf V K Q) t = step-goes c V (IsSearchOf V K Q) (IsInvariant-IsSearchOf by_place IsRule-by_place V K Q) budget s (goes_on t) (record { kept = i; marks = many }) step in
+    (k.kept, k.marks)
 
 -- a refuted cube has no model
 pub RunsFocused-refuted : (c : Constants) (F : Formula) (B : ℕ) (Q : List Literal) (lines : List Line) → IsCube Q → RunsFocused c F B Q (refuted lines)
@@ -47,7 +47,7 @@ pub RunsFocused-refuted : (c : Constants) (F : Formula) (B : ℕ) (Q : List Lite
 RunsFocused-refuted c F B Q lines cube runs M s q =
     let m = value M in
     let e = RunsFocused-ends c F B Q (refuted lines) (IsTrueSearch m Q) (IsInvariant-IsTrueSearch by_place IsRule-by_place F.vars m Q q) (IsTrueSearch-begin m (first_clauses F) Q s.clauses cube) runs in
-    IsTrueSearch-conflict m Q e.0.clauses e.0.trail e.0.lines e.0.number q e.0.is_false e.1 e.0.keeps
+    IsTrueSearch-conflict m [] Q e.0.clauses e.0.trail e.0.lines e.0.number q e.0.is_false e.1 e.0.keeps
 
 -- a model satisfies the formula, and the clauses of the pure variables
 pub RunsFocused-satisfies : (c : Constants) (F : Formula) (B : ℕ) (Q : List Literal) (M : Assignment) → IsFormula F → RunsFocused c F B Q (model M) → Satisfies (searched F) M

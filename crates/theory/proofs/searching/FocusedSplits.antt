@@ -68,7 +68,7 @@ IsInvariant-LeavesFree : (rule : Rule) (V : ℕ) (Q : List Literal) → IsInvari
 IsInvariant-LeavesFree rule V Q = record {
   propagated = λ C T U lines a h i. LeavesFree-Propagates rule V Q C T U lines a h i;
   decided = λ C T lines l calm v free i. LeavesFree-decide V Q C T lines l v free i;
-  learnt = λ C T lines n ns level h above low own unused i. LeavesFree-up_to V Q C _ T lines _ level above i;
+  learnt = λ R C T lines n ns level h above low own unused i. LeavesFree-up_to V Q C _ T lines _ level above i;
 }
 
 -- A cube is exhausted in a variable of the formula that it doesn't have.

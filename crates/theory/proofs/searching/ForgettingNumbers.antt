@@ -12,7 +12,7 @@ use Rattle.theory.specs.Propagation.{clause_at, least_false}
 use Rattle.theory.specs.Lawful.{IsReason, IsGrounded, IsLawfulAfter, IsLawful}
 use Rattle.theory.specs.Learnable.{IsOpenBelow}
 use Rattle.theory.specs.Plans.{Constants}
-use Rattle.theory.specs.Forgetting.{forgotten, forget, is_reason, is_number, Candidate, candidates, may_go, last_half, is_in_last_half}
+use Rattle.theory.specs.Forgetting.{forgotten, forget, is_reason, is_number, Mark, Candidate, candidates, may_go, late_ones, is_late}
 use Rattle.theory.specs.Kept.{AreLeft}
 use Rattle.theory.proofs.literals.LiteralLemmas.{and-right, or-cases, or-right, not_true}
 use Rattle.theory.proofs.literals.LiteralSets.{true_false, false_unless, or-false_left, or-false_right}
@@ -127,7 +127,7 @@ All-forget V ns n (c ∷ K) some h =
     go true = both
     go false = All-head (IsOver V) c K h
 
--- which ones half of the learnt clauses are
+-- the numbers of candidates
 of_number : ℕ → Candidate → Bool
 of_number k a = nat_eq k a.number
 
@@ -148,49 +148,46 @@ numbers-filter k p (a ∷ all) h = go (p a) h (numbers-filter k p all)
 IsCandidate : Trail → ℕ → ℕ → ℕ → Type 0
 IsCandidate T n count k = (n ≤ k) × (k < n + count) × (is_reason T k ≡ false)
 
-candidate-number : (c : Constants) (T : Trail) (n : ℕ) (learnt : List Clause) (glues : List ℕ) (k : ℕ) → list_any (of_number k) (candidates c T n learnt glues) ≡ true → IsCandidate T n (length learnt) k
+candidate-number : (c : Constants) (T : Trail) (n : ℕ) (learnt : List Clause) (marks : List Mark) (k : ℕ) → list_any (of_number k) (candidates c T n learnt marks) ≡ true → IsCandidate T n (length learnt) k
 unfolding of_number IsCandidate
-candidate-number c T n [] glues k h = absurd (cc)
+candidate-number c T n [] marks k h = absurd (cc)
 candidate-number c T n (d ∷ learnt) [] k h = absurd (cc)
-candidate-number c T n (d ∷ learnt) (g ∷ glues) k h = go (may_go c T n d g) refl h (candidate-number c T (n + 1) learnt glues k)
+candidate-number c T n (d ∷ learnt) (m ∷ marks) k h = go (may_go c T n d m) refl h (candidate-number c T (n + 1) learnt marks k)
   where
+    rest : List Candidate
+    rest = candidates c T (n + 1) learnt marks
+
     More : Type 0
-    More = list_any (of_number k) (candidates c T (n + 1) learnt glues) ≡ true → IsCandidate T (n + 1) (length learnt) k
+    More = list_any (of_number k) rest ≡ true → IsCandidate T (n + 1) (length learnt) k
 
     later : IsCandidate T (n + 1) (length learnt) k → IsCandidate T n (length (d ∷ learnt)) k
     later i = let low = i.0 in let high = i.1 in (omega arith, omega arith, i.2)
 
-    no_reason : may_go c T n d g ≡ true → is_reason T n ≡ false
-    no_reason e = not_true (is_reason T n) (and-right (nat_lt c.kept_glue g) (not (is_reason T n)) (and-right (not (has_both_signs d)) (nat_lt c.kept_glue g && not (is_reason T n)) e))
+    no_reason : may_go c T n d m ≡ true → is_reason T n ≡ false
+    no_reason e =
+        not_true (is_reason T n)
+        (and-right (not (has_both_signs d)) (not (is_reason T n)) (and-right (not m.used) (not (has_both_signs d) && not (is_reason T n)) (and-right (nat_lt c.kept_glue m.glue) (not m.used && (not (has_both_signs d) && not (is_reason T n))) e)))
 
-    here : may_go c T n d g ≡ true → k ≡ n → IsCandidate T n (length (d ∷ learnt)) k
+    here : may_go c T n d m ≡ true → k ≡ n → IsCandidate T n (length (d ∷ learnt)) k
     here e i = (omega arith, omega arith, ap (is_reason T) i ∙ no_reason e)
 
-    go : (b : Bool) → may_go c T n d g ≡ b
-        → list_any (of_number k) (if b then record { number = n; glue = g; size = length d } ∷ candidates c T (n + 1) learnt glues else candidates c T (n + 1) learnt glues) ≡ true
-        → More → IsCandidate T n (length (d ∷ learnt)) k
-    go true e q more = elim (or-cases (nat_eq k n) (list_any (of_number k) (candidates c T (n + 1) learnt glues)) q) [
+    go : (b : Bool) → may_go c T n d m ≡ b → list_any (of_number k) (if b then record { number = n; glue = m.glue; size = length d } ∷ rest else rest) ≡ true → More
+        → IsCandidate T n (length (d ∷ learnt)) k
+    go true e q more = elim (or-cases (nat_eq k n) (list_any (of_number k) rest) q) [
       | inl i ↦ here e (eqb-true k n i)
       | inr i ↦ later (more i)
     ]
     go false e q more = later (more q)
 
-pub last_half-number : (c : Constants) (T : Trail) (n : ℕ) (learnt : List Clause) (glues : List ℕ) (k : ℕ) → list_any (nat_eq k) (last_half (candidates c T n learnt glues)) ≡ true
-    → (n ≤ k) × (k < n + length learnt) × (is_reason T k ≡ false)
+-- the numbers that a round's end forgets
+pub late-number : (c : Constants) (T : Trail) (K : List Clause) (marks : List Mark) (k : ℕ)
+    → list_any (nat_eq k) (late_ones (candidates c T (length K - length marks + 1) (drop (length K - length marks) K) marks)) ≡ true
+    → (length K - length marks < k) × (k ≤ length K) × (is_reason T k ≡ false)
 unfolding IsCandidate
-last_half-number c T n learnt glues k h =
-    let all = candidates c T n learnt glues in
-    candidate-number c T n learnt glues k (numbers-filter k (is_in_last_half all) all h)
-
--- the numbers that are forgotten with half of the learnt clauses
-abbrev pub half_numbers : Constants → Trail → List ℕ → List Clause → List ℕ
-half_numbers c T glues K = let first = length K - length glues in last_half (candidates c T (first + 1) (drop first K) glues)
-
-pub half-number : (c : Constants) (T : Trail) (glues : List ℕ) (K : List Clause) (k : ℕ) → list_any (nat_eq k) (half_numbers c T glues K) ≡ true
-    → (length K - length glues < k) × (k ≤ length K) × (is_reason T k ≡ false)
-half-number c T glues K k h =
-    let first = length K - length glues in
-    let n = last_half-number c T (first + 1) (drop first K) glues k h in
+late-number c T K marks k h =
+    let first = length K - length marks in
+    let all = candidates c T (first + 1) (drop first K) marks in
+    let n : IsCandidate T (first + 1) (length (drop first K)) k = candidate-number c T (first + 1) (drop first K) marks k (numbers-filter k (is_late all) all h) in
     let count : length (drop first K) ≡ length K - first = length-drop first K in
     let low = n.0 in
     let high = n.1 in

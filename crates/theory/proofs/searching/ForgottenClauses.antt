@@ -6,7 +6,7 @@ use Rattle.theory.specs.Status.{is_false}
 use Rattle.theory.specs.Trails.{Entry, Trail, literals}
 use Rattle.theory.specs.Propagation.{clause_at, least_false}
 use Rattle.theory.specs.Lawful.{IsReason, IsGrounded, IsLawfulAfter, IsLawful}
-use Rattle.theory.specs.Learning.{with_literals, resolved_by, reason_used, walk, learnt_from, learn}
+use Rattle.theory.specs.Learning.{with_literals, resolved_by, reason_used, walk, learnt_from, learn_removing}
 use Rattle.theory.specs.Forgetting.{forgotten}
 use Rattle.theory.specs.Kept.{AreLeft}
 use Rattle.theory.proofs.literals.LiteralSets.{true_false, false_unless, has_var-has, has-cases, Refutes-from_is_false}
@@ -94,15 +94,15 @@ pub IsLawful-left : (A L : List Clause) (T : Trail) → AreLeft A L → IsLawful
 IsLawful-left A L T h t = IsLawfulAfter-left A L [] T h t
 
 -- the same is learnt from what is left as from all
-walk-left : (A L : List Clause) (T before es : Trail) (S : Clause) (hints : List ℕ) → AreLeft A L → IsLawfulAfter L before es → walk L T es S hints ≡ walk A T es S hints
-walk-left A L T before [] S hints h t = refl
-walk-left A L T before (e ∷ es) S hints h t =
-    step (reason_used T (walk L T es S hints).0 e) used ∙ ap (λ (w : Clause × List ℕ). resolved_by A e w (reason_used T w.0 e)) (walk-left A L T (before ++ e ∷ []) es S hints h t.1)
+walk-left : (A L : List Clause) (T : Trail) (R : List Literal) (before es : Trail) (S : Clause) (hints : List ℕ) → AreLeft A L → IsLawfulAfter L before es → walk L T R es S hints ≡ walk A T R es S hints
+walk-left A L T R before [] S hints h t = refl
+walk-left A L T R before (e ∷ es) S hints h t =
+    step (reason_used T R (walk L T R es S hints).0 e) used ∙ ap (λ (w : Clause × List ℕ). resolved_by A e w (reason_used T R w.0 e)) (walk-left A L T R (before ++ e ∷ []) es S hints h t.1)
   where
-    used : (n : ℕ) → reason_used T (walk L T es S hints).0 e ≡ Some n → clause_at L n ≡ clause_at A n
+    used : (n : ℕ) → reason_used T R (walk L T R es S hints).0 e ≡ Some n → clause_at L n ≡ clause_at A n
     used n q = one e.reason (reason q) t.0.grounded
       where
-        reason : reason_used T (walk L T es S hints).0 e ≡ Some n → e.reason ≡ Some n
+        reason : reason_used T R (walk L T R es S hints).0 e ≡ Some n → e.reason ≡ Some n
         reason p = go _ p
           where
             go : (b : Bool) → (if b then e.reason else None) ≡ Some n → e.reason ≡ Some n
@@ -113,7 +113,7 @@ walk-left A L T before (e ∷ es) S hints h t =
         one None p g = absurd (cc)
         one (Some k) p g = let it : k ≡ n = cc in subst (λ i. clause_at L i ≡ clause_at A i) it (IsReason-left A L (literals before) e.lit k h t.0.is_new g.1).0
 
-    step : (r : Option ℕ) → ((n : ℕ) → r ≡ Some n → clause_at L n ≡ clause_at A n) → resolved_by L e (walk L T es S hints) r ≡ resolved_by A e (walk L T es S hints) r
+    step : (r : Option ℕ) → ((n : ℕ) → r ≡ Some n → clause_at L n ≡ clause_at A n) → resolved_by L e (walk L T R es S hints) r ≡ resolved_by A e (walk L T R es S hints) r
     step None f = refl
     step (Some n) f = let c = f n refl in rw c refl
 
@@ -124,7 +124,7 @@ conflict-left A L T n h t f = go (AreLeft-at A L n h)
     go (inl e) = e
     go (inr e) = absurd (true_false (is_false (literals T) forgotten) (subst (λ (c : Clause). is_false (literals T) c ≡ true) e (least_false-at (literals T) L n f).2) (is_false-forgotten L T t))
 
-pub learn-left : (A L : List Clause) (T : Trail) (n : ℕ) → AreLeft A L → IsLawful L T → least_false (literals T) L ≡ Some n → learn L T n ≡ learn A T n
-learn-left A L T n h t f =
-    ap (λ (c : Clause). learnt_from (walk L T T (with_literals c []) (n ∷ [])) T) (conflict-left A L T n h t f)
-    ∙ ap (λ (w : Clause × List ℕ). learnt_from w T) (walk-left A L T [] T (with_literals (clause_at A n) []) (n ∷ []) h t)
+pub learn-left : (R : List Literal) (A L : List Clause) (T : Trail) (n : ℕ) → AreLeft A L → IsLawful L T → least_false (literals T) L ≡ Some n → learn_removing R L T n ≡ learn_removing R A T n
+learn-left R A L T n h t f =
+    ap (λ (c : Clause). learnt_from (walk L T R T (with_literals c []) (n ∷ [])) T) (conflict-left A L T n h t f)
+    ∙ ap (λ (w : Clause × List ℕ). learnt_from w T) (walk-left A L T R [] T (with_literals (clause_at A n) []) (n ∷ []) h t)

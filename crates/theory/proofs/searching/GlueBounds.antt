@@ -1,5 +1,5 @@
 -- Glues stay below bounds.
-use Rattle.std.proofs.Common.{◌≡◌, ℕ, ◌+◌, ◌-◌, ◌≤◌, List, [], ◌∷◌, ◌++◌, length, ap, Option, Some, None, inl, inr, append-nil, append_assoc, arith, All, nat_eq}
+use Rattle.std.proofs.Common.{◌≡◌, ℕ, ◌+◌, ◌-◌, ◌*◌, ◌≤◌, List, [], ◌∷◌, ◌++◌, length, ap, Option, Some, None, inl, inr, append-nil, append_assoc, arith, All, nat_eq}
 use Rattle.std.specs.List.{list_any}
 use Rattle.std.proofs.lemmas.List.{length-drop}
 use Rattle.std.proofs.lemmas.List.Elements.{All-push, All-drop}
@@ -43,3 +43,10 @@ recent-few c g s = let all = s.recent ++ g ∷ [] in let left = length-drop (len
 
 pub recent-most : (c : Constants) (g : ℕ) (s : Glues) (b : ℕ) → g ≤ b → All (λ x. x ≤ b) s.recent → All (λ x. x ≤ b) (with_glue c g s).recent
 recent-most c g s b low h = All-drop (λ x. x ≤ b) (length (s.recent ++ g ∷ []) - c.window) (s.recent ++ g ∷ []) (All-push (λ x. x ≤ b) s.recent g h low)
+
+-- and their sum
+pub total-most : (c : Constants) (g : ℕ) (s : Glues) (b : ℕ) → g ≤ b → s.total ≤ b * s.count → (with_glue c g s).total ≤ b * (with_glue c g s).count
+total-most c g s b low h = let more : b * (s.count + 1) ≡ b * s.count + b = mul-succ b s.count in omega (arith, low, h, more)
+  where
+    mul-succ : (m n : ℕ) → m * (n + 1) ≡ m * n + m
+    mul-succ m n = omega arith

@@ -10,7 +10,7 @@ use Rattle.theory.specs.Status.{is_false}
 use Rattle.theory.specs.Trails.{Trail, literals, current_level, cube_trail, decide, up_to}
 use Rattle.theory.specs.Propagation.{clause_at, least_false, Closed, unit_entry, Propagates, clashes, grows, rests, Rule, IsRule}
 use Rattle.theory.specs.Lawful.{IsLawful, cube_of}
-use Rattle.theory.specs.Learning.{Line, learn, back_level}
+use Rattle.theory.specs.Learning.{Line, learn_removing, back_level}
 use Rattle.theory.specs.Forgetting.{forget}
 use Rattle.theory.specs.Replaying.{IsReplayed, AreReplayed}
 use Rattle.theory.specs.Kept.{clauses_of, AreLeft, IsSearchOf}
@@ -108,14 +108,14 @@ pub AreLeft-all : (V : ℕ) (K : List Clause) (Q : List Literal) (C : List Claus
 AreLeft-all V K Q C T lines i = subst (AreLeft (K ++ clauses_of lines)) (sym i.are_clauses) (AreLeft-append K K (clauses_of lines) i.learnt (AreLeft-refl K) i.left)
 
 -- the line learnt from a conflict replays over all clauses, since none that is forgotten is used
-pub IsReplayed-learn : (V : ℕ) (K : List Clause) (Q : List Literal) (C : List Clause) (T : Trail) (lines : List Line) (n : ℕ) → least_false (literals T) C ≡ Some n → IsSearchOf V K Q C T lines
-    → IsReplayed V (length K) Q (K ++ clauses_of lines) (learn C T n)
-IsReplayed-learn V K Q C T lines n h i =
-    subst (IsReplayed V (length K) Q all) (sym (learn-left all C T n left i.lawful h))
-    (subst (λ (q : List Literal). IsReplayed V (length K) q all (learn all T n)) i.cube (record {
-      passes = Passes-learn (length K) all T n lawful at.0 within clash;
-      one_sign = has_both_signs-learn all T n lawful clash;
-      over = IsOver-from_AreOver V ((learn all T n).clause ++ negations (cube_of T)) (IsVariable-learn V all T n lawful (AreOver-from_IsOver V (literals T) i.variables) clash);
+pub IsReplayed-learn : (V : ℕ) (R : List Literal) (K : List Clause) (Q : List Literal) (C : List Clause) (T : Trail) (lines : List Line) (n : ℕ) → least_false (literals T) C ≡ Some n → IsSearchOf V K Q C T lines
+    → IsReplayed V (length K) Q (K ++ clauses_of lines) (learn_removing R C T n)
+IsReplayed-learn V R K Q C T lines n h i =
+    subst (IsReplayed V (length K) Q all) (sym (learn-left R all C T n left i.lawful h))
+    (subst (λ (q : List Literal). IsReplayed V (length K) q all (learn_removing R all T n)) i.cube (record {
+      passes = Passes-learn (length K) R all T n lawful at.0 within clash;
+      one_sign = has_both_signs-learn R all T n lawful clash;
+      over = IsOver-from_AreOver V ((learn_removing R all T n).clause ++ negations (cube_of T)) (IsVariable-learn V R all T n lawful (AreOver-from_IsOver V (literals T) i.variables) clash);
     }))
   where
     all : List Clause
@@ -136,38 +136,38 @@ IsReplayed-learn V K Q C T lines n h i =
     clash : is_false (literals T) (clause_at all n) ≡ true
     clash = subst (λ (c : Clause). is_false (literals T) c ≡ true) (conflict-left all C T n left i.lawful h) at.2
 
-pub IsSearchOf-learn : (V : ℕ) (K : List Clause) (Q : List Literal) (C : List Clause) (T : Trail) (lines : List Line) (n : ℕ) → least_false (literals T) C ≡ Some n → 1 ≤ current_level T
+pub IsSearchOf-learn : (V : ℕ) (R : List Literal) (K : List Clause) (Q : List Literal) (C : List Clause) (T : Trail) (lines : List Line) (n : ℕ) → least_false (literals T) C ≡ Some n → 1 ≤ current_level T
     → IsSearchOf V K Q C T lines
-    → IsSearchOf V K Q (C ++ (learn C T n).clause ∷ []) (up_to T (back_level T (learn C T n).clause)) (lines ++ learn C T n ∷ [])
-IsSearchOf-learn V K Q C T lines n h above i = record {
+    → IsSearchOf V K Q (C ++ (learn_removing R C T n).clause ∷ []) (up_to T (back_level T (learn_removing R C T n).clause)) (lines ++ learn_removing R C T n ∷ [])
+IsSearchOf-learn V R K Q C T lines n h above i = record {
   learnt = i.learnt ++ line.clause ∷ [];
   are_clauses = ap (λ (c : List Clause). c ++ line.clause ∷ []) i.are_clauses ∙ append_assoc K i.learnt (line.clause ∷ []);
   left = subst (λ (c : List Clause). AreLeft c (i.learnt ++ line.clause ∷ [])) (sym (map-append (λ (x : Line). x.clause) lines (line ∷ [])))
       (AreLeft-append (clauses_of lines) i.learnt (line.clause ∷ []) (line.clause ∷ []) i.left (AreLeft-refl (line.clause ∷ [])));
   over = All-push (IsOver V) C line.clause i.over (IsOver-left V line.clause (negations Q) replayed.over);
   lawful = IsLawful-append C (line.clause ∷ []) (up_to T b) (IsLawful-up_to C T b i.lawful);
-  open_below = IsOpenBelow-learn C T n i.lawful i.open_below above h;
+  open_below = IsOpenBelow-learn R C T n i.lawful i.open_below above h;
   cube = cube_of-up_to T b ∙ i.cube;
   variables = IsOver-from_AreOver V (literals (up_to T b)) (AreOver-up_to V T b (AreOver-from_IsOver V (literals T) i.variables));
   replayed = AreReplayed-push V (length K) Q K lines line i.replayed replayed;
 }
   where
     line : Line
-    line = learn C T n
+    line = learn_removing R C T n
 
     b : ℕ
     b = back_level T line.clause
 
     replayed : IsReplayed V (length K) Q (K ++ clauses_of lines) line
-    replayed = IsReplayed-learn V K Q C T lines n h i
+    replayed = IsReplayed-learn V R K Q C T lines n h i
 
 -- where a line is learnt above level 0, there is a variable
 pub some-variable : (V : ℕ) (K : List Clause) (Q : List Literal) (C : List Clause) (T : Trail) (lines : List Line) (n : ℕ) → least_false (literals T) C ≡ Some n → 1 ≤ current_level T
     → IsSearchOf V K Q C T lines → 1 ≤ V
 some-variable V K Q C T lines n h above i =
-    let f = free-learn C T n i.lawful i.open_below above h in
+    let f = free-learn [] C T n i.lawful i.open_below above h in
     let clash = (least_false-at (literals T) C n h).2 in
-    let v = AreOver-from_IsOver V (literals T) i.variables _ (Refutes-learn C T n i.lawful clash f.0 f.1) in
+    let v = AreOver-from_IsOver V (literals T) i.variables _ (Refutes-learn [] C T n i.lawful clash f.0 f.1) in
     let low = v.0 in
     let high = v.1 in
     omega arith
@@ -192,24 +192,24 @@ IsSearchOf-forget V K Q C T lines ns some later unused i = record {
     first = forget-none ns 1 K (λ k low high. false_unless (list_any (nat_eq k) ns) (λ t. let above = later k t in absurd (omega (arith, above, high))))
 
 -- a line is learnt, clauses are forgotten, and the trail goes back
-IsSearchOf-learnt : (V : ℕ) (K : List Clause) (Q : List Literal) (C : List Clause) (T : Trail) (lines : List Line) (n : ℕ) (ns : List ℕ) (level : ℕ) → least_false (literals T) C ≡ Some n
-    → 1 ≤ current_level T → level ≤ back_level T (learn C T n).clause → AreLearnt ns C lines → AreNoReasons ns (up_to T level) → IsSearchOf V K Q C T lines
-    → IsSearchOf V K Q (forget ns 1 C ++ (learn C T n).clause ∷ []) (up_to T level) (lines ++ learn C T n ∷ [])
-IsSearchOf-learnt V K Q C T lines n ns level h above low own unused i =
-    subst (λ (D : List Clause). IsSearchOf V K Q D (up_to T level) (lines ++ learn C T n ∷ [])) (forget-push ns C c (λ k t. (own k t).1))
-    (IsSearchOf-forget V K Q (C ++ c ∷ []) (up_to T level) (lines ++ learn C T n ∷ []) ns (some-variable V K Q C T lines n h above i) (λ k t. later k (own k t).0) unused back)
+IsSearchOf-learnt : (V : ℕ) (R : List Literal) (K : List Clause) (Q : List Literal) (C : List Clause) (T : Trail) (lines : List Line) (n : ℕ) (ns : List ℕ) (level : ℕ) → least_false (literals T) C ≡ Some n
+    → 1 ≤ current_level T → level ≤ back_level T (learn_removing R C T n).clause → AreLearnt ns C lines → AreNoReasons ns (up_to T level) → IsSearchOf V K Q C T lines
+    → IsSearchOf V K Q (forget ns 1 C ++ (learn_removing R C T n).clause ∷ []) (up_to T level) (lines ++ learn_removing R C T n ∷ [])
+IsSearchOf-learnt V R K Q C T lines n ns level h above low own unused i =
+    subst (λ (D : List Clause). IsSearchOf V K Q D (up_to T level) (lines ++ learn_removing R C T n ∷ [])) (forget-push ns C c (λ k t. (own k t).1))
+    (IsSearchOf-forget V K Q (C ++ c ∷ []) (up_to T level) (lines ++ learn_removing R C T n ∷ []) ns (some-variable V K Q C T lines n h above i) (λ k t. later k (own k t).0) unused back)
   where
     c : Clause
-    c = (learn C T n).clause
+    c = (learn_removing R C T n).clause
 
     b : ℕ
     b = back_level T c
 
-    back : IsSearchOf V K Q (C ++ c ∷ []) (up_to T level) (lines ++ learn C T n ∷ [])
+    back : IsSearchOf V K Q (C ++ c ∷ []) (up_to T level) (lines ++ learn_removing R C T n ∷ [])
     back =
-        let reached : current_level (up_to T b) ≡ b = current_level-learn C T n i.lawful i.open_below above h in
-        subst (λ (U : Trail). IsSearchOf V K Q (C ++ c ∷ []) U (lines ++ learn C T n ∷ [])) (up_to-up_to T b level low)
-        (IsSearchOf-up_to V K Q (C ++ c ∷ []) (up_to T b) (lines ++ learn C T n ∷ []) level (omega (arith, reached, low)) (IsSearchOf-learn V K Q C T lines n h above i))
+        let reached : current_level (up_to T b) ≡ b = current_level-learn R C T n i.lawful i.open_below above h in
+        subst (λ (U : Trail). IsSearchOf V K Q (C ++ c ∷ []) U (lines ++ learn_removing R C T n ∷ [])) (up_to-up_to T b level low)
+        (IsSearchOf-up_to V K Q (C ++ c ∷ []) (up_to T b) (lines ++ learn_removing R C T n ∷ []) level (omega (arith, reached, low)) (IsSearchOf-learn V R K Q C T lines n h above i))
 
     later : (k : ℕ) → length C - length lines < k → length K < k
     later k first =
@@ -222,5 +222,5 @@ pub IsInvariant-IsSearchOf : (rule : Rule) → IsRule rule → (V : ℕ) (K : Li
 IsInvariant-IsSearchOf rule g V K Q = record {
   propagated = λ C T U lines a h i. IsSearchOf-Propagates rule g V K Q C T U a lines h i;
   decided = λ C T lines l h v f i. IsSearchOf-decide V K Q C T lines l h v f i;
-  learnt = λ C T lines n ns level h above low own unused i. IsSearchOf-learnt V K Q C T lines n ns level h above low own unused i;
+  learnt = λ R C T lines n ns level h above low own unused i. IsSearchOf-learnt V R K Q C T lines n ns level h above low own unused i;
 }

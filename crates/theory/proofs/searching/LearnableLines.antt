@@ -6,7 +6,7 @@ use Rattle.theory.specs.Trails.{Entry, Trail, literals, level_at, current_level,
 use Rattle.theory.specs.Propagation.{clause_at, least_false}
 use Rattle.theory.specs.Lawful.{IsLawful}
 use Rattle.theory.specs.Learnable.{IsOpenBelow, IsLearnable}
-use Rattle.theory.specs.Learning.{with_literals, walk, is_of_cube, back_level, learn}
+use Rattle.theory.specs.Learning.{with_literals, walk, is_of_cube, back_level, learn_removing}
 use Rattle.theory.proofs.literals.LiteralLemmas.{and-left}
 use Rattle.theory.proofs.literals.LiteralSets.{Refutes, true_false, false_unless, other-same, same-other, has-tail, has-head, has-cases, has-filter, has-from_filter}
 use Rattle.theory.proofs.checker.Hints.{unit_literal-only}
@@ -77,8 +77,8 @@ record Narrowed (T : Trail) (c : Clause) : Type 0 where
   is_it : level_of T latest ≡ current_level T
   only : (l : Literal) → has c l ≡ true → is_latest T l ≡ true → l ≡ latest
 
-Narrowed-learn : (K : List Clause) (T : Trail) (n : ℕ) → IsLawful K T → IsOpenBelow K T → 1 ≤ current_level T → least_false (literals T) K ≡ Some n → Narrowed T (learn K T n).clause
-Narrowed-learn K T n lawful open_below above h = record {
+Narrowed-learn : (R : List Literal) (K : List Clause) (T : Trail) (n : ℕ) → IsLawful K T → IsOpenBelow K T → 1 ≤ current_level T → least_false (literals T) K ≡ Some n → Narrowed T (learn_removing R K T n).clause
+Narrowed-learn R K T n lawful open_below above h = record {
   refuted = λ l a. s.refuted l (old l a);
   distinct = are_distinct-rising c (IsRising-filter (λ l. not (is_of_cube T l)) S s.rising);
   latest = s.latest.0;
@@ -88,13 +88,13 @@ Narrowed-learn K T n lawful open_below above h = record {
 }
   where
     S : Clause
-    S = (walk K T T (with_literals (clause_at K n) []) (n ∷ [])).0
+    S = (walk K T R T (with_literals (clause_at K n) []) (n ∷ [])).0
 
     c : Clause
     c = filter (λ l. not (is_of_cube T l)) S
 
     s : Narrows T [] S
-    s = Narrows-walk K T n lawful open_below above h
+    s = Narrows-walk R K T n lawful open_below above h
 
     level : level_of T s.latest.0 ≡ current_level T
     level = eqb-true (level_of T s.latest.0) (current_level T) s.latest.2
@@ -107,34 +107,34 @@ Narrowed-learn K T n lawful open_below above h = record {
     alone (inr all) l a p = absurd (let none = all l a p in cc)
 
 -- the level to go back to is below the current one
-pub back_level-learn : (K : List Clause) (T : Trail) (n : ℕ) → IsLawful K T → IsOpenBelow K T → 1 ≤ current_level T → least_false (literals T) K ≡ Some n
-    → back_level T (learn K T n).clause < current_level T
-back_level-learn K T n lawful open_below above h =
-    let s = Narrowed-learn K T n lawful open_below above h in
-    back_level-less T (learn K T n).clause above (λ l a. level_of-most K T (negated l) lawful (s.refuted l a))
+pub back_level-learn : (R : List Literal) (K : List Clause) (T : Trail) (n : ℕ) → IsLawful K T → IsOpenBelow K T → 1 ≤ current_level T → least_false (literals T) K ≡ Some n
+    → back_level T (learn_removing R K T n).clause < current_level T
+back_level-learn R K T n lawful open_below above h =
+    let s = Narrowed-learn R K T n lawful open_below above h in
+    back_level-less T (learn_removing R K T n).clause above (λ l a. level_of-most K T (negated l) lawful (s.refuted l a))
 
 -- a literal of the clause is free on each trail below the current level
-pub free-learn : (K : List Clause) (T : Trail) (n : ℕ) → IsLawful K T → IsOpenBelow K T → 1 ≤ current_level T → least_false (literals T) K ≡ Some n
-    → (l : Literal) × (has (learn K T n).clause l ≡ true) × ((level : ℕ) → level < current_level T → has_var (literals (up_to T level)) l.var ≡ false)
-free-learn K T n lawful open_below above h =
-    let s = Narrowed-learn K T n lawful open_below above h in
+pub free-learn : (R : List Literal) (K : List Clause) (T : Trail) (n : ℕ) → IsLawful K T → IsOpenBelow K T → 1 ≤ current_level T → least_false (literals T) K ≡ Some n
+    → (l : Literal) × (has (learn_removing R K T n).clause l ≡ true) × ((level : ℕ) → level < current_level T → has_var (literals (up_to T level)) l.var ≡ false)
+free-learn R K T n lawful open_below above h =
+    let s = Narrowed-learn R K T n lawful open_below above h in
     let level = s.is_it in
     (s.latest, s.holds, λ j less. has_var-up_to K T j s.latest lawful (omega arith))
 
-pub current_level-learn : (K : List Clause) (T : Trail) (n : ℕ) → IsLawful K T → IsOpenBelow K T → 1 ≤ current_level T → least_false (literals T) K ≡ Some n
-    → current_level (up_to T (back_level T (learn K T n).clause)) ≡ back_level T (learn K T n).clause
-current_level-learn K T n lawful open_below above h = go (back_level-reached T c)
+pub current_level-learn : (R : List Literal) (K : List Clause) (T : Trail) (n : ℕ) → IsLawful K T → IsOpenBelow K T → 1 ≤ current_level T → least_false (literals T) K ≡ Some n
+    → current_level (up_to T (back_level T (learn_removing R K T n).clause)) ≡ back_level T (learn_removing R K T n).clause
+current_level-learn R K T n lawful open_below above h = go (back_level-reached T c)
   where
     c : Clause
-    c = (learn K T n).clause
+    c = (learn_removing R K T n).clause
 
     go : (back_level T c ≡ 0) ⊎ ((l : Literal) × (has c l ≡ true) × (is_latest T l ≡ false) × (level_of T l ≡ back_level T c)) → current_level (up_to T (back_level T c)) ≡ back_level T c
     go (inl z) = let most = current_level-up_to T (back_level T c) in omega arith
-    go (inr r) = current_level-reached K T (back_level T c) (negated r.0) lawful ((Narrowed-learn K T n lawful open_below above h).refuted r.0 r.1) r.3
+    go (inr r) = current_level-reached K T (back_level T c) (negated r.0) lawful ((Narrowed-learn R K T n lawful open_below above h).refuted r.0 r.1) r.3
 
-pub IsLearnable-learn : (K : List Clause) (T : Trail) (n : ℕ) → IsLawful K T → IsOpenBelow K T → 1 ≤ current_level T → least_false (literals T) K ≡ Some n
-    → IsLearnable (up_to T (back_level T (learn K T n).clause)) (learn K T n).clause
-IsLearnable-learn K T n lawful open_below above h = record {
+pub IsLearnable-learn : (R : List Literal) (K : List Clause) (T : Trail) (n : ℕ) → IsLawful K T → IsOpenBelow K T → 1 ≤ current_level T → least_false (literals T) K ≡ Some n
+    → IsLearnable (up_to T (back_level T (learn_removing R K T n).clause)) (learn_removing R K T n).clause
+IsLearnable-learn R K T n lawful open_below above h = record {
   distinct = s.distinct;
   free = s.latest;
   unit = unit_literal-only (literals (up_to T b)) c s.latest s.holds (has_var-up_to K T b s.latest lawful (omega (arith, s.is_it, less))) others;
@@ -142,19 +142,19 @@ IsLearnable-learn K T n lawful open_below above h = record {
 }
   where
     c : Clause
-    c = (learn K T n).clause
+    c = (learn_removing R K T n).clause
 
     b : ℕ
     b = back_level T c
 
     s : Narrowed T c
-    s = Narrowed-learn K T n lawful open_below above h
+    s = Narrowed-learn R K T n lawful open_below above h
 
     less : b < current_level T
-    less = back_level-learn K T n lawful open_below above h
+    less = back_level-learn R K T n lawful open_below above h
 
     reached : current_level (up_to T b) ≡ b
-    reached = current_level-learn K T n lawful open_below above h
+    reached = current_level-learn R K T n lawful open_below above h
 
     others : (k : Literal) → has c k ≡ true → same s.latest k ≡ false → has (literals (up_to T b)) (negated k) ≡ true
     others k a d =

@@ -6,7 +6,7 @@ use Rattle.theory.specs.Status.{is_false}
 use Rattle.theory.specs.Trails.{Entry, Trail, literals, entry_of, is_given}
 use Rattle.theory.specs.Propagation.{clause_at}
 use Rattle.theory.specs.Lawful.{IsReason, IsLawfulEntry, IsLawful, cube_of}
-use Rattle.theory.specs.Learning.{with_literals, resolved, reason_used, walk, is_of_cube, learn}
+use Rattle.theory.specs.Learning.{with_literals, resolved, reason_used, walk, is_of_cube, learn_removing}
 use Rattle.theory.specs.Checking.{Numbered, clause_of, false_clause, unit_in, hint, take_hints, conflicts}
 use Rattle.theory.specs.Replaying.{carrying_from, Passes}
 use Rattle.theory.proofs.literals.LiteralLemmas.{or-cases, or-right}
@@ -89,11 +89,11 @@ Walked-pass T Q there f before e S hints U w = record {
 }
 
 -- an entry on whose reason is resolved
-Walked-resolve : (K : List Clause) (T : Trail) (Q : List Literal) (there : Numbered) (f : ℕ → ℕ) (before : Trail) (e : Entry) (es : Trail) (S : Clause) (hints : List ℕ) (U : List Literal) (n : ℕ)
-    → IsLawful K T → AreThere K Q there f → T ≡ before ++ e ∷ es → reason_used T S e ≡ Some n → Walked T Q there f (before ++ e ∷ []) S hints U
+Walked-resolve : (K : List Clause) (T : Trail) (R : List Literal) (Q : List Literal) (there : Numbered) (f : ℕ → ℕ) (before : Trail) (e : Entry) (es : Trail) (S : Clause) (hints : List ℕ) (U : List Literal) (n : ℕ)
+    → IsLawful K T → AreThere K Q there f → T ≡ before ++ e ∷ es → reason_used T R S e ≡ Some n → Walked T Q there f (before ++ e ∷ []) S hints U
     → Walked T Q there f before (resolved S e.lit (clause_at K n)) (n ∷ hints) (e.lit ∷ U)
-Walked-resolve K T Q there f before e es S hints U n lawful all place used w = record {
-  refuted = Refutes-resolved K T before e es S n lawful place used w.refuted;
+Walked-resolve K T R Q there f before e es S hints U n lawful all place used w = record {
+  refuted = Refutes-resolved K T R before e es S n lawful place used w.refuted;
   apart_set = λ v a. has_var-none (resolved S e.lit (clause_at K n)) v (λ k b i. set_free v a k (has-from_resolved S (clause_at K n) e.lit k b) i);
   apart_rest = λ v a. rest_free v (or-cases (nat_eq v e.lit.var) (has_var U v) a);
   reasons = λ v a. given v (or-cases (nat_eq v e.lit.var) (has_var U v) a);
@@ -107,7 +107,7 @@ Walked-resolve K T Q there f before e es S hints U n lawful all place used w = r
     entry = entry-place K T before e es lawful place
 
     reason : IsReason K (literals before) e.lit n
-    reason = (grounded-place K T before e es S n lawful place used).1
+    reason = (grounded-place K T R before e es S n lawful place used).1
 
     before_it : Refutes (literals before) (without (clause_at K n) e.lit)
     before_it = Refutes-others K (literals before) e.lit n reason
@@ -127,7 +127,7 @@ Walked-resolve K T Q there f before e es S hints U n lawful all place used w = r
     given : (v : ℕ) → (nat_eq v e.lit.var ≡ true) ⊎ (has_var U v ≡ true) → is_given (entry_of T v) ≡ false
     given v (inl i) =
         let found : entry_of T e.lit.var ≡ Some e = entry_of-at K T e lawful at in
-        let here : is_given (entry_of T e.lit.var) ≡ false = ap is_given found ∙ no_gift (nat_eq e.level 0) e.reason (reason_used-reason T S e n used) in
+        let here : is_given (entry_of T e.lit.var) ≡ false = ap is_given found ∙ no_gift (nat_eq e.level 0) e.reason (reason_used-reason T R S e n used) in
         subst (λ x. is_given (entry_of T x) ≡ false) (sym (eqb-true v e.lit.var i)) here
       where
         no_gift : (b : Bool) (r : Option ℕ) → r ≡ Some n → b && not (is_some r) ≡ false
@@ -153,11 +153,11 @@ Walked-resolve K T Q there f before e es S hints U n lawful all place used w = r
 abbrev Walks : Trail → List Literal → Numbered → (ℕ → ℕ) → Trail → Clause × List ℕ → Type 0
 Walks T Q there f before w = (U : List Literal) × Walked T Q there f before w.0 w.1 U
 
-walk-Walks : (K : List Clause) (T : Trail) (Q : List Literal) (there : Numbered) (f : ℕ → ℕ) (S : Clause) (hints : List ℕ)
-    → IsLawful K T → AreThere K Q there f → Walked T Q there f T S hints [] → Walks T Q there f [] (walk K T T S hints)
-walk-Walks K T Q there f S hints lawful all start =
-    walk-all K T (Walks T Q there f) (λ before e es w place h i. (i.0, Walked-pass T Q there f before e w.0 w.1 i.0 i.1))
-    (λ before e es w n place h i. (e.lit ∷ i.0, Walked-resolve K T Q there f before e es w.0 w.1 i.0 n lawful all place h i.1)) S hints ([], start)
+walk-Walks : (K : List Clause) (T : Trail) (R : List Literal) (Q : List Literal) (there : Numbered) (f : ℕ → ℕ) (S : Clause) (hints : List ℕ)
+    → IsLawful K T → AreThere K Q there f → Walked T Q there f T S hints [] → Walks T Q there f [] (walk K T R T S hints)
+walk-Walks K T R Q there f S hints lawful all start =
+    walk-all K T R (Walks T Q there f) (λ before e es w place h i. (i.0, Walked-pass T Q there f before e w.0 w.1 i.0 i.1))
+    (λ before e es w n place h i. (e.lit ∷ i.0, Walked-resolve K T R Q there f before e es w.0 w.1 i.0 n lawful all place h i.1)) S hints ([], start)
 
 -- the walk from a false clause
 Walked-begin : (K : List Clause) (T : Trail) (Q : List Literal) (there : Numbered) (f : ℕ → ℕ) (n : ℕ) → AreThere K Q there f → 1 ≤ n → n ≤ length K
@@ -211,13 +211,13 @@ kept-passes K T there f w lawful v = v.1.ready P
 
 -- The line learnt from a false clause, with the negations of the cube, passes by its hints: over
 -- any clauses that carry K's, under new numbers.
-pub take_hints-learn : (K : List Clause) (T : Trail) (there : Numbered) (f : ℕ → ℕ) (n : ℕ) → IsLawful K T → AreThere K (cube_of T) there f → 1 ≤ n → n ≤ length K
+pub take_hints-learn : (R : List Literal) (K : List Clause) (T : Trail) (there : Numbered) (f : ℕ → ℕ) (n : ℕ) → IsLawful K T → AreThere K (cube_of T) there f → 1 ≤ n → n ≤ length K
     → is_false (literals T) (clause_at K n) ≡ true
-    → take_hints there (negations ((learn K T n).clause ++ negations (cube_of T))) (map f (learn K T n).hints) ≡ conflicts
+    → take_hints there (negations ((learn_removing R K T n).clause ++ negations (cube_of T))) (map f (learn_removing R K T n).hints) ≡ conflicts
 unfolding kept
-take_hints-learn K T there f n lawful all one end clash =
-    kept-passes K T there f (walk K T T (with_literals (clause_at K n) []) (n ∷ [])) lawful
-    (walk-Walks K T (cube_of T) there f (with_literals (clause_at K n) []) (n ∷ []) lawful all (Walked-begin K T (cube_of T) there f n all one end clash))
+take_hints-learn R K T there f n lawful all one end clash =
+    kept-passes K T there f (walk K T R T (with_literals (clause_at K n) []) (n ∷ [])) lawful
+    (walk-Walks K T R (cube_of T) there f (with_literals (clause_at K n) []) (n ∷ []) lawful all (Walked-begin K T (cube_of T) there f n all one end clash))
 
 -- the clauses of K by their own numbers
 clause_of-carrying : (n N : ℕ) (Q : List Literal) (K : List Clause) (i : ℕ) → i < length K
@@ -251,38 +251,38 @@ AreThere-carrying N Q K n one end = go (nat_le n N) (clause_of-carrying_at N Q K
     go true e = (clause_at K n, e, record { within = λ l a. a; besides = λ l a. inl a })
     go false e = (clause_at K n ++ negations Q, e, record { within = λ l a. has-append_left (clause_at K n) (negations Q) l a; besides = λ l a. has-append_cases (clause_at K n) (negations Q) l a })
 
-pub Passes-learn : (N : ℕ) (K : List Clause) (T : Trail) (n : ℕ) → IsLawful K T → 1 ≤ n → n ≤ length K → is_false (literals T) (clause_at K n) ≡ true
-    → Passes N (cube_of T) K (learn K T n)
-Passes-learn N K T n lawful one end clash =
-    let moved = take_hints-learn K T (carrying_from 1 N (cube_of T) K) (λ n. n) n lawful (AreThere-carrying N (cube_of T) K) one end clash in
-    subst (λ ns. take_hints (carrying_from 1 N (cube_of T) K) (negations ((learn K T n).clause ++ negations (cube_of T))) ns ≡ conflicts) (map-id (learn K T n).hints) moved
+pub Passes-learn : (N : ℕ) (R : List Literal) (K : List Clause) (T : Trail) (n : ℕ) → IsLawful K T → 1 ≤ n → n ≤ length K → is_false (literals T) (clause_at K n) ≡ true
+    → Passes N (cube_of T) K (learn_removing R K T n)
+Passes-learn N R K T n lawful one end clash =
+    let moved = take_hints-learn R K T (carrying_from 1 N (cube_of T) K) (λ n. n) n lawful (AreThere-carrying N (cube_of T) K) one end clash in
+    subst (λ ns. take_hints (carrying_from 1 N (cube_of T) K) (negations ((learn_removing R K T n).clause ++ negations (cube_of T))) ns ≡ conflicts) (map-id (learn_removing R K T n).hints) moved
 
 -- the literals of a learnt clause are false on the trail
-pub Refutes-learn : (K : List Clause) (T : Trail) (n : ℕ) → IsLawful K T → is_false (literals T) (clause_at K n) ≡ true → Refutes (literals T) (learn K T n).clause
-Refutes-learn K T n lawful clash l a =
-    Refutes-walk K T (with_literals (clause_at K n) []) (n ∷ []) lawful (Refutes-begin K T n clash)
-    l (has-from_filter (λ l. not (is_of_cube T l)) (walk K T T (with_literals (clause_at K n) []) (n ∷ [])).0 l a).0
+pub Refutes-learn : (R : List Literal) (K : List Clause) (T : Trail) (n : ℕ) → IsLawful K T → is_false (literals T) (clause_at K n) ≡ true → Refutes (literals T) (learn_removing R K T n).clause
+Refutes-learn R K T n lawful clash l a =
+    Refutes-walk K T R (with_literals (clause_at K n) []) (n ∷ []) lawful (Refutes-begin K T n clash)
+    l (has-from_filter (λ l. not (is_of_cube T l)) (walk K T R T (with_literals (clause_at K n) []) (n ∷ [])).0 l a).0
 
 -- so are the negations of the cube
 pub Refutes-cube_of : (K : List Clause) (T : Trail) → IsLawful K T → Refutes (literals T) (negations (cube_of T))
 Refutes-cube_of K T lawful l a = (has-from_cube_of K T (negated l) lawful (has-from_negations (cube_of T) l a)).0
 
-pub Refutes-learn_line : (K : List Clause) (T : Trail) (n : ℕ) → IsLawful K T → is_false (literals T) (clause_at K n) ≡ true
-    → Refutes (literals T) ((learn K T n).clause ++ negations (cube_of T))
-Refutes-learn_line K T n lawful clash l a = elim (has-append_cases (learn K T n).clause (negations (cube_of T)) l a) [
-  | inl i ↦ Refutes-learn K T n lawful clash l i
+pub Refutes-learn_line : (R : List Literal) (K : List Clause) (T : Trail) (n : ℕ) → IsLawful K T → is_false (literals T) (clause_at K n) ≡ true
+    → Refutes (literals T) ((learn_removing R K T n).clause ++ negations (cube_of T))
+Refutes-learn_line R K T n lawful clash l a = elim (has-append_cases (learn_removing R K T n).clause (negations (cube_of T)) l a) [
+  | inl i ↦ Refutes-learn R K T n lawful clash l i
   | inr i ↦ Refutes-cube_of K T lawful l i
 ]
 
 -- a learnt clause, with the negations of the cube too, has no variable in both signs
-pub has_both_signs-learn : (K : List Clause) (T : Trail) (n : ℕ) → IsLawful K T → is_false (literals T) (clause_at K n) ≡ true
-    → has_both_signs ((learn K T n).clause ++ negations (cube_of T)) ≡ false
-has_both_signs-learn K T n lawful clash = has_both_signs-refuted K T ((learn K T n).clause ++ negations (cube_of T)) lawful (Refutes-learn_line K T n lawful clash)
+pub has_both_signs-learn : (R : List Literal) (K : List Clause) (T : Trail) (n : ℕ) → IsLawful K T → is_false (literals T) (clause_at K n) ≡ true
+    → has_both_signs ((learn_removing R K T n).clause ++ negations (cube_of T)) ≡ false
+has_both_signs-learn R K T n lawful clash = has_both_signs-refuted K T ((learn_removing R K T n).clause ++ negations (cube_of T)) lawful (Refutes-learn_line R K T n lawful clash)
 
-pub has_both_signs-learn_clause : (K : List Clause) (T : Trail) (n : ℕ) → IsLawful K T → is_false (literals T) (clause_at K n) ≡ true → has_both_signs (learn K T n).clause ≡ false
-has_both_signs-learn_clause K T n lawful clash = has_both_signs-refuted K T (learn K T n).clause lawful (Refutes-learn K T n lawful clash)
+pub has_both_signs-learn_clause : (R : List Literal) (K : List Clause) (T : Trail) (n : ℕ) → IsLawful K T → is_false (literals T) (clause_at K n) ≡ true → has_both_signs (learn_removing R K T n).clause ≡ false
+has_both_signs-learn_clause R K T n lawful clash = has_both_signs-refuted K T (learn_removing R K T n).clause lawful (Refutes-learn R K T n lawful clash)
 
 -- it is over the variables of the trail
-pub IsVariable-learn : (V : ℕ) (K : List Clause) (T : Trail) (n : ℕ) → IsLawful K T → ((l : Literal) → has (literals T) l ≡ true → IsVariable V l.var)
-    → is_false (literals T) (clause_at K n) ≡ true → (l : Literal) → has ((learn K T n).clause ++ negations (cube_of T)) l ≡ true → IsVariable V l.var
-IsVariable-learn V K T n lawful over clash l a = over (negated l) (Refutes-learn_line K T n lawful clash l a)
+pub IsVariable-learn : (V : ℕ) (R : List Literal) (K : List Clause) (T : Trail) (n : ℕ) → IsLawful K T → ((l : Literal) → has (literals T) l ≡ true → IsVariable V l.var)
+    → is_false (literals T) (clause_at K n) ≡ true → (l : Literal) → has ((learn_removing R K T n).clause ++ negations (cube_of T)) l ≡ true → IsVariable V l.var
+IsVariable-learn V R K T n lawful over clash l a = over (negated l) (Refutes-learn_line R K T n lawful clash l a)

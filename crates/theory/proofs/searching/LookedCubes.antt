@@ -166,7 +166,7 @@ ComesTo-says : (F : Formula) (Q : List Literal) (a : Closed) (T : Trail) (o : Ou
     → IsSearchOf F.vars (first_clauses F) Q (first_clauses F) T [] → ComesTo F a T o → CubeSays F.vars (first_clauses F) Q o
 ComesTo-says F Q (conflict n) T o p i h =
     subst (CubeSays F.vars (first_clauses F) Q) (sym h)
-    (CubeSays-refuted F.vars (first_clauses F) Q (first_clauses F) T [] n (Propagates-says by_place (first_clauses F) (cube_trail Q) T (conflict n) p) (level-looked by_place F Q T (conflict n) p) i)
+    (CubeSays-refuted F.vars [] (first_clauses F) Q (first_clauses F) T [] n (Propagates-says by_place (first_clauses F) (cube_trail Q) T (conflict n) p) (level-looked by_place F Q T (conflict n) p) i)
 ComesTo-says F Q quiet T o p i h = go (least_free F.vars T) refl h
   where
     go : (v : Option ℕ) → least_free F.vars T ≡ v → SplitsInto F T v o → CubeSays F.vars (first_clauses F) Q o
@@ -193,7 +193,7 @@ Looks-refuted F Q lines cube h M s q = go h.answer h.propagates h.comes_to
 
     go : (a : Closed) → Propagates by_place (first_clauses F) (cube_trail Q) a h.trail → ComesTo F a h.trail (refuted lines) → ⊥
     go (conflict n) p c =
-        IsTrueSearch-conflict (value M) Q (first_clauses F) h.trail [] n q (Propagates-says by_place (first_clauses F) (cube_trail Q) h.trail (conflict n) p) (level-looked by_place F Q h.trail (conflict n) p) i
+        IsTrueSearch-conflict (value M) [] Q (first_clauses F) h.trail [] n q (Propagates-says by_place (first_clauses F) (cube_trail Q) h.trail (conflict n) p) (level-looked by_place F Q h.trail (conflict n) p) i
     go quiet p c = free (least_free F.vars h.trail) c
 
 -- a model satisfies the formula, and the clauses of the pure variables

@@ -1,5 +1,5 @@
 -- The walk of analysis from a conflict above level 0: it leaves one literal of the current level.
-use Rattle.std.proofs.Common.{◌≡◌, ℕ, ◌-◌, ◌<◌, ◌≤◌, Bool, true, false, not, ◌&&◌, ◌||◌, List, [], ◌∷◌, ◌++◌, length, refl, ap, sym, subst, ◌∙◌, nat_eq, nat_le, eqb-true, eq-eqb, leb-true, leb-false, ◌⊎◌, inl, inr, Some, None, arith}
+use Rattle.std.proofs.Common.{◌≡◌, ℕ, ◌-◌, ◌<◌, ◌≤◌, Bool, true, false, not, ◌&&◌, List, [], ◌∷◌, ◌++◌, length, refl, ap, sym, subst, ◌∙◌, nat_eq, nat_le, eqb-true, eq-eqb, leb-true, leb-false, ◌⊎◌, inl, inr, Some, None, arith}
 use Rattle.theory.specs.Literals.{Literal, Clause, negated, same, has, has_var, without}
 use Rattle.theory.specs.Status.{is_false}
 use Rattle.theory.specs.Trails.{Entry, Trail, literals, current_level, level_of, up_to}
@@ -7,11 +7,10 @@ use Rattle.theory.specs.Propagation.{clause_at, least_false}
 use Rattle.theory.specs.Lawful.{IsReason, IsGrounded, IsLawful}
 use Rattle.theory.specs.Learnable.{IsOpenBelow}
 use Rattle.theory.specs.Learning.{with_literals, resolved, at_current_level, is_resolved_on, reason_used, walk, IsRising}
-use Rattle.theory.proofs.literals.LiteralLemmas.{and-left, and-right, or-cases, or-right}
-use Rattle.theory.proofs.literals.LiteralSets.{Refutes, true_false, and-true, other-same, same-other, has-tail, has-head, has_var-has, Refutes-from_is_false, has-with_literals, has-from_without, has-resolved_set, has-from_resolved}
+use Rattle.theory.proofs.literals.LiteralSets.{Refutes, true_false, other-same, same-other, has-tail, has-head, has_var-has, Refutes-from_is_false, has-with_literals, has-from_without, has-resolved_set, has-from_resolved}
 use Rattle.theory.proofs.trails.LawfulTrails.{least_false-at, least_false-none}
 use Rattle.theory.proofs.trails.TrailEntries.{literals-distinct}
-use Rattle.theory.proofs.searching.Walks.{walk-all, at-place, entry-place, has-before, reason_used-resolved, reason_used-none, grounded-place, Refutes-others, Refutes-resolved, Refutes-begin}
+use Rattle.theory.proofs.searching.Walks.{walk-all, at-place, entry-place, has-before, reason_used-resolved, reason_used-none, resolved-at_current, resolved-met, resolved-why, grounded-place, Refutes-others, Refutes-resolved, Refutes-begin}
 use Rattle.theory.proofs.searching.EmptyLines.{push-cases, negation-of_entry}
 use Rattle.theory.proofs.literals.RisingSets.{IsRising-filter, IsRising-with_literals, IsOneSigned, are_distinct-rising, PassesOnce, PassesOnce-count, another}
 use Rattle.theory.proofs.trails.TrailLevels.{level_of-at, level_of-most, has-up_to, level_of-before}
@@ -58,9 +57,9 @@ before_entry K T before e es S lawful place r all none l a v = elim (push-cases 
 ]
 
 -- an entry on whose reason isn't resolved
-Narrows-pass : (K : List Clause) (T before : Trail) (e : Entry) (es : Trail) (S : Clause) → IsLawful K T → 1 ≤ current_level T → T ≡ before ++ e ∷ es
-    → reason_used T S e ≡ None → Narrows T (before ++ e ∷ []) S → Narrows T before S
-Narrows-pass K T before e es S lawful above place none s = record { refuted = s.refuted; rising = s.rising; latest = s.latest; alone = go s.alone }
+Narrows-pass : (K : List Clause) (T : Trail) (R : List Literal) (before : Trail) (e : Entry) (es : Trail) (S : Clause) → IsLawful K T → 1 ≤ current_level T → T ≡ before ++ e ∷ es
+    → reason_used T R S e ≡ None → Narrows T (before ++ e ∷ []) S → Narrows T before S
+Narrows-pass K T R before e es S lawful above place none s = record { refuted = s.refuted; rising = s.rising; latest = s.latest; alone = go s.alone }
   where
     Claim : Type 0
     Claim = PassesOnce (is_latest T) S ⊎ AreBefore T before S
@@ -90,10 +89,8 @@ Narrows-pass K T before e es S lawful above place none s = record { refuted = s.
     third : (b : Bool) → nat_le 2 (at_current_level T S) ≡ b → has S (negated e.lit) ≡ true → nat_eq e.level (current_level T) ≡ true → AreBefore T (before ++ e ∷ []) S → Claim
     third false two met level all = inl (PassesOnce-count (is_latest T) S two)
     third true two met level all =
-        let resolves : is_resolved_on T S e ≡ true
-        = and-true (has S (negated e.lit)) (nat_eq e.level 0 || (nat_eq e.level (current_level T) && nat_le 2 (at_current_level T S))) met
-        (or-right (nat_eq e.level 0) (nat_eq e.level (current_level T) && nat_le 2 (at_current_level T S)) (and-true (nat_eq e.level (current_level T)) (nat_le 2 (at_current_level T S)) level two)) in
-        inl (opens all (eqb-true e.level (current_level T) level) (reason_used-none T S e none resolves))
+        let resolves = resolved-at_current T R S e met level two in
+        inl (opens all (eqb-true e.level (current_level T) level) (reason_used-none T R S e none resolves))
 
     second : (b : Bool) → nat_eq e.level (current_level T) ≡ b → has S (negated e.lit) ≡ true → AreBefore T (before ++ e ∷ []) S → Claim
     second true level met all = third (nat_le 2 (at_current_level T S)) refl met level all
@@ -109,10 +106,10 @@ Narrows-pass K T before e es S lawful above place none s = record { refuted = s.
     go (inr all) = first (has S (negated e.lit)) refl all
 
 -- an entry on whose reason is resolved
-Narrows-resolve : (K : List Clause) (T before : Trail) (e : Entry) (es : Trail) (S : Clause) (n : ℕ) → IsLawful K T → 1 ≤ current_level T → T ≡ before ++ e ∷ es
-    → reason_used T S e ≡ Some n → Narrows T (before ++ e ∷ []) S → Narrows T before (resolved S e.lit (clause_at K n))
-Narrows-resolve K T before e es S n lawful above place used s = record {
-  refuted = Refutes-resolved K T before e es S n lawful place used s.refuted;
+Narrows-resolve : (K : List Clause) (T : Trail) (R : List Literal) (before : Trail) (e : Entry) (es : Trail) (S : Clause) (n : ℕ) → IsLawful K T → 1 ≤ current_level T → T ≡ before ++ e ∷ es
+    → reason_used T R S e ≡ Some n → Narrows T (before ++ e ∷ []) S → Narrows T before (resolved S e.lit (clause_at K n))
+Narrows-resolve K T R before e es S n lawful above place used s = record {
+  refuted = Refutes-resolved K T R before e es S n lawful place used s.refuted;
   rising = IsRising-with_literals (literals T) (without c e.lit) (without S (negated e.lit)) (one_signed K T lawful) (λ k a. has-before T before e es (negated k) place (before_it k a))
       (λ k a. s.refuted k (has-from_without S (negated e.lit) k a).0) (IsRising-filter (λ k. not (same (negated e.lit) k)) S s.rising);
   latest = (level_cases).0;
@@ -123,23 +120,23 @@ Narrows-resolve K T before e es S n lawful above place used s = record {
     c = clause_at K n
 
     grounded : (e.level ≡ current_level before) × IsReason K (literals before) e.lit n
-    grounded = grounded-place K T before e es S n lawful place used
+    grounded = grounded-place K T R before e es S n lawful place used
 
     before_it : Refutes (literals before) (without c e.lit)
     before_it = Refutes-others K (literals before) e.lit n grounded.1
 
-    test : has S (negated e.lit) && (nat_eq e.level 0 || (nat_eq e.level (current_level T) && nat_le 2 (at_current_level T S))) ≡ true
-    test = reason_used-resolved T S e n used
+    test : is_resolved_on T R S e ≡ true
+    test = reason_used-resolved T R S e n used
 
     met : has S (negated e.lit) ≡ true
-    met = and-left (has S (negated e.lit)) (nat_eq e.level 0 || (nat_eq e.level (current_level T) && nat_le 2 (at_current_level T S))) test
+    met = resolved-met T R S e test
 
     Claim : Type 0
     Claim = ((l : Literal) × (has (resolved S e.lit c) l ≡ true) × (is_latest T l ≡ true)) × (PassesOnce (is_latest T) (resolved S e.lit c) ⊎ AreBefore T before (resolved S e.lit c))
 
-    -- at level 0 the literals of the current level stay as they are
-    at_zero : e.level ≡ 0 → Claim
-    at_zero zeroth = ((l, has-resolved_set S c e.lit l s.latest.1 (same-other (negated e.lit) l (λ i. other l s.latest.2 (ap (λ (x : Literal). x.var) i))), s.latest.2), go s.alone)
+    -- below the current level its literals stay as they are
+    at_lower : e.level < current_level T → Claim
+    at_lower lower = ((l, has-resolved_set S c e.lit l s.latest.1 (same-other (negated e.lit) l (λ i. other l s.latest.2 (ap (λ (x : Literal). x.var) i))), s.latest.2), go s.alone)
       where
         l : Literal
         l = s.latest.0
@@ -180,13 +177,7 @@ Narrows-resolve K T before e es S n lawful above place used s = record {
         ])
 
     level_cases : Claim
-    level_cases =
-        let why = and-right (has S (negated e.lit)) (nat_eq e.level 0 || (nat_eq e.level (current_level T) && nat_le 2 (at_current_level T S))) test in
-        elim (or-cases (nat_eq e.level 0) (nat_eq e.level (current_level T) && nat_le 2 (at_current_level T S)) why) [
-          | inl z ↦ at_zero (eqb-true e.level 0 z)
-          | inr z ↦ at_current (eqb-true e.level (current_level T) (and-left (nat_eq e.level (current_level T)) (nat_le 2 (at_current_level T S)) z))
-              (leb-true 2 (at_current_level T S) (and-right (nat_eq e.level (current_level T)) (nat_le 2 (at_current_level T S)) z))
-        ]
+    level_cases = elim (resolved-why T R S e above test) [ inl lower ↦ at_lower lower | inr here ↦ at_current here.0 here.1 ]
 
 -- where a clause isn't false, one of its literals isn't
 not_false : (P : List Literal) (c : Clause) → is_false P c ≡ false → (l : Literal) × (has c l ≡ true) × (has P (negated l) ≡ false)
@@ -231,11 +222,11 @@ latest_false K T n lawful open_below above h = (f.0, f.1, eq-eqb (level_of T f.0
         omega arith
 
 -- the set that the walk leaves
-pub Narrows-walk : (K : List Clause) (T : Trail) (n : ℕ) → IsLawful K T → IsOpenBelow K T → 1 ≤ current_level T → least_false (literals T) K ≡ Some n
-    → Narrows T [] (walk K T T (with_literals (clause_at K n) []) (n ∷ [])).0
-Narrows-walk K T n lawful open_below above h =
-    walk-all K T (λ before w. Narrows T before w.0) (λ before e es w place u i. Narrows-pass K T before e es w.0 lawful above place u i)
-    (λ before e es w m place u i. Narrows-resolve K T before e es w.0 m lawful above place u i) (with_literals (clause_at K n) []) (n ∷ []) start
+pub Narrows-walk : (R : List Literal) (K : List Clause) (T : Trail) (n : ℕ) → IsLawful K T → IsOpenBelow K T → 1 ≤ current_level T → least_false (literals T) K ≡ Some n
+    → Narrows T [] (walk K T R T (with_literals (clause_at K n) []) (n ∷ [])).0
+Narrows-walk R K T n lawful open_below above h =
+    walk-all K T R (λ before w. Narrows T before w.0) (λ before e es w place u i. Narrows-pass K T R before e es w.0 lawful above place u i)
+    (λ before e es w m place u i. Narrows-resolve K T R before e es w.0 m lawful above place u i) (with_literals (clause_at K n) []) (n ∷ []) start
   where
     clash : is_false (literals T) (clause_at K n) ≡ true
     clash = (least_false-at (literals T) K n h).2

@@ -7,7 +7,7 @@ use Rattle.theory.specs.Trails.{Entry, Trail, literals, current_level, level_at,
 use Rattle.theory.specs.Propagation.{least_false, Closed, quiet, conflict, unit_entry, Propagates, clashes, grows, rests, Rule, by_number}
 use Rattle.theory.specs.Lawful.{IsLawful}
 use Rattle.theory.specs.Learnable.{IsOpenBelow}
-use Rattle.theory.specs.Learning.{learn, back_level}
+use Rattle.theory.specs.Learning.{learn, learn_removing, back_level}
 use Rattle.theory.specs.Search.{goes_on}
 use Rattle.theory.specs.Ordered.{OrderedState, after}
 use Rattle.theory.proofs.searching.Rules.{IsRule-by_number}
@@ -85,13 +85,13 @@ least_false-push P (d ∷ K) c h f = first (is_false P d) h (λ r. least_false-p
     first false e more = ap (option_map (λ k. k + 1)) (more (none (least_false P K) e))
 
 -- the learnt clause isn't false where its literal of the old level is free
-pub IsOpenBelow-learn : (K : List Clause) (T : Trail) (n : ℕ) → IsLawful K T → IsOpenBelow K T → 1 ≤ current_level T → least_false (literals T) K ≡ Some n
-    → IsOpenBelow (K ++ (learn K T n).clause ∷ []) (up_to T (back_level T (learn K T n).clause))
-IsOpenBelow-learn K T n lawful o above h level less =
+pub IsOpenBelow-learn : (R : List Literal) (K : List Clause) (T : Trail) (n : ℕ) → IsLawful K T → IsOpenBelow K T → 1 ≤ current_level T → least_false (literals T) K ≡ Some n
+    → IsOpenBelow (K ++ (learn_removing R K T n).clause ∷ []) (up_to T (back_level T (learn_removing R K T n).clause))
+IsOpenBelow-learn R K T n lawful o above h level less =
     ap (λ (V : Trail). least_false (literals V) (K ++ c ∷ [])) (up_to-up_to T b level (omega (arith, less, current_level-up_to T b))) ∙ least_false-push (literals (up_to T level)) K c (o level lower) not_false
   where
     c : Clause
-    c = (learn K T n).clause
+    c = (learn_removing R K T n).clause
 
     b : ℕ
     b = back_level T c
@@ -99,12 +99,12 @@ IsOpenBelow-learn K T n lawful o above h level less =
     lower : level < current_level T
     lower =
         let most : current_level (up_to T b) ≤ b = current_level-up_to T b in
-        let back : b < current_level T = back_level-learn K T n lawful o above h in
+        let back : b < current_level T = back_level-learn R K T n lawful o above h in
         omega (arith, less, most, back)
 
     not_false : is_false (literals (up_to T level)) c ≡ false
     not_false =
-        let u = free-learn K T n lawful o above h in
+        let u = free-learn R K T n lawful o above h in
         false_unless (is_false (literals (up_to T level)) c) (λ t. true_false (has_var (literals (up_to T level)) u.0.var)
         (has_var-has (literals (up_to T level)) (negated u.0) (Refutes-from_is_false (literals (up_to T level)) c t u.0 u.1)) (u.2 level lower))
 
@@ -120,7 +120,7 @@ kept-after V budget s t (conflict n) lawful o h e =
     let c = (learn s.clauses s.trail n).clause in
     subst (λ (u : OrderedState). IsLawful u.clauses u.trail × IsOpenBelow u.clauses u.trail) (sym next.1) (
       IsLawful-append s.clauses (c ∷ []) (up_to s.trail (back_level s.trail c)) (IsLawful-up_to s.clauses s.trail (back_level s.trail c) lawful),
-      IsOpenBelow-learn s.clauses s.trail n lawful o next.0 h,
+      IsOpenBelow-learn [] s.clauses s.trail n lawful o next.0 h,
     )
 
 pub kept-step : (V budget : ℕ) (s t : OrderedState) (T : Trail) (a : Closed) → IsLawful s.clauses s.trail → IsOpenBelow s.clauses s.trail → Propagates by_number s.clauses s.trail a T

@@ -41,9 +41,9 @@ module _ (V : ℕ) (K : List Clause) (Q : List Literal) where
 
       go : (b : Bool) → nat_eq (current_level s.trail) 0 ≡ b → (d : Bool)
           → SaysNext V K Q (if b then ends (refuted (s.lines ++ line ∷ [])) else if d then ends (exhausted (unwrap_or s.decided 0)) else goes_on (learnt_next s line))
-      go true e d = CubeSays-refuted V K Q s.clauses s.trail s.lines n h (eqb-true (current_level s.trail) 0 e) i
+      go true e d = CubeSays-refuted V [] K Q s.clauses s.trail s.lines n h (eqb-true (current_level s.trail) 0 e) i
       go false e true = tt
-      go false e false = IsSearchOf-learn V K Q s.clauses s.trail s.lines n h (above_zero (current_level s.trail) e) i
+      go false e false = IsSearchOf-learn V [] K Q s.clauses s.trail s.lines n h (above_zero (current_level s.trail) e) i
 
   after-says : (budget : ℕ) (s : OrderedState) (a : Closed) → SaysNext V K Q (goes_on s) → Says s.clauses s.trail a → SaysNext V K Q (after V budget s a)
   after-says budget s quiet i h = quiet-says s i h

@@ -152,13 +152,13 @@ module _ (V : ℕ) (m : ℕ → Bool) where
     true_here : is_true_clause m S ≡ true
     false_there : is_false P S ≡ true
 
-  walk-ok : (K : List Clause) (T es : Trail) (P : List Literal) (S : Clause) (hints : List ℕ) → are_true m K ≡ true → Reasons K P es → SetOk P S → SetOk P (walk K T es S hints).0
+  walk-ok : (K : List Clause) (T es : Trail) (P : List Literal) (S : Clause) (hints : List ℕ) → are_true m K ≡ true → Reasons K P es → SetOk P S → SetOk P (walk K T [] es S hints).0
   unfolding ReasonOk
   walk-ok K T [] P S hints a r h = h
-  walk-ok K T (e ∷ es) P S hints a r h = go (is_resolved_on T w.0 e) e.reason r.0 (walk-ok K T es P S hints a r.1 h)
+  walk-ok K T (e ∷ es) P S hints a r h = go (is_resolved_on T [] w.0 e) e.reason r.0 (walk-ok K T es P S hints a r.1 h)
     where
       w : Clause × List ℕ
-      w = walk K T es S hints
+      w = walk K T [] es S hints
 
       go : (b : Bool) (o : Option ℕ) → ReasonOk K P e o → SetOk P w.0 → SetOk P (resolved_by K e w (if b then o else None)).0
       go false o q s = s
@@ -250,7 +250,7 @@ module _ (V : ℕ) (m : ℕ → Bool) where
         true_here = with_literals-left m (clause_at K n) [] (clause_at-true m K n a f.from f.to);
         false_there = with_literals-false (literals T) (clause_at K n) [] f.holds refl;
       } in
-      kept-true K T (walk K T T (with_literals (clause_at K n) []) (n ∷ [])).0 t (walk-ok K T T (literals T) (with_literals (clause_at K n) []) (n ∷ []) a (reasons K [] T t) start)
+      kept-true K T (walk K T [] T (with_literals (clause_at K n) []) (n ∷ [])).0 t (walk-ok K T T (literals T) (with_literals (clause_at K n) []) (n ∷ []) a (reasons K [] T t) start)
 
   -- a state of a search in which all clauses are true
   pub record StateOk (s : OrderedState) : Type 0 where

@@ -7,7 +7,7 @@ use Rattle.theory.specs.Truth.{AreTrue, is_true_clause, are_true}
 use Rattle.theory.specs.Trails.{Trail, literals, current_level, cube_trail, up_to}
 use Rattle.theory.specs.Propagation.{Rule, IsRule, least_false}
 use Rattle.theory.specs.Lawful.{IsLawful, cube_of}
-use Rattle.theory.specs.Learning.{Line, learn}
+use Rattle.theory.specs.Learning.{Line, learn_removing}
 use Rattle.theory.specs.Forgetting.{forgotten, forget}
 use Rattle.theory.proofs.literals.LiteralLemmas.{and-left, and-right}
 use Rattle.theory.proofs.literals.LiteralSets.{true_false, and-true}
@@ -46,11 +46,11 @@ are_true-forget m ns n (c ∷ C) a =
     go false = and-left (is_true_clause m c) (are_true m C) a
 
 -- what is learnt is true
-clause-learn_true : (m : ℕ → Bool) (Q : List Literal) (C : List Clause) (T : Trail) (lines : List Line) (n : ℕ) → AreTrue m Q → least_false (literals T) C ≡ Some n → IsTrueSearch m Q C T lines
-    → is_true_clause m (learn C T n).clause ≡ true
-clause-learn_true m Q C T lines n q h i =
+clause-learn_true : (m : ℕ → Bool) (R : List Literal) (Q : List Literal) (C : List Clause) (T : Trail) (lines : List Line) (n : ℕ) → AreTrue m Q → least_false (literals T) C ≡ Some n → IsTrueSearch m Q C T lines
+    → is_true_clause m (learn_removing R C T n).clause ≡ true
+clause-learn_true m R Q C T lines n q h i =
     let at = least_false-at (literals T) C n h in
-    Passes-true m (length C) (cube_of T) C (learn C T n) (subst (AreTrue m) (sym i.cube) q) i.all_true (Passes-learn (length C) C T n i.lawful at.0 at.1 at.2)
+    Passes-true m (length C) (cube_of T) C (learn_removing R C T n) (subst (AreTrue m) (sym i.cube) q) i.all_true (Passes-learn (length C) R C T n i.lawful at.0 at.1 at.2)
 
 pub IsInvariant-IsTrueSearch : (rule : Rule) → IsRule rule → (V : ℕ) (m : ℕ → Bool) (Q : List Literal) → AreTrue m Q → IsInvariant rule V (IsTrueSearch m Q)
 IsInvariant-IsTrueSearch rule g V m Q q = record {
@@ -60,16 +60,16 @@ IsInvariant-IsTrueSearch rule g V m Q q = record {
     all_true = i.all_true;
   };
   decided = λ C T lines l calm v free i. record { lawful = IsLawful-decide C T l i.lawful free; cube = cube_of-decide T l ∙ i.cube; all_true = i.all_true };
-  learnt = λ C T lines n ns level h above low own unused i. record {
-    lawful = IsLawful-append (forget ns 1 C) ((learn C T n).clause ∷ []) (up_to T level) (IsLawful-forget ns C (up_to T level) unused (IsLawful-up_to C T level i.lawful));
+  learnt = λ R C T lines n ns level h above low own unused i. record {
+    lawful = IsLawful-append (forget ns 1 C) ((learn_removing R C T n).clause ∷ []) (up_to T level) (IsLawful-forget ns C (up_to T level) unused (IsLawful-up_to C T level i.lawful));
     cube = cube_of-up_to T level ∙ i.cube;
-    all_true = are_true-push m (forget ns 1 C) (learn C T n).clause (are_true-forget m ns 1 C i.all_true) (clause-learn_true m Q C T lines n q h i);
+    all_true = are_true-push m (forget ns 1 C) (learn_removing R C T n).clause (are_true-forget m ns 1 C i.all_true) (clause-learn_true m R Q C T lines n q h i);
   };
 }
 
 -- no conflict is at level 0
-pub IsTrueSearch-conflict : (m : ℕ → Bool) (Q : List Literal) (C : List Clause) (T : Trail) (lines : List Line) (n : ℕ) → AreTrue m Q → least_false (literals T) C ≡ Some n → current_level T ≡ 0
+pub IsTrueSearch-conflict : (m : ℕ → Bool) (R : List Literal) (Q : List Literal) (C : List Clause) (T : Trail) (lines : List Line) (n : ℕ) → AreTrue m Q → least_false (literals T) C ≡ Some n → current_level T ≡ 0
     → IsTrueSearch m Q C T lines → ⊥
-IsTrueSearch-conflict m Q C T lines n q h level i =
-    let empty : (learn C T n).clause ≡ [] = clause-learn_empty C T n i.lawful level (least_false-at (literals T) C n h).2 in
-    true_false (is_true_clause m []) (subst (λ (c : Clause). is_true_clause m c ≡ true) empty (clause-learn_true m Q C T lines n q h i)) refl
+IsTrueSearch-conflict m R Q C T lines n q h level i =
+    let empty : (learn_removing R C T n).clause ≡ [] = clause-learn_empty R C T n i.lawful level (least_false-at (literals T) C n h).2 in
+    true_false (is_true_clause m []) (subst (λ (c : Clause). is_true_clause m c ≡ true) empty (clause-learn_true m R Q C T lines n q h i)) refl

@@ -14,7 +14,7 @@ use Rattle.theory.proofs.trails.TrailLists.{current_level-push}
 use Rattle.theory.proofs.literals.ClauseLemmas.{clause_at-next}
 
 -- levels
-level-rises : (K : List Clause) (before : Trail) (e : Entry) (r : Option ℕ) → IsGrounded K before e r → current_level before ≤ e.level
+pub level-rises : (K : List Clause) (before : Trail) (e : Entry) (r : Option ℕ) → IsGrounded K before e r → current_level before ≤ e.level
 level-rises K before e (Some n) g = le_of_eq (sym g.0)
 level-rises K before e None (inl h) = let a = h.0 in let b = h.1 in omega arith
 level-rises K before e None (inr h) = omega arith

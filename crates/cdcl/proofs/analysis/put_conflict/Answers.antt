@@ -23,7 +23,7 @@ put_all-requires-clause-marks c = record {
 pub returns-clause-set : goal.returns-clause-set
 returns-clause-set c =
     let conflict = (least_false-at _ _ _ c.requires.conflict).2 in
-    subst (λ (S : Clause). IsSet c.args.kernel.now S (length c.args.kernel.now.trail) c.put_all.new.marks)
+    subst (λ (S : Clause). IsSet c.args.kernel.now [] S (length c.args.kernel.now.trail) c.put_all.new.marks)
     (begun-arranged c.args.kernel.now _ c.arranged.result.now c.trail-trail.ensures.lawful c.arranged.ensures conflict)
     (c.in_ok-put_all.ensures.set [] (length c.args.kernel.now.trail) (false-whole c.args.kernel.now.trail _ (false-arranged _ _ _ c.arranged.ensures conflict))
     (IsSet-clear c.args.kernel.now _ c.args.marks.now c.requires.long c.requires.clear))

@@ -1,4 +1,4 @@
-use Rattle.std.proofs.Common.{arith, ◌≡◌, ◌≤◌, ◌<◌, ◌∙◌, ℕ, All, get_or, false, refl, sym, length}
+use Rattle.std.proofs.Common.{arith, ◌≡◌, ◌≤◌, ◌<◌, ◌∙◌, ℕ, All, get_or, false, refl, sym, length, []}
 use Rattle.std.proofs.lemmas.List.{length-set, get_or_default}
 use Rattle.std.proofs.lemmas.List.Elements.{All-get_or, All-filter}
 use Rattle.std.proofs.lemmas.List.Sorted.{All-permutation, IsNonDecreasingBy-from_sort}
@@ -80,13 +80,13 @@ loop-at-preserved c =
           }
     ]
 
-sorted_set : (c : goal.After-marks-2-1) → (S : Clause) → (bound : ℕ) → IsSet c.args.kernel.now S bound c.args.marks.now
-    → IsSet c.args.kernel.now S bound (record c.args.marks.now { seen = c.sort_unstable.new.self })
+sorted_set : (c : goal.After-marks-2-1) → (S : Clause) → (bound : ℕ) → IsSet c.args.kernel.now [] S bound c.args.marks.now
+    → IsSet c.args.kernel.now [] S bound (record c.args.marks.now { seen = c.sort_unstable.new.self })
 sorted_set c S bound h =
     IsSet-sorted c.args.kernel.now S bound (record c.args.marks.now { seen = c.keep_marked.new.seen }) _ refl refl refl c.sort_unstable.ensures.permutation
     (IsSet-marked c.args.kernel.now S bound c.args.marks.now _ refl refl refl (rw c.deref.ensures.value at c.keep_marked.ensures) h)
 
-beyond : (c : goal.After-marks-2-1) → (S : Clause) → (bound : ℕ) → IsSet c.args.kernel.now S bound c.args.marks.now
+beyond : (c : goal.After-marks-2-1) → (S : Clause) → (bound : ℕ) → IsSet c.args.kernel.now [] S bound c.args.marks.now
     → (v : ℕ) → last_of c.loop-at.marks.seen.items c.loop-at.at < v → has_var S v ≡ false
 beyond c S bound h =
     let most = c.loop-at.auto.at-end in

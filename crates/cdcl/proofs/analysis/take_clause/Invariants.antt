@@ -1,4 +1,4 @@
-use Rattle.std.proofs.Common.{◌≡◌, ◌<◌, length, ℕ}
+use Rattle.std.proofs.Common.{◌≡◌, ◌<◌, length, ℕ, []}
 use Rattle.theory.specs.Literals.{Clause}
 use Rattle.cdcl.specs.Marks.{IsSet}
 use Rattle.cdcl.proofs.TakenClauses.{IsTaken}
@@ -11,5 +11,5 @@ invariant-loop-at l = record {
   long : l.kernel.vars < length l.marks.marked.items;
   seen : l.marks.seen ≡ l.initial.marks.seen;
   pending : l.marks.pending ≡ l.initial.marks.pending;
-  taken : (S : Clause) → (bound : ℕ) → IsSet l.kernel S bound l.initial.marks → IsTaken l.kernel S (last_of l.marks.seen.items l.at) l.marks.marked.items l.clause.items;
+  taken : (S : Clause) → (bound : ℕ) → IsSet l.kernel [] S bound l.initial.marks → IsTaken l.kernel S (last_of l.marks.seen.items l.at) l.marks.marked.items l.clause.items;
 }

@@ -1,3 +1,4 @@
+use Rattle.std.proofs.Common.{[]}
 use Rattle.cdcl.specs.Marks.{HaveMet}
 use Rattle.cdcl.proofs.Pending.{top_of}
 use Rattle.cdcl.proofs.WalkLemmas.{IsWalked}
@@ -6,7 +7,7 @@ use Rattle.cdcl.proofs.analysis.walk.Given as goal
 -- the places that wait give the rest of the answer; the variables seen are those of the hints
 abbrev pub invariant-loop-place : goal.invariant-loop-place
 invariant-loop-place l = record {
-  walked : IsWalked l.kernel l.conflict l.marks l.hints.items;
+  walked : IsWalked l.kernel [] l.conflict l.marks l.hints.items;
   met : HaveMet l.kernel.clauses l.initial.hints.items l.initial.marks → HaveMet l.kernel.clauses l.hints.items l.marks;
 }
 

@@ -1,8 +1,8 @@
-use Rattle.std.proofs.Common.{◌≡◌, ◌∙◌, ◌+◌, ◌-◌, ◌<◌, ◌++◌, not, length, List, slice_index_or, sym, ap, refl, append_assoc, append-nil, drop, arith}
+use Rattle.std.proofs.Common.{◌≡◌, ◌∙◌, ◌+◌, ◌-◌, ◌<◌, ◌++◌, not, length, List, sym, ap, nat_lt, refl, append_assoc, append-nil, drop, arith}
 use Rattle.theory.specs.Literals.{has_both_signs}
 use Rattle.theory.specs.Forgetting as forgetting
-use Rattle.theory.specs.Forgetting.{Candidate, is_reason}
-use Rattle.theory.proofs.literals.LiteralLemmas.{and-left, not_true}
+use Rattle.theory.specs.Forgetting.{Mark, Candidate, is_reason}
+use Rattle.theory.proofs.literals.LiteralLemmas.{and-left, and-right, not_true}
 use Rattle.cdcl.proofs.MarkedSets.{mark-read}
 use Rattle.theory.specs.Propagation.{clause_at}
 use Rattle.cdcl.specs.Forgetful.{IsPlain}
@@ -31,7 +31,8 @@ overflow_cast-size c =
     let low : c.args.from - 1 + c.loop-at.at < length K = omega arith in
     let plain = plain-at V K c.args.from c.loop-at.at given c.requires.learnt.0 low refl c.requires.plain in
     let d = c.arranged-clause.result.now in
-    let one = not_true (has_both_signs d) (and-left (not (has_both_signs d)) _ (sym c.may_go.ensures ∙ c.if-may_go.true)) in
+    let m = c.index-marks-at.result in
+    let one = not_true (has_both_signs d) (and-left (not (has_both_signs d)) _ (and-right (not m.used) _ (and-right (nat_lt c.args.kept_glue m.glue) _ (sym c.may_go.ensures ∙ c.if-may_go.true)))) in
     let short = length-arranged V given d plain c.arranged-clause.ensures one in
     let few = c.requires.few.1 in
     omega arith
@@ -43,21 +44,22 @@ loop-at-preserved c d kept =
     let clause = c.arranged-clause.result.now in
     let from = c.args.from in
     let at = c.loop-at.at in
-    let g = slice_index_or c.args.glues.now at 0 in
+    let m = c.index-marks-at.result in
     let most = c.requires.learnt.1 in
     let more = c.loop-at-test.true in
     let low : from - 1 + at < length K = omega arith in
-    let here : at < length c.args.glues.now = omega arith in
-    let next = candidates-arranged d T K c.args.glues.now from at g clause c.requires.learnt.0 low here c.arranged-clause.ensures refl in
+    let here : at < length c.args.marks.now = omega arith in
+    let next = candidates-arranged d T K c.args.marks.now from at m clause c.requires.learnt.0 low here c.arranged-clause.ensures c.index-marks-at.is in
     let before = c.loop-at.invariant d kept in
     let many : at < length c.in_ok-reasons.reasons.items = rw c.in_ok-reasons.ensures.long here in
     let reason : is_reason T (from + at) ≡ c.index.result.now =
     sym (c.in_ok-reasons.ensures.reasons at here) ∙ mark-read c.in_ok-reasons.reasons.items at at c.index.result.now refl many c.index.ensures in
-    let goes : forgetting.may_go d T (from + at) clause g ≡ c.may_go.result = rw (kept, reason) (sym c.may_go.ensures) in
+    let goes : forgetting.may_go d T (from + at) clause m ≡ c.may_go.result = rw (kept, reason) (sym c.may_go.ensures) in
     elim c.if-may_go.branch [
       | then-may_go+in_ok-push w ↦
           let all = rw (goes ∙ w.if-may_go.true) at next in
-          rw (w.candidates-is, w.in_ok-push.ensures.items) (append_assoc c.loop-at.candidates.items _ _ ∙ (ap (λ (rest : List Candidate). c.loop-at.candidates.items ++ rest) (sym all) ∙ before))
+          let glue : c.mark.inside.glue ≡ m.glue = ap (λ (x : Mark). x.glue) c.mark.view_is in
+          rw (w.candidates-is, w.in_ok-push.ensures.items, glue) (append_assoc c.loop-at.candidates.items _ _ ∙ (ap (λ (rest : List Candidate). c.loop-at.candidates.items ++ rest) (sym all) ∙ before))
       | else-may_go w ↦
           let all = rw (goes ∙ w.if-may_go.false) at next in
           rw w.candidates-is (ap (λ (rest : List Candidate). c.loop-at.candidates.items ++ rest) (sym all) ∙ before)
@@ -66,5 +68,5 @@ loop-at-preserved c d kept =
 pub returns : goal.returns
 returns c d kept =
     let before = c.loop-at.invariant d kept in
-    let end = candidates-end d c.args.kernel.now.trail (c.args.from + c.loop-at.at) c.loop-at.at (drop (c.args.from - 1 + c.loop-at.at) c.args.kernel.now.clauses) c.args.glues.now c.loop-at-test.false in
+    let end = candidates-end d c.args.kernel.now.trail (c.args.from + c.loop-at.at) c.loop-at.at (drop (c.args.from - 1 + c.loop-at.at) c.args.kernel.now.clauses) c.args.marks.now c.loop-at-test.false in
     sym (append-nil c.loop-at.candidates.items) ∙ (ap (λ (rest : List Candidate). c.loop-at.candidates.items ++ rest) (sym end) ∙ before)

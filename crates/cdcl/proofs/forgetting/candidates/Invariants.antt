@@ -7,5 +7,5 @@ use Rattle.cdcl.proofs.forgetting.candidates.Given as goal
 abbrev pub invariant-loop-at : goal.invariant-loop-at
 invariant-loop-at l =
     (c : Constants) → c.kept_glue ≡ l.kept_glue →
-    l.candidates.items ++ forgetting.candidates c l.kernel.trail (l.from + l.at) (drop (l.from - 1 + l.at) l.kernel.clauses) (drop l.at l.glues)
-    ≡ forgetting.candidates c l.kernel.trail l.from (drop (l.from - 1) l.kernel.clauses) l.glues
+    l.candidates.items ++ forgetting.candidates c l.kernel.trail (l.from + l.at) (drop (l.from - 1 + l.at) l.kernel.clauses) (drop l.at l.marks)
+    ≡ forgetting.candidates c l.kernel.trail l.from (drop (l.from - 1) l.kernel.clauses) l.marks

@@ -37,7 +37,7 @@ pub returns-in-Some-clause-set : goal.returns-in-Some-clause-set
 returns-in-Some-clause-set c = on_ok_weaker c.put_at.result
     (λ made S bound f h. (
     let found = place-found _ _ bound c.in-Some.place c.args.lit c.requires.marks.lawful f (c.in-Some.ensures.found ∙ ap (entry_of c.args.kernel.now.trail) c.var-var.ensures.var) in
-    subst (λ (l : Literal). IsSet c.args.kernel.now (with_literal l S) bound c.put_at.new.marks) found.2 (made S bound found.0 found.1 found.3 h)
+    subst (λ (l : Literal). IsSet c.args.kernel.now [] (with_literal l S) bound c.put_at.new.marks) found.2 (made S bound found.0 found.1 found.3 h)
     ))
     c.put_at.ensures.set
 

@@ -1,4 +1,4 @@
-use Rattle.std.proofs.Common.{◌≡◌, ◌||◌, arith, ◌+◌, ◌-◌, ℕ, take, drop, length, subst, sym, refl}
+use Rattle.std.proofs.Common.{◌≡◌, ◌||◌, arith, ◌+◌, ◌-◌, ℕ, take, drop, length, subst, sym, refl, []}
 use Rattle.theory.specs.Literals.{has_var}
 use Rattle.theory.specs.Trails.{literals}
 use Rattle.theory.specs.Learning.{with_literals}
@@ -22,7 +22,7 @@ loop-done-preserved c =
     let rest = drop (length c.args.clause.now - c.loop-done.done) c.args.clause.now in
     let here = drop-before c.args.clause.now c.loop-done.done c.index-clause-count.result (omega arith) c.index-clause-count.is in
     record {
-      set = λ S bound f h. subst (λ d. IsSet c.args.kernel.now (with_literals d S) bound c.put.new.marks) (sym here)
+      set = λ S bound f h. subst (λ d. IsSet c.args.kernel.now [] (with_literals d S) bound c.put.new.marks) (sym here)
           (c.in_ok-put.ensures.set _ bound
           (Refutes-from_is_false (literals (take bound c.args.kernel.now.trail)) c.args.clause.now f c.index-clause-count.result
           (has-at c.args.clause.now (length c.args.clause.now - 1 - c.loop-done.done) c.index-clause-count.result (omega arith) c.index-clause-count.is))
@@ -36,7 +36,7 @@ pub returns-clause-set : goal.returns-clause-set
 returns-clause-set c S bound f h =
     let most = c.loop-done.auto.done-end in
     let end : length c.args.clause.now - c.loop-done.done ≡ 0 = omega (arith, c.loop-done-test.false) in
-    subst (λ (i : ℕ). IsSet c.args.kernel.now (with_literals (drop i c.args.clause.now) S) bound c.loop-done.marks) end
+    subst (λ (i : ℕ). IsSet c.args.kernel.now [] (with_literals (drop i c.args.clause.now) S) bound c.loop-done.marks) end
     (c.loop-done.invariant.set S bound f (IsSet-moved c.args.kernel.now S bound c.args.marks.now _ refl refl refl c.reserve.ensures.items h))
 
 pub returns-clause-met : goal.returns-clause-met

@@ -1,4 +1,4 @@
-use Rattle.std.proofs.Common.{◌≡◌, ◌||◌, arith, ◌+◌, ◌-◌, ◌∙◌, ℕ, take, drop, length, subst, sym, refl, ap}
+use Rattle.std.proofs.Common.{◌≡◌, ◌||◌, arith, ◌+◌, ◌-◌, ◌∙◌, ℕ, take, drop, length, subst, sym, refl, ap, []}
 use Rattle.theory.specs.Literals.{Clause, has_var, without}
 use Rattle.theory.specs.Trails.{literals}
 use Rattle.theory.specs.Learning.{with_literals}
@@ -28,7 +28,7 @@ loop-done-preserved c =
           let other = here ∙ without-other rest c.args.except c.index-clause-count.result (sym w.if-not-same.ensures) in
           rw w.marks-is
           record {
-            set = λ S bound f h. subst (λ (d : Clause). IsSet c.args.kernel.now (with_literals d S) bound w.put.new.marks) (sym other)
+            set = λ S bound f h. subst (λ (d : Clause). IsSet c.args.kernel.now [] (with_literals d S) bound w.put.new.marks) (sym other)
                 (w.in_ok-put.ensures.set _ bound
                 (Refutes-from_is_false (literals (take bound c.args.kernel.now.trail)) (without c.args.clause.now c.args.except) f c.index-clause-count.result
                 (has-without c.args.clause.now c.args.except c.index-clause-count.result
@@ -42,7 +42,7 @@ loop-done-preserved c =
           let same = here ∙ without-same rest c.args.except c.index-clause-count.result (sym w.if-not-same.ensures) in
           rw w.marks-is
           record {
-            set = λ S bound f h. subst (λ (d : Clause). IsSet c.args.kernel.now (with_literals d S) bound c.loop-done.marks) (sym same) (c.loop-done.invariant.set S bound f h);
+            set = λ S bound f h. subst (λ (d : Clause). IsSet c.args.kernel.now [] (with_literals d S) bound c.loop-done.marks) (sym same) (c.loop-done.invariant.set S bound f h);
             met = λ v. subst (λ (d : Clause). is_one_of c.loop-done.marks.seen.items v ≡ (has_var d v || is_one_of c.reserve.new.self.items v)) (sym same) (c.loop-done.invariant.met v);
             room = let room = c.loop-done.invariant.room in omega arith;
           })
@@ -52,7 +52,7 @@ pub returns-clause-set : goal.returns-clause-set
 returns-clause-set c S bound f h =
     let most = c.loop-done.auto.done-end in
     let end : length c.args.clause.now - c.loop-done.done ≡ 0 = omega (arith, c.loop-done-test.false) in
-    subst (λ (i : ℕ). IsSet c.args.kernel.now (with_literals (without (drop i c.args.clause.now) c.args.except) S) bound c.loop-done.marks) end
+    subst (λ (i : ℕ). IsSet c.args.kernel.now [] (with_literals (without (drop i c.args.clause.now) c.args.except) S) bound c.loop-done.marks) end
     (c.loop-done.invariant.set S bound f (IsSet-moved c.args.kernel.now S bound c.args.marks.now _ refl refl refl c.reserve.ensures.items h))
 
 pub returns-clause-met : goal.returns-clause-met

@@ -1,4 +1,4 @@
-use Rattle.std.proofs.Common.{subst, ap, sym}
+use Rattle.std.proofs.Common.{subst, ap, sym, []}
 use Rattle.std.proofs.lemmas.Result.{on_ok_weaker}
 use Rattle.theory.specs.Literals.{Literal, negated, without}
 use Rattle.theory.specs.Trails.{Entry}
@@ -19,7 +19,7 @@ pub returns-clause-set : goal.returns-clause-set
 returns-clause-set c = on_ok_weaker c.put_others.result
     (λ made S bound at f h. (
     let lit = ap (λ (e : Entry). e.lit) c.entry.view_is in
-    subst (λ (l : Literal). IsSet c.args.kernel.now (with_literals (without c.args.reason.now l) (without S (negated c.args.entry.lit))) bound c.put_others.new.marks) lit
+    subst (λ (l : Literal). IsSet c.args.kernel.now [] (with_literals (without c.args.reason.now l) (without S (negated c.args.entry.lit))) bound c.put_others.new.marks) lit
     (made (without S (negated c.args.entry.lit)) bound (rw (← lit) at f) (c.take.ensures.set S bound at h))
     ))
     c.put_others.ensures.set

@@ -1,4 +1,4 @@
-use Rattle.heuristics.proofs.HalfLemmas.{candidates-distinct, forget-same}
+use Rattle.heuristics.proofs.LateLemmas.{candidates-distinct, forget-same}
 use Rattle.heuristics.proofs.laws.numbers_decide.Goals as goal
 
 pub returns-clause-distinct : goal.returns-clause-distinct

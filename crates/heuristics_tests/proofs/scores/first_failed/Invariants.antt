@@ -1,6 +1,6 @@
-use Rattle.std.proofs.Common.{length}
-use Rattle.heuristics_tests.specs.Bounds.{HasSeen}
+use Rattle.std.proofs.Common.{◌≡◌, length}
+use Rattle.heuristics.specs.Rankings.{vars_of}
 use Rattle.heuristics_tests.proofs.scores.first_failed.Given as goal
 
 abbrev pub invariant-loop-place : goal.invariant-loop-place
-invariant-loop-place l = HasSeen (length l.all) l.place l.scores
+invariant-loop-place l = vars_of l.scores ≡ length l.all

@@ -1,5 +1,5 @@
 use Rattle.std.proofs.Common.{◌≡◌, length}
-use Rattle.heuristics_tests.specs.Bounds.{AreFromOne}
+use Rattle.heuristics_tests.specs.Counted.{AreFromOne}
 use Rattle.heuristics_tests.proofs.scores.variables.Given as goal
 
 abbrev pub invariant-loop-place : goal.invariant-loop-place

@@ -1,8 +1,11 @@
-use Rattle.std.proofs.Common.{◌≡◌, ◌+◌, ◌<◌, false, nat_eq, eqb-true, ap, arith}
+use Rattle.std.proofs.Common.{◌≡◌, ◌∙◌, ◌+◌, ◌<◌, false, nat_eq, eqb-true, ap, arith}
 use Rattle.theory.specs.Trails.{current_level}
-use Rattle.theory.specs.Focused.{FocusedState, saved_after}
+use Rattle.theory.specs.Focused.{FocusedState}
+use Rattle.theory.specs.Lessons.{lesson_of}
+use Rattle.cdcl.specs.Focusing.{state_of, values_after}
+use Rattle.cdcl.proofs.NextStates.{learnt_next-flat}
 use Rattle.theory.proofs.literals.LiteralSets.{false_unless}
-use Rattle.cdcl.proofs.FocusedSteps.{Follows-spent, Follows-learns}
+use Rattle.cdcl.proofs.FocusedSteps.{Follows-refuted, Follows-spent, Follows-learns}
 use Rattle.cdcl.proofs.focused.FocusedSearch.on_conflict.Goals as goal
 
 pub returns-then-self-last-clause-next : goal.returns-then-self-last-clause-next
@@ -21,4 +24,9 @@ returns-clause-next c saved h =
     let fewer : s.conflicts + 1 < c.args.last = omega arith in
     let more : nat_eq (s.conflicts + 1) c.args.last ≡ false = false_unless (nat_eq (s.conflicts + 1) c.args.last) (λ t. let e = eqb-true (s.conflicts + 1) c.args.last t in absurd (omega arith)) in
     let l = c.in_ok-learn_from.ensures.next saved h in
-    Follows-learns c.args.last c.args.number s c.learn_from.new.self saved (saved_after s.kernel.vars s.kernel.trail saved) above more fewer l.next l.saves l.focusing (ap (λ (t : FocusedState). t.conflicts) l.next)
+    Follows-learns c.args.last c.args.number s c.learn_from.new.self saved (values_after s saved) above more fewer l.next l.saves l.focusing (ap (λ (t : FocusedState). t.conflicts) (l.next ∙ learnt_next-flat s.constants s.kernel.vars (state_of s saved) (lesson_of s.kernel.clauses s.kernel.trail c.args.number)))
+
+pub returns-then-level-eq0-clause-next : goal.returns-then-level-eq0-clause-next
+returns-then-level-eq0-clause-next c saved h =
+    Follows-refuted c.args.last c.args.number c.args.self.now c.refuted.new.self saved c.in_ok-refuted.field-0 (let is = c.level.ensures in let low = c.if-level-eq0.true in omega (arith, is, low))
+    c.in_ok-refuted.ensures.refuted c.in_ok-refuted.ensures.decided
