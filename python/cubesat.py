@@ -8,6 +8,7 @@ Variables are numbered from 1, and a literal is a variable or its negative. Need
 """
 from __future__ import annotations
 
+import functools
 import os
 import shutil
 import subprocess
@@ -106,6 +107,7 @@ def solve(
     program:   the path of the program; without it, see `find_program`
 
     Raises BadClauses, NoProgram, OutOfTime, or Fault. Formula and proof are written to a temporary folder (TMPDIR says where), but for a proof that is kept.
+    Where Linux has `setpriv`, the program ends once this process does, however that ends.
     """
     text = dimacs(clauses, variables, large=large)
     path = find_program(program)
@@ -190,7 +192,21 @@ def _literals(clause: Iterable[int], number: int) -> list[int]:
 
 
 def _run(*words: str) -> subprocess.CompletedProcess[str]:
-    return subprocess.run(words, stdin=subprocess.DEVNULL, capture_output=True, text=True, errors="replace")
+    return subprocess.run((*_bond(os.getpid()), *words), stdin=subprocess.DEVNULL, capture_output=True, text=True, errors="replace")
+
+
+@functools.lru_cache(maxsize=1)
+def _bond(process: int) -> tuple[str, ...]:
+    """The words before a command that is to end once this process does, however that ends; none where there is no `setpriv`, of util-linux, that can do it.
+
+    It asks Linux to kill it once the thread that began it is gone, and becomes a shell; that ends if the process is gone already, else it becomes the
+    command. The child could ask in a function that Python calls before the command (`preexec_fn`), but that may hang where there are other threads.
+    """
+    path = shutil.which("setpriv") or shutil.which("setpriv", path=os.defpath)
+    if path is None:
+        return ()
+    words = (path, "--pdeathsig", "KILL", "/bin/sh", "-c", '[ "$PPID" = "$0" ] && exec "$@"', str(process))
+    return words if subprocess.run([*words, "/bin/sh", "-c", ":"], capture_output=True).returncode == 0 else ()
 
 
 def _model(answer: str) -> list[int]:

@@ -4,8 +4,11 @@ definitions of truth and of the first model, and from docs/FORMATS.md."""
 import importlib.util
 import itertools
 import os
+import select
 import shutil
+import signal
 import subprocess
+import sys
 import tempfile
 import unittest
 from unittest import mock
@@ -116,6 +119,8 @@ class Answers(InFolder):
                     self.assertIsNone(cubesat.solve(PIGEONS, search="focused", divide=divide, budget=budget, hands=hands))
                     model = cubesat.solve(ALTERNATING, search="focused", divide=divide, budget=budget, hands=hands)
                     self.assertIn(model, ([-1, 2, -3], [1, -2, 3]))
+            with self.subTest(f"more pigeons, which are divided, divide {divide}"):
+                self.assertIsNone(cubesat.solve(pigeons(8), search="focused", divide=divide, budget=1950, hands=2))
 
     def test_a_limit_that_isnt_reached_changes_nothing(self):
         self.assertEqual(cubesat.solve(ALTERNATING, seconds=1000), [-1, 2, -3])
@@ -200,7 +205,7 @@ class Refusals(InFolder):
 
     def test_wrong_proof_gives_no_answer(self):
         """The program is one that empties the proof that the true one wrote, so that no step adds the empty clause."""
-        emptied = '[[ "$*" =~ --proof\ ([^ ]+) ]] && : > "${BASH_REMATCH[1]}"'
+        emptied = r'[[ "$*" =~ --proof\ ([^ ]+) ]] && : > "${BASH_REMATCH[1]}"'
         program = program_of(self.folder, f'"{cubesat.find_program()}" "$@"; status=$?; {emptied}; exit $status')
         with self.assertRaises(cubesat.Fault) as caught:
             cubesat.solve(PIGEONS, program=program)
@@ -249,6 +254,49 @@ class Programs(InFolder):
         module = importlib.util.module_from_spec(spec)
         spec.loader.exec_module(module)
         return module
+
+
+# Ends of a process that waits for the program, alone or in a thread: what it calls, and the signal that it gets, or else the end of its input.
+IN_THREAD = "threading.Thread(target=cubesat.solve, args=([],), daemon={}).start(); "
+ENDS = [
+    ("killed", "cubesat.solve([])", signal.SIGKILL),
+    ("told to end", "cubesat.solve([])", signal.SIGTERM),
+    ("interrupted", "cubesat.solve([])", signal.SIGINT),
+    ("killed with a thread", IN_THREAD.format(False) + "sys.stdin.read()", signal.SIGKILL),
+    ("its main thread ended", IN_THREAD.format(True) + "sys.stdin.read()", None),
+    ("ended at once", IN_THREAD.format(False) + "sys.stdin.read(); os._exit(0)", None),
+]
+
+
+@unittest.skipUnless(cubesat._bond(os.getpid()), "there is no setpriv")
+class Ends(InFolder):
+    def test_program_ends_with_the_process(self):
+        """The program writes a line to a pipe, which it holds open until it ends."""
+        pipe = os.path.join(self.folder, "pipe")
+        os.mkfifo(pipe)
+        environment = {**os.environ, "TMPDIR": self.folder, "CUBESAT": program_of(self.folder, f'exec 3> "{pipe}"; echo begun >&3; exec sleep 30')}
+        for name, calls, number in ENDS:
+            words = [sys.executable, "-Bc", f"import cubesat, os, sys, threading; {calls}"]
+            how = {"cwd": os.path.dirname(os.path.abspath(cubesat.__file__)), "env": environment, "stdin": subprocess.PIPE, "stderr": subprocess.DEVNULL}
+            with self.subTest(name), open(os.open(pipe, os.O_RDONLY | os.O_NONBLOCK), "rb", buffering=0) as program:
+                with subprocess.Popen(words, **how) as process:
+                    self.assertEqual(self.said_by(program), b"begun\n")
+                    if number:
+                        process.send_signal(number)
+                self.assertEqual(self.said_by(program), b"")
+
+    def said_by(self, program):
+        self.assertTrue(select.select([program], [], [], 10)[0], "it says nothing, and hasn't ended")
+        return program.read(100)
+
+    def test_program_isnt_begun_once_the_process_has_ended(self):
+        """So it is for a process of another number, which isn't the one that waits."""
+        words = [*cubesat._bond(os.getpid())[:-1], "0", "echo", "begun"]
+        self.assertEqual(subprocess.run(words, capture_output=True).stdout, b"")
+
+    def test_without_setpriv(self):
+        with mock.patch.object(cubesat, "_bond", lambda _: ()):
+            self.assertEqual(cubesat.solve(ALTERNATING), [-1, 2, -3])
 
 
 if __name__ == "__main__":
