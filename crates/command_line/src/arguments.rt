@@ -33,10 +33,10 @@ const ANY_MODEL: &str =
     "Answer the model that is found, where the automatic search would go on to the first one";
 
 const SOLVE_LARGE: &str =
-    "Read a formula of up to 100,000,000 variables and 1,000,000,000 clauses, by no fixed limit less";
+    "Read a formula of up to 100,000,000 variables, 1,000,000,000 clauses and 1 TiB of text";
 
 const CHECK_LARGE: &str =
-    "Read a formula of up to 100,000,000 variables and 1,000,000,000 clauses, and a proof of any size";
+    "Read a formula of up to 100,000,000 variables, 1,000,000,000 clauses and 1 TiB of text, and a proof of up to 4 EiB";
 
 const SOLVE_STATS: &str =
     "Print to standard error what the run took: conflicts, cubes, lines, times, memory";
@@ -127,7 +127,7 @@ fn divide_option<'a>(alloc: Global) -> Arg<'a> {
         .value_name("N")
         .value_parser(clap::value_parser!(u32).range(0..=65_536))
         .help(
-            "Cubes into which the focused search divides a formula first, if its first conflicts tell that this helps, 0 to 65536; 0 and 1 divide none [default: 64 with the focused search, 0 with the ordered one]",
+            "Cubes into which the focused search divides a formula first, if its first conflicts tell that this helps, 0 to 65536; 0 and 1 divide none; not with the ordered search [default: 64]",
         )
 }
 
@@ -141,7 +141,7 @@ fn hands_option<'a>(alloc: Global) -> Arg<'a> {
         .value_name("N")
         .value_parser(clap::value_parser!(u32).range(1..=16))
         .default_value("1")
-        .help("Hands that solve cubes side by side, 1 to 16")
+        .help("Threads that solve cubes side by side, 1 to 16")
 }
 
 fn seconds_option<'a>(alloc: Global) -> Arg<'a> {
@@ -149,7 +149,9 @@ fn seconds_option<'a>(alloc: Global) -> Arg<'a> {
         .long("seconds")
         .value_name("N")
         .value_parser(clap::value_parser!(u32).range(1..=1_000_000_000))
-        .help("Answer `s UNKNOWN`, status 0, unless the formula is decided in so many seconds")
+        .help(
+            "Answer `s UNKNOWN`, status 0, unless the formula is solved in so many seconds, the time that lowers its model to the first one included",
+        )
 }
 
 fn proof_option<'a>(alloc: Global) -> Arg<'a> {

@@ -9,7 +9,7 @@ use cnf::Limits;
 use std::alloc::{AllocError, Global};
 
 const LARGE: &str =
-    "Read a formula of up to 100,000,000 variables and 1,000,000,000 clauses, by no fixed limit less";
+    "Read a formula of up to 100,000,000 variables, 1,000,000,000 clauses and 1 TiB of text";
 
 const RUN: &str = "The folder of the run";
 
