@@ -4,7 +4,8 @@ compares what the program writes with it, byte for byte; docs/DEFINITIONS.md has
 Literals are whole numbers, as in DIMACS."""
 import collections
 
-MAX_BUDGET = 1_000_000
+# the greatest budget of a cube
+MAX_BUDGETS = {"ordered": 1_000_000, "focused": 1_000_000_000}
 
 # the numbers of the focused search
 FIRST_STEP, RESTARTING_GROWTH, STABLE_GROWTH = 65_536, 5, 20
@@ -14,7 +15,7 @@ MODE_LENGTH, ROUND_LENGTH, KEPT_GLUE = 1000, 300, 3
 
 # the budgets of the two searches, and into how many cubes the program divides a formula, where no
 # number is given
-ORDERED_BUDGET, FOCUSED_BUDGET = 1000, 100_000
+ORDERED_BUDGET, FOCUSED_BUDGET = 1000, 100_000_000
 DEFAULT_DIVIDE = 64
 # at this conflict the first search is asked whether the formula is divisible
 FIRST_CONFLICTS = 20_000
@@ -400,8 +401,8 @@ class Satisfied(Exception):
     """A cube has a model, whose literals these are."""
 
 
-def budget_of(budget, cube):
-    return min(budget * (len(cube) + 1), MAX_BUDGET)
+def budget_of(budget, search, cube):
+    return min(budget * (len(cube) + 1), MAX_BUDGETS[search])
 
 
 def first_clauses(variables, clauses):
@@ -420,7 +421,7 @@ class Tree:
     whether cubes were looked at. The ordered search divides no formula."""
 
     def __init__(self, variables, clauses, budget, search, divide):
-        self.variables, self.budget, self.search = variables, budget, SEARCHES[search]
+        self.variables, self.budget, self.search = variables, budget, search
         self.divide = divide if search == "focused" else 0
         self.is_divided = False
         self.clauses = first_clauses(variables, clauses)
@@ -446,8 +447,8 @@ class Tree:
         of its size than are wanted, by a look."""
         if self.is_divided and 2 ** len(cube) < self.divide:
             return Look(self.variables, self.clauses, cube).outcome
-        search = First if not cube and self.divide >= 2 else self.search
-        self.searched.append(search(self.variables, self.clauses, cube, budget_of(self.budget, cube)))
+        search = First if not cube and self.divide >= 2 else SEARCHES[self.search]
+        self.searched.append(search(self.variables, self.clauses, cube, budget_of(self.budget, self.search, cube)))
         if self.searched[-1].outcome[0] == "divisible":
             self.is_divided = True
             return self.outcome(cube)
@@ -498,7 +499,7 @@ class Lowering:
         return self.questions[-1]
 
     def model_in(self, cube):
-        search = Focused(self.variables, self.clauses, cube, budget_of(self.budget, cube))
+        search = Focused(self.variables, self.clauses, cube, budget_of(self.budget, "focused", cube))
         self.conflicts += search.conflicts
         kind, found = search.outcome
         if kind == "exhausted":

@@ -89,9 +89,9 @@ def solve(
                and the least variable first; "focused" gives one of several, and decides most large
                formulas sooner. "automatic" makes the ordered search with few conflicts, then the
                focused one, and lowers the model that this finds to the first one
-    budget:    conflicts of the first cube, 1 to 100,000; without it 1000 for "ordered", and 100,000
-               for "focused"; for "automatic" those of the ordered search, 1000. Another budget gives
-               another proof, and by "focused" maybe another model
+    budget:    conflicts of the first cube: for "ordered" 1 to 100,000, without it 1000; for "focused" 1
+               to 1,000,000,000, without it 100,000,000; for "automatic" those of the ordered search.
+               Another budget gives another proof, and by "focused" maybe another model
     divide:    cubes into which the focused search divides a formula first, if its first conflicts
                tell that this helps, 0 to 65,536; without it 64, and 0 and 1 divide none. Another
                number may give another proof and another model. "ordered" takes none

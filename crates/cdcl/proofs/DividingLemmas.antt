@@ -6,7 +6,7 @@ use Rattle.theory.specs.Truth.{Formula}
 use Rattle.theory.specs.Plans.{Constants, focused, Plan}
 use Rattle.theory.specs.Trails.{Trail, literals, cube_trail, least_free}
 use Rattle.theory.specs.Propagation.{Closed, quiet, by_place, Propagates}
-use Rattle.theory.specs.Search.{Outcome, exhausted, Next, ends, goes_on, first_clauses, max_budget}
+use Rattle.theory.specs.Search.{Outcome, exhausted, Next, ends, goes_on, first_clauses, max_focused}
 use Rattle.theory.proofs.literals.OverVariables.{AreOver-from_IsOver}
 use Rattle.lookahead.proofs.TrailLengths.{length-lawful}
 use Rattle.theory.specs.Focused.{FocusedState, if_stable, begin, after, splits_on, IsFocusedStep}
@@ -58,7 +58,7 @@ step-unique c V budget s m n h k =
     sym h.follows ∙ ap₂ (λ (T : Trail) (a : Closed). after c V budget (record s { trail = T }) a) one.0 one.1 ∙ k.follows
 
 -- what was counted at its last conflict is less than the program's numbers
-pub spent-counts : (last : ℕ) (s : FocusedSearch) → IsSpent last s → last ≤ max_budget → (s.decided < 2 ^ 60) × (s.stable_conflicts < 2 ^ 31)
+pub spent-counts : (last : ℕ) (s : FocusedSearch) → IsSpent last s → last ≤ max_focused → (s.decided < 2 ^ 60) × (s.stable_conflicts < 2 ^ 31)
 spent-counts last s h within =
     let f = h.focusing in
     let k = s.kernel in

@@ -18,7 +18,7 @@ use Rattle.theory.specs.Restarts as restarting
 use Rattle.theory.specs.Restarts.{Glues, glues_after, with_glue}
 use Rattle.theory.specs.Forgetting.{Mark, not_used, unused, with_used, forget}
 use Rattle.theory.specs.Rephasing.{is_over, rephased}
-use Rattle.theory.specs.Search.{max_budget}
+use Rattle.theory.specs.Search.{max_focused}
 use Rattle.theory.specs.Focused.{FocusedState, learnt_next, saved_after}
 use Rattle.theory.proofs.searching.ForgettingNumbers.{length-forget, late-number, forget-push, IsOpenBelow-forget}
 use Rattle.theory.proofs.searching.MappedVariables.{length-mapped}
@@ -324,7 +324,7 @@ pub same-marked : (s m : FocusedSearch) (a : Analysis) → m ≡ record s { anal
 same-marked s m a e = e ∙ ap (λ (x : Analysis). record s { analysis = x; marks = m.marks }) (sym (ap (λ (x : FocusedSearch). x.analysis) e))
 
 -- the conflict may be weighed
-pub CanWeigh-marked : (s m : FocusedSearch) (n g : ℕ) → IsFocusing s → s.conflicts + 1 ≤ max_budget → m ≡ record s { analysis = m.analysis; marks = m.marks } → g ≤ s.kernel.vars
+pub CanWeigh-marked : (s m : FocusedSearch) (n g : ℕ) → IsFocusing s → s.conflicts + 1 ≤ max_focused → m ≡ record s { analysis = m.analysis; marks = m.marks } → g ≤ s.kernel.vars
     → ((v : ℕ) → is_one_of m.analysis.seen.numbers v ≡ is_seen s.kernel.clauses s.kernel.trail (lesson_of s.kernel.clauses s.kernel.trail n).seen v) → CanWeigh m g
 CanWeigh-marked s m n g f counted e few sees = record {
   glue_within = let v = f.few in omega (arith, v, few);

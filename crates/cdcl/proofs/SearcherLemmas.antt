@@ -5,11 +5,11 @@ use Rattle.theory.specs.Literals.{Literal, IsCube}
 use Rattle.theory.specs.Truth.{Formula, Assignment, IsOver}
 use Rattle.theory.specs.Plans.{Constants, ordered, focused, Plan}
 use Rattle.theory.specs.Trails.{variables}
-use Rattle.theory.specs.Search.{Outcome, exhausted, RunsFrom, budget_of, first_clauses}
+use Rattle.theory.specs.Search.{Outcome, exhausted, RunsFrom, budget_within, max_budget, max_focused, first_clauses}
 use Rattle.theory.specs.Dividing.{first_conflicts, IsDivisible}
 use Rattle.theory.specs.Ordered.{IsOrderedStep}
 use Rattle.theory.specs.Focused as definition
-use Rattle.theory.specs.Runs.{RunsBy, Runs, by_search}
+use Rattle.theory.specs.Runs.{RunsBy, most_conflicts, cube_budget, Runs, by_search}
 use Rattle.theory.specs.Results.{OutcomeSays}
 use Rattle.theory.proofs.searching.OutcomeLemmas.{IsLookedAt-search, Runs-says}
 use Rattle.theory.proofs.searching.PureVariables.{IsFormula-searched}
@@ -31,35 +31,35 @@ use Rattle.cdcl.proofs.FocusedSteps.{RunsTo-runs}
 use Rattle.cdcl.proofs.LongerSearches.{RunsTo-longer, Reaches-longer}
 
 -- the first search is asked within the budget of the cube without literals
-pub within-budget : (B t : ℕ) → min first_conflicts B ≡ t → t ≤ budget_of B []
+pub within-budget : (B t : ℕ) → min first_conflicts B ≡ t → t ≤ budget_within max_focused B []
 within-budget B t asked = omega (arith, asked)
 
 -- by the ordered search
 runs-by_ordered : (Q : List Literal) (budget : ℕ) (s begun : OrderedSearch) (o : Outcome) → ((F : Formula) → IsReady ByNumber F s.kernel → ordered_search.Begins F Q begun)
-    → RunsFrom (IsOrderedStep begun.kernel.vars budget) (search_of begun) o → (F : Formula) (B : ℕ) → IsReady ByNumber F s.kernel → budget ≡ budget_of B Q → RunsBy ordered F B Q o
+    → RunsFrom (IsOrderedStep begun.kernel.vars budget) (search_of begun) o → (F : Formula) (B : ℕ) → IsReady ByNumber F s.kernel → budget ≡ budget_within max_budget B Q → RunsBy ordered F B Q o
 runs-by_ordered Q budget s begun o begins runs F B ready is =
     Begins-runs F B Q begun o (begins F ready) (subst (λ n. RunsFrom (IsOrderedStep begun.kernel.vars n) (search_of begun) o) is runs)
 
 pub runs-ordered : {E : Type 0} (Q : List Literal) (budget : ℕ) (s begun : OrderedSearch) (r : Result LinesOutcome E) → ((F : Formula) → IsReady ByNumber F s.kernel → ordered_search.Begins F Q begun)
     → IfOk r (λ o. RunsFrom (IsOrderedStep begun.kernel.vars budget) (search_of begun) (outcome_of o))
-    → IfOk r (λ o. (F : Formula) (plan : Plan) → IsReadyBy plan F (Ordered s) → budget ≡ budget_of plan.budget Q → Runs F plan Q (outcome_of o))
+    → IfOk r (λ o. (F : Formula) (plan : Plan) → IsReadyBy plan F (Ordered s) → budget ≡ cube_budget plan Q → Runs F plan Q (outcome_of o))
 runs-ordered Q budget s begun (Err e) begins runs = tt
 runs-ordered Q budget s begun (Ok o) begins runs = λ F plan ready is.
     by_search (λ l. IsLookedAt-search F plan Q l ready.0)
-    (subst (λ search. RunsBy search F plan.budget Q (outcome_of o)) (sym ready.0) (runs-by_ordered Q budget s begun (outcome_of o) begins runs F plan.budget ready.1 is))
+    (subst (λ search. RunsBy search F plan.budget Q (outcome_of o)) (sym ready.0) (runs-by_ordered Q budget s begun (outcome_of o) begins runs F plan.budget ready.1 (is ∙ ap (λ s. budget_within (most_conflicts s) plan.budget Q) ready.0)))
 
 pub says-ordered : {E : Type 0} (Q : List Literal) (budget : ℕ) (s begun : OrderedSearch) (r : Result LinesOutcome E) → ((F : Formula) → IsReady ByNumber F s.kernel → ordered_search.Begins F Q begun)
     → IfOk r (λ o. RunsFrom (IsOrderedStep begun.kernel.vars budget) (search_of begun) (outcome_of o))
-    → IfOk r (λ o. (F : Formula) (plan : Plan) → IsReadyBy plan F (Ordered s) → budget ≡ budget_of plan.budget Q → IsOver F.vars Q → OutcomeSays plan.search F Q (outcome_of o))
+    → IfOk r (λ o. (F : Formula) (plan : Plan) → IsReadyBy plan F (Ordered s) → budget ≡ cube_budget plan Q → IsOver F.vars Q → OutcomeSays plan.search F Q (outcome_of o))
 says-ordered Q budget s begun (Err e) begins runs = tt
 says-ordered Q budget s begun (Ok o) begins runs = λ F plan ready is over.
     subst (λ search. OutcomeSays search F Q (outcome_of o)) (sym ready.0)
-    (Begins-says F plan.budget Q begun (outcome_of o) (begins F ready.1) over (runs-by_ordered Q budget s begun (outcome_of o) begins runs F plan.budget ready.1 is))
+    (Begins-says F plan.budget Q begun (outcome_of o) (begins F ready.1) over (runs-by_ordered Q budget s begun (outcome_of o) begins runs F plan.budget ready.1 (is ∙ ap (λ s. budget_within (most_conflicts s) plan.budget Q) ready.0)))
 
 -- by the focused search
 runs-focused : (Q : List Literal) (budget decided : ℕ) (s begun : FocusedSearch) (o : LinesOutcome) → ((F : Formula) → IsReady ByPlace F s.kernel → focused_search.Begins F s.constants Q begun)
     → ((saved : Assignment) → HasSaved begun saved → RunsTo begun.constants begun.kernel.vars budget (state_of begun saved) (outcome_of o) decided)
-    → (F : Formula) (B : ℕ) → IsReady ByPlace F s.kernel → budget ≡ budget_of B Q → RunsBy (focused s.constants) F B Q (outcome_of o)
+    → (F : Formula) (B : ℕ) → IsReady ByPlace F s.kernel → budget ≡ budget_within max_focused B Q → RunsBy (focused s.constants) F B Q (outcome_of o)
 runs-focused Q budget decided s begun o begins runs F B ready is =
     let b = begins F ready in
     rw (b.constants, b.ready.vars, is, b.begun) at (RunsTo-runs begun.constants begun.kernel.vars budget (state_of begun (map (λ v. true) (variables F.vars))) (outcome_of o) decided (runs (map (λ v. true) (variables F.vars)) b.saves))
@@ -68,10 +68,10 @@ runs-focused Q budget decided s begun o begins runs F B ready is =
 pub search-runs : {E : Type 0} (Q : List Literal) (budget decided : ℕ) (s : DividingSearch) (begun : FocusedSearch) (r : Result LinesOutcome E)
     → ((F : Formula) → IsReady ByPlace F s.search.kernel → focused_search.Begins F s.search.constants Q begun)
     → IfOk r (λ o. (saved : Assignment) → HasSaved begun saved → RunsTo begun.constants begun.kernel.vars budget (state_of begun saved) (outcome_of o) decided)
-    → IfOk r (λ o. (F : Formula) (plan : Plan) → IsDividing plan F s → budget ≡ budget_of plan.budget Q → RunsBy plan.search F plan.budget Q (outcome_of o))
+    → IfOk r (λ o. (F : Formula) (plan : Plan) → IsDividing plan F s → budget ≡ cube_budget plan Q → RunsBy plan.search F plan.budget Q (outcome_of o))
 search-runs Q budget decided s begun (Err e) begins runs = tt
 search-runs Q budget decided s begun (Ok o) begins runs = λ F plan d is.
-    subst (λ search. RunsBy search F plan.budget Q (outcome_of o)) (sym d.search) (runs-focused Q budget decided s.search begun o begins runs F plan.budget d.ready is)
+    subst (λ search. RunsBy search F plan.budget Q (outcome_of o)) (sym d.search) (runs-focused Q budget decided s.search begun o begins runs F plan.budget d.ready (is ∙ ap (λ s. budget_within (most_conflicts s) plan.budget Q) d.search))
 
 -- the first search, of the cube without literals
 pub first-stops : (F : Formula) (c : Constants) (t : ℕ) (begun s : FocusedSearch) (stop : Stop) → focused_search.Begins F c [] begun
@@ -79,20 +79,20 @@ pub first-stops : (F : Formula) (c : Constants) (t : ℕ) (begun s : FocusedSear
 first-stops F c t begun s stop b stops = rw (b.constants, b.ready.vars, b.begun) at (stops (map (λ v. true) (variables F.vars)) b.saves)
 
 -- what it comes to is the outcome by the plan, where that doesn't divide the formula
-pub first-runs : (F : Formula) (plan : Plan) (c : Constants) (t budget count : ℕ) (o : Outcome) → plan.search ≡ focused c → min first_conflicts plan.budget ≡ t → budget ≡ budget_of plan.budget [] → 1 ≤ t
+pub first-runs : (F : Formula) (plan : Plan) (c : Constants) (t budget count : ℕ) (o : Outcome) → plan.search ≡ focused c → min first_conflicts plan.budget ≡ t → budget ≡ cube_budget plan [] → 1 ≤ t
     → ¬ (IsDivisible F plan) → RunsTo c F.vars t (definition.begin c F []) o count → ((x : ℕ) → o ≢ exhausted x) → Runs F plan [] o
 first-runs F plan c t budget count o search asked is some whole runs own =
     by_search (λ l. whole l.divisible)
     (subst (λ s. RunsBy s F plan.budget [] o) (sym search)
-    (RunsTo-longer c F.vars t (budget_of plan.budget []) count (definition.begin c F []) o (within-budget plan.budget t asked) some own runs))
+    (RunsTo-longer c F.vars t (budget_within max_focused plan.budget []) count (definition.begin c F []) o (within-budget plan.budget t asked) some own runs))
 
-pub first-goes-on : (F : Formula) (plan : Plan) (c : Constants) (t budget count : ℕ) (s : FocusedSearch) (o : Outcome) → plan.search ≡ focused c → min first_conflicts plan.budget ≡ t → budget ≡ budget_of plan.budget [] → 1 ≤ t
+pub first-goes-on : (F : Formula) (plan : Plan) (c : Constants) (t budget count : ℕ) (s : FocusedSearch) (o : Outcome) → plan.search ≡ focused c → min first_conflicts plan.budget ≡ t → budget ≡ cube_budget plan [] → 1 ≤ t
     → ¬ (IsDivisible F plan) → Reaches c F.vars t (definition.begin c F []) s → ((saved : Assignment) → HasSaved s saved → RunsTo c F.vars budget (state_of s saved) o count) → Runs F plan [] o
 first-goes-on F plan c t budget count s o search asked is some whole reached runs =
     by_search (λ l. whole l.divisible)
     (subst (λ s. RunsBy s F plan.budget [] o) (sym search)
-    (Reaches-longer c F.vars t (budget_of plan.budget []) count (definition.begin c F []) s o (within-budget plan.budget t asked) some reached
-    (subst (λ n. (saved : Assignment) → HasSaved s saved → RunsTo c F.vars n (state_of s saved) o count) is runs)))
+    (Reaches-longer c F.vars t (budget_within max_focused plan.budget []) count (definition.begin c F []) s o (within-budget plan.budget t asked) some reached
+    (subst (λ n. (saved : Assignment) → HasSaved s saved → RunsTo c F.vars n (state_of s saved) o count) (is ∙ ap (λ x. budget_within (most_conflicts x) plan.budget []) search) runs)))
 
 -- the search goes on to the next cube
 pub dividing-kept : {X E : Type 0} (r : Result X E) (old s : DividingSearch) (t : FocusedSearch) → ((F : Formula) (plan : Plan) → IsDividing plan F old → IsDividing plan F s) → OnOk r (IsKept s.search t)
@@ -119,8 +119,8 @@ kept-then (Ok x) old s t before kept = λ F plan d. kept F plan (before F plan d
 
 -- what an outcome says, where the kernel is one of the formula
 pub says-ready : {E : Type 0} (Q : List Literal) (budget : ℕ) (s : DividingSearch) (r : Result LinesOutcome E) → IsCube Q → All (IsOver s.search.kernel.vars) s.search.kernel.clauses
-    → IfOk r (λ o. (F : Formula) (plan : Plan) → IsDividing plan F s → budget ≡ budget_of plan.budget Q → Runs F plan Q (outcome_of o))
-    → IfOk r (λ o. (F : Formula) (plan : Plan) → IsDividing plan F s → budget ≡ budget_of plan.budget Q → IsOver F.vars Q → OutcomeSays plan.search F Q (outcome_of o))
+    → IfOk r (λ o. (F : Formula) (plan : Plan) → IsDividing plan F s → budget ≡ cube_budget plan Q → Runs F plan Q (outcome_of o))
+    → IfOk r (λ o. (F : Formula) (plan : Plan) → IsDividing plan F s → budget ≡ cube_budget plan Q → IsOver F.vars Q → OutcomeSays plan.search F Q (outcome_of o))
 says-ready Q budget s (Err e) cube over runs = tt
 says-ready Q budget s (Ok o) cube over runs = λ F plan d is within.
     let h = d.ready in

@@ -2,7 +2,7 @@
 use Rattle.std.specs.Prelude.{◌≡◌, ℕ, ◌*◌, ◌<◌, ◌≤◌, Bool, [], min}
 use Rattle.theory.specs.Truth.{Formula}
 use Rattle.theory.specs.Plans.{Constants, ordered, focused, Plan}
-use Rattle.theory.specs.Search.{exhausted, first_clauses, max_budget}
+use Rattle.theory.specs.Search.{exhausted, first_clauses, max_focused}
 use Rattle.theory.specs.Focused.{begin}
 use Rattle.theory.specs.Dividing.{first_conflicts, IsDivisible}
 use Rattle.theory.specs.Runs.{Runs}
@@ -66,7 +66,7 @@ pub record IsDividing (plan : Plan) (F : Formula) (s : DividingSearch) : Type 0 
   pub divide : plan.divide ≡ s.divide
   pub few : s.divide ≤ 65536
   pub asked : min first_conflicts plan.budget ≡ s.asked
-  pub within : (1 ≤ s.asked) × (s.asked ≤ max_budget)
+  pub within : (1 ≤ s.asked) × (s.asked ≤ max_focused)
   pub division : IsDivisionOf F plan s.division
   pub root : IsRootOf F plan s.root
 

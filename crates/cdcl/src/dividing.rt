@@ -3,8 +3,8 @@
 ghost use Rattle.std.specs.Prelude.{◌≡◌, ◌≢◌, ◌≤◌, ◌<◌, ℕ, ◌^◌, ◌*◌, ◌/◌, true, false, nat_lt, [], List, length, take, IfOk, OnOk};
 ghost use Rattle.theory.specs.Truth.{Formula, IsOver};
 ghost use Rattle.theory.specs.Plans as plans;
-ghost use Rattle.theory.specs.Search.{exhausted, budget_of, max_budget};
-ghost use Rattle.theory.specs.Runs.{RunsBy, Runs};
+ghost use Rattle.theory.specs.Search.{exhausted, max_focused};
+ghost use Rattle.theory.specs.Runs.{RunsBy, cube_budget, Runs};
 ghost use Rattle.kernel.specs.declared.order.Order.TheVariants.{ByPlace};
 ghost use Rattle.cdcl.specs.Outcome.{outcome_of};
 ghost use Rattle.cdcl.specs.Plans.{constants_from};
@@ -113,7 +113,7 @@ impl FocusedSearch {
     ) -> Result<First, AllocError>
         requires equipped { IsEquipped self.old }
         requires ready { (F : Formula) × IsReady ByPlace F self.old.kernel }
-        requires conflicts { (1 ≤ conflicts) × (conflicts ≤ max_budget) }
+        requires conflicts { (1 ≤ conflicts) × (conflicts ≤ max_focused) }
         ensures says { IfOk result (λ first. (F : Formula) → IsReady ByPlace F self.old.kernel → FirstSays self.old.constants F conflicts first self.new) }
         ensures spent { IfOk result (λ first. first ≡ ManyDecisions → IsSpent conflicts self.new) }
         ensures kept { OnOk result (IsKept self.old self.new) }
@@ -255,8 +255,8 @@ impl DividingSearch {
         watcher: &W,
     ) -> Result<Outcome<Row>, AllocError>
         requires ready { (F : Formula) × (plan : plans.Plan) × IsDividing plan F self.old × IsOver F.vars cube.now }
-        requires budget { (1 ≤ budget) × (budget ≤ max_budget) }
-        ensures runs { IfOk result (λ o. (F : Formula) (plan : plans.Plan) → IsDividing plan F self.old → budget ≡ budget_of plan.budget cube.now →
+        requires budget { (1 ≤ budget) × (budget ≤ max_focused) }
+        ensures runs { IfOk result (λ o. (F : Formula) (plan : plans.Plan) → IsDividing plan F self.old → budget ≡ cube_budget plan cube.now →
             RunsBy plan.search F plan.budget cube.now (outcome_of o)) }
         ensures kept { OnOk result ((F : Formula) (plan : plans.Plan) → IsDividing plan F self.old → IsDividing plan F self.new) }
     {
@@ -272,8 +272,8 @@ impl DividingSearch {
         watcher: &W,
     ) -> Result<Outcome<Row>, AllocError>
         requires ready { (F : Formula) × (plan : plans.Plan) × IsDividing plan F self.old × IsKnown F plan self.old.division × IsOver F.vars cube.now }
-        requires budget { (1 ≤ budget) × (budget ≤ max_budget) }
-        ensures runs { IfOk result (λ o. (F : Formula) (plan : plans.Plan) → IsDividing plan F self.old → IsKnown F plan self.old.division → 2 ^ length cube.now < plan.divide → budget ≡ budget_of plan.budget cube.now →
+        requires budget { (1 ≤ budget) × (budget ≤ max_focused) }
+        ensures runs { IfOk result (λ o. (F : Formula) (plan : plans.Plan) → IsDividing plan F self.old → IsKnown F plan self.old.division → 2 ^ length cube.now < plan.divide → budget ≡ cube_budget plan cube.now →
             Runs F plan cube.now (outcome_of o)) }
         ensures kept { OnOk result ((F : Formula) (plan : plans.Plan) → IsDividing plan F self.old → IsDividing plan F self.new) }
     {
@@ -293,8 +293,8 @@ impl DividingSearch {
         watcher: &W,
     ) -> Result<Outcome<Row>, AllocError>
         requires root { root.now ≡ [] }
-        requires ready { (F : Formula) × (plan : plans.Plan) × IsDividing plan F self.old × (2 ≤ plan.divide) × (budget ≡ budget_of plan.budget []) }
-        ensures runs { IfOk result (λ o. (F : Formula) (plan : plans.Plan) → IsDividing plan F self.old → 2 ≤ plan.divide → budget ≡ budget_of plan.budget [] →
+        requires ready { (F : Formula) × (plan : plans.Plan) × IsDividing plan F self.old × (2 ≤ plan.divide) × (budget ≡ cube_budget plan []) }
+        ensures runs { IfOk result (λ o. (F : Formula) (plan : plans.Plan) → IsDividing plan F self.old → 2 ≤ plan.divide → budget ≡ cube_budget plan [] →
             Runs F plan [] (outcome_of o)) }
         ensures kept { OnOk result ((F : Formula) (plan : plans.Plan) → IsDividing plan F self.old → IsDividing plan F self.new) }
     {
@@ -315,9 +315,9 @@ impl DividingSearch {
         budget: u32,
         watcher: &W,
     ) -> Result<Outcome<Row>, AllocError>
-        requires ready { (F : Formula) × (plan : plans.Plan) × IsDividing plan F self.old × IsOver F.vars cube.now × (budget ≡ budget_of plan.budget cube.now) }
-        requires budget { (1 ≤ budget) × (budget ≤ max_budget) }
-        ensures runs { IfOk result (λ o. (F : Formula) (plan : plans.Plan) → IsDividing plan F self.old → budget ≡ budget_of plan.budget cube.now →
+        requires ready { (F : Formula) × (plan : plans.Plan) × IsDividing plan F self.old × IsOver F.vars cube.now × (budget ≡ cube_budget plan cube.now) }
+        requires budget { (1 ≤ budget) × (budget ≤ max_focused) }
+        ensures runs { IfOk result (λ o. (F : Formula) (plan : plans.Plan) → IsDividing plan F self.old → budget ≡ cube_budget plan cube.now →
             Runs F plan cube.now (outcome_of o)) }
         ensures kept { OnOk result ((F : Formula) (plan : plans.Plan) → IsDividing plan F self.old → IsDividing plan F self.new) }
     {

@@ -4,7 +4,7 @@ ghost use Rattle.theory.specs.Truth.{Formula, Assignment, IsOver};
 ghost use Rattle.theory.specs.Modes.{is_restarting};
 ghost use Rattle.theory.specs.Trails.{literals, current_level};
 ghost use Rattle.theory.specs.Propagation.{by_place, Propagates, quiet, conflict, least_false};
-ghost use Rattle.theory.specs.Search.{refuted, max_budget};
+ghost use Rattle.theory.specs.Search.{refuted, max_focused};
 ghost use Rattle.theory.specs.Learning.{learn};
 ghost use Rattle.theory.specs.Focused.{splits_on};
 ghost use Rattle.heuristics.specs.Modes.{mode_of};
@@ -165,7 +165,7 @@ impl FocusedSearch {
         watcher: &W,
     ) -> Result<Outcome<Row>, AllocError>
         requires focusing { IsFocusing self.old }
-        requires counted { (self.old.conflicts < budget) × (budget ≤ max_budget) }
+        requires counted { (self.old.conflicts < budget) × (budget ≤ max_focused) }
         ensures runs { IfOk result (λ o. (saved : Assignment) → HasSaved self.old saved →
             RunsTo self.old.constants self.old.kernel.vars budget (state_of self.old saved) (outcome_of o) self.new.decided) }
         ensures kept { OnOk result (Continues self.old self.new) }
@@ -180,7 +180,7 @@ impl FocusedSearch {
     /// search may go on to a later one.
     pub(crate) fn run_to<W: Watcher>(&mut self, last: u32, watcher: &W) -> Result<Stop, AllocError>
         requires focusing { IsFocusing self.old }
-        requires counted { (self.old.conflicts < last) × (last ≤ max_budget) }
+        requires counted { (self.old.conflicts < last) × (last ≤ max_focused) }
         ensures stops { IfOk result (λ stop. (saved : Assignment) → HasSaved self.old saved →
             Stops self.old.constants self.old.kernel.vars last (state_of self.old saved) stop self.new) }
         ensures spent { IfOk result (λ stop. stop ≡ Spent → IsSpent last self.new) }
@@ -198,7 +198,7 @@ impl FocusedSearch {
     /// Propagation and what follows its answer.
     fn step(&mut self, last: u32) -> Result<Option<Stop>, AllocError>
         requires focusing { IsFocusing self.old }
-        requires counted { (self.old.conflicts < last) × (last ≤ max_budget) }
+        requires counted { (self.old.conflicts < last) × (last ≤ max_focused) }
         ensures step { IfOk result (λ r. (saved : Assignment) → HasSaved self.old saved → IsFocusedSearchStep last self.old saved r self.new) }
         ensures kept { OnOk result (Continues self.old self.new) }
     {
@@ -236,7 +236,7 @@ impl FocusedSearch {
     fn on_conflict(&mut self, number: u64, last: u32) -> Result<Option<Stop>, AllocError>
         requires focusing { IsFocusing self.old }
         requires conflict { least_false (literals self.old.kernel.trail) self.old.kernel.clauses ≡ Some number }
-        requires counted { (self.old.conflicts < last) × (last ≤ max_budget) }
+        requires counted { (self.old.conflicts < last) × (last ≤ max_focused) }
         ensures next { IfOk result (λ r. (saved : Assignment) → HasSaved self.old saved → Follows last (conflict number) self.old saved r self.new) }
         ensures kept { OnOk result (Continues self.old self.new) }
     {

@@ -5,7 +5,7 @@ ghost use Rattle.theory.specs.Truth.{Assignment};
 ghost use Rattle.theory.specs.Plans as plans;
 ghost use Rattle.theory.specs.Trails.{literals, current_level, up_to};
 ghost use Rattle.theory.specs.Propagation.{least_false};
-ghost use Rattle.theory.specs.Search.{max_budget};
+ghost use Rattle.theory.specs.Search.{max_focused};
 ghost use Rattle.theory.specs.Forgetting.{forget, with_used};
 ghost use Rattle.theory.specs.Rephasing.{is_over};
 ghost use Rattle.theory.specs.Focused.{saved_after};
@@ -107,7 +107,7 @@ impl FocusedSearch {
         requires focusing { IsFocusing self.old }
         requires conflict { least_false (literals self.old.kernel.trail) self.old.kernel.clauses ≡ Some number }
         requires level { 1 ≤ current_level self.old.kernel.trail }
-        requires counted { self.old.conflicts + 1 ≤ max_budget }
+        requires counted { self.old.conflicts + 1 ≤ max_focused }
         ensures next { OnOk result ((saved : Assignment) → HasSaved self.old saved → Learns self.old saved number self.new) }
         ensures kept { OnOk result (Continues self.old self.new) }
     {

@@ -1,6 +1,7 @@
 //! How a formula is searched.
 ghost use Rattle.std.specs.Prelude.{◌≡◌, ◌≤◌};
 ghost use Rattle.theory.specs.Plans.{ordered_within, focused, default_constants};
+ghost use Rattle.theory.specs.Search.{max_focused};
 ghost use Rattle.heuristics.specs.Ranges.{AreInRange};
 ghost use Rattle.cdcl.specs.Plans.{search_of, constants_from};
 
@@ -18,8 +19,8 @@ pub enum Search {
     Focused,
 }
 
-/// A search, the budget of the root, which is 1 to 100,000 conflicts, and into how many cubes a
-/// formula is divided by lookahead before they are searched. Formula and plan fix the answer and
+/// A search, the budget of the root, which is 1 to 1,000,000,000 conflicts, and into how many cubes
+/// a formula is divided by lookahead before they are searched. Formula and plan fix the answer and
 /// the proof, byte for byte.
 #[derive(Clone, Copy, Debug, PartialEq, Eq)]
 pub struct Plan {
@@ -34,6 +35,7 @@ pub struct Plan {
 impl Model for Plan {
     ghost use Rattle.std.specs.Prelude.{◌≡◌, ◌≤◌};
     ghost use Rattle.theory.specs.Plans as plans;
+    ghost use Rattle.theory.specs.Search.{max_focused};
     ghost use Rattle.heuristics.specs.Ranges.{AreInRange};
     ghost use Rattle.cdcl.specs.Plans.{search_of, search_from, constants_from};
 
@@ -41,7 +43,7 @@ impl Model for Plan {
 
     ghost view = { λ p. record { search = search_of p.search p.constants; budget = p.budget; divide = p.divide } };
 
-    ghost invariant = { λ p. (1 ≤ p.budget) × (p.budget ≤ 100000) × (p.divide ≤ 65536) × AreInRange p.constants
+    ghost invariant = { λ p. (1 ≤ p.budget) × (p.budget ≤ max_focused) × (p.divide ≤ 65536) × AreInRange p.constants
         × (constants_from (search_of p.search p.constants) ≡ p.constants) };
 
     ghost inverse = { λ p. record { search = search_from p.search; budget = p.budget; constants = constants_from p.search; divide = p.divide } };
@@ -63,10 +65,10 @@ impl Plan {
         }
     }
 
-    /// The focused search with the usual numbers, and a budget of 1 to 100,000 conflicts for the
-    /// root.
+    /// The focused search with the usual numbers, and a budget of 1 to 1,000,000,000 conflicts for
+    /// the root.
     pub fn focused(budget: u32) -> Plan
-        requires { (1 ≤ budget) × (budget ≤ 100000) }
+        requires { (1 ≤ budget) × (budget ≤ max_focused) }
         ensures { result ≡ record { search = focused default_constants; budget = budget; divide = 0 } }
     {
         Plan::focused_by(budget, Constants::default())
@@ -74,7 +76,7 @@ impl Plan {
 
     /// The focused search with other numbers.
     pub fn focused_by(budget: u32, constants: Constants) -> Plan
-        requires { (1 ≤ budget) × (budget ≤ 100000) }
+        requires { (1 ≤ budget) × (budget ≤ max_focused) }
         ensures { result ≡ record { search = focused constants; budget = budget; divide = 0 } }
     {
         constants.are_in_range();
@@ -129,7 +131,7 @@ impl Plan {
     /// The budget of the root, in conflicts.
     pub fn budget(&self) -> u32
         ensures same { result ≡ self.now.budget }
-        ensures within { (1 ≤ result) × (result ≤ 100000) }
+        ensures within { (1 ≤ result) × (result ≤ max_focused) }
     {
         self.budget
     }

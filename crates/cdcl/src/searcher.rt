@@ -2,8 +2,8 @@
 ghost use Rattle.std.specs.Prelude.{◌≡◌, ◌≤◌, [], IfOk, OnOk};
 ghost use Rattle.theory.specs.Truth.{Formula, IsOver};
 ghost use Rattle.theory.specs.Plans as plans;
-ghost use Rattle.theory.specs.Search.{exhausted, budget_of, max_budget};
-ghost use Rattle.theory.specs.Runs.{Runs};
+ghost use Rattle.theory.specs.Search.{exhausted, max_focused};
+ghost use Rattle.theory.specs.Runs.{cube_budget, Runs};
 ghost use Rattle.theory.specs.Results.{OutcomeSays};
 ghost use Rattle.cdcl.specs.Outcome.{outcome_of};
 ghost use Rattle.cdcl.specs.Solving.{IsReadyBy, IsRootOf};
@@ -72,11 +72,11 @@ impl Searcher {
         budget: u32,
         watcher: &W,
     ) -> Result<Outcome<Row>, AllocError>
-        requires ready { (F : Formula) × (plan : plans.Plan) × IsReadyBy plan F self.old × IsOver F.vars cube.now × (budget ≡ budget_of plan.budget cube.now) }
-        requires budget { (1 ≤ budget) × (budget ≤ max_budget) }
-        ensures runs { IfOk result (λ o. (F : Formula) (plan : plans.Plan) → IsReadyBy plan F self.old → budget ≡ budget_of plan.budget cube.now →
+        requires ready { (F : Formula) × (plan : plans.Plan) × IsReadyBy plan F self.old × IsOver F.vars cube.now × (budget ≡ cube_budget plan cube.now) }
+        requires budget { (1 ≤ budget) × (budget ≤ max_focused) }
+        ensures runs { IfOk result (λ o. (F : Formula) (plan : plans.Plan) → IsReadyBy plan F self.old → budget ≡ cube_budget plan cube.now →
             Runs F plan cube.now (outcome_of o)) }
-        ensures says { IfOk result (λ o. (F : Formula) (plan : plans.Plan) → IsReadyBy plan F self.old → budget ≡ budget_of plan.budget cube.now →
+        ensures says { IfOk result (λ o. (F : Formula) (plan : plans.Plan) → IsReadyBy plan F self.old → budget ≡ cube_budget plan cube.now →
             IsOver F.vars cube.now → OutcomeSays plan.search F cube.now (outcome_of o)) }
         ensures ready { OnOk result ((F : Formula) (plan : plans.Plan) → IsReadyBy plan F self.old → IsReadyBy plan F self.new) }
     {

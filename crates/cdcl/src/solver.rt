@@ -23,8 +23,8 @@ use std::snapshot::Snapshot;
 /// Solves cubes of one formula by one plan. The formula's clauses are copied once, with a unit
 /// clause for each of its pure literals, and the room for analysis is made once, so that a cube
 /// costs what its search does and not what the formula holds. A cube's budget is the root's times
-/// one more than the cube's literals, and at most 1,000,000. Where the plan wants a division, the
-/// first cube of few literals is preceded by a search of up to 20,000 conflicts, which says whether
+/// one more than the cube's literals, and at most 1,000,000, or with the focused search
+/// 1,000,000,000. Where the plan wants a division, the first cube of few literals is preceded by a search of up to 20,000 conflicts, which says whether
 /// the formula is divided. Once a call has met want of memory, each later one answers it.
 pub struct Solver {
     search: Searcher,
@@ -143,7 +143,7 @@ impl Solver {
         if watcher.stops() {
             return Err(AllocError);
         }
-        let conflicts = budget_of(self.plan.budget(), cube.lits().len());
+        let conflicts = budget_of(&self.plan, cube.lits().len());
         let outcome = self.search.solve(cube, conflicts, watcher)?;
         watcher.counted(self.search.counts());
         self.short = false;

@@ -21,13 +21,20 @@ plan_asked s budget divide = record {
   divide = cubes_wanted s divide;
 }
 
+-- the greatest budget that may be asked for: of the ordered search, also where it is tried first,
+-- and of the focused one
+abbrev pub most_asked : Choice → ℕ
+most_asked Automatic = 100000
+most_asked Ordered = 100000
+most_asked Focused = 1000000000
+
 -- the strategy that is asked for, where any model will do or not: with the automatic choice the
--- ordered search has this budget, and the focused one behind it has its own
-abbrev pub strategy_asked : Choice → ℕ → Option ℕ → Bool → Strategy
-strategy_asked Automatic budget divide any_model = record {
+-- ordered search has this budget, and the focused one behind it the second one
+abbrev pub strategy_asked : Choice → ℕ → ℕ → Option ℕ → Bool → Strategy
+strategy_asked Automatic budget behind divide any_model = record {
   first = Some budget;
-  plan = plan_asked search.Focused 100000 divide;
+  plan = plan_asked search.Focused behind divide;
   lowers = if any_model then false else true;
 }
-strategy_asked Ordered budget divide any_model = by_plan (plan_asked search.Ordered budget divide)
-strategy_asked Focused budget divide any_model = by_plan (plan_asked search.Focused budget divide)
+strategy_asked Ordered budget behind divide any_model = by_plan (plan_asked search.Ordered budget divide)
+strategy_asked Focused budget behind divide any_model = by_plan (plan_asked search.Focused budget divide)

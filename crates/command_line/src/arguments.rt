@@ -1,6 +1,6 @@
 //! The command line.
 
-use crate::effort::{Asked, Choice, FOCUSED_BUDGET};
+use crate::effort::{Asked, Choice, FOCUSED_BUDGET, SPREAD_BUDGET, greatest_budget};
 use crate::refusals::refusal_of;
 use crate::spread_arguments::{
     Spread, conquer_command, conquer_request, divide_command, divide_request, gather_command,
@@ -13,9 +13,6 @@ use std::alloc::{AllocError, Global};
 
 /// The name by which a command line asks for standard input.
 pub const STANDARD_INPUT: &str = "-";
-
-/// The largest budget.
-pub const MAX_BUDGET: u32 = 100_000;
 
 /// The budget of the ordered search, where none is asked for, also where it is tried first.
 const ORDERED_BUDGET: u32 = 1000;
@@ -54,6 +51,12 @@ const VERBOSE: &str = "Print to standard error what is done, and what a fault or
 const FORMULA_FILE: &str = "The formula, in DIMACS CNF; - is standard input";
 
 const PROOF_FILE: &str = "The proof, in LRAT; - is standard input";
+
+const SOLVE_BUDGET: &str =
+    "Conflicts that the first cube may have before it is split, 1 to 100000, or 1000000000 with the focused search; a cube of d literals has d + 1 times as many, at most 1000000, or 1000000000; with the automatic search, those of the ordered search that it tries first [default: 1000, or 100000000 with the focused search]";
+
+const BUDGET_TOO_GREAT: &str =
+    "only the focused search has budgets above 100000; give --search focused too, or a smaller budget";
 
 const DISTINCT_STATUS: &str = "Exit with status 2 on a fault, and with 1 for a refused proof alone";
 
@@ -111,14 +114,12 @@ pub(crate) fn search_option<'a>(alloc: Global) -> Arg<'a> {
         )
 }
 
-pub(crate) fn budget_option<'a>(alloc: Global) -> Arg<'a> {
+pub(crate) fn budget_option<'a>(alloc: Global, help: &'a str) -> Arg<'a> {
     Arg::new(alloc, "budget")
         .long("budget")
         .value_name("N")
-        .value_parser(clap::value_parser!(u32).range(1..=100_000))
-        .help(
-            "Conflicts that the first cube may have before it is split, 1 to 100000; a cube of d literals has d + 1 times as many, at most 1000000; with the automatic search, those of the ordered search that it tries first [default: 1000, or 100000 with the focused search]",
-        )
+        .value_parser(clap::value_parser!(u32).range(1..=1_000_000_000))
+        .help(help)
 }
 
 fn divide_option<'a>(alloc: Global) -> Arg<'a> {
@@ -172,7 +173,7 @@ pub(crate) fn word<'a>(alloc: Global, name: &'a str, help: &'a str) -> Arg<'a> {
 fn with_search<'a>(alloc: Global, command: Command<'a>) -> Result<Command<'a>, AllocError> {
     command
         .arg(search_option(alloc))?
-        .arg(budget_option(alloc))?
+        .arg(budget_option(alloc, SOLVE_BUDGET))?
         .arg(divide_option(alloc))?
         .arg(any_model_flag(alloc))?
         .arg(hands_option(alloc))?
@@ -279,16 +280,16 @@ fn choice_named(name: &str) -> Option<Choice> {
     }
 }
 
-/// How a formula is to be decided, and the budget. Where a budget is named and no search, it is the
-/// ordered search.
-pub(crate) fn choice_in(matches: &ArgMatches<'_>) -> Option<(Choice, u32)> {
+/// How a formula is to be decided, and the budget; where none is named that of the focused search is
+/// `focused`. Where a budget is named and no search, it is the ordered search.
+pub(crate) fn choice_in(matches: &ArgMatches<'_>, focused: u32) -> Option<(Choice, u32)> {
     let budget = matches.get_one::<u32>("budget");
     let choice = match matches.get_str("search") {
         Some(name) => choice_named(name)?,
         None if budget.is_some() => Choice::Ordered,
         None => Choice::Automatic,
     };
-    Some((choice, budget.unwrap_or(default_budget(choice))))
+    Some((choice, budget.unwrap_or(default_budget(choice, focused))))
 }
 
 /// How large the formula and the proof may be.
@@ -300,11 +301,11 @@ pub(crate) fn limits_of(matches: &ArgMatches<'_>) -> Limits {
     }
 }
 
-/// The budget of the root where none is asked for.
-fn default_budget(choice: Choice) -> u32 {
+/// The budget of the root where none is asked for, if that of the focused search is this one.
+fn default_budget(choice: Choice, focused: u32) -> u32 {
     match choice {
         Choice::Automatic | Choice::Ordered => ORDERED_BUDGET,
-        Choice::Focused => FOCUSED_BUDGET,
+        Choice::Focused => focused,
     }
 }
 
@@ -320,13 +321,13 @@ fn shown_of(matches: &ArgMatches<'_>) -> Shown {
 /// How a formula is to be solved. The command has been built so that each value is there and in its
 /// range; this is tested again, since no clause of the parser's says it of a subcommand.
 fn asked_in(matches: &ArgMatches<'_>) -> Option<Asked> {
-    let (choice, budget) = choice_in(matches)?;
+    let (choice, budget) = choice_in(matches, FOCUSED_BUDGET)?;
     let divide = match matches.get_one::<u32>("divide") {
         Some(cubes) if cubes > MAX_DIVIDE => return None,
         divide => divide,
     };
     let hands = matches.get_one::<u32>("hands")?;
-    if budget < 1 || budget > MAX_BUDGET || hands < 1 || hands > MAX_HANDS {
+    if budget < 1 || budget > greatest_budget(choice) || hands < 1 || hands > MAX_HANDS {
         return None;
     }
     Some(Asked {
@@ -382,19 +383,37 @@ fn request_in<'a>(matches: &ArgMatches<'a>) -> Option<Request<'a>> {
     }
 }
 
-/// The request that these words make of the command, if they make one.
+/// Whether what matched the words asks for a greater budget than its search has.
+fn is_budget_too_great(matches: &ArgMatches<'_>) -> bool {
+    let Some((name, matches)) = matches.subcommand() else {
+        return false;
+    };
+    match name {
+        "solve" | "divide" => match choice_in(matches, SPREAD_BUDGET) {
+            Some((choice, budget)) => budget > greatest_budget(choice),
+            None => false,
+        },
+        _ => false,
+    }
+}
+
+/// The request that these words make of the command, or why they make none.
 fn parsed<'a>(
     command: &mut Command<'a>,
     words: &'a [&'a str],
-) -> Result<Option<Request<'a>>, Error> {
+) -> Result<Result<Request<'a>, &'static str>, Error> {
     let matches = command.try_get_matches_from_mut(words)?;
-    Ok(request_in(&matches))
+    if is_budget_too_great(&matches) {
+        return Ok(Err(BUDGET_TOO_GREAT));
+    }
+    Ok(request_in(&matches).ok_or("no request"))
 }
 
 /// What the words ask for by this command.
 fn request_by<'a>(command: &mut Command<'a>, words: &'a [&'a str]) -> Result<Request<'a>, Error> {
-    let Some(request) = parsed(command, words)? else {
-        return Err(command.error(ErrorKind::InvalidValue, "no request")?);
+    let request = match parsed(command, words)? {
+        Ok(request) => request,
+        Err(message) => return Err(command.error(ErrorKind::ArgumentConflict, message)?),
     };
     match refusal_of(&request) {
         Some(message) => Err(command.error(ErrorKind::ArgumentConflict, message)?),

@@ -1,15 +1,20 @@
 //! How a formula is to be solved: as the command line says, and as a run takes it.
 ghost use Rattle.std.specs.Prelude.{◌≡◌, ◌≤◌, IfSome};
 ghost use Rattle.std.proofs.Props.{props};
-ghost use Rattle.command_line.specs.Arguments.{plan_asked, strategy_asked};
+ghost use Rattle.command_line.specs.Arguments.{most_asked, plan_asked, strategy_asked};
+ghost use Rattle.cdcl.specs.declared.plan.Search.TheVariants as search;
 
-use cdcl::{Plan, Search};
+use cdcl::Plan;
 use cnf::Limits;
 use strategies::Strategy;
 
-/// The budget of the focused search, where none is asked for. It loses more by a split than the
-/// ordered one, since both halves begin from nothing.
-pub(crate) const FOCUSED_BUDGET: u32 = 100_000;
+/// The budget of the focused search, where none is asked for: so much that a formula which isn't
+/// divided is one cube. It loses by a split, since both halves begin from nothing.
+pub(crate) const FOCUSED_BUDGET: u32 = 100_000_000;
+
+/// That of a run that is spread over machines: a cube that takes longer than a part of a round may
+/// is split in the end, and so doesn't hold up the run.
+pub const SPREAD_BUDGET: u32 = 100_000;
 
 /// Into how many cubes the focused search divides a formula, where no number is asked for.
 const FOCUSED_DIVIDE: u32 = 64;
@@ -27,8 +32,8 @@ pub enum Choice {
 #[derive(Clone, Copy)]
 pub struct Asked {
     pub choice: Choice,
-    /// The budget of the root, 1 to 100,000 conflicts; with the automatic choice that of the ordered
-    /// search which is tried first.
+    /// The budget of the root, in conflicts: 1 to `greatest_budget`; with the automatic choice that of
+    /// the ordered search which is tried first.
     pub budget: u32,
     /// Into how many cubes the formula is to be divided, 0 to 65,536, if that is asked for.
     pub divide: Option<u32>,
@@ -39,7 +44,7 @@ pub struct Asked {
     /// After how many seconds a run ends without a verdict, if it isn't solved by then.
     pub seconds: Option<u32>,
     pub limits: Limits,
-    ghost fit: { (1 ≤ budget) × (budget ≤ 100000) × IfSome divide (λ cubes. cubes ≤ 65536) × (1 ≤ hands) × (hands ≤ 16) } by { Prim.hlevel props },
+    ghost fit: { (1 ≤ budget) × (budget ≤ most_asked choice) × IfSome divide (λ cubes. cubes ≤ 65536) × (1 ≤ hands) × (hands ≤ 16) } by { Prim.hlevel props },
 }
 
 /// What a run takes.
@@ -54,25 +59,32 @@ pub struct Effort {
     ghost hands_fit: { (1 ≤ hands) × (hands ≤ 16) },
 }
 
-/// The plan that is asked for: a search, with this budget for the root, and for the focused one into
-/// how many cubes a formula is divided, if a number is given.
-fn plan_of(search: Search, budget: u32, divide: Option<u32>) -> Plan
-    requires { (1 ≤ budget) × (budget ≤ 100000) × IfSome divide (λ cubes. cubes ≤ 65536) }
-    ensures { result ≡ plan_asked search budget divide }
+/// The greatest budget that may be asked for.
+pub fn greatest_budget(choice: Choice) -> u32
+    ensures { result ≡ most_asked choice }
 {
-    match search {
-        Search::Ordered => Plan::ordered(budget),
-        Search::Focused => Plan::focused(budget).divided(divide.unwrap_or(FOCUSED_DIVIDE)),
+    match choice {
+        Choice::Automatic | Choice::Ordered => 100_000,
+        Choice::Focused => 1_000_000_000,
     }
 }
 
-/// The ordered search with this budget, and behind it the focused one with its own.
-fn automatic(budget: u32, divide: Option<u32>, any_model: bool) -> Strategy
-    requires { (1 ≤ budget) × (budget ≤ 100000) × IfSome divide (λ cubes. cubes ≤ 65536) }
-    ensures { result ≡ strategy_asked Choice.Automatic budget divide any_model }
+/// The focused search with this budget for the root, and into how many cubes a formula is divided, if
+/// a number is given.
+fn focused(budget: u32, divide: Option<u32>) -> Plan
+    requires { (1 ≤ budget) × (budget ≤ 1000000000) × IfSome divide (λ cubes. cubes ≤ 65536) }
+    ensures { result ≡ plan_asked search.Focused budget divide }
 {
-    let plan = plan_of(Search::Focused, FOCUSED_BUDGET, divide);
-    let strategy = Strategy::automatic(budget, plan);
+    Plan::focused(budget).divided(divide.unwrap_or(FOCUSED_DIVIDE))
+}
+
+/// The ordered search with this budget, and behind it the focused one with another.
+fn automatic(budget: u32, behind: u32, divide: Option<u32>, any_model: bool) -> Strategy
+    requires asked { (1 ≤ budget) × (budget ≤ 100000) × IfSome divide (λ cubes. cubes ≤ 65536) }
+    requires behind { (1 ≤ behind) × (behind ≤ 1000000000) }
+    ensures { result ≡ strategy_asked Choice.Automatic budget behind divide any_model }
+{
+    let strategy = Strategy::automatic(budget, focused(behind, divide));
     if any_model {
         strategy.with_any_model()
     } else {
@@ -80,29 +92,43 @@ fn automatic(budget: u32, divide: Option<u32>, any_model: bool) -> Strategy
     }
 }
 
-/// The strategy that is asked for.
-pub fn strategy_of(choice: Choice, budget: u32, divide: Option<u32>, any_model: bool) -> Strategy
-    requires { (1 ≤ budget) × (budget ≤ 100000) × IfSome divide (λ cubes. cubes ≤ 65536) }
-    ensures { result ≡ strategy_asked choice budget divide any_model }
+/// The strategy that is asked for; with the automatic choice the focused search has the budget
+/// `behind`, 1 to 1,000,000,000.
+pub fn strategy_of(
+    choice: Choice,
+    budget: u32,
+    behind: u32,
+    divide: Option<u32>,
+    any_model: bool,
+) -> Strategy
+    requires asked { (1 ≤ budget) × (budget ≤ most_asked choice) × IfSome divide (λ cubes. cubes ≤ 65536) }
+    requires behind { (1 ≤ behind) × (behind ≤ 1000000000) }
+    ensures { result ≡ strategy_asked choice budget behind divide any_model }
 {
     match choice {
-        Choice::Automatic => automatic(budget, divide, any_model),
-        Choice::Ordered => Strategy::of(plan_of(Search::Ordered, budget, divide)),
-        Choice::Focused => Strategy::of(plan_of(Search::Focused, budget, divide)),
+        Choice::Automatic => automatic(budget, behind, divide, any_model),
+        Choice::Ordered => Strategy::of(Plan::ordered(budget)),
+        Choice::Focused => Strategy::of(focused(budget, divide)),
     }
 }
 
 impl Asked {
     /// What a run takes that does what is asked for.
     pub fn effort(self) -> Effort
-        ensures strategy { result.strategy ≡ strategy_asked self.choice self.budget self.divide self.any_model }
+        ensures strategy { result.strategy ≡ strategy_asked self.choice self.budget 100000000 self.divide self.any_model }
         ensures hands { result.hands ≡ self.hands }
         ensures seconds { result.seconds ≡ self.seconds }
         ensures limits { result.limits ≡ self.limits }
     {
         Effort {
             limits: self.limits,
-            strategy: strategy_of(self.choice, self.budget, self.divide, self.any_model),
+            strategy: strategy_of(
+                self.choice,
+                self.budget,
+                FOCUSED_BUDGET,
+                self.divide,
+                self.any_model,
+            ),
             hands: self.hands,
             seconds: self.seconds,
         }

@@ -3,13 +3,16 @@
 use crate::arguments::{
     any_model_flag, budget_option, choice_in, flag, limits_of, search_option, word,
 };
-use crate::effort::Choice;
+use crate::effort::{Choice, SPREAD_BUDGET};
 use clap::{Arg, ArgMatches, Command};
 use cnf::Limits;
 use std::alloc::{AllocError, Global};
 
 const LARGE: &str =
     "Read a formula of up to 100,000,000 variables, 1,000,000,000 clauses and 1 TiB of text";
+
+const DIVIDE_BUDGET: &str =
+    "Conflicts that the first cube may have before it is split, 1 to 100000, or 1000000000 with the focused search; a cube of d literals has d + 1 times as many, at most 1000000, or 1000000000; with the automatic search, those of the ordered search that it tries first [default: 1000, or 100000 with the focused search]";
 
 const RUN: &str = "The folder of the run";
 
@@ -21,8 +24,8 @@ pub enum Spread<'a> {
         into: &'a str,
         formula: &'a str,
         choice: Choice,
-        /// The budget of the root, 1 to 100,000 conflicts; with the automatic choice that of the
-        /// ordered search which is tried first.
+        /// The budget of the root, in conflicts; with the automatic choice that of the ordered search
+        /// which is tried first.
         budget: u32,
         /// Whether any model will do where the automatic choice would give the first one.
         any_model: bool,
@@ -125,7 +128,7 @@ pub(crate) fn divide_command<'a>(alloc: Global) -> Result<Command<'a>, AllocErro
         )
         .arg(into_option(alloc))?
         .arg(search_option(alloc))?
-        .arg(budget_option(alloc))?
+        .arg(budget_option(alloc, DIVIDE_BUDGET))?
         .arg(wanted_option(alloc))?
         .arg(any_model_flag(alloc))?
         .arg(flag(alloc, "large", LARGE))?
@@ -162,7 +165,7 @@ pub(crate) fn divide_request<'a>(matches: &ArgMatches<'a>) -> Option<Spread<'a>>
     let Some(formula) = matches.get_str("FORMULA") else {
         return Some(Spread::Next { into });
     };
-    let (choice, budget) = choice_in(matches)?;
+    let (choice, budget) = choice_in(matches, SPREAD_BUDGET)?;
     Some(Spread::Begin {
         into,
         formula,

@@ -2,7 +2,7 @@
 
 use crate::gathering_hands::{gather_at_once_by, gather_stored_by};
 use cnf::{Limits, ReadFault, read_formula_within};
-use command_line::{Choice, MAX_BUDGET, MAX_DIVIDE, Part, Spread, strategy_of};
+use command_line::{Choice, MAX_DIVIDE, Part, SPREAD_BUDGET, Spread, greatest_budget, strategy_of};
 use commands::{
     FAILED, Input, Known, PlacedProof, SATISFIABLE, UNSATISFIABLE, begin_proof, open_input,
     print_fault_of, print_no_memory, print_not_begun, print_not_opened,
@@ -294,10 +294,10 @@ where
 /// How a run's formula is decided, if the numbers are in their ranges, as those of a command line
 /// are. The focused search wants as many cubes as are to be open.
 fn strategy_asked(choice: Choice, budget: u32, wanted: u32, any_model: bool) -> Option<Strategy> {
-    if budget < 1 || budget > MAX_BUDGET || wanted > MAX_DIVIDE {
+    if budget < 1 || budget > greatest_budget(choice) || wanted > MAX_DIVIDE {
         return None;
     }
-    Some(strategy_of(choice, budget, Some(wanted), any_model))
+    Some(strategy_of(choice, budget, SPREAD_BUDGET, Some(wanted), any_model))
 }
 
 /// Makes a run; the status.

@@ -274,7 +274,7 @@ static RUNS: [Row; 10] = [
         begins: &[
             "c reading the formula from ",
             "FORMULA",
-            "\nc solving it by the focused search, hands 3, budget 100000 conflicts\nc dividing it into cubes, 64 wanted, if its first conflicts tell that this helps\nc writing the proof to ",
+            "\nc solving it by the focused search, hands 3, budget 100000000 conflicts\nc dividing it into cubes, 64 wanted, if its first conflicts tell that this helps\nc writing the proof to ",
             "PROOF",
             "\n",
         ],

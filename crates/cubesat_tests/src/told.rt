@@ -43,7 +43,7 @@ const SAID: Row = Row {
     status: 1,
     answer: NOTHING,
     faults: Known::Piece(
-        "\nc solving it by the focused search, hands 1, budget 100000 conflicts\n",
+        "\nc solving it by the focused search, hands 1, budget 100000000 conflicts\n",
     ),
 };
 
@@ -68,7 +68,7 @@ const IN_FOLDERS: Row = Row {
     ..REFUSED
 };
 
-static ROWS: [Row; 20] = [
+static ROWS: [Row; 24] = [
     SHOWN,
     Row {
         words: &["./another_name", "--version"],
@@ -105,7 +105,7 @@ static ROWS: [Row; 20] = [
             "MISSING",
         ],
         faults: Known::Piece(
-            "budget 100000 conflicts\nc dividing it into cubes, 64 wanted, if its first conflicts tell that this helps\nc writing no proof\n",
+            "budget 100000000 conflicts\nc dividing it into cubes, 64 wanted, if its first conflicts tell that this helps\nc writing no proof\n",
         ),
         ..SAID
     },
@@ -121,7 +121,7 @@ static ROWS: [Row; 20] = [
             "MISSING",
         ],
         faults: Known::Piece(
-            "budget 100000 conflicts\nc dividing it into cubes, 2 wanted, if its first conflicts tell that this helps\nc writing no proof\n",
+            "budget 100000000 conflicts\nc dividing it into cubes, 2 wanted, if its first conflicts tell that this helps\nc writing no proof\n",
         ),
         ..SAID
     },
@@ -136,7 +136,7 @@ static ROWS: [Row; 20] = [
             "1",
             "MISSING",
         ],
-        faults: Known::Piece("budget 100000 conflicts\nc writing no proof\n"),
+        faults: Known::Piece("budget 100000000 conflicts\nc writing no proof\n"),
         ..SAID
     },
     Row {
@@ -218,6 +218,60 @@ static ROWS: [Row; 20] = [
         ],
         faults: Known::Beginning("error: invalid value '4294967297' for '--divide <N>': "),
         ..REFUSED
+    },
+    // budgets above those of the search
+    Row {
+        words: &["cubesat", "solve", "--budget", "100001", "MISSING"],
+        faults: Known::Beginning(
+            "error: only the focused search has budgets above 100000; give --search focused too, or a smaller budget\n",
+        ),
+        ..REFUSED
+    },
+    Row {
+        words: &[
+            "cubesat",
+            "solve",
+            "--search",
+            "automatic",
+            "--budget",
+            "1000000000",
+            "MISSING",
+        ],
+        faults: Known::Beginning(
+            "error: only the focused search has budgets above 100000; give --search focused too, or a smaller budget\n",
+        ),
+        ..REFUSED
+    },
+    Row {
+        words: &[
+            "cubesat",
+            "solve",
+            "--search",
+            "focused",
+            "--budget",
+            "1000000001",
+            "MISSING",
+        ],
+        faults: Known::Beginning(
+            "error: invalid value '1000000001' for '--budget <N>': 1000000001 is not in 1..=1000000000\n",
+        ),
+        ..REFUSED
+    },
+    Row {
+        words: &[
+            "cubesat",
+            "solve",
+            "--verbose",
+            "--search",
+            "focused",
+            "--budget",
+            "1000000000",
+            "--divide",
+            "0",
+            "MISSING",
+        ],
+        faults: Known::Piece("budget 1000000000 conflicts\nc writing no proof\n"),
+        ..SAID
     },
     // runs in folders are for a call that lists these
     IN_FOLDERS,

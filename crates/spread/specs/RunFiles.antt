@@ -11,6 +11,11 @@ use Rattle.cdcl.specs.declared.plan.Search.TheVariants.{Ordered, Focused}
 use Rattle.spread.specs.declared.run_file.RunFile.{RunFile}
 use Rattle.spread.specs.Sums.{sum_of}
 
+-- the greatest budget of a root
+abbrev pub most_at_root : Search → ℕ
+most_at_root Ordered = 100000
+most_at_root Focused = 1000000000
+
 -- the plan of these numbers; the ordered search divides nothing
 abbrev pub plan_by : Search → (budget divide : ℕ) → Plan
 plan_by Ordered budget divide = ordered_within budget

@@ -3,7 +3,7 @@ ghost use Rattle.std.specs.Prelude.{◌≡◌, ◌≤◌, ◌↔◌, IfOk, IfSom
 ghost use Rattle.theory.specs.Reading.{ReadsWithin, formula};
 ghost use Rattle.cnf.specs.Limits.{limits_of};
 ghost use Rattle.spread.specs.Sums.{sum_of};
-ghost use Rattle.spread.specs.RunFiles.{plan_by, written_by, IsFormulaOf};
+ghost use Rattle.spread.specs.RunFiles.{most_at_root, plan_by, written_by, IsFormulaOf};
 
 use crate::files::read_file;
 use crate::folder::Folder;
@@ -18,8 +18,15 @@ use std::str;
 use std::str::Lines;
 use strategies::Strategy;
 
-/// The largest budget of a root.
-const MAX_BUDGET: u32 = 100_000;
+/// The greatest budget of a root by each search.
+fn greatest_budget(search: Search) -> u32
+    ensures { result ≡ most_at_root search }
+{
+    match search {
+        Search::Ordered => 100_000,
+        Search::Focused => 1_000_000_000,
+    }
+}
 
 /// The most cubes that a formula may be divided into.
 const MAX_DIVIDE: u32 = 65_536;
@@ -27,9 +34,9 @@ const MAX_DIVIDE: u32 = 65_536;
 /// The plan of these numbers, if they are in their ranges.
 fn plan_of(search: Search, budget: u32, divide: u32) -> Option<Plan>
     ensures plan { IfSome result (λ plan. plan ≡ plan_by search budget divide) }
-    ensures some { IsSome result ↔ ((1 ≤ budget) × (budget ≤ 100000) × (divide ≤ 65536)) }
+    ensures some { IsSome result ↔ ((1 ≤ budget) × (budget ≤ most_at_root search) × (divide ≤ 65536)) }
 {
-    if budget < 1 || budget > MAX_BUDGET || divide > MAX_DIVIDE {
+    if budget < 1 || budget > greatest_budget(search) || divide > MAX_DIVIDE {
         return None;
     }
     Some(match search {

@@ -5,7 +5,7 @@ use samples::FOUR;
 use std::test::Fail;
 
 /// The least and the greatest number of each, and the ones beside them.
-static RANGES: [Step; 28] = [
+static RANGES: [Step; 29] = [
     Step::Ends(Row {
         words: &[
             "cubesat",
@@ -46,7 +46,21 @@ static RANGES: [Step; 28] = [
         ],
         status: 1,
         answer: "",
-        faults: "error: invalid value '0' for '--budget <N>': 0 is not in 1..=100000\n",
+        faults: "error: invalid value '0' for '--budget <N>': 0 is not in 1..=1000000000\n",
+    }),
+    Step::Ends(Row {
+        words: &[
+            "cubesat",
+            "divide",
+            "--into",
+            "spread_options",
+            "--budget",
+            "100001",
+            "spread_options.cnf",
+        ],
+        status: 1,
+        answer: "",
+        faults: "error: only the focused search has budgets above 100000; give --search focused too, or a smaller budget\n",
     }),
     Step::Ends(Row {
         words: &["cubesat", "divide", "--into", "spread_options", "-"],

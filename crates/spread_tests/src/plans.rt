@@ -49,7 +49,7 @@ static PLANS: [Step; 8] = [
             "--search",
             "focused",
             "--budget",
-            "7",
+            "1000000000",
             "--divide",
             "65536",
             "--large",
@@ -61,7 +61,7 @@ static PLANS: [Step; 8] = [
     }),
     Step::Holds(
         "spread_plans3/run",
-        "cubesat run 1\nsearch focused\nbudget 7\ndivide 65536\nlimits large\nformula bdcfed14408fb3f368fe82437336d283a9dedc953677460e9c7317724c5e1e58\n",
+        "cubesat run 1\nsearch focused\nbudget 1000000000\ndivide 65536\nlimits large\nformula bdcfed14408fb3f368fe82437336d283a9dedc953677460e9c7317724c5e1e58\n",
     ),
     Step::Ends(Row {
         words: &[

@@ -11,7 +11,7 @@ use Rattle.theory.specs.Trails.{Trail, literals, current_level, cube_trail, deci
 use Rattle.theory.specs.Propagation.{Closed, quiet, conflict, by_place, Propagates}
 use Rattle.theory.specs.Learning.{Line, learn, back_level}
 use Rattle.theory.specs.Lessons.{Lesson, lesson_of}
-use Rattle.theory.specs.Search.{Outcome, model, refuted, exhausted, first_clauses, budget_of, values, Next, ends, goes_on, RunsFrom}
+use Rattle.theory.specs.Search.{Outcome, model, refuted, exhausted, first_clauses, budget_within, max_focused, values, Next, ends, goes_on, RunsFrom}
 use Rattle.theory.specs.Modes.{Pace, first_pace, is_restarting, pace_after}
 use Rattle.theory.specs.Scores.{Scores, first_scores, best_outside, is_seen, scores_after}
 use Rattle.theory.specs.Restarts.{Glues, no_glues, glues_after, restarts}
@@ -153,4 +153,4 @@ pub record IsFocusedStep (c : Constants) (V budget : ℕ) (s : FocusedState) (ne
 
 -- the outcome of the cube Q, where B is the budget of the root
 abbrev pub RunsFocused : Constants → Formula → ℕ → List Literal → Outcome → Type 0
-RunsFocused c F B Q o = RunsFrom (IsFocusedStep c F.vars (budget_of B Q)) (begin c F Q) o
+RunsFocused c F B Q o = RunsFrom (IsFocusedStep c F.vars (budget_within max_focused B Q)) (begin c F Q) o

@@ -6,7 +6,7 @@ use Rattle.theory.specs.Truth.{Formula}
 use Rattle.theory.specs.Plans.{Constants}
 use Rattle.theory.specs.Trails.{Trail, literals}
 use Rattle.theory.specs.Propagation.{Closed, quiet, conflict, Rule, by_number, by_place, Propagates, clashes, grows, rests, unit_entry, least_false}
-use Rattle.theory.specs.Search.{Outcome, model, refuted, exhausted, Next, ends, goes_on, RunsFrom, stops, steps, budget_of}
+use Rattle.theory.specs.Search.{Outcome, model, refuted, exhausted, Next, ends, goes_on, RunsFrom, stops, steps, budget_of, budget_within, max_focused}
 use Rattle.theory.specs.Ordered.{OrderedState, after, begin}
 use Rattle.theory.specs.Focused as focused
 use Rattle.theory.specs.Focused.{FocusedState}
@@ -88,7 +88,7 @@ abbrev pub focused_step : Constants → ℕ → ℕ → ℕ → FocusedState →
 focused_step c m V budget s = then_focused c V budget s (close_within by_place m s.clauses s.trail)
 
 abbrev pub run_focused : Constants → ℕ → Formula → ℕ → List Literal → Option Outcome
-run_focused c n F B Q = run_within n (focused_step c n F.vars (budget_of B Q)) (focused.begin c F Q)
+run_focused c n F B Q = run_within n (focused_step c n F.vars (budget_within max_focused B Q)) (focused.begin c F Q)
 
 -- a tree, by a function that gives the outcomes of its cubes where it can
 abbrev pub both : ℕ → Option Tree → Option Tree → Option Tree

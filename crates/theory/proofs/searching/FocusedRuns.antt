@@ -9,7 +9,7 @@ use Rattle.theory.specs.Propagation.{Closed, quiet, conflict, by_place, least_fa
 use Rattle.theory.specs.Learning.{Line, learn, learn_removing, back_level}
 use Rattle.theory.specs.Removing.{first_walk, removable}
 use Rattle.theory.specs.Lessons.{Lesson, lesson_of}
-use Rattle.theory.specs.Search.{Outcome, model, refuted, exhausted, Next, ends, goes_on, first_clauses, budget_of, values}
+use Rattle.theory.specs.Search.{Outcome, model, refuted, exhausted, Next, ends, goes_on, first_clauses, budget_within, max_focused, values}
 use Rattle.theory.specs.Scores.{Scores, best_outside}
 use Rattle.theory.specs.Restarts.{restarts}
 use Rattle.theory.specs.Rephasing.{is_over}
@@ -165,7 +165,7 @@ module _ (c : Constants) (V : ℕ) (P : List Clause → Trail → List Line → 
 pub RunsFocused-ends : (c : Constants) (F : Formula) (B : ℕ) (Q : List Literal) (o : Outcome) (P : List Clause → Trail → List Line → Type 0) → IsInvariant by_place F.vars P
     → P (first_clauses F) (cube_trail Q) [] → RunsFocused c F B Q o → EndsSo F.vars P o
 RunsFocused-ends c F B Q o P inv begins runs =
-    RunsFrom-says (IsFocusedStep c F.vars (budget_of B Q)) (Goes F.vars P) (step-goes c F.vars P inv (budget_of B Q)) (begin c F Q) o runs (record { kept = begins; marks = refl })
+    RunsFrom-says (IsFocusedStep c F.vars (budget_within max_focused B Q)) (Goes F.vars P) (step-goes c F.vars P inv (budget_within max_focused B Q)) (begin c F Q) o runs (record { kept = begins; marks = refl })
 
 -- a state of the focused search has one step, and so a cube has one outcome
 IsFocusedStep-unique : (c : Constants) (V budget : ℕ) (s : FocusedState) (m n : Next FocusedState) → IsFocusedStep c V budget s m → IsFocusedStep c V budget s n → m ≡ n
