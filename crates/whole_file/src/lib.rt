@@ -2,7 +2,12 @@
 #![tactic(auto)]
 
 mod destination;
+mod locks;
+mod not_made;
+mod part;
 mod writing;
 
 pub use destination::Destination;
+pub use locks::{Lock, Locks, NoLocks, SystemLocks};
+pub use not_made::NotMade;
 pub use writing::WholeFile;

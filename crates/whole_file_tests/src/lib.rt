@@ -5,6 +5,8 @@
 #[cfg(test)]
 mod folder;
 #[cfg(test)]
+mod in_use;
+#[cfg(test)]
 mod links;
 #[cfg(test)]
 mod place;
