@@ -4,11 +4,13 @@ ghost use Rattle.std.specs.Prelude.{◌≡◌};
 use std::io;
 use std::io::Write;
 
-/// Writes to another writer, and keeps the last error that it answered.
+/// Writes to another writer, and keeps the last error that it answered, and whether it was to write
+/// anything.
 #[derive(Drop)]
 pub struct NoticedWriter<O> {
     inner: O,
     error: Option<io::Error>,
+    is_begun: bool,
 }
 
 impl<O> NoticedWriter<O> {
@@ -16,12 +18,21 @@ impl<O> NoticedWriter<O> {
     pub fn of(inner: O) -> NoticedWriter<O>
         ensures { result.inner ≡ inner }
     {
-        NoticedWriter { inner, error: None }
+        NoticedWriter {
+            inner,
+            error: None,
+            is_begun: false,
+        }
     }
 
     /// The last error that a write or a flush answered, if any.
     pub fn error(&self) -> Option<io::Error> {
         self.error
+    }
+
+    /// Whether bytes were to be written, also where none of them was taken.
+    pub fn is_begun(&self) -> bool {
+        self.is_begun
     }
 }
 
@@ -29,6 +40,7 @@ impl<O: Write> Write for NoticedWriter<O> {
     ghost contents = { λ w. O.contents w.inner };
 
     fn write(&mut self, buf: &[u8]) -> io::Result<usize> {
+        self.is_begun = self.is_begun || !buf.is_empty();
         match self.inner.write(buf) {
             Ok(count) => Ok(count),
             Err(error) => {
