@@ -1,4 +1,4 @@
-//! When hands began and ended cubes.
+//! How long hands were at cubes.
 
 use crate::cube_counts::HANDS;
 
@@ -7,10 +7,12 @@ use crate::cube_counts::HANDS;
 pub struct HandTimes {
     /// When the first cube was begun, by any hand.
     first: Option<u64>,
+    /// When the last cube was ended, by any hand.
+    last: Option<u64>,
     /// When each hand began a cube last.
     began: [u64; HANDS],
-    /// When each hand ended a cube last.
-    ended: [Option<u64>; HANDS],
+    /// How long each hand was at cubes that it ended.
+    worked: [u64; HANDS],
 }
 
 /// How long hands waited, and how long they were there, all together and in milliseconds.
@@ -25,8 +27,9 @@ impl HandTimes {
     pub fn none() -> HandTimes {
         HandTimes {
             first: None,
+            last: None,
             began: [0; HANDS],
-            ended: [None; HANDS],
+            worked: [0; HANDS],
         }
     }
 
@@ -42,8 +45,10 @@ impl HandTimes {
 
     /// A hand ends its cube.
     pub fn end(&mut self, hand: usize, now: u64) {
-        if let Some(at) = self.ended.get_mut(hand) {
-            *at = Some(now);
+        self.last = Some(now);
+        let time = now.saturating_sub(self.began(hand));
+        if let Some(worked) = self.worked.get_mut(hand) {
+            *worked = worked.saturating_add(time);
         }
     }
 
@@ -55,20 +60,30 @@ impl HandTimes {
         }
     }
 
-    /// How long so many hands waited for the end of solving, each from the end of its last cube on,
-    /// or if it had none from the beginning of the first cube.
-    pub(crate) fn waited(&self, hands: usize, end: u64) -> Waited {
-        let first = self.first.unwrap_or(end);
-        let hands = hands.min(HANDS);
-        let mut waited = 0u64;
-        for ended in &self.ended[..hands] {
-            let last = ended.unwrap_or(first);
-            waited = waited.saturating_add(end.saturating_sub(last));
+    /// How long one thread alone was at work between these times: before the first cube, when it
+    /// searches first or asks whether to divide, and behind the last one, when it lowers a model.
+    fn alone(&self, from: u64, end: u64) -> u64 {
+        match (self.first, self.last) {
+            (Some(first), Some(last)) => {
+                let before = first.saturating_sub(from);
+                before.saturating_add(end.saturating_sub(last))
+            }
+            _ => end.saturating_sub(from),
         }
-        let time = end.saturating_sub(first);
+    }
+
+    /// How long so many hands had no cube between these times, of which one is at work where no hand
+    /// has a cube yet or any more.
+    pub(crate) fn waited(&self, hands: usize, from: u64, end: u64) -> Waited {
+        let hands = hands.min(HANDS);
+        let all = end.saturating_sub(from).saturating_mul(hands as u64);
+        let mut worked = self.alone(from, end);
+        for time in &self.worked[..hands] {
+            worked = worked.saturating_add(*time);
+        }
         Waited {
-            waited,
-            all: time.saturating_mul(hands as u64),
+            waited: all.saturating_sub(worked),
+            all,
         }
     }
 }

@@ -52,15 +52,15 @@ fn print_cubes<E: Write>(out: &mut E, figures: &Figures) {
     };
 }
 
-/// Prints how long hands waited at the end of solving, where there are several.
+/// Prints how long hands waited while the formula was solved, where there are several.
 fn print_waits<E: Write>(out: &mut E, figures: &Figures, hands: usize) {
-    let Some(end) = figures.solved else {
+    let (Some(read), Some(solved)) = (figures.read, figures.solved) else {
         return;
     };
     if hands < 2 {
         return;
     }
-    let waited = figures.times.waited(hands, end.at);
+    let waited = figures.times.waited(hands, read.at, solved.at);
     let (seconds, milliseconds) = (waited.waited / 1000, waited.waited % 1000);
     let share = waited.waited.saturating_mul(1000).checked_div(waited.all);
     let share = share.unwrap_or(0);

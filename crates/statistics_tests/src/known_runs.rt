@@ -65,7 +65,7 @@ c search: 350000 conflicts, 1600000 decisions, 20000000 propagations, 750 restar
 c clauses: 338000 learnt, 80000 forgotten
 c cubes: 4 solved, at least 3 split, skipped unknown
 c solved by each hand: 3 1 0 0 0 0 0 0 0 0 0 0 0 0 0 0
-c hands waited: 154.500 s in all, 87.7 % of the hands' time
+c hands waited: 169.600 s in all, 88.3 % of the hands' time
 c proof: 2 lines, 7 bytes
 c reading: 0.500 s, peak memory 1024 KiB
 c solving: 12.000 s, peak memory 4096 KiB
@@ -88,7 +88,7 @@ c clauses: 338000 learnt, 80000 forgotten
 c cubes: 11 solved, 5 split, 0 skipped
 c learnt: 40 lines in refuted cubes, kept in 900 bytes
 c solved by each hand: 3 1
-c hands waited: 0.100 s in all, 5.0 % of the hands' time
+c hands waited: 0.102 s in all, 5.1 % of the hands' time
 c proof: 2 lines, 7 bytes
 c reading: 0.003 s
 c solving: 1.000 s

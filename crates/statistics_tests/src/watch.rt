@@ -120,15 +120,15 @@ c search: 0 conflicts, 0 decisions, 0 propagations, 0 restarts
 c clauses: 0 learnt, 0 forgotten
 c cubes: 3 solved, at least 1 split, skipped unknown
 c solved by each hand: 2 1
-c hands waited: 6.900 s in all, 43.1 % of the hands' time
+c hands waited: 6.600 s in all, 38.8 % of the hands' time
 c reading: 0.500 s
 c solving: 8.500 s
 c conflicts a second: 0
 ";
 
-/// Whether hands wait from 7.1 and from 4 seconds on, up to the ninth; both were there from the first
-/// second on.
-fn wait_from_last_cubes<R: Wait + Clock>(rt: &R, alloc: Global) -> Result<bool, Fail> {
+/// Whether hands wait where they have no cube, from half a second on up to the ninth: the second one all
+/// the time but 1.9 seconds. The first one is at work before the first cube and behind the last.
+fn wait_without_cubes<R: Wait + Clock>(rt: &R, alloc: Global) -> Result<bool, Fail> {
     let clock = Readings::new(&TIMES);
     let fake = Fake::by(rt, &clock);
     let strategy = Strategy::of(Plan::focused(1000));
@@ -189,7 +189,7 @@ fn count_by_stages<R: Wait + Clock>(rt: &R, alloc: Global) -> Result<bool, Fail>
 #[test]
 fn hands_and_stages(rt: HostRuntime) -> Result<(), Fail> {
     assert!(rt; are_told_apart(&rt, rt.alloc())?);
-    assert!(rt; wait_from_last_cubes(&rt, rt.alloc())?);
+    assert!(rt; wait_without_cubes(&rt, rt.alloc())?);
     assert!(rt; count_by_stages(&rt, rt.alloc())?);
     Ok(())
 }
