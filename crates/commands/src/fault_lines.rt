@@ -4,7 +4,7 @@ ghost use Rattle.std.specs.Prelude.{◌≡◌};
 use crate::input::shown_name;
 use crate::notes::{note_file, note_files, note_number};
 use crate::worded::{Known, say_fault};
-use messages::{say_no_memory, say_not_created, say_not_read};
+use messages::{Command, say_no_memory, say_not_created, say_not_read};
 use runs::RunFault;
 use statistics::Manner;
 use std::fs::Files;
@@ -48,8 +48,8 @@ pub fn print_fault<E: Write>(faults: &mut E, fault: RunFault) {
     };
 }
 
-/// Prints the line of a fault of a run, what happened, and, where that is to be explained, what it
-/// means; the status.
+/// Prints the line of a fault of a run that wasn't made by `solve`, what happened, and, where that is
+/// to be explained, what it means; the status.
 pub fn print_fault_of<R: Files, E: Write>(
     rt: &R,
     faults: &mut E,
@@ -59,8 +59,23 @@ pub fn print_fault_of<R: Files, E: Write>(
 ) -> u8
     ensures { result ≡ 1 }
 {
+    print_fault_by(rt, faults, fault, known, Command::Check, is_explained)
+}
+
+/// Prints the line of a fault of a run that this command made, what happened, and, where that is to
+/// be explained, what it means; the status.
+pub(crate) fn print_fault_by<R: Files, E: Write>(
+    rt: &R,
+    faults: &mut E,
+    fault: RunFault,
+    known: &Known<'_>,
+    command: Command,
+    is_explained: bool,
+) -> u8
+    ensures { result ≡ 1 }
+{
     print_fault(faults, fault);
-    say_fault(rt, faults, fault, known);
+    say_fault(rt, faults, fault, known, command);
     if is_explained {
         note_number(faults, fault.number());
         if let RunFault::Read(read) = fault {

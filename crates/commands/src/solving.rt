@@ -8,7 +8,7 @@ ghost use Rattle.commands.specs.Status.{solve_status, IsSolveStatus};
 ghost use Rattle.commands.specs.Ends.{SolveEnds};
 
 use crate::fault_lines::{
-    FAILED, Screen, print_fault_of, print_no_memory, print_not_created, print_not_opened,
+    FAILED, Screen, print_fault_by, print_no_memory, print_not_created, print_not_opened,
 };
 use crate::input::{open_input, shown_name};
 use crate::notes::{note_files, note_number, note_solve};
@@ -17,7 +17,7 @@ use crate::watched::run_counted;
 use crate::worded::{Known, Opened};
 use command_line::{Effort, Shown};
 use cubes::OpenGate;
-use messages::say_same_file;
+use messages::{Command, say_same_file};
 use noticed::{NoticedReader, NoticedWriter};
 use runs::{RunFault, TimeLimit, Verdict, answer_limited_within, run_limited_within};
 use statistics::{Board, Manner, print_statistics, show_progress};
@@ -224,7 +224,7 @@ fn end_solve<R: Files, E: Write>(
         Ok(Some(Verdict::Satisfiable)) => SATISFIABLE,
         Ok(Some(Verdict::Unsatisfiable)) => UNSATISFIABLE,
         Ok(None) => UNKNOWN,
-        Err(fault) => print_fault_of(rt, faults, fault, known, is_explained),
+        Err(fault) => print_fault_by(rt, faults, fault, known, Command::Solve, is_explained),
     }
 }
 

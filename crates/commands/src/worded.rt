@@ -4,7 +4,7 @@ use crate::anew::excerpt_of;
 use crate::input::shown_name;
 use cnf::{Limits, Place, ReadFault};
 use messages::{
-    Refused, say_answer_not_written, say_formula_refused, say_no_memory, say_not_read,
+    Command, Refused, say_answer_not_written, say_formula_refused, say_no_memory, say_not_read,
     say_proof_not_written, say_proof_refused,
 };
 use runs::RunFault;
@@ -42,27 +42,35 @@ fn say_error<E: Write>(out: &mut E, file: &str, error: Option<io::Error>) {
 }
 
 /// Says why a formula wasn't read.
-fn say_unread<R: Files, E: Write>(rt: &R, out: &mut E, fault: ReadFault, known: &Known<'_>) {
+fn say_unread<R: Files, E: Write>(
+    rt: &R,
+    out: &mut E,
+    fault: ReadFault,
+    known: &Known<'_>,
+    command: Command,
+) {
     match fault.place() {
         Some(place) => {
             let excerpt = excerpt_of(rt, known.formula, place);
             let file = shown_name(known.formula);
             let (limits, beginning) = (known.limits, known.beginning);
-            say_formula_refused(out, file, fault, limits, beginning, excerpt.as_ref());
+            let excerpt = excerpt.as_ref();
+            say_formula_refused(out, file, fault, limits, beginning, excerpt, command);
         }
         None => say_error(out, known.formula, known.formula_error),
     }
 }
 
-/// Says what happened in a run that came to no verdict.
+/// Says what happened in a run of this command that came to no verdict.
 pub(crate) fn say_fault<R: Files, E: Write>(
     rt: &R,
     out: &mut E,
     fault: RunFault,
     known: &Known<'_>,
+    command: Command,
 ) {
     match fault {
-        RunFault::Read(read) => say_unread(rt, out, read, known),
+        RunFault::Read(read) => say_unread(rt, out, read, known, command),
         RunFault::NoMemory => say_no_memory(out, shown_name(known.formula)),
         RunFault::ProofWriteFailed => say_proof_not_written(out, known.proof, known.proof_error),
         RunFault::AnswerWriteFailed => say_answer_not_written(out, known.answer_error),

@@ -64,7 +64,7 @@ struct Row {
     after: &'static str,
 }
 
-static ROWS: [Row; 9] = [
+static ROWS: [Row; 10] = [
     Row {
         texts: ("", ""),
         words: &["cubesat", "solve", "-"],
@@ -95,6 +95,18 @@ static ROWS: [Row; 9] = [
             status: 1,
             answer: "",
             faults: "fault 51: refusal 5 at line 2, column 3\nc standard input: a variable above the header's number of variables (line 2, column 3)\n",
+        },
+        after: "",
+    },
+    // the beginning of a file by bzip2
+    Row {
+        texts: ("", ""),
+        words: &["cubesat", "solve", "-"],
+        input: Input::AtOnce("BZh91AY&SY"),
+        wanted: Wanted {
+            status: 1,
+            answer: "",
+            faults: "fault 51: refusal 1 at line 1, column 1\nc standard input: compressed by bzip2; unpack it on the way: bzip2 -dc |PIPE| cubesat solve -\n",
         },
         after: "",
     },

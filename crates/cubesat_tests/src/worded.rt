@@ -111,7 +111,7 @@ static FILES: [Row; 7] = [
 ];
 
 /// Formulas that are refused.
-static FORMULAS: [Row; 16] = [
+static FORMULAS: [Row; 18] = [
     Row {
         formula: b"1 2 0\n",
         faults: "fault 51: refusal 1 at line 1, column 1\nc |FORMULA|: the header `p cnf VARIABLES CLAUSES` is missing (line 1, column 1)\nc   1 2 0\nc   ^\n",
@@ -157,6 +157,12 @@ static FORMULAS: [Row; 16] = [
         faults: "fault 51: refusal 9 at line 1, column 7\nc |FORMULA|: above a limit: 262,143 variables, 1,000,000 clauses, 8,000,000 literals; --large has higher ones (line 1, column 7)\nc   p cnf 262144 1\nc         ^\n",
         ..SOLVED
     },
+    // more than the large limits allow
+    Row {
+        formula: b"p cnf 100000001 1\n1 0\n",
+        faults: "fault 51: refusal 9 at line 1, column 7\nc |FORMULA|: above a limit: 100,000,000 variables, 1,000,000,000 clauses, 8,000,000,000 literals (line 1, column 7)\nc   p cnf 100000001 1\nc         ^\n",
+        ..SOLVED
+    },
     Row {
         formula: b"p cnf 100000001 1\n1 0\n",
         words: &["cubesat", "solve", "--large", "--proof", "PROOF", "FORMULA"],
@@ -165,27 +171,33 @@ static FORMULAS: [Row; 16] = [
     },
     Row {
         formula: b"\x1f\x8b\x08\x00",
-        faults: "fault 51: refusal 1 at line 1, column 1\nc |FORMULA|: compressed by gzip; unpack it first: gzip -dc FILE > NEW\n",
+        faults: "fault 51: refusal 1 at line 1, column 1\nc |FORMULA|: compressed by gzip; unpack it on the way: gzip -dc |FORMULA| |PIPE| cubesat solve -\n",
+        ..SOLVED
+    },
+    Row {
+        formula: b"\x1f\x8b\x08\x00",
+        words: &["cubesat", "check", "FORMULA", "PROOF"],
+        faults: "fault 51: refusal 1 at line 1, column 1\nc |FORMULA|: compressed by gzip; unpack it on the way: gzip -dc |FORMULA| |PIPE| cubesat check - PROOF\n",
         ..SOLVED
     },
     Row {
         formula: b"\xfd7zXZ\x00\x00\x04",
-        faults: "fault 51: refusal 1 at line 1, column 1\nc |FORMULA|: compressed by xz; unpack it first: xz -dc FILE > NEW\n",
+        faults: "fault 51: refusal 1 at line 1, column 1\nc |FORMULA|: compressed by xz; unpack it on the way: xz -dc |FORMULA| |PIPE| cubesat solve -\n",
         ..SOLVED
     },
     Row {
         formula: b"BZh91AY&SY",
-        faults: "fault 51: refusal 1 at line 1, column 1\nc |FORMULA|: compressed by bzip2; unpack it first: bzip2 -dc FILE > NEW\n",
+        faults: "fault 51: refusal 1 at line 1, column 1\nc |FORMULA|: compressed by bzip2; unpack it on the way: bzip2 -dc |FORMULA| |PIPE| cubesat solve -\n",
         ..SOLVED
     },
     Row {
         formula: b"\x28\xb5\x2f\xfd\x24",
-        faults: "fault 51: refusal 1 at line 1, column 1\nc |FORMULA|: compressed by zstd; unpack it first: zstd -dc FILE > NEW\n",
+        faults: "fault 51: refusal 1 at line 1, column 1\nc |FORMULA|: compressed by zstd; unpack it on the way: zstd -dc |FORMULA| |PIPE| cubesat solve -\n",
         ..SOLVED
     },
     Row {
         formula: b"p cnf 2 1\n1 2 0\n%\n0\n\n",
-        faults: "fault 51: refusal 4 at line 3, column 1\nc |FORMULA|: it ends in a line `%` and a line `0`, as SATLIB's files do (line 3, column 1); cut both off: sed '/^%/,$d' FILE > NEW\n",
+        faults: "fault 51: refusal 4 at line 3, column 1\nc |FORMULA|: it ends in a line `%` and a line `0`, as SATLIB's files do (line 3, column 1); cut both off on the way: sed '/^%/,$d' |FORMULA| |PIPE| cubesat solve -\n",
         ..SOLVED
     },
     // what is no regular file isn't read again
@@ -308,7 +320,7 @@ static PROOFS: [Row; 18] = [
     Row {
         proof: b"\x1f\x8b\x08\n",
         answer: "refused 41 line 1\n",
-        faults: "c |PROOF|: compressed by gzip; unpack it first: gzip -dc FILE > NEW\n",
+        faults: "c |PROOF|: compressed by gzip; unpack it on the way: gzip -dc |PROOF| |PIPE| cubesat check FORMULA -\n",
         ..CHECKED
     },
 ];

@@ -1,24 +1,32 @@
 //! What a file is, by its first bytes, where it is no text.
 
+use crate::command::Command;
 use crate::name::Name;
+use crate::shell::Arguments;
 use std::io::Write;
 
-/// What a file is that isn't the text that is to be read.
+/// What packs a file.
 #[derive(Clone, Copy, PartialEq, Eq)]
-pub(crate) enum Format {
+pub(crate) enum Packer {
     Gzip,
     Xz,
     Bzip2,
     Zstandard,
+}
+
+/// What a file is that isn't the text that is to be read.
+#[derive(Clone, Copy, PartialEq, Eq)]
+pub(crate) enum Format {
+    Packed(Packer),
     BinaryProof,
 }
 
 /// What a compressed file begins with.
-static BEGINNINGS: [(&[u8], Format); 4] = [
-    (b"\x1f\x8b", Format::Gzip),
-    (b"\xfd7zXZ\x00", Format::Xz),
-    (b"BZh", Format::Bzip2),
-    (b"\x28\xb5\x2f\xfd", Format::Zstandard),
+static BEGINNINGS: [(&[u8], Packer); 4] = [
+    (b"\x1f\x8b", Packer::Gzip),
+    (b"\xfd7zXZ\x00", Packer::Xz),
+    (b"BZh", Packer::Bzip2),
+    (b"\x28\xb5\x2f\xfd", Packer::Zstandard),
 ];
 
 /// Whether no text of a proof has this byte.
@@ -35,42 +43,65 @@ fn is_binary_proof(first: &[u8]) -> bool {
     }
 }
 
-impl Format {
-    /// What a file is with these first bytes, where it is compressed.
-    pub(crate) fn of_compressed(first: &[u8]) -> Option<Format> {
-        for (beginning, format) in &BEGINNINGS {
+impl Packer {
+    /// What packed a file with these first bytes, if anything did.
+    pub(crate) fn of(first: &[u8]) -> Option<Packer> {
+        for (beginning, packer) in &BEGINNINGS {
             if first.starts_with(beginning) {
-                return Some(*format);
+                return Some(*packer);
             }
         }
         None
     }
 
+    /// The program that unpacks it, called with `-dc`.
+    fn program(self) -> &'static str {
+        match self {
+            Packer::Gzip => "gzip",
+            Packer::Xz => "xz",
+            Packer::Bzip2 => "bzip2",
+            Packer::Zstandard => "zstd",
+        }
+    }
+}
+
+impl Format {
     /// What a proof's file is with these first bytes, where it is no text.
     pub(crate) fn of_proof(first: &[u8]) -> Option<Format> {
         if is_binary_proof(first) {
             Some(Format::BinaryProof)
         } else {
-            Format::of_compressed(first)
-        }
-    }
-
-    /// What it is, and what makes a text of it.
-    fn words(self) -> &'static str {
-        match self {
-            Format::Gzip => { "compressed by gzip; unpack it first: gzip -dc FILE > NEW" }
-            Format::Xz => "compressed by xz; unpack it first: xz -dc FILE > NEW",
-            Format::Bzip2 => { "compressed by bzip2; unpack it first: bzip2 -dc FILE > NEW" }
-            Format::Zstandard => { "compressed by zstd; unpack it first: zstd -dc FILE > NEW" }
-            Format::BinaryProof => {
-                "a binary proof, and LRAT is read as text\nc cadical --lrat --no-binary FORMULA NEW writes such a text; drat-trim FORMULA FILE -L NEW makes one of DRAT"
-            }
+            Packer::of(first).map(|packer| Format::Packed(packer))
         }
     }
 }
 
-/// Says what a file is, and what makes a text of it.
+/// Says by which call a packed file is unpacked and read, by these words of ours.
+fn say_packed_for<E: Write>(out: &mut E, file: &str, packer: Packer, call: &str) {
+    let (name, program, arguments) = (Name::of(file), packer.program(), Arguments::of(file));
+    let _ = writeln!(
+        out,
+        "c {name}: compressed by {program}; unpack it on the way: {program} -dc{arguments} | {call}"
+    );
+}
+
+/// Says of a formula's file what packed it, and how this command reads it.
+pub(crate) fn say_packed<E: Write>(out: &mut E, file: &str, packer: Packer, command: Command) {
+    say_packed_for(out, file, packer, command.of_unpacked());
+}
+
+/// Says what a proof's file is, and how it is read, or what makes a text of it.
 pub(crate) fn say_format<E: Write>(out: &mut E, file: &str, format: Format) {
-    let (name, words) = (Name::of(file), format.words());
-    let _ = writeln!(out, "c {name}: {words}");
+    match format {
+        Format::Packed(packer) => {
+            say_packed_for(out, file, packer, "cubesat check FORMULA -");
+        }
+        Format::BinaryProof => {
+            let name = Name::of(file);
+            let _ = writeln!(
+                out,
+                "c {name}: a binary proof, and LRAT is read as text\nc cadical --lrat --no-binary FORMULA NEW writes such a text; drat-trim FORMULA FILE -L NEW makes one of DRAT"
+            );
+        }
+    }
 }

@@ -2,6 +2,7 @@
 #![tactic(auto)]
 
 mod cause;
+mod command;
 mod excerpt;
 mod files;
 mod format;
@@ -11,7 +12,9 @@ mod name;
 mod picture;
 mod proof;
 mod refused;
+mod shell;
 
+pub use command::Command;
 pub use excerpt::Excerpt;
 pub use files::{
     say_answer_not_written, say_no_memory, say_not_created, say_not_read, say_proof_not_written,

@@ -174,7 +174,7 @@ static BEGINNINGS: [(&[u8], &str); 6] = [
     (b"a\x81\x01", BINARY),
     (
         b"\x1f\x8b\x08\x00",
-        "c p.lrat: compressed by gzip; unpack it first: gzip -dc FILE > NEW\n",
+        "c p.lrat: compressed by gzip; unpack it on the way: gzip -dc p.lrat | cubesat check FORMULA -\n",
     ),
     (
         b"d 1 2 0\r\n\t1 0\n",

@@ -39,12 +39,13 @@ impl Paths {
         })
     }
 
-    /// The path that a word of a row stands for, or the word.
+    /// The path that a word of a row stands for, or the word; `PIPE` stands for a bar.
     pub fn word<'a>(&'a self, word: &'a str) -> &'a str {
         match word {
             "FORMULA" => self.formula.as_str(),
             "PROOF" => self.proof.as_str(),
             "MISSING" => self.missing.as_str(),
+            "PIPE" => "|",
             _ => word,
         }
     }
