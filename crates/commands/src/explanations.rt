@@ -115,7 +115,7 @@ fn of_run(number: u32) -> Option<&'static str> {
             "The proof that is to be checked couldn't be read: the system answered an error. Nothing was printed of it.",
         ),
         56 => Some(
-            "A file can't be opened or created. Check the names, and whether you may read the one and write the other. A proof is written beside its file first, in one with `.part` behind its name, so the folder has to be writable too.",
+            "A file can't be opened or created, or another run is writing the proof. Check the names, and whether you may read the one and write the other. A proof is written beside its file first, in one with `.part` behind its name, so the folder has to be writable too.",
         ),
         57 => Some(
             "The proof would be written over the formula: its name, or this name with `.part` behind it, leads to the formula's file. Nothing was touched; give the proof another name.",

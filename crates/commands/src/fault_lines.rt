@@ -4,7 +4,9 @@ ghost use Rattle.std.specs.Prelude.{◌≡◌};
 use crate::input::shown_name;
 use crate::notes::{note_file, note_files, note_number};
 use crate::worded::{Known, say_fault};
-use messages::{Command, say_no_memory, say_not_created, say_not_read};
+use messages::{
+    Command, say_no_memory, say_not_created, say_not_read, say_part_in_use, say_part_not_created,
+};
 use runs::RunFault;
 use statistics::Manner;
 use std::fs::Files;
@@ -127,5 +129,30 @@ pub(crate) fn print_not_created<E: Write>(
 ) -> u8 {
     let _ = writeln!(faults, "fault 56");
     say_not_created(faults, file, error);
+    explain_no_file(faults, file, is_explained)
+}
+
+/// Prints that the part of a proof can't be made, and why; the status.
+pub(crate) fn print_part_not_created<E: Write>(
+    faults: &mut E,
+    file: &str,
+    part: &str,
+    error: io::Error,
+    is_explained: bool,
+) -> u8 {
+    let _ = writeln!(faults, "fault 56");
+    say_part_not_created(faults, file, part, error);
+    explain_no_file(faults, file, is_explained)
+}
+
+/// Prints that another run is writing the proof, in this part of it; the status.
+pub(crate) fn print_in_use<E: Write>(
+    faults: &mut E,
+    file: &str,
+    part: &str,
+    is_explained: bool,
+) -> u8 {
+    let _ = writeln!(faults, "fault 56");
+    say_part_in_use(faults, file, part);
     explain_no_file(faults, file, is_explained)
 }

@@ -21,4 +21,5 @@ pub use fault_lines::{
 pub use input::{Input, open_input};
 pub use placed_proof::{NotBegun, PlacedProof, begin_proof};
 pub use solving::{SATISFIABLE, UNSATISFIABLE, print_not_begun, solve};
+pub use whole_file::{Locks, NoLocks, SystemLocks};
 pub use worded::Known;

@@ -6,15 +6,19 @@ use std::alloc::Global;
 use std::fs::Files;
 use std::io;
 use std::io::{ErrorKind, Write};
-use whole_file::{Destination, WholeFile};
+use whole_file::{Destination, Locks, NotMade, WholeFile};
 
 /// Why the file of a proof isn't begun.
-#[derive(Clone, Copy)]
+#[derive(Drop)]
 pub enum NotBegun {
     /// The proof would be written over the formula.
     Formula,
     /// The answer would be lost, which goes to the same file.
     Answer,
+    /// Another run writes it, in the part of this path.
+    InUse(String),
+    /// The part of this path can't be made; the system's error.
+    NoPart(String, io::Error),
     /// It can't be made; the system's error.
     NoFile(io::Error),
     NoMemory,
@@ -73,12 +77,14 @@ fn is_over<R: Files, I>(
     is_part || leads_to_input(rt, formula, path)
 }
 
-/// Begins the file of a proof.
-pub fn begin_proof<'a, R: Files, I>(
+/// Begins the file of a proof. Its part is locked until it is let go, so that a later run for the
+/// same proof is refused.
+pub fn begin_proof<'a, R: Files, I, L: Locks<R::File>>(
     rt: &'a R,
     alloc: Global,
     path: &str,
     formula: &Input<R::File, I>,
+    locks: &L,
 ) -> Result<PlacedProof<'a, R>, NotBegun> {
     let destination = match Destination::of(rt, alloc, path) {
         Ok(destination) => destination,
@@ -90,8 +96,13 @@ pub fn begin_proof<'a, R: Files, I>(
     if leads_to_output(rt, path) {
         return Err(NotBegun::Answer);
     }
-    match WholeFile::create(rt, destination) {
+    match WholeFile::create_locked(rt, destination, locks) {
         Ok(file) => Ok(PlacedProof { file }),
-        Err(error) => Err(NotBegun::of(error)),
+        Err(NotMade::InUse(part)) => Err(NotBegun::InUse(part)),
+        Err(NotMade::Part(_, error)) if error.kind() == ErrorKind::OutOfMemory => {
+            Err(NotBegun::NoMemory)
+        }
+        Err(NotMade::Part(part, error)) => Err(NotBegun::NoPart(part, error)),
+        Err(NotMade::File(error)) => Err(NotBegun::of(error)),
     }
 }

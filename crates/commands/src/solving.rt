@@ -8,7 +8,8 @@ ghost use Rattle.commands.specs.Status.{solve_status, IsSolveStatus};
 ghost use Rattle.commands.specs.Ends.{SolveEnds};
 
 use crate::fault_lines::{
-    FAILED, Screen, print_fault_by, print_no_memory, print_not_created, print_not_opened,
+    FAILED, Screen, print_fault_by, print_in_use, print_no_memory, print_not_created,
+    print_not_opened, print_part_not_created,
 };
 use crate::input::{open_input, shown_name};
 use crate::notes::{note_files, note_number, note_solve};
@@ -28,6 +29,7 @@ use std::sync::Wait;
 use std::thread;
 use std::thread::Threads;
 use std::time::Clock;
+use whole_file::Locks;
 
 /// The status of a satisfiable formula.
 pub const SATISFIABLE: u8 = 10;
@@ -297,14 +299,25 @@ pub fn print_not_begun<E: Write>(
             );
             FAILED
         }
+        NotBegun::InUse(part) => print_in_use(faults, path, part.as_str(), is_explained),
+        NotBegun::NoPart(part, error) => {
+            print_part_not_created(faults, path, part.as_str(), error, is_explained)
+        }
         NotBegun::NoFile(error) => print_not_created(faults, path, error, is_explained),
         NotBegun::NoMemory => print_no_memory(faults, file, is_explained),
     }
 }
 
 /// Decides the formula in the file, or in the standard input, with its proof written to the other,
-/// if there is to be one; the status. The proof isn't written over the formula.
-pub fn solve<R: Files + Threads + Wait + Clock + Sync, I: Read + Drop, W: Write, E: Write + Send>(
+/// if there is to be one; the status. The proof isn't written over the formula, and no other run
+/// writes it, as far as these locks tell.
+pub fn solve<
+    R: Files + Threads + Wait + Clock + Sync,
+    I: Read + Drop,
+    W: Write,
+    E: Write + Send,
+    L: Locks<R::File>,
+>(
     rt: &R,
     alloc: Global,
     effort: Effort,
@@ -315,6 +328,7 @@ pub fn solve<R: Files + Threads + Wait + Clock + Sync, I: Read + Drop, W: Write,
     answer: &mut W,
     faults: &mut E,
     screen: Screen,
+    locks: &L,
 ) -> u8 {
     if shown.verbose {
         note_solve(faults, &effort, file, proof);
@@ -324,7 +338,7 @@ pub fn solve<R: Files + Threads + Wait + Clock + Sync, I: Read + Drop, W: Write,
         Err(error) => return print_not_opened(faults, file, error, shown.verbose),
     };
     let proof = match proof {
-        Some(path) => match begin_proof(rt, alloc, path, &input) {
+        Some(path) => match begin_proof(rt, alloc, path, &input, locks) {
             Ok(placed) => Some(Opened { path, file: placed }),
             Err(why) => return print_not_begun(faults, why, file, path, shown.verbose),
         },

@@ -7,7 +7,7 @@ mod program;
 mod spreading;
 
 pub use cdcl::Plan;
-pub use commands::{Screen, explanation};
+pub use commands::{Locks, NoLocks, Screen, SystemLocks, explanation};
 pub use program::{command, command_in_folders, command_on, command_with_input};
 pub use runs::{
     Checked, Limit, RunFault, Verdict, answer_limited_within, answer_within, check_run,

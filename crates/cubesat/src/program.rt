@@ -4,7 +4,7 @@ use crate::spreading::work_on;
 use clap::Error;
 use clap::error::ErrorKind;
 use command_line::{Request, request_of};
-use commands::{FAILED, Screen, check, explanation, print_fault, solve};
+use commands::{FAILED, Locks, NoLocks, Screen, check, explanation, print_fault, solve};
 use messages::say_no_memory;
 use runs::RunFault;
 use std::alloc::Global;
@@ -66,7 +66,13 @@ fn print_unparsed<W: Write, E: Write>(error: Error, answer: &mut W, faults: &mut
 }
 
 /// Does what is asked for; the status.
-fn serve<R: Files + Threads + Wait + Clock + Sync, I: Read + Drop, W: Write, E: Write + Send>(
+fn serve<
+    R: Files + Threads + Wait + Clock + Sync,
+    I: Read + Drop,
+    W: Write,
+    E: Write + Send,
+    L: Locks<R::File>,
+>(
     rt: &R,
     alloc: Global,
     request: Request<'_>,
@@ -74,6 +80,7 @@ fn serve<R: Files + Threads + Wait + Clock + Sync, I: Read + Drop, W: Write, E: 
     answer: &mut W,
     faults: &mut E,
     screen: Screen,
+    locks: &L,
 ) -> u8 {
     match request {
         Request::Solve {
@@ -84,7 +91,7 @@ fn serve<R: Files + Threads + Wait + Clock + Sync, I: Read + Drop, W: Write, E: 
         } => {
             let effort = asked.effort();
             solve(
-                rt, alloc, effort, proof, file, input, shown, answer, faults, screen,
+                rt, alloc, effort, proof, file, input, shown, answer, faults, screen, locks,
             )
         }
         Request::Check {
@@ -116,7 +123,7 @@ fn serve<R: Files + Threads + Wait + Clock + Sync, I: Read + Drop, W: Write, E: 
 /// status: 10 satisfiable, 20 unsatisfiable, 0 for a formula that isn't decided in time, for a
 /// proof that is accepted, for help and for an explanation, 1 for a proof that is refused, on a
 /// fault or a wrong command line. A failed write to `faults` changes nothing else. `screen` says
-/// where `faults` leads.
+/// where `faults` leads. Of two runs for one proof at once the earlier fails.
 pub fn command_with_input<
     R: Files + Threads + Wait + Clock + Sync,
     I: Read + Drop,
@@ -132,14 +139,15 @@ pub fn command_with_input<
     screen: Screen,
 ) -> u8 {
     match request_of(alloc, words) {
-        Ok(request) => serve(rt, alloc, request, input, answer, faults, screen),
+        Ok(request) => serve(rt, alloc, request, input, answer, faults, screen, &NoLocks),
         Err(error) => print_unparsed(error, answer, faults),
     }
 }
 
 /// What `command_with_input` does, on a system whose folders can be listed: so it also makes runs
 /// that are spread over machines (`divide`), solves their cubes (`conquer`) and gathers their
-/// results (`gather`). `divide` prints how many cubes are open, with status 0, or the answer, with
+/// results (`gather`). A proof's part is locked by `locks`: of two runs for one proof at once the
+/// later is refused. `divide` prints how many cubes are open, with status 0, or the answer, with
 /// that of `solve`; the status of `conquer` is 0, or 75 where its time is over; that of `gather` is
 /// that of `solve`.
 pub fn command_in_folders<
@@ -147,6 +155,7 @@ pub fn command_in_folders<
     I: Read + Drop,
     W: Write,
     E: Write + Send,
+    L: Locks<R::File>,
 >(
     rt: &R,
     alloc: Global,
@@ -155,6 +164,7 @@ pub fn command_in_folders<
     answer: &mut W,
     faults: &mut E,
     screen: Screen,
+    locks: &L,
 ) -> u8
 where
     R::File: Send,
@@ -162,8 +172,8 @@ where
     R::A: Send,
 {
     match request_of(alloc, words) {
-        Ok(Request::Spread(asked)) => work_on(rt, alloc, asked, answer, faults),
-        Ok(request) => serve(rt, alloc, request, input, answer, faults, screen),
+        Ok(Request::Spread(asked)) => work_on(rt, alloc, asked, answer, faults, locks),
+        Ok(request) => serve(rt, alloc, request, input, answer, faults, screen, locks),
         Err(error) => print_unparsed(error, answer, faults),
     }
 }

@@ -4,7 +4,7 @@ use crate::gathering_hands::{gather_at_once_by, gather_stored_by};
 use cnf::{Limits, ReadFault, read_formula_within};
 use command_line::{Choice, MAX_DIVIDE, Part, SPREAD_BUDGET, Spread, greatest_budget, strategy_of};
 use commands::{
-    FAILED, Input, Known, PlacedProof, SATISFIABLE, UNSATISFIABLE, begin_proof, open_input,
+    FAILED, Input, Known, Locks, PlacedProof, SATISFIABLE, UNSATISFIABLE, begin_proof, open_input,
     print_fault_of, print_no_memory, print_not_begun, print_not_opened,
 };
 use noticed::{NoticedReader, NoticedWriter};
@@ -116,13 +116,14 @@ struct Gathering<'a, R: Files> {
 }
 
 /// Begins the file of the proof; or else the status.
-fn proof_begun<'a, R: Files, E: Write>(
+fn proof_begun<'a, R: Files, E: Write, L: Locks<R::File>>(
     rt: &'a R,
     alloc: Global,
     run: &Gathering<'_, R>,
     faults: &mut E,
+    locks: &L,
 ) -> Result<PlacedProof<'a, R>, u8> {
-    match begin_proof(rt, alloc, run.proof, run.input) {
+    match begin_proof(rt, alloc, run.proof, run.input, locks) {
         Ok(proof) => Ok(proof),
         Err(why) => Err(print_not_begun(faults, why, run.formula, run.proof, false)),
     }
@@ -204,15 +205,16 @@ fn gather_twice<R: Files + Threads + Sync, W: Write, E: Write>(
 
 /// Gathers the result of a run from what its packs have; the status. It goes through the tree once
 /// where they claim no model, and the proof can be begun anew if there is one.
-fn gather_opened<R: Files + Threads + Sync, W: Write, E: Write>(
+fn gather_opened<R: Files + Threads + Sync, W: Write, E: Write, L: Locks<R::File>>(
     rt: &R,
     alloc: Global,
     run: &Gathering<'_, R>,
     mut store: PackStore<'_, R>,
     answer: &mut W,
     faults: &mut E,
+    locks: &L,
 ) -> u8 {
-    let mut proof = match proof_begun(rt, alloc, run, faults) {
+    let mut proof = match proof_begun(rt, alloc, run, faults, locks) {
         Ok(proof) => proof,
         Err(status) => return status,
     };
@@ -220,7 +222,7 @@ fn gather_opened<R: Files + Threads + Sync, W: Write, E: Write>(
         if let Some(status) = gather_once(rt, alloc, run, &mut store, proof, answer, faults) {
             return status;
         }
-        proof = match proof_begun(rt, alloc, run, faults) {
+        proof = match proof_begun(rt, alloc, run, faults, locks) {
             Ok(proof) => proof,
             Err(status) => return status,
         };
@@ -251,7 +253,7 @@ fn vars_of(alloc: Global, held: &Held) -> Result<u32, AllocError> {
 }
 
 /// Gathers the result of a run, with its proof written to a file; the status.
-fn gather<R: Files + Threads + Sync + Alloc + Clone + Drop, W: Write, E: Write>(
+fn gather<R: Files + Threads + Sync + Alloc + Clone + Drop, W: Write, E: Write, L: Locks<R::File>>(
     rt: &R,
     alloc: Global,
     folder: Folder<'_>,
@@ -260,6 +262,7 @@ fn gather<R: Files + Threads + Sync + Alloc + Clone + Drop, W: Write, E: Write>(
     stats: bool,
     answer: &mut W,
     faults: &mut E,
+    locks: &L,
 ) -> u8
 where
     R::File: Send,
@@ -288,7 +291,7 @@ where
         hands,
         counts: if stats { Some(store.counts()) } else { None },
     };
-    gather_opened(rt, alloc, &run, store, answer, faults)
+    gather_opened(rt, alloc, &run, store, answer, faults, locks)
 }
 
 /// How a run's formula is decided, if the numbers are in their ranges, as those of a command line
@@ -356,13 +359,12 @@ where
 }
 
 /// Does what is asked for of a run that is spread over machines; the status.
-pub(crate) fn work_on<R: Files + Clock + Threads + Sync + Alloc + Clone + Drop, W: Write, E: Write>(
-    rt: &R,
-    alloc: Global,
-    asked: Spread<'_>,
-    answer: &mut W,
-    faults: &mut E,
-) -> u8
+pub(crate) fn work_on<
+    R: Files + Clock + Threads + Sync + Alloc + Clone + Drop,
+    W: Write,
+    E: Write,
+    L: Locks<R::File>,
+>(rt: &R, alloc: Global, asked: Spread<'_>, answer: &mut W, faults: &mut E, locks: &L) -> u8
 where
     R::File: Send,
     R::Dir: Send,
@@ -404,7 +406,9 @@ where
                 return FAILED; // it is refused before
             };
             let folder = Folder { path: run };
-            gather(rt, alloc, folder, proof, hands, stats, answer, faults)
+            gather(
+                rt, alloc, folder, proof, hands, stats, answer, faults, locks,
+            )
         }
     }
 }

@@ -1,7 +1,7 @@
 //! The program `cubesat`.
 #![tactic(auto)]
 
-use cubesat::{Screen, command_in_folders};
+use cubesat::{Screen, SystemLocks, command_in_folders};
 use std::alloc::{AllocError, Global};
 use std::io::IsTerminal;
 use std::process::ExitCode;
@@ -51,6 +51,15 @@ fn main(rt: HostRuntime) -> ExitCode {
     };
     let input = rt.stdin();
     let mut answer = rt.stdout();
-    let status = command_in_folders(&rt, alloc, &words, input, &mut answer, &mut faults, screen);
+    let status = command_in_folders(
+        &rt,
+        alloc,
+        &words,
+        input,
+        &mut answer,
+        &mut faults,
+        screen,
+        &SystemLocks,
+    );
     ExitCode::from(status)
 }

@@ -27,6 +27,8 @@ mod standard_input;
 #[cfg(test)]
 mod told;
 #[cfg(test)]
+mod two_runs;
+#[cfg(test)]
 mod unwritten;
 #[cfg(test)]
 mod worded;

@@ -4,7 +4,16 @@
 use crate::cause::Cause;
 use crate::name::Name;
 use std::io;
-use std::io::Write;
+use std::io::{ErrorKind, Write};
+
+/// The folder of the file of this path.
+fn folder_of(path: &str) -> &str {
+    match path.rsplit_once('/') {
+        Some(("", _)) => "/",
+        Some((folder, _)) => folder,
+        None => "./",
+    }
+}
 
 /// Says why a file can't be opened or read. A failed write changes nothing, here and below.
 pub fn say_not_read<E: Write>(out: &mut E, file: &str, error: io::Error) {
@@ -18,12 +27,36 @@ pub fn say_not_created<E: Write>(out: &mut E, file: &str, error: io::Error) {
     let _ = writeln!(out, "c {name}: can't be created: {cause}");
 }
 
+/// Says why the part in which a proof is written can't be made: its folder is named where it isn't to
+/// be written.
+pub fn say_part_not_created<E: Write>(out: &mut E, file: &str, part: &str, error: io::Error) {
+    if error.kind() != ErrorKind::PermissionDenied {
+        say_not_created(out, file, error);
+        return;
+    }
+    let name = Name::of(file);
+    let folder = Name::of(folder_of(part));
+    let _ = writeln!(
+        out,
+        "c {name}: can't be created: no permission to make a file in its folder, {folder}"
+    );
+}
+
 /// Says that the formula's file is the proof's too.
 pub fn say_same_file<E: Write>(out: &mut E, file: &str) {
     let name = Name::of(file);
     let _ = writeln!(
         out,
         "c {name}: formula and proof are one file; give the proof another name"
+    );
+}
+
+/// Says that another run is writing the proof, in this part of it.
+pub fn say_part_in_use<E: Write>(out: &mut E, file: &str, part: &str) {
+    let (name, part) = (Name::of(file), Name::of(part));
+    let _ = writeln!(
+        out,
+        "c {name}: another run is writing it, in {part}; let that run end, or name another place"
     );
 }
 

@@ -1,8 +1,8 @@
 //! What is said of files that the system refuses, and of memory.
 
 use messages::{
-    say_answer_not_written, say_no_memory, say_not_created, say_not_read, say_proof_not_written,
-    say_same_file,
+    say_answer_not_written, say_no_memory, say_not_created, say_not_read, say_part_in_use,
+    say_part_not_created, say_proof_not_written, say_same_file,
 };
 use std::alloc::Global;
 use std::io::{Error, ErrorKind};
@@ -95,6 +95,39 @@ fn files_that_are_not_opened(rt: HostRuntime) {
     }
 }
 
+/// The part of a proof, why it can't be made, and what is said.
+static PARTS: [(&str, ErrorKind, &str); 4] = [
+    (
+        "far/off/p.lrat.part",
+        ErrorKind::PermissionDenied,
+        "c p.lrat: can't be created: no permission to make a file in its folder, far/off\n",
+    ),
+    (
+        "/p.lrat.part",
+        ErrorKind::PermissionDenied,
+        "c p.lrat: can't be created: no permission to make a file in its folder, /\n",
+    ),
+    (
+        "p.lrat.part",
+        ErrorKind::PermissionDenied,
+        "c p.lrat: can't be created: no permission to make a file in its folder, ./\n",
+    ),
+    (
+        "far/p.lrat.part",
+        ErrorKind::NotFound,
+        "c p.lrat: can't be created: its folder doesn't exist\n",
+    ),
+];
+
+#[test]
+fn parts_that_are_not_made(rt: HostRuntime) {
+    for (part, kind, wanted) in &PARTS {
+        let mut said = Vec::new(rt.alloc());
+        say_part_not_created(&mut said, "p.lrat", part, Error::from(*kind));
+        assert!(rt; said.as_slice() == wanted.as_bytes(), "{wanted}");
+    }
+}
+
 #[test]
 fn a_name_stays_on_its_line(rt: HostRuntime) {
     let said = said_of_read(rt.alloc(), "é\n\u{1b}[K.cnf", ErrorKind::NotFound);
@@ -110,6 +143,7 @@ fn said_of_written(alloc: Global) -> Vec<u8> {
     say_answer_not_written(&mut out, Some(Error::from(ErrorKind::BrokenPipe)));
     say_no_memory(&mut out, "f.cnf");
     say_same_file(&mut out, "f.cnf");
+    say_part_in_use(&mut out, "p.lrat", "far/p.lrat.part");
     out
 }
 
@@ -121,6 +155,7 @@ c the answer: the program that reads it has ended
 c what was printed is only a beginning of it
 c f.cnf: not enough memory; free some and try again
 c f.cnf: formula and proof are one file; give the proof another name
+c p.lrat: another run is writing it, in far/p.lrat.part; let that run end, or name another place
 ";
 
 #[test]

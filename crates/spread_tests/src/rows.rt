@@ -1,5 +1,5 @@
 //! Command lines one after the other, what each prints, and its status.
-use cubesat::{Screen, command_in_folders};
+use cubesat::{NoLocks, Screen, command_in_folders};
 use std::alloc::Global;
 use std::fs::Files;
 use std::io::empty;
@@ -40,6 +40,7 @@ where
         &mut answer,
         &mut faults,
         Screen::Stream,
+        &NoLocks,
     );
     let is_silent = faults.is_empty() == row.faults.is_empty();
     status == row.status

@@ -1,7 +1,7 @@
 //! What is said where a run's files, or what a command prints, can't be written.
 use crate::rows::{Row, begin, first_other};
 use crate::steps::{Step, check_steps};
-use cubesat::{Screen, command_in_folders};
+use cubesat::{NoLocks, Screen, command_in_folders};
 use samples::FOUR;
 use samples::faulty::{Limited, Limits};
 use sessions::fake::{Call, Fake};
@@ -138,6 +138,7 @@ where
         &mut answer,
         &mut faults,
         Screen::Stream,
+        &NoLocks,
     );
     status == 1 && faults.starts_with(said.as_bytes())
 }
