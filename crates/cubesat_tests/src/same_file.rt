@@ -189,3 +189,36 @@ fn the_answer_is_not_written_over(rt: HostRuntime) -> Result<(), Fail> {
     fs::remove_file(&rt, formula.as_str())?;
     Ok(())
 }
+
+/// Whether a device where the answer goes is refused for the proof.
+fn is_for_answer<R: Files + AllocGlobal + Threads + Wait + Clock + Sync>(
+    rt: &R,
+    formula: &str,
+    device: &str,
+) -> bool {
+    let words = ["cubesat", "solve", "--proof", device, formula];
+    let printed = run(rt, &words);
+    printed.status == 1
+        && printed
+            .faults
+            .starts_with(b"cubesat: the proof would be written over")
+}
+
+/// Devices that stand for standard output, and whether the proof may go there too: what goes to the
+/// null device is lost in any case.
+static DEVICES: [(&str, bool); 2] = [("/dev/zero", false), ("/dev/null", true)];
+
+#[test]
+fn the_answer_is_not_mixed(rt: HostRuntime) -> Result<(), Fail> {
+    let formula = path_of(&rt, "mixed_output.cnf")?;
+    fs::write(&rt, formula.as_str(), FOUR)?;
+    for (device, is_free) in &DEVICES {
+        let fake = Fake::printing_to(&rt, &rt, device);
+        assert!(rt;
+            is_for_answer(&fake, formula.as_str(), device) != *is_free,
+            "{device}"
+        );
+    }
+    fs::remove_file(&rt, formula.as_str())?;
+    Ok(())
+}
