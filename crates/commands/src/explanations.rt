@@ -106,7 +106,7 @@ fn of_run(number: u32) -> Option<&'static str> {
             "Out of memory. Nothing was written: the proof's file is as it was. Free some memory, or use fewer hands: each has its own copy of the clauses.",
         ),
         53 => Some(
-            "The proof couldn't be written, most likely because the disk is full. Its file is as it was before the run, and no answer was printed. A pipe or a device may have got a beginning of the proof, which proves nothing.",
+            "The proof couldn't be written, most likely because the disk is full. Its file is as it was before the run, and no answer was printed; `solve` has it in a line `c s ..` on standard error. A pipe or a device may have got a beginning of the proof, which proves nothing.",
         ),
         54 => Some(
             "The answer couldn't be written, though the proof was, if there was to be one: the program that reads it has ended, or the disk is full. What was printed is a beginning of the answer.",

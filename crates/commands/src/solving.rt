@@ -18,7 +18,7 @@ use crate::watched::run_counted;
 use crate::worded::{Known, Opened};
 use command_line::{Effort, Shown};
 use cubes::OpenGate;
-use messages::{Command, say_same_file};
+use messages::{Command, say_same_file, say_unproved};
 use noticed::{NoticedReader, NoticedWriter};
 use runs::{RunFault, TimeLimit, Verdict, answer_limited_within, run_limited_within};
 use statistics::{Board, Manner, print_statistics, show_progress};
@@ -212,12 +212,22 @@ fn noticed_proof<P: Write>(proof: Option<Opened<'_, P>>) -> Option<NoticedWriter
     }
 }
 
+/// Says the answer where the proof alone couldn't be written. Its writer is to write something only
+/// once the formula is refuted.
+fn print_unproved<E: Write>(faults: &mut E, fault: RunFault, known: &Known<'_>, is_begun: bool) {
+    if is_begun && matches!(fault, RunFault::ProofWriteFailed) {
+        say_unproved(faults, known.proof_error);
+    }
+}
+
 /// The status of what a run answered, of which it says what happened if it came to no verdict.
+/// `is_begun` tells whether anything of a proof was to be written.
 fn end_solve<R: Files, E: Write>(
     rt: &R,
     faults: &mut E,
     answered: Result<Option<Verdict>, RunFault>,
     known: &Known<'_>,
+    is_begun: bool,
     is_explained: bool,
 ) -> u8
     ensures { result ≡ solve_status answered }
@@ -226,7 +236,11 @@ fn end_solve<R: Files, E: Write>(
         Ok(Some(Verdict::Satisfiable)) => SATISFIABLE,
         Ok(Some(Verdict::Unsatisfiable)) => UNSATISFIABLE,
         Ok(None) => UNKNOWN,
-        Err(fault) => print_fault_by(rt, faults, fault, known, Command::Solve, is_explained),
+        Err(fault) => {
+            let status = print_fault_by(rt, faults, fault, known, Command::Solve, is_explained);
+            print_unproved(faults, fault, known, is_begun);
+            status
+        }
     }
 }
 
@@ -279,7 +293,8 @@ fn solve_opened<
         answer_error: answer.error(),
         limits,
     };
-    end_solve(rt, faults, answered, &known, shown.verbose)
+    let is_begun = output.as_ref().is_some_and(|output| output.is_begun());
+    end_solve(rt, faults, answered, &known, is_begun, shown.verbose)
 }
 
 /// Prints why the proof's file isn't begun; the status.

@@ -36,7 +36,7 @@ static ROWS: [Row; 4] = [
         wanted: Wanted {
             status: 1,
             answer: "",
-            faults: "fault 53\nc /dev/full: no room on the device\nc the proof isn't whole; make room for all of it, or name another place\n",
+            faults: "fault 53\nc /dev/full: no room on the device\nc the proof isn't whole; make room for all of it, or name another place\nc s UNSATISFIABLE (without a proof: no room on the device)\n",
         },
         ..KEPT
     },

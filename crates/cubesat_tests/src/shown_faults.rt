@@ -330,7 +330,10 @@ static RUNS: [Row; 10] = [
         ],
         fault: "fault 53\nc /dev/full: no room on the device\nc the proof isn't whole; make room for all of it, or name another place\n",
         numbers: &[53],
-        ends: &["c the proof is /dev/full\n"],
+        ends: &[
+            "c the proof is /dev/full\n",
+            "c s UNSATISFIABLE (without a proof: no room on the device)\n",
+        ],
         ..REFUTED
     },
     Row {

@@ -95,7 +95,7 @@ static FILES: [Row; 7] = [
     },
     Row {
         words: &["cubesat", "solve", "--proof", "/dev/full", "FORMULA"],
-        faults: "fault 53\nc /dev/full: no room on the device\nc the proof isn't whole; make room for all of it, or name another place\n",
+        faults: "fault 53\nc /dev/full: no room on the device\nc the proof isn't whole; make room for all of it, or name another place\nc s UNSATISFIABLE (without a proof: no room on the device)\n",
         ..SOLVED
     },
     Row {

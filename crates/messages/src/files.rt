@@ -75,6 +75,12 @@ pub fn say_proof_not_written<E: Write>(out: &mut E, file: &str, error: Option<io
     );
 }
 
+/// Says the answer to a formula that was refuted, where that fault kept the proof from being written.
+pub fn say_unproved<E: Write>(out: &mut E, error: Option<io::Error>) {
+    let cause = Cause::of_writing(error);
+    let _ = writeln!(out, "c s UNSATISFIABLE (without a proof: {cause})");
+}
+
 /// Says why the answer wasn't written whole. Without an error, a write took nothing.
 pub fn say_answer_not_written<E: Write>(out: &mut E, error: Option<io::Error>) {
     let cause = Cause::of_writing(error);

@@ -18,7 +18,7 @@ pub use command::Command;
 pub use excerpt::Excerpt;
 pub use files::{
     say_answer_not_written, say_no_memory, say_not_created, say_not_read, say_part_in_use,
-    say_part_not_created, say_proof_not_written, say_same_file,
+    say_part_not_created, say_proof_not_written, say_same_file, say_unproved,
 };
 pub use formula::say_formula_refused;
 pub use proof::say_proof_refused;

@@ -2,7 +2,7 @@
 
 use messages::{
     say_answer_not_written, say_no_memory, say_not_created, say_not_read, say_part_in_use,
-    say_part_not_created, say_proof_not_written, say_same_file,
+    say_part_not_created, say_proof_not_written, say_same_file, say_unproved,
 };
 use std::alloc::Global;
 use std::io::{Error, ErrorKind};
@@ -139,7 +139,9 @@ fn said_of_written(alloc: Global) -> Vec<u8> {
     let mut out = Vec::new(alloc);
     let full = Error::from(ErrorKind::StorageFull);
     say_proof_not_written(&mut out, "p.lrat", Some(full));
+    say_unproved(&mut out, Some(full));
     say_proof_not_written(&mut out, "p.lrat", None);
+    say_unproved(&mut out, None);
     say_answer_not_written(&mut out, Some(Error::from(ErrorKind::BrokenPipe)));
     say_no_memory(&mut out, "f.cnf");
     say_same_file(&mut out, "f.cnf");
@@ -149,8 +151,10 @@ fn said_of_written(alloc: Global) -> Vec<u8> {
 
 static WRITTEN: &str = "c p.lrat: no room on the device
 c the proof isn't whole; make room for all of it, or name another place
+c s UNSATISFIABLE (without a proof: no room on the device)
 c p.lrat: the system took none of it
 c the proof isn't whole; make room for all of it, or name another place
+c s UNSATISFIABLE (without a proof: the system took none of it)
 c the answer: the program that reads it has ended
 c what was printed is only a beginning of it
 c f.cnf: not enough memory; free some and try again
