@@ -1,8 +1,11 @@
-//! The words of faults, byte for byte, and what is kept of readers and writers that are looked at.
+//! The words of faults, byte for byte, what is kept of readers and writers that are looked at, and
+//! the text that proofs are read as.
 #![tactic(auto)]
 
 #[cfg(test)]
 mod files;
+#[cfg(test)]
+mod forms;
 #[cfg(test)]
 mod formulas;
 #[cfg(test)]

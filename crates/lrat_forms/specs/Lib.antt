@@ -1,0 +1,3 @@
+-- The forms in which proofs come.
+pub mod Forms
+pub mod Remaining
