@@ -2,10 +2,12 @@
 ghost use Rattle.std.specs.Prelude.{◌≡◌, Ok};
 ghost use Rattle.std.specs.Thread.{IsSync};
 ghost use Rattle.cnf.specs.Limits.{limits_of};
+ghost use Rattle.lrat_forms.specs.Forms.{text_of};
 ghost use Rattle.runs.specs.Check.{checked_by, CheckSays};
 ghost use Rattle.commands.specs.CheckStatus.{check_status, IsCheckEnd};
 ghost use Rattle.commands.specs.Ends.{end_of, CheckEnds};
 
+use crate::anew::is_seen_in_binary;
 use crate::fault_lines::{FAILED, Screen, print_fault_of, print_not_opened};
 use crate::input::{open_input, size_of};
 use crate::notes::{note_check, note_number};
@@ -13,7 +15,8 @@ use crate::watched::check_counted;
 use crate::worded::{Known, Opened, say_refused};
 use cnf::Limits;
 use command_line::Shown;
-use messages::Refused;
+use lrat_forms::ProofText;
+use messages::{ProofSource, Refused};
 use noticed::{NoticedReader, NoticedWriter};
 use runs::{Checked, RunFault, Told, check_told};
 use statistics::{Board, Unobserved, print_check_statistics, show_progress};
@@ -133,30 +136,30 @@ fn check_opened<
     result
 }
 
-/// Says why the proof, which begins with these bytes, was refused, and what
-/// that means where it is to be explained.
+/// Says why the proof that was read so was refused, and what that means where it is to be
+/// explained.
 fn print_refused<R: Files, E: Write>(
     rt: &R,
     faults: &mut E,
     known: &Known<'_>,
-    beginning: &[u8],
+    source: ProofSource<'_>,
     why: Refused,
     is_explained: bool,
 ) {
-    say_refused(rt, faults, known, why, beginning);
+    say_refused(rt, faults, known, why, source);
     if is_explained {
         note_number(faults, why.number);
     }
 }
 
-/// How a check ended that answered so, of a proof that begins with these bytes. It says what
-/// happened unless the proof is accepted.
+/// How a check ended that answered so, of a proof that was read so. It says what happened unless
+/// the proof is accepted.
 fn end_check<R: Files, E: Write>(
     rt: &R,
     faults: &mut E,
     answered: Result<Told, RunFault>,
     known: &Known<'_>,
-    beginning: &[u8],
+    source: ProofSource<'_>,
     is_explained: bool,
 ) -> CheckEnd
     ensures { result ≡ end_of (checked_by answered) }
@@ -164,7 +167,7 @@ fn end_check<R: Files, E: Write>(
     match answered {
         Ok(told) => {
             if let Some(why) = told.why {
-                print_refused(rt, faults, known, beginning, why, is_explained);
+                print_refused(rt, faults, known, source, why, is_explained);
             }
             CheckEnd::of(told.checked)
         }
@@ -175,8 +178,8 @@ fn end_check<R: Files, E: Write>(
     }
 }
 
-/// Checks the open proof, of so many bytes, if that is known, against the open formula, and says
-/// what happened unless it accepts.
+/// Checks the open proof, whose text has so many bytes, if that is known, against the open formula,
+/// and says what happened unless it accepts. A proof in binary is read as the text of its steps.
 fn check_files<
     R: Files + Threads + Wait + Clock + Sync,
     F: Read + Drop,
@@ -195,11 +198,11 @@ fn check_files<
     faults: &mut E,
     screen: Screen,
 ) -> CheckEnd
-    ensures end { IsCheckEnd (limits_of limits) (F.remaining formula.entry.file) (P.remaining proof.entry.file) result }
-    ensures says { CheckEnds (limits_of limits) (F.remaining formula.entry.file) (P.remaining proof.entry.file) (⟦<NoticedWriter<W> as Write>⟧.contents answer.old) (⟦<NoticedWriter<W> as Write>⟧.contents answer.new) result }
+    ensures end { IsCheckEnd (limits_of limits) (F.remaining formula.entry.file) (text_of (P.remaining proof.entry.file)) result }
+    ensures says { CheckEnds (limits_of limits) (F.remaining formula.entry.file) (text_of (P.remaining proof.entry.file)) (⟦<NoticedWriter<W> as Write>⟧.contents answer.old) (⟦<NoticedWriter<W> as Write>⟧.contents answer.new) result }
 {
     let mut text = NoticedReader::of(formula.file);
-    let mut steps = NoticedReader::of(proof.file);
+    let mut steps = ProofText::of(NoticedReader::of(proof.file));
     let answered = check_opened(
         rt, alloc, &mut text, &mut steps, limits, size, shown, answer, faults, screen,
     );
@@ -208,12 +211,16 @@ fn check_files<
         proof: proof.path,
         beginning: text.beginning(),
         formula_error: text.error(),
-        proof_error: steps.error(),
+        proof_error: steps.inner().error(),
         answer_error: answer.error(),
         limits,
     };
-    let beginning = steps.beginning();
-    end_check(rt, faults, answered, &known, beginning, shown.verbose)
+    let source = ProofSource {
+        beginning: steps.inner().beginning(),
+        form: steps.form(),
+        broken: steps.broken(),
+    };
+    end_check(rt, faults, answered, &known, source, shown.verbose)
 }
 
 /// Checks the proof in the file against the formula in the other, one of which may be the standard
@@ -252,7 +259,10 @@ pub fn check<R: Files + Threads + Wait + Clock + Sync, I: Read + Drop, W: Write,
         path: file,
         file: formula,
     };
-    let size = size_of(&proof);
+    let size = match size_of(&proof) {
+        Some(_) if shown.progress && is_seen_in_binary(rt, path) => None,
+        size => size,
+    };
     let proof = Opened { path, file: proof };
     let mut answer = NoticedWriter::of(answer);
     let answer = &mut answer;

@@ -81,10 +81,10 @@ fn of_steps(number: u32) -> Option<&'static str> {
 fn of_text(number: u32) -> Option<&'static str> {
     match number {
         41 => Some(
-            "Bad number: a word of the proof isn't a whole number in plain digits, or is greater than its part of the line allows: 2,147,483,647 for a literal, 9,223,372,036,854,775,807 for all else. Comments and binary proofs aren't read.",
+            "Bad number: a word of the proof isn't a whole number in plain digits, or is greater than its part of the line allows: 2,147,483,647 for a literal, 9,223,372,036,854,775,807 for all else. Or a step in binary begins with another byte than `a` or `d`. Comments aren't read.",
         ),
         42 => Some(
-            "Line not ended: the proof's last line has no line feed at its end. It was most likely cut off.",
+            "Line not ended: the proof's last line has no line feed at its end, or its last step in binary isn't whole. It was most likely cut off.",
         ),
         43 => Some(
             "Bad shape: a line is no addition `NUMBER LITERALS 0 HINTS 0` and no deletion `NUMBER d NUMBERS 0`: a number has the wrong sign, a `0` is missing or stands where none may, or something follows the last `0`.",

@@ -1,11 +1,11 @@
 //! What is said in words of a run's fault, and of a proof that is refused.
 
-use crate::anew::excerpt_of;
+use crate::anew::{excerpt_of, proof_excerpt_of};
 use crate::input::shown_name;
 use cnf::{Limits, Place, ReadFault};
 use messages::{
-    Command, Refused, say_answer_not_written, say_formula_refused, say_no_memory, say_not_read,
-    say_proof_not_written, say_proof_refused,
+    Command, ProofSource, Refused, say_answer_not_written, say_formula_refused, say_no_memory,
+    say_not_read, say_proof_not_written, say_proof_refused,
 };
 use runs::RunFault;
 use std::fs::Files;
@@ -78,18 +78,18 @@ pub(crate) fn say_fault<R: Files, E: Write>(
     }
 }
 
-/// Says why the proof, which begins with these bytes, was refused.
+/// Says why the proof that was read so was refused.
 pub(crate) fn say_refused<R: Files, E: Write>(
     rt: &R,
     out: &mut E,
     known: &Known<'_>,
     refused: Refused,
-    beginning: &[u8],
+    source: ProofSource<'_>,
 ) {
     let excerpt = match refused.line {
-        Some(line) => excerpt_of(rt, known.proof, Place { line, column: 1 }),
+        Some(line) => proof_excerpt_of(rt, known.proof, Place { line, column: 1 }),
         None => None,
     };
     let (file, limits) = (shown_name(known.proof), known.limits);
-    say_proof_refused(out, file, refused, limits, beginning, excerpt.as_ref());
+    say_proof_refused(out, file, refused, limits, source, excerpt.as_ref());
 }

@@ -55,8 +55,15 @@ const FAULT: Row = Row {
     ..ACCEPTED
 };
 
-static ROWS: [Row; 9] = [
+/// The proof of the formula in binary, with a deletion between its two clauses.
+const BINARY: Row = Row {
+    proof: "a\x05\x02\x00\x02\x04\x00d\x02\x04\x00a\x06\x00\x0a\x06\x08\x00",
+    ..ACCEPTED
+};
+
+static ROWS: [Row; 10] = [
     ACCEPTED,
+    BINARY,
     REFUSED,
     Row {
         proof: "4 1 0 1 2 0\n",

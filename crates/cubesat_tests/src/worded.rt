@@ -209,7 +209,7 @@ static FORMULAS: [Row; 18] = [
 ];
 
 /// Proofs that are refused.
-static PROOFS: [Row; 18] = [
+static PROOFS: [Row; 26] = [
     Row {
         proof: b"4 1 0 1 2 0\n",
         answer: "refused 21 step 1\n",
@@ -307,14 +307,66 @@ static PROOFS: [Row; 18] = [
     Row {
         proof: b"5 1 0\n",
         answer: "refused 43 line 1\n",
-        faults: "c |PROOF|: neither an addition `NUMBER LITERALS 0 HINTS 0` nor a deletion `NUMBER d NUMBERS 0` (line 1)\n",
+        faults: "c |PROOF|: neither an addition `NUMBER LITERALS 0 HINTS 0` nor a deletion `NUMBER d NUMBERS 0` (line 1)\nc it begins as DRAT does, which has no hints; drat-trim FORMULA FILE -L NEW makes LRAT of that, and cadical --lrat FORMULA NEW writes LRAT\n",
         ..CHECKED
     },
-    // an addition in binary, of the clause 5
+    // a text in DRAT, and the same in binary
     Row {
-        proof: b"a\x0a\x02\x00\x02\x04\x00",
+        proof: b"d 1 2 0\n1 0\n0\n",
         answer: "refused 41 line 1\n",
-        faults: "c |PROOF|: a binary proof, and LRAT is read as text\nc cadical --lrat --no-binary FORMULA NEW writes such a text; drat-trim FORMULA FILE -L NEW makes one of DRAT\n",
+        faults: "c |PROOF|: a word is no number in plain digits, or above its limit (line 1)\nc it begins as DRAT does, which has no hints; drat-trim FORMULA FILE -L NEW makes LRAT of that, and cadical --lrat FORMULA NEW writes LRAT\n",
+        ..CHECKED
+    },
+    Row {
+        proof: b"a\x02\x00a\x00",
+        answer: "refused 21 step 1\n",
+        faults: "c |PROOF|: the number of clause 2 isn't above all numbers before it (step 1)\nc it begins as DRAT does, which has no hints; drat-trim FORMULA FILE -L NEW makes LRAT of that, and cadical --lrat FORMULA NEW writes LRAT\n",
+        ..CHECKED
+    },
+    // in binary the clause 5 and no empty clause, then clause 212, which doesn't follow
+    Row {
+        proof: b"a\x05\x02\x00\x02\x04\x00",
+        answer: "refused 30\n",
+        faults: "c |PROOF|: no step adds the empty clause; the proof may have been cut off\n",
+        ..CHECKED
+    },
+    Row {
+        proof: b"a\x05\x02\x00\x02\x04\x00a\xd4\x01\x00\x02\x00",
+        answer: "refused 24 step 2\n",
+        faults: "c |PROOF|: hint 1 of clause 212 is neither false nor unit (step 2)\n",
+        ..CHECKED
+    },
+    // a clause without a number
+    Row {
+        proof: b"a\x00\x00\x00",
+        answer: "refused 43 line 1\n",
+        faults: "c |PROOF|: neither an addition `NUMBER LITERALS 0 HINTS 0` nor a deletion `NUMBER d NUMBERS 0` (step 1)\n",
+        ..CHECKED
+    },
+    // a literal above 2,147,483,647
+    Row {
+        proof: b"a\x05\x80\x80\x80\x80\x10\x00\x02\x04\x00",
+        answer: "refused 41 line 1\n",
+        faults: "c |PROOF|: a number is -0, or above its limit (step 1)\n",
+        ..CHECKED
+    },
+    // proofs in binary that can't be read on
+    Row {
+        proof: b"a\x05\x02\x00\x02\x04\x00a\x06\x00\x0a\x06",
+        answer: "refused 42 line 2\n",
+        faults: "c |PROOF|: it ends inside a step in binary, behind byte 12; the proof may have been cut off (step 2)\n",
+        ..CHECKED
+    },
+    Row {
+        proof: b"a\x05\x02\x00\x02\x04\x00b\x0c\x00",
+        answer: "refused 41 line 2\n",
+        faults: "c |PROOF|: byte 8 is neither `a` nor `d`, with which a step in binary begins (step 2)\n",
+        ..CHECKED
+    },
+    Row {
+        proof: b"a\x05\xff\xff\xff\xff\xff\xff\xff\xff\xff\x7f\x00\x02\x04\x00",
+        answer: "refused 41 line 1\n",
+        faults: "c |PROOF|: a number in binary is above its limit at byte 12 (step 1)\n",
         ..CHECKED
     },
     Row {

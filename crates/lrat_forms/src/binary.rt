@@ -105,14 +105,18 @@ impl Steps {
         }
     }
 
-    /// Takes the number of this code, the next one of its step.
+    /// Takes the next number of a step. Only that of an addition is no code: it has no sign.
     fn end_number(&mut self, code: u64, text: &mut Text) {
-        push_coded(text, code);
+        if self.part == Part::Id {
+            push_number(text, code);
+        } else {
+            push_coded(text, code);
+        }
         let is_line_end = self.part == Part::Last && code == 0;
         let _ = text.try_push(if is_line_end { b'\n' } else { b' ' });
         match self.part {
             Part::Id => {
-                self.last = code / 2;
+                self.last = code;
                 self.part = Part::Clause;
             }
             Part::Clause if code == 0 => self.part = Part::Last,

@@ -21,5 +21,5 @@ pub use files::{
     say_part_not_created, say_proof_not_written, say_same_file, say_unproved,
 };
 pub use formula::say_formula_refused;
-pub use proof::say_proof_refused;
+pub use proof::{ProofSource, say_proof_refused};
 pub use refused::Refused;

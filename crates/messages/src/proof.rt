@@ -1,13 +1,41 @@
 //! What is said of a proof that is refused.
 
 use crate::excerpt::Excerpt;
-use crate::format::{Format, say_format};
+use crate::format::{Packer, say_packed_proof};
 use crate::name::Name;
 use crate::refused::Refused;
 use cnf::Limits;
+use lrat_forms::{Broken, BrokenBy, Form, is_drat};
 use std::fmt;
 use std::fmt::{Display, Formatter};
 use std::io::Write;
+
+/// What a refused proof was read from.
+#[derive(Clone, Copy)]
+pub struct ProofSource<'a> {
+    /// The first bytes of its file.
+    pub beginning: &'a [u8],
+    pub form: Form,
+    /// Where it can't be read on, if it is in binary and that is so.
+    pub broken: Option<Broken>,
+}
+
+/// Where a proof is at fault: at a line of a text, or at a step in binary, from 1 on.
+#[derive(Clone, Copy)]
+struct At {
+    form: Form,
+    line: u64,
+}
+
+impl Display for At {
+    fn fmt<W: fmt::Write>(&self, f: &mut Formatter<W>) -> fmt::Result {
+        let line = self.line;
+        match self.form {
+            Form::Text => write!(f, "(line {line})"),
+            Form::Binary => write!(f, "(step {line})"),
+        }
+    }
+}
 
 /// What a proof's step adds.
 #[derive(Clone, Copy)]
@@ -64,6 +92,14 @@ fn words_of(number: u32, limits: Limits) -> &'static str {
     }
 }
 
+/// The words for what is wrong with the step at this place, but for the clause that it adds.
+fn words_at(number: u32, limits: Limits, at: At) -> &'static str {
+    match (at.form, number) {
+        (Form::Binary, 41) => "a number is -0, or above its limit",
+        _ => words_of(number, limits),
+    }
+}
+
 /// The number that a line of a proof begins with.
 fn number_of_line(line: &[u8]) -> Option<u64> {
     let text = str::from_utf8(line).ok()?;
@@ -84,71 +120,113 @@ fn added_by(line: u64, excerpt: Option<&Excerpt>) -> Added {
 
 /// Says which clause the step of a line names wrongly: one that isn't there, or one that is neither
 /// false nor unit.
-fn say_named<E: Write>(
-    out: &mut E,
-    name: Name<'_>,
-    number: u32,
-    named: u64,
-    added: Added,
-    line: u64,
-) {
+fn say_named<E: Write>(out: &mut E, name: Name<'_>, number: u32, named: u64, added: Added, at: At) {
     let _ = if number == 23 {
         writeln!(
             out,
-            "c {name}: {added} names clause {named}, which isn't there (line {line})"
+            "c {name}: {added} names clause {named}, which isn't there {at}"
         )
     } else {
         writeln!(
             out,
-            "c {name}: hint {named} of {added} is neither false nor unit (line {line})"
+            "c {name}: hint {named} of {added} is neither false nor unit {at}"
         )
     };
 }
 
-/// Says what is wrong with the step or the line of this number.
+/// Says where a proof in binary can't be read on, and why.
+fn say_broken<E: Write>(out: &mut E, name: Name<'_>, broken: Broken) {
+    let (byte, step) = (broken.byte, broken.step);
+    let _ = match broken.by {
+        BrokenBy::StepByte => writeln!(
+            out,
+            "c {name}: byte {byte} is neither `a` nor `d`, with which a step in binary begins (step {step})"
+        ),
+        BrokenBy::Number => writeln!(
+            out,
+            "c {name}: a number in binary is above its limit at byte {byte} (step {step})"
+        ),
+        BrokenBy::End => writeln!(
+            out,
+            "c {name}: it ends inside a step in binary, behind byte {byte}; the proof may have been cut off (step {step})"
+        ),
+    };
+}
+
+/// Says what is wrong with the step or the line at this place.
 fn say_refused_at<E: Write>(
     out: &mut E,
     name: Name<'_>,
     refused: Refused,
     limits: Limits,
-    line: u64,
+    at: At,
     excerpt: Option<&Excerpt>,
 ) {
-    let added = added_by(line, excerpt);
+    let added = added_by(at.line, excerpt);
     if let Some(named) = refused.named {
-        say_named(out, name, refused.number, named, added, line);
+        say_named(out, name, refused.number, named, added, at);
         return;
     }
     let _ = match words_around(refused.number) {
-        Some((before, behind)) => writeln!(out, "c {name}: {before}{added}{behind} (line {line})"),
+        Some((before, behind)) => writeln!(out, "c {name}: {before}{added}{behind} {at}"),
         None => {
-            let words = words_of(refused.number, limits);
-            writeln!(out, "c {name}: {words} (line {line})")
+            let words = words_at(refused.number, limits, at);
+            writeln!(out, "c {name}: {words} {at}")
         }
     };
 }
 
+/// Where a proof in binary can't be read on, if that is why it is refused.
+fn broken_at(refused: Refused, source: ProofSource<'_>) -> Option<Broken> {
+    match (source.broken, refused.number) {
+        (Some(broken), 41 | 42) if refused.line == Some(broken.step) => Some(broken),
+        _ => None,
+    }
+}
+
+/// Says why a proof was refused, and where.
+fn say_why<E: Write>(
+    out: &mut E,
+    name: Name<'_>,
+    refused: Refused,
+    limits: Limits,
+    source: ProofSource<'_>,
+    excerpt: Option<&Excerpt>,
+) {
+    if let Some(broken) = broken_at(refused, source) {
+        say_broken(out, name, broken);
+        return;
+    }
+    let form = source.form;
+    match refused.line {
+        Some(line) => say_refused_at(out, name, refused, limits, At { form, line }, excerpt),
+        None => {
+            let words = words_of(refused.number, limits);
+            let _ = writeln!(out, "c {name}: {words}");
+        }
+    }
+}
+
 /// Says why a proof was refused within these limits, with the number of the clause at fault where the text at its line
-/// is known, and with that of the one that it names wrongly; or what the file is, if it begins as
-/// no text does. `beginning` has its first bytes. A failed write changes nothing.
+/// is known, and with that of the one that it names wrongly; where it looks like DRAT, also what
+/// makes LRAT of that. Of a compressed file it says what it is. A failed write changes nothing.
 pub fn say_proof_refused<E: Write>(
     out: &mut E,
     file: &str,
     refused: Refused,
     limits: Limits,
-    beginning: &[u8],
+    source: ProofSource<'_>,
     excerpt: Option<&Excerpt>,
 ) {
-    if let Some(format) = Format::of_proof(beginning) {
-        say_format(out, file, format);
+    if let Some(packer) = Packer::of(source.beginning) {
+        say_packed_proof(out, file, packer);
         return;
     }
-    let name = Name::of(file);
-    match refused.line {
-        Some(line) => say_refused_at(out, name, refused, limits, line, excerpt),
-        None => {
-            let words = words_of(refused.number, limits);
-            let _ = writeln!(out, "c {name}: {words}");
-        }
+    say_why(out, Name::of(file), refused, limits, source, excerpt);
+    if is_drat(source.beginning) {
+        let _ = writeln!(
+            out,
+            "c it begins as DRAT does, which has no hints; drat-trim FORMULA FILE -L NEW makes LRAT of that, and cadical --lrat FORMULA NEW writes LRAT"
+        );
     }
 }

@@ -45,7 +45,7 @@ const TEXT: Row = Row {
 
 /// The same in binary, where no number stands before those that a deletion takes away.
 const BINARY: Row = Row {
-    bytes: b"a\x0a\x02\x00\x02\x04\x00d\x02\x04\x00a\x0c\x00\x0a\x06\x08\x00",
+    bytes: b"a\x05\x02\x00\x02\x04\x00d\x02\x04\x00a\x06\x00\x0a\x06\x08\x00",
     form: Form::Binary,
     ..TEXT
 };
@@ -83,18 +83,18 @@ static ROWS: [Row; 14] = [
     },
     // numbers of several bytes: 100, -64 and 8192; a group for the clause 3
     Row {
-        bytes: b"a\xc8\x01\x81\x01\x80\x80\x01\x00\x07\x02\x00",
+        bytes: b"a\x64\x81\x01\x80\x80\x01\x00\x07\x02\x00",
         text: b"100 -64 8192 0 -3 1 0\n",
         ..BINARY
     },
     // the greatest number, then what is no number of a clause
     Row {
-        bytes: b"a\xfe\xff\xff\xff\xff\xff\xff\xff\xff\x01\x01\x00\x00",
-        text: b"9223372036854775807 -0 0 0\n",
+        bytes: b"a\xff\xff\xff\xff\xff\xff\xff\xff\xff\x01\x01\x00\x00",
+        text: b"18446744073709551615 -0 0 0\n",
         ..BINARY
     },
     Row {
-        bytes: b"a\x0a\x02\x00\x02\x04\x00\x00\x01",
+        bytes: b"a\x05\x02\x00\x02\x04\x00\x00\x01",
         text: b"5 1 0 1 2 0\n?\n",
         broken: Some(Broken {
             by: BrokenBy::StepByte,
@@ -124,7 +124,7 @@ static ROWS: [Row; 14] = [
         ..BINARY
     },
     Row {
-        bytes: b"a\x0a\x02",
+        bytes: b"a\x05\x02",
         text: b"5 1 ?",
         broken: Some(Broken {
             by: BrokenBy::End,
@@ -134,7 +134,7 @@ static ROWS: [Row; 14] = [
         ..BINARY
     },
     Row {
-        bytes: b"a\x0a\x02\x00\x02\x04\x00a",
+        bytes: b"a\x05\x02\x00\x02\x04\x00a",
         text: b"5 1 0 1 2 0\n?",
         broken: Some(Broken {
             by: BrokenBy::End,

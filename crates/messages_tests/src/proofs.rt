@@ -1,7 +1,8 @@
 //! What is said of proofs that are refused.
 
 use cnf::{Limits, Place};
-use messages::{Excerpt, Refused, say_proof_refused};
+use lrat_forms::{Broken, BrokenBy, Form};
+use messages::{Excerpt, ProofSource, Refused, say_proof_refused};
 use std::alloc::Global;
 
 /// A proof with steps on three lines.
@@ -115,8 +116,17 @@ static REFUSED: [Row; 17] = [
     ),
 ];
 
+/// A text with these first bytes.
+fn text(beginning: &[u8]) -> ProofSource<'_> {
+    ProofSource {
+        beginning,
+        form: Form::Text,
+        broken: None,
+    }
+}
+
 /// What is said of a proof that is refused.
-fn said(alloc: Global, refused: Refused, beginning: &[u8], is_read_again: bool) -> Vec<u8> {
+fn said(alloc: Global, refused: Refused, source: ProofSource, is_read_again: bool) -> Vec<u8> {
     let mut out = Vec::new(alloc);
     let mut excerpt = Excerpt::around(Place {
         line: refused.line.unwrap_or(1),
@@ -124,14 +134,7 @@ fn said(alloc: Global, refused: Refused, beginning: &[u8], is_read_again: bool) 
     });
     excerpt.add(PROOF);
     let again = if is_read_again { Some(&excerpt) } else { None };
-    say_proof_refused(
-        &mut out,
-        "p.lrat",
-        refused,
-        Limits::Standard,
-        beginning,
-        again,
-    );
+    say_proof_refused(&mut out, "p.lrat", refused, Limits::Standard, source, again);
     out
 }
 
@@ -144,7 +147,7 @@ fn refusals_are_said(rt: HostRuntime) {
             line,
             named,
         };
-        let said = said(rt.alloc(), refused, PROOF, true);
+        let said = said(rt.alloc(), refused, text(PROOF), true);
         assert!(rt; said.as_slice() == wanted.as_bytes(), "{wanted}");
     }
 }
@@ -158,44 +161,123 @@ fn a_refusal_of_what_is_read_once(rt: HostRuntime) {
         line: Some(u64::MAX),
         named: None,
     };
-    let said = said(rt.alloc(), refused, PROOF, false);
+    let said = said(rt.alloc(), refused, text(PROOF), false);
     assert!(rt; said.as_slice() == wanted.as_slice());
 }
 
-const BINARY: &str = "c p.lrat: a binary proof, and LRAT is read as text
-c cadical --lrat --no-binary FORMULA NEW writes such a text; drat-trim FORMULA FILE -L NEW makes one of DRAT
+/// What is said of a proof's first line, and where it looks like DRAT.
+const BAD_WORD: &str =
+    "c p.lrat: a word is no number in plain digits, or above its limit (line 1)\n";
+
+const DRAT: &str = "c p.lrat: a word is no number in plain digits, or above its limit (line 1)
+c it begins as DRAT does, which has no hints; drat-trim FORMULA FILE -L NEW makes LRAT of that, and cadical --lrat FORMULA NEW writes LRAT
 ";
 
-/// The first bytes of files that are no texts of proofs, or are, with what is said of them.
-static BEGINNINGS: [(&[u8], &str); 6] = [
-    // an addition and a deletion, in which 16 is a blank and 24 a digit
-    (b"a\x20\x30\x00\x0c\x00", BINARY),
-    (b"d\x20\x30\x00", BINARY),
-    (b"a\x81\x01", BINARY),
+/// The first bytes of files, with what is said of them.
+static BEGINNINGS: [(&[u8], &str); 15] = [
+    // in binary, an addition and a deletion of DRAT, in which 16 is a blank and 24 a digit, and
+    // numbers of several bytes, whose last may be that of `a`
+    (b"a\x20\x30\x00a\x0c\x00", DRAT),
+    (b"a\x80a\x00d\x80\x80\x01\x00a", DRAT),
+    (b"d\x20\x30\x00", DRAT),
+    (b"a\x00", DRAT),
+    // steps of LRAT: their hints don't begin as a step does
+    (b"a\x20\x30\x00\x0c\x00", BAD_WORD),
+    (b"a\x20\x30\x00\x00", BAD_WORD),
+    (b"a\x81\x01", BAD_WORD),
+    // texts of DRAT, of which the second begins by the empty clause
+    (b"d 1 2 0\r\n\t1 0\n", DRAT),
+    (b"0\n", DRAT),
+    (b"-12 3 0\n1 0\n", DRAT),
+    (b"1 d 0\n", BAD_WORD),
+    (b"x 1 0\n", BAD_WORD),
+    (b"1 2 0", BAD_WORD),
     (
         b"\x1f\x8b\x08\x00",
         "c p.lrat: compressed by gzip; unpack it on the way: gzip -dc p.lrat | cubesat check FORMULA -\n",
     ),
-    (
-        b"d 1 2 0\r\n\t1 0\n",
-        "c p.lrat: a word is no number in plain digits, or above its limit (line 1)\n",
-    ),
-    (
-        b"",
-        "c p.lrat: a word is no number in plain digits, or above its limit (line 1)\n",
-    ),
+    (b"", BAD_WORD),
 ];
 
 #[test]
-fn files_that_are_no_texts(rt: HostRuntime) {
+fn files_that_are_no_lrat(rt: HostRuntime) {
     for (beginning, wanted) in &BEGINNINGS {
         let refused = Refused {
             number: 41,
             line: Some(1),
             named: None,
         };
-        let said = said(rt.alloc(), refused, beginning, true);
+        let said = said(rt.alloc(), refused, text(beginning), true);
         assert!(rt; said.as_slice() == wanted.as_bytes(), "{beginning:?}");
+    }
+}
+
+/// What is said of a proof in binary that is refused so, or is broken.
+static BINARY: [(u32, Option<Broken>, &str); 6] = [
+    (
+        24,
+        None,
+        "c p.lrat: a hint of clause 12 is neither false nor unit (step 3)\n",
+    ),
+    (
+        41,
+        None,
+        "c p.lrat: a number is -0, or above its limit (step 3)\n",
+    ),
+    // it is broken behind the step that is refused
+    (
+        41,
+        Some(Broken {
+            by: BrokenBy::End,
+            byte: 30,
+            step: 4,
+        }),
+        "c p.lrat: a number is -0, or above its limit (step 3)\n",
+    ),
+    (
+        41,
+        Some(Broken {
+            by: BrokenBy::StepByte,
+            byte: 20,
+            step: 3,
+        }),
+        "c p.lrat: byte 20 is neither `a` nor `d`, with which a step in binary begins (step 3)\n",
+    ),
+    (
+        41,
+        Some(Broken {
+            by: BrokenBy::Number,
+            byte: 21,
+            step: 3,
+        }),
+        "c p.lrat: a number in binary is above its limit at byte 21 (step 3)\n",
+    ),
+    (
+        42,
+        Some(Broken {
+            by: BrokenBy::End,
+            byte: 22,
+            step: 3,
+        }),
+        "c p.lrat: it ends inside a step in binary, behind byte 22; the proof may have been cut off (step 3)\n",
+    ),
+];
+
+#[test]
+fn proofs_in_binary(rt: HostRuntime) {
+    for (number, broken, wanted) in &BINARY {
+        let source = ProofSource {
+            beginning: b"a\x05\x02\x00\x02\x04\x00",
+            form: Form::Binary,
+            broken: *broken,
+        };
+        let refused = Refused {
+            number: *number,
+            line: Some(3),
+            named: None,
+        };
+        let said = said(rt.alloc(), refused, source, true);
+        assert!(rt; said.as_slice() == wanted.as_bytes(), "{wanted}");
     }
 }
 
@@ -207,7 +289,14 @@ fn a_proof_above_the_large_limit(rt: HostRuntime) {
         line: None,
         named: None,
     };
-    say_proof_refused(&mut out, "p.lrat", refused, Limits::Large, PROOF, None);
+    say_proof_refused(
+        &mut out,
+        "p.lrat",
+        refused,
+        Limits::Large,
+        text(PROOF),
+        None,
+    );
     let wanted = b"c p.lrat: longer than the limit, 4,611,686,018,427,387,904 bytes\n";
     assert!(rt; out.as_slice() == wanted.as_slice());
 }

@@ -67,7 +67,8 @@ const CHECKED: SlowRun = SlowRun {
     words: &["cubesat", "check", "--progress", "FORMULA", "PROOF"],
     screen: Screen::Stream,
     slow: "PROOF",
-    waits: &[1, 2],
+    // two reads of a look whether it is in binary, two for its first bytes, and one at its end
+    waits: &[0, 0, 1, 1, 2],
     status: 0,
     log: "c 1 s: 0 lines, 0 bytes of the proof read, 0 %\nc 2 s: 3 lines, 35 bytes of the proof read, 100 %\naccepted\n",
     behind: "",
@@ -255,6 +256,7 @@ static RUNS: [SlowRun; 24] = [
     SlowRun {
         words: &["cubesat", "check", "--progress", "FORMULA", "-"],
         slow: "-",
+        waits: &[1, 1, 2],
         log: "c 1 s: 0 lines, 0 bytes of the proof read\nc 2 s: 3 lines, 35 bytes of the proof read\naccepted\n",
         ..CHECKED
     },
