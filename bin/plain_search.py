@@ -41,6 +41,7 @@ class Clauses:
         self.false, self.last = set(), {}
 
     def add(self, clause):
+        """Adds a clause; its number."""
         self.literals.append({*clause})
         number = len(self.open)
         for it in self.literals[number]:
@@ -48,6 +49,7 @@ class Clauses:
         self.open.append(len(self.literals[number] - self.false))
         if self.open[number] < 2:
             self.last[number] = self.open_one(number)
+        return number
 
     def open_one(self, number):
         return next((it for it in self.literals[number] if it not in self.false), None)
@@ -153,6 +155,19 @@ class Trail:
         left, hints = self.resolve(conflict, self.trail, removable)
         return sorted((it for it in left if self.level_of(it) > 0), key=abs), hints
 
+    def settle(self):
+        """The lines of the units of a trail of level 0: each entry whose reason has other literals too
+        gets a clause of its literal alone as its reason. The hints are the reasons of what makes those
+        others false, as their entries stand, and the reason."""
+        lines = []
+        for entry in self.trail:
+            others = self.clauses.literals[entry.reason] - {entry.literal} if entry.reason else set()
+            if others:
+                against = [it.reason for it in self.trail if it.reason and -it.literal in others]
+                lines.append(([entry.literal], [*against, entry.reason]))
+                entry.reason = self.clauses.add([entry.literal])
+        return lines
+
 
 class Search(Trail):
     """The search in one cube. `outcome` is ('model', literals), ('refuted', lines) or ('exhausted',
@@ -161,6 +176,8 @@ class Search(Trail):
     def __init__(self, variables, clauses, cube, budget):
         super().__init__(variables, clauses, cube)
         self.lines, self.decisions, self.conflicts, self.outcome = [], 0, 0, None
+        # the conflicts above level 0 that were learnt from
+        self.counted = 0
         self.counts = collections.Counter()
         self.begin()
         while self.outcome is None:
@@ -168,6 +185,7 @@ class Search(Trail):
 
     def step(self, budget):
         conflict = self.propagate()
+        self.end_propagation()
         if conflict is None:
             literal = self.decision()
             if literal is None:
@@ -179,12 +197,16 @@ class Search(Trail):
         self.conflicts += 1
         if self.level() == 0:
             self.outcome = ("refuted", [*self.lines, self.learn(conflict)])
-        elif self.is_divisible_at(len(self.lines) + 1, budget):
+        elif self.is_divisible_at(self.counted + 1, budget):
             self.outcome = ("divisible", None)
-        elif len(self.lines) + 1 == budget:
+        elif self.counted + 1 == budget:
             self.outcome = ("exhausted", self.splits_on())
         else:
+            self.counted += 1
             self.learn_from(conflict)
+
+    def end_propagation(self):
+        pass
 
     def is_divisible_at(self, conflicts, budget):
         return False
@@ -218,9 +240,9 @@ class Ordered(Search):
 
 
 class Focused(Search):
-    """It decides the variables that gained most in conflicts, in two modes, learns shorter lines,
-    restarts, and forgets learnt clauses in rounds. Each line is of a conflict above level 0, so `lines`
-    counts these. `counts` says how often it does what."""
+    """It decides the variables that gained most in conflicts, in two modes, learns shorter lines, and one
+    for each unit of level 0, restarts, and forgets learnt clauses in rounds. `counts` says how often it
+    does what."""
 
     def begin(self):
         self.is_stable, self.mode_length, self.mode_end = False, MODE_LENGTH, MODE_LENGTH
@@ -228,7 +250,7 @@ class Focused(Search):
         self.stable_decisions, self.stable_conflicts = 0, 0
         self.score_step, self.scores = FIRST_STEP, [0] * (self.variables + 1)
         self.saved = [True] * (self.variables + 1)
-        # of each line, and of those of the restarting modes
+        # of each line, where that of a unit is 0, and of those of the restarting modes
         self.glues, self.mode_glues, self.restarted = [], [], 0
         # the numbers of the clauses used since the last round
         self.used = set()
@@ -247,6 +269,13 @@ class Focused(Search):
     def splits_on(self):
         return self.best(it for it in range(1, self.variables + 1) if it not in self.entry or self.level_of(it) > 0)
 
+    def end_propagation(self):
+        if self.level() == 0:
+            units = self.settle()
+            self.lines += units
+            self.glues += [0] * len(units)
+            self.counts["units"] += len(units)
+
     def learn_from(self, conflict):
         left, resolved = self.resolve(conflict, [it for it in self.trail if it.level == self.level()])
         removable = self.removable(left)
@@ -261,8 +290,7 @@ class Focused(Search):
         self.stable_conflicts += self.is_stable
         self.go_back(glue, back)
         self.glues.append(glue)
-        self.clauses.add(clause)
-        self.used.add(self.first + len(self.lines))
+        self.used.add(self.clauses.add(clause))
 
     def removable(self, left):
         """Of entries between level 0 and the current one the negation is removable where each other
@@ -294,9 +322,9 @@ class Focused(Search):
 
     def go_back(self, glue, back):
         """To level 0 where the round ends or it restarts, and else to the line's level."""
-        is_over, restarts = len(self.lines) >= self.round_end, self.restarts_at(glue)
+        is_over, restarts = self.counted >= self.round_end, self.restarts_at(glue)
         if is_over or restarts:
-            back, self.restarted = 0, len(self.lines)
+            back, self.restarted = 0, self.counted
         self.counts["restarts"] += restarts
         self.back_to(back)
         if is_over:
@@ -309,7 +337,7 @@ class Focused(Search):
             return False
         self.mode_glues.append(glue)
         recent, all_glues = self.mode_glues[-WINDOW:], self.mode_glues
-        return (len(self.lines) >= self.restarted + APART and len(recent) == WINDOW
+        return (self.counted >= self.restarted + APART and len(recent) == WINDOW
                 and sum(recent) * len(all_glues) > sum(all_glues) * ABOVE)
 
     def end_round(self):
@@ -317,11 +345,11 @@ class Focused(Search):
         self.rephase()
         self.counts["rounds"] += 1
         self.round += 1
-        self.round_end = len(self.lines) + ROUND_LENGTH * self.round
-        if len(self.lines) >= self.mode_end:
+        self.round_end = self.counted + ROUND_LENGTH * self.round
+        if self.counted >= self.mode_end:
             self.is_stable = not self.is_stable
             self.mode_length *= 2
-            self.mode_end = len(self.lines) + self.mode_length
+            self.mode_end = self.counted + self.mode_length
             self.counts["changes of mode"] += 1
 
     def forget(self):
@@ -355,15 +383,15 @@ class First(Focused):
 
 
 class Look(Trail):
-    """A look at a cube in place of its search. Nothing is learnt, and there is no budget; `outcome` is
-    like a search's."""
+    """A look at a cube in place of its search. Nothing but units is learnt, and there is no budget;
+    `outcome` is like a search's."""
 
     def __init__(self, variables, clauses, cube):
         super().__init__(variables, clauses, cube)
         conflict = self.propagate()
         free = [*self.free_variables()]
         if conflict:
-            self.outcome = ("refuted", [self.learn(conflict)])
+            self.outcome = ("refuted", [*self.settle(), self.learn(conflict)])
         elif not free:
             self.outcome = ("model", [it.literal for it in self.trail])
         else:

@@ -15,10 +15,10 @@ use Rattle.cdcl.specs.Marks.{IsSet, CanResolve}
 use Rattle.cdcl.proofs.PlaceLemmas.{false-below}
 
 -- one clause has each literal of another
-abbrev Covers : Clause → Clause → Type 0
+abbrev pub Covers : Clause → Clause → Type 0
 Covers c d = (l : Literal) → has c l ≡ true → has d l ≡ true
 
-both : (a b : Bool) → (a ≡ true → b ≡ true) → (b ≡ true → a ≡ true) → a ≡ b
+pub both : (a b : Bool) → (a ≡ true → b ≡ true) → (b ≡ true → a ≡ true) → a ≡ b
 both true b to from = sym (to refl)
 both false true to from = from refl
 both false false to from = refl
@@ -63,13 +63,13 @@ joined-same P c d S one to from false_clause false_set rising =
     (joined-covers d c S from) (joined-covers c d S to)
 
 -- a permutation has the same literals
-covers : (c d : Clause) → IsPermutation c d → Covers c d
+pub covers : (c d : Clause) → IsPermutation c d → Covers c d
 covers c d p l a = sym (has-permuted c d l p) ∙ a
 
-covered : (c d : Clause) → IsPermutation c d → Covers d c
+pub covered : (c d : Clause) → IsPermutation c d → Covers d c
 covered c d p l a = has-permuted c d l p ∙ a
 
-without-covers : (c d : Clause) (x : Literal) → Covers c d → Covers (without c x) (without d x)
+pub without-covers : (c d : Clause) (x : Literal) → Covers c d → Covers (without c x) (without d x)
 without-covers c d x to l a = let h = has-from_without c x l a in has-without d x l (to l h.0) h.1
 
 var-covers : (c d : Clause) (v : ℕ) → Covers c d → has_var c v ≡ true → has_var d v ≡ true

@@ -1,15 +1,17 @@
 -- A look at a cube, and what the first search says of a formula's division.
-use Rattle.std.proofs.Common.{◌≡◌, ◌≢◌, min, take, ℕ, ◌+◌, ◌*◌, ◌^◌, ◌<◌, ◌≤◌, false, nat_lt, le-ltb, List, [], Option, Some, refl, ap, ap₂, sym, subst, ◌∙◌, arith}
+use Rattle.std.proofs.Common.{◌≡◌, ◌≢◌, min, take, ℕ, ◌+◌, ◌*◌, ◌^◌, ◌<◌, ◌≤◌, false, nat_lt, le-ltb, List, [], ◌∷◌, ◌++◌, Option, Some, refl, ap, ap₂, sym, subst, ◌∙◌, arith}
 use Rattle.std.proofs.Math.Pow.{pow_mono}
 use Rattle.theory.specs.Literals.{Literal, Clause}
 use Rattle.theory.specs.Truth.{Formula}
 use Rattle.theory.specs.Plans.{Constants, focused, Plan}
 use Rattle.theory.specs.Trails.{Trail, literals, cube_trail, least_free}
-use Rattle.theory.specs.Propagation.{Closed, quiet, by_place, Propagates}
-use Rattle.theory.specs.Search.{Outcome, exhausted, Next, ends, goes_on, first_clauses, max_focused}
+use Rattle.theory.specs.Propagation.{Closed, quiet, conflict, by_place, Propagates}
+use Rattle.theory.specs.Learning.{learn}
+use Rattle.theory.specs.Units.{Units, units_of}
+use Rattle.theory.specs.Search.{Outcome, refuted, exhausted, Next, ends, goes_on, first_clauses, max_focused}
 use Rattle.theory.proofs.literals.OverVariables.{AreOver-from_IsOver}
 use Rattle.lookahead.proofs.TrailLengths.{length-lawful}
-use Rattle.theory.specs.Focused.{FocusedState, if_stable, begin, after, splits_on, IsFocusedStep}
+use Rattle.theory.specs.Focused.{FocusedState, if_stable, begin, settled, after, splits_on, IsFocusedStep}
 use Rattle.theory.specs.Looking.{Chooses, no_choice, best_ones, max_candidates, ranks, SplitsInto, Looks}
 use Rattle.theory.specs.Dividing.{LeadsTo, stays, moves, HasFewDecisions, first_conflicts, IsDivisible}
 use Rattle.theory.proofs.searching.PropagationLemmas.{Propagates-unique}
@@ -41,6 +43,16 @@ pub looks-quiet : (F : Formula) (Q : List Literal) (V : ℕ) (K : List Clause) (
     → ((G : Formula) → V ≡ G.vars → K ≡ first_clauses G → SplitsInto G U (least_free G.vars U) o) → Looks F Q o
 looks-quiet F Q V K T U o vars clauses trail closes splits = record { answer = quiet; trail = U; propagates = rw (clauses, trail) at closes; comes_to = splits F vars clauses }
 
+-- a look that propagation refutes, where the units gave these lines
+pub looks-refuted : (F : Formula) (Q : List Literal) (K : List Clause) (T U : Trail) (n : ℕ) (u : Units) (o : Outcome) → K ≡ first_clauses F → T ≡ cube_trail Q → Propagates by_place K T (conflict n) U → u ≡ units_of K U
+    → o ≡ refuted (u.lines ++ learn u.clauses u.trail n ∷ []) → Looks F Q o
+looks-refuted F Q K T U n u o clauses trail closes units is = record {
+  answer = conflict n;
+  trail = U;
+  propagates = rw (clauses, trail) at closes;
+  comes_to = is ∙ ap (λ (w : Units). refuted (w.lines ++ learn w.clauses w.trail n ∷ [])) (units ∙ ap (λ (C : List Clause). units_of C U) clauses);
+}
+
 -- steps to an end, of which each state has one, have one end
 ends-unique : {State : Type 0} (IsStep : State → Next State → Type 0) → ((s : State) (m n : Next State) → IsStep s m → IsStep s n → m ≡ n)
     → (s u v : State) (o p : Outcome) → LeadsTo IsStep s u → IsStep u (ends o) → LeadsTo IsStep s v → IsStep v (ends p) → (u ≡ v) × (o ≡ p)
@@ -55,7 +67,7 @@ ends-unique {State} IsStep one s u v o p (moves {t = t} h more) last (moves {t =
 step-unique : (c : Constants) (V budget : ℕ) (s : FocusedState) (m n : Next FocusedState) → IsFocusedStep c V budget s m → IsFocusedStep c V budget s n → m ≡ n
 step-unique c V budget s m n h k =
     let one = Propagates-unique by_place s.clauses s.trail h.trail k.trail h.answer k.answer h.propagates k.propagates in
-    sym h.follows ∙ ap₂ (λ (T : Trail) (a : Closed). after c V budget (record s { trail = T }) a) one.0 one.1 ∙ k.follows
+    sym h.follows ∙ ap₂ (λ (T : Trail) (a : Closed). after c V budget (settled (record s { trail = T })) a) one.0 one.1 ∙ k.follows
 
 -- what was counted at its last conflict is less than the program's numbers
 pub spent-counts : (last : ℕ) (s : FocusedSearch) → IsSpent last s → last ≤ max_focused → (s.decided < 2 ^ 60) × (s.stable_conflicts < 2 ^ 31)

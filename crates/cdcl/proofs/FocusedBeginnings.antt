@@ -19,6 +19,7 @@ use Rattle.cdcl.specs.Forgetful.{IsPlain}
 use Rattle.cdcl.specs.Saving.{AreWaiting, AreKept}
 use Rattle.cdcl.specs.Searching.{IsReady}
 use Rattle.cdcl.specs.Focusing.{IsEquipped, Begins}
+use Rattle.cdcl.proofs.SettledSearches.{AreUnits-cube}
 use Rattle.cdcl.proofs.Beginnings.{IsBegun, IsBegun-restart}
 use Rattle.theory.proofs.searching.MappedVariables.{at-variable, length-mapped}
 
@@ -60,6 +61,7 @@ Begins-focused F Q s t free e ready waiting kept scores long all went lawful ove
     marks = ap (λ (ms : List Mark). length ms) marks ∙ sym (ap length lines);
     plain = subst (All (IsPlain t.kernel.vars)) (sym (none-left t.kernel.first t.kernel.clauses (b.ready.first ∙ sym (ap length b.clauses)))) (All-nil (IsPlain t.kernel.vars));
   };
+  units = rw b.trail (AreUnits-cube t.kernel.clauses Q);
   constants = constants;
   counted = counted;
   saves = λ v k f. all v (subst (λ V. IsVariable V v) (vars ∙ sym waiting.saved) k) ∙ sym (at-variable (λ v. true) F.vars v false (rw b.ready.vars at k));

@@ -1,6 +1,6 @@
 -- The steps of the focused search, as the definition has them.
-use Rattle.std.proofs.Common.{◌≡◌, ℕ, zero, suc, ◌+◌, ◌-◌, ◌*◌, ◌^◌, ◌<◌, ◌≤◌, Bool, true, false, List, [], ◌∷◌, ◌++◌, length, length-append, refl, ap, sym, subst, ◌∙◌, nat_eq, eq-eqb, ◌⊎◌, inl, inr, Option, Some, None, Result, Ok, Err, IfOk, All, arith, if◌then◌else◌}
-use Rattle.theory.specs.Literals.{Clause, IsVariable, has_var}
+use Rattle.std.proofs.Common.{◌≡◌, ℕ, zero, suc, ◌+◌, ◌-◌, ◌*◌, ◌^◌, ◌<◌, ◌≤◌, Bool, true, false, [], ◌∷◌, ◌++◌, length, length-append, refl, ap, sym, subst, ◌∙◌, nat_eq, eq-eqb, ◌⊎◌, inl, inr, Some, None, Result, Ok, Err, IfOk, All, arith, if◌then◌else◌}
+use Rattle.theory.specs.Literals.{IsVariable, has_var}
 use Rattle.theory.specs.Truth.{Assignment, IsOver, value}
 use Rattle.theory.specs.Trails.{Trail, Entry, literals, current_level}
 use Rattle.theory.specs.Propagation.{Closed, quiet, conflict, by_place, Propagates, least_false}
@@ -29,7 +29,7 @@ use Rattle.cdcl.specs.declared.decisions.Decisions.{Decisions}
 use Rattle.cdcl.specs.Outcome.{LinesOutcome, outcome_of}
 use Rattle.cdcl.specs.Saving.{AreWaiting}
 use Rattle.cdcl.specs.Removing.{HasRoomFor}
-use Rattle.cdcl.specs.Focusing.{state_of, RunsTo, HasSaved, IsEquipped, IsFocusing, StepsAs, IsSpent, Follows, GoesOnward, Onward, IsFocusedSearchStep, Reaches, Stops}
+use Rattle.cdcl.specs.Focusing.{state_of, RunsTo, HasSaved, HasUnits, IsEquipped, IsFocusing, IsSpent, Follows, GoesOnward, IsFocusedSearchStep, Reaches, Stops}
 use Rattle.cdcl.proofs.SearchingLemmas.{IsSearching-Propagates}
 use Rattle.lookahead.proofs.TrailLengths.{length-lawful, length-Propagates}
 use Rattle.cdcl.proofs.Progress.{remaining}
@@ -69,52 +69,6 @@ pub HasSaved-Propagates : (s : FocusedSearch) (k : State) (a : Closed) (saved : 
 HasSaved-Propagates s k a saved vars closes h v variable free =
     let more = Propagates-more by_place s.kernel.clauses s.kernel.trail k.trail a closes in
     h v (rw vars at variable) (free-before s.kernel.trail more.0 v (subst (λ (U : Trail). has_var (literals U) v ≡ false) more.1 free))
-
--- a step from what propagation left
-pub step-from : {E : Type 0} (last : ℕ) (s t : FocusedSearch) (k : State) (a : Closed) (r : Result (Option Stop) E) → k.vars ≡ s.kernel.vars → k.clauses ≡ s.kernel.clauses
-    → Propagates by_place s.kernel.clauses s.kernel.trail a k.trail
-    → ((b : Closed) (U : Trail) → Propagates by_place s.kernel.clauses k.trail b U → Propagates by_place s.kernel.clauses s.kernel.trail b U)
-    → IfOk r (λ o. (saved : Assignment) → HasSaved (record s { kernel = k }) saved → Follows last a (record s { kernel = k }) saved o t)
-    → IfOk r (λ o. (saved : Assignment) → HasSaved s saved → IsFocusedSearchStep last s saved o t)
-step-from last s t k a (Err e) vars clauses closes more h = tt
-step-from last s t k a (Ok o) vars clauses closes more h = λ saved has.
-    let f = h saved (HasSaved-Propagates s k a saved vars closes has) in record {
-      values = f.values;
-      step = record { answer = a; trail = k.trail; propagates = closes; follows = same saved ∙ f.next };
-      onward = onward saved o f.values f.onward;
-    }
-  where
-    same : (saved : Assignment) → definition.after s.constants s.kernel.vars last (record (state_of s saved) { trail = k.trail }) a ≡ definition.after s.constants k.vars last (state_of (record s { kernel = k }) saved) a
-    same saved =
-        ap (λ (K : List Clause). definition.after s.constants s.kernel.vars last (record (state_of (record s { kernel = k }) saved) { clauses = K }) a) (sym clauses)
-        ∙ ap (λ V. definition.after s.constants V last (state_of (record s { kernel = k }) saved) a) (sym vars)
-
-    -- from the trail that propagation left it steps as from the one before
-    as_before : (saved : Assignment) → StepsAs s.constants s.kernel.vars (state_of s saved) (state_of (record s { kernel = k }) saved)
-    as_before saved last next w = record {
-      answer = w.answer;
-      trail = w.trail;
-      propagates = more w.answer w.trail (subst (λ (K : List Clause). Propagates by_place K k.trail w.answer w.trail) clauses w.propagates);
-      follows = ap (λ (K : List Clause). definition.after s.constants s.kernel.vars last (record (state_of s saved) { clauses = K; trail = w.trail }) w.answer) (sym clauses) ∙ w.follows;
-    }
-
-    onward : (saved : Assignment) (o : Option Stop) (values : Assignment) → Onward last (record s { kernel = k }) saved o t values → Onward last s saved o t values
-    onward saved (Some (Ended o)) values i = i
-    onward saved (Some Spent) values i = record {
-      spent = i.spent;
-      saves = i.saves;
-      decided = i.decided;
-      stable = i.stable;
-      resumes = λ later next w. as_before saved later next (subst (λ V. IsFocusedStep s.constants V later (state_of (record s { kernel = k }) saved) next) vars (i.resumes later next (subst (λ V. IsFocusedStep s.constants V later (state_of t values) next) (sym vars) w)));
-    }
-    onward saved None values i = record { saves = i.saves; focusing = i.focusing; counted = i.counted; moves = moves i.moves }
-      where
-        longer : length s.kernel.trail ≤ length k.trail
-        longer = length-Propagates by_place s.kernel.clauses s.kernel.trail k.trail a closes
-
-        moves : (t.conflicts ≡ s.conflicts + 1) ⊎ ((t.conflicts ≡ s.conflicts) × (length k.trail < length t.kernel.trail)) → (t.conflicts ≡ s.conflicts + 1) ⊎ ((t.conflicts ≡ s.conflicts) × (length s.kernel.trail < length t.kernel.trail))
-        moves (inl e) = inl e
-        moves (inr m) = inr (m.0, let more = m.1 in let before = longer in omega arith)
 
 -- a decision
 pub Follows-decided : (budget : ℕ) (s t : FocusedSearch) (saved : Assignment) (x : ℕ) → IsFocusing s → s.conflicts < budget → least_false (literals s.kernel.trail) s.kernel.clauses ≡ None
@@ -216,13 +170,13 @@ Follows-refuted last n s t saved o level is decided = record {
 }
 
 -- the last conflict
-pub Follows-spent : (last n : ℕ) (s : FocusedSearch) (saved : Assignment) → IsFocusing s → nat_eq (current_level s.kernel.trail) 0 ≡ false → s.conflicts + 1 ≡ last
+pub Follows-spent : (last n : ℕ) (s : FocusedSearch) (saved : Assignment) → IsFocusing s → HasUnits s → nat_eq (current_level s.kernel.trail) 0 ≡ false → s.conflicts + 1 ≡ last
     → HasSaved s saved → Follows last (conflict n) s saved (Some Spent) s
-Follows-spent last n s saved f above counted has = record {
+Follows-spent last n s saved f units above counted has = record {
   values = saved;
   next = rw (above, eq-eqb (s.conflicts + 1) last counted) refl;
   onward = record {
-    spent = record { focusing = f; above = positive (current_level s.kernel.trail) above; counted = counted };
+    spent = record { focusing = f; units = units; above = positive (current_level s.kernel.trail) above; counted = counted };
     saves = has;
     decided = refl;
     stable = refl;

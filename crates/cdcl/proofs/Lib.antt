@@ -32,11 +32,15 @@ pub mod WaitingLemmas
 pub mod SeenLemmas
 pub mod ForgettingLemmas
 pub mod FocusedLemmas
+pub mod UnitPlaces
+pub mod UnitSteps
 pub mod NextStates
 pub mod RephasedValues
 pub mod LearntStates
 pub mod LearntSearches
+pub mod SettledSearches
 pub mod FocusedSteps
+pub mod ClosedSearches
 pub mod LongerSearches
 pub mod FocusedBeginnings
 pub mod DividingLemmas

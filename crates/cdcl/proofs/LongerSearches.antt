@@ -9,12 +9,13 @@ use Rattle.theory.specs.Learning.{learn}
 use Rattle.theory.specs.Lessons.{lesson_of}
 use Rattle.theory.specs.Search.{Outcome, refuted, exhausted, Next, ends, goes_on, RunsFrom, stops, steps}
 use Rattle.theory.specs.Scores.{best_outside}
-use Rattle.theory.specs.Focused.{FocusedState, IsFocusedStep, on_quiet, on_conflict, after, decided_next, learnt_next, splits_on}
+use Rattle.theory.specs.Focused.{FocusedState, IsFocusedStep, settled, on_quiet, on_conflict, after, decided_next, learnt_next, splits_on}
 use Rattle.theory.specs.Dividing.{LeadsTo, stays, moves}
 use Rattle.theory.proofs.literals.LiteralSets.{true_false}
 use Rattle.cdcl.specs.declared.focused.FocusedSearch.{FocusedSearch}
 use Rattle.cdcl.specs.Focusing.{state_of, HasSaved, RunsTo, Reaches}
 use Rattle.cdcl.proofs.NextStates.{learnt_next-flat}
+use Rattle.cdcl.proofs.SettledSearches.{settled-of}
 use Rattle.cdcl.proofs.FocusedSteps.{leads-runs, RunsTo-runs}
 
 on_quiet-goes : (V : ℕ) (s t : FocusedState) (x : Option ℕ) → on_quiet V s x ≡ goes_on t → t.conflicts ≡ s.conflicts
@@ -70,7 +71,7 @@ after-ends c V few many s (conflict n) o own e = on_conflict-ends c V few many s
 leads-longer : (c : Constants) (V few many : ℕ) (s t : FocusedState) → few ≤ many → s.conflicts < few → LeadsTo (IsFocusedStep c V few) s t → LeadsTo (IsFocusedStep c V many) s t
 leads-longer c V few many s t within counted stays = stays
 leads-longer c V few many s t within counted (moves {t = u} w more) =
-    let next = after-goes c V few many (record s { trail = w.trail }) u w.answer within counted w.follows in
+    let next = after-goes c V few many (settled (record s { trail = w.trail })) u w.answer within (rw (settled-of (λ x. x.conflicts) (record s { trail = w.trail }) (λ x. refl)) counted) w.follows in
     moves (record { answer = w.answer; trail = w.trail; propagates = w.propagates; follows = next.0 }) (leads-longer c V few many u t within next.1 more)
 
 -- an outcome that it comes to by itself
@@ -79,7 +80,7 @@ pub RunsTo-longer : (c : Constants) (V few many count : ℕ) (s : FocusedState) 
 RunsTo-longer c V few many count s o within counted own r =
     let w = r.last in
     leads-runs (IsFocusedStep c V many) s r.final o (leads-longer c V few many s r.final within counted r.leads)
-    (record { answer = w.answer; trail = w.trail; propagates = w.propagates; follows = after-ends c V few many (record r.final { trail = w.trail }) w.answer o own w.follows })
+    (record { answer = w.answer; trail = w.trail; propagates = w.propagates; follows = after-ends c V few many (settled (record r.final { trail = w.trail })) w.answer o own w.follows })
 
 -- a run from a state that steps as another one is a run from that one
 runs-as : {State : Type 0} (IsStep : State → Next State → Type 0) (s t : State) (o : Outcome) → ((n : Next State) → IsStep t n → IsStep s n) → RunsFrom IsStep t o → RunsFrom IsStep s o

@@ -8,7 +8,7 @@ use Rattle.theory.specs.Trails.{Trail, Entry, literals, entry_of, level_at}
 use Rattle.theory.specs.Propagation.{clause_at}
 use Rattle.theory.specs.Lawful.{IsGrounded, IsLawful}
 use Rattle.theory.specs.Scores.{is_seen}
-use Rattle.theory.specs.Lessons.{with_number, reasons_against}
+use Rattle.theory.specs.Units.{with_number, reasons_against}
 use Rattle.theory.proofs.literals.LiteralLemmas.{or-cases, or-left, or-right}
 use Rattle.theory.proofs.literals.LiteralSets.{negated-negated, has-cases, has-equal}
 use Rattle.theory.proofs.trails.TrailEntries.{IsAt, entry_of_literal, entry_of-at, IsLawfulEntry-at}

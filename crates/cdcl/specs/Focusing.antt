@@ -4,9 +4,10 @@ use Rattle.theory.specs.Literals.{Literal, Clause}
 use Rattle.theory.specs.Truth.{Formula, Assignment}
 use Rattle.theory.specs.Reading.{large, max_vars}
 use Rattle.theory.specs.Plans.{Constants}
-use Rattle.theory.specs.Trails.{literals, current_level, variables}
-use Rattle.theory.specs.Propagation.{Closed, least_false}
+use Rattle.theory.specs.Trails.{Trail, literals, current_level, variables, up_to}
+use Rattle.theory.specs.Propagation.{Closed, quiet, conflict, by_place, Propagates, least_false}
 use Rattle.theory.specs.Learning.{back_level}
+use Rattle.theory.specs.Units.{AreUnits}
 use Rattle.theory.specs.Lessons.{lesson_of}
 use Rattle.theory.specs.Modes.{is_restarting, pace_after}
 use Rattle.theory.specs.Restarts.{glues_after, restarts}
@@ -15,7 +16,7 @@ use Rattle.theory.specs.Forgetting.{unused, forget}
 use Rattle.theory.specs.Search.{Outcome, exhausted, Next, ends, goes_on}
 use Rattle.theory.specs.Dividing.{LeadsTo}
 use Rattle.theory.specs.Focused as definition
-use Rattle.theory.specs.Focused.{FocusedState, IsFocusedStep, if_stable, learnt_next, saved_after, splits_on}
+use Rattle.theory.specs.Focused.{FocusedState, IsFocusedStep, settled, if_stable, learnt_next, saved_after, splits_on}
 use Rattle.heuristics.specs.Averages.{with_next}
 use Rattle.heuristics.specs.Rankings as rankings
 use Rattle.heuristics.specs.Rankings.{after_conflict, vars_of}
@@ -81,6 +82,10 @@ pub record IsFocusing (s : FocusedSearch) : Type 0 where
   pub marks : length s.marks.items ≡ length s.lines
   pub plain : All (IsPlain s.kernel.vars) (drop s.kernel.first s.kernel.clauses)
 
+-- the reasons of level 0 are clauses of one literal
+abbrev pub HasUnits : FocusedSearch → Type 0
+HasUnits s = AreUnits s.kernel.clauses (up_to s.kernel.trail 0)
+
 -- the clause and the level are those that the conflict with clause n teaches, above level 0
 pub record IsTaught (k : State) (n : ℕ) (clause : Clause) (level : ℕ) : Type 0 where
   pub conflict : least_false (literals k.trail) k.clauses ≡ Some n
@@ -143,6 +148,19 @@ pub record Continues (old new : FocusedSearch) : Type 0 where
   pub constants : new.constants ≡ old.constants
   pub equipped : IsEquipped new
 
+-- behind propagation the units became lines: the state is the definition's, and the answer stays
+pub record IsSettled (old new : FocusedSearch) : Type 0 where
+  pub state : (saved : Assignment) → state_of new saved ≡ settled (state_of old saved)
+  pub focusing : IsFocusing new
+  pub units : HasUnits new
+  pub continues : Continues old new
+  pub literals_stay : literals new.kernel.trail ≡ literals old.kernel.trail
+  pub level : current_level new.kernel.trail ≡ current_level old.kernel.trail
+  pub long : length new.kernel.trail ≡ length old.kernel.trail
+  pub saved : new.decisions.saved ≡ old.decisions.saved
+  pub rests : Propagates by_place old.kernel.clauses old.kernel.trail quiet old.kernel.trail → Propagates by_place new.kernel.clauses new.kernel.trail quiet new.kernel.trail
+  pub conflict : (n : ℕ) → least_false (literals old.kernel.trail) old.kernel.clauses ≡ Some n → least_false (literals new.kernel.trail) new.kernel.clauses ≡ Some n
+
 -- what a search keeps over whole cubes: it may go over to a cube of the formulas that it could
 abbrev pub IsKept : FocusedSearch → FocusedSearch → Type 0
 IsKept old new = ((F : Formula) → IsReady ByPlace F old.kernel → IsReady ByPlace F new.kernel) × IsEquipped new × (new.constants ≡ old.constants)
@@ -177,12 +195,32 @@ pub record GoesOnward (last : ℕ) (old new : FocusedSearch) (saved : Assignment
 -- the search stands at its last conflict, from which it has learnt nothing
 pub record IsSpent (last : ℕ) (s : FocusedSearch) : Type 0 where
   pub focusing : IsFocusing s
+  pub units : HasUnits s
   pub above : 1 ≤ current_level s.kernel.trail
   pub counted : s.conflicts + 1 ≡ last
 
 -- each step from the state t is one from the state s, whatever the last conflict is
 abbrev pub StepsAs : Constants → ℕ → FocusedState → FocusedState → Type 0
 StepsAs c V s t = (last : ℕ) (next : Next FocusedState) → IsFocusedStep c V last t next → IsFocusedStep c V last s next
+
+-- what holds behind an answer of propagation
+abbrev pub Answers : Closed → FocusedSearch → Type 0
+Answers quiet s = Propagates by_place s.kernel.clauses s.kernel.trail quiet s.kernel.trail
+Answers (conflict n) s = least_false (literals s.kernel.trail) s.kernel.clauses ≡ Some n
+
+-- propagation came to this answer, and the units became lines
+pub record Closes (old : FocusedSearch) (a : Closed) (new : FocusedSearch) : Type 0 where
+  pub trail : Trail
+  pub propagates : Propagates by_place old.kernel.clauses old.kernel.trail a trail
+  pub state : (saved : Assignment) → state_of new saved ≡ settled (record (state_of old saved) { trail = trail })
+  pub answers : Answers a new
+  pub focusing : IsFocusing new
+  pub units : HasUnits new
+  pub continues : Continues old new
+  pub saves : (saved : Assignment) → HasSaved old saved → HasSaved new saved
+  pub longer : length old.kernel.trail ≤ length new.kernel.trail
+  -- above level 0 it may go on from there as from the state before
+  pub resumes : 1 ≤ current_level new.kernel.trail → (saved : Assignment) → StepsAs old.constants old.kernel.vars (state_of old saved) (state_of new saved)
 
 -- what is so where it stopped there: it may go on as from the state before
 pub record StopsAt (last : ℕ) (old : FocusedSearch) (saved : Assignment) (new : FocusedSearch) (values : Assignment) : Type 0 where
@@ -241,6 +279,7 @@ Stops c V last s Spent new = Reaches c V last s new
 pub record Begins (F : Formula) (c : Constants) (Q : List Literal) (s : FocusedSearch) : Type 0 where
   pub ready : IsReady ByPlace F s.kernel
   pub focusing : IsFocusing s
+  pub units : HasUnits s
   pub constants : s.constants ≡ c
   pub counted : s.conflicts ≡ 0
   pub saves : HasSaved s (map (λ v. true) (variables F.vars))

@@ -11,3 +11,4 @@ pub mod Focusing
 pub mod Solving
 pub mod Marks
 pub mod Removing
+pub mod Units

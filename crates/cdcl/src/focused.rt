@@ -8,11 +8,12 @@ ghost use Rattle.theory.specs.Search.{refuted, max_focused};
 ghost use Rattle.theory.specs.Learning.{learn};
 ghost use Rattle.theory.specs.Focused.{splits_on};
 ghost use Rattle.heuristics.specs.Modes.{mode_of};
+ghost use Rattle.kernel.specs.Answer.{closed_of};
 ghost use Rattle.kernel.specs.declared.order.Order.TheVariants.{ByPlace};
 ghost use Rattle.cdcl.specs.Outcome.{outcome_of};
 ghost use Rattle.cdcl.specs.Searching.{IsReady};
 ghost use Rattle.cdcl.specs.declared.focused.Stop.TheVariants.{Spent};
-ghost use Rattle.cdcl.specs.Focusing.{state_of, RunsTo, Stops, IsSpent, HasSaved, IsEquipped, IsFocusing, Follows, IsFocusedSearchStep, Begins, Continues};
+ghost use Rattle.cdcl.specs.Focusing.{state_of, RunsTo, Stops, IsSpent, HasSaved, HasUnits, IsEquipped, IsFocusing, Follows, IsFocusedSearchStep, Begins, Closes, Continues};
 
 use crate::counts::{Counts, Watcher, tell};
 use crate::decisions::{Decisions, count_up_to};
@@ -21,6 +22,7 @@ use crate::line_marks::Mark;
 use crate::opening::open_kernel;
 use crate::outcome::Outcome;
 use crate::tally::Tally;
+use crate::unit_hints::UnitHints;
 use crate::values::{refute, values};
 use cnf::Formula;
 use heuristics::{Constants, Glues, Mode, Pace, Turn};
@@ -54,6 +56,8 @@ pub(crate) struct FocusedSearch {
     pub(crate) round: Turn,
     /// Room for the analysis of conflicts.
     pub(crate) analysis: Analysis,
+    /// Room for the hints of units.
+    pub(crate) unit_hints: UnitHints,
     /// What the kernel doesn't count.
     pub(crate) tally: Tally,
 }
@@ -75,6 +79,7 @@ impl Drop for FocusedSearch {
             pace: _,
             round: _,
             analysis: _,
+            unit_hints: _,
             tally: _,
         } = self;
     }
@@ -126,6 +131,7 @@ impl FocusedSearch {
             pace: Pace::first(constants),
             round: Turn::first(constants),
             analysis,
+            unit_hints: UnitHints::none(alloc),
             tally: Tally::none(),
         })
     }
@@ -165,6 +171,7 @@ impl FocusedSearch {
         watcher: &W,
     ) -> Result<Outcome<Row>, AllocError>
         requires focusing { IsFocusing self.old }
+        requires units { HasUnits self.old }
         requires counted { (self.old.conflicts < budget) × (budget ≤ max_focused) }
         ensures runs { IfOk result (λ o. (saved : Assignment) → HasSaved self.old saved →
             RunsTo self.old.constants self.old.kernel.vars budget (state_of self.old saved) (outcome_of o) self.new.decided) }
@@ -180,6 +187,7 @@ impl FocusedSearch {
     /// search may go on to a later one.
     pub(crate) fn run_to<W: Watcher>(&mut self, last: u32, watcher: &W) -> Result<Stop, AllocError>
         requires focusing { IsFocusing self.old }
+        requires units { HasUnits self.old }
         requires counted { (self.old.conflicts < last) × (last ≤ max_focused) }
         ensures stops { IfOk result (λ stop. (saved : Assignment) → HasSaved self.old saved →
             Stops self.old.constants self.old.kernel.vars last (state_of self.old saved) stop self.new) }
@@ -195,17 +203,31 @@ impl FocusedSearch {
         }
     }
 
-    /// Propagation and what follows its answer.
+    /// Propagation, the units, and what follows the answer.
     fn step(&mut self, last: u32) -> Result<Option<Stop>, AllocError>
         requires focusing { IsFocusing self.old }
+        requires units { HasUnits self.old }
         requires counted { (self.old.conflicts < last) × (last ≤ max_focused) }
         ensures step { IfOk result (λ r. (saved : Assignment) → HasSaved self.old saved → IsFocusedSearchStep last self.old saved r self.new) }
+        ensures units { IfOk result (λ r. r ≡ None → HasUnits self.new) }
         ensures kept { OnOk result (Continues self.old self.new) }
     {
-        match self.kernel.close()? {
+        match self.close()? {
             Closed::Quiet => self.on_quiet(),
             Closed::Conflict(number) => self.on_conflict(number, last),
         }
+    }
+
+    /// Propagation, and the units where it ends at level 0.
+    pub(crate) fn close(&mut self) -> Result<Closed, AllocError>
+        requires focusing { IsFocusing self.old }
+        requires units { HasUnits self.old }
+        ensures { IfOk result (λ a. Closes self.old (closed_of a) self.new) }
+    {
+        let from = self.kernel.trail().len();
+        let closed = self.kernel.close()?;
+        self.settle(from)?;
+        Ok(closed)
     }
 
     /// Where propagation came to rest: decides the free variable of greatest score, or gives the
@@ -235,6 +257,7 @@ impl FocusedSearch {
     /// one that it may count.
     fn on_conflict(&mut self, number: u64, last: u32) -> Result<Option<Stop>, AllocError>
         requires focusing { IsFocusing self.old }
+        requires units { HasUnits self.old }
         requires conflict { least_false (literals self.old.kernel.trail) self.old.kernel.clauses ≡ Some number }
         requires counted { (self.old.conflicts < last) × (last ≤ max_focused) }
         ensures next { IfOk result (λ r. (saved : Assignment) → HasSaved self.old saved → Follows last (conflict number) self.old saved r self.new) }

@@ -37,6 +37,8 @@ mod searcher;
 mod seen;
 mod solver;
 mod tally;
+mod unit_hints;
+mod units;
 mod unkept;
 mod values;
 

@@ -60,7 +60,10 @@ impl FocusedSearch {
     {
         match self.kernel.close()? {
             Closed::Quiet => self.look_at_rest(ranking),
-            Closed::Conflict(number) => self.refuted(number),
+            Closed::Conflict(number) => {
+                self.settle(0)?;
+                self.refuted(number)
+            }
         }
     }
 

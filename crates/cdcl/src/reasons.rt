@@ -4,7 +4,7 @@ ghost use Rattle.theory.specs.Literals.{has, has_var, negated};
 ghost use Rattle.theory.specs.Status.{is_false};
 ghost use Rattle.theory.specs.Trails.{entry_of, level_at, literals};
 ghost use Rattle.theory.specs.Scores.{is_seen};
-ghost use Rattle.theory.specs.Lessons.{reasons_against};
+ghost use Rattle.theory.specs.Units.{reasons_against};
 ghost use Rattle.cdcl.specs.Numbers.{is_one_of};
 
 use crate::numbers::Numbers;

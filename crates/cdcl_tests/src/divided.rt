@@ -36,7 +36,7 @@ static ROWS: [Row; 15] = [
         budget: 2,
         divide: 2,
         cube: &[-2],
-        wanted: Wanted::Refuted(&[(&[], &[1, 3])]),
+        wanted: Wanted::Refuted(&[(&[1], &[1]), (&[], &[13, 3])]),
     },
     Row {
         name: "five, the other half is looked at",
@@ -44,7 +44,7 @@ static ROWS: [Row; 15] = [
         budget: 2,
         divide: 3,
         cube: &[2],
-        wanted: Wanted::Refuted(&[(&[], &[2, 4])]),
+        wanted: Wanted::Refuted(&[(&[1], &[2]), (&[], &[13, 4])]),
     },
     Row {
         name: "four, refuted before it is asked",
@@ -52,7 +52,7 @@ static ROWS: [Row; 15] = [
         budget: 2,
         divide: 2,
         cube: &[],
-        wanted: Wanted::Refuted(&[(&[-2], &[2, 4]), (&[], &[5, 1, 3])]),
+        wanted: Wanted::Refuted(&[(&[-2], &[2, 4]), (&[1], &[5, 1]), (&[], &[5, 6, 3])]),
     },
     // 33 fails, but 32 variables rank before it
     Row {
@@ -69,7 +69,12 @@ static ROWS: [Row; 15] = [
         budget: 2,
         divide: 8,
         cube: &[1],
-        wanted: Wanted::Refuted(&[(&[], &[10, 16, 11, 5])]),
+        wanted: Wanted::Refuted(&[
+            (&[-2], &[10]),
+            (&[6], &[16]),
+            (&[3], &[17, 11]),
+            (&[], &[17, 18, 19, 5]),
+        ]),
     },
     Row {
         name: "satisfied clauses count",

@@ -21,3 +21,5 @@ mod parts;
 mod pure;
 #[cfg(test)]
 mod searches;
+#[cfg(test)]
+mod units;

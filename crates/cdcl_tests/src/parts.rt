@@ -3,6 +3,7 @@
 //! definition.
 use crate::focused::{Row, comes, small_constants};
 use crate::outcomes::Wanted;
+use heuristics::Constants;
 use std::test::Fail;
 
 // in several tables, since the proof of a function that names one takes time by the square of its
@@ -12,7 +13,12 @@ static PARTS_1: [Row<&[u8]>; 6] = [
         "a literal of the first line follows from its others, and isn't in it",
         b"p cnf 5 6\n-5 3 0 2 -3 1 0 -4 -1 0 1 5 0 4 -1 0 1 -2 -5 0\n",
         1000,
-        Wanted::Refuted(&[(&[1, -5], &[1, 2, 6]), (&[-1], &[3, 5]), (&[], &[8, 4, 7])]),
+        Wanted::Refuted(&[
+            (&[1, -5], &[1, 2, 6]),
+            (&[-1], &[3, 5]),
+            (&[5], &[8, 4]),
+            (&[], &[8, 9, 7]),
+        ]),
     ),
     (
         "a literal is removable by another one that is, and the line lacks both",
@@ -21,7 +27,8 @@ static PARTS_1: [Row<&[u8]>; 6] = [
         Wanted::Refuted(&[
             (&[1, -6], &[3, 7, 4, 6]),
             (&[-1], &[1, 5]),
-            (&[], &[9, 2, 8]),
+            (&[6], &[9, 2]),
+            (&[], &[9, 10, 8]),
         ]),
     ),
     (
@@ -30,9 +37,11 @@ static PARTS_1: [Row<&[u8]>; 6] = [
         1000,
         Wanted::Refuted(&[
             (&[3], &[9, 11, 6, 7, 8]),
-            (&[-4, -7], &[13, 12, 4, 10, 2, 5, 3]),
+            (&[-8], &[13, 12]),
+            (&[-4, -7], &[14, 4, 10, 2, 5, 3]),
             (&[4], &[1, 8, 3]),
-            (&[], &[15, 6, 14]),
+            (&[7], &[16, 6]),
+            (&[], &[16, 17, 15]),
         ]),
     ),
     (
@@ -105,7 +114,7 @@ static PARTS_2: [Row<&[u8]>; 6] = [
     ),
 ];
 
-static PARTS_3: [Row<&[u8]>; 6] = [
+static PARTS_3: [Row<&[u8]>; 5] = [
     (
         "a clause isn't forgotten, since it was used",
         b"p cnf 9 15\n4 -5 0 -5 -6 0 2 3 0 2 -3 0 -6 -3 0 5 7 -8 0 -2 -1 0 -5 2 0 4 5 6 0 8 -2 6 0 1 5 0 9 7 3 0 4 -6 -9 0 -4 -8 -5 0 -4 -7 5 0\n",
@@ -117,7 +126,15 @@ static PARTS_3: [Row<&[u8]>; 6] = [
             (&[7, 9], &[12, 4, 5, 10, 17, 6]),
             (&[6, -7], &[17, 9, 15]),
             (&[-6], &[2, 5, 11, 3, 7]),
-            (&[], &[21, 17, 11, 7, 3, 4]),
+            (&[-5], &[21, 17]),
+            (&[-7], &[21, 20]),
+            (&[4], &[21, 22, 9]),
+            (&[1], &[22, 11]),
+            (&[-8], &[22, 23, 6]),
+            (&[9], &[23, 19]),
+            (&[-2], &[25, 7]),
+            (&[3], &[28, 3]),
+            (&[], &[28, 29, 4]),
         ]),
     ),
     (
@@ -135,15 +152,6 @@ static PARTS_3: [Row<&[u8]>; 6] = [
         Wanted::Model(&[
             true, false, false, false, true, false, false, true, false, true, false, true, false,
             true,
-        ]),
-    ),
-    (
-        "a clause that is a reason isn't forgotten",
-        b"p cnf 16 25\n7 5 6 0 4 2 0 -16 3 1 0 -14 9 0 13 -3 -4 0 10 -1 0 -4 -10 12 0 -11 6 0 7 -13 0 12 5 15 0 4 6 0 4 -8 0 11 14 0 3 -7 0 4 -13 0 9 11 0 15 -8 -3 0 16 -14 -9 0 -6 12 13 0 -15 8 0 -3 -16 -15 0 -12 5 -16 0 -12 -2 0 3 -1 -5 0 -7 -4 -3 0\n",
-        1000,
-        Wanted::Model(&[
-            false, false, false, true, true, true, false, true, true, true, true, true, false,
-            false, true, false,
         ]),
     ),
     (
@@ -166,6 +174,26 @@ static PARTS_3: [Row<&[u8]>; 6] = [
     ),
 ];
 
+// where each learnt clause may be forgotten, also one of a single literal, which may be a reason of level 0
+static REASON: [Row<&[u8]>; 1] = [(
+    "a clause that is a reason isn't forgotten",
+    b"p cnf 9 14\n-2 7 0 6 5 0 2 7 8 0 -2 3 0 -6 -3 1 0 9 -8 0 6 9 0 -1 -6 0 2 6 -9 0 9 -1 0 4 -7 0 -4 -8 -7 0 -5 6 0 -6 2 0\n",
+    1000,
+    Wanted::Refuted(&[
+        (&[-7, -8], &[11, 12]),
+        (&[-8], &[6, 15, 1, 9, 14]),
+        (&[7], &[16, 1, 3]),
+        (&[4], &[17, 11]),
+        (&[-3, 9], &[7, 10, 5]),
+        (&[-3, -6], &[5, 8]),
+        (&[6], &[2, 13]),
+        (&[-1], &[21, 8]),
+        (&[2], &[21, 14]),
+        (&[-3], &[21, 20]),
+        (&[], &[23, 24, 4]),
+    ]),
+)];
+
 fn parts_1() -> &'static [Row<'static, &'static [u8]>] {
     &PARTS_1
 }
@@ -178,6 +206,18 @@ fn parts_3() -> &'static [Row<'static, &'static [u8]>] {
     &PARTS_3
 }
 
+fn reason() -> &'static [Row<'static, &'static [u8]>] {
+    &REASON
+}
+
+/// The numbers of the other rows, but for the glue of clauses that are kept.
+fn no_kept_glue() -> Constants {
+    Constants {
+        kept_glue: 0,
+        ..small_constants()
+    }
+}
+
 #[test]
 fn parts_of_the_definition(rt: HostRuntime) -> Result<(), Fail> {
     let tables = [parts_1(), parts_2(), parts_3()];
@@ -186,6 +226,15 @@ fn parts_of_the_definition(rt: HostRuntime) -> Result<(), Fail> {
             let comes = comes(rt.alloc(), text, *budget, small_constants(), *wanted)?;
             assert!(rt; comes, "{name}");
         }
+    }
+    Ok(())
+}
+
+#[test]
+fn reasons_stay(rt: HostRuntime) -> Result<(), Fail> {
+    for (name, text, budget, wanted) in reason() {
+        let comes = comes(rt.alloc(), text, *budget, no_kept_glue(), *wanted)?;
+        assert!(rt; comes, "{name}");
     }
     Ok(())
 }

@@ -319,12 +319,12 @@ const TURNS_OF_TWO_MODELS: [Turn; 6] = [
 // by the focused search the variable 3 is decided first
 const LEFT_HALF_FOCUSED: Turn = Turn {
     cube: &[-1],
-    wanted: Wanted::Refuted(&[(&[-3], &[2, 4]), (&[], &[9, 1, 3])]),
+    wanted: Wanted::Refuted(&[(&[-3], &[2, 4]), (&[2], &[9, 1]), (&[], &[9, 10, 3])]),
 };
 
 const RIGHT_HALF_FOCUSED: Turn = Turn {
     cube: &[1],
-    wanted: Wanted::Refuted(&[(&[-3], &[6, 8]), (&[], &[9, 5, 7])]),
+    wanted: Wanted::Refuted(&[(&[-3], &[6, 8]), (&[2], &[9, 5]), (&[], &[9, 10, 7])]),
 };
 
 const ROOT_FOCUSED: Turn = Turn {

@@ -31,13 +31,14 @@ static ROWS: [Row; 11] = [
     // -1 is decided and gives 2, which makes the second clause false; 1 is learnt and gives 2,
     // which makes the fourth one false at level 0
     (FOUR, Search::Ordered, 2, 0, NONE, [2, 1, 4, 1, 0, 0]),
-    // the same with 1 and 2, and all signs, exchanged
-    (FOUR, Search::Focused, 2, 0, NONE, [2, 1, 4, 1, 0, 0]),
+    // the same with 1 and 2, and all signs, exchanged; but 1, which -2 gives, becomes a learnt clause
+    (FOUR, Search::Focused, 2, 0, NONE, [2, 1, 4, 2, 0, 0]),
     // -1, then -2 and 3, a conflict; (1 2) is learnt; 2 and 3, a conflict; 1 is learnt and gives
     // nothing; -2 is decided and gives 3, a conflict; 2 is learnt and gives 3, the last conflict
     (EIGHT, Search::Ordered, 1000, 0, NONE, [4, 3, 10, 3, 0, 0]),
-    // the same with 1 and 3, and all signs, exchanged, but 2 is decided to be false, as it was last
-    (EIGHT, Search::Focused, 1000, 0, NONE, [4, 3, 10, 3, 0, 0]),
+    // the same with 1 and 3, and all signs, exchanged, but 2 is decided to be false, as it was last, and
+    // 1, which 2 gives at level 0, becomes a learnt clause
+    (EIGHT, Search::Focused, 1000, 0, NONE, [4, 3, 10, 4, 0, 0]),
     // the first of these conflicts uses the root up; in each half its literal, then -2 and 3, a
     // conflict; a unit clause of 2 is learnt and gives 3, a conflict
     (EIGHT, Search::Ordered, 1, 0, NONE, [5, 4, 13, 2, 0, 0]),
@@ -46,39 +47,40 @@ static ROWS: [Row; 11] = [
     // 2 is decided and gives 1
     (ONE, Search::Focused, 2, 0, NONE, [0, 1, 2, 0, 0, 0]),
     // it is refuted before the first search is asked
-    (FOUR, Search::Focused, 2, 2, [2, 1, 4, 1, 0, 0], NONE),
+    (FOUR, Search::Focused, 2, 2, [2, 1, 4, 2, 0, 0], NONE),
     // 5, then 4 and 3, a conflict, behind which stable mode begins; (-4 -5) is learnt; 5 is decided and
     // gives -4 and 3, a conflict, with few decisions; a look decides both literals of 5, 4 and 3, which
-    // bring nothing, and -2, which gives 1, a conflict; both halves are refuted by propagation
+    // bring nothing, and -2, which gives 1, a conflict; both halves are refuted by propagation, and learn
+    // 1
     (
         FIVE,
         Search::Focused,
         2,
         2,
         [3, 10, 14, 1, 1, 1],
-        [2, 0, 4, 0, 0, 0],
+        [2, 0, 4, 2, 0, 0],
     ),
     // 3, then 2 and 1, a conflict, before stable mode: it uses the root up too, and is counted once;
-    // each half is as above
+    // each half is as above, and learns two clauses
     (
         EIGHT,
         Search::Focused,
         1,
         2,
         [1, 2, 3, 0, 0, 0],
-        [4, 2, 10, 2, 0, 0],
+        [4, 2, 10, 4, 0, 0],
     ),
     // 3, then 2 and 1, a conflict, behind which stable mode begins; (-2 -3) is learnt; 3 is decided and
     // gives -2 and 1, a conflict, with few decisions; a look decides both literals of each variable,
     // which bring nothing; in each half its literal, then -2 and 1, a conflict, so -2 fails; each half
-    // of that is refuted by its literals and 1
+    // of that is refuted by its literals and 1, which it learns
     (
         EIGHT,
         Search::Focused,
         2,
         3,
         [2, 9, 12, 1, 1, 0],
-        [6, 2, 18, 0, 2, 2],
+        [6, 2, 18, 4, 2, 2],
     ),
 ];
 

@@ -4,14 +4,14 @@ use crate::command_lines::{REFUTED, Row, check_rows};
 use samples::{EIGHT, HARD_EIGHT, HARD_FOUR};
 use std::test::Fail;
 
-/// The eight clauses' proof without a division: each half learns a clause.
+/// The eight clauses' proof without a division: each half learns a clause, and then a literal of level 0.
 const EIGHT_SEARCHED: &str =
-    "9 -2 3 0 3 7 0\n10 3 0 9 1 5 0\n10 d 9 0\n11 -2 -3 0 4 8 0\n12 -3 0 11 2 6 0\n12 d 11 0\n13 0 10 12 0\n";
+    "9 -2 3 0 3 7 0\n10 1 3 0 9 1 0\n11 3 0 9 10 5 0\n11 d 9 10 0\n12 -2 -3 0 4 8 0\n13 1 -3 0 12 2 0\n14 -3 0 12 13 6 0\n14 d 12 13 0\n15 0 11 14 0\n";
 
 /// The proof where the first cube and its halves are looked at: in each of the halves -2 fails, so it is
 /// split on 2.
 const EIGHT_LOOKED_AT: &str =
-    "129 3 2 0 1 5 0\n130 3 -2 0 3 7 0\n131 3 0 129 130 0\n131 d 129 130 0\n132 -3 2 0 2 6 0\n133 -3 -2 0 4 8 0\n134 -3 0 132 133 0\n134 d 132 133 0\n135 0 131 134 0\n";
+    "129 1 3 2 0 1 0\n130 3 2 0 129 5 0\n130 d 129 0\n131 1 3 -2 0 3 0\n132 3 -2 0 131 7 0\n132 d 131 0\n133 3 0 130 132 0\n133 d 130 132 0\n134 1 -3 2 0 2 0\n135 -3 2 0 134 6 0\n135 d 134 0\n136 1 -3 -2 0 4 0\n137 -3 -2 0 136 8 0\n137 d 136 0\n138 -3 0 135 137 0\n138 d 135 137 0\n139 0 133 138 0\n";
 
 /// No cube is wanted but the first.
 const UNDIVIDED: Row = Row {
@@ -43,7 +43,7 @@ const BY_ONE_HAND: Row = Row {
         "cubesat", "solve", "--search", "focused", "--divide", "2", "--budget", "1840", "--hands",
         "1", "--proof", "PROOF", "FORMULA",
     ],
-    after: "125 2 0 1 3 0\n126 -2 0 2 4 0\n127 0 125 126 0\n",
+    after: "125 1 2 0 1 0\n126 2 0 125 3 0\n126 d 125 0\n127 1 -2 0 2 0\n128 -2 0 127 4 0\n128 d 127 0\n129 0 126 128 0\n",
     ..UNDIVIDED
 };
 

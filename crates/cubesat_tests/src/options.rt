@@ -43,7 +43,7 @@ const FOCUSED_BEHIND: Row = Row {
         "PROOF",
         "FORMULA",
     ],
-    after: "9 -2 -3 0 4 8 0\n10 -3 0 9 2 6 0\n11 2 0 10 1 5 0\n12 0 10 11 3 7 0\n",
+    after: "9 -2 -3 0 4 8 0\n10 -3 0 9 2 6 0\n11 2 0 10 1 5 0\n12 1 0 10 11 3 0\n13 0 10 11 12 7 0\n",
     ..BUDGET_1
 };
 

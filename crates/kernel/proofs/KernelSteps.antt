@@ -20,7 +20,7 @@ use Rattle.trail.specs.TrailOver.{IsOrdered}
 use Rattle.cnf.specs.Lits.{code}
 use Rattle.kernel.specs.Watching.{At, IsPair, IsWatched, apart, waits, Includes, WasUnit, listed_both}
 use Rattle.kernel.specs.Visiting.{WatchLists, places, tending}
-use Rattle.kernel.specs.Attaching.{attached, IsWatching}
+use Rattle.kernel.specs.Attaching.{attached, IsBase, IsWatching}
 use Rattle.kernel.proofs.LiteralFacts.{true_false, all-member, has-var, free-not_negated}
 use Rattle.kernel.proofs.Places.{At-push}
 use Rattle.kernel.proofs.TrailFacts.{Includes-take, Includes-up_to}
@@ -101,6 +101,27 @@ back-watching V first K T at floor m k u single empty below pairs lists units le
   base = s.base;
 }
 
+-- a clause more, behind the first ones
+pub base-more : (first : ℕ) (K : List Clause) (c : Clause) (single : List ℕ) (empty : Option ℕ) → first ≤ length K → (c ≡ [] → ⊥) → IsBase first K single empty → IsBase first (K ++ c ∷ []) single empty
+base-more first K c single empty within some b = record {
+  all_singles = λ n d y h a m all. b.all_singles n d y h (front n d (omega (arith, h, within)) a) m all;
+  singles = λ n h. let r = b.singles n h in (r.0, λ d a. r.1 d (front n d (omega (arith, r.0, within)) a));
+  empty = λ n h. let r = b.empty n h in (r.0, At-longer K c [] n r.1);
+  empties = λ n h a. b.empties n h (front n [] (omega (arith, h, within)) a);
+  learnt = λ n h a. never n h (At-push K c n [] a);
+}
+  where
+    front : (n : ℕ) (d : Clause) → n < length K → At (K ++ c ∷ []) n d → At K n d
+    front n d h a = go (At-push K c n d a)
+      where
+        go : At K n d ⊎ ((n ≡ length K) × (d ≡ c)) → At K n d
+        go (inl a) = a
+        go (inr (f, _)) = absurd (omega (arith, f, h))
+
+    never : (n : ℕ) → first ≤ n → At K n [] ⊎ ((n ≡ length K) × ([] ≡ c)) → ⊥
+    never n h (inl a) = b.learnt n h a
+    never n h (inr (_, f)) = some (sym f)
+
 -- a learnt clause
 pub learnt-watching : (V first : ℕ) (K : List Clause) (T : Trail) (at floor : ℕ) (k u : WatchLists) (single : List ℕ) (empty : Option ℕ) (c : Clause) (w : Watched) → first ≤ length K → IsOrdered V T → IsOver V c → (learnable : IsLearnable T c)
     → w.first ≡ learnable.free → IsPair c w → ((l : Literal) → has c l ≡ true → same learnable.free l ≡ false → level_of T l ≤ level_of T w.second)
@@ -111,26 +132,9 @@ learnt-watching V first K T at floor k u single empty c w within ordered over le
   served = added floor K T at c w (tending k) (tending u) pair (inside w.first ha) (inside w.second hb) earlier pairs placed least more was (waits here (inl (free (take at T) (Includes-take T at)))) s.served;
   entries = λ l. rw (pairs, lists) (attached-entries K k c w s.served.tends.listed pair ha hb s.entries l);
   within = s.within;
-  base = record {
-    all_singles = λ n d y h a m all. s.base.all_singles n d y h (front n d (omega (arith, h, within)) a) m all;
-    singles = λ n h. let r = s.base.singles n h in (r.0, λ d a. r.1 d (front n d (omega (arith, r.0, within)) a));
-    empty = λ n h. let r = s.base.empty n h in (r.0, At-longer K c [] n r.1);
-    empties = λ n h a. s.base.empties n h (front n [] (omega (arith, h, within)) a);
-    learnt = λ n h a. never n h (At-push K c n [] a);
-  };
+  base = base-more first K c single empty within (λ f. no-literal w.first (subst (λ (d : Clause). has d w.first ≡ true) f pair.first_in)) s.base;
 }
   where
-    front : (n : ℕ) (d : Clause) → n < length K → At (K ++ c ∷ []) n d → At K n d
-    front n d h a = go (At-push K c n d a)
-      where
-        go : At K n d ⊎ ((n ≡ length K) × (d ≡ c)) → At K n d
-        go (inl b) = b
-        go (inr (f, _)) = absurd (omega (arith, f, h))
-
-    never : (n : ℕ) → first ≤ n → At K n [] ⊎ ((n ≡ length K) × ([] ≡ c)) → ⊥
-    never n h (inl a) = s.base.learnt n h a
-    never n h (inr (_, f)) = absurd (no-literal w.first (subst (λ (d : Clause). has d w.first ≡ true) (sym f) pair.first_in))
-
     ha : code w.first < length k.lists
     ha = code-within w.first V (length k.lists) (over-var V c w.first over pair.first_in) s.lists
 

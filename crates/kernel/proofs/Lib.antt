@@ -36,6 +36,7 @@ pub mod Shown
 pub mod Sights
 pub mod Steps
 pub mod TrailFacts
+pub mod TrueUnits
 pub mod Together
 pub mod Turns
 pub mod UnitLemmas

@@ -2,7 +2,8 @@
 ghost use Rattle.std.specs.Prelude.{◌≡◌, ◌≢◌, ◌+◌, ◌<◌, ◌≤◌, ◌*◌, ◌∷◌, [], ◌++◌, All, IfOk, OnOk, OnErr, IfSome, IfNone, IsSome, Some, None, length, map, Bool, true, false, nat_le, ℕ, ◌^◌, List, Option, sum_by};
 ghost use Rattle.theory.specs.Literals.{Literal, same, has};
 ghost use Rattle.theory.specs.Status.{unit_literal};
-ghost use Rattle.theory.specs.Trails.{literals, level_of};
+ghost use Rattle.theory.specs.Trails.{literals, current_level, level_of};
+ghost use Rattle.theory.specs.Trails as trails;
 ghost use Rattle.theory.specs.Truth.{IsOver};
 ghost use Rattle.theory.specs.Reading.{large, max_clauses};
 ghost use Rattle.theory.specs.Learnable.{IsLearnable};
@@ -233,6 +234,28 @@ impl Propagator {
                 Ok(())
             }
         }
+    }
+
+    /// Puts a clause of one literal at the end, which is true at level 0 and stays so until the
+    /// clauses are cut: it waits nowhere, since it is never unit and never false. Where a request
+    /// for memory is refused, the clauses are as they were.
+    pub fn attach_true(&mut self, lit: Lit) -> Result<(), AllocError>
+        requires { code lit < length self.old.lists }
+        ensures clauses { OnOk result (self.new.clauses.given ≡ self.old.clauses.given ++ (lit ∷ []) ∷ []) }
+        ensures watching { OnOk result ((V first at floor : ℕ) (T : trails.Trail) (single : List ℕ) (empty : Option ℕ) → first ≤ length self.old.clauses.given
+            → current_level T ≡ 0 → has (literals T) lit ≡ true
+            → IsWatching V first self.old.clauses.given T at floor (kept_of self.old) single empty
+            → IsWatching V first self.new.clauses.given T at floor (kept_of self.new) single empty) }
+        ensures refused { OnErr result (self.new.clauses.given ≡ self.old.clauses.given) }
+    {
+        self.attach(
+            &[lit],
+            Watched {
+                first: lit,
+                second: lit,
+            },
+        )?;
+        Ok(())
     }
 
     /// Attaches the formula's clauses, before anything is decided, and notes those of one literal.

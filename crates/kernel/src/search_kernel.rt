@@ -1,5 +1,5 @@
 //! The kernel of a search: the clauses and the trail of one cube, or of one cube after the other.
-ghost use Rattle.std.specs.Prelude.{◌≡◌, ◌+◌, ◌<◌, ◌≤◌, true, false, None, [], ◌∷◌, ◌++◌, length, take, All, IfOk, IfSome, IfNone, OnOk, OnErr, IsErr, slice_get, if◌then◌else◌, ◌⊎◌};
+ghost use Rattle.std.specs.Prelude.{◌≡◌, ◌+◌, ◌<◌, ◌≤◌, true, false, None, [], ◌∷◌, ◌++◌, length, take, All, IfOk, IfSome, IfNone, OnOk, OnErr, IsErr, is_some, Some, slice_get, slice_set, if◌then◌else◌, ◌⊎◌};
 ghost use Rattle.std.specs.Option.{option_map};
 ghost use Rattle.std.specs.List.Sorted.{IsPermutation};
 ghost use Rattle.theory.specs.Literals.{IsVariable, IsCube, has_var};
@@ -29,8 +29,8 @@ use trail::{Cube, Entry, Trail};
 
 /// The clauses and the trail of the search in one cube, or in one cube after the other. Each clause
 /// is kept once, with its literals in an order of the kernel's own. Once a call has met want of
-/// memory, `close`, `learn`, `forget` and `restart` answer it from then on, `decide` and `back_to`
-/// change nothing, and the other calls answer of the trail as it stands.
+/// memory, `close`, `learn`, `learn_unit`, `forget` and `restart` answer it from then on, `decide`
+/// and `back_to` change nothing, and the other calls answer of the trail as it stands.
 pub struct SearchKernel {
     // the clauses, and their watches
     propagator: Propagator,
@@ -315,6 +315,43 @@ impl SearchKernel {
             Ok(()) => {
                 self.counts.add_learnt();
                 Ok(self.propagator.clauses.len() as u64)
+            }
+            Err(error) => {
+                self.short = true;
+                Err(error)
+            }
+        }
+    }
+
+    /// Puts the literal of the entry at a place, counted from 0, behind the clauses as one of its
+    /// own, which becomes the entry's reason, and answers its number. The trail is at level 0, and
+    /// the entry has a reason. Propagation may have come to rest or to a false clause: the new
+    /// clause is true until `restart` cuts it off, so it changes neither. It takes one step. It
+    /// fails where a request for memory is refused, and from then on; the clauses and the trail are
+    /// then as they were.
+    pub fn learn_unit(&mut self, place: usize) -> Result<u64, AllocError>
+        requires level { self.old.short ≡ false → current_level self.old.trail ≡ 0 }
+        requires entry { self.old.short ≡ false →
+            (e : trails.Entry) × (slice_get self.old.trail place ≡ Some e) × (is_some e.reason ≡ true) }
+        ensures ok { IfOk result (λ n. n ≡ length self.old.clauses + 1) }
+        ensures learnt { OnOk result ((e : trails.Entry) → slice_get self.old.trail place ≡ Some e → self.new ≡ record self.old {
+          clauses = self.old.clauses ++ (e.lit ∷ []) ∷ [];
+          trail = slice_set self.old.trail place record e { reason = Some (length self.old.clauses + 1) };
+        }) }
+        ensures refused { OnErr result (self.new ≡ record self.old { short = true }) }
+        ensures stays { self.old.short ≡ true → IsErr result }
+        ensures was { OnOk result (self.old.short ≡ false) }
+    {
+        if self.short {
+            return Err(AllocError);
+        }
+        let entry = self.trail.entries()[place];
+        match self.propagator.attach_true(entry.lit) {
+            Ok(()) => {
+                let number = self.propagator.clauses.len() as u64;
+                self.trail.set_reason(place, number);
+                self.counts.add_learnt();
+                Ok(number)
             }
             Err(error) => {
                 self.short = true;

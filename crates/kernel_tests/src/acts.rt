@@ -102,6 +102,8 @@ pub enum Act<'a> {
     BackTo(u32),
     /// Going back to level 0, and a clause of one literal.
     LearnUnit(i32),
+    /// The literal of the entry at a place as a clause of its own, which becomes its reason.
+    LearnEntry(usize),
     /// Going back, and a clause of a literal that is false at the level and a free one.
     LearnPair(u32, i32, i32),
     /// Another cube.
@@ -156,6 +158,22 @@ pub fn learn_unit(kernel: &mut SearchKernel, number: i32) -> Result<bool, AllocE
     }
     let learnt = kernel.learn(&[lit])?;
     Ok(is_of(kernel.arranged(learnt), &[number]))
+}
+
+/// The literal of the entry at a place as the last clause, which becomes the entry's reason.
+pub fn learn_entry(kernel: &mut SearchKernel, place: usize) -> Result<bool, AllocError> {
+    if kernel.level() > 0 {
+        return Ok(false);
+    }
+    let Some(entry) = kernel.trail().get(place) else {
+        return Ok(false);
+    };
+    let entry = *entry;
+    if entry.reason.is_none() {
+        return Ok(false);
+    }
+    let number = kernel.learn_unit(place)?;
+    Ok(number == kernel.count() && is_of(kernel.arranged(number), &[entry.lit.number()]))
 }
 
 /// The entry that makes a literal false, if one does.
@@ -250,6 +268,7 @@ pub fn acts(alloc: Global, kernel: &mut SearchKernel, act: Act) -> Result<bool, 
             }
             learn_unit(kernel, number)
         }
+        Act::LearnEntry(place) => learn_entry(kernel, place),
         Act::LearnPair(level, number, free) => {
             if !back_to(kernel, level) {
                 return Ok(false);

@@ -10,6 +10,8 @@ mod as_given;
 #[cfg(test)]
 mod dice;
 #[cfg(test)]
+mod entry_units;
+#[cfg(test)]
 mod forgetting;
 #[cfg(test)]
 mod look_ups;

@@ -1,6 +1,6 @@
 //! Worked rows: what propagation answers, and the whole trail after it.
 use crate::acts::{Act, Case, Opening, Row, failed_row};
-use crate::{forgetting, restarts, units};
+use crate::{entry_units, forgetting, restarts, units};
 use kernel::Closed;
 use samples::{EIGHT, FOUR};
 use std::alloc::Global;
@@ -211,6 +211,7 @@ fn kernels_go_through_their_rows(rt: HostRuntime) -> Result<(), Fail> {
     all_go(&rt, rt.alloc(), &DECISIONS)?;
     all_go(&rt, rt.alloc(), &AT_THE_ROOT)?;
     all_go(&rt, rt.alloc(), &units::CASES)?;
+    all_go(&rt, rt.alloc(), &entry_units::CASES)?;
     all_go(&rt, rt.alloc(), &restarts::CASES)?;
     all_go(&rt, rt.alloc(), &forgetting::CASES)
 }

@@ -3,7 +3,9 @@
 ghost use Rattle.std.specs.Prelude.{IfOk};
 ghost use Rattle.theory.specs.Truth.{IsOver};
 
-use crate::acts::{are_same, back_to, decide, learn_pair, learn_three, learn_unit, lits_of};
+use crate::acts::{
+    are_same, back_to, decide, learn_entry, learn_pair, learn_three, learn_unit, lits_of,
+};
 use crate::dice::{Dice, formula_text};
 use crate::forgetting::{forget, is_reason};
 use crate::scan::Scan;
@@ -135,6 +137,15 @@ impl Twins {
         Ok(())
     }
 
+    /// The literal of some entry as a clause of its own, in both, where the kernel could learn it.
+    fn learn_entry(&mut self, dice: &mut Dice) -> Result<(), AllocError> {
+        let place = dice.below(4) as usize;
+        if learn_entry(&mut self.kernel, place)? {
+            self.scan.learn_entry(place)?;
+        }
+        Ok(())
+    }
+
     fn forget(&mut self, alloc: Global, dice: &mut Dice) -> Result<(), AllocError> {
         let numbers = some_learnt(alloc, dice, &self.kernel)?;
         if forget(&mut self.kernel, &numbers)? {
@@ -170,10 +181,13 @@ impl Twins {
 
     /// Propagates in both, and goes on. Whether both answered the same.
     fn go_on(&mut self, alloc: Global, dice: &mut Dice) -> Result<bool, AllocError> {
-        match self.close()? {
-            None => return Ok(false),
-            Some(Closed::Quiet) => self.after_quiet(alloc, dice)?,
-            Some(Closed::Conflict(_)) => self.after_conflict(alloc, dice)?,
+        let Some(closed) = self.close()? else {
+            return Ok(false);
+        };
+        self.learn_entry(dice)?;
+        match closed {
+            Closed::Quiet => self.after_quiet(alloc, dice)?,
+            Closed::Conflict(_) => self.after_conflict(alloc, dice)?,
         }
         Ok(true)
     }

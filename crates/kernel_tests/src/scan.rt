@@ -211,6 +211,17 @@ impl Scan {
         Ok(())
     }
 
+    /// The literal of the entry at a place as the last clause, which becomes the entry's reason.
+    pub fn learn_entry(&mut self, place: usize) -> Result<(), AllocError> {
+        let number = self.clauses.len().saturating_add(1) as u64;
+        if place < self.trail.len() {
+            let lit = self.trail[place].lit;
+            self.trail[place].reason = Some(number);
+            self.learn(&[lit])?;
+        }
+        Ok(())
+    }
+
     /// Puts `1 -1` in the place of the clauses of these numbers.
     pub fn forget(&mut self, numbers: &[u64]) -> Result<(), AllocError> {
         for number in numbers {

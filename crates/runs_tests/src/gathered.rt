@@ -30,8 +30,13 @@ const RIGHT: &[u8] = &[3, 0, 4, 0, 0, 6, 2, 0];
 /// The cube -1 again, with the hints of the other one.
 const WRONG_LEFT: &[u8] = &[2, 0, 4, 0, 0, 6, 2, 0];
 
-/// What is written of `FOUR` where it is split on 2.
-const PROOF_BY_2: &str = "5 2 0 1 3 0\n6 -2 0 2 4 0\n7 0 5 6 0\n";
+/// What is written of `FOUR` by the focused search where it is split on 2, and where on 1: in each half
+/// propagation gives a literal, which has a line of its own.
+const PROOF_BY_2: &str =
+    "5 1 2 0 1 0\n6 2 0 5 3 0\n6 d 5 0\n7 1 -2 0 2 0\n8 -2 0 7 4 0\n8 d 7 0\n9 0 6 8 0\n";
+
+const PROOF_BY_1: &str =
+    "5 2 1 0 1 0\n6 1 0 5 2 0\n6 d 5 0\n7 2 -1 0 3 0\n8 -1 0 7 4 0\n8 d 7 0\n9 0 6 8 0\n";
 
 /// Its first model has 1 false.
 const ONE_MODEL: &str = "p cnf 2 3\n1 2 0\n-1 2 0\n1 -2 2 0\n";
@@ -219,7 +224,7 @@ static ROWS: [Row; 14] = [
         read: [2, 0, 0],
         taken: 1,
         solved: 2,
-        proof: FOUR_PROOF,
+        proof: PROOF_BY_1,
         answer: REFUTED,
     },
 ];

@@ -5,6 +5,7 @@ pub mod PureModels
 pub mod Walks
 pub mod LearntLines
 pub mod EmptyLines
+pub mod UnitLines
 pub mod NarrowedSets
 pub mod WalkParts
 pub mod ShorterLines
@@ -17,6 +18,9 @@ pub mod SearchSteps
 pub mod OpenTrails
 pub mod ReplayedLines
 pub mod KeptSearches
+pub mod KeptUnits
+pub mod UnitWalks
+pub mod UnitHints
 pub mod PropagationLemmas
 pub mod SearchSoundness
 pub mod ModelLemmas

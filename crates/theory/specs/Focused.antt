@@ -10,6 +10,7 @@ use Rattle.theory.specs.Plans.{Constants}
 use Rattle.theory.specs.Trails.{Trail, literals, current_level, cube_trail, decide, up_to, variables}
 use Rattle.theory.specs.Propagation.{Closed, quiet, conflict, by_place, Propagates}
 use Rattle.theory.specs.Learning.{Line, learn, back_level}
+use Rattle.theory.specs.Units.{Units, units_of}
 use Rattle.theory.specs.Lessons.{Lesson, lesson_of}
 use Rattle.theory.specs.Search.{Outcome, model, refuted, exhausted, first_clauses, budget_within, max_focused, values, Next, ends, goes_on, RunsFrom}
 use Rattle.theory.specs.Modes.{Pace, first_pace, is_restarting, pace_after}
@@ -59,6 +60,14 @@ begin c F Q = record {
 -- 1 in stable mode
 abbrev pub if_stable : FocusedState → ℕ
 if_stable s = if is_restarting s.pace.mode then 0 else 1
+
+-- with the units of level 0
+abbrev pub with_units_of : FocusedState → Units → FocusedState
+with_units_of s u = record s { clauses = u.clauses; trail = u.trail; lines = s.lines ++ u.lines; marks = s.marks ++ map (λ line. fresh_mark 0) u.lines }
+
+-- behind propagation: at level 0 the units become lines
+abbrev pub settled : FocusedState → FocusedState
+settled s = if nat_eq (current_level s.trail) 0 then with_units_of s (units_of s.clauses s.trail) else s
 
 -- the literal of a variable that is true where it has its saved value
 abbrev pub saved_literal : Assignment → ℕ → Literal
@@ -144,12 +153,12 @@ abbrev pub after : Constants → ℕ → ℕ → FocusedState → Closed → Nex
 after c V budget s quiet = on_quiet V s (best_outside V (literals s.trail) s.scores)
 after c V budget s (conflict n) = on_conflict c V budget s n
 
--- a step: propagation, and what follows its answer
+-- a step: propagation, the units, and what follows the answer
 pub record IsFocusedStep (c : Constants) (V budget : ℕ) (s : FocusedState) (next : Next FocusedState) : Type 0 where
   pub answer : Closed
   pub trail : Trail
   pub propagates : Propagates by_place s.clauses s.trail answer trail
-  pub follows : after c V budget (record s { trail = trail }) answer ≡ next
+  pub follows : after c V budget (settled (record s { trail = trail })) answer ≡ next
 
 -- the outcome of the cube Q, where B is the budget of the root
 abbrev pub RunsFocused : Constants → Formula → ℕ → List Literal → Outcome → Type 0

@@ -19,7 +19,8 @@ is_number n (Some m) = nat_eq n m
 abbrev pub is_reason : Trail → ℕ → Bool
 is_reason T n = list_any (λ e. is_number n e.reason) T
 
--- of a learnt clause its glue, and whether it was used since the last round
+-- of a learnt clause its glue, and whether it was used since the last round; that of a unit of
+-- level 0 is 0
 pub record Mark : Type 0 where
   pub glue : ℕ
   pub used : Bool

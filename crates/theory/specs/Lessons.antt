@@ -1,25 +1,13 @@
 -- What a conflict teaches the focused search: a line, and what its choices go by. Source: the
 -- variables of a learnt clause's reasons count as seen too (Liang, Ganesh, Poupart and Czarnecki,
 -- SAT 2016).
-use Rattle.std.specs.Prelude.{ℕ, List, [], ◌∷◌, ◌++◌, Option, Some, None, if◌then◌else◌}
-use Rattle.theory.specs.Literals.{Clause, has, negated}
-use Rattle.theory.specs.Trails.{Entry, Trail}
+use Rattle.std.specs.Prelude.{ℕ, List, [], ◌++◌}
+use Rattle.theory.specs.Literals.{Clause}
+use Rattle.theory.specs.Trails.{Trail}
 use Rattle.theory.specs.Learning.{Line, learn_removing}
 use Rattle.theory.specs.Removing.{first_walk, removable}
+use Rattle.theory.specs.Units.{reasons_against}
 use Rattle.theory.specs.Restarts.{glue}
-
--- the entry's reason, where the entry makes a literal of the clause false
-abbrev pub reason_against : Clause → Entry → Option ℕ
-reason_against c e = if has c (negated e.lit) then e.reason else None
-
-abbrev pub with_number : Option ℕ → List ℕ → List ℕ
-with_number None ns = ns
-with_number (Some n) ns = n ∷ ns
-
--- the reasons of the entries that make literals of the clause false, in trail order
-abbrev pub reasons_against : Trail → Clause → List ℕ
-reasons_against [] c = []
-reasons_against (e ∷ T) c = with_number (reason_against c e) (reasons_against T c)
 
 -- the line, its glue, the numbers of the clauses that were resolved at the current level, and of
 -- those whose variables are seen

@@ -3,12 +3,13 @@
 -- Source: lookahead in cube-and-conquer (march_cu: Heule, Kullmann, Wieringa, Biere, HVC 2011), in
 -- natural numbers. How candidates are chosen and what a variable is worth is this project's own, as
 -- measured.
-use Rattle.std.specs.Prelude.{◌≡◌, ℕ, zero, suc, ◌+◌, ◌-◌, ◌*◌, nat_lt, not, ◌&&◌, List, [], ◌∷◌, map, length, count_by, Option, Some, None, ◌⊎◌, if◌then◌else◌}
+use Rattle.std.specs.Prelude.{◌≡◌, ℕ, zero, suc, ◌+◌, ◌-◌, ◌*◌, nat_lt, not, ◌&&◌, List, [], ◌∷◌, ◌++◌, map, length, count_by, Option, Some, None, ◌⊎◌, if◌then◌else◌}
 use Rattle.theory.specs.Literals.{Literal, Clause, has, has_both_signs, positive, negative}
 use Rattle.theory.specs.Truth.{Formula}
 use Rattle.theory.specs.Trails.{Trail, literals, cube_trail, decide, variables, least_free}
 use Rattle.theory.specs.Propagation.{Closed, quiet, conflict, by_place, Propagates}
 use Rattle.theory.specs.Learning.{learn}
+use Rattle.theory.specs.Units.{units_of}
 use Rattle.theory.specs.Search.{Outcome, model, refuted, exhausted, first_clauses, values}
 use Rattle.theory.specs.Scores.{Scores, best_outside}
 
@@ -87,7 +88,7 @@ SplitsInto F T (Some v) o = (x : ℕ) × (o ≡ exhausted x) × IsChosen F T x
 
 -- what a cube comes to behind an answer of propagation
 abbrev pub ComesTo : Formula → Closed → Trail → Outcome → Type 0
-ComesTo F (conflict n) T o = o ≡ refuted (learn (first_clauses F) T n ∷ [])
+ComesTo F (conflict n) T o = let u = units_of (first_clauses F) T in o ≡ refuted (u.lines ++ learn u.clauses u.trail n ∷ [])
 ComesTo F quiet T o = SplitsInto F T (least_free F.vars T) o
 
 -- a look at the cube Q: propagation refutes it, or leaves a model, or it is to be split on the

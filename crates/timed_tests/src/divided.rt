@@ -34,14 +34,14 @@ const DIVIDED: Row = Row {
     lines: "c formula: 44 variables, 124 clauses, 360 literals
 c hands: 1
 c search: 1843 conflicts, 2529 decisions, 25009 propagations, 14 restarts
-c clauses: 1839 learnt, 530 forgotten
+c clauses: 1844 learnt, 530 forgotten
 c divided: 43 decisions in 40 conflicts of stable mode, into at most 2 cubes
 c looked at: 1 cubes, 1 failed literals, 0.150 s
 c searched: 2 cubes
 c cubes: 3 solved, 1 split, 0 skipped
-c learnt: 2 lines in refuted cubes, kept in 8 bytes
+c learnt: 4 lines in refuted cubes, kept in 20 bytes
 c solved by each hand: 3
-c proof: 3 lines, 45 bytes
+c proof: 7 lines, 102 bytes
 c reading: 1.234 s
 c solving: 2.050 s
 c joining: 0.007 s
@@ -64,14 +64,14 @@ static ROWS: [Row; 5] = [
         lines: "c formula: 45 variables, 128 clauses, 384 literals
 c hands: 1
 c search: 1846 conflicts, 2594 decisions, 25085 propagations, 14 restarts
-c clauses: 1839 learnt, 530 forgotten
+c clauses: 1846 learnt, 530 forgotten
 c divided: 43 decisions in 40 conflicts of stable mode, into at most 4 cubes
 c looked at: 3 cubes, 2 failed literals, 0.450 s
 c searched: 4 cubes
 c cubes: 7 solved, 3 split, 0 skipped
-c learnt: 4 lines in refuted cubes, kept in 16 bytes
+c learnt: 8 lines in refuted cubes, kept in 40 bytes
 c solved by each hand: 7
-c proof: 9 lines, 153 bytes
+c proof: 17 lines, 277 bytes
 c reading: 1.234 s
 c solving: 2.050 s
 c joining: 0.007 s
@@ -91,7 +91,7 @@ c conflicts a second: 900
         lines: "c formula: 45 variables, 128 clauses, 384 literals
 c hands: 1
 c search: 1846 conflicts, 2594 decisions, 25085 propagations, 14 restarts
-c clauses: 1839 learnt, 530 forgotten
+c clauses: 1846 learnt, 530 forgotten
 c divided: 43 decisions in 40 conflicts of stable mode, into at most 64 cubes
 c looked at: 7 cubes, 2 failed literals, 1.450 s
 c searched: 0 cubes
@@ -114,7 +114,7 @@ c conflicts a second: 900
         lines: "c formula: 3 variables, 8 clauses, 24 literals
 c hands: 1
 c search: 5 conflicts, 4 decisions, 13 propagations, 0 restarts
-c clauses: 2 learnt, 0 forgotten
+c clauses: 4 learnt, 0 forgotten
 c not divided: 0 decisions in 0 conflicts of stable mode
 c cubes: 3 solved, at least 1 split, skipped unknown
 c solved by each hand: 3
@@ -133,7 +133,7 @@ c conflicts a second: 2
         lines: "c formula: 2 variables, 4 clauses, 8 literals
 c hands: 1
 c search: 2 conflicts, 1 decisions, 4 propagations, 0 restarts
-c clauses: 1 learnt, 0 forgotten
+c clauses: 2 learnt, 0 forgotten
 c not divided: the focused search ended after 2 conflicts
 c cubes: 1 solved, at least 0 split, skipped unknown
 c solved by each hand: 1

@@ -17,7 +17,7 @@ pub(crate) const HIGHER: &str = "p cnf 3 4\n1 2 3 0\n1 2 -3 0\n-1 2 3 0\n-1 2 -3
 
 /// The search that is made first decides -1 and -2, and 3 brings the conflict. The focused one decides
 /// 3, 2 and 1. In the cube -1 the search for another model decides 3, and 2 follows; in that of -1 and
-/// -2 the conflict comes with 3; in that of -1, 2 and -3 there is a model.
+/// -2 the conflict comes with 3, which is learnt; in that of -1, 2 and -3 there is a model.
 const LOWERED: Row = Row {
     formula: HIGHER,
     words: &[
@@ -36,7 +36,7 @@ const LOWERED: Row = Row {
 c hands: 1
 c first search: ordered, 1 conflicts, undecided
 c search: 2 conflicts, 6 decisions, 15 propagations, 0 restarts
-c clauses: 0 learnt, 0 forgotten
+c clauses: 1 learnt, 0 forgotten
 c not divided: the focused search ended after 0 conflicts
 c cubes: 1 solved, at least 0 split, skipped unknown
 c solved by each hand: 1

@@ -98,7 +98,7 @@ static RUNS: [SlowRun; 24] = [
             "PROOF",
             "FORMULA",
         ],
-        log: "c 1 s: reading\nc 2 s: 5 conflicts, 2 a second, 3 cubes solved\nc 3 s: joining\nc 4 s: 7 lines, 96 bytes of the proof written\ns UNSATISFIABLE\n",
+        log: "c 1 s: reading\nc 2 s: 5 conflicts, 2 a second, 3 cubes solved\nc 3 s: joining\nc 4 s: 9 lines, 136 bytes of the proof written\ns UNSATISFIABLE\n",
         ..SOLVED
     },
     // 1840 conflicts before the formula is divided, one in each look at a half, and one in each of four
@@ -120,7 +120,7 @@ static RUNS: [SlowRun; 24] = [
             "FORMULA",
         ],
         log: "c 1 s: reading\nc 2 s: 1846 conflicts, ",
-        behind: " a second, 64 of at most 64 cubes done, 100 %\nc 3 s: joining\nc 4 s: 9 lines, 153 bytes of the proof written\ns UNSATISFIABLE\n",
+        behind: " a second, 64 of at most 64 cubes done, 100 %\nc 3 s: joining\nc 4 s: 17 lines, 277 bytes of the proof written\ns UNSATISFIABLE\n",
         ..SOLVED
     },
     SlowRun {

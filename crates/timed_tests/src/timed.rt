@@ -148,11 +148,11 @@ const ROWS: [Row; 14] = [
         lines: "c formula: 2 variables, 4 clauses, 8 literals
 c hands: 1
 c search: 2 conflicts, 1 decisions, 4 propagations, 0 restarts
-c clauses: 1 learnt, 0 forgotten
+c clauses: 2 learnt, 0 forgotten
 c cubes: 1 solved, 0 split, 0 skipped
-c learnt: 2 lines in refuted cubes, kept in 10 bytes
+c learnt: 3 lines in refuted cubes, kept in 15 bytes
 c solved by each hand: 1
-c proof: 2 lines, 25 bytes
+c proof: 3 lines, 37 bytes
 c reading: 1.234 s, peak memory 4321 KiB
 c solving: 2.050 s, peak memory 4321 KiB
 c joining: 0.007 s, peak memory 4321 KiB

@@ -4,5 +4,6 @@ pub mod LeastFree
 pub mod LeastVariables
 pub mod NextFree
 pub mod Ordered
+pub mod Reasons
 pub mod Tables
 pub mod Values

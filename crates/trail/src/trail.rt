@@ -1,7 +1,8 @@
 //! The trail, with tables by literal and by variable, so that each look-up is one step.
-ghost use Rattle.std.specs.Prelude.{◌≡◌, ◌≢◌, ◌≤◌, ◌<◌, ◌^◌, ◌+◌, ◌*◌, ℕ, [], ◌∷◌, ◌++◌, true, false, length, take, IfOk, IfSome, IfNone, None, Some, slice_get, slice_index, slice_index_or, if◌then◌else◌, ◌⊎◌, is_some};
+ghost use Rattle.std.specs.Prelude.{◌≡◌, ◌≢◌, ◌≤◌, ◌<◌, ◌^◌, ◌+◌, ◌*◌, ℕ, [], ◌∷◌, ◌++◌, true, false, length, take, IfOk, IfSome, IfNone, None, Some, slice_get, slice_set, slice_index, slice_index_or, if◌then◌else◌, ◌⊎◌, is_some};
 ghost use Rattle.theory.specs.Literals.{Literal, IsVariable, has_var};
 ghost use Rattle.theory.specs.Trails.{literals, current_level, entry_of, level_of, least_free, up_to};
+ghost use Rattle.theory.specs.Trails as trails;
 ghost use Rattle.trail.specs.TrailOver.{IsOrdered, IsRisingFrom};
 ghost use Rattle.cnf.specs.Lits.{code};
 ghost use Rattle.trail.specs.Tables.{IsTruth, value_in, value_of};
@@ -266,6 +267,16 @@ impl Trail {
         );
         self.places[var as usize] = self.entries.len() as u32;
         self.next_free = least_free_beside(&self.places, self.next_free, var);
+    }
+
+    /// Gives the entry at a place, counted from 0, another reason. It takes no memory, and one step.
+    pub fn set_reason(&mut self, place: usize, reason: u64)
+        requires { place < length self.old.entries }
+        ensures entries { (e : trails.Entry) → slice_get self.old.entries place ≡ Some e
+            → self.new.entries ≡ slice_set self.old.entries place record e { reason = Some reason } }
+        ensures vars { self.new.vars ≡ self.old.vars }
+    {
+        self.entries[place].reason = Some(reason);
     }
 
     /// Takes the entries above a level off. It takes time by them.

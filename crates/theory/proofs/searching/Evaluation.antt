@@ -82,7 +82,7 @@ run n F B Q = run_within n (ordered_step n F.vars (budget_of B Q)) (begin F Q)
 -- the focused search
 abbrev pub then_focused : Constants → ℕ → ℕ → FocusedState → Option (Closed × Trail) → Option (Next FocusedState)
 then_focused c V budget s None = None
-then_focused c V budget s (Some a) = Some (focused.after c V budget (record s { trail = a.1 }) a.0)
+then_focused c V budget s (Some a) = Some (focused.after c V budget (focused.settled (record s { trail = a.1 })) a.0)
 
 abbrev pub focused_step : Constants → ℕ → ℕ → ℕ → FocusedState → Option (Next FocusedState)
 focused_step c m V budget s = then_focused c V budget s (close_within by_place m s.clauses s.trail)

@@ -6,6 +6,7 @@ use Rattle.theory.specs.Trails.{Trail, up_to}
 use Rattle.theory.specs.Propagation.{Rule}
 use Rattle.theory.specs.Learning.{Line, learn_removing}
 use Rattle.theory.specs.Forgetting.{forget}
+use Rattle.theory.specs.Units.{unit_line}
 use Rattle.theory.proofs.literals.LiteralSets.{false_unless}
 use Rattle.theory.proofs.searching.ForgettingNumbers.{length-forget, forget-append, forget-none}
 use Rattle.theory.proofs.searching.Invariants.{AreLearnt, IsInvariant}
@@ -45,9 +46,18 @@ BeginsWith-learnt K C T U lines line ns own i = record {
 pub BeginsWith-begin : (K : List Clause) (T : Trail) → BeginsWith K K T []
 BeginsWith-begin K T = record { learnt = []; are_clauses = sym (append-nil K); many = refl }
 
-pub IsInvariant-BeginsWith : (rule : Rule) (V : ℕ) (K : List Clause) → IsInvariant rule V (BeginsWith K)
+pub IsInvariant-BeginsWith : (rule : Rule) (V : ℕ) (K : List Clause) → IsInvariant ⊥ rule V (BeginsWith K)
 IsInvariant-BeginsWith rule V K = record {
   propagated = λ C T U lines a h i. record { learnt = i.learnt; are_clauses = i.are_clauses; many = i.many };
+  unit = λ C before e es lines n level reason units i. record {
+    learnt = i.learnt ++ (e.lit ∷ []) ∷ [];
+    are_clauses = ap (λ (D : List Clause). D ++ (e.lit ∷ []) ∷ []) i.are_clauses ∙ append_assoc K i.learnt ((e.lit ∷ []) ∷ []);
+    many =
+        let one = length-append i.learnt ((e.lit ∷ []) ∷ []) in
+        let other = length-append lines (unit_line C before e.lit n ∷ []) in
+        let before = i.many in
+        omega (arith, one, other, before);
+  };
   decided = λ C T lines l calm v free i. record { learnt = i.learnt; are_clauses = i.are_clauses; many = i.many };
   learnt = λ R C T lines n ns level h above low own unused i. BeginsWith-learnt K C T (up_to T level) lines (learn_removing R C T n) ns own i;
 }

@@ -3,15 +3,18 @@ use Rattle.std.proofs.Common.{◌≡◌, ℕ, List, [], length, ap, sym, subst, 
 use Rattle.theory.specs.Literals.{Literal, Clause, IsCube}
 use Rattle.theory.specs.Truth.{Formula, Assignment, IsOver, IsFormula, Satisfies, AreTrue, value, are_true}
 use Rattle.theory.specs.Plans.{Constants}
-use Rattle.theory.specs.Trails.{literals, cube_trail}
+use Rattle.theory.specs.Trails.{literals, cube_trail, up_to}
 use Rattle.theory.specs.Propagation.{by_place, least_false}
 use Rattle.theory.specs.Learning.{Line}
 use Rattle.theory.specs.Search.{Outcome, model, refuted, exhausted, goes_on, first_clauses, searched}
 use Rattle.theory.specs.Focused.{FocusedState, IsFocusedStep, RunsFocused}
+use Rattle.theory.specs.Units.{AreUnits}
 use Rattle.theory.specs.Kept.{IsSearchOf}
 use Rattle.theory.proofs.searching.Rules.{IsRule-by_place}
 use Rattle.theory.proofs.searching.PureVariables.{IsOver-first_clauses}
-use Rattle.theory.proofs.searching.KeptSearches.{IsSearchOf-begin, IsInvariant-IsSearchOf}
+use Rattle.theory.proofs.searching.KeptSearches.{IsSearchOf-begin}
+use Rattle.theory.proofs.searching.KeptUnits.{IsInvariant-IsSearchOf}
+use Rattle.theory.proofs.trails.TrailEntries.{IsLawful-cube_trail}
 use Rattle.theory.proofs.searching.CubeOutcomes.{CubeSays, CubeSays-model, CubeSays-refuted}
 use Rattle.theory.proofs.searching.TrueSearches.{IsTrueSearch, IsTrueSearch-begin, IsTrueSearch-conflict, IsInvariant-IsTrueSearch}
 use Rattle.theory.proofs.searching.FirstClauses.{BeginsWith, BeginsWith-begin, IsInvariant-BeginsWith}
@@ -31,28 +34,30 @@ EndsSo-says V K Q (exhausted x) e = tt
 pub RunsFocused-says : (c : Constants) (F : Formula) (B : ℕ) (Q : List Literal) (o : Outcome) → IsFormula F → IsCube Q → IsOver F.vars Q → RunsFocused c F B Q o
     → CubeSays F.vars (first_clauses F) Q o
 RunsFocused-says c F B Q o formed cube over runs =
-    EndsSo-says F.vars (first_clauses F) Q o (RunsFocused-ends c F B Q o (IsSearchOf F.vars (first_clauses F) Q) (IsInvariant-IsSearchOf by_place IsRule-by_place F.vars (first_clauses F) Q)
+    EndsSo-says F.vars (first_clauses F) Q o (RunsFocused-ends c F B Q o (Unit {0}) (IsSearchOf F.vars (first_clauses F) Q) (IsInvariant-IsSearchOf by_place IsRule-by_place F.vars (first_clauses F) Q) (λ h. IsLawful-cube_trail (first_clauses F) Q cube)
     (IsSearchOf-begin F.vars (first_clauses F) Q (IsOver-first_clauses F formed) cube over) runs)
 
 -- what is kept by a step that goes on
 pub IsSearchOf-focused_step : (c : Constants) (V budget : ℕ) (K : List Clause) (Q : List Literal) (s t : FocusedState) → IsFocusedStep c V budget s (goes_on t) → length s.marks ≡ length s.lines
-    → IsSearchOf V K Q s.clauses s.trail s.lines → IsSearchOf V K Q t.clauses t.trail t.lines × (length t.marks ≡ length t.lines)
-IsSearchOf-focused_step c V budget K Q s t step many i =
-    let k : Keeps (IsSearchOf V K Q) t = step-goes c V (IsSearchOf V K Q) (IsInvariant-IsSearchOf by_place IsRule-by_place V K Q) budget s (goes_on t) (record { kept = i; marks = many }) step in
-    (k.kept, k.marks)
+    → AreUnits s.clauses (up_to s.trail 0) → IsSearchOf V K Q s.clauses s.trail s.lines
+    → IsSearchOf V K Q t.clauses t.trail t.lines × AreUnits t.clauses (up_to t.trail 0) × (length t.marks ≡ length t.lines)
+IsSearchOf-focused_step c V budget K Q s t step many units i =
+    let k : Keeps (Unit {0}) (IsSearchOf V K Q) t
+    = step-goes c V (Unit {0}) (IsSearchOf V K Q) (IsInvariant-IsSearchOf by_place IsRule-by_place V K Q) budget s (goes_on t) (record { kept = i; grounded = λ h. (i.lawful, units); marks = many }) step in
+    (k.kept, (k.grounded tt).1, k.marks)
 
 -- a refuted cube has no model
 pub RunsFocused-refuted : (c : Constants) (F : Formula) (B : ℕ) (Q : List Literal) (lines : List Line) → IsCube Q → RunsFocused c F B Q (refuted lines)
     → (M : Assignment) → Satisfies (searched F) M → AreTrue (value M) Q → ⊥
 RunsFocused-refuted c F B Q lines cube runs M s q =
     let m = value M in
-    let e = RunsFocused-ends c F B Q (refuted lines) (IsTrueSearch m Q) (IsInvariant-IsTrueSearch by_place IsRule-by_place F.vars m Q q) (IsTrueSearch-begin m (first_clauses F) Q s.clauses cube) runs in
+    let e = RunsFocused-ends c F B Q (refuted lines) (Unit {0}) (IsTrueSearch m Q) (IsInvariant-IsTrueSearch by_place IsRule-by_place F.vars m Q q) (λ h. IsLawful-cube_trail (first_clauses F) Q cube) (IsTrueSearch-begin m (first_clauses F) Q s.clauses cube) runs in
     IsTrueSearch-conflict m [] Q e.0.clauses e.0.trail e.0.lines e.0.number q e.0.is_false e.1 e.0.keeps
 
 -- a model satisfies the formula, and the clauses of the pure variables
 pub RunsFocused-satisfies : (c : Constants) (F : Formula) (B : ℕ) (Q : List Literal) (M : Assignment) → IsFormula F → RunsFocused c F B Q (model M) → Satisfies (searched F) M
 RunsFocused-satisfies c F B Q M formed runs =
-    let e = RunsFocused-ends c F B Q (model M) (BeginsWith (first_clauses F)) (IsInvariant-BeginsWith by_place F.vars (first_clauses F)) (BeginsWith-begin (first_clauses F) (cube_trail Q)) runs in
+    let e = RunsFocused-ends c F B Q (model M) ⊥ (BeginsWith (first_clauses F)) (IsInvariant-BeginsWith by_place F.vars (first_clauses F)) (λ h. absurd h) (BeginsWith-begin (first_clauses F) (cube_trail Q)) runs in
     let calm : least_false (literals e.trail) (first_clauses F) ≡ None
     = front-none (literals e.trail) (first_clauses F) e.keeps.learnt (subst (λ (C : List Clause). least_false (literals e.trail) C ≡ None) e.keeps.are_clauses e.none_false) in
     record {

@@ -14,11 +14,11 @@ square = record { vars = 2; clauses = (p1 ∷ p2 ∷ []) ∷ (p1 ∷ n2 ∷ []) 
 square_1 : run_focused default_constants 20 square 1 [] ≡ Some (exhausted 2)
 square_1 = refl
 
-square_2 : run_focused default_constants 20 square 2 [] ≡ Some (refuted (line (n2 ∷ []) (2 ∷ 4 ∷ []) ∷ line [] (5 ∷ 1 ∷ 3 ∷ []) ∷ []))
+square_2 : run_focused default_constants 20 square 2 [] ≡ Some (refuted (line (n2 ∷ []) (2 ∷ 4 ∷ []) ∷ line (p1 ∷ []) (5 ∷ 1 ∷ []) ∷ line [] (5 ∷ 6 ∷ 3 ∷ []) ∷ []))
 square_2 = refl
 
 -- of equal scores the greatest variable goes first
-by_score : run_focused default_constants 40 row17 100 [] ≡ Some (refuted (line (n2 ∷ n3 ∷ []) (4 ∷ 8 ∷ []) ∷ line (n3 ∷ []) (9 ∷ 2 ∷ 6 ∷ []) ∷ line (p2 ∷ []) (10 ∷ 1 ∷ 5 ∷ []) ∷ line [] (10 ∷ 11 ∷ 3 ∷ 7 ∷ []) ∷ []))
+by_score : run_focused default_constants 40 row17 100 [] ≡ Some (refuted (line (n2 ∷ n3 ∷ []) (4 ∷ 8 ∷ []) ∷ line (n3 ∷ []) (9 ∷ 2 ∷ 6 ∷ []) ∷ line (p2 ∷ []) (10 ∷ 1 ∷ 5 ∷ []) ∷ line (p1 ∷ []) (10 ∷ 11 ∷ 3 ∷ []) ∷ line [] (10 ∷ 11 ∷ 12 ∷ 7 ∷ []) ∷ []))
 by_score = refl
 
 first_conflict : run_focused default_constants 40 row17 1 [] ≡ Some (exhausted 3)
@@ -27,7 +27,7 @@ first_conflict = refl
 third_conflict : run_focused default_constants 40 row17 3 [] ≡ Some (exhausted 2)
 third_conflict = refl
 
-in_half : run_focused default_constants 40 row17 1 (n3 ∷ []) ≡ Some (refuted (line (n2 ∷ []) (3 ∷ 7 ∷ []) ∷ line [] (9 ∷ 1 ∷ 5 ∷ []) ∷ []))
+in_half : run_focused default_constants 40 row17 1 (n3 ∷ []) ≡ Some (refuted (line (n2 ∷ []) (3 ∷ 7 ∷ []) ∷ line (p1 ∷ []) (9 ∷ 1 ∷ []) ∷ line [] (9 ∷ 10 ∷ 5 ∷ []) ∷ []))
 in_half = refl
 
 -- constants so small that few conflicts come to all that the search does
@@ -144,7 +144,7 @@ n20 = negative 20
 abbrev four_in_three : Formula
 four_in_three = record { vars = 12; clauses = (p1 ∷ p2 ∷ p3 ∷ []) ∷ (p4 ∷ p5 ∷ p6 ∷ []) ∷ (p7 ∷ p8 ∷ p9 ∷ []) ∷ (p10 ∷ p11 ∷ p12 ∷ []) ∷ (n1 ∷ n4 ∷ []) ∷ (n1 ∷ n7 ∷ []) ∷ (n1 ∷ n10 ∷ []) ∷ (n4 ∷ n7 ∷ []) ∷ (n4 ∷ n10 ∷ []) ∷ (n7 ∷ n10 ∷ []) ∷ (n2 ∷ n5 ∷ []) ∷ (n2 ∷ n8 ∷ []) ∷ (n2 ∷ n11 ∷ []) ∷ (n5 ∷ n8 ∷ []) ∷ (n5 ∷ n11 ∷ []) ∷ (n8 ∷ n11 ∷ []) ∷ (n3 ∷ n6 ∷ []) ∷ (n3 ∷ n9 ∷ []) ∷ (n3 ∷ n12 ∷ []) ∷ (n6 ∷ n9 ∷ []) ∷ (n6 ∷ n12 ∷ []) ∷ (n9 ∷ n12 ∷ []) ∷ [] }
 
-pigeons : run_focused small 120 four_in_three 1000 [] ≡ Some (refuted (line (p3 ∷ p6 ∷ n11 ∷ []) (13 ∷ 15 ∷ 1 ∷ 2 ∷ 5 ∷ []) ∷ line (p3 ∷ n5 ∷ p9 ∷ []) (11 ∷ 14 ∷ 1 ∷ 3 ∷ 6 ∷ []) ∷ line (n12 ∷ []) (19 ∷ 21 ∷ 22 ∷ 24 ∷ 2 ∷ 5 ∷ 8 ∷ 1 ∷ 3 ∷ 12 ∷ []) ∷ line (n5 ∷ []) (25 ∷ 11 ∷ 14 ∷ 15 ∷ 4 ∷ 7 ∷ 10 ∷ 1 ∷ 3 ∷ 18 ∷ []) ∷ line (n3 ∷ []) (25 ∷ 26 ∷ 17 ∷ 18 ∷ 2 ∷ 8 ∷ 9 ∷ 3 ∷ 4 ∷ 16 ∷ []) ∷ line (n8 ∷ []) (25 ∷ 27 ∷ 12 ∷ 16 ∷ 1 ∷ 4 ∷ 7 ∷ []) ∷ line (n10 ∷ []) (26 ∷ 28 ∷ 9 ∷ 10 ∷ 2 ∷ 3 ∷ 20 ∷ []) ∷ line [] (25 ∷ 26 ∷ 27 ∷ 28 ∷ 29 ∷ 4 ∷ 13 ∷ 1 ∷ 5 ∷ 6 ∷ 2 ∷ 3 ∷ 20 ∷ []) ∷ []))
+pigeons : run_focused small 120 four_in_three 1000 [] ≡ Some (refuted (line (p3 ∷ p6 ∷ n11 ∷ []) (13 ∷ 15 ∷ 1 ∷ 2 ∷ 5 ∷ []) ∷ line (p3 ∷ n5 ∷ p9 ∷ []) (11 ∷ 14 ∷ 1 ∷ 3 ∷ 6 ∷ []) ∷ line (n12 ∷ []) (19 ∷ 21 ∷ 22 ∷ 24 ∷ 2 ∷ 5 ∷ 8 ∷ 1 ∷ 3 ∷ 12 ∷ []) ∷ line (n5 ∷ []) (25 ∷ 11 ∷ 14 ∷ 15 ∷ 4 ∷ 7 ∷ 10 ∷ 1 ∷ 3 ∷ 18 ∷ []) ∷ line (n3 ∷ []) (25 ∷ 26 ∷ 17 ∷ 18 ∷ 2 ∷ 8 ∷ 9 ∷ 3 ∷ 4 ∷ 16 ∷ []) ∷ line (n8 ∷ []) (25 ∷ 27 ∷ 12 ∷ 16 ∷ 1 ∷ 4 ∷ 7 ∷ []) ∷ line (n10 ∷ []) (26 ∷ 28 ∷ 9 ∷ 10 ∷ 2 ∷ 3 ∷ 20 ∷ []) ∷ line (p11 ∷ []) (25 ∷ 29 ∷ 4 ∷ []) ∷ line (n2 ∷ []) (30 ∷ 13 ∷ []) ∷ line (p1 ∷ []) (27 ∷ 31 ∷ 1 ∷ []) ∷ line (n4 ∷ []) (32 ∷ 5 ∷ []) ∷ line (n7 ∷ []) (32 ∷ 6 ∷ []) ∷ line (p6 ∷ []) (26 ∷ 33 ∷ 2 ∷ []) ∷ line (p9 ∷ []) (28 ∷ 34 ∷ 3 ∷ []) ∷ line [] (35 ∷ 36 ∷ 20 ∷ []) ∷ []))
 pigeons = refl
 
 -- its model isn't the first one

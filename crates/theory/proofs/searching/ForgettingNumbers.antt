@@ -4,7 +4,7 @@ use Rattle.std.proofs.Common.{◌≡◌, ℕ, zero, suc, ◌+◌, ◌-◌, ◌<�
 use Rattle.std.specs.List.{list_any}
 use Rattle.std.proofs.lemmas.List.{length-drop}
 use Rattle.std.proofs.lemmas.List.Elements.{All-nil, All-cons, All-head, All-tail}
-use Rattle.theory.specs.Literals.{Literal, Clause, positive, negative, has_both_signs}
+use Rattle.theory.specs.Literals.{Literal, Clause, has, positive, negative, has_both_signs}
 use Rattle.theory.specs.Truth.{IsOver}
 use Rattle.theory.specs.Status.{is_false}
 use Rattle.theory.specs.Trails.{Entry, Trail, literals, up_to}
@@ -12,6 +12,7 @@ use Rattle.theory.specs.Propagation.{clause_at, least_false}
 use Rattle.theory.specs.Lawful.{IsReason, IsGrounded, IsLawfulAfter, IsLawful}
 use Rattle.theory.specs.Learnable.{IsOpenBelow}
 use Rattle.theory.specs.Plans.{Constants}
+use Rattle.theory.specs.Units.{has_two, IsUnit, AreUnits}
 use Rattle.theory.specs.Forgetting.{forgotten, forget, is_reason, is_number, Mark, Candidate, candidates, may_go, late_ones, is_late}
 use Rattle.theory.specs.Kept.{AreLeft}
 use Rattle.theory.proofs.literals.LiteralLemmas.{and-right, or-cases, or-right, not_true}
@@ -192,6 +193,19 @@ late-number c T K marks k h =
     let low = n.0 in
     let high = n.1 in
     (omega arith, omega (arith, high, count), n.2)
+
+-- units stay units where no reason is forgotten
+pub AreUnits-forget : (ns : List ℕ) (K : List Clause) (T : Trail) → AreNoReasons ns T → AreUnits K T → AreUnits (forget ns 1 K) T
+AreUnits-forget ns K [] none u = tt
+AreUnits-forget ns K (e ∷ T) none u =
+    (go e.reason (λ k t. or-false_left (is_number k e.reason) (is_reason T k) (none k t)) u.0, AreUnits-forget ns K T (λ k t. or-false_right (is_number k e.reason) (is_reason T k) (none k t)) u.1)
+  where
+    go : (r : Option ℕ) → ((k : ℕ) → list_any (nat_eq k) ns ≡ true → is_number k r ≡ false) → IsUnit K e.lit r → IsUnit (forget ns 1 K) e.lit r
+    go None free v = tt
+    go (Some m) free v =
+        let out : list_any (nat_eq m) ns ≡ false = false_unless (list_any (nat_eq m) ns) (λ t. true_false (nat_eq m m) (eq-eqb m m refl) (free m t)) in
+        let stays : clause_at (forget ns 1 K) m ≡ clause_at K m = clause_at-forget ns K m v.0 out in
+        (v.0, subst (λ k. m ≤ k) (sym (length-forget ns 1 K)) v.1, subst (λ (d : Clause). has d e.lit ≡ true) (sym stays) v.2, subst (λ (d : Clause). has_two d ≡ false) (sym stays) v.3)
 
 -- forgetting none, and one more clause behind those that are forgotten
 pub forget-nothing : (n : ℕ) (K : List Clause) → forget [] n K ≡ K

@@ -65,7 +65,7 @@ pub AreLeft-at : (A L : List Clause) (n : ℕ) → AreLeft A L → (clause_at L 
 AreLeft-at A L n h = left-at A L (n - 1) h
 
 -- a trail that is lawful over what is left is lawful over all
-IsReason-left : (A L : List Clause) (P : List Literal) (l : Literal) (n : ℕ) → AreLeft A L → has_var P l.var ≡ false → IsReason L P l n → (clause_at L n ≡ clause_at A n) × IsReason A P l n
+pub IsReason-left : (A L : List Clause) (P : List Literal) (l : Literal) (n : ℕ) → AreLeft A L → has_var P l.var ≡ false → IsReason L P l n → (clause_at L n ≡ clause_at A n) × IsReason A P l n
 IsReason-left A L P l n h new r = go (AreLeft-at A L n h)
   where
     go : (clause_at L n ≡ clause_at A n) ⊎ (clause_at L n ≡ forgotten) → (clause_at L n ≡ clause_at A n) × IsReason A P l n

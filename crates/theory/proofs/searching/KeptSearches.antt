@@ -17,7 +17,7 @@ use Rattle.theory.specs.Kept.{clauses_of, AreLeft, IsSearchOf}
 use Rattle.theory.proofs.literals.LiteralSets.{false_unless}
 use Rattle.theory.proofs.trails.LawfulTrails.{least_false-at, unit_literal-facts, IsLawful-append, IsLawful-up_to, IsLawful-decide, IsLawful-Propagates}
 use Rattle.theory.proofs.trails.TrailLevels.{up_to-up_to}
-use Rattle.theory.proofs.searching.Invariants.{AreLearnt, IsInvariant}
+use Rattle.theory.proofs.searching.Invariants.{AreLearnt}
 use Rattle.theory.proofs.literals.OverVariables.{AreOver, IsOver-from_AreOver, AreOver-from_IsOver, IsOver-left, clause_at-over, AreOver-push}
 use Rattle.theory.proofs.searching.OpenTrails.{IsOpenBelow-cube_trail, IsOpenBelow-Propagates, IsOpenBelow-decide, IsOpenBelow-up_to, IsOpenBelow-learn}
 use Rattle.theory.proofs.searching.LearnableLines.{free-learn, current_level-learn}
@@ -192,7 +192,7 @@ IsSearchOf-forget V K Q C T lines ns some later unused i = record {
     first = forget-none ns 1 K (λ k low high. false_unless (list_any (nat_eq k) ns) (λ t. let above = later k t in absurd (omega (arith, above, high))))
 
 -- a line is learnt, clauses are forgotten, and the trail goes back
-IsSearchOf-learnt : (V : ℕ) (R : List Literal) (K : List Clause) (Q : List Literal) (C : List Clause) (T : Trail) (lines : List Line) (n : ℕ) (ns : List ℕ) (level : ℕ) → least_false (literals T) C ≡ Some n
+pub IsSearchOf-learnt : (V : ℕ) (R : List Literal) (K : List Clause) (Q : List Literal) (C : List Clause) (T : Trail) (lines : List Line) (n : ℕ) (ns : List ℕ) (level : ℕ) → least_false (literals T) C ≡ Some n
     → 1 ≤ current_level T → level ≤ back_level T (learn_removing R C T n).clause → AreLearnt ns C lines → AreNoReasons ns (up_to T level) → IsSearchOf V K Q C T lines
     → IsSearchOf V K Q (forget ns 1 C ++ (learn_removing R C T n).clause ∷ []) (up_to T level) (lines ++ learn_removing R C T n ∷ [])
 IsSearchOf-learnt V R K Q C T lines n ns level h above low own unused i =
@@ -217,10 +217,3 @@ IsSearchOf-learnt V R K Q C T lines n ns level h above low own unused i =
         let left : length i.learnt ≡ length (clauses_of lines) = AreLeft-length (clauses_of lines) i.learnt i.left in
         let all : length (clauses_of lines) ≡ length lines = length-map lines (λ (x : Line). x.clause) in
         omega (arith, parts, left, all, first)
-
-pub IsInvariant-IsSearchOf : (rule : Rule) → IsRule rule → (V : ℕ) (K : List Clause) (Q : List Literal) → IsInvariant rule V (IsSearchOf V K Q)
-IsInvariant-IsSearchOf rule g V K Q = record {
-  propagated = λ C T U lines a h i. IsSearchOf-Propagates rule g V K Q C T U a lines h i;
-  decided = λ C T lines l h v f i. IsSearchOf-decide V K Q C T lines l h v f i;
-  learnt = λ R C T lines n ns level h above low own unused i. IsSearchOf-learnt V R K Q C T lines n ns level h above low own unused i;
-}

@@ -74,7 +74,7 @@ record Walked (T : Trail) (Q : List Literal) (there : Numbered) (f : ℕ → ℕ
   reasons : (v : ℕ) → has_var U v ≡ true → is_given (entry_of T v) ≡ false
   ready : Ready Q there f S hints U
 
-rest-apart : (before : Trail) (e : Entry) (U : List Literal) → Apart U (literals (before ++ e ∷ [])) → Apart U (literals before)
+pub rest-apart : (before : Trail) (e : Entry) (U : List Literal) → Apart U (literals (before ++ e ∷ [])) → Apart U (literals before)
 rest-apart before e U h v a = has_var-append_left (literals before) (e.lit ∷ []) v (subst (λ c. has_var c v ≡ false) (literals-at before e []) (h v a))
 
 -- an entry on whose reason isn't resolved
@@ -241,7 +241,7 @@ clause_of-carrying_at N Q K n one end =
     = clause_of-carrying 1 N Q K (n - 1) (omega arith) in
     rw (number, same_clause) at at
 
-AreThere-carrying : (N : ℕ) (Q : List Literal) (K : List Clause) → AreThere K Q (carrying_from 1 N Q K) (λ n. n)
+pub AreThere-carrying : (N : ℕ) (Q : List Literal) (K : List Clause) → AreThere K Q (carrying_from 1 N Q K) (λ n. n)
 AreThere-carrying N Q K n one end = go (nat_le n N) (clause_of-carrying_at N Q K n one end)
   where
     there : Numbered

@@ -7,6 +7,7 @@ use Rattle.theory.specs.Propagation.{Closed, quiet, conflict, by_place, Propagat
 use Rattle.theory.specs.Learning.{Line}
 use Rattle.theory.specs.Search.{Outcome, model, refuted, exhausted, first_clauses, searched, values}
 use Rattle.theory.specs.Scores.{Scores, best_outside}
+use Rattle.theory.specs.Units.{units_of}
 use Rattle.theory.specs.Looking.{best_ones, ranks, brought, Brings, worth, Choice, no_choice, better_choice, IsWorth, Chooses, has_chosen, fails, tries, IsChosen, SplitsInto, ComesTo, Looks}
 use Rattle.theory.specs.Kept.{IsSearchOf}
 use Rattle.theory.proofs.literals.LiteralSets.{or-false_right}
@@ -19,9 +20,11 @@ use Rattle.theory.proofs.searching.SplitSoundness.{Propagates-more, has_var-fron
 use Rattle.theory.proofs.searching.SearchSteps.{least_free-variable}
 use Rattle.theory.proofs.searching.SearchSoundness.{Propagates-says}
 use Rattle.theory.proofs.searching.BestVariables.{best_outside-some, best_outside-there}
-use Rattle.theory.proofs.searching.KeptSearches.{IsSearchOf-begin, IsInvariant-IsSearchOf}
+use Rattle.theory.proofs.searching.KeptSearches.{IsSearchOf-begin}
 use Rattle.theory.proofs.searching.CubeOutcomes.{CubeSays, CubeSays-model, CubeSays-refuted}
-use Rattle.theory.proofs.searching.TrueSearches.{IsTrueSearch, IsTrueSearch-begin, IsTrueSearch-conflict, IsInvariant-IsTrueSearch}
+use Rattle.theory.proofs.searching.KeptUnits.{IsInvariant-IsSearchOf}
+use Rattle.theory.proofs.searching.UnitWalks.{current_level-units, conflict-units, IsSearchOf-units}
+use Rattle.theory.proofs.searching.TrueSearches.{IsTrueSearch-units, IsTrueSearch, IsTrueSearch-begin, IsTrueSearch-conflict, IsInvariant-IsTrueSearch}
 use Rattle.theory.proofs.searching.ModelLemmas.{quiet-true, length-values}
 
 -- propagation leaves the cube's trail at level 0
@@ -165,8 +168,11 @@ IsChosen-free F T v x free h = go (best_outside F.vars (literals T) scores) refl
 ComesTo-says : (F : Formula) (Q : List Literal) (a : Closed) (T : Trail) (o : Outcome) → Propagates by_place (first_clauses F) (cube_trail Q) a T
     → IsSearchOf F.vars (first_clauses F) Q (first_clauses F) T [] → ComesTo F a T o → CubeSays F.vars (first_clauses F) Q o
 ComesTo-says F Q (conflict n) T o p i h =
+    let level = level-looked by_place F Q T (conflict n) p in
+    let u = units_of (first_clauses F) T in
     subst (CubeSays F.vars (first_clauses F) Q) (sym h)
-    (CubeSays-refuted F.vars [] (first_clauses F) Q (first_clauses F) T [] n (Propagates-says by_place (first_clauses F) (cube_trail Q) T (conflict n) p) (level-looked by_place F Q T (conflict n) p) i)
+    (CubeSays-refuted F.vars [] (first_clauses F) Q u.clauses u.trail u.lines n (conflict-units (first_clauses F) T n (Propagates-says by_place (first_clauses F) (cube_trail Q) T (conflict n) p))
+    (current_level-units (first_clauses F) T ∙ level) (IsSearchOf-units F.vars (first_clauses F) Q (first_clauses F) T [] level i).0)
 ComesTo-says F Q quiet T o p i h = go (least_free F.vars T) refl h
   where
     go : (v : Option ℕ) → least_free F.vars T ≡ v → SplitsInto F T v o → CubeSays F.vars (first_clauses F) Q o
@@ -193,7 +199,10 @@ Looks-refuted F Q lines cube h M s q = go h.answer h.propagates h.comes_to
 
     go : (a : Closed) → Propagates by_place (first_clauses F) (cube_trail Q) a h.trail → ComesTo F a h.trail (refuted lines) → ⊥
     go (conflict n) p c =
-        IsTrueSearch-conflict (value M) [] Q (first_clauses F) h.trail [] n q (Propagates-says by_place (first_clauses F) (cube_trail Q) h.trail (conflict n) p) (level-looked by_place F Q h.trail (conflict n) p) i
+        let level = level-looked by_place F Q h.trail (conflict n) p in
+        let u = units_of (first_clauses F) h.trail in
+        IsTrueSearch-conflict (value M) [] Q u.clauses u.trail u.lines n q (conflict-units (first_clauses F) h.trail n (Propagates-says by_place (first_clauses F) (cube_trail Q) h.trail (conflict n) p))
+        (current_level-units (first_clauses F) h.trail ∙ level) (IsTrueSearch-units (value M) Q q (first_clauses F) h.trail [] level i)
     go quiet p c = free (least_free F.vars h.trail) c
 
 -- a model satisfies the formula, and the clauses of the pure variables

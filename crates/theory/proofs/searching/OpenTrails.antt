@@ -70,7 +70,7 @@ IsOpenBelow-up_to K T b low o level less =
     ap (λ (V : Trail). least_false (literals V) K) (up_to-up_to T b level (omega (arith, less, most))) ∙ o level (omega (arith, less, most, low))
 
 -- one more clause that isn't false
-least_false-push : (P : List Literal) (K : List Clause) (c : Clause) → least_false P K ≡ None → is_false P c ≡ false → least_false P (K ++ c ∷ []) ≡ None
+pub least_false-push : (P : List Literal) (K : List Clause) (c : Clause) → least_false P K ≡ None → is_false P c ≡ false → least_false P (K ++ c ∷ []) ≡ None
 least_false-push P [] c h f = rw (f, least_false) refl
 least_false-push P (d ∷ K) c h f = first (is_false P d) h (λ r. least_false-push P K c r f)
   where

@@ -11,21 +11,21 @@ use Rattle.theory.proofs.searching.FocusedRows.{p4, n4, p5, n5, p6, n6, p7, n7, 
 abbrev removed_formula : Formula
 removed_formula = record { vars = 5; clauses = (n5 ∷ p3 ∷ []) ∷ (p2 ∷ n3 ∷ p1 ∷ []) ∷ (n4 ∷ n1 ∷ []) ∷ (p1 ∷ p5 ∷ []) ∷ (p4 ∷ n1 ∷ []) ∷ (p1 ∷ n2 ∷ n5 ∷ []) ∷ [] }
 
-removed : run_focused small 20 removed_formula 1000 [] ≡ Some (refuted (line (p1 ∷ n5 ∷ []) (1 ∷ 2 ∷ 6 ∷ []) ∷ line (n1 ∷ []) (3 ∷ 5 ∷ []) ∷ line [] (8 ∷ 4 ∷ 7 ∷ []) ∷ []))
+removed : run_focused small 20 removed_formula 1000 [] ≡ Some (refuted (line (p1 ∷ n5 ∷ []) (1 ∷ 2 ∷ 6 ∷ []) ∷ line (n1 ∷ []) (3 ∷ 5 ∷ []) ∷ line (p5 ∷ []) (8 ∷ 4 ∷ []) ∷ line [] (8 ∷ 9 ∷ 7 ∷ []) ∷ []))
 removed = refl
 
 -- a literal is removable by another one that is, and the line lacks both
 abbrev by_removable_formula : Formula
 by_removable_formula = record { vars = 6; clauses = (n1 ∷ n3 ∷ []) ∷ (p1 ∷ p6 ∷ []) ∷ (n6 ∷ n5 ∷ []) ∷ (n2 ∷ n6 ∷ p1 ∷ []) ∷ (p3 ∷ n1 ∷ []) ∷ (p4 ∷ p2 ∷ p1 ∷ []) ∷ (n4 ∷ p5 ∷ []) ∷ [] }
 
-by_removable : run_focused small 20 by_removable_formula 1000 [] ≡ Some (refuted (line (p1 ∷ n6 ∷ []) (3 ∷ 7 ∷ 4 ∷ 6 ∷ []) ∷ line (n1 ∷ []) (1 ∷ 5 ∷ []) ∷ line [] (9 ∷ 2 ∷ 8 ∷ []) ∷ []))
+by_removable : run_focused small 20 by_removable_formula 1000 [] ≡ Some (refuted (line (p1 ∷ n6 ∷ []) (3 ∷ 7 ∷ 4 ∷ 6 ∷ []) ∷ line (n1 ∷ []) (1 ∷ 5 ∷ []) ∷ line (p6 ∷ []) (9 ∷ 2 ∷ []) ∷ line [] (9 ∷ 10 ∷ 8 ∷ []) ∷ []))
 by_removable = refl
 
 -- a literal is removable by one of level 0
 abbrev by_level_0_formula : Formula
 by_level_0_formula = record { vars = 7; clauses = (p1 ∷ p5 ∷ []) ∷ (n5 ∷ p1 ∷ []) ∷ (p3 ∷ p6 ∷ []) ∷ (n6 ∷ n2 ∷ p3 ∷ []) ∷ (p4 ∷ p2 ∷ p3 ∷ []) ∷ (p7 ∷ n6 ∷ n4 ∷ []) ∷ (n7 ∷ []) ∷ (n3 ∷ n1 ∷ []) ∷ [] }
 
-by_level_0 : run_focused small 20 by_level_0_formula 1000 [] ≡ Some (refuted (line (p3 ∷ n6 ∷ []) (7 ∷ 6 ∷ 4 ∷ 5 ∷ []) ∷ line (p1 ∷ []) (1 ∷ 2 ∷ []) ∷ line [] (10 ∷ 8 ∷ 3 ∷ 9 ∷ []) ∷ []))
+by_level_0 : run_focused small 20 by_level_0_formula 1000 [] ≡ Some (refuted (line (p3 ∷ n6 ∷ []) (7 ∷ 6 ∷ 4 ∷ 5 ∷ []) ∷ line (p1 ∷ []) (1 ∷ 2 ∷ []) ∷ line (n3 ∷ []) (10 ∷ 8 ∷ []) ∷ line (p6 ∷ []) (11 ∷ 3 ∷ []) ∷ line [] (11 ∷ 12 ∷ 9 ∷ []) ∷ []))
 by_level_0 = refl
 
 -- a variable is seen in the reason of a literal of the line alone, and decided first
@@ -112,12 +112,12 @@ quarter_formula = record { vars = 15; clauses = (p9 ∷ p8 ∷ n7 ∷ []) ∷ (p
 quarter : run_focused small 60 quarter_formula 1000 [] ≡ Some (model (false ∷ false ∷ false ∷ true ∷ true ∷ false ∷ true ∷ false ∷ true ∷ false ∷ false ∷ true ∷ true ∷ false ∷ true ∷ []))
 quarter = refl
 
--- a clause that is a reason isn't forgotten
-abbrev reason_formula : Formula
-reason_formula = record { vars = 13; clauses = (n5 ∷ n9 ∷ []) ∷ (n3 ∷ p11 ∷ n13 ∷ []) ∷ (n8 ∷ p9 ∷ []) ∷ (n2 ∷ p10 ∷ p8 ∷ []) ∷ (p7 ∷ n12 ∷ n11 ∷ []) ∷ (p7 ∷ n4 ∷ []) ∷ (n7 ∷ p11 ∷ []) ∷ (p4 ∷ n11 ∷ p10 ∷ []) ∷ (p6 ∷ p8 ∷ []) ∷ (n12 ∷ p7 ∷ n2 ∷ []) ∷ (p3 ∷ p2 ∷ []) ∷ (p12 ∷ p11 ∷ p5 ∷ []) ∷ (p11 ∷ n1 ∷ []) ∷ (p1 ∷ n10 ∷ []) ∷ (n3 ∷ p1 ∷ []) ∷ (n1 ∷ n8 ∷ n7 ∷ []) ∷ (p5 ∷ n4 ∷ []) ∷ (n6 ∷ p2 ∷ []) ∷ (p13 ∷ n7 ∷ n10 ∷ []) ∷ (n13 ∷ n12 ∷ p8 ∷ []) ∷ (p12 ∷ p4 ∷ n1 ∷ []) ∷ [] }
+-- the reason of a unit of level 0 is a clause of its own, so what it followed from may be forgotten
+abbrev unit_formula : Formula
+unit_formula = record { vars = 13; clauses = (n5 ∷ n9 ∷ []) ∷ (n3 ∷ p11 ∷ n13 ∷ []) ∷ (n8 ∷ p9 ∷ []) ∷ (n2 ∷ p10 ∷ p8 ∷ []) ∷ (p7 ∷ n12 ∷ n11 ∷ []) ∷ (p7 ∷ n4 ∷ []) ∷ (n7 ∷ p11 ∷ []) ∷ (p4 ∷ n11 ∷ p10 ∷ []) ∷ (p6 ∷ p8 ∷ []) ∷ (n12 ∷ p7 ∷ n2 ∷ []) ∷ (p3 ∷ p2 ∷ []) ∷ (p12 ∷ p11 ∷ p5 ∷ []) ∷ (p11 ∷ n1 ∷ []) ∷ (p1 ∷ n10 ∷ []) ∷ (n3 ∷ p1 ∷ []) ∷ (n1 ∷ n8 ∷ n7 ∷ []) ∷ (p5 ∷ n4 ∷ []) ∷ (n6 ∷ p2 ∷ []) ∷ (p13 ∷ n7 ∷ n10 ∷ []) ∷ (n13 ∷ n12 ∷ p8 ∷ []) ∷ (p12 ∷ p4 ∷ n1 ∷ []) ∷ [] }
 
-reason : run_focused small 40 reason_formula 1000 [] ≡ Some (model (true ∷ true ∷ false ∷ true ∷ true ∷ true ∷ true ∷ false ∷ false ∷ true ∷ true ∷ false ∷ true ∷ []))
-reason = refl
+unit : run_focused small 40 unit_formula 1000 [] ≡ Some (model (true ∷ true ∷ false ∷ true ∷ true ∷ true ∷ true ∷ false ∷ false ∷ true ∷ true ∷ false ∷ true ∷ []))
+unit = refl
 
 -- the scores are divided in stable mode
 abbrev divides_stable_formula : Formula

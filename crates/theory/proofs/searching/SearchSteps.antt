@@ -16,9 +16,13 @@ abbrev pub Answers : Closed → OrderedState → Type 0
 Answers quiet s = least_false (literals s.trail) s.clauses ≡ None
 Answers (conflict n) s = least_false (literals s.trail) s.clauses ≡ Some n
 
-Propagates-quiet : (rule : Rule) (K : List Clause) (T U : Trail) → Propagates rule K T quiet U → least_false (literals U) K ≡ None
+pub Propagates-quiet : (rule : Rule) (K : List Clause) (T U : Trail) → Propagates rule K T quiet U → least_false (literals U) K ≡ None
 Propagates-quiet rule K T U (rests h i) = h
 Propagates-quiet rule K T U (grows {u = u} h i more) = Propagates-quiet rule K (T ++ unit_entry T u ∷ []) U more
+
+pub Propagates-none : (rule : Rule) (K : List Clause) (T U : Trail) → Propagates rule K T quiet U → rule U K ≡ None
+Propagates-none rule K T U (rests h i) = i
+Propagates-none rule K T U (grows {u = u} h i more) = Propagates-none rule K (T ++ unit_entry T u ∷ []) U more
 
 pub Propagates-Answers : (rule : Rule) (K : List Clause) (T U : Trail) (s : OrderedState) (a : Closed) → Propagates rule K T a U → s.clauses ≡ K → s.trail ≡ U → Answers a s
 Propagates-Answers rule K T U s quiet h p q = rw (p, q) (Propagates-quiet rule K T U h)

@@ -1,6 +1,6 @@
 use Rattle.std.proofs.Common.{◌≡◌, ◌||◌, ℕ, take}
 use Rattle.theory.specs.Scores.{is_seen}
-use Rattle.theory.specs.Lessons.{reasons_against}
+use Rattle.theory.specs.Units.{reasons_against}
 use Rattle.cdcl.specs.Numbers.{is_one_of}
 use Rattle.cdcl.proofs.reasons.see_reasons.Given as goal
 

@@ -71,6 +71,7 @@ learning : (c : In_ok-push-2) → IsLearning c.args.self.now c.args.number (reco
   pace = c.end_round_where_over.new.self.pace;
   round = c.end_round_where_over.new.self.round;
   analysis = c.end_round_where_over.new.self.analysis;
+  unit_hints = c.end_round_where_over.new.self.unit_hints;
   tally = c.end_round_where_over.new.self.tally;
 })
 learning c =

@@ -12,7 +12,7 @@ pub returns-then-self-last-clause-next : goal.returns-then-self-last-clause-next
 returns-then-self-last-clause-next c saved h =
     let level = current_level c.args.self.now.kernel.trail in
     let above : nat_eq level 0 ≡ false = false_unless (nat_eq level 0) (λ t. let e = eqb-true level 0 t in let is = c.level.ensures in let other = c.if-level-eq0.false in absurd (omega arith)) in
-    Follows-spent c.args.last c.args.number c.args.self.now saved c.requires.focusing above (let last = c.if-self-last.true in omega arith) h
+    Follows-spent c.args.last c.args.number c.args.self.now saved c.requires.focusing c.requires.units above (let last = c.if-self-last.true in omega arith) h
 
 pub returns-clause-next : goal.returns-clause-next
 returns-clause-next c saved h =

@@ -10,6 +10,7 @@ use Rattle.cdcl.proofs.focused.FocusedSearch.run_to.Goals.{In-Some, In_ok-told}
 pub steps-init : goal.steps-init
 steps-init g c = record {
   focusing = c.requires.focusing;
+  units = c.requires.units;
   counted = c.requires.counted.0;
   goes_on = (refl, refl, refl, c.requires.focusing.searching.has_memory, refl);
   constants = refl;
@@ -44,6 +45,7 @@ steps-smaller g c =
 pub steps-preserved : goal.steps-preserved
 steps-preserved g c = record {
   focusing = (onward g c).focusing;
+  units = c.in_ok-stop.ensures.units c.in_default.is;
   counted = (onward g c).counted;
   goes_on = GoesOn-trans c.args.self.now.kernel c.steps.self.kernel c.step.new.self.kernel c.steps.invariant.goes_on c.in_ok-stop.ensures.kept.goes_on;
   constants = c.in_ok-stop.ensures.kept.constants ∙ c.steps.invariant.constants;

@@ -1,6 +1,6 @@
 use Rattle.std.proofs.Common.{◌≡◌, ◌<◌}
 use Rattle.cdcl.specs.Searching.{GoesOn}
-use Rattle.cdcl.specs.Focusing.{IsFocusing}
+use Rattle.cdcl.specs.Focusing.{IsFocusing, HasUnits}
 use Rattle.cdcl.proofs.Progress.{remaining}
 use Rattle.cdcl.proofs.FocusedSteps.{GoesTo}
 use Rattle.cdcl.proofs.focused.FocusedSearch.run_to.Given as goal
@@ -9,6 +9,7 @@ use Rattle.cdcl.proofs.focused.FocusedSearch.run_to.Given as goal
 abbrev pub invariant-steps : goal.invariant-steps
 invariant-steps g l = record {
   focusing : IsFocusing l.self;
+  units : HasUnits l.self;
   counted : l.self.conflicts < l.last;
   goes_on : GoesOn l.initial.self.kernel l.self.kernel;
   constants : l.self.constants ≡ l.initial.self.constants;
