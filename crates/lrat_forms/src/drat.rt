@@ -36,6 +36,7 @@ fn first_line(first: &[u8]) -> Option<&[u8]> {
 /// then a 0, and so on. In LRAT hints stand behind the first 0 of an addition.
 fn is_drat_binary(first: &[u8]) -> bool {
     let mut has_step = false;
+    let mut is_followed = false;
     let mut is_at_step = true;
     let mut is_in_number = false;
     for byte in first {
@@ -43,6 +44,7 @@ fn is_drat_binary(first: &[u8]) -> bool {
             if *byte != b'a' && *byte != b'd' {
                 return false;
             }
+            is_followed = has_step;
             is_at_step = false;
         } else if *byte == 0 && !is_in_number {
             has_step = true;
@@ -51,7 +53,7 @@ fn is_drat_binary(first: &[u8]) -> bool {
             is_in_number = *byte >= 128;
         }
     }
-    has_step && (!is_at_step || first.len() < FIRST)
+    is_followed || (has_step && first.len() < FIRST)
 }
 
 /// Whether a proof with these first bytes, which was refused as LRAT, is one in DRAT, text or

@@ -174,13 +174,26 @@ c it begins as DRAT does, which has no hints; drat-trim FORMULA FILE -L NEW make
 ";
 
 /// The first bytes of files, with what is said of them.
-static BEGINNINGS: [(&[u8], &str); 15] = [
+static BEGINNINGS: [(&[u8], &str); 17] = [
     // in binary, an addition and a deletion of DRAT, in which 16 is a blank and 24 a digit, and
     // numbers of several bytes, whose last may be that of `a`
     (b"a\x20\x30\x00a\x0c\x00", DRAT),
     (b"a\x80a\x00d\x80\x80\x01\x00a", DRAT),
     (b"d\x20\x30\x00", DRAT),
     (b"a\x00", DRAT),
+    // steps of DRAT, of which one ends just with the 64 bytes that are looked at
+    (
+        b"a\x20\x30\x00a\x20\x31\x00a\x20\x33\x00a\x20\x35\x00a\x20\x37\x00a\x20\x39\x00a\x20\x3b\x00a\x20\x3d\x00\
+          a\x22\x30\x00a\x22\x31\x00a\x22\x33\x00a\x22\x35\x00a\x22\x37\x00a\x22\x39\x00a\x22\x3b\x00a\x22\x3d\x00",
+        DRAT,
+    ),
+    // one step that ends there: what stands behind it may be hints
+    (
+        b"a\x02\x04\x06\x08\x0a\x0c\x0e\x10\x12\x14\x16\x18\x1a\x1c\x1e\x20\x22\x24\x26\x28\x2a\x2c\x2e\x30\x32\x34\
+          \x36\x38\x3a\x3c\x3e\x40\x42\x44\x46\x48\x4a\x4c\x4e\x50\x52\x54\x56\x58\x5a\x5c\x5e\x60\x62\x64\x66\
+          \x68\x6a\x6c\x6e\x70\x72\x74\x76\x78\x7a\x7c\x00",
+        BAD_WORD,
+    ),
     // steps of LRAT: their hints don't begin as a step does
     (b"a\x20\x30\x00\x0c\x00", BAD_WORD),
     (b"a\x20\x30\x00\x00", BAD_WORD),
