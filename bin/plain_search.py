@@ -30,6 +30,13 @@ class Entry:
         self.literal, self.reason, self.level, self.place = literal, reason, level, place
 
 
+class Line:
+    """A learnt clause, its hints, and the numbers of the clauses that are forgotten behind it."""
+
+    def __init__(self, clause, hints):
+        self.clause, self.hints, self.forgets = clause, hints, []
+
+
 class Clauses:
     """Clauses, numbered from 1, and which literals are false. Of each clause is counted how many of its
     literals aren't false; where at most one isn't, `last` has it, or None: false and unit clauses are
@@ -153,7 +160,7 @@ class Trail:
         """The line of a conflict: the first unique implication point's clause, without what is removable
         and without the cube's literals, by rising variable; and the hints."""
         left, hints = self.resolve(conflict, self.trail, removable)
-        return sorted((it for it in left if self.level_of(it) > 0), key=abs), hints
+        return Line(sorted((it for it in left if self.level_of(it) > 0), key=abs), hints)
 
     def settle(self):
         """The lines of the units of a trail of level 0: each entry whose reason has other literals too
@@ -164,14 +171,14 @@ class Trail:
             others = self.clauses.literals[entry.reason] - {entry.literal} if entry.reason else set()
             if others:
                 against = [it.reason for it in self.trail if it.reason and -it.literal in others]
-                lines.append(([entry.literal], [*against, entry.reason]))
+                lines.append(Line([entry.literal], [*against, entry.reason]))
                 entry.reason = self.clauses.add([entry.literal])
         return lines
 
 
 class Search(Trail):
     """The search in one cube. `outcome` is ('model', literals), ('refuted', lines) or ('exhausted',
-    variable), and maybe ('divisible', None) of a first search; a line is a clause and its hints."""
+    variable), and maybe ('divisible', None) of a first search."""
 
     def __init__(self, variables, clauses, cube, budget):
         super().__init__(variables, clauses, cube)
@@ -234,7 +241,7 @@ class Ordered(Search):
 
     def learn_from(self, conflict):
         self.lines.append(self.learn(conflict))
-        clause = self.lines[-1][0]
+        clause = self.lines[-1].clause
         self.back_to(self.back_level(clause))
         self.clauses.add(clause)
 
@@ -279,9 +286,9 @@ class Focused(Search):
     def learn_from(self, conflict):
         left, resolved = self.resolve(conflict, [it for it in self.trail if it.level == self.level()])
         removable = self.removable(left)
-        clause, hints = self.learn(conflict, removable)
+        self.lines.append(self.learn(conflict, removable))
+        clause = self.lines[-1].clause
         self.counts["removed literals"] += len(left & removable)
-        self.lines.append((clause, hints))
         glue, back = len({self.level_of(it) for it in clause}), self.back_level(clause)
         self.used.update(resolved)
         self.gain(self.seen(resolved, clause))
@@ -354,13 +361,14 @@ class Focused(Search):
 
     def forget(self):
         """Of the learnt clauses that weren't used since the last round, have too great a glue and are no
-        reasons, all but the better quarter are forgotten."""
+        reasons, all but the better quarter are forgotten, behind the last line."""
         kept = self.used | {it.reason for it in self.trail}
         learnt = enumerate(self.glues, self.first + 1)
         may_go = [(glue, len(self.clauses.literals[it]), -it) for it, glue in learnt
                   if glue > KEPT_GLUE and self.clauses.literals[it] != {1, -1} and it not in kept]
-        late = sorted(may_go)[len(may_go) // 4:]
-        self.clauses.forget({-it for _, _, it in late})
+        late = {-it for _, _, it in sorted(may_go)[len(may_go) // 4:]}
+        self.clauses.forget(late)
+        self.lines[-1].forgets = sorted(late)
         self.used = set()
         self.counts["forgotten clauses"] += len(late)
 
@@ -466,8 +474,8 @@ class Tree:
         self.last += 1
         self.text.append(" ".join(map(str, [self.last, *literals, 0, *hints, 0])) + "\n")
 
-    def delete(self, cube, numbers):
-        if cube and numbers:
+    def delete(self, numbers):
+        if numbers:
             self.text.append(f"{self.last} d {' '.join(map(str, numbers))} 0\n")
 
     def outcome(self, cube):
@@ -491,13 +499,22 @@ class Tree:
         if kind == "exhausted":
             left, right = self.cube([*cube, -found]), self.cube([*cube, found])
             self.add(denied, [left, right])
-            self.delete(cube, [left, right])
+            self.delete([left, right] if cube else [])
         else:
-            first, count = self.last + 1, len(self.clauses)
-            for clause, hints in found:
-                self.add([*clause, *denied], [it if it <= count else first + it - count - 1 for it in hints])
-            self.delete(cube, list(range(first, self.last)))
+            self.refuted(cube, denied, found)
         return self.last
+
+    def refuted(self, cube, denied, lines):
+        """The lines of a refuted cube. What one forgets is deleted behind it, and what is left but for
+        the last one behind that, unless the proof ends there."""
+        moved, left = self.last - len(self.clauses), set()
+        for line in lines:
+            self.add([*line.clause, *denied], [it if it <= len(self.clauses) else it + moved for it in line.hints])
+            forgets = [it + moved for it in line.forgets]
+            self.delete(forgets)
+            left.add(self.last)
+            left.difference_update(forgets)
+        self.delete(sorted(left - {self.last}) if cube else [])
 
 
 class Lowering:

@@ -1,6 +1,5 @@
 -- Candidates to be forgotten, and what is left when all but the first quarter of them were.
-use Rattle.std.proofs.Common.{◌≡◌, ℕ, suc, zero, ◌+◌, ◌-◌, ◌<◌, ◌≤◌, true, false, List, [], ◌∷◌, ◌++◌, length, drop, get_or, slice_get, refl, ap, sym, ◌∙◌, nat_eq, inl, inr, All, arith, length-append, if◌then◌else◌, unwrap_or}
-use Rattle.std.specs.List.{list_any}
+use Rattle.std.proofs.Common.{◌≡◌, ℕ, suc, zero, ◌+◌, ◌-◌, ◌<◌, ◌≤◌, true, false, List, [], ◌∷◌, ◌++◌, length, drop, get_or, slice_get, refl, ap, sym, ◌∙◌, inl, inr, All, arith, length-append, if◌then◌else◌, unwrap_or}
 use Rattle.std.proofs.lemmas.List.{length-drop}
 use Rattle.theory.specs.Literals.{Clause, has_both_signs}
 use Rattle.theory.specs.Plans.{Constants}
@@ -10,8 +9,6 @@ use Rattle.theory.specs.Propagation.{clause_at}
 use Rattle.cdcl.specs.Forgetful.{IsPlain, late_numbers}
 use Rattle.theory.specs.Forgetting.{Mark, Candidate, candidates, may_go, late_ones, forget, is_reason}
 use Rattle.theory.proofs.searching.ForgettingNumbers.{forget-push, late-number}
-use Rattle.heuristics.proofs.LateLemmas.{forget-same}
-use Rattle.cdcl.specs.Numbers.{is_one_of}
 use Rattle.cdcl.proofs.SeenLemmas.{All-one_of}
 
 -- clauses without a mark are none
@@ -27,11 +24,9 @@ candidates-append c T n (d ∷ A) B (m ∷ marks) h =
     ap (λ (more : List Candidate). if may_go c T n d m then record { number = n; glue = m.glue; size = length d } ∷ more else more) (candidates-append c T (n + 1) A B marks (omega arith))
 
 -- the late ones of those learnt before the last one
-pub forget-late : (c : Constants) (T : Trail) (K : List Clause) (clause : Clause) (marks : List Mark) (ns : List ℕ) (from : ℕ) → length marks ≤ length K → from ≡ length K - length marks + 1
-    → ((n : ℕ) → list_any (nat_eq n) ns ≡ list_any (nat_eq n) (late_ones (candidates c T from (drop (from - 1) (K ++ clause ∷ [])) marks)))
-    → ((n : ℕ) → is_one_of ns n ≡ is_one_of (late_numbers c T marks K) n)
-forget-late c T K clause marks ns from many start same n =
-    same n ∙ ap (λ (all : List Candidate). list_any (nat_eq n) (late_ones all)) (begun ∙ candidates-append c T (length K - length marks + 1) (drop (length K - length marks) K) (clause ∷ []) marks enough)
+late-before : (c : Constants) (T : Trail) (K : List Clause) (clause : Clause) (marks : List Mark) (from : ℕ) → length marks ≤ length K → from ≡ length K - length marks + 1
+    → late_ones (candidates c T from (drop (from - 1) (K ++ clause ∷ [])) marks) ≡ late_numbers c T marks K
+late-before c T K clause marks from many start = ap late_ones (begun ∙ candidates-append c T (length K - length marks + 1) (drop (length K - length marks) K) (clause ∷ []) marks enough)
   where
     low : from - 1 ≡ length K - length marks
     low = omega (arith, start)
@@ -47,20 +42,18 @@ forget-late c T K clause marks ns from many start same n =
         dropped (suc i) [] h = absurd (omega arith)
         dropped (suc i) (d ∷ L) h = dropped i L (omega arith)
 
-pub forgotten-late : (c : Constants) (T : Trail) (K : List Clause) (clause : Clause) (marks : List Mark) (ns : List ℕ) → ((n : ℕ) → is_one_of ns n ≡ is_one_of (late_numbers c T marks K) n)
-    → forget ns 1 (K ++ clause ∷ []) ≡ forget (late_numbers c T marks K) 1 K ++ clause ∷ []
-forgotten-late c T K clause marks ns same =
-    forget-same ns (late_numbers c T marks K) 1 (K ++ clause ∷ []) same ∙ forget-push (late_numbers c T marks K) K clause (λ k t. (late-number c T K marks k t).1)
+module _ (c : Constants) (T : Trail) (K : List Clause) (marks : List Mark) where
+  pub forgotten-late : (clause : Clause) → forget (late_numbers c T marks K) 1 (K ++ clause ∷ []) ≡ forget (late_numbers c T marks K) 1 K ++ clause ∷ []
+  forgotten-late clause = forget-push (late_numbers c T marks K) K clause (λ k t. (late-number c T K marks k t).1)
 
--- which numbers these are
-pub late-learnt : (c : Constants) (T : Trail) (K : List Clause) (clause : Clause) (marks : List Mark) (ns : List ℕ) (first : ℕ) → length K ≡ first + length marks → ((n : ℕ) → is_one_of ns n ≡ is_one_of (late_numbers c T marks K) n)
-    → All (λ n. (first < n) × (n ≤ length (K ++ clause ∷ []))) ns
-late-learnt c T K clause marks ns first many same =
-    All-one_of (λ n. (first < n) × (n ≤ length (K ++ clause ∷ []))) ns
-    (λ n t. (let h = late-number c T K marks n (sym (same n) ∙ t) in let low = h.0 in let high = h.1 in let long = length-append K (clause ∷ []) in (omega (arith, low, many), omega (arith, high, long))))
+  -- which numbers these are
+  pub late-learnt : (clause : Clause) (first : ℕ) → length K ≡ first + length marks → All (λ n. (first < n) × (n ≤ length (K ++ clause ∷ []))) (late_numbers c T marks K)
+  late-learnt clause first many =
+      All-one_of (λ n. (first < n) × (n ≤ length (K ++ clause ∷ []))) (late_numbers c T marks K)
+      (λ n t. (let h = late-number c T K marks n t in let low = h.0 in let high = h.1 in let long = length-append K (clause ∷ []) in (omega (arith, low, many), omega (arith, high, long))))
 
-pub late-no_reasons : (c : Constants) (T : Trail) (K : List Clause) (marks : List Mark) (ns : List ℕ) → ((n : ℕ) → is_one_of ns n ≡ is_one_of (late_numbers c T marks K) n) → All (λ n. is_reason T n ≡ false) ns
-late-no_reasons c T K marks ns same = All-one_of (λ n. is_reason T n ≡ false) ns (λ n t. (late-number c T K marks n (sym (same n) ∙ t)).2)
+  pub late-no_reasons : All (λ n. is_reason T n ≡ false) (late_numbers c T marks K)
+  late-no_reasons = All-one_of (λ n. is_reason T n ≡ false) (late_numbers c T marks K) (λ n t. (late-number c T K marks n t).2)
 
 -- the candidates of one clause more
 drop-clause : (i : ℕ) (K : List Clause) → i < length K → drop i K ≡ unwrap_or (slice_get K i) [] ∷ drop (i + 1) K
@@ -136,12 +129,10 @@ snoc [] h = absurd (omega arith)
 snoc (c ∷ []) h = record { front = []; last = c; parts = refl }
 snoc (c ∷ d ∷ L) h = let s = snoc (d ∷ L) (omega arith) in record { front = c ∷ s.front; last = s.last; parts = ap (λ (M : List Clause). c ∷ M) s.parts }
 
--- the numbers that are found among all candidates, where the last clause is set apart
+-- the numbers of the late ones among all candidates, where the last clause is set apart
 pub late-found : (d : Constants) (T : Trail) (L K : List Clause) (clause : Clause) (marks : List Mark) (ns : List ℕ) (first number from : ℕ) (all : List Candidate) → L ≡ K ++ clause ∷ [] → length L ≡ first + length marks + 1
-    → number ≡ length L → from ≡ number - length marks → all ≡ candidates d T from (drop (from - 1) L) marks → ((n : ℕ) → list_any (nat_eq n) ns ≡ list_any (nat_eq n) (late_ones all))
-    → (n : ℕ) → is_one_of ns n ≡ is_one_of (late_numbers d T marks K) n
+    → number ≡ length L → from ≡ number - length marks → all ≡ candidates d T from (drop (from - 1) L) marks → ns ≡ late_ones all → ns ≡ late_numbers d T marks K
 late-found d T L K clause marks ns first number from all parts learnt last begin is found =
     let one = length-append K (clause ∷ []) in
     let whole = ap length parts in
-    forget-late d T K clause marks ns from (omega arith) (omega arith)
-    (λ n. found n ∙ ap (λ (a : List Candidate). list_any (nat_eq n) (late_ones a)) (is ∙ ap (λ (M : List Clause). candidates d T from (drop (from - 1) M) marks) parts))
+    found ∙ (ap late_ones (is ∙ ap (λ (M : List Clause). candidates d T from (drop (from - 1) M) marks) parts) ∙ late-before d T K clause marks from (omega arith) (omega arith))

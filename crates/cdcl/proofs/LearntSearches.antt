@@ -129,10 +129,10 @@ module _ (s : FocusedSearch) (n : ℕ) (t : FocusedSearch) (f : IsFocusing s) (l
   pub next-state : (saved : Assignment) → state_of t (values_after s saved) ≡ learnt_next s.constants s.kernel.vars (state_of s saved) L
   next-state saved =
       let scores = scores_after s.constants s.pace.mode s.kernel.vars (is_seen K T L.seen) s.decisions.scores.scores in
-      let line : Line = record { clause = l.clause; hints = l.hints } in
+      let line : Line = record { clause = l.clause; hints = l.hints; forgets = [] } in
       let back = back_level T L.line.clause in
       let first : state_of t (values_after s saved) ≡ made saved line l.g l.marked.marks.items scores l.level l.restarts
-      = rw (next.kernel, next.conflicts, next.stable, next.decided, next.lines, next.marks, scores-is, averages-is, next.restarted, next.pace, next.round) refl in
+      = rw (next.kernel, next.conflicts, next.stable, next.decided, next.lines, next.forgets, next.marks, scores-is, averages-is, next.restarted, next.pace, next.round) refl in
       first ∙ (ap (λ (m : List Mark). made saved line l.g m scores l.level l.restarts) marks-used
       ∙ (ap (λ r. made saved line l.g (used_marks (state_of s saved) L) scores l.level r) restarts-is
       ∙ (ap (λ level. made saved line l.g (used_marks (state_of s saved) L) scores level goes_back) l.taught.back
@@ -271,13 +271,13 @@ module _ (s : FocusedSearch) (n : ℕ) (t : FocusedSearch) (f : IsFocusing s) (l
     decided =
         let most = length-lawful s.kernel.vars K T f.searching.lawful (AreOver-from_IsOver s.kernel.vars (literals T) f.searching.trail_over) in
         let v = f.few in let c = next.conflicts in let d = next.decided in let before = f.decided in omega arith;
-    learnt = let a = many in let b = first-is in let c = f.learnt in let d = ap length next.lines in let e = length-append s.lines (record { clause = l.clause; hints = l.hints } ∷ []) in omega (arith, a, b, c, d, e);
+    learnt = let a = many in let b = first-is in let c = f.learnt in let d = ap length next.lines in let e = length-append s.lines (record { clause = l.clause; hints = l.hints; forgets = l.forgets } ∷ []) in omega (arith, a, b, c, d, e);
     marks =
         let a = ap (λ (ms : List Mark). length ms) next.marks in
         let b = long-marks over in
         let c = f.marks in
         let d = ap length next.lines in
-        let e = length-append s.lines (record { clause = l.clause; hints = l.hints } ∷ []) in
+        let e = length-append s.lines (record { clause = l.clause; hints = l.hints; forgets = l.forgets } ∷ []) in
         omega (arith, a, b, c, d, e);
     plain = rw (vars-is, first-is) (holds (λ C. All (IsPlain s.kernel.vars) (drop s.kernel.first C)) plain-all (AllPlain-forget s.kernel.vars ns 1 s.kernel.first all plain-all));
   }

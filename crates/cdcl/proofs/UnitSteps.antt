@@ -26,7 +26,7 @@ pub settles-wide : (s t : FocusedSearch) (h : UnitHints) (place n : ℕ) (e : En
 settles-wide s t h place n e at wide hints l = record {
   lines = line ∷ [];
   more = record {
-    lines_are = l.lines ∙ ap (λ (ns : List ℕ). s.lines ++ record { clause = e.lit ∷ []; hints = ns } ∷ []) hints;
+    lines_are = l.lines ∙ ap (λ (ns : List ℕ). s.lines ++ record { clause = e.lit ∷ []; hints = ns; forgets = [] } ∷ []) hints;
     marks_are = l.marks;
     kernel = l.kernel ∙ ap (λ (k : State). record s.kernel { clauses = k.clauses; trail = k.trail }) (sym l.kernel);
     level = ap (λ (k : State). current_level k.trail) l.kernel

@@ -122,8 +122,9 @@ pub record Weighs (old : FocusedSearch) (glue : ℕ) (back : Bool) (new : Focuse
     restarted = new.restarted;
   }
 
--- a round ended, in which of the clauses but the last some were forgotten
-pub record EndsRound (old new : FocusedSearch) : Type 0 where
+-- a round ended, in which of the clauses but the last those of these numbers were forgotten
+pub record EndsRound (old : FocusedSearch) (forgets : List ℕ) (new : FocusedSearch) : Type 0 where
+  pub late : (K : List Clause) (clause : Clause) → old.kernel.clauses ≡ K ++ clause ∷ [] → forgets ≡ late_numbers old.constants old.kernel.trail old.marks.items K
   pub kernel : (K : List Clause) (clause : Clause) → old.kernel.clauses ≡ K ++ clause ∷ []
       → new.kernel ≡ record old.kernel { clauses = forget (late_numbers old.constants old.kernel.trail old.marks.items K) 1 K ++ clause ∷ [] }
   pub marks : new.marks.items ≡ unused old.marks.items

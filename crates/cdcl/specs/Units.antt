@@ -45,7 +45,7 @@ pub record HasMore (old : FocusedSearch) (lines : List Line) (new : FocusedSearc
 -- the literal of the entry at the place is a line by the hints that were taken up, and its clause
 -- the entry's reason
 pub record LearnsUnit (old : FocusedSearch) (place : ℕ) (e : Entry) (new : FocusedSearch) : Type 0 where
-  pub lines : new.lines ≡ old.lines ++ record { clause = e.lit ∷ []; hints = old.unit_hints.hints.items } ∷ []
+  pub lines : new.lines ≡ old.lines ++ record { clause = e.lit ∷ []; hints = old.unit_hints.hints.items; forgets = [] } ∷ []
   pub marks : new.marks.items ≡ old.marks.items ++ fresh_mark 0 ∷ []
   pub kernel : new.kernel ≡ record old.kernel {
     clauses = old.kernel.clauses ++ (e.lit ∷ []) ∷ [];

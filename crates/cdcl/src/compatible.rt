@@ -23,13 +23,14 @@ use lines::{Reader, Row};
 use std::alloc::{AllocError, Global};
 use std::marker::Model;
 
-/// A learnt clause without the cube's literals, by rising variable, and the numbers of the clauses
-/// that it was resolved from. Behind the formula's clauses come the unit clauses of its pure
-/// literals; the numbers above these count the cube's own lines.
+/// A learnt clause without the cube's literals, by rising variable, the numbers of the clauses that
+/// it was resolved from, and of those that are forgotten behind it. Behind the formula's clauses
+/// come the unit clauses of its pure literals; the numbers above these count the cube's own lines.
 #[derive(Drop)]
 pub struct Line {
     clause: Vec<Lit>,
     hints: Vec<u64>,
+    forgets: Vec<u64>,
 }
 
 impl Model for Line {
@@ -37,7 +38,7 @@ impl Model for Line {
 
     ghost Value = { learning.Line };
 
-    ghost view = { λ l. record { clause = l.clause.items; hints = l.hints.items } };
+    ghost view = { λ l. record { clause = l.clause.items; hints = l.hints.items; forgets = l.forgets.items } };
 }
 
 impl Line {
@@ -55,12 +56,20 @@ impl Line {
         &self.hints
     }
 
-    /// The clause and the hints, by value.
-    pub fn into_parts(self) -> (Vec<Lit>, Vec<u64>)
+    /// The numbers of the clauses that are forgotten behind it, which no later line has as hints.
+    pub fn forgets(&self) -> &[u64]
+        ensures { result.now ≡ self.now.forgets }
+    {
+        &self.forgets
+    }
+
+    /// The clause, the hints and what is forgotten, by value.
+    pub fn into_parts(self) -> (Vec<Lit>, Vec<u64>, Vec<u64>)
         ensures clause { result.0.items ≡ self.clause }
         ensures hints { result.1.items ≡ self.hints }
+        ensures forgets { result.2.items ≡ self.forgets }
     {
-        (self.clause, self.hints)
+        (self.clause, self.hints, self.forgets)
     }
 }
 
@@ -89,10 +98,15 @@ impl KeepsLines for Refutation {
         'lines: loop {
             let mut clause = Vec::new(alloc);
             let mut hints = Vec::new(alloc);
-            if !reader.next(&mut clause, &mut hints)? {
+            let mut forgets = Vec::new(alloc);
+            if !reader.next(&mut clause, &mut hints, &mut forgets)? {
                 return Ok(Refutation { lines });
             }
-            lines.push(Line { clause, hints })?;
+            lines.push(Line {
+                clause,
+                hints,
+                forgets,
+            })?;
         }
     }
 }

@@ -80,25 +80,43 @@ fn go_back(
     Ok(number)
 }
 
-/// Forgets all but the first quarter of the clauses that may be, of those that were learnt before
-/// the last one, which has this number. They have these marks.
+/// The numbers of all but the first quarter of the clauses that may be forgotten, of those that were
+/// learnt before the last one, which has this number. They have these marks.
+fn late_learnt(
+    kernel: &SearchKernel,
+    number: u64,
+    marks: &Vec<Mark>,
+    kept_glue: u32,
+) -> Result<Vec<u64>, AllocError>
+    requires last { number ≡ length kernel.now.clauses }
+    requires learnt { CanForget kernel.now (length marks.now.items) }
+    ensures { IfOk result (λ numbers. (c : plans.Constants) (K : List Clause) (clause : Clause) → c.kept_glue ≡ kept_glue → kernel.now.clauses ≡ K ++ clause ∷ [] →
+        numbers.items ≡ late_numbers c kernel.now.trail marks.now.items K) }
+{
+    let alloc = *marks.allocator();
+    let from = number - marks.len() as u64;
+    let candidates = candidates(alloc, kernel, from, marks, kept_glue)?;
+    let numbers = late_ones(alloc, &candidates)?;
+    Ok(numbers)
+}
+
+/// Forgets these clauses, and answers which they are.
 fn forget(
     kernel: &mut SearchKernel,
     number: u64,
     marks: &Vec<Mark>,
     kept_glue: u32,
-) -> Result<(), AllocError>
+) -> Result<Vec<u64>, AllocError>
     requires last { number ≡ length kernel.old.clauses }
     requires learnt { CanForget kernel.old (length marks.now.items) }
-    ensures { OnOk result ((c : plans.Constants) (K : List Clause) (clause : Clause) → c.kept_glue ≡ kept_glue → kernel.old.clauses ≡ K ++ clause ∷ [] →
+    ensures numbers { IfOk result (λ numbers. (c : plans.Constants) (K : List Clause) (clause : Clause) → c.kept_glue ≡ kept_glue → kernel.old.clauses ≡ K ++ clause ∷ [] →
+        numbers.items ≡ late_numbers c kernel.old.trail marks.now.items K) }
+    ensures kernel { OnOk result ((c : plans.Constants) (K : List Clause) (clause : Clause) → c.kept_glue ≡ kept_glue → kernel.old.clauses ≡ K ++ clause ∷ [] →
         kernel.new ≡ record kernel.old { clauses = forget (late_numbers c kernel.old.trail marks.now.items K) 1 K ++ clause ∷ [] }) }
 {
-    let alloc = *marks.allocator();
-    let from = number - marks.len() as u64;
-    let mut candidates = candidates(alloc, kernel, from, marks, kept_glue)?;
-    let numbers = late_ones(alloc, &mut candidates)?;
+    let numbers = late_learnt(kernel, number, marks, kept_glue)?;
     kernel.forget(&numbers)?;
-    Ok(())
+    Ok(numbers)
 }
 
 impl FocusedSearch {
@@ -120,10 +138,10 @@ impl FocusedSearch {
             &self.analysis.learnt,
             restarts,
         )?;
-        self.end_round_where_over(last)?;
+        let forgets = self.end_round_where_over(last)?;
         let _trail = self.kernel.trail(); // it ensures what the proof needs of the kernel
         let learnt = &self.analysis.learnt;
-        self.lines.push(&learnt.clause, &learnt.hints)?;
+        self.lines.push(&learnt.clause, &learnt.hints, &forgets)?;
         self.marks.push(Mark::fresh(glue))?;
         Ok(())
     }
@@ -161,28 +179,30 @@ impl FocusedSearch {
         Ok(restarts)
     }
 
-    /// The end of a round, if it is over, where the clause that was learnt last has this number.
-    fn end_round_where_over(&mut self, last: u64) -> Result<(), AllocError>
+    /// The end of a round, if it is over, where the clause that was learnt last has this number. The
+    /// answer is the numbers of what is forgotten.
+    fn end_round_where_over(&mut self, last: u64) -> Result<Vec<u64>, AllocError>
         requires last { last ≡ length self.old.kernel.clauses }
         requires learnt { CanForget self.old.kernel (length self.old.marks.items) }
-        ensures ends { OnOk result (is_over self.old.round self.old.conflicts ≡ true → EndsRound self.old self.new) }
-        ensures goes_on { OnOk result (is_over self.old.round self.old.conflicts ≡ false → self.new ≡ self.old) }
+        ensures ends { IfOk result (λ forgets. is_over self.old.round self.old.conflicts ≡ true → EndsRound self.old forgets.items self.new) }
+        ensures goes_on { IfOk result (λ forgets. is_over self.old.round self.old.conflicts ≡ false → (forgets.items ≡ []) × (self.new ≡ self.old)) }
     {
         if self.round.is_over(self.conflicts) {
             return self.end_round(last);
         }
-        Ok(())
+        Ok(Vec::new(self.lines.allocator()))
     }
 
     /// The end of a round: clauses are forgotten that were learnt before the last one, which has this
-    /// number; saved values change, and a mode that is over gives way.
-    fn end_round(&mut self, last: u64) -> Result<(), AllocError>
+    /// number; saved values change, and a mode that is over gives way. The answer is the numbers of
+    /// what is forgotten.
+    fn end_round(&mut self, last: u64) -> Result<Vec<u64>, AllocError>
         requires last { last ≡ length self.old.kernel.clauses }
         requires learnt { CanForget self.old.kernel (length self.old.marks.items) }
         requires over { is_over self.old.round self.old.conflicts ≡ true }
-        ensures { OnOk result (EndsRound self.old self.new) }
+        ensures { IfOk result (λ forgets. EndsRound self.old forgets.items self.new) }
     {
-        forget(
+        let forgets = forget(
             &mut self.kernel,
             last,
             &self.marks,
@@ -192,6 +212,6 @@ impl FocusedSearch {
         self.decisions.rephase(self.round.change());
         self.round.advance(self.constants, self.conflicts);
         self.pace.end_round(self.conflicts);
-        Ok(())
+        Ok(forgets)
     }
 }

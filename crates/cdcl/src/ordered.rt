@@ -178,7 +178,8 @@ impl OrderedSearch {
         self.kernel.back_to(self.learnt.level);
         self.kernel.learn(&self.learnt.clause)?;
         self.conflicts += 1;
-        self.lines.push(&self.learnt.clause, &self.learnt.hints)?;
+        self.lines
+            .push(&self.learnt.clause, &self.learnt.hints, &[])?;
         Ok(())
     }
 }

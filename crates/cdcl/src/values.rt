@@ -40,6 +40,6 @@ pub(crate) fn refute(
         ≡ refuted (lines.old ++ learn kernel.now.clauses kernel.now.trail number ∷ [])) }
 {
     analyze_in(kernel, room, number, learnt)?;
-    lines.push(&learnt.clause, &learnt.hints)?;
+    lines.push(&learnt.clause, &learnt.hints, &[])?;
     Ok(Outcome::Refuted(lines.hand_out()?))
 }

@@ -7,13 +7,13 @@ use std::alloc::Global;
 use std::test::Fail;
 
 fn is_line(line: &Line, clause: &[i32], hints: &[u64]) -> bool {
-    reads(line.clause(), clause) && line.hints() == hints
+    reads(line.clause(), clause) && line.hints() == hints && line.forgets().is_empty()
 }
 
-/// Whether a line comes apart into this clause and these hints.
+/// Whether a line comes apart into this clause and these hints, and forgets nothing.
 fn comes_apart(line: Line, clause: &[i32], hints: &[u64]) -> bool {
-    let (lits, numbers) = line.into_parts();
-    reads(&lits, clause) && numbers.as_slice() == hints
+    let (lits, numbers, forgets) = line.into_parts();
+    reads(&lits, clause) && numbers.as_slice() == hints && forgets.is_empty()
 }
 
 /// Whether four clauses are refuted by two conflicts, with a line for each.

@@ -12,6 +12,9 @@ pub const LEVEL_LEFT_OUT: &str = "p cnf 4 2\n1 3 4 0\n1 3 -4 0\n";
 /// A line's clause and its hints.
 pub type WantedLine<'a> = (&'a [i32], &'a [u64]);
 
+/// The place of a line, from 0 on, and the numbers of the clauses that are forgotten behind it.
+pub type WantedForgets<'a> = (usize, &'a [u64]);
+
 /// What a cube is to come to.
 #[derive(Clone, Copy)]
 pub enum Wanted<'a> {
@@ -20,7 +23,10 @@ pub enum Wanted<'a> {
     /// Nothing but the variable to split on.
     ExhaustedOn(u32),
     Model(&'a [bool]),
+    /// By lines that forget nothing.
     Refuted(&'a [WantedLine<'a>]),
+    /// By lines behind some of which clauses are forgotten.
+    Forgetting(&'a [WantedLine<'a>], &'a [WantedForgets<'a>]),
 }
 
 /// The outcome of a cube, by a plan.
@@ -55,8 +61,9 @@ fn has_lines(row: &LineRow, wanted: &[WantedLine]) -> Result<bool, AllocError> {
     let mut lines = row.lines();
     let mut clause = Vec::new(row.allocator());
     let mut hints = Vec::new(row.allocator());
+    let mut forgets = Vec::new(row.allocator());
     for want in wanted {
-        let is_there = lines.next(&mut clause, &mut hints)?;
+        let is_there = lines.next(&mut clause, &mut hints, &mut forgets)?;
         if !is_there || !reads(&clause, want.0) || hints.as_slice() != want.1 {
             return Ok(false);
         }
@@ -64,12 +71,41 @@ fn has_lines(row: &LineRow, wanted: &[WantedLine]) -> Result<bool, AllocError> {
     Ok(lines.len() == 0)
 }
 
+/// The numbers of the clauses that are forgotten behind the line at this place, if it is wanted.
+fn forgotten_at<'a>(wanted: &[WantedForgets<'a>], place: usize) -> &'a [u64] {
+    for (at, numbers) in wanted {
+        if *at == place {
+            return numbers;
+        }
+    }
+    &[]
+}
+
+fn forgets_just(row: &LineRow, wanted: &[WantedForgets]) -> Result<bool, AllocError> {
+    let mut lines = row.lines();
+    let mut clause = Vec::new(row.allocator());
+    let mut hints = Vec::new(row.allocator());
+    let mut forgets = Vec::new(row.allocator());
+    for place in 0..row.len() {
+        lines.next(&mut clause, &mut hints, &mut forgets)?;
+        if forgets.as_slice() != forgotten_at(wanted, place) {
+            return Ok(false);
+        }
+    }
+    Ok(true)
+}
+
 pub fn is_wanted(outcome: &Outcome<LineRow>, wanted: Wanted) -> Result<bool, AllocError> {
     match (outcome, wanted) {
         (Outcome::Exhausted(var), Wanted::Exhausted) => Ok(*var == 1),
         (Outcome::Exhausted(var), Wanted::ExhaustedOn(wanted)) => Ok(*var == wanted),
         (Outcome::Model(values), Wanted::Model(wanted)) => Ok(&values[..] == wanted),
-        (Outcome::Refuted(row), Wanted::Refuted(lines)) => has_lines(row, lines),
+        (Outcome::Refuted(row), Wanted::Refuted(lines)) => {
+            Ok(has_lines(row, lines)? && forgets_just(row, &[])?)
+        }
+        (Outcome::Refuted(row), Wanted::Forgetting(lines, forgets)) => {
+            Ok(has_lines(row, lines)? && forgets_just(row, forgets)?)
+        }
         _ => Ok(false),
     }
 }

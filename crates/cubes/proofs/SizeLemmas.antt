@@ -14,7 +14,8 @@ fits-kept s t more (Split var) h = tt
 fits-kept s t more (Leaf lines) h = record {
   count = omega (arith, h.count, more.lines);
   literals = All-weaker (λ (l : Line). length l.clause ≤ s.most_literals) (λ (l : Line). length l.clause ≤ t.most_literals) (λ l w. omega (arith, w, more.literals)) lines h.literals;
-  hints = All-weaker (λ (l : Line). length l.hints ≤ s.most_hints) (λ (l : Line). length l.hints ≤ t.most_hints) (λ l w. omega (arith, w, more.hints)) lines h.hints;
+  numbers = All-weaker (λ (l : Line). (length l.hints ≤ s.most_numbers) × (length l.forgets ≤ s.most_numbers)) (λ (l : Line). (length l.hints ≤ t.most_numbers) × (length l.forgets ≤ t.most_numbers))
+      (λ l w. (let a = w.0 in omega (arith, more.numbers), let a = w.1 in omega (arith, more.numbers))) lines h.numbers;
 }
 
 -- there is room for one split more
@@ -31,7 +32,7 @@ size-split nodes i var s t inside here h is = rw is (record {
   splits = ap (λ k. k + 1) h.splits ∙ sym (count_by_more_yes is_split nodes i (Split var) inside (ap is_split here));
   leaves = h.leaves ∙ sym (count_by_more_no (λ n. not (is_split n)) nodes i (Split var) inside (ap (λ n. not (is_split n)) here));
   fits = All-more (Fits (record s { splits = s.splits + 1 })) nodes i (Split var) inside
-      (All-weaker (Fits s) (Fits (record s { splits = s.splits + 1 })) (fits-kept s (record s { splits = s.splits + 1 }) (record { lines = omega arith; literals = omega arith; hints = omega arith })) (take i nodes) h.fits)
+      (All-weaker (Fits s) (Fits (record s { splits = s.splits + 1 })) (fits-kept s (record s { splits = s.splits + 1 }) (record { lines = omega arith; literals = omega arith; numbers = omega arith })) (take i nodes) h.fits)
       (rw here tt);
 })
 

@@ -11,11 +11,11 @@ abbrev pub is_split : LinesNode → Bool
 is_split (Split var) = true
 is_split (Leaf lines) = false
 
--- a refuted cube has no more lines than the size says, and none of them more literals or hints
+-- a refuted cube has no more lines than the size says, and none of them more literals or numbers
 pub record FitsLeaf (s : TreeSize) (lines : List Line) : Type 0 where
   pub count : length lines ≤ s.most_lines
   pub literals : All (λ l. length l.clause ≤ s.most_literals) lines
-  pub hints : All (λ l. length l.hints ≤ s.most_hints) lines
+  pub numbers : All (λ l. (length l.hints ≤ s.most_numbers) × (length l.forgets ≤ s.most_numbers)) lines
 
 abbrev pub Fits : TreeSize → LinesNode → Type 0
 Fits s (Split var) = Unit {0}
@@ -37,4 +37,4 @@ HasSize (Refuted nodes) (Some s) = IsSizeOf nodes.items s
 pub record IsNoSmaller (old new : TreeSize) : Type 0 where
   pub lines : old.most_lines ≤ new.most_lines
   pub literals : old.most_literals ≤ new.most_literals
-  pub hints : old.most_hints ≤ new.most_hints
+  pub numbers : old.most_numbers ≤ new.most_numbers

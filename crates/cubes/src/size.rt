@@ -18,8 +18,8 @@ pub struct TreeSize {
     pub most_lines: usize,
     /// No line has more literals.
     pub most_literals: usize,
-    /// No line has more hints.
-    pub most_hints: usize,
+    /// No line has more hints, and none forgets more lines.
+    pub most_numbers: usize,
 }
 
 impl TreeSize {
@@ -36,7 +36,7 @@ impl TreeSize {
         self.bytes = self.bytes.saturating_add(row.size());
         self.most_lines = self.most_lines.max(row.len());
         self.most_literals = self.most_literals.max(row.most_literals());
-        self.most_hints = self.most_hints.max(row.most_hints());
+        self.most_numbers = self.most_numbers.max(row.most_numbers());
     }
 
     fn of_nodes(nodes: &[Node<Row>]) -> TreeSize
@@ -50,7 +50,7 @@ impl TreeSize {
             bytes: 0,
             most_lines: 0,
             most_literals: 0,
-            most_hints: 0,
+            most_numbers: 0,
         };
         for node in nodes {
             match node {

@@ -25,7 +25,7 @@ pub enum Given {
     Skipped(u64),
 }
 
-/// A line of a leaf: its clause, and its hints.
+/// A line of a leaf, which forgets nothing: its clause, and its hints.
 pub type WantedLine = (&'static [i32], &'static [u64]);
 
 /// What a node has to be.
@@ -118,9 +118,11 @@ impl HasLines for LineRow {
         let mut lines = self.lines();
         let mut clause = Vec::new(self.allocator());
         let mut hints = Vec::new(self.allocator());
+        let mut forgets = Vec::new(self.allocator());
         for want in wanted {
-            let is_there = lines.next(&mut clause, &mut hints)?;
-            if !is_there || !reads(&clause, want.0) || hints.as_slice() != want.1 {
+            let is_there = lines.next(&mut clause, &mut hints, &mut forgets)?;
+            let is_wanted = reads(&clause, want.0) && hints.as_slice() == want.1;
+            if !is_there || !is_wanted || !forgets.is_empty() {
                 return Ok(false);
             }
         }
@@ -134,7 +136,8 @@ impl HasLines for Refutation {
             return Ok(false);
         }
         for (line, want) in self.lines.iter().zip(wanted) {
-            if !reads(line.clause(), want.0) || line.hints() != want.1 {
+            let is_wanted = reads(line.clause(), want.0) && line.hints() == want.1;
+            if !is_wanted || !line.forgets().is_empty() {
                 return Ok(false);
             }
         }

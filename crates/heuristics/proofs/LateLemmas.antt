@@ -1,15 +1,16 @@
 -- The candidates behind the first quarter, once they are sorted.
-use Rattle.std.proofs.Common.{◌≡◌, ◌≢◌, ℕ, zero, suc, ◌+◌, ◌/◌, ◌<◌, ◌≤◌, Bool, true, false, ◌&&◌, ◌||◌, cond, List, [], ◌∷◌, length, map, filter, drop, get_or, nat_eq, nat_le, eqb-true, eq-eqb, le-leb, refl, ap, sym, ◌∙◌, if◌then◌else◌, arith}
-use Rattle.std.specs.List.{list_any, count_by}
+use Rattle.std.proofs.Common.{◌≡◌, ◌≢◌, ℕ, zero, suc, ◌+◌, ◌-◌, ◌/◌, ◌<◌, ◌≤◌, Bool, true, false, not, cond, List, [], ◌∷◌, length, map, filter, drop, get_or, nat_eq, nat_le, eqb-true, eq-eqb, le-leb, refl, ap, sym, subst, ◌∙◌, ◌⊎◌, inl, inr, All, if◌then◌else◌, arith}
+use Rattle.std.specs.List.{count_by}
 use Rattle.std.specs.List.Sorted.{IsPermutation, IsSortedBy}
-use Rattle.std.proofs.lemmas.Bool.{lt-leb}
-use Rattle.std.proofs.lemmas.List.{get_or_default}
-use Rattle.std.proofs.lemmas.List.Sums.{sum_by-cons}
-use Rattle.std.proofs.lemmas.List.Sorted.{sorted_far, length_permutation, sum_by-IsPermutation, list_any-IsPermutation}
+use Rattle.std.proofs.lemmas.Bool.{lt-leb, cases_lt}
+use Rattle.std.proofs.lemmas.List.{get_or_default, length-map, length-drop}
+use Rattle.std.proofs.lemmas.List.Elements.{All-head, All-tail, All-from_get_or, All-weaker}
+use Rattle.std.proofs.lemmas.List.Sums.{sum_by-cons, length-filter}
+use Rattle.std.proofs.lemmas.List.Sorted.{sorted_far, length_permutation, sum_by-IsPermutation, IsPermutation-sym, All-permutation}
 use Rattle.theory.specs.Literals.{Clause}
 use Rattle.theory.specs.Trails.{Trail}
 use Rattle.theory.specs.Plans.{Constants}
-use Rattle.theory.specs.Forgetting.{Mark, Candidate, candidates, may_go, goes_before, is_late, late_ones, forget, forgotten}
+use Rattle.theory.specs.Forgetting.{Mark, Candidate, candidates, may_go, goes_before, is_late, late_ones}
 use Rattle.theory.proofs.literals.LiteralSets.{false_unless}
 use Rattle.heuristics.specs.Lateness.{AreOfDistinctNumbers}
 use Rattle.heuristics.proofs.CandidateOrder.{order, goes_before-other}
@@ -80,31 +81,49 @@ apart ys i j d h before less e =
     let one = h n in
     omega arith
 
--- in a sorted list as many go before a candidate as stand before it
+-- in a sorted list a candidate goes before those behind it, and before no other
+module _ (ys : List Candidate) (j i : ℕ) (e d : Candidate) (sorted : IsSortedBy goes_before ys) where
+  goes-later : i ≤ j → j < length ys → goes_before (get_or ys j e) (get_or ys i d) ≡ false
+  goes-later l u = ap (λ a. goes_before a (get_or ys i d)) (get_or_default ys j e d u) ∙ sorted_far goes_before order ys sorted i j d l u
+
+  goes-first : AreOfDistinctNumbers ys → j < i → i < length ys → goes_before (get_or ys j e) (get_or ys i d) ≡ true
+  goes-first distinct l less = goes_before-other (get_or ys j e) (get_or ys i d) differ far
+    where
+      same : get_or ys j e ≡ get_or ys j d
+      same = get_or_default ys j e d (omega arith)
+
+      differ : (get_or ys j e).number ≢ (get_or ys i d).number
+      differ f = apart ys j i d distinct l less (ap (λ (a : Candidate). a.number) (sym same) ∙ f)
+
+      far : goes_before (get_or ys i d) (get_or ys j e) ≡ false
+      far = ap (goes_before (get_or ys i d)) same ∙ sorted_far goes_before order ys sorted j i d (omega arith) less
+
+-- so as many go before a candidate as stand before it
 count-sorted : (ys : List Candidate) (i : ℕ) (d : Candidate) → AreOfDistinctNumbers ys → IsSortedBy goes_before ys → i < length ys → count_by (λ b. goes_before b (get_or ys i d)) ys ≡ i
 count-sorted ys i d distinct sorted less =
-    count-first (λ b. goes_before b (get_or ys i d)) i ys (omega arith)
-    (λ j e l. goes_before-other (get_or ys j e) (get_or ys i d) (differ j e l) (far j e l))
-    (λ j e l u. later j e l u)
-  where
-    same : (k : ℕ) (e : Candidate) → k < length ys → get_or ys k e ≡ get_or ys k d
-    same k e l = get_or_default ys k e d l
+    count-first (λ b. goes_before b (get_or ys i d)) i ys (omega arith) (λ j e l. goes-first ys j i e d sorted distinct l less) (λ j e l u. goes-later ys j i e d sorted l u)
 
-    differ : (j : ℕ) (e : Candidate) → j < i → (get_or ys j e).number ≢ (get_or ys i d).number
-    differ j e l f = apart ys j i d distinct l less (ap (λ (a : Candidate). a.number) (sym (same j e (omega arith))) ∙ f)
+late-sorted : (ys : List Candidate) (i : ℕ) (d : Candidate) → AreOfDistinctNumbers ys → IsSortedBy goes_before ys → i < length ys → is_late ys (get_or ys i d) ≡ nat_le (length ys / 4) i
+late-sorted ys i d distinct sorted less = ap (nat_le (length ys / 4)) (count-sorted ys i d distinct sorted less)
 
-    far : (j : ℕ) (e : Candidate) → j < i → goes_before (get_or ys i d) (get_or ys j e) ≡ false
-    far j e l = ap (goes_before (get_or ys i d)) (same j e (omega arith)) ∙ sorted_far goes_before order ys sorted j i d (omega arith) less
-
-    later : (j : ℕ) (e : Candidate) → i ≤ j → j < length ys → goes_before (get_or ys j e) (get_or ys i d) ≡ false
-    later j e l u = ap (λ a. goes_before a (get_or ys i d)) (same j e u) ∙ sorted_far goes_before order ys sorted i j d l u
-
--- so the late ones are behind the first quarter
+-- the late ones are behind the first quarter
 filter-sorted : (ys : List Candidate) → AreOfDistinctNumbers ys → IsSortedBy goes_before ys → filter (is_late ys) ys ≡ drop (length ys / 4) ys
 filter-sorted ys distinct sorted =
     filter-behind (is_late ys) (length ys / 4) ys
-    (λ i d l u. ap (nat_le (length ys / 4)) (count-sorted ys i d distinct sorted u) ∙ lt-leb (length ys / 4) i l)
-    (λ i d l u. ap (nat_le (length ys / 4)) (count-sorted ys i d distinct sorted u) ∙ le-leb (length ys / 4) i l)
+    (λ i d l u. late-sorted ys i d distinct sorted u ∙ lt-leb (length ys / 4) i l)
+    (λ i d l u. late-sorted ys i d distinct sorted u ∙ le-leb (length ys / 4) i l)
+
+-- they are those that don't go before the first one there
+late-first : (ys : List Candidate) (d : Candidate) → AreOfDistinctNumbers ys → IsSortedBy goes_before ys → length ys / 4 < length ys
+    → All (λ a. not (goes_before a (get_or ys (length ys / 4) d)) ≡ is_late ys a) ys
+late-first ys d distinct sorted some = All-from_get_or (λ a. not (goes_before a (get_or ys k d)) ≡ is_late ys a) ys d (λ i less. place i less (cases_lt i k))
+  where
+    k : ℕ
+    k = length ys / 4
+
+    place : (i : ℕ) → i < length ys → (i < k) ⊎ (k ≤ i) → not (goes_before (get_or ys i d) (get_or ys k d)) ≡ is_late ys (get_or ys i d)
+    place i less (inl l) = ap not (goes-first ys i k d d sorted distinct l some) ∙ sym (late-sorted ys i d distinct sorted less ∙ lt-leb k i l)
+    place i less (inr l) = ap not (goes-later ys i k d d sorted l less) ∙ sym (late-sorted ys i d distinct sorted less ∙ le-leb k i l)
 
 -- the same candidates in another order
 distinct-permutation : (xs ys : List Candidate) → IsPermutation xs ys → AreOfDistinctNumbers xs → AreOfDistinctNumbers ys
@@ -116,36 +135,39 @@ late-permutation xs ys p a =
     let count : count_by (λ b. goes_before b a) xs ≡ count_by (λ b. goes_before b a) ys = sym (sum_by-IsPermutation (λ b. cond (goes_before b a) 1 0) xs ys p) in
     ap (λ n. nat_le (n / 4) (count_by (λ b. goes_before b a) xs)) long ∙ ap (nat_le (length ys / 4)) count
 
-any-filter : (p : Candidate → Bool) (n : ℕ) (xs : List Candidate) → list_any (nat_eq n) (map (λ (a : Candidate). a.number) (filter p xs)) ≡ list_any (λ a. p a && nat_eq n a.number) xs
-any-filter p n [] = refl
-any-filter p n (x ∷ xs) = go (p x) (any-filter p n xs)
-  where
-    go : (b : Bool) → list_any (nat_eq n) (map (λ (a : Candidate). a.number) (filter p xs)) ≡ list_any (λ a. p a && nat_eq n a.number) xs
-        → list_any (nat_eq n) (map (λ (a : Candidate). a.number) (cond b (x ∷ filter p xs) (filter p xs))) ≡ ((b && nat_eq n x.number) || list_any (λ a. p a && nat_eq n a.number) xs)
-    go true e = ap (λ r. nat_eq n x.number || r) e
-    go false e = e
+filter-same : (p q : Candidate → Bool) (xs : List Candidate) → All (λ a. p a ≡ q a) xs → filter p xs ≡ filter q xs
+filter-same p q [] h = refl
+filter-same p q (x ∷ xs) h =
+    ap (λ b. cond b (x ∷ filter p xs) (filter p xs)) (All-head (λ a. p a ≡ q a) x xs h)
+    ∙ ap (λ ys. cond (q x) (x ∷ ys) ys) (filter-same p q xs (All-tail (λ a. p a ≡ q a) x xs h))
 
-any-same : (p q : Candidate → Bool) (xs : List Candidate) → ((a : Candidate) → p a ≡ q a) → list_any p xs ≡ list_any q xs
-any-same p q [] h = refl
-any-same p q (x ∷ xs) h = ap (λ b. b || list_any p xs) (h x) ∙ ap (λ r. q x || r) (any-same p q xs h)
+-- so the late ones of candidates in any order are those that don't go before this one
+module _ (xs ys : List Candidate) (distinct : AreOfDistinctNumbers xs) (p : IsPermutation xs ys) (sorted : IsSortedBy goes_before ys) where
+  pub late-numbers : (first : Candidate) (k : ℕ) → k ≡ length ys / 4 → k < length ys → first ≡ get_or ys k first → map (λ (a : Candidate). a.number) (filter (λ a. not (goes_before a first)) xs) ≡ late_ones xs
+  late-numbers first k quarter some is = ap (map (λ (a : Candidate). a.number)) (filter-same (λ a. not (goes_before a first)) (is_late xs) xs same)
+    where
+      place : get_or ys (length ys / 4) first ≡ first
+      place = ap (λ i. get_or ys i first) (sym quarter) ∙ sym is
 
--- the numbers behind the first quarter of the sorted candidates are those of the late ones
-pub late-numbers : (xs ys : List Candidate) (n : ℕ) → AreOfDistinctNumbers xs → IsPermutation xs ys → IsSortedBy goes_before ys
-    → list_any (nat_eq n) (map (λ (a : Candidate). a.number) (drop (length ys / 4) ys)) ≡ list_any (nat_eq n) (late_ones xs)
-late-numbers xs ys n distinct p sorted =
-    let behind = filter-sorted ys (distinct-permutation xs ys p distinct) sorted in
-    ap (λ (zs : List Candidate). list_any (nat_eq n) (map (λ (a : Candidate). a.number) zs)) (sym behind)
-    ∙ any-filter (is_late ys) n ys
-    ∙ sym (list_any-IsPermutation (λ a. is_late ys a && nat_eq n a.number) xs ys p)
-    ∙ any-same (λ a. is_late ys a && nat_eq n a.number) (λ a. is_late xs a && nat_eq n a.number) xs (λ a. ap (λ b. b && nat_eq n a.number) (sym (late-permutation xs ys p a)))
-    ∙ sym (any-filter (is_late xs) n xs)
+      found : All (λ a. not (goes_before a first) ≡ is_late ys a) ys
+      found = subst (λ (f : Candidate). All (λ a. not (goes_before a f) ≡ is_late ys a) ys) place (late-first ys first (distinct-permutation xs ys p distinct) sorted (omega (arith, some, quarter)))
 
--- which clauses are forgotten hangs on which numbers there are, and not on their order
-pub forget-same : (ms ns : List ℕ) (n : ℕ) (K : List Clause) → ((k : ℕ) → list_any (nat_eq k) ms ≡ list_any (nat_eq k) ns) → forget ms n K ≡ forget ns n K
-forget-same ms ns n [] h = refl
-forget-same ms ns n (clause ∷ K) h =
-    ap (λ b. (if b then forgotten else clause) ∷ forget ms (n + 1) K) (h n)
-    ∙ ap (λ (rest : List Clause). (if list_any (nat_eq n) ns then forgotten else clause) ∷ rest) (forget-same ms ns (n + 1) K h)
+      same : All (λ a. not (goes_before a first) ≡ is_late xs a) xs
+      same =
+          All-weaker (λ a. not (goes_before a first) ≡ is_late ys a) (λ a. not (goes_before a first) ≡ is_late xs a) (λ a e. e ∙ sym (late-permutation xs ys p a)) xs
+          (All-permutation (λ a. not (goes_before a first) ≡ is_late ys a) ys xs (IsPermutation-sym xs ys p) found)
+
+  -- and these are all but a quarter
+  pub count-late : length (late_ones xs) ≡ length xs - length xs / 4
+  count-late =
+      let long : length ys ≡ length xs = length_permutation xs ys p in
+      let mapped : length (late_ones xs) ≡ length (filter (is_late xs) xs) = length-map (filter (is_late xs) xs) (λ (a : Candidate). a.number) in
+      let counted : length (filter (is_late xs) xs) ≡ count_by (is_late xs) xs = length-filter (is_late xs) xs in
+      let moved : count_by (is_late xs) ys ≡ count_by (is_late xs) xs = sum_by-IsPermutation (λ a. cond (is_late xs a) 1 0) xs ys p in
+      let behind : length (filter (is_late ys) ys) ≡ length ys - length ys / 4 = ap length (filter-sorted ys (distinct-permutation xs ys p distinct) sorted) ∙ length-drop (length ys / 4) ys in
+      let other : filter (is_late xs) ys ≡ filter (is_late ys) ys =
+      filter-same (is_late xs) (is_late ys) ys (λ i d less. late-permutation xs ys p (get_or ys i d)) in
+      mapped ∙ (counted ∙ (sym moved ∙ (sym (length-filter (is_late xs) ys) ∙ (ap length other ∙ (behind ∙ ap (λ n. n - n / 4) long)))))
 
 -- the candidates of learnt clauses have distinct numbers
 none-below : (c : Constants) (T : Trail) (n : ℕ) (learnt : List Clause) (marks : List Mark) (k : ℕ) → k < n → count_by (λ (a : Candidate). nat_eq k a.number) (candidates c T n learnt marks) ≡ 0

@@ -1,6 +1,5 @@
 //! Which learnt clauses the focused search forgets.
-ghost use Rattle.std.specs.Prelude.{◌≡◌, ℕ, ◌<◌, ◌-◌, ◌/◌, length, nat_eq, vec_len, IfOk};
-ghost use Rattle.std.specs.List.{list_any};
+ghost use Rattle.std.specs.Prelude.{◌≡◌, ◌-◌, ◌/◌, not, map, filter, length, vec_len, IfOk};
 ghost use Rattle.std.specs.List.Sorted.{IsPermutation, IsSortedBy};
 ghost use Rattle.std.specs.Ordering.{is_lt};
 ghost use Rattle.theory.specs.Forgetting as forgetting;
@@ -32,20 +31,42 @@ fn sort(candidates: &mut [Candidate])
     candidates.sort_unstable_by(|a, b| compare(a, b));
 }
 
-/// The numbers of all but the first quarter of the candidates, in some order. It takes the time of a
-/// sort, and leaves the candidates in another order, also where memory runs out.
-pub fn late_ones(alloc: Global, candidates: &mut [Candidate]) -> Result<Vec<u64>, AllocError>
-    requires { AreOfDistinctNumbers candidates.old }
-    ensures numbers { IfOk result (λ numbers. (n : ℕ) →
-        list_any (nat_eq n) numbers.items ≡ list_any (nat_eq n) (forgetting.late_ones candidates.old)) }
-    ensures count { IfOk result (λ numbers. vec_len numbers ≡ length candidates.old - length candidates.old / 4) }
-    ensures candidates { IsPermutation candidates.old candidates.new }
+/// The same candidates, sorted.
+fn sorted(alloc: Global, candidates: &[Candidate]) -> Result<Vec<Candidate>, AllocError>
+    ensures permutation { IfOk result (λ sorted. IsPermutation candidates.now sorted.items) }
+    ensures sorted { IfOk result (λ sorted. IsSortedBy forgetting.goes_before sorted.items) }
 {
-    sort(candidates);
-    let kept = candidates.len() / 4;
-    let mut numbers = Vec::new(alloc);
-    for candidate in &candidates[kept..] {
-        numbers.push(candidate.number)?;
+    let mut sorted = Vec::from_slice(alloc, candidates)?;
+    sort(&mut sorted);
+    Ok(sorted)
+}
+
+/// The numbers of those candidates that don't go before one, in the candidates' order.
+fn not_before(
+    alloc: Global,
+    candidates: &[Candidate],
+    one: &Candidate,
+) -> Result<Vec<u64>, AllocError>
+    ensures { IfOk result (λ numbers. numbers.items
+        ≡ map (λ a. a.number) (filter (λ a. not (forgetting.goes_before a one.now)) candidates.now)) }
+{
+    candidates
+        .iter()
+        .filter(|it| !compare(it, one).is_lt())
+        .map(|it| it.number)
+        .collect(alloc)
+}
+
+/// The numbers of all but the first quarter of the candidates, in the candidates' order. It takes
+/// the time of a sort.
+pub fn late_ones(alloc: Global, candidates: &[Candidate]) -> Result<Vec<u64>, AllocError>
+    requires { AreOfDistinctNumbers candidates.now }
+    ensures numbers { IfOk result (λ numbers. numbers.items ≡ forgetting.late_ones candidates.now) }
+    ensures count { IfOk result (λ numbers. vec_len numbers ≡ length candidates.now - length candidates.now / 4) }
+{
+    let sorted = sorted(alloc, candidates)?;
+    match sorted.get(sorted.len() / 4) {
+        None => Ok(Vec::new(alloc)),
+        Some(first) => not_before(alloc, candidates, first),
     }
-    Ok(numbers)
 }

@@ -1,11 +1,10 @@
 //! What these choices come to in the search. Each function does nothing: its contract is a law.
-ghost use Rattle.std.specs.Prelude.{◌≡◌, ℕ, List, Some, None, false, nat_eq};
-ghost use Rattle.std.specs.List.{list_any};
+ghost use Rattle.std.specs.Prelude.{◌≡◌, ℕ, List, Some, None, false};
 ghost use Rattle.theory.specs.Literals.{Literal, Clause, has_var};
 ghost use Rattle.theory.specs.Plans as plans;
 ghost use Rattle.theory.specs.Trails.{Trail};
 ghost use Rattle.theory.specs.Scores.{best_outside};
-ghost use Rattle.theory.specs.Forgetting.{Mark, candidates, forget};
+ghost use Rattle.theory.specs.Forgetting.{Mark, candidates};
 ghost use Rattle.heuristics.specs.Rankings.{Ranking, AllWait, vars_of, best_waiting};
 ghost use Rattle.heuristics.specs.Lateness.{AreOfDistinctNumbers};
 
@@ -18,11 +17,8 @@ pub fn best_waiting_is_best()
         best_outside (vars_of r) P r.scores ≡ None }
 {}
 
-/// The candidates of learnt clauses have distinct numbers; and clauses are forgotten by which
-/// numbers there are, in any order.
-pub fn numbers_decide()
-    ensures distinct { (c : plans.Constants) (T : Trail) (n : ℕ) (learnt : List Clause) (marks : List Mark) →
+/// The candidates of learnt clauses have distinct numbers.
+pub fn candidates_are_distinct()
+    ensures { (c : plans.Constants) (T : Trail) (n : ℕ) (learnt : List Clause) (marks : List Mark) →
         AreOfDistinctNumbers (candidates c T n learnt marks) }
-    ensures forgotten { (ms ns : List ℕ) (n : ℕ) (K : List Clause) → ((k : ℕ) → list_any (nat_eq k) ms ≡ list_any (nat_eq k) ns) →
-        forget ms n K ≡ forget ns n K }
 {}

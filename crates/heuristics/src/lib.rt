@@ -16,7 +16,7 @@ mod turn;
 pub use candidate::Candidate;
 pub use constants::Constants;
 pub use forgetting::late_ones;
-pub use laws::{best_waiting_is_best, numbers_decide};
+pub use laws::{best_waiting_is_best, candidates_are_distinct};
 pub use mode::Mode;
 pub use pace::Pace;
 pub use restarts::Glues;

@@ -55,10 +55,8 @@ fn forgotten(alloc: Global, shapes: &[(u32, u32)]) -> Result<Vec<u64>, AllocErro
     if shapes.len() > 100 {
         return Ok(Vec::new(alloc));
     }
-    let mut candidates = numbered(alloc, shapes)?;
-    let mut numbers = late_ones(alloc, &mut candidates)?;
-    numbers.sort()?;
-    Ok(numbers)
+    let candidates = numbered(alloc, shapes)?;
+    late_ones(alloc, &candidates)
 }
 
 /// The first row of which others are forgotten.

@@ -97,7 +97,7 @@ pub IsNode-refuted : (F : Formula) (search : Search) (Q : List Literal) (N : ℕ
     → IsNode N (refuted_leaf lines)
 IsNode-refuted F search Q N lines within count checked =
     let are = refutation-lines F Q lines within checked in
-    (are.0, subst (λ m. AreLines m lines) (sym (count ∙ count-first F)) are.1)
+    (are.0, subst (λ m. AreLines m m lines) (sym (count ∙ count-first F)) are.1)
 
 pub IsNode-split : (F : Formula) (search : Search) (Q : List Literal) (N x : ℕ) → IsWithinLimits large F → IsCheckedOutcome search F Q (exhausted x) → IsNode N (split_on x)
 IsNode-split F search Q N x within checked =

@@ -4,10 +4,12 @@ pub mod NumberLemmas
 pub mod TreeLemmas
 pub mod JoinLemmas
 pub mod LineLemmas
+pub mod DeletedLemmas
 pub mod WalkLemmas
 pub mod StepLemmas
 pub mod LawLemmas
 pub mod MadeLemmas
 pub mod DueLemmas
+pub mod TakenLemmas
 pub mod FedLemmas
 pub mod PassedLemmas

@@ -1,6 +1,6 @@
 -- The numbers and variables in a proof's lines.
-use Rattle.std.proofs.Common.{◌≡◌, ℕ, ◌+◌, ◌-◌, ◌<◌, ◌≤◌, Bool, true, false, List, [], ◌∷◌, ◌++◌, map, length, reverse, refl, sym, subst, cond, nat_le, Option, Some, None, arith, All}
-use Rattle.std.proofs.lemmas.List.Elements.{All-append, All-cons, All-head, All-map, All-weaker, All-nil}
+use Rattle.std.proofs.Common.{◌≡◌, ℕ, ◌+◌, ◌-◌, ◌<◌, ◌≤◌, Bool, true, false, not, List, [], ◌∷◌, ◌++◌, map, length, reverse, refl, sym, subst, cond, nat_le, Option, Some, None, arith, All}
+use Rattle.std.proofs.lemmas.List.Elements.{All-append, All-cons, All-filter, All-head, All-map, All-weaker, All-nil}
 use Rattle.std.proofs.lemmas.Bool.{leb-true, leb-false}
 use Rattle.theory.specs.Literals.{Literal, IsVariable, negations}
 use Rattle.theory.specs.Truth.{IsOver}
@@ -13,7 +13,8 @@ use Rattle.cubes.specs.Traversal.{path}
 use Rattle.join.specs.Joining.{learnt_line, split_line}
 use Rattle.theory.specs.Steps.{add, delete}
 use Rattle.theory.specs.ProofReading.{IsStep, IsNumber, IsLiteral, IsGroup, IsAddition, max_number}
-use Rattle.join.specs.Numbered.{IsHalf, IsBefore, AreUpTo}
+use Rattle.join.specs.Deleted.{is_gone, in_half, due_behind}
+use Rattle.join.specs.Numbered.{IsHalf, IsBefore, IsLine, AreUpTo}
 use Rattle.join.proofs.CubeLemmas.{opposite, negations-path, All-reverse}
 
 -- the negations of the cube are over the variables
@@ -74,6 +75,22 @@ pub within-split : (n left : ℕ) (hs : List (Split ℕ)) (clause : List Literal
     → clause ≡ negations (path hs) → hints ≡ left ∷ (n - 1) ∷ [] → IsStep (add (record { id = n; clause = clause; hints = hints; groups = [] }))
 within-split n left hs clause hints fits low before halves c h = rw (c, h) (IsStep-split n left hs fits low before halves)
 
+-- the number of a cube's own line
+renumbered-own : (N first k : ℕ) → N < k → renumbered N first k ≡ first + (k - N - 1)
+renumbered-own N first k above = go (nat_le k N) refl
+  where
+    go : (b : Bool) → nat_le k N ≡ b → cond b k (first + (k - N - 1)) ≡ first + (k - N - 1)
+    go true e = let low = leb-true k N e in absurd (omega arith)
+    go false e = refl
+
+-- those that the line of number n forgets
+pub AreOwn-renumbered : (N first n : ℕ) (ns : List ℕ) → first ≤ n → All (λ k. (N < k) × (k ≤ N + (n - first))) ns → All (λ k. (first ≤ k) × (k < n)) (map (renumbered N first) ns)
+AreOwn-renumbered N first n ns begun h =
+    All-map (λ k. (first ≤ k) × (k < n)) (renumbered N first) ns (All-weaker (λ k. (N < k) × (k ≤ N + (n - first))) _ (λ k w. one k w.0 w.1) ns h)
+  where
+    one : (k : ℕ) → N < k → k ≤ N + (n - first) → (first ≤ renumbered N first k) × (renumbered N first k < n)
+    one k above below = let e = renumbered-own N first k above in (omega (arith, e), omega (arith, e))
+
 -- the numbers of a leaf's lines but the last one
 pub AreBelow-from : (first last : ℕ) → 1 ≤ first → All (λ n. (1 ≤ n) × (n < last)) (numbers_from first (last - first))
 AreBelow-from first last low =
@@ -88,3 +105,19 @@ IsStep-deletion last (n ∷ ns) fits some h =
     let low = here.0 in
     let high = here.1 in
     record { id = (omega arith, fits); ids = All-weaker (λ n. (1 ≤ n) × (n < last)) IsNumber (λ n w. let from = w.0 in let to = w.1 in (from, omega arith)) (n ∷ ns) h }
+
+-- the numbers that are due behind the line of number n are below that
+pub due-below : (N first n : ℕ) (Q : List Literal) (marks : List Bool) (line : Line) (leaf : List Line) → N < first → first ≤ n → IsLine N (N + (n - first)) line leaf
+    → All (λ k. (1 ≤ k) × (k < n)) (due_behind N first n Q marks line leaf)
+due-below N first n [] marks line [] low begun is = All-nil (λ k. (1 ≤ k) × (k < n))
+due-below N first n (l ∷ Q) marks line [] low begun is =
+    All-filter (λ k. not (is_gone N first marks [] k)) (λ k. (1 ≤ k) × (k < n)) (numbers_from first (n - first)) (AreBelow-from first n (omega arith))
+due-below N first n Q marks line (next ∷ leaf) low begun is =
+    All-weaker (λ k. (first ≤ k) × (k < n)) (λ k. (1 ≤ k) × (k < n)) (λ k w. let from = w.0 in let to = w.1 in (omega arith, omega arith)) (map (renumbered N first) line.forgets)
+    (AreOwn-renumbered N first n line.forgets begun is.forgets)
+
+-- so are those of a split's halves
+pub halves-below : (n left : ℕ) (Q : List Literal) → 1 ≤ left → left < n → All (λ k. (1 ≤ k) × (k < n)) (in_half Q (left ∷ (n - 1) ∷ []))
+halves-below n left [] low before = All-nil (λ k. (1 ≤ k) × (k < n))
+halves-below n left (l ∷ Q) low before =
+    All-cons (λ k. (1 ≤ k) × (k < n)) left ((n - 1) ∷ []) (low, before) (All-cons (λ k. (1 ≤ k) × (k < n)) (n - 1) [] (omega arith, omega arith) (All-nil (λ k. (1 ≤ k) × (k < n))))

@@ -90,7 +90,7 @@ passed-leaf old lines place n at climbed halves later fits =
         begun = omega arith;
         fits = omega arith;
         splits = halves;
-        at = subst (λ s. IsAtStage old.clauses s old.first n old.leaf) (sym at.between) tt;
+        at = subst (λ s. IsAtStage old.clauses s old.first n old.due.items old.deleted.items old.leaf) (sym at.between) tt;
         unit = keeps.unit;
         units = keeps.units;
       };

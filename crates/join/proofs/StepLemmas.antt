@@ -1,7 +1,7 @@
 -- The numbers in a tree's proof are within their limits, where its text is no longer than a proof
 -- may be.
-use Rattle.std.proofs.Common.{◌≡◌, ℕ, suc, ◌+◌, ◌-◌, ◌<◌, ◌≤◌, List, [], ◌∷◌, ◌++◌, length, length-append, map, None, refl, ap, sym, subst, ◌∙◌, append_assoc, arith, All}
-use Rattle.std.proofs.lemmas.List.Elements.{All-nil, All-cons, All-push, All-append, All-weaker, All-map}
+use Rattle.std.proofs.Common.{◌≡◌, ℕ, ◌+◌, ◌-◌, ◌<◌, ◌≤◌, not, List, [], ◌∷◌, ◌++◌, length, length-append, map, None, ap, sym, subst, ◌∙◌, append_assoc, arith, All}
+use Rattle.std.proofs.lemmas.List.Elements.{All-nil, All-cons, All-filter, All-push, All-append, All-weaker, All-map}
 use Rattle.std.proofs.lemmas.List.{map-append}
 use Rattle.lrat_text.specs.declared.step.Step as steps
 use Rattle.lrat_text.specs.Steps.{step_of}
@@ -10,12 +10,13 @@ use Rattle.theory.specs.Truth.{Formula, IsOver}
 use Rattle.theory.specs.Reading.{large, IsWithinLimits, max_vars}
 use Rattle.theory.specs.Learning.{Line}
 use Rattle.theory.specs.Search.{first_clauses}
+use Rattle.theory.specs.Deletions.{is_among}
 use Rattle.theory.specs.Steps.{Step, delete}
 use Rattle.std.specs.List.{join_with_byte}
 use Rattle.theory.specs.Texts.{lf, space, step_words, step_text, proof_text}
 use Rattle.theory.specs.Trees.{Tree, satisfied, refutation, split, first_model, false_half, true_half}
 use Rattle.theory.specs.Checked.{IsCheckedTree}
-use Rattle.theory.specs.Proofs.{additions, renumbered, leaf_steps, refuted_steps, tree_steps, split_steps, deletion, numbers_from, prelude, proof}
+use Rattle.theory.specs.Proofs.{additions, renumbered, leaf_steps, refuted_steps, tree_steps, split_steps, deletion, forget_steps, forgotten_by, undeleted, numbers_from, prelude, proof}
 use Rattle.theory.proofs.checker.PreludeSteps.{IsStep-prelude}
 use Rattle.theory.proofs.searching.PureVariables.{length-first_clauses, length-pure_literals}
 use Rattle.theory.proofs.checker.DeletedNumbers.{numbers_from-All}
@@ -24,7 +25,7 @@ use Rattle.theory.proofs.checker.AcceptedProofs.{or_else-none}
 use Rattle.theory.proofs.literals.OverVariables.{AreOver, IsOver-from_AreOver, AreOver-snoc}
 use Rattle.join.specs.Joining.{split_line, learnt_line}
 use Rattle.join.specs.Numbered.{AreUpTo, AreLines}
-use Rattle.join.proofs.NumberLemmas.{AreUpTo-renumbered, IsAddition-line}
+use Rattle.join.proofs.NumberLemmas.{AreOwn-renumbered, AreUpTo-renumbered, IsAddition-line}
 use Rattle.join.proofs.TreeLemmas.{refutation-lines}
 
 -- each line of a text has a byte
@@ -36,16 +37,20 @@ few-steps (s ∷ ss) =
     let line : 1 ≤ length (step_text s) = let e = length-append {A = ℕ} (join_with_byte space (step_words s)) (lf ∷ []) in omega (arith, e) in
     omega arith
 
-leaf-length : (N first n : ℕ) (Q : List Literal) (lines : List Line) → length (leaf_steps N first n Q lines) ≡ length lines
-leaf-length N first n Q [] = refl
-leaf-length N first n Q (line ∷ lines) = ap suc (leaf-length N first (n + 1) Q lines)
+-- a leaf's lines, and some deletions
+leaf-length : (N first n : ℕ) (Q : List Literal) (lines : List Line) → length lines ≤ length (leaf_steps N first n Q lines)
+leaf-length N first n Q [] = omega arith
+leaf-length N first n Q (line ∷ lines) =
+    let more = leaf-length N first (n + 1) Q lines in
+    let both = length-append (forget_steps n (map (renumbered N first) line.forgets)) (leaf_steps N first (n + 1) Q lines) in
+    omega (arith, more, both)
 
 -- a tree's steps are its additions and some deletions
 tree-length : (N n : ℕ) (Q : List Literal) (t : Tree) → additions t ≤ length (tree_steps N n Q t)
 tree-length N n Q (satisfied M) = omega arith
 tree-length N n Q (refutation lines) =
     let leaf = leaf-length N n n Q lines in
-    let all = length-append (leaf_steps N n n Q lines) (deletion Q (n + length lines - 1) (numbers_from n (length lines - 1))) in
+    let all = length-append (leaf_steps N n n Q lines) (deletion Q (n + length lines - 1) (undeleted N n lines)) in
     omega arith
 tree-length N n Q (split x l r) =
     let left = tree-length N n (false_half Q x) l in
@@ -59,30 +64,41 @@ IsOver-opposites : (V : ℕ) (Q : List Literal) → V ≤ max_vars large → IsO
 IsOver-opposites V Q few h =
     All-map (λ (l : Literal). IsVariable (max_vars large) l.var) negated Q (All-weaker (λ (l : Literal). IsVariable V l.var) (λ (l : Literal). IsVariable (max_vars large) (negated l).var) (λ l v. let low = v.0 in let high = v.1 in (low, omega arith)) Q h)
 
-leaf-steps : (N first n k : ℕ) (Q : List Literal) (lines : List Line) → N < first → n ≡ first + k → n + length lines ≤ max_number + 1 → IsOver (max_vars large) (negations Q) → AreLines (N + k) lines
+forget-within : (last : ℕ) (ns : List ℕ) → IsNumber last → All IsNumber ns → All IsStep (forget_steps last ns)
+forget-within last [] h all = All-nil IsStep
+forget-within last (n ∷ ns) h all = All-cons IsStep (delete (record { id = last; ids = n ∷ ns })) [] (record { id = h; ids = all }) (All-nil IsStep)
+
+leaf-steps : (N first n k : ℕ) (Q : List Literal) (lines : List Line) → N < first → n ≡ first + k → n + length lines ≤ max_number + 1 → IsOver (max_vars large) (negations Q) → AreLines N (N + k) lines
     → All IsStep (leaf_steps N first n Q lines)
 leaf-steps N first n k Q [] low number fits over h = All-nil IsStep
 leaf-steps N first n k Q (line ∷ lines) low number fits over h =
     let later : N + k + 1 ≡ N + (k + 1) = omega arith in
     let before : first + k - 1 ≡ n - 1 = omega arith in
-    All-cons IsStep (learnt_line N first n Q line) (leaf_steps N first (n + 1) Q lines)
-    (IsAddition-line n (line.clause ++ negations Q) (map (renumbered N first) line.hints) (omega arith) (omega arith) (All-append (λ (l : Literal). IsVariable (max_vars large) l.var) line.clause (negations Q) h.0 over)
-    (subst (λ m. AreUpTo m (map (renumbered N first) line.hints)) before (AreUpTo-renumbered N first k line.hints low h.1)))
-    (leaf-steps N first (n + 1) (k + 1) Q lines low (omega arith) (omega arith) over (subst (λ m. AreLines m lines) later h.2))
+    let own : N + k ≡ N + (n - first) = omega arith in
+    let forgets = map (renumbered N first) line.forgets in
+    All-cons IsStep (learnt_line N first n Q line) (forget_steps n forgets ++ leaf_steps N first (n + 1) Q lines)
+    (IsAddition-line n (line.clause ++ negations Q) (map (renumbered N first) line.hints) (omega arith) (omega arith) (All-append (λ (l : Literal). IsVariable (max_vars large) l.var) line.clause (negations Q) h.0.over over)
+    (subst (λ m. AreUpTo m (map (renumbered N first) line.hints)) before (AreUpTo-renumbered N first k line.hints low h.0.hints)))
+    (All-append IsStep (forget_steps n forgets) (leaf_steps N first (n + 1) Q lines)
+    (forget-within n forgets (omega arith, omega arith)
+    (All-weaker (λ j. (first ≤ j) × (j < n)) IsNumber (λ j w. let from = w.0 in let to = w.1 in (omega arith, omega arith)) forgets
+    (AreOwn-renumbered N first n line.forgets (omega arith) (subst (λ m. All (λ j. (N < j) × (j ≤ m)) line.forgets) own h.0.forgets))))
+    (leaf-steps N first (n + 1) (k + 1) Q lines low (omega arith) (omega arith) over (subst (λ m. AreLines N m lines) later h.1)))
 
 deletion-within : (Q : List Literal) (last : ℕ) (ns : List ℕ) → IsNumber last → All IsNumber ns → All IsStep (deletion Q last ns)
 deletion-within [] last ns h all = All-nil IsStep
-deletion-within (l ∷ Q) last [] h all = All-nil IsStep
-deletion-within (l ∷ Q) last (n ∷ ns) h all = All-cons IsStep (delete (record { id = last; ids = n ∷ ns })) [] (record { id = h; ids = all }) (All-nil IsStep)
+deletion-within (l ∷ Q) last ns h all = forget-within last ns h all
 
 -- the lines of a refuted cube, and what deletes its learnt clauses
-refuted-steps : (N n : ℕ) (Q : List Literal) (lines : List Line) → N < n → 0 < length lines → n + length lines ≤ max_number + 1 → IsOver (max_vars large) (negations Q) → AreLines N lines → All IsStep (refuted_steps N n Q lines)
+refuted-steps : (N n : ℕ) (Q : List Literal) (lines : List Line) → N < n → 0 < length lines → n + length lines ≤ max_number + 1 → IsOver (max_vars large) (negations Q) → AreLines N N lines
+    → All IsStep (refuted_steps N n Q lines)
 refuted-steps N n Q lines low some fits over are =
     let same : N ≡ N + 0 = omega arith in
-    All-append IsStep (leaf_steps N n n Q lines) (deletion Q (n + length lines - 1) (numbers_from n (length lines - 1)))
-    (leaf-steps N n n 0 Q lines low (omega arith) fits over (subst (λ m. AreLines m lines) same are))
-    (deletion-within Q (n + length lines - 1) (numbers_from n (length lines - 1)) (omega arith, omega arith)
-    (All-weaker (λ k. (n ≤ k) × (k < n + (length lines - 1))) IsNumber (λ k w. let from = w.0 in let to = w.1 in (omega arith, omega arith)) (numbers_from n (length lines - 1)) (numbers_from-All n (length lines - 1))))
+    All-append IsStep (leaf_steps N n n Q lines) (deletion Q (n + length lines - 1) (undeleted N n lines))
+    (leaf-steps N n n 0 Q lines low (omega arith) fits over (subst (λ m. AreLines N m lines) same are))
+    (deletion-within Q (n + length lines - 1) (undeleted N n lines) (omega arith, omega arith)
+    (All-filter (λ k. not (is_among k (map (renumbered N n) (forgotten_by lines)))) IsNumber (numbers_from n (length lines - 1))
+    (All-weaker (λ k. (n ≤ k) × (k < n + (length lines - 1))) IsNumber (λ k w. let from = w.0 in let to = w.1 in (omega arith, omega arith)) (numbers_from n (length lines - 1)) (numbers_from-All n (length lines - 1)))))
 
 -- the line of a split, and what deletes the last lines of its halves
 split-steps : (n left right : ℕ) (Q : List Literal) → n ≤ max_number → 1 ≤ left → left < n → 1 ≤ right → right < n → IsOver (max_vars large) (negations Q) → All IsStep (split_steps n Q left right)

@@ -1,14 +1,15 @@
 -- How a tree's nodes, one after the other, give the lines of its proof.
-use Rattle.std.specs.Prelude.{ℕ, ◌+◌, ◌-◌, List, [], ◌∷◌, ◌++◌, map, length, Some, None}
+use Rattle.std.specs.Prelude.{ℕ, ◌+◌, ◌-◌, Bool, List, [], ◌∷◌, ◌++◌, map, length, Some, None}
 use Rattle.theory.specs.Literals.{Literal, negations}
 use Rattle.theory.specs.Truth.{Formula}
 use Rattle.theory.specs.Pure.{pure_literals}
 use Rattle.theory.specs.Trees as trees
 use Rattle.theory.specs.Steps.{Step, add}
 use Rattle.theory.specs.Learning.{Line}
-use Rattle.theory.specs.Proofs.{renumbered, leaf_steps, refuted_steps, split_steps, unit_steps, deletion, numbers_from}
+use Rattle.theory.specs.Proofs.{renumbered, leaf_steps, refuted_steps, split_steps, unit_steps, deletion}
 use Rattle.cubes.specs.declared.traversal.Split.{Split}
 use Rattle.cubes.specs.Traversal.{path}
+use Rattle.join.specs.Deleted.{left_by}
 
 -- the splits on the way, the last one first; the number of the next line; and the lines so far
 pub record Joined : Type 0 where
@@ -47,15 +48,16 @@ abbrev pub split_line : ℕ → List Literal → ℕ → ℕ → Step
 split_line n Q left right = add (record { id = n; clause = negations Q; hints = left ∷ right ∷ []; groups = [] })
 
 -- what is left of a leaf's lines, of which the next has the number n, and what they leave to be
--- deleted; behind the last one nothing is left
-abbrev pub leaf_left : ℕ → ℕ → ℕ → List Literal → List Line → List Step
-leaf_left N first n Q [] = []
-leaf_left N first n Q (line ∷ lines) = leaf_steps N first n Q (line ∷ lines) ++ deletion Q (n + length lines) (numbers_from first (n + length lines - first))
+-- deleted, where those before are marked; behind the last one nothing is left
+abbrev pub leaf_left : ℕ → ℕ → ℕ → List Literal → List Bool → List Line → List Step
+leaf_left N first n Q marks [] = []
+leaf_left N first n Q marks (line ∷ lines) =
+    leaf_steps N first n Q (line ∷ lines) ++ deletion Q (n + length lines) (left_by N first (n + length lines) marks (line ∷ lines))
 
 -- what follows from within a leaf on, of which some lines are left, or none; the next of them has
 -- the number n
-abbrev pub from_leaf : ℕ → ℕ → ℕ → List (Split ℕ) → List Line → Joined
-from_leaf N first n hs leaf = climb hs (n + length leaf) (leaf_left N first n (path hs) leaf)
+abbrev pub from_leaf : ℕ → ℕ → ℕ → List (Split ℕ) → List Bool → List Line → Joined
+from_leaf N first n hs marks leaf = climb hs (n + length leaf) (leaf_left N first n (path hs) marks leaf)
 
 -- the same, with more lines before
 abbrev pub behind : List Step → Joined → Joined

@@ -1,5 +1,6 @@
 -- How a tree's nodes, one after the other, give the lines of its proof, and which numbers stand in
 -- them.
+pub mod Deleted
 pub mod Joining
 pub mod Numbered
 pub mod Walking

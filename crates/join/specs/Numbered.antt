@@ -1,5 +1,5 @@
 -- The numbers and variables in a tree and in its lines are within their limits.
-use Rattle.std.specs.Prelude.{◌≡◌, ℕ, ◌+◌, ◌-◌, ◌<◌, ◌≤◌, List, [], ◌∷◌, map, length, Option, Some, None, All}
+use Rattle.std.specs.Prelude.{◌≡◌, ℕ, ◌+◌, ◌<◌, ◌≤◌, List, [], ◌∷◌, map, length, Option, Some, None, All}
 use Rattle.theory.specs.Literals.{Literal, IsVariable}
 use Rattle.theory.specs.Truth.{Formula, IsOver}
 use Rattle.theory.specs.Reading.{large, max_vars}
@@ -7,7 +7,7 @@ use Rattle.theory.specs.Pure.{pure_literals}
 use Rattle.theory.specs.Learning.{Line}
 use Rattle.theory.specs.Trees as trees
 use Rattle.theory.specs.Steps.{Step}
-use Rattle.theory.specs.Proofs.{proof, numbers_from}
+use Rattle.theory.specs.Proofs.{proof}
 use Rattle.theory.specs.Checking.{checks, accepted}
 use Rattle.theory.specs.ProofReading.{IsStep, max_proof_bytes}
 use Rattle.theory.specs.Texts.{proof_text}
@@ -15,22 +15,27 @@ use Rattle.cubes.specs.Result.{LinesTree, node_of}
 use Rattle.cubes.specs.declared.tree.Node.{Node}
 use Rattle.cubes.specs.declared.tree.Tree.TheVariants.{Model, Refuted}
 use Rattle.cubes.specs.declared.traversal.Split.{Split}
-use Rattle.join.specs.declared.line.Due.{Due}
-use Rattle.join.specs.declared.line.Due.TheVariants.{Nothing, Leaf, Halves}
 
 -- each hint is a number from 1 to n
 abbrev pub AreUpTo : ℕ → List ℕ → Type 0
 AreUpTo n hints = All (λ h. (1 ≤ h) × (h ≤ n)) hints
 
--- a cube's lines, of which the first has number n + 1, name clauses before them
-abbrev pub AreLines : ℕ → List Line → Type 0
-AreLines n [] = Unit {0}
-AreLines n (line ∷ lines) = IsOver (max_vars large) line.clause × AreUpTo n line.hints × AreLines (n + 1) lines
+-- a cube's line of number n + 1, where these are still to come, names clauses before it and forgets
+-- lines before it, which are numbered from N + 1 on; the last one forgets nothing
+pub record IsLine (N n : ℕ) (line : Line) (lines : List Line) : Type 0 where
+  pub over : IsOver (max_vars large) line.clause
+  pub hints : AreUpTo n line.hints
+  pub forgets : All (λ k. (N < k) × (k ≤ n)) line.forgets
+  pub keeps : lines ≡ [] → line.forgets ≡ []
+
+abbrev pub AreLines : ℕ → ℕ → List Line → Type 0
+AreLines N n [] = Unit {0}
+AreLines N n (line ∷ lines) = IsLine N n line lines × AreLines N (n + 1) lines
 
 -- a node, where a search begins with N clauses
 abbrev pub IsNode : ℕ → trees.Node → Type 0
 IsNode N (trees.split_on x) = IsVariable (max_vars large) x
-IsNode N (trees.refuted_leaf lines) = (0 < length lines) × AreLines N lines
+IsNode N (trees.refuted_leaf lines) = (0 < length lines) × AreLines N N lines
 
 abbrev pub AreNodes : ℕ → List trees.Node → Type 0
 AreNodes N [] = Unit {0}
@@ -44,25 +49,6 @@ IsBefore n (Some left) = (1 ≤ left) × (left < n)
 pub record IsHalf (n : ℕ) (h : Split ℕ) : Type 0 where
   pub variable : IsVariable (max_vars large) h.var
   pub left : IsBefore n h.left
-
--- the numbers of the clauses that are due behind a cube's last line; first is the number of a
--- leaf's first line
-abbrev pub numbers_due : Due → ℕ → ℕ → List ℕ
-numbers_due Nothing first last = []
-numbers_due Leaf first last = numbers_from first (last - first)
-numbers_due (Halves left) first last = left ∷ (last - 1) ∷ []
-
--- what a leaf's line leaves to be deleted, where these are still to come
-abbrev pub due_behind : List Line → Due
-due_behind [] = Leaf
-due_behind (line ∷ lines) = Nothing
-
--- the left half's last line stands before that of the right one, which stands before that of the
--- split
-abbrev pub IsDue : Due → ℕ → Type 0
-IsDue Nothing last = Unit {0}
-IsDue Leaf last = Unit {0}
-IsDue (Halves left) last = (1 ≤ left) × (left < last)
 
 -- the pure literals that the proof of a result begins with: that of a model has none
 abbrev pub AreUnitsOf : Formula → LinesTree → List Literal → Type 0

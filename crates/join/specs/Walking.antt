@@ -8,21 +8,19 @@ use Rattle.theory.specs.Trees as trees
 use Rattle.theory.specs.Learning.{Line}
 use Rattle.theory.specs.Reading.{large, max_vars, max_clauses}
 use Rattle.theory.specs.Steps.{Step, add, delete}
-use Rattle.theory.specs.Proofs.{unit_steps, deletion}
+use Rattle.theory.specs.Proofs.{unit_steps, forget_steps}
 use Rattle.theory.specs.ProofReading.{IsStep, max_number}
 use Rattle.cubes.specs.declared.traversal.Split.{Split}
 use Rattle.cubes.specs.Result.{node_of}
-use Rattle.cubes.specs.Traversal.{path}
 use Rattle.join.specs.declared.joiner.Joiner.{Joiner}
 use Rattle.join.specs.declared.joiner.Stage.{Stage}
 use Rattle.join.specs.declared.joiner.Stage.TheVariants.{Between, Within}
-use Rattle.join.specs.declared.line.Due.{Due}
 use Rattle.join.specs.declared.line.Kind.{Kind}
 use Rattle.join.specs.declared.line.Kind.TheVariants.{Addition, Deletion}
 use Rattle.join.specs.declared.line.ProofLine.{ProofLine}
 use Rattle.join.specs.declared.proof_lines.Lines.{Lines}
 use Rattle.join.specs.Joining.{Joined, behind, from_leaf, on_nodes, after_nodes}
-use Rattle.join.specs.Numbered.{AreLines, AreNodes, IsHalf, IsDue, numbers_due}
+use Rattle.join.specs.Numbered.{AreLines, AreNodes, IsHalf}
 
 -- a line by its kind: the numbers are the hints, or those of the clauses to be deleted
 abbrev pub step_by : Kind → ℕ → List Literal → List ℕ → Step
@@ -32,35 +30,37 @@ step_by Deletion n clause numbers = delete (record { id = n; ids = numbers })
 abbrev pub line_of : ProofLine → Step
 line_of l = step_by l.kind l.id l.clause.items l.numbers.items
 
--- the line of a leaf that was read into it
-abbrev pub learnt_in : ProofLine → Line
-learnt_in l = record { clause = l.clause.items; hints = l.numbers.items }
+-- the line of a leaf that was read into it, and forgets these
+abbrev pub learnt_in : ProofLine → List ℕ → Line
+learnt_in l forgets = record { clause = l.clause.items; hints = l.numbers.items; forgets = forgets }
 
 -- what was given is followed by this, by where a joiner stands: between nodes nothing is left of
 -- those that came, or else the deletion that is due, and what is left of the leaf
-abbrev pub at_stage : ℕ → Stage → ℕ → ℕ → List (Split ℕ) → List Line → Joined
-at_stage N Between first n hs leaf = record { halves = hs; next = n; steps = [] }
-at_stage N (Within due) first n hs leaf = behind (deletion (path hs) (n - 1) (numbers_due due first (n - 1))) (from_leaf N first n hs leaf)
+abbrev pub at_stage : ℕ → Stage → ℕ → ℕ → List ℕ → List Bool → List (Split ℕ) → List Line → Joined
+at_stage N Between first n due marks hs leaf = record { halves = hs; next = n; steps = [] }
+at_stage N Within first n due marks hs leaf = behind (forget_steps (n - 1) due) (from_leaf N first n hs marks leaf)
 
 -- what the nodes that came give yet, and where they lead; the pure literals' lines come first
 abbrev pub joined : Joiner → Joined
-joined j = behind (unit_steps j.unit (into_iter_items j.units)) (at_stage j.clauses j.stage j.first j.next j.place j.leaf)
+joined j = behind (unit_steps j.unit (into_iter_items j.units)) (at_stage j.clauses j.stage j.first j.next j.due.items j.deleted.items j.place j.leaf)
 
 -- the lines that are still to come: those of the nodes that came, and of the others
 abbrev pub lines_left : Lines → List Step
 lines_left l = (on_nodes l.joiner.clauses (joined l.joiner) (map node_of l.nodes.items)).steps
 
--- what is kept within a leaf, where the next line has the number n
-pub record IsInLeaf (N : ℕ) (due : Due) (first n : ℕ) (lines : List Line) : Type 0 where
+-- what is kept within a leaf, where the next line has the number n: what is due was given before
+-- the last one, and each of the leaf's lines has a mark
+pub record IsInLeaf (N first n : ℕ) (due : List ℕ) (marks : List Bool) (lines : List Line) : Type 0 where
   pub above : N < first
   pub begun : first ≤ n
   pub started : length lines ≡ 0 → first < n
-  pub are : AreLines (N + (n - first)) lines
-  pub is_due : IsDue due (n - 1)
+  pub are : AreLines N (N + (n - first)) lines
+  pub is_due : All (λ k. (1 ≤ k) × (k < n - 1)) due
+  pub marked : 0 < length lines → n + length lines ≤ first + length marks
 
-abbrev pub IsAtStage : ℕ → Stage → ℕ → ℕ → List Line → Type 0
-IsAtStage N Between first n lines = Unit {0}
-IsAtStage N (Within due) first n lines = IsInLeaf N due first n lines
+abbrev pub IsAtStage : ℕ → Stage → ℕ → ℕ → List ℕ → List Bool → List Line → Type 0
+IsAtStage N Between first n due marks lines = Unit {0}
+IsAtStage N Within first n due marks lines = IsInLeaf N first n due marks lines
 
 -- what a joiner keeps between two lines
 pub record IsJoining (j : Joiner) : Type 0 where
@@ -68,7 +68,7 @@ pub record IsJoining (j : Joiner) : Type 0 where
   pub begun : j.clauses < j.next
   pub fits : j.next ≤ max_number + 1
   pub splits : All (IsHalf j.next) j.place
-  pub at : IsAtStage j.clauses j.stage j.first j.next j.leaf
+  pub at : IsAtStage j.clauses j.stage j.first j.next j.due.items j.deleted.items j.leaf
   pub unit : 1 ≤ j.unit
   pub units : j.unit + length (into_iter_items j.units) ≤ max_number
 

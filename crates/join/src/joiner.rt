@@ -1,6 +1,6 @@
 //! The lines of a refuted tree's proof, where the tree's nodes come one after the other: its leaves
 //! from left to right, and each split behind its right half.
-ghost use Rattle.std.specs.Prelude.{◌≡◌, ◌+◌, ◌≤◌, [], length, All, IfOk, OnOk};
+ghost use Rattle.std.specs.Prelude.{◌≡◌, ◌↔◌, ◌+◌, ◌<◌, ◌≤◌, [], length, All, IsTrue, IfOk, OnOk};
 ghost use Rattle.std.specs.Bool.{OnFalse};
 ghost use Rattle.std.specs.Vec.{vec_capacity};
 ghost use Rattle.std.specs.Vec.Iter.{into_iter_items};
@@ -8,11 +8,12 @@ ghost use Rattle.theory.specs.Reading.{large, max_vars, max_clauses};
 ghost use Rattle.theory.specs.ProofReading.{IsStep, max_number};
 ghost use Rattle.cubes.specs.Result.{node_of};
 ghost use Rattle.join.specs.Joining.{bare, climb, on_node, before_nodes};
-ghost use Rattle.join.specs.Numbered.{IsNode, IsHalf, due_behind};
+ghost use Rattle.join.specs.Numbered.{IsNode, IsHalf};
 ghost use Rattle.join.specs.Rooms.{longest_text};
 ghost use Rattle.join.specs.Walking.{joined, line_of, IsJoining, IsStanding, IsNextLine, Makes, OnMore};
 
-use crate::line::{Due, ProofLine};
+use crate::deleted::{mark, put_unmarked};
+use crate::line::{ProofLine, renumber};
 use crate::room::Need;
 use cnf::Lit;
 use cubes::{Node, Turn, Walk};
@@ -29,7 +30,7 @@ pub(crate) enum Stage {
 
     /// Behind a leaf that came. What is due is deleted first; then come the lines that are left of
     /// the leaf, and behind its last one those of the splits above whose halves are both done.
-    Within(Due),
+    Within,
 }
 
 /// The lines of a tree's proof, where its nodes come one after the other. It keeps one leaf, and
@@ -56,7 +57,13 @@ pub struct Joiner {
     /// That leaf's lines that are still to come.
     leaf: Reader,
 
+    /// Which of its lines are deleted.
+    deleted: Vec<bool>,
+
     stage: Stage,
+
+    /// The numbers of the clauses that are deleted next.
+    due: Vec<u64>,
 
     /// The line that was given last.
     line: ProofLine,
@@ -73,20 +80,11 @@ impl Drop for Joiner {
             place: _,
             first: _,
             leaf: _,
+            deleted: _,
             stage: _,
+            due: _,
             line: _,
         } = self;
-    }
-}
-
-/// What is due behind a leaf's line: once it was the last one, the lines before it.
-fn due_behind(leaf: &Reader) -> Due
-    ensures { result ≡ due_behind leaf.now }
-{
-    if leaf.len() == 0 {
-        Due::Leaf
-    } else {
-        Due::Nothing
     }
 }
 
@@ -141,7 +139,8 @@ impl Joiner {
         ensures lawful { IfOk result IsJoining }
         ensures between { IfOk result (λ j. j.stage ≡ Stage.Between) }
         ensures literals { IfOk result (λ j. vec_capacity j.line.clause ≡ need.literals) }
-        ensures numbers { IfOk result (λ j. vec_capacity j.line.numbers ≡ need.numbers) }
+        ensures numbers { IfOk result (λ j. (vec_capacity j.line.numbers ≡ need.numbers) × (vec_capacity j.due ≡ need.numbers)) }
+        ensures marks { IfOk result (λ j. vec_capacity j.deleted ≡ need.lines) }
     {
         let first_clauses = clauses + units.len() as u64;
         Ok(Joiner {
@@ -152,7 +151,9 @@ impl Joiner {
             place: Walk::with_room(alloc, need.splits)?,
             first: first_clauses + 1,
             leaf: Reader::of(Row::new(alloc)),
+            deleted: Vec::with_capacity(alloc, need.lines)?,
             stage: Stage::Between,
+            due: Vec::with_capacity(alloc, need.numbers)?,
             line: ProofLine::with_room(alloc, need.literals, need.numbers)?,
         })
     }
@@ -191,8 +192,11 @@ impl Joiner {
             Node::Split(var) => self.place.enter(var)?,
             Node::Leaf(row) => {
                 self.first = self.next;
+                self.deleted.clear();
+                self.deleted.resize(row.len(), false)?;
                 self.leaf = Reader::of(row);
-                self.stage = Stage::Within(Due::Nothing);
+                self.stage = Stage::Within;
+                self.due.clear();
             }
         }
         Ok(())
@@ -251,21 +255,27 @@ impl Joiner {
         Ok(true)
     }
 
-    /// Makes the deletion that is due, if there is one. Behind the root's last line nothing is
-    /// deleted: that is the empty clause, with which a proof ends.
-    fn next_deletion(&mut self, due: Due) -> Result<bool, AllocError>
+    /// Makes the deletion that is due, if there is one.
+    fn next_deletion(&mut self) -> bool
         requires lawful { IsJoining self.old }
         requires units { into_iter_items self.old.units ≡ [] }
-        requires stage { self.old.stage ≡ Stage.Within due }
-        ensures made { IfOk result (λ more. Makes self.old self.new more) }
-        ensures none { IfOk result (λ more. OnFalse more ((into_iter_items self.new.units ≡ []) × (self.new.stage ≡ Stage.Within Due.Nothing))) }
+        requires stage { self.old.stage ≡ Stage.Within }
+        ensures made { Makes self.old self.new result }
+        ensures none { OnFalse result ((into_iter_items self.new.units ≡ []) × (self.new.stage ≡ Stage.Within) × (self.new.due.items ≡ [])) }
     {
-        self.stage = Stage::Within(Due::Nothing);
-        if self.place.splits().is_empty() {
-            return Ok(false);
+        if self.due.is_empty() {
+            return false;
         }
-        self.line.delete(self.next - 1, due, self.first)?;
-        Ok(!self.line.numbers.is_empty())
+        self.line.delete(self.next - 1, &mut self.due);
+        true
+    }
+
+    /// Whether there is a split above. Behind the root's last line nothing is deleted: that is the
+    /// empty clause, with which a proof ends.
+    fn is_half(&self) -> bool
+        ensures { IsTrue result ↔ 0 < length self.now.place }
+    {
+        !self.place.splits().is_empty()
     }
 
     /// Makes the leaf's next line, if there is one: it is read into the proof's, by the numbers of
@@ -273,21 +283,30 @@ impl Joiner {
     fn next_learnt(&mut self) -> Result<bool, AllocError>
         requires lawful { IsJoining self.old }
         requires units { into_iter_items self.old.units ≡ [] }
-        requires stage { self.old.stage ≡ Stage.Within Due.Nothing }
+        requires stage { self.old.stage ≡ Stage.Within }
+        requires due { self.old.due.items ≡ [] }
         requires fits { self.old.next ≤ max_number }
         ensures made { IfOk result (λ more. Makes self.old self.new more) }
-        ensures none { IfOk result (λ more. OnFalse more ((into_iter_items self.new.units ≡ []) × (self.new.stage ≡ Stage.Within Due.Nothing) × (self.new.leaf ≡ []) × (self.new.next ≤ max_number))) }
+        ensures none { IfOk result (λ more. OnFalse more ((into_iter_items self.new.units ≡ []) × (self.new.stage ≡ Stage.Within) × (self.new.due.items ≡ []) × (self.new.leaf ≡ []) × (self.new.next ≤ max_number))) }
     {
         let line = &mut self.line;
-        if !self.leaf.next(&mut line.clause, &mut line.numbers)? {
+        if !self
+            .leaf
+            .next(&mut line.clause, &mut line.numbers, &mut self.due)?
+        {
             // All its lines are given: its memory is let go before the next leaf comes.
             let alloc = *self.line.clause.allocator();
             self.leaf = Reader::of(Row::new(alloc));
+            self.due.clear();
             return Ok(false);
         }
         let id = self.next;
         self.line.learn(id, &self.place, self.clauses, self.first)?;
-        self.stage = Stage::Within(due_behind(&self.leaf));
+        renumber(&mut self.due, self.clauses, self.first);
+        mark(&self.due, self.first, &mut self.deleted);
+        if self.leaf.len() == 0 && self.is_half() {
+            put_unmarked(self.first, id, &self.deleted, &mut self.due)?;
+        }
         self.next += 1;
         Ok(true)
     }
@@ -297,7 +316,8 @@ impl Joiner {
     fn next_split(&mut self) -> Result<bool, AllocError>
         requires lawful { IsJoining self.old }
         requires units { into_iter_items self.old.units ≡ [] }
-        requires stage { self.old.stage ≡ Stage.Within Due.Nothing }
+        requires stage { self.old.stage ≡ Stage.Within }
+        requires due { self.old.due.items ≡ [] }
         requires leaf { self.old.leaf ≡ [] }
         requires fits { self.old.next ≤ max_number }
         ensures made { IfOk result (λ more. Makes self.old self.new more) }
@@ -306,7 +326,10 @@ impl Joiner {
         match self.place.leave(self.next - 1)? {
             Turn::Both { left, .. } => {
                 self.line.split(self.next, left, &self.place)?;
-                self.stage = Stage::Within(Due::Halves(left));
+                if self.is_half() {
+                    self.due.push(left)?;
+                    self.due.push(self.next - 1)?;
+                }
                 self.next += 1;
                 Ok(true)
             }
@@ -325,7 +348,8 @@ impl Joiner {
     fn next_addition(&mut self) -> Result<bool, AllocError>
         requires lawful { IsJoining self.old }
         requires units { into_iter_items self.old.units ≡ [] }
-        requires stage { self.old.stage ≡ Stage.Within Due.Nothing }
+        requires stage { self.old.stage ≡ Stage.Within }
+        requires due { self.old.due.items ≡ [] }
         ensures made { IfOk result (λ more. Makes self.old self.new more) }
         ensures none { IfOk result (λ more. OnFalse more ((into_iter_items self.new.units ≡ []) × (self.new.stage ≡ Stage.Between))) }
     {
@@ -353,10 +377,10 @@ impl Joiner {
         if self.next_unit()? {
             return Ok(true);
         }
-        let Stage::Within(due) = self.stage else {
+        let Stage::Within = self.stage else {
             return Ok(false);
         };
-        if self.next_deletion(due)? {
+        if self.next_deletion() {
             return Ok(true);
         }
         let more = self.next_addition()?;

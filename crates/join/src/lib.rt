@@ -2,6 +2,7 @@
 #![tactic(auto)]
 
 mod answer;
+mod deleted;
 mod joiner;
 mod line;
 mod proof_lines;

@@ -1,35 +1,24 @@
 //! A line of a proof: what a pure literal, a leaf's line or a split gives, and what is deleted
 //! behind them.
-ghost use Rattle.std.specs.Prelude.{◌≡◌, ℕ, ◌≤◌, ◌<◌, ◌^◌, ◌+◌, ◌-◌, ◌++◌, map, All, IfOk, OnOk};
+ghost use Rattle.std.specs.Prelude.{◌≡◌, ℕ, ◌≤◌, ◌<◌, ◌^◌, ◌+◌, ◌-◌, ◌++◌, [], List, map, All, IfOk, OnOk};
 ghost use Rattle.std.specs.Vec.{vec_capacity};
 ghost use Rattle.theory.specs.Literals.{IsVariable, negations};
 ghost use Rattle.theory.specs.Truth.{IsOver};
 ghost use Rattle.theory.specs.Reading.{large, max_vars, max_clauses};
 ghost use Rattle.theory.specs.Steps.{delete};
-ghost use Rattle.theory.specs.Proofs.{renumbered, numbers_from};
+ghost use Rattle.theory.specs.Proofs.{renumbered};
 ghost use Rattle.theory.specs.ProofReading.{IsStep, max_number};
 ghost use Rattle.lrat_text.specs.Steps.{step_of};
 ghost use Rattle.cubes.specs.Traversal.{path};
 ghost use Rattle.join.specs.Joining.{unit_line, learnt_line, split_line};
-ghost use Rattle.join.specs.Numbered.{AreUpTo, IsDue, numbers_due};
+ghost use Rattle.join.specs.Numbered.{AreUpTo};
 ghost use Rattle.join.specs.Walking.{line_of, learnt_in};
 
 use cnf::Lit;
 use cubes::Walk;
 use lrat::{Addition, Deletion, Step};
 use std::alloc::{AllocError, Global};
-
-/// What the last line of a cube leaves to be deleted.
-#[derive(Clone, Copy)]
-pub(crate) enum Due {
-    Nothing,
-
-    /// The lines of the leaf before its last one.
-    Leaf,
-
-    /// The last lines of a split's halves; the number is that of the left one.
-    Halves(u64),
-}
+use std::mem;
 
 /// What a line does.
 #[derive(Clone, Copy)]
@@ -82,24 +71,14 @@ fn renumbered(hint: u64, clauses: u64, first: u64) -> u64
     }
 }
 
-/// Gives a cube's hints their numbers in the proof.
-fn renumber(hints: &mut Vec<u64>, clauses: u64, first: u64)
-    requires { All (λ h. h + first < 2 ^ 64) hints.old.items }
-    ensures { hints.new.items ≡ map (renumbered clauses first) hints.old.items }
+/// Gives a cube's numbers those that they have in the proof.
+pub(crate) fn renumber(numbers: &mut Vec<u64>, clauses: u64, first: u64)
+    requires { All (λ h. h + first < 2 ^ 64) numbers.old.items }
+    ensures { numbers.new.items ≡ map (renumbered clauses first) numbers.old.items }
 {
-    for index in 0..hints.len() {
-        hints[index] = renumbered(hints[index], clauses, first);
+    for index in 0..numbers.len() {
+        numbers[index] = renumbered(numbers[index], clauses, first);
     }
-}
-
-/// Puts the numbers from the first one on, up to the end, behind others.
-fn put_numbers(first: u64, end: u64, out: &mut Vec<u64>) -> Result<(), AllocError>
-    ensures { OnOk result (out.new.items ≡ out.old.items ++ numbers_from first (end - first)) }
-{
-    for number in first..end {
-        out.push(number)?;
-    }
-    Ok(())
 }
 
 impl ProofLine {
@@ -149,7 +128,7 @@ impl ProofLine {
         requires splits { All (λ s. IsVariable (max_vars large) s.var) place.now }
         requires clause { IsOver (max_vars large) self.old.clause.items }
         requires hints { AreUpTo (clauses + (id - first)) self.old.numbers.items }
-        ensures line { OnOk result (line_of self.new ≡ learnt_line clauses first id (path place.now) (learnt_in self.old)) }
+        ensures line { (forgets : List ℕ) → OnOk result (line_of self.new ≡ learnt_line clauses first id (path place.now) (learnt_in self.old forgets)) }
         ensures within { OnOk result (IsStep (line_of self.new)) }
     {
         self.kind = Kind::Addition;
@@ -178,27 +157,17 @@ impl ProofLine {
         Ok(())
     }
 
-    /// Becomes the line that deletes what is due behind a cube's last line, which has the number
-    /// `last`; where nothing is, it has no numbers. `first` is the number of a leaf's first line.
-    pub(crate) fn delete(&mut self, last: u64, due: Due, first: u64) -> Result<(), AllocError>
-        requires first { 1 ≤ first }
-        requires due { IsDue due last }
-        ensures line { OnOk result (line_of self.new ≡ delete (record { id = last; ids = numbers_due due first last })) }
-        ensures within { OnOk result (All (λ n. (1 ≤ n) × (n < last)) self.new.numbers.items) }
+    /// Becomes the line that deletes the clauses of these numbers behind the line of the number
+    /// `last`. It takes the numbers, and leaves none.
+    pub(crate) fn delete(&mut self, last: u64, numbers: &mut Vec<u64>)
+        ensures line { line_of self.new ≡ delete (record { id = last; ids = numbers.old.items }) }
+        ensures none { numbers.new.items ≡ [] }
     {
         self.kind = Kind::Deletion;
         self.id = last;
         self.clause.clear();
-        self.numbers.clear();
-        match due {
-            Due::Nothing => {}
-            Due::Leaf => put_numbers(first, last, &mut self.numbers)?,
-            Due::Halves(left) => {
-                self.numbers.push(left)?;
-                self.numbers.push(last - 1)?;
-            }
-        }
-        Ok(())
+        mem::swap(&mut self.numbers, numbers);
+        numbers.clear();
     }
 
     /// The line as a step with memory of its own.

@@ -80,7 +80,7 @@ impl Lines {
         ensures within { IfOk result (λ l. AreWithin (lines_left l)) }
         ensures accepted { IfOk result (λ l. AreAccepted formula.now tree (lines_left l)) }
         ensures lawful { IfOk result IsBetweenNodes }
-        ensures room { IfOk result (λ l. HasRoom tree formula.now.vars l.joiner.line) }
+        ensures room { IfOk result (λ l. HasRoom tree formula.now.vars l.joiner) }
     {
         let _vars = formula.vars(); // it ensures what the proof needs of the formula
         let clauses = formula.clause_count() as u64;
@@ -101,7 +101,9 @@ impl Lines {
     /// so many bytes. It fails only where a request for memory is refused.
     pub fn none_beside(&self, alloc: Global, enough: usize) -> Result<Lines, AllocError>
         ensures end { IfOk result IsAtEnd }
-        ensures room { IfOk result (λ l. (vec_capacity l.joiner.line.clause ≡ self.now.need.literals) × (vec_capacity l.joiner.line.numbers ≡ self.now.need.numbers)) }
+        ensures literals { IfOk result (λ l. vec_capacity l.joiner.line.clause ≡ self.now.need.literals) }
+        ensures numbers { IfOk result (λ l. (vec_capacity l.joiner.line.numbers ≡ self.now.need.numbers) × (vec_capacity l.joiner.due ≡ self.now.need.numbers)) }
+        ensures marks { IfOk result (λ l. vec_capacity l.joiner.deleted ≡ self.now.need.lines) }
     {
         Ok(Lines {
             joiner: Joiner::with_room(alloc, 0, Vec::new(alloc), self.need)?,

@@ -10,6 +10,8 @@ pub(crate) struct Need {
     pub(crate) literals: usize,
     /// Hints, or numbers of clauses to be deleted.
     pub(crate) numbers: usize,
+    /// Lines of a leaf.
+    pub(crate) lines: usize,
     /// Splits on the way from the root.
     pub(crate) splits: usize,
 }
@@ -25,7 +27,8 @@ impl Need {
         let deleted = if splits > 0 { size.most_lines } else { 0 };
         Need {
             literals: size.most_literals.saturating_add(splits).max(1),
-            numbers: size.most_hints.max(deleted).max(2),
+            numbers: size.most_numbers.max(deleted).max(2),
+            lines: size.most_lines,
             splits,
         }
     }
@@ -35,6 +38,7 @@ impl Need {
         Need {
             literals: 0,
             numbers: 0,
+            lines: 0,
             splits: 0,
         }
     }

@@ -20,7 +20,7 @@ fn row_of(alloc: Global, refutation: &Refutation) -> Result<Row, AllocError>
 {
     let mut row = Row::new(alloc);
     for line in &refutation.lines {
-        row.push(line.clause(), line.hints())?;
+        row.push(line.clause(), line.hints(), line.forgets())?;
     }
     Ok(row)
 }

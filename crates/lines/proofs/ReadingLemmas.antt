@@ -1,11 +1,14 @@
--- Numbers, clauses and hints that are read.
-use Rattle.std.proofs.Common.{◌≡◌, ℕ, suc, ◌+◌, ◌<◌, ◌≤◌, Bool, true, false, List, [], ◌∷◌, length, drop, refl, ap, sym, ◌∙◌, arith, nat_eq, nat_lt, get_or, drop-cons, lt-ltb, ◌⊎◌, inl, inr}
+-- Numbers, clauses and lists of numbers that are read.
+use Rattle.std.proofs.Common.{◌≡◌, ℕ, suc, ◌+◌, ◌<◌, ◌≤◌, Bool, true, false, List, [], ◌∷◌, ◌++◌, length, drop, refl, ap, sym, ◌∙◌, arith, nat_eq, nat_lt, get_or, drop-cons, lt-ltb, ◌⊎◌, inl, inr}
 use Rattle.std.proofs.lemmas.List.{drop_all}
-use Rattle.std.proofs.lemmas.Bool.{false≢true, cases_lt}
+use Rattle.std.proofs.lemmas.Bool.{cases_lt}
 use Rattle.theory.specs.Literals.{Clause}
 use Rattle.theory.specs.Learning.{Line}
-use Rattle.lines.specs.Rows.{Part, whole, with_bits, with_number, with_byte, with_bytes, row, IsBetween, IsWhole, clause_part, hints_part}
+use Rattle.lines.specs.declared.section.Section.{Section}
+use Rattle.lines.specs.declared.section.Section.TheVariants.{Literals, Hints, Forgotten}
+use Rattle.lines.specs.Rows.{Part, whole, with_bits, with_number, with_byte, with_bytes, row, listed, with_list, hint_behind, IsListing, IsBetween, IsWhole, clause_part, hints_part, forgets_part}
 use Rattle.lines.proofs.RowLemmas.{between-again}
+use Rattle.lines.proofs.LineLemmas.{hints-listing, between-listed, listed-more, listed-end}
 
 -- of the number that begins at a place the bytes before the end have this value, and more are to
 -- come
@@ -34,13 +37,15 @@ abbrev pub behind : Line → Part → Part
 behind line p = record p { lines = line ∷ p.lines }
 
 number-behind : (line : Line) (p : Part) (n : ℕ) → with_number (behind line p) n ≡ behind line (with_number p n)
-number-behind line p n = go (nat_eq n 0) p.in_hints refl refl
+number-behind line p n = go (nat_eq n 0) p.section refl refl
   where
-    go : (z h : Bool) → nat_eq n 0 ≡ z → p.in_hints ≡ h → with_number (behind line p) n ≡ behind line (with_number p n)
-    go true true e f = rw (e, f) refl
-    go true false e f = rw (e, f) refl
-    go false true e f = rw (e, f) refl
-    go false false e f = rw (e, f) refl
+    go : (z : Bool) (s : Section) → nat_eq n 0 ≡ z → p.section ≡ s → with_number (behind line p) n ≡ behind line (with_number p n)
+    go true Literals e f = rw (e, f) refl
+    go true Hints e f = rw (e, f) refl
+    go true Forgotten e f = rw (e, f) refl
+    go false Literals e f = rw (e, f) refl
+    go false Hints e f = rw (e, f) refl
+    go false Forgotten e f = rw (e, f) refl
 
 byte-behind : (line : Line) (p : Part) (b : ℕ) → with_byte (behind line p) b ≡ behind line (with_byte p b)
 byte-behind line p b = go (nat_lt b 128) refl
@@ -53,13 +58,13 @@ pub lines-behind : (line : Line) (p : Part) (bytes : List ℕ) → with_bytes (b
 lines-behind line p [] = refl
 lines-behind line p (b ∷ bs) = ap (λ (q : Part). with_bytes q bs) (byte-behind line p b) ∙ lines-behind line (with_byte p b) bs
 
-not-in-hints : (bytes : List ℕ) (end last : ℕ) (c : Clause) (hs : List ℕ) (lines : List Line) → end ≤ length bytes
-    → with_bytes (hints_part [] c hs last) (drop end bytes) ≡ whole lines → end < length bytes
-not-in-hints bytes end last c hs lines within w = go (cases_lt end (length bytes))
+-- where a list of numbers isn't ended, bytes are left
+not-ended : (bytes : List ℕ) (end : ℕ) (p : Part) (lines : List Line) → ¬ (p.section ≡ Literals) → with_bytes p (drop end bytes) ≡ whole lines → end < length bytes
+not-ended bytes end p lines behind_clause w = go (cases_lt end (length bytes))
   where
     go : (end < length bytes) ⊎ (length bytes ≤ end) → end < length bytes
     go (inl h) = h
-    go (inr h) = absurd (false≢true (sym (ap (λ (p : Part). p.in_hints) (ap (with_bytes (hints_part [] c hs last)) (sym (drop_all end bytes h)) ∙ w))))
+    go (inr h) = absurd (behind_clause (ap (λ (p : Part). p.section) (ap (with_bytes p) (sym (drop_all end bytes h)) ∙ w)))
 
 -- and the clause's end
 pub clause-read : (bytes : List ℕ) (at end next last n : ℕ) (c : Clause) → n ≡ 0 → next ≤ length bytes → IsWhole (drop at bytes)
@@ -69,18 +74,50 @@ pub clause-read : (bytes : List ℕ) (at end next last n : ℕ) (c : Clause) →
 clause-read bytes at end next last n c none within w e step =
     let all : row (drop at bytes) ≡ with_bytes (hints_part [] c [] 0) (drop next bytes) =
     e ∙ step ∙ ap (λ m. with_bytes (with_number (clause_part [] c last) m) (drop next bytes)) none in
-    (not-in-hints bytes next 0 c [] (row (drop at bytes)).lines within (sym all ∙ w), all)
+    (not-ended bytes next (hints_part [] c [] 0) (row (drop at bytes)).lines (hints-listing [] c).is_behind (sym all ∙ w), all)
 
--- what the hints so far leave to be read, whatever the clause
-abbrev pub HintsLeft : List ℕ → ℕ → ℕ → List ℕ → ℕ → Type 0
-HintsLeft bytes at end hs last = (c : Clause) → with_bytes (hints_part [] c [] 0) (drop at bytes) ≡ with_bytes (hints_part [] c hs last) (drop end bytes)
+-- what the numbers so far leave to be read, whatever stands before them
+abbrev pub NumbersLeft : List ℕ → ℕ → ℕ → List ℕ → ℕ → Type 0
+NumbersLeft bytes at end ns last = (p : Part) → IsListing p → with_bytes p (drop at bytes) ≡ with_bytes (listed p.section p ns last) (drop end bytes)
+
+section-listed : (p : Part) (ns : List ℕ) (last : ℕ) → (listed p.section p ns last).section ≡ p.section
+section-listed p ns last = go p.section refl
+  where
+    go : (s : Section) → p.section ≡ s → (listed s p ns last).section ≡ s
+    go Literals e = e
+    go Hints e = e
+    go Forgotten e = e
+
+-- a list of numbers that begins at a place has bytes to be read
+pub begins-inside : (bytes : List ℕ) (at : ℕ) (p : Part) (lines : List Line) → IsListing p → with_bytes p (drop at bytes) ≡ whole lines → at < length bytes
+begins-inside bytes at p lines l w = not-ended bytes at p lines l.is_behind w
+
+-- one number more
+pub numbers-left : (bytes : List ℕ) (at end next : ℕ) (ns : List ℕ) (last n h : ℕ) → 1 ≤ n → hint_behind last n ≡ h → NumbersLeft bytes at end ns last
+    → ((p : Part) → IsBetween p → with_bytes p (drop end bytes) ≡ with_bytes (with_number p n) (drop next bytes)) → NumbersLeft bytes at next (ns ++ h ∷ []) h
+numbers-left bytes at end next ns last n h some coded left step p l =
+    left p l ∙ step (listed p.section p ns last) (between-listed p.section p ns last l.between) ∙ ap (λ (q : Part). with_bytes q (drop next bytes)) (listed-more p ns last n h l some coded)
+
+pub numbers-inside : (bytes : List ℕ) (at end : ℕ) (ns : List ℕ) (last : ℕ) (p : Part) (lines : List Line) → IsListing p → with_bytes p (drop at bytes) ≡ whole lines
+    → NumbersLeft bytes at end ns last → end < length bytes
+numbers-inside bytes at end ns last p lines l w left =
+    not-ended bytes end (listed p.section p ns last) lines (λ e. l.is_behind (sym (section-listed p ns last) ∙ e)) (sym (left p l) ∙ w)
+
+-- and the end of the list
+pub numbers-read : (bytes : List ℕ) (at end next : ℕ) (ns : List ℕ) (last n : ℕ) → n ≡ 0 → NumbersLeft bytes at end ns last
+    → ((p : Part) → IsBetween p → with_bytes p (drop end bytes) ≡ with_bytes (with_number p n) (drop next bytes))
+    → (p : Part) → IsListing p → with_bytes p (drop at bytes) ≡ with_bytes (with_list p ns) (drop next bytes)
+numbers-read bytes at end next ns last n none left step p l =
+    left p l ∙ step (listed p.section p ns last) (between-listed p.section p ns last l.between)
+    ∙ ap (λ (q : Part). with_bytes q (drop next bytes)) (ap (with_number (listed p.section p ns last)) none ∙ listed-end p ns last l)
 
 -- a line is read
-pub line-read : (bytes : List ℕ) (at middle end : ℕ) (c : Clause) (hs : List ℕ) → IsWhole (drop at bytes)
-    → row (drop at bytes) ≡ with_bytes (hints_part [] c [] 0) (drop middle bytes)
-    → with_bytes (hints_part [] c [] 0) (drop middle bytes) ≡ with_bytes (whole (record { clause = c; hints = hs } ∷ [])) (drop end bytes)
-    → IsWhole (drop end bytes) × ((row (drop at bytes)).lines ≡ record { clause = c; hints = hs } ∷ (row (drop end bytes)).lines)
-line-read bytes at middle end c hs w e f =
-    let all = e ∙ f ∙ lines-behind (record { clause = c; hints = hs }) (whole []) (drop end bytes) in
+pub line-read : (bytes : List ℕ) (at behind_clause behind_hints end : ℕ) (c : Clause) (hs fs : List ℕ) → IsWhole (drop at bytes)
+    → row (drop at bytes) ≡ with_bytes (hints_part [] c [] 0) (drop behind_clause bytes)
+    → with_bytes (hints_part [] c [] 0) (drop behind_clause bytes) ≡ with_bytes (forgets_part [] c hs [] 0) (drop behind_hints bytes)
+    → with_bytes (forgets_part [] c hs [] 0) (drop behind_hints bytes) ≡ with_bytes (whole (record { clause = c; hints = hs; forgets = fs } ∷ [])) (drop end bytes)
+    → IsWhole (drop end bytes) × ((row (drop at bytes)).lines ≡ record { clause = c; hints = hs; forgets = fs } ∷ (row (drop end bytes)).lines)
+line-read bytes at behind_clause behind_hints end c hs fs w e f g =
+    let all = e ∙ f ∙ g ∙ lines-behind (record { clause = c; hints = hs; forgets = fs }) (whole []) (drop end bytes) in
     let kept = (row (drop end bytes)).lines in
     (ap (λ (p : Part). record p { lines = kept }) (sym all ∙ w), ap (λ (p : Part). p.lines) all)

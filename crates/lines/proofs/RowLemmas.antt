@@ -2,6 +2,8 @@
 use Rattle.std.proofs.Common.{◌≡◌, ℕ, ◌+◌, ◌-◌, ◌/◌, ◌%◌, ◌^◌, ◌<◌, ◌≤◌, Bool, true, false, List, [], ◌∷◌, ◌++◌, length, refl, ap, subst, sym, ◌∙◌, arith, nat_lt, nat_eq, lt-ltb, le-ltb, length-append}
 use Rattle.theory.specs.Learning.{Line}
 use Rattle.std.proofs.lemmas.List.Elements.{All-push, All-tail}
+use Rattle.lines.specs.declared.section.Section.{Section}
+use Rattle.lines.specs.declared.section.Section.TheVariants.{Literals, Hints, Forgotten}
 use Rattle.lines.specs.Rows.{Part, whole, with_bits, with_number, with_byte, with_bytes, row, AreWithin, IsBetween}
 
 pub length-push : (lines : List Line) (l : Line) → length (lines ++ l ∷ []) ≡ length lines + 1
@@ -83,13 +85,15 @@ one-pushed old new n small e = number-pushed old old new n (omega (arith, small)
 
 -- a byte ends one line at most
 line-ends : (p : Part) (n : ℕ) → length (with_number p n).lines ≤ length p.lines + 1
-line-ends p n = go (nat_eq n 0) p.in_hints refl refl
+line-ends p n = go (nat_eq n 0) p.section refl refl
   where
-    go : (z h : Bool) → nat_eq n 0 ≡ z → p.in_hints ≡ h → length (with_number p n).lines ≤ length p.lines + 1
-    go true true e f = rw (e, f) (omega (arith, length-push p.lines (record { clause = p.clause; hints = p.hints })))
-    go true false e f = rw (e, f) (omega arith)
-    go false true e f = rw (e, f) (omega arith)
-    go false false e f = rw (e, f) (omega arith)
+    go : (z : Bool) (s : Section) → nat_eq n 0 ≡ z → p.section ≡ s → length (with_number p n).lines ≤ length p.lines + 1
+    go true Literals e f = rw (e, f) (omega arith)
+    go true Hints e f = rw (e, f) (omega arith)
+    go true Forgotten e f = rw (e, f) (omega (arith, length-push p.lines (record { clause = p.clause; hints = p.hints; forgets = p.forgets })))
+    go false Literals e f = rw (e, f) (omega arith)
+    go false Hints e f = rw (e, f) (omega arith)
+    go false Forgotten e f = rw (e, f) (omega arith)
 
 byte-ends : (p : Part) (b : ℕ) → length (with_byte p b).lines ≤ length p.lines + 1
 byte-ends p b = go (nat_lt b 128) refl
@@ -103,13 +107,13 @@ lines-within p [] = omega arith
 lines-within p (b ∷ bs) = omega (arith, lines-within (with_byte p b) bs, byte-ends p b)
 
 -- one line more, where both bounds grow with it
-pub AreWithin-push : (literals hints more_literals more_hints : ℕ) (lines : List Line) (l : Line) → length l.clause ≤ more_literals → length l.hints ≤ more_hints
-    → literals ≤ more_literals → hints ≤ more_hints → AreWithin literals hints lines → AreWithin more_literals more_hints (lines ++ l ∷ [])
-AreWithin-push literals hints more_literals more_hints lines l clause_fits hints_fit more most all =
-    All-push (λ (m : Line). (length m.clause ≤ more_literals) × (length m.hints ≤ more_hints)) lines l
-    (λ i d inside. let old = all i d inside in let a = old.0 in let b = old.1 in (omega arith, omega arith)) (clause_fits, hints_fit)
+pub AreWithin-push : (literals numbers more_literals more_numbers : ℕ) (lines : List Line) (l : Line) → length l.clause ≤ more_literals → length l.hints ≤ more_numbers → length l.forgets ≤ more_numbers
+    → literals ≤ more_literals → numbers ≤ more_numbers → AreWithin literals numbers lines → AreWithin more_literals more_numbers (lines ++ l ∷ [])
+AreWithin-push literals numbers more_literals more_numbers lines l clause_fits hints_fit forgets_fit more most all =
+    All-push (λ (m : Line). (length m.clause ≤ more_literals) × (length m.hints ≤ more_numbers) × (length m.forgets ≤ more_numbers)) lines l
+    (λ i d inside. let old = all i d inside in let a = old.0 in let b = old.1 in let c = old.2 in (omega arith, omega arith, omega arith)) (clause_fits, hints_fit, forgets_fit)
 
 -- what holds of all lines holds of those behind the first one
-pub AreWithin-tail : (literals hints : ℕ) (lines left : List Line) (l : Line) → lines ≡ l ∷ left → AreWithin literals hints lines → AreWithin literals hints left
-AreWithin-tail literals hints lines left l e all =
-    All-tail (λ (l : Line). (length l.clause ≤ literals) × (length l.hints ≤ hints)) l left (subst (AreWithin literals hints) e all)
+pub AreWithin-tail : (literals numbers : ℕ) (lines left : List Line) (l : Line) → lines ≡ l ∷ left → AreWithin literals numbers lines → AreWithin literals numbers left
+AreWithin-tail literals numbers lines left l e all =
+    All-tail (λ (l : Line). (length l.clause ≤ literals) × (length l.hints ≤ numbers) × (length l.forgets ≤ numbers)) l left (subst (AreWithin literals numbers) e all)

@@ -1,24 +1,28 @@
 -- What the bytes of a row say: lines, one behind the other. A line is the numbers of its clause and
--- a 0, then those of its hints and a 0. Source: numbers of seven bits a byte, as in the binary form
--- of DRAT proofs (Wetzler, Heule, Hunt, SAT 2014), here with the highest bits first.
+-- a 0, then those of its hints and a 0, then those of what it forgets and a 0. Source: numbers of
+-- seven bits a byte, as in the binary form of DRAT proofs (Wetzler, Heule, Hunt, SAT 2014), here
+-- with the highest bits first.
 use Rattle.std.specs.Prelude.{◌≡◌, ℕ, ◌+◌, ◌-◌, ◌*◌, ◌/◌, ◌%◌, ◌^◌, ◌≤◌, max, length, take, Bool, true, false, nat_eq, nat_lt, List, [], ◌∷◌, ◌++◌, All, if◌then◌else◌}
 use Rattle.theory.specs.Literals.{Literal, Clause}
 use Rattle.theory.specs.Learning.{Line}
+use Rattle.lines.specs.declared.section.Section.{Section}
+use Rattle.lines.specs.declared.section.Section.TheVariants.{Literals, Hints, Forgotten}
 
--- what the bytes so far say: the whole lines, the clause and the hints of the one begun, whether
--- its clause is whole, the number before, and of the number begun its value so far
+-- what the bytes so far say: the whole lines, the three lists of the one begun, in which of them it
+-- is, the number before, and of the number begun its value so far
 pub record Part : Type 0 where
   pub lines : List Line
   pub clause : Clause
   pub hints : List ℕ
-  pub in_hints : Bool
+  pub forgets : List ℕ
+  pub section : Section
   pub last : ℕ
   pub value : ℕ
   pub begun : Bool
 
 -- whole lines and no more
 abbrev pub whole : List Line → Part
-whole lines = record { lines = lines; clause = []; hints = []; in_hints = false; last = 0; value = 0; begun = false }
+whole lines = record { lines = lines; clause = []; hints = []; forgets = []; section = Literals; last = 0; value = 0; begun = false }
 
 -- the number with seven bits more
 abbrev pub with_bits : ℕ → ℕ → ℕ
@@ -32,23 +36,33 @@ literal_at code = record { var = max 1 (code / 2); positive = nat_eq (code % 2) 
 abbrev pub code_behind : ℕ → ℕ → ℕ
 code_behind last n = (last + n) % 2 ^ 32
 
--- a hint by its distance from the one before: twice that if it is greater, else that and one more
+-- a hint, or the number of a forgotten clause, by its distance from the one before: twice that if it is greater, else that and one more
 abbrev pub hint_behind : ℕ → ℕ → ℕ
 hint_behind last n = if nat_eq (n % 2) 0 then (last + n / 2) % 2 ^ 64 else last - n / 2
 
-abbrev pub in_clause : Part → ℕ → Part
-in_clause p n = record p { clause = p.clause ++ literal_at (code_behind p.last n) ∷ []; last = code_behind p.last n }
+abbrev pub with_literal : Part → ℕ → Part
+with_literal p n = record p { clause = p.clause ++ literal_at (code_behind p.last n) ∷ []; last = code_behind p.last n }
 
-abbrev pub in_hints : Part → ℕ → Part
-in_hints p n = record p { hints = p.hints ++ hint_behind p.last n ∷ []; last = hint_behind p.last n }
+abbrev pub with_hint : Part → ℕ → Part
+with_hint p n = record p { hints = p.hints ++ hint_behind p.last n ∷ []; last = hint_behind p.last n }
 
-abbrev pub at_zero : Part → Part
-at_zero p =
-    if p.in_hints then whole (p.lines ++ record { clause = p.clause; hints = p.hints } ∷ [])
-    else record p { in_hints = true; last = 0 }
+abbrev pub with_forgotten : Part → ℕ → Part
+with_forgotten p n = record p { forgets = p.forgets ++ hint_behind p.last n ∷ []; last = hint_behind p.last n }
+
+-- a number from 1 on stands for the next one of its list
+abbrev pub with_next : Section → Part → ℕ → Part
+with_next Literals p n = with_literal p n
+with_next Hints p n = with_hint p n
+with_next Forgotten p n = with_forgotten p n
+
+-- a 0 ends a list
+abbrev pub at_zero : Section → Part → Part
+at_zero Literals p = record p { section = Hints; last = 0 }
+at_zero Hints p = record p { section = Forgotten; last = 0 }
+at_zero Forgotten p = whole (p.lines ++ record { clause = p.clause; hints = p.hints; forgets = p.forgets } ∷ [])
 
 abbrev pub with_number : Part → ℕ → Part
-with_number p n = if nat_eq n 0 then at_zero p else if p.in_hints then in_hints p n else in_clause p n
+with_number p n = if nat_eq n 0 then at_zero p.section p else with_next p.section p n
 
 -- a byte below 128 ends its number
 abbrev pub with_byte : Part → ℕ → Part
@@ -71,9 +85,9 @@ IsBetween p = (p.value ≡ 0) × (p.begun ≡ false)
 abbrev pub IsWhole : List ℕ → Type 0
 IsWhole bytes = row bytes ≡ whole (row bytes).lines
 
--- no line has more literals, nor more hints
+-- no line has more literals, nor a longer list of numbers
 abbrev pub AreWithin : ℕ → ℕ → List Line → Type 0
-AreWithin literals hints lines = All (λ l. (length l.clause ≤ literals) × (length l.hints ≤ hints)) lines
+AreWithin literals numbers lines = All (λ l. (length l.clause ≤ literals) × (length l.hints ≤ numbers) × (length l.forgets ≤ numbers)) lines
 
 -- how a literal is coded
 abbrev pub code : Literal → ℕ
@@ -89,7 +103,27 @@ clause_part lines c last = record (whole lines) { clause = c; last = last }
 
 -- a clause, and hints so far
 abbrev pub hints_part : List Line → Clause → List ℕ → ℕ → Part
-hints_part lines c hints last = record (whole lines) { clause = c; hints = hints; in_hints = true; last = last }
+hints_part lines c hints last = record (whole lines) { clause = c; hints = hints; section = Hints; last = last }
+
+-- a clause and hints, and what is forgotten so far
+abbrev pub forgets_part : List Line → Clause → List ℕ → List ℕ → ℕ → Part
+forgets_part lines c hints forgets last = record (whole lines) { clause = c; hints = hints; forgets = forgets; section = Forgotten; last = last }
+
+-- where the list of numbers that it is in is this one so far
+abbrev pub listed : Section → Part → List ℕ → ℕ → Part
+listed Literals p ns last = p
+listed Hints p ns last = record p { hints = ns; last = last }
+listed Forgotten p ns last = record p { forgets = ns; last = last }
+
+-- a list of numbers begins
+pub record IsListing (p : Part) : Type 0 where
+  pub is_behind : ¬ (p.section ≡ Literals)
+  pub begins : p ≡ listed p.section p [] 0
+  pub between : IsBetween p
+
+-- behind the whole of it
+abbrev pub with_list : Part → List ℕ → Part
+with_list p ns = at_zero p.section (listed p.section p ns 0)
 
 -- of the lines left a reader gave one, if there was one
 abbrev pub IsNextOf : List Line → List Line → Line → Bool → Type 0

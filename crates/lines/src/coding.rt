@@ -1,5 +1,5 @@
 //! How a literal or a hint is written behind the one before it: by a number from 1 on, small where
-//! the two are near.
+//! the two are near. The number of a forgotten clause is written as a hint is.
 ghost use Rattle.std.specs.Prelude.{◌≡◌, ◌<◌, ◌≤◌, ◌^◌};
 ghost use Rattle.lines.specs.Rows.{code, code_behind, literal_at, hint_behind};
 

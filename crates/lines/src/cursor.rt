@@ -20,8 +20,8 @@ pub struct Cursor<'r> {
     left: usize,
     // no line that is left has more literals
     literals: usize,
-    // nor more hints
-    hints: usize,
+    // nor a longer list of numbers
+    numbers: usize,
 }
 
 impl<'r> Model for Cursor<'r> {
@@ -35,17 +35,18 @@ impl<'r> Model for Cursor<'r> {
 
     ghost invariant = { λ a. (a.at ≤ length a.bytes.now) × IsWhole (drop a.at a.bytes.now)
         × (a.left ≡ length (row (drop a.at a.bytes.now)).lines)
-        × AreWithin a.literals a.hints (row (drop a.at a.bytes.now)).lines };
+        × AreWithin a.literals a.numbers (row (drop a.at a.bytes.now)).lines };
 }
 
 impl<'r> Cursor<'r> {
     ghost use Rattle.lines.specs.Rows.{row, AreWithin, IsWhole};
 
-    /// The lines that the bytes are, of which there are so many, none with more literals or hints.
-    pub(crate) fn of(bytes: &'r [u8], left: usize, literals: usize, hints: usize) -> Cursor<'r>
+    /// The lines that the bytes are, of which there are so many, none with more literals or a longer
+    /// list of numbers.
+    pub(crate) fn of(bytes: &'r [u8], left: usize, literals: usize, numbers: usize) -> Cursor<'r>
         requires whole { IsWhole bytes.now }
         requires left { left ≡ length (row bytes.now).lines }
-        requires within { AreWithin literals hints (row bytes.now).lines }
+        requires within { AreWithin literals numbers (row bytes.now).lines }
         ensures { result ≡ (row bytes.now).lines }
     {
         Cursor {
@@ -53,7 +54,7 @@ impl<'r> Cursor<'r> {
             at: 0,
             left,
             literals,
-            hints,
+            numbers,
         }
     }
 
@@ -65,7 +66,7 @@ impl<'r> Cursor<'r> {
     {
         let scan = Scan::of(bytes);
         if scan.is_whole() {
-            Some(Cursor::of(bytes, scan.lines, scan.most_literals, scan.most_hints))
+            Some(Cursor::of(bytes, scan.lines, scan.most_literals, scan.most_numbers))
         } else {
             None
         }
@@ -78,7 +79,7 @@ impl<'r> Cursor<'r> {
         ensures { IfOk result (λ r. r ≡ self.now) }
     {
         let bytes = Vec::from_slice(alloc, &self.bytes[self.at..])?;
-        Ok(Row::of(bytes, self.left, self.literals, self.hints))
+        Ok(Row::of(bytes, self.left, self.literals, self.numbers))
     }
 
     /// How many lines are still to be read.
@@ -88,16 +89,21 @@ impl<'r> Cursor<'r> {
         self.left
     }
 
-    /// Reads the next line into two lists, which are cleared before; it answers whether there was
+    /// Reads the next line into three lists, which are cleared before; it answers whether there was
     /// one. It fails where a request for memory is refused: the line is then still to be read.
-    pub fn next(&mut self, clause: &mut Vec<Lit>, hints: &mut Vec<u64>) -> Result<bool, AllocError>
-        ensures line { IfOk result (λ more. IsNextOf self.old self.new (record { clause = clause.new.items; hints = hints.new.items }) more) }
+    pub fn next(
+        &mut self,
+        clause: &mut Vec<Lit>,
+        hints: &mut Vec<u64>,
+        forgets: &mut Vec<u64>,
+    ) -> Result<bool, AllocError>
+        ensures line { IfOk result (λ more. IsNextOf self.old self.new (record { clause = clause.new.items; hints = hints.new.items; forgets = forgets.new.items }) more) }
         ensures refused { OnErr result (self.new ≡ self.old) }
     {
         if self.left == 0 {
             return Ok(false);
         }
-        self.at = read_line(self.bytes, self.at, clause, hints)?;
+        self.at = read_line(self.bytes, self.at, clause, hints, forgets)?;
         self.left -= 1;
         Ok(true)
     }

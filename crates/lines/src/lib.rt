@@ -9,6 +9,7 @@ mod placed;
 mod reader;
 mod row;
 mod scan;
+mod section;
 
 pub use cursor::Cursor;
 pub use reader::Reader;

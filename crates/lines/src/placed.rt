@@ -4,9 +4,8 @@
 //! that is made for a whole line at once the numbers are written one behind the other. A search of
 //! parity chains, whose lines are many and short, takes a thirtieth less time by it.
 ghost use Rattle.std.specs.Prelude.{◌≡◌, ◌+◌, ◌-◌, ◌*◌, ◌/◌, ◌^◌, ◌<◌, ◌≤◌, ◌∷◌, ◌++◌, [], ℕ, true, min, length, take, List, OnOk, IfOk};
-ghost use Rattle.theory.specs.Literals.{Literal};
 ghost use Rattle.theory.specs.Learning.{Line};
-ghost use Rattle.lines.specs.Rows.{row, whole, with_number, hints_part, IsBetween};
+ghost use Rattle.lines.specs.Rows.{Part, row, whole, with_number, hints_part, with_list, IsListing, IsBetween};
 
 use crate::coding::{MAX_HINT, code, code_number, hint_number};
 use cnf::Lit;
@@ -20,13 +19,14 @@ const SMALL_SIZE: usize = 5;
 
 /// How many bytes a line takes at most, with room for one number more. Sizes stop at the greatest
 /// one.
-pub(crate) fn line_room(literals: usize, hints: usize) -> usize
-    ensures { result ≡ min (5 * literals + 10 * hints + 20) (2 ^ 64 - 1) }
+pub(crate) fn line_room(literals: usize, hints: usize, forgets: usize) -> usize
+    ensures { result ≡ min (5 * literals + 10 * hints + 10 * forgets + 30) (2 ^ 64 - 1) }
 {
     literals
         .saturating_mul(SMALL_SIZE)
         .saturating_add(hints.saturating_mul(NUMBER_SIZE))
-        .saturating_add(2 * NUMBER_SIZE)
+        .saturating_add(forgets.saturating_mul(NUMBER_SIZE))
+        .saturating_add(3 * NUMBER_SIZE)
 }
 
 /// Places the bytes of a number from 1 on that has more bits behind these. The answer is the place
@@ -85,24 +85,24 @@ fn place_clause(clause: &[Lit], bytes: &mut [u8], at: usize) -> usize
     place_number(0, bytes, end)
 }
 
-/// Places hints, behind their line's clause. The answer is the place behind them. A hint above the
-/// greatest number of a clause counts as want of memory.
-fn place_hints(hints: &[u64], bytes: &mut [u8], at: usize) -> Result<usize, AllocError>
-    requires room { at + 10 * length hints.now + 10 ≤ length bytes.old }
-    ensures within { IfOk result (λ end. (at < end) × (end ≤ length bytes.new)) }
+/// Places numbers of clauses: hints behind their line's clause, or behind these what is forgotten.
+/// The answer is the place behind them. A number above the greatest one of a clause counts as want
+/// of memory.
+fn place_numbers(numbers: &[u64], bytes: &mut [u8], at: usize) -> Result<usize, AllocError>
+    requires room { at + 10 * length numbers.now + 10 ≤ length bytes.old }
+    ensures within { IfOk result (λ end. (at < end) × (end ≤ at + 10 * length numbers.now + 10)) }
     ensures front { take at bytes.new ≡ take at bytes.old }
-    ensures hints { IfOk result (λ end. (lines : List Line) (clause : List Literal) → row (take at bytes.old) ≡ hints_part lines clause [] 0 →
-        row (take end bytes.new) ≡ whole (lines ++ record { clause = clause; hints = hints.now } ∷ [])) }
+    ensures numbers { IfOk result (λ end. (p : Part) → IsListing p → row (take at bytes.old) ≡ p → row (take end bytes.new) ≡ with_list p numbers.now) }
 {
     let mut end = at;
     let mut last = 0;
-    for hint in hints {
-        let hint = *hint;
-        if hint > MAX_HINT {
+    for number in numbers {
+        let number = *number;
+        if number > MAX_HINT {
             return Err(AllocError);
         }
-        end = place_number(hint_number(last, hint), bytes, end);
-        last = hint;
+        end = place_number(hint_number(last, number), bytes, end);
+        last = number;
     }
     Ok(place_number(0, bytes, end))
 }
@@ -111,16 +111,18 @@ fn place_hints(hints: &[u64], bytes: &mut [u8], at: usize) -> Result<usize, Allo
 pub(crate) fn place_line(
     clause: &[Lit],
     hints: &[u64],
+    forgets: &[u64],
     bytes: &mut [u8],
     at: usize,
 ) -> Result<usize, AllocError>
-    requires room { at + 5 * length clause.now + 10 * length hints.now + 20 ≤ length bytes.old }
+    requires room { at + 5 * length clause.now + 10 * length hints.now + 10 * length forgets.now + 30 ≤ length bytes.old }
     ensures within { IfOk result (λ end. (at < end) × (end ≤ length bytes.new)) }
     ensures front { take at bytes.new ≡ take at bytes.old }
     ensures line { IfOk result (λ end. (lines : List Line) → row (take at bytes.old) ≡ whole lines →
-        row (take end bytes.new) ≡ whole (lines ++ record { clause = clause.now; hints = hints.now } ∷ [])) }
+        row (take end bytes.new) ≡ whole (lines ++ record { clause = clause.now; hints = hints.now; forgets = forgets.now } ∷ [])) }
 {
-    let middle = place_clause(clause, bytes, at);
-    let end = place_hints(hints, bytes, middle)?;
+    let behind_clause = place_clause(clause, bytes, at);
+    let behind_hints = place_numbers(hints, bytes, behind_clause)?;
+    let end = place_numbers(forgets, bytes, behind_hints)?;
     Ok(end)
 }

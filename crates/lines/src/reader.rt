@@ -1,9 +1,8 @@
 //! Lines of a row, read one after the other.
 ghost use Rattle.std.specs.Prelude.{◌≡◌, ◌<◌, ◌≤◌, ◌∷◌, [], ℕ, false, List, length, drop, IfOk, OnErr};
-ghost use Rattle.theory.specs.Literals.{Literal};
 ghost use Rattle.theory.specs.Learning.{Line};
 ghost use Rattle.lines.specs.Rows as rows;
-ghost use Rattle.lines.specs.Rows.{Part, row, whole, with_bytes, with_number, clause_part, hints_part, IsBetween, IsWhole, IsNextOf};
+ghost use Rattle.lines.specs.Rows.{Part, row, whole, with_bytes, with_number, clause_part, hints_part, with_list, IsListing, IsBetween, IsWhole, IsNextOf};
 
 use crate::coding::{code_behind, hint_behind, literal_at};
 use crate::row::Row;
@@ -93,26 +92,25 @@ fn read_clause(bytes: &[u8], at: usize, clause: &mut Vec<Lit>) -> Result<usize, 
     }
 }
 
-/// The hints of a line whose clause ends before a place, behind an empty list; the place behind
-/// them.
-fn read_hints(bytes: &[u8], at: usize, hints: &mut Vec<u64>) -> Result<usize, AllocError>
+/// The numbers of clauses at a place, behind an empty list: the hints of a line whose clause ends
+/// there, or what one forgets whose hints do; the place behind them.
+fn read_numbers(bytes: &[u8], at: usize, numbers: &mut Vec<u64>) -> Result<usize, AllocError>
     requires inside { at < length bytes.now }
-    requires whole { (clause : List Literal) × (lines : List Line) × (with_bytes (hints_part [] clause [] 0) (drop at bytes.now) ≡ whole lines) }
-    requires empty { hints.old.items ≡ [] }
+    requires whole { (p : Part) × IsListing p × (lines : List Line) × (with_bytes p (drop at bytes.now) ≡ whole lines) }
+    requires empty { numbers.old.items ≡ [] }
     ensures inside { IfOk result (λ end. (at < end) × (end ≤ length bytes.now)) }
-    ensures hints { IfOk result (λ end. (clause : List Literal) → with_bytes (hints_part [] clause [] 0) (drop at bytes.now)
-        ≡ with_bytes (whole (record { clause = clause; hints = hints.new.items } ∷ [])) (drop end bytes.now)) }
+    ensures numbers { IfOk result (λ end. (p : Part) → IsListing p → with_bytes p (drop at bytes.now) ≡ with_bytes (with_list p numbers.new.items) (drop end bytes.now)) }
 {
     let mut end = at;
     let mut last = 0;
-    'hints: loop {
+    'numbers: loop {
         let number = read_number(bytes, end);
         end = number.end;
         if number.value == 0 {
             return Ok(end);
         }
         last = hint_behind(last, number.value);
-        put_last(hints, last)?;
+        put_last(numbers, last)?;
     }
 }
 
@@ -122,17 +120,20 @@ pub(crate) fn read_line(
     at: usize,
     clause: &mut Vec<Lit>,
     hints: &mut Vec<u64>,
+    forgets: &mut Vec<u64>,
 ) -> Result<usize, AllocError>
     requires inside { at < length bytes.now }
     requires whole { IsWhole (drop at bytes.now) }
     ensures inside { IfOk result (λ end. end ≤ length bytes.now) }
     ensures whole { IfOk result (λ end. IsWhole (drop end bytes.now)) }
-    ensures line { IfOk result (λ end. (row (drop at bytes.now)).lines ≡ record { clause = clause.new.items; hints = hints.new.items } ∷ (row (drop end bytes.now)).lines) }
+    ensures line { IfOk result (λ end. (row (drop at bytes.now)).lines ≡ record { clause = clause.new.items; hints = hints.new.items; forgets = forgets.new.items } ∷ (row (drop end bytes.now)).lines) }
 {
     clause.clear();
     hints.clear();
-    let middle = read_clause(bytes, at, clause)?;
-    let end = read_hints(bytes, middle, hints)?;
+    forgets.clear();
+    let behind_clause = read_clause(bytes, at, clause)?;
+    let behind_hints = read_numbers(bytes, behind_clause, hints)?;
+    let end = read_numbers(bytes, behind_hints, forgets)?;
     Ok(end)
 }
 
@@ -156,16 +157,21 @@ impl Reader {
         self.left
     }
 
-    /// Reads the next line into two lists, which are cleared before; it answers whether there was
+    /// Reads the next line into three lists, which are cleared before; it answers whether there was
     /// one. It fails where a request for memory is refused: the line is then still to be read.
-    pub fn next(&mut self, clause: &mut Vec<Lit>, hints: &mut Vec<u64>) -> Result<bool, AllocError>
-        ensures line { IfOk result (λ more. IsNextOf self.old self.new (record { clause = clause.new.items; hints = hints.new.items }) more) }
+    pub fn next(
+        &mut self,
+        clause: &mut Vec<Lit>,
+        hints: &mut Vec<u64>,
+        forgets: &mut Vec<u64>,
+    ) -> Result<bool, AllocError>
+        ensures line { IfOk result (λ more. IsNextOf self.old self.new (record { clause = clause.new.items; hints = hints.new.items; forgets = forgets.new.items }) more) }
         ensures refused { OnErr result (self.new ≡ self.old) }
     {
         if self.left == 0 {
             return Ok(false);
         }
-        self.at = read_line(&self.bytes, self.at, clause, hints)?;
+        self.at = read_line(&self.bytes, self.at, clause, hints, forgets)?;
         self.left -= 1;
         Ok(true)
     }

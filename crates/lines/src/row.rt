@@ -16,7 +16,7 @@ use std::mem;
 const COPIED: usize = 1 << 16;
 
 /// Lines of a refuted cube in the order in which they were learnt, one behind the other as bytes: a
-/// clause by the distances of its literals, hints by theirs. It takes about two fifths of what the
+/// clause by the distances of its literals, hints and forgotten clauses by those of their numbers. It takes about two fifths of what the
 /// lines take as text, and no request for memory a line but where it has to grow.
 #[derive(Drop)]
 pub struct Row {
@@ -25,8 +25,8 @@ pub struct Row {
     count: usize,
     // the most literals that a line has
     literals: usize,
-    // the most hints
-    hints: usize,
+    // the length of the longest list of numbers
+    numbers: usize,
 }
 
 impl Model for Row {
@@ -39,7 +39,7 @@ impl Model for Row {
     ghost view = { λ a. (row a.bytes.items).lines };
 
     ghost invariant = { λ a. IsWhole a.bytes.items × (a.count ≡ length (row a.bytes.items).lines)
-        × AreWithin a.literals a.hints (row a.bytes.items).lines };
+        × AreWithin a.literals a.numbers (row a.bytes.items).lines };
 }
 
 /// Takes so many bytes away from the front. The others move there, in the same memory.
@@ -61,7 +61,7 @@ impl Row {
             bytes: Vec::new(alloc),
             count: 0,
             literals: 0,
-            hints: 0,
+            numbers: 0,
         }
     }
 
@@ -73,7 +73,7 @@ impl Row {
             bytes: Vec::from_slice(self.allocator(), &self.bytes)?,
             count: self.count,
             literals: self.literals,
-            hints: self.hints,
+            numbers: self.numbers,
         })
     }
 
@@ -90,19 +90,19 @@ impl Row {
         Ok(mem::replace(self, Row::new(alloc)))
     }
 
-    /// Puts a line behind the others. It fails where a request for memory is refused, and for a
-    /// hint above 9,223,372,036,854,775,807, which no proof can name; the lines are then as they
-    /// were.
-    pub fn push(&mut self, clause: &[Lit], hints: &[u64]) -> Result<(), AllocError>
-        ensures ok { OnOk result (self.new ≡ self.old ++ record { clause = clause.now; hints = hints.now } ∷ []) }
+    /// Puts a line behind the others, with the numbers of the clauses that are forgotten behind it.
+    /// It fails where a request for memory is refused, and for a number above
+    /// 9,223,372,036,854,775,807, which no proof can name; the lines are then as they were.
+    pub fn push(&mut self, clause: &[Lit], hints: &[u64], forgets: &[u64]) -> Result<(), AllocError>
+        ensures ok { OnOk result (self.new ≡ self.old ++ record { clause = clause.now; hints = hints.now; forgets = forgets.now } ∷ []) }
         ensures err { OnErr result (self.new ≡ self.old) }
     {
         let end = self.bytes.len();
-        match push_line(&mut self.bytes, clause, hints) {
+        match push_line(&mut self.bytes, clause, hints, forgets) {
             Ok(()) => {
                 self.count += 1;
                 self.literals = self.literals.max(clause.len());
-                self.hints = self.hints.max(hints.len());
+                self.numbers = self.numbers.max(hints.len()).max(forgets.len());
                 Ok(())
             }
             Err(error) => {
@@ -119,7 +119,7 @@ impl Row {
         self.bytes.clear();
         self.count = 0;
         self.literals = 0;
-        self.hints = 0;
+        self.numbers = 0;
     }
 
     /// How many lines there are.
@@ -148,11 +148,11 @@ impl Row {
         self.literals
     }
 
-    /// No line has more hints.
-    pub fn most_hints(&self) -> usize
-        ensures { All (λ l. length l.hints ≤ result) self.now }
+    /// No line has more hints, and none forgets more clauses.
+    pub fn most_numbers(&self) -> usize
+        ensures { All (λ l. (length l.hints ≤ result) × (length l.forgets ≤ result)) self.now }
     {
-        self.hints
+        self.numbers
     }
 
     /// Where the lines' memory comes from.
@@ -160,18 +160,19 @@ impl Row {
         *self.bytes.allocator()
     }
 
-    /// The row of bytes that are whole lines: so many, none with more literals or hints.
-    pub(crate) fn of(bytes: Vec<u8>, count: usize, literals: usize, hints: usize) -> Row
+    /// The row of bytes that are whole lines: so many, none with more literals or a longer list of
+    /// numbers.
+    pub(crate) fn of(bytes: Vec<u8>, count: usize, literals: usize, numbers: usize) -> Row
         requires whole { IsWhole bytes.items }
         requires count { count ≡ length (row bytes.items).lines }
-        requires within { AreWithin literals hints (row bytes.items).lines }
+        requires within { AreWithin literals numbers (row bytes.items).lines }
         ensures { result ≡ (row bytes.items).lines }
     {
         Row {
             bytes,
             count,
             literals,
-            hints,
+            numbers,
         }
     }
 
@@ -185,25 +186,26 @@ impl Row {
         if !scan.is_whole() {
             return None;
         }
-        let row = Row::of(bytes, scan.lines, scan.most_literals, scan.most_hints);
+        let row = Row::of(bytes, scan.lines, scan.most_literals, scan.most_numbers);
         Some(row)
     }
 
-    /// Takes the first line out, into two lists, which are cleared before; it answers whether there
+    /// Takes the first line out, into three lists, which are cleared before; it answers whether there
     /// was one. The others take its place, in the memory that they have. It fails where a request for
     /// memory is refused: the row is then as it was.
     pub fn take_first(
         &mut self,
         clause: &mut Vec<Lit>,
         hints: &mut Vec<u64>,
+        forgets: &mut Vec<u64>,
     ) -> Result<bool, AllocError>
-        ensures line { IfOk result (λ more. IsNextOf self.old self.new (record { clause = clause.new.items; hints = hints.new.items }) more) }
+        ensures line { IfOk result (λ more. IsNextOf self.old self.new (record { clause = clause.new.items; hints = hints.new.items; forgets = forgets.new.items }) more) }
         ensures refused { OnErr result (self.new ≡ self.old) }
     {
         if self.count == 0 {
             return Ok(false);
         }
-        let end = read_line(&self.bytes, 0, clause, hints)?;
+        let end = read_line(&self.bytes, 0, clause, hints, forgets)?;
         cut_front(&mut self.bytes, end);
         self.count -= 1;
         Ok(true)
@@ -221,7 +223,7 @@ impl Row {
     pub fn lines(&self) -> Cursor<'_>
         ensures { result ≡ self.now }
     {
-        Cursor::of(&self.bytes, self.count, self.literals, self.hints)
+        Cursor::of(&self.bytes, self.count, self.literals, self.numbers)
     }
 
     /// The bytes.

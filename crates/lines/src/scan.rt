@@ -1,27 +1,29 @@
 //! What any bytes come to, taken for a row: whether they are whole lines, and how many.
 ghost use Rattle.std.specs.Prelude.{◌≡◌, ℕ, ◌<◌, ◌≤◌, ◌^◌, ◌+◌, ◌↔◌, IsTrue, [], length, false};
-ghost use Rattle.lines.specs.Rows.{Part, row, whole, with_number, with_byte, IsBetween};
+ghost use Rattle.lines.specs.Rows.{Part, row, whole, with_number, with_byte, at_zero, IsBetween};
 ghost use Rattle.lines.specs.Scanning.{IsScanOf, IsSmall};
 
 use crate::reader::with_bits;
+use crate::section::Section;
 
 /// What the bytes so far come to.
 #[derive(Clone, Copy)]
 pub(crate) struct Scan {
     // how many lines are whole
     pub(crate) lines: usize,
-    // how many literals and hints the line has that is begun
+    // how long the lists of the line are that is begun
     literals: usize,
     hints: usize,
-    // whether its clause is whole
-    in_hints: bool,
+    forgets: usize,
+    // and in which of them it is
+    section: Section,
     // the value of the number that is begun, so far
     value: u64,
     // whether one is begun
     begun: bool,
-    // the most literals and hints that a whole line has
+    // the most literals that a whole line has, and the length of the longest list of numbers
     pub(crate) most_literals: usize,
-    pub(crate) most_hints: usize,
+    pub(crate) most_numbers: usize,
 }
 
 impl Scan {
@@ -34,11 +36,33 @@ impl Scan {
             lines: 0,
             literals: 0,
             hints: 0,
-            in_hints: false,
+            forgets: 0,
+            section: Section::Literals,
             value: 0,
             begun: false,
             most_literals: 0,
-            most_hints: 0,
+            most_numbers: 0,
+        }
+    }
+
+    /// Goes behind the end of a list.
+    fn end_list(&mut self)
+        requires { IsSmall (2 ^ 63) self.old }
+        ensures scan { (p : Part) → IsBetween p → IsScanOf self.old p → IsScanOf self.new (at_zero p.section p) }
+        ensures small { (n : ℕ) → IsSmall n self.old → IsSmall (n + 1) self.new }
+    {
+        match self.section {
+            Section::Literals => self.section = Section::Hints,
+            Section::Hints => self.section = Section::Forgotten,
+            Section::Forgotten => {
+                self.lines += 1;
+                self.most_literals = self.most_literals.max(self.literals);
+                self.most_numbers = self.most_numbers.max(self.hints).max(self.forgets);
+                self.literals = 0;
+                self.hints = 0;
+                self.forgets = 0;
+                self.section = Section::Literals;
+            }
         }
     }
 
@@ -49,18 +73,13 @@ impl Scan {
         ensures small { (n : ℕ) → IsSmall n self.old → IsSmall (n + 1) self.new }
     {
         if number == 0 {
-            if self.in_hints {
-                self.lines += 1;
-                self.most_literals = self.most_literals.max(self.literals);
-                self.most_hints = self.most_hints.max(self.hints);
-                self.literals = 0;
-                self.hints = 0;
-            }
-            self.in_hints = !self.in_hints;
-        } else if self.in_hints {
-            self.hints += 1;
-        } else {
-            self.literals += 1;
+            self.end_list();
+            return;
+        }
+        match self.section {
+            Section::Literals => self.literals += 1,
+            Section::Hints => self.hints += 1,
+            Section::Forgotten => self.forgets += 1,
         }
     }
 
@@ -98,6 +117,6 @@ impl Scan {
     pub(crate) fn is_whole(&self) -> bool
         ensures { (p : Part) → IsScanOf self.now p → (IsTrue result ↔ (p ≡ whole p.lines)) }
     {
-        !self.in_hints && self.literals == 0 && !self.begun
+        self.section == Section::Literals && self.literals == 0 && !self.begun
     }
 }

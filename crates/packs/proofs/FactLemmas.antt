@@ -23,7 +23,7 @@ claim-same Model Model h k = refl
 -- lines are those of one fact at most
 pub fact-same : (f g : Fact) → lines_of f ≡ lines_of g → f ≡ g
 fact-same f g e =
-    let head : Fact → Line = λ (h : Fact). record { clause = h.cube; hints = hints_of h.claim } in
+    let head : Fact → Line = λ (h : Fact). record { clause = h.cube; hints = hints_of h.claim; forgets = [] } in
     let heads : head f ≡ head g = cc in
     let behinds : lines_behind f.claim ≡ lines_behind g.claim = cc in
     let claims : f.claim ≡ g.claim = claim-same f.claim g.claim (ap (λ (l : Line). l.hints) heads) behinds in

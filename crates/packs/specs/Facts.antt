@@ -1,5 +1,5 @@
--- A fact of a cube as lines: the first one has the cube as its clause, and its hints say what is
--- said of the cube; behind it come the lines of a refuted one.
+-- A fact of a cube as lines: the first one has the cube as its clause, its hints say what is said of
+-- the cube, and it forgets nothing; behind it come the lines of a refuted one.
 use Rattle.std.specs.Prelude.{◌≡◌, ℕ, List, [], ◌∷◌}
 use Rattle.theory.specs.Literals.{IsVariable, IsCube}
 use Rattle.theory.specs.Truth.{IsOver}
@@ -21,7 +21,7 @@ lines_behind (Refuted lines) = lines
 lines_behind Model = []
 
 abbrev pub lines_of : Fact → List Line
-lines_of f = record { clause = f.cube; hints = hints_of f.claim } ∷ lines_behind f.claim
+lines_of f = record { clause = f.cube; hints = hints_of f.claim; forgets = [] } ∷ lines_behind f.claim
 
 -- the bytes are whole lines, and those of the fact
 pub record IsBody (bytes : List ℕ) (f : Fact) : Type 0 where

@@ -105,7 +105,8 @@ impl FactReader {
         };
         let mut literals = Vec::new(self.alloc);
         let mut hints = Vec::new(self.alloc);
-        if !lines.take_first(&mut literals, &mut hints)? {
+        let mut forgets = Vec::new(self.alloc);
+        if !lines.take_first(&mut literals, &mut hints, &mut forgets)? || !forgets.is_empty() {
             return Ok(None);
         }
         let Some(claim) = claim_of(self.held.vars(), &hints, lines) else {

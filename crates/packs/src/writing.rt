@@ -11,14 +11,14 @@ use std::alloc::{AllocError, Global};
 
 /// The first line of a fact, as a row.
 fn first_line(alloc: Global, fact: &Fact) -> Result<Row, AllocError>
-    ensures { IfOk result (λ r. r ≡ record { clause = fact.now.cube; hints = hints_of fact.now.claim } ∷ []) }
+    ensures { IfOk result (λ r. r ≡ record { clause = fact.now.cube; hints = hints_of fact.now.claim; forgets = [] } ∷ []) }
 {
     let mut row = Row::new(alloc);
     let cube = fact.cube.lits();
     match &fact.claim {
-        Claim::Split(var) => row.push(cube, &[1, u64::from(*var)])?,
-        Claim::Refuted(_) => row.push(cube, &[2])?,
-        Claim::Model => row.push(cube, &[3])?,
+        Claim::Split(var) => row.push(cube, &[1, u64::from(*var)], &[])?,
+        Claim::Refuted(_) => row.push(cube, &[2], &[])?,
+        Claim::Model => row.push(cube, &[3], &[])?,
     }
     Ok(row)
 }

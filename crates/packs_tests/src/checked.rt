@@ -72,7 +72,7 @@ fn fact_of(alloc: Global, case: &Case) -> Result<Fact, AllocError> {
         Said::Refuted(hints) => {
             let no_literals: [Lit; 0] = [];
             let mut row = Row::new(alloc);
-            row.push(&no_literals, hints)?;
+            row.push(&no_literals, hints, &[])?;
             Claim::Refuted(row)
         }
         Said::Model => Claim::Model,

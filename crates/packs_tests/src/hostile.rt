@@ -7,32 +7,44 @@ use std::test::Fail;
 /// A name, the body of a fact, and whether it is one, over the variables 1 to 3.
 type Body<'a> = (&'a str, &'a [u8], bool);
 
-static BODIES: [Body; 19] = [
-    ("a model", &[0, 6, 0], true),
-    ("a split on 3", &[0, 2, 4, 0], true),
-    ("a refutation by no line", &[3, 0, 4, 0], true),
+static BODIES: [Body; 23] = [
+    ("a model", &[0, 6, 0, 0], true),
+    ("a split on 3", &[0, 2, 4, 0, 0], true),
+    ("a refutation by no line", &[3, 0, 4, 0, 0], true),
     ("no line", &[], false),
     ("a line that isn't whole", &[0, 6], false),
+    ("a line without what it forgets", &[0, 6, 0], false),
     ("a number that isn't whole", &[0, 6, 0, 128], false),
-    ("no hints", &[0, 0], false),
-    ("the kind 0", &[0, 1, 0], false),
-    ("the kind 4", &[0, 8, 0], false),
-    ("a split on nothing", &[0, 2, 0], false),
-    ("a split on 0", &[0, 2, 3, 0], false),
-    ("a split on 4", &[0, 2, 6, 0], false),
-    ("a split on two variables", &[0, 2, 4, 4, 0], false),
-    ("a split with a line behind it", &[0, 2, 4, 0, 0, 0], false),
-    ("a model with a line behind it", &[0, 6, 0, 0, 0], false),
-    ("a refutation with a second hint", &[0, 4, 2, 0], false),
-    ("a cube with the variable 4", &[9, 0, 6, 0], false),
+    ("no hints", &[0, 0, 0], false),
+    ("the kind 0", &[0, 1, 0, 0], false),
+    ("the kind 4", &[0, 8, 0, 0], false),
+    ("a split on nothing", &[0, 2, 0, 0], false),
+    ("a split on 0", &[0, 2, 3, 0, 0], false),
+    ("a split on 4", &[0, 2, 6, 0, 0], false),
+    ("a split on two variables", &[0, 2, 4, 4, 0, 0], false),
+    (
+        "a split with a line behind it",
+        &[0, 2, 4, 0, 0, 0, 0, 0],
+        false,
+    ),
+    ("a split that forgets", &[0, 2, 4, 0, 2, 0], false),
+    (
+        "a model with a line behind it",
+        &[0, 6, 0, 0, 0, 0, 0],
+        false,
+    ),
+    ("a model that forgets", &[0, 6, 0, 2, 0], false),
+    ("a refutation with a second hint", &[0, 4, 2, 0, 0], false),
+    ("a refutation that forgets", &[3, 0, 4, 0, 2, 0], false),
+    ("a cube with the variable 4", &[9, 0, 6, 0, 0], false),
     (
         "a cube with 1 twice",
-        &[3, 144, 128, 128, 128, 0, 0, 6, 0],
+        &[3, 144, 128, 128, 128, 0, 0, 6, 0, 0],
         false,
     ),
     (
         "a cube with 1 and -1",
-        &[3, 143, 255, 255, 255, 127, 0, 6, 0],
+        &[3, 143, 255, 255, 255, 127, 0, 6, 0, 0],
         false,
     ),
 ];
@@ -60,25 +72,30 @@ type Bytes<'a> = (&'a [u8], usize, u64, bool);
 
 static PACKS: [Bytes; 8] = [
     (&[], 0, 0, true),
-    (&[3], 0, 0, false),
-    (&[3, 0, 0, 0, 0, 0, 0, 0, 0, 6], 0, 0, false),
-    (&[3, 0, 0, 0, 0, 0, 0, 0, 0, 6, 0], 1, 0, true),
+    (&[4], 0, 0, false),
+    (&[4, 0, 0, 0, 0, 0, 0, 0, 0, 6, 0], 0, 0, false),
+    (&[4, 0, 0, 0, 0, 0, 0, 0, 0, 6, 0, 0], 1, 0, true),
     (&[0, 0, 0, 0, 0, 0, 0, 0], 0, 1, true),
     (
-        &[255, 255, 255, 255, 255, 255, 255, 255, 0, 6, 0],
+        &[255, 255, 255, 255, 255, 255, 255, 255, 0, 6, 0, 0],
         0,
         0,
         false,
     ),
     (
         &[
-            2, 0, 0, 0, 0, 0, 0, 0, 7, 7, 3, 0, 0, 0, 0, 0, 0, 0, 0, 6, 0,
+            2, 0, 0, 0, 0, 0, 0, 0, 7, 7, 4, 0, 0, 0, 0, 0, 0, 0, 0, 6, 0, 0,
         ],
         1,
         1,
         true,
     ),
-    (&[3, 0, 0, 0, 0, 0, 0, 0, 0, 6, 0, 3, 0, 0, 0], 1, 0, false),
+    (
+        &[4, 0, 0, 0, 0, 0, 0, 0, 0, 6, 0, 0, 4, 0, 0, 0],
+        1,
+        0,
+        false,
+    ),
 ];
 
 #[test]
@@ -99,7 +116,7 @@ fn long_cube(alloc: Global, vars: usize) -> Result<Vec<u8>, AllocError> {
     if !body.is_empty() {
         body[0] = 3;
     }
-    body.extend_from_slice(&[0, 6, 0])?;
+    body.extend_from_slice(&[0, 6, 0, 0])?;
     Ok(body)
 }
 

@@ -7,17 +7,18 @@ use samples::{cube_of, reads};
 use std::alloc::{AllocError, Global};
 use std::test::Fail;
 
-/// A split on 2, a refutation by one line, and a model.
-static BYTES: [u8; 42] = [
-    6, 0, 0, 0, 0, 0, 0, 0, 3, 3, 0, 2, 2, 0, //
-    9, 0, 0, 0, 0, 0, 0, 0, 4, 0, 4, 0, 3, 0, 2, 2, 0, //
-    3, 0, 0, 0, 0, 0, 0, 0, 0, 6, 0,
+/// A split on 2, a refutation by two lines, and a model.
+static BYTES: [u8; 51] = [
+    7, 0, 0, 0, 0, 0, 0, 0, 3, 3, 0, 2, 2, 0, 0, //
+    16, 0, 0, 0, 0, 0, 0, 0, 4, 0, 4, 0, 0, 3, 0, 2, 2, 0, 0, 0, 6, 0, 10, 0, //
+    4, 0, 0, 0, 0, 0, 0, 0, 0, 6, 0, 0,
 ];
 
-/// The line `1` by the clauses 1 and 2.
+/// The line `1` by the clauses 1 and 2, and the empty one by 3, which forgets clause 5.
 fn row(alloc: Global) -> Result<Row, AllocError> {
     let mut row = Row::new(alloc);
-    row.push(&[Lit::of(1, true)], &[1, 2])?;
+    row.push(&[Lit::of(1, true)], &[1, 2], &[])?;
+    row.push(&[], &[3], &[5])?;
     Ok(row)
 }
 
@@ -48,7 +49,7 @@ fn has_all(pack: &Pack) -> bool {
     }
     let split = matches!(&pack.facts[0].claim, Claim::Split(2));
     let refuted = match &pack.facts[1].claim {
-        Claim::Refuted(row) => row.bytes() == [3, 0, 2, 2, 0].as_slice(),
+        Claim::Refuted(row) => row.bytes() == [3, 0, 2, 2, 0, 0, 0, 6, 0, 10, 0].as_slice(),
         _ => false,
     };
     let model = matches!(&pack.facts[2].claim, Claim::Model);

@@ -6,9 +6,13 @@ use Rattle.theory.specs.Pure.{unit_clauses}
 use Rattle.theory.specs.Checking.{Taken, conflicts, holds, fails}
 use Rattle.lrat.specs.Assumed.{AreSame}
 
--- the formula's, then those of the units, then those of the lines so far
+-- the formula's, then those of the units
+abbrev pub begun : Formula → List Literal → List Clause
+begun F units = F.clauses ++ unit_clauses units
+
+-- the same, then those of the lines so far
 abbrev pub known : Formula → List Literal → List Clause → List Clause
-known F units lines = (F.clauses ++ unit_clauses units) ++ lines
+known F units lines = begun F units ++ lines
 
 -- the clause of a number, from 1 on, if there is one
 abbrev pub numbered : List Clause → ℕ → Option Clause

@@ -1,3 +1,4 @@
+pub mod Forgotten
 pub mod Known
 pub mod Opened
 pub mod Replayed

@@ -3,6 +3,7 @@
 //! that a search may make.
 #![tactic(auto)]
 
+mod forgotten;
 mod holding;
 mod known;
 mod line_clauses;

@@ -1,12 +1,13 @@
 //! One line of a cube, and lines one behind the other.
-ghost use Rattle.std.specs.Prelude.{◌≡◌, ◌↔◌, ℕ, List, ◌++◌, [], All, IsTrue, IfOk, true};
+ghost use Rattle.std.specs.Prelude.{◌≡◌, ◌↔◌, ◌≤◌, ℕ, List, [], All, IsTrue, IfOk, length, true};
 ghost use Rattle.theory.specs.Literals.{Literal};
 ghost use Rattle.theory.specs.Truth.{IsOver};
-ghost use Rattle.theory.specs.Pure.{unit_clauses};
 ghost use Rattle.theory.specs.Replaying.{IsReplayed, AreRefutation};
 ghost use Rattle.lrat.specs.Held.{Extends};
-ghost use Rattle.replay.specs.Known.{known, IsHolding};
+ghost use Rattle.replay.specs.Known.{begun, known, IsHolding};
+ghost use Rattle.replay.specs.Replayed as replayed;
 
+use crate::forgotten::Forgotten;
 use crate::holding::{hold, is_over, negate};
 use crate::line_clauses::LineClauses;
 use crate::taking::come_to_conflict;
@@ -28,8 +29,8 @@ fn passes(
     requires vars { held.old.vars ≡ formula.now.vars }
     requires units { IsOver formula.now.vars units.now }
     requires lines { All (IsOver formula.now.vars) lines.now }
-    ensures passes { IfOk result (λ b. (N : ℕ) (Q : List Literal) → IsOver formula.now.vars Q → IsHolding Q held.old.literals →
-        (IsTrue b ↔ IsReplayed formula.now.vars N Q (known formula.now units.now lines.now) (record { clause = clause.now; hints = hints.now }))) }
+    ensures passes { IfOk result (λ b. (N : ℕ) (Q : List Literal) (forgets : List ℕ) → IsOver formula.now.vars Q → IsHolding Q held.old.literals →
+        (IsTrue b ↔ IsReplayed formula.now.vars N Q (known formula.now units.now lines.now) (record { clause = clause.now; hints = hints.now; forgets = forgets }))) }
     ensures over { IfOk result (λ b. b ≡ true → IsOver formula.now.vars clause.now) }
     ensures extends { Extends held.old.literals held.new.literals }
     ensures vars { held.new.vars ≡ held.old.vars }
@@ -44,8 +45,15 @@ fn passes(
     Ok(conflict)
 }
 
-/// Whether the lines of a row replay as a refutation of a cube. What is held true and the clauses
-/// of the lines are left as they come.
+/// Whether a line may be the last one: its clause is empty, and it forgets nothing.
+fn is_end(clause: &[Lit], forgets: &[u64]) -> bool
+    ensures { result ≡ replayed.is_end clause.now forgets.now }
+{
+    clause.is_empty() && forgets.is_empty()
+}
+
+/// Whether the lines of a row replay as a refutation of a cube, also where what they forget is
+/// deleted. What is held true and the clauses of the lines are left as they come.
 pub(crate) fn refute(
     held: &mut Held,
     lines: &mut LineClauses,
@@ -58,8 +66,9 @@ pub(crate) fn refute(
     requires none { held.old.literals ≡ [] }
     requires no_lines { lines.old ≡ [] }
     requires units { IsOver formula.now.vars units.now }
-    ensures refutes { IfOk result (λ b. (N : ℕ) →
-        (IsTrue b ↔ AreRefutation formula.now.vars N cube.now (formula.now.clauses ++ unit_clauses units.now) row.now)) }
+    requires few { length units.now ≤ formula.now.vars }
+    ensures refutes { IfOk result (λ b. IsTrue b ↔
+        AreRefutation formula.now.vars (length (begun formula.now units.now)) cube.now (begun formula.now units.now) row.now) }
     ensures vars { held.new.vars ≡ held.old.vars }
 {
     let literals = cube.lits();
@@ -71,16 +80,22 @@ pub(crate) fn refute(
     let mut left = row.lines();
     let mut clause = Vec::new(row.allocator());
     let mut hints = Vec::new(row.allocator());
+    let mut forgets = Vec::new(row.allocator());
+    let first = formula.clause_count() + units.len();
+    let mut forgotten = Forgotten::behind(row.allocator(), first as u64);
     let mut ends = false;
     'lines: loop {
-        if !left.next(&mut clause, &mut hints)? {
+        if !left.next(&mut clause, &mut hints, &mut forgets)? {
             return Ok(ends);
+        }
+        if !forgotten.add_line(&hints, &forgets)? {
+            return Ok(false);
         }
         if !passes(held, formula, units, lines, &clause, &hints)? {
             return Ok(false);
         }
         held.go_back(count);
         lines.push(&clause)?;
-        ends = clause.is_empty();
+        ends = is_end(&clause, &forgets);
     }
 }

@@ -51,7 +51,8 @@ impl Replayer {
 
     /// Whether the lines of a row replay as a refutation of a cube, over the clauses that a search
     /// of the formula begins with: each line's clause with the negations of the cube's literals
-    /// passes by its hints, and the last one's is empty. The row and the cube may be any. It takes
+    /// passes by its hints, and the last one's is empty; no hint names a line that is forgotten, and
+    /// only lines before are, each once, behind the last one none. The row and the cube may be any. It takes
     /// time by the literals of the cube, of the lines and of the clauses that hints name, and none
     /// by the formula. It fails where a request for memory is refused, and can be asked again.
     pub fn replays(&mut self, formula: &Formula, cube: &Cube, row: &Row) -> Result<bool, AllocError>

@@ -13,22 +13,48 @@ use std::test::Fail;
 use strategies::Strategy;
 
 /// The cube without literals is split on 1, or on 2, or on 3.
-const SPLIT_1: &[u8] = &[0, 2, 1, 0];
+const SPLIT_1: &[u8] = &[0, 2, 1, 0, 0];
 
-const SPLIT_2: &[u8] = &[0, 2, 2, 0];
+const SPLIT_2: &[u8] = &[0, 2, 2, 0, 0];
 
-const SPLIT_3: &[u8] = &[0, 2, 4, 0];
+const SPLIT_3: &[u8] = &[0, 2, 4, 0, 0];
 
 /// The cube without literals has a model.
-const MODEL: &[u8] = &[0, 6, 0];
+const MODEL: &[u8] = &[0, 6, 0, 0];
 
 /// The empty clause refutes the cube -1, with the hints 1 and 2, and the cube 1, with 3 and 4.
-const LEFT: &[u8] = &[2, 0, 4, 0, 0, 2, 2, 0];
+const LEFT: &[u8] = &[2, 0, 4, 0, 0, 0, 2, 2, 0, 0];
 
-const RIGHT: &[u8] = &[3, 0, 4, 0, 0, 6, 2, 0];
+const RIGHT: &[u8] = &[3, 0, 4, 0, 0, 0, 6, 2, 0, 0];
 
 /// The cube -1 again, with the hints of the other one.
-const WRONG_LEFT: &[u8] = &[2, 0, 4, 0, 0, 6, 2, 0];
+const WRONG_LEFT: &[u8] = &[2, 0, 4, 0, 0, 0, 6, 2, 0, 0];
+
+/// The root is refuted by three lines: `1` by 1 and 2, `-2` by 2 and 4, behind which the first one is
+/// forgotten, and the empty clause by 6, 1 and 3.
+const FORGETS: &[u8] = &[
+    0, 4, 0, 0, 3, 0, 2, 2, 0, 0, 4, 0, 4, 4, 0, 10, 0, 0, 12, 11, 4, 0, 0,
+];
+
+const FORGETS_PROOF: &str = "5 1 0 1 2 0\n6 -2 0 2 4 0\n6 d 5 0\n7 0 6 1 3 0\n";
+
+/// The cube -1: `2` by 1, three times, and behind the second one the first is forgotten; the empty
+/// clause by 6 and 2. The cube 1: `2` by 3, twice, and so; the empty clause by 6 and 4.
+const LEFT_FORGETS: &[u8] = &[
+    2, 0, 4, 0, 0, 5, 0, 2, 0, 0, 5, 0, 2, 0, 10, 0, 5, 0, 2, 0, 0, 0, 12, 9, 0, 0,
+];
+
+const RIGHT_FORGETS: &[u8] = &[
+    3, 0, 4, 0, 0, 5, 0, 6, 0, 0, 5, 0, 6, 0, 10, 0, 0, 12, 5, 0, 0,
+];
+
+const HALVES_FORGET: &str =
+    "5 2 1 0 1 0\n6 2 1 0 1 0\n6 d 5 0\n7 2 1 0 1 0\n8 1 0 6 2 0\n8 d 6 7 0\n9 2 -1 0 3 0\n10 2 -1 0 3 0\n10 d 9 0\n11 -1 0 10 4 0\n11 d 10 0\n12 0 8 11 0\n";
+
+/// The cube -1 by `2`, twice, and the empty clause by a line that is forgotten, and 2.
+const LEFT_BY_FORGOTTEN: &[u8] = &[
+    2, 0, 4, 0, 0, 5, 0, 2, 0, 0, 5, 0, 2, 0, 10, 0, 0, 10, 7, 0, 0,
+];
 
 /// What is written of `FOUR` by the focused search where it is split on 2, and where on 1: in each half
 /// propagation gives a literal, which has a line of its own.
@@ -58,7 +84,7 @@ struct Row {
     answer: &'static str,
 }
 
-static ROWS: [Row; 14] = [
+static ROWS: [Row; 17] = [
     Row {
         name: "no packs",
         text: FOUR,
@@ -124,7 +150,7 @@ static ROWS: [Row; 14] = [
         text: FOUR,
         search: Search::Ordered,
         packs: &[&[SPLIT_1, LEFT]],
-        behind: &[8, 0, 0, 0, 0, 0, 0, 0, 3, 0, 4, 0, 0, 6, 2],
+        behind: &[10, 0, 0, 0, 0, 0, 0, 0, 3, 0, 4, 0, 0, 0, 6, 2],
         read: [2, 0, 1],
         taken: 2,
         solved: 1,
@@ -136,6 +162,42 @@ static ROWS: [Row; 14] = [
         text: FOUR,
         search: Search::Ordered,
         packs: &[&[SPLIT_1, WRONG_LEFT, RIGHT]],
+        behind: &[],
+        read: [3, 0, 0],
+        taken: 2,
+        solved: 1,
+        proof: FOUR_PROOF,
+        answer: REFUTED,
+    },
+    Row {
+        name: "a line that is forgotten",
+        text: FOUR,
+        search: Search::Ordered,
+        packs: &[&[FORGETS]],
+        behind: &[],
+        read: [1, 0, 0],
+        taken: 1,
+        solved: 0,
+        proof: FORGETS_PROOF,
+        answer: REFUTED,
+    },
+    Row {
+        name: "lines of halves that are forgotten",
+        text: FOUR,
+        search: Search::Ordered,
+        packs: &[&[SPLIT_1, LEFT_FORGETS, RIGHT_FORGETS]],
+        behind: &[],
+        read: [3, 0, 0],
+        taken: 3,
+        solved: 0,
+        proof: HALVES_FORGET,
+        answer: REFUTED,
+    },
+    Row {
+        name: "a hint to a line that is forgotten",
+        text: FOUR,
+        search: Search::Ordered,
+        packs: &[&[SPLIT_1, LEFT_BY_FORGOTTEN, RIGHT]],
         behind: &[],
         read: [3, 0, 0],
         taken: 2,

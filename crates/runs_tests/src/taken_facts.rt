@@ -158,7 +158,7 @@ static CASES: [Case; 12] = [
 fn row_of(alloc: Global, hints: &[u64]) -> Result<Row, AllocError> {
     let clause: [Lit; 0] = [];
     let mut row = Row::new(alloc);
-    row.push(&clause, hints)?;
+    row.push(&clause, hints, &[])?;
     Ok(row)
 }
 

@@ -9,7 +9,7 @@ use Rattle.spread.specs.Sums.{sum_of}
 
 -- the first line of a run's packs, where the run's file has this sum
 abbrev pub head : List ℕ → List ℕ
-head sum = codes "cubesat pack 1 " ++ (sum ++ 10 ∷ [])
+head sum = codes "cubesat pack 2 " ++ (sum ++ 10 ∷ [])
 
 -- the name of a pack that holds these bytes
 abbrev pub pack_name : List ℕ → List ℕ

@@ -28,7 +28,7 @@ pub(crate) fn head_of(alloc: Global, run: &RunFile) -> Result<String, AllocError
     ensures { IfOk result (λ line. string_bytes line ≡ head (string_bytes run.now.sum)) }
 {
     let sum = run.sum.as_str();
-    format!(in alloc; "cubesat pack 1 {sum}\n")
+    format!(in alloc; "cubesat pack 2 {sum}\n")
 }
 
 /// The bytes of these facts, one behind the other.

@@ -136,7 +136,7 @@ pub(crate) fn run_text(
     };
     let limits = limits_name(limits);
     format!(in alloc;
-        "cubesat run 1\nsearch {search}\nbudget {budget}\ndivide {divide}\n{model}{end}limits {limits}\nformula {formula_sum}\n"
+        "cubesat run 2\nsearch {search}\nbudget {budget}\ndivide {divide}\n{model}{end}limits {limits}\nformula {formula_sum}\n"
     )
 }
 
@@ -173,7 +173,7 @@ struct Parts<'a> {
 
 /// What they say, if they are those of a run.
 fn parts_of<'a>(lines: &mut Lines<'a>) -> Option<Parts<'a>> {
-    if lines.next() != Some("cubesat run 1") {
+    if lines.next() != Some("cubesat run 2") {
         return None;
     }
     let plan = plan_in(lines)?;

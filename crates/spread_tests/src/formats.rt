@@ -25,17 +25,17 @@ static WRITTEN: [Step; 17] = [
     }),
     Step::Holds(
         "spread_files/run",
-        "cubesat run 1\nsearch ordered\nbudget 1\ndivide 0\nlimits standard\nformula bdcfed14408fb3f368fe82437336d283a9dedc953677460e9c7317724c5e1e58\n",
+        "cubesat run 2\nsearch ordered\nbudget 1\ndivide 0\nlimits standard\nformula bdcfed14408fb3f368fe82437336d283a9dedc953677460e9c7317724c5e1e58\n",
     ),
     Step::Holds("spread_files/formula.cnf", FOUR),
     Step::Holds("spread_files/rounds/0001", "-1 0\n1 0\n"),
     Step::Holds(
-        "spread_files/packs/836c2664794b48690962139c7aa97f05db3cdf470d9a2dcad12996fbee81fda7.pack",
-        "cubesat pack 1 d19bf49d5f1058235b91384ab4780f1ec9739997ff2f40e5c1dc7d0ed2489e06\n\x04\x00\x00\x00\x00\x00\x00\x00\x00\x02\x01\x00",
+        "spread_files/packs/9882258f53fb6186e891a63339c3d1cc9bc0c0c3243451bd701ab8df6dea0a21.pack",
+        "cubesat pack 2 b5e6728ad904468848b5c3a5d3964c51fa3852466d021153982a05f906a37e55\n\x05\x00\x00\x00\x00\x00\x00\x00\x00\x02\x01\x00\x00",
     ),
     Step::Put(
         "spread_files/packs/0.pack.part",
-        "cubesat pack 1 d19bf49d5f1058235b91384ab4780f1ec9739997ff2f40e5c1dc7d0ed2489e06\n\x04\x00\x00\x00\x00\x00\x00\x00\x00\x02\x01\x00",
+        "cubesat pack 2 b5e6728ad904468848b5c3a5d3964c51fa3852466d021153982a05f906a37e55\n\x05\x00\x00\x00\x00\x00\x00\x00\x00\x02\x01\x00\x00",
     ),
     Step::Ends(Row {
         words: &["cubesat", "divide", "--into", "spread_files"],
@@ -46,7 +46,7 @@ static WRITTEN: [Step; 17] = [
     Step::Holds("spread_files/rounds/0002", "-1 0\n1 0\n"),
     Step::Put(
         "spread_files/packs/0000000000000000000000000000000000000000000000000000000000000000.pack",
-        "cubesat pack 1 d19bf49d5f1058235b91384ab4780f1ec9739997ff2f40e5c1dc7d0ed2489e06\n\x04\x00\x00\x00\x00\x00\x00\x00\x00\x02\x01\x00",
+        "cubesat pack 2 b5e6728ad904468848b5c3a5d3964c51fa3852466d021153982a05f906a37e55\n\x05\x00\x00\x00\x00\x00\x00\x00\x00\x02\x01\x00\x00",
     ),
     Step::Ends(Row {
         words: &["cubesat", "divide", "--into", "spread_files"],
@@ -70,7 +70,7 @@ static WRITTEN: [Step; 17] = [
         "spread_files/packs/0000000000000000000000000000000000000000000000000000000000000000.pack",
     ),
     Step::Remove(
-        "spread_files/packs/836c2664794b48690962139c7aa97f05db3cdf470d9a2dcad12996fbee81fda7.pack",
+        "spread_files/packs/9882258f53fb6186e891a63339c3d1cc9bc0c0c3243451bd701ab8df6dea0a21.pack",
     ),
     Step::Ends(Row {
         words: &["cubesat", "divide", "--into", "spread_files"],
@@ -136,20 +136,20 @@ static ORDERED: [Step; 7] = [
         faults: "",
     }),
     Step::Put(
-        "spread_order/packs/5e6dc36c37651004ba556dd93a89eeb04b5327326e8a211f3ce58f8994ce20f8.pack",
-        "cubesat pack 1 d19bf49d5f1058235b91384ab4780f1ec9739997ff2f40e5c1dc7d0ed2489e06\n\x05\x00\x00\x00\x00\x00\x00\x00\x02\x00\x02\x02\x00\x05\x00\x00\x00\x00\x00\x00\x00\x02\x00\x02\x02\x00",
+        "spread_order/packs/dfc9114d9ec350a92ba32343ab4a3b3b8d48a71529d94250073bbfa5162a8b8d.pack",
+        "cubesat pack 2 b5e6728ad904468848b5c3a5d3964c51fa3852466d021153982a05f906a37e55\n\x06\x00\x00\x00\x00\x00\x00\x00\x02\x00\x02\x02\x00\x00",
     ),
     Step::Put(
-        "spread_order/packs/4103a9845b3641d355ac5092b65c8e83e55bfa1cb411b1478004c88e8c222ec7.pack",
-        "cubesat pack 1 d19bf49d5f1058235b91384ab4780f1ec9739997ff2f40e5c1dc7d0ed2489e06\n\x04\x00\x00\x00\x00\x00\x00\x00\x02\x00\x04\x00\x04\x00\x00\x00\x00\x00\x00\x00\x02\x00\x04\x00",
+        "spread_order/packs/59ae4811a2706335477cc1098af0d1f25044fba30842d9b73e1ba30a6323ced6.pack",
+        "cubesat pack 2 b5e6728ad904468848b5c3a5d3964c51fa3852466d021153982a05f906a37e55\n\x05\x00\x00\x00\x00\x00\x00\x00\x02\x00\x04\x00\x00",
     ),
     Step::Put(
-        "spread_order/packs/25c5a556dba7b13b858ceb842c8203cd94389704b58b698ab6b44d83033651b6.pack",
-        "cubesat pack 1 d19bf49d5f1058235b91384ab4780f1ec9739997ff2f40e5c1dc7d0ed2489e06\n\x05\x00\x00\x00\x00\x00\x00\x00\x03\x00\x02\x02\x00",
+        "spread_order/packs/b53be8d47bae4dbc2385030d97c4d1c3313e5982b3078e2025a369f7306fcd5f.pack",
+        "cubesat pack 2 b5e6728ad904468848b5c3a5d3964c51fa3852466d021153982a05f906a37e55\n\x06\x00\x00\x00\x00\x00\x00\x00\x03\x00\x02\x02\x00\x00",
     ),
     Step::Put(
-        "spread_order/packs/f8043e7cf3a25647ec805969d1ff477404322c0d700fd10822dd46327ea7cf5d.pack",
-        "cubesat pack 1 d19bf49d5f1058235b91384ab4780f1ec9739997ff2f40e5c1dc7d0ed2489e06\n\x04\x00\x00\x00\x00\x00\x00\x00\x03\x00\x04\x00",
+        "spread_order/packs/c567dea384fe30b5907a83678b6958404e0eb1260140ae731308fb9a9f313ec0.pack",
+        "cubesat pack 2 b5e6728ad904468848b5c3a5d3964c51fa3852466d021153982a05f906a37e55\n\x05\x00\x00\x00\x00\x00\x00\x00\x03\x00\x04\x00\x00",
     ),
     Step::Ends(Row {
         words: &["cubesat", "divide", "--into", "spread_order"],
@@ -187,8 +187,8 @@ static COUNTED: [Step; 4] = [
         faults: "",
     }),
     Step::Put(
-        "spread_counts/packs/f05654be5377f418fed1ca3edae6354eb8ee754844c3b7c1c928d8e561112c27.pack",
-        "cubesat pack 1 d19bf49d5f1058235b91384ab4780f1ec9739997ff2f40e5c1dc7d0ed2489e06\n\x04\x00\x00\x00\x00\x00\x00\x00\x00\x02\x01\x00\x04\x00\x00\x00\x00\x00\x00\x00\x03\x00\x06\x00\x04\x00\x00\x00\x00\x00\x00\x00\x02\x00\x06\x00\x04\x00\x00\x00\x00\x00\x00\x00\x13\x00\x04\x00\x05\x00\x00\x00\x00\x00\x00\x00\x03\x00\x02\x10\x00\x05\x00\x00\x00\x00\x00\x00\x00\x03\x00\x00\x04\x00\x05\x00\x00\x00\x00\x00\x00\x00\x00\x02",
+        "spread_counts/packs/0a9c7435e4a993f8233c81d5cdb11fdf7e4a3cfaf4d4748d5de3c8ceb66f55d0.pack",
+        "cubesat pack 2 b5e6728ad904468848b5c3a5d3964c51fa3852466d021153982a05f906a37e55\n\x05\x00\x00\x00\x00\x00\x00\x00\x00\x02\x01\x00\x00\x05\x00\x00\x00\x00\x00\x00\x00\x03\x00\x06\x00\x00\x05\x00\x00\x00\x00\x00\x00\x00\x02\x00\x06\x00\x00\x05\x00\x00\x00\x00\x00\x00\x00\x13\x00\x04\x00\x00\x06\x00\x00\x00\x00\x00\x00\x00\x03\x00\x02\x10\x00\x00\x06\x00\x00\x00\x00\x00\x00\x00\x03\x00\x00\x00\x04\x00\x06\x00\x00\x00\x00\x00\x00\x00\x00\x02",
     ),
     Step::Ends(Row {
         words: &[

@@ -17,6 +17,7 @@ pub mod RunLemmas
 pub mod SearchSteps
 pub mod OpenTrails
 pub mod ReplayedLines
+pub mod ForgettingLines
 pub mod KeptSearches
 pub mod KeptUnits
 pub mod UnitWalks

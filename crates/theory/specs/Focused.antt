@@ -16,7 +16,7 @@ use Rattle.theory.specs.Search.{Outcome, model, refuted, exhausted, first_clause
 use Rattle.theory.specs.Modes.{Pace, first_pace, is_restarting, pace_after}
 use Rattle.theory.specs.Scores.{Scores, first_scores, best_outside, is_seen, scores_after}
 use Rattle.theory.specs.Restarts.{Glues, no_glues, glues_after, restarts}
-use Rattle.theory.specs.Forgetting.{Mark, fresh_mark, with_used, unused, candidates, late_ones, forget}
+use Rattle.theory.specs.Forgetting.{Mark, fresh_mark, with_used, unused, candidates, late_ones, forgetting, forget}
 use Rattle.theory.specs.Rephasing.{Turn, first_turn, is_over, next_turn, rephased}
 
 -- its state: the clauses, the trail, the lines learnt with their marks, and what choices are made
@@ -119,11 +119,11 @@ round_ended c s = record s {
   pace = pace_after s.conflicts s.pace;
 }
 
--- the line's clause gets the next number
-abbrev pub with_lesson : FocusedState → Lesson → FocusedState
-with_lesson s l = record s {
+-- the line's clause gets the next number; these are forgotten behind it
+abbrev pub with_lesson : FocusedState → Lesson → List ℕ → FocusedState
+with_lesson s l numbers = record s {
   clauses = s.clauses ++ l.line.clause ∷ [];
-  lines = s.lines ++ l.line ∷ [];
+  lines = s.lines ++ forgetting numbers l.line ∷ [];
   marks = s.marks ++ fresh_mark l.glue ∷ [];
 }
 
@@ -134,7 +134,7 @@ learnt_next c V s l =
     let w = weighed c V s l in
     let over = is_over w.round w.conflicts in
     let back = gone_back (over || restarts c w.pace.mode w.restarted w.conflicts w.averages) (back_level s.trail l.line.clause) w in
-    with_lesson (if over then round_ended c back else back) l
+    if over then with_lesson (round_ended c back) l (to_forget c back) else with_lesson back l []
 
 -- the variable in which a cube is exhausted: of those that aren't on the trail at level 0, the one
 -- of greatest score

@@ -6,6 +6,7 @@ use Rattle.std.specs.List.{list_any}
 use Rattle.theory.specs.Literals.{Clause, positive, negative, has_both_signs}
 use Rattle.theory.specs.Trails.{Trail}
 use Rattle.theory.specs.Plans.{Constants}
+use Rattle.theory.specs.Learning.{Line}
 
 -- what a forgotten clause becomes
 abbrev pub forgotten : Clause
@@ -70,6 +71,10 @@ is_late all a = nat_le (length all / 4) (count_by (λ b. goes_before b a) all)
 -- the numbers of those that are
 abbrev pub late_ones : List Candidate → List ℕ
 late_ones all = map (λ a. a.number) (filter (is_late all) all)
+
+-- the line behind which the clauses of these numbers are forgotten
+abbrev pub forgetting : List ℕ → Line → Line
+forgetting numbers line = record line { forgets = numbers }
 
 -- the clauses, which are numbered from n on, with those of these numbers forgotten
 abbrev pub forget : List ℕ → ℕ → List Clause → List Clause

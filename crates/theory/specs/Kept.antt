@@ -1,14 +1,17 @@
 -- What a search keeps of its clauses, its trail and its lines, whichever search it is. Source:
 -- textbook CDCL (Handbook of Satisfiability): the invariants of the clauses learnt and of the
 -- trail.
-use Rattle.std.specs.Prelude.{◌≡◌, ℕ, List, [], ◌∷◌, ◌++◌, map, length, ◌⊎◌, All}
+use Rattle.std.specs.Prelude.{◌≡◌, ℕ, ◌+◌, true, List, [], ◌∷◌, ◌++◌, map, length, ◌⊎◌, All}
 use Rattle.theory.specs.Literals.{Literal, Clause}
 use Rattle.theory.specs.Truth.{IsOver}
 use Rattle.theory.specs.Trails.{Trail, literals}
 use Rattle.theory.specs.Lawful.{IsLawful, cube_of}
 use Rattle.theory.specs.Learnable.{IsOpenBelow}
 use Rattle.theory.specs.Learning.{Line}
-use Rattle.theory.specs.Replaying.{AreReplayed}
+use Rattle.theory.specs.Replaying.{AreReplayed, AreForgetting}
+use Rattle.theory.specs.Deletions.{is_among}
+use Rattle.theory.specs.Propagation.{clause_at}
+use Rattle.theory.specs.Proofs.{forgotten_by}
 use Rattle.theory.specs.Forgetting.{forgotten}
 
 -- the clauses of the lines, in their order
@@ -35,5 +38,8 @@ pub record IsSearchOf (V : ℕ) (K : List Clause) (Q : List Literal) (clauses : 
   pub open_below : IsOpenBelow clauses trail
   pub cube : cube_of trail ≡ Q
   pub variables : IsOver V (literals trail)
-  -- each line replays over the first clauses and the lines before it, forgotten ones too
+  -- each line replays over the first clauses and the lines before it, forgotten ones too; but it
+  -- has no hint that is forgotten, and forgets what isn't
   pub replayed : AreReplayed V (length K) Q K lines
+  pub forgetting : AreForgetting (length K) (length K + 1) [] lines
+  pub gone : (k : ℕ) → is_among k (forgotten_by lines) ≡ true → clause_at clauses k ≡ forgotten

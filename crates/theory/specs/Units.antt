@@ -28,7 +28,7 @@ reasons_against (e ∷ T) c = with_number (reason_against c e) (reasons_against 
 
 -- the line of the literal l alone, which stands behind these entries by the clause of number n
 abbrev pub unit_line : List Clause → Trail → Literal → ℕ → Line
-unit_line K before l n = record { clause = l ∷ []; hints = reasons_against before (without (clause_at K n) l) ++ n ∷ [] }
+unit_line K before l n = record { clause = l ∷ []; hints = reasons_against before (without (clause_at K n) l) ++ n ∷ []; forgets = [] }
 
 -- the clauses, the entries gone through, and the lines of their units
 pub record Units : Type 0 where

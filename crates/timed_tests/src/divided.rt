@@ -39,7 +39,7 @@ c divided: 43 decisions in 40 conflicts of stable mode, into at most 2 cubes
 c looked at: 1 cubes, 1 failed literals, 0.150 s
 c searched: 2 cubes
 c cubes: 3 solved, 1 split, 0 skipped
-c learnt: 4 lines in refuted cubes, kept in 20 bytes
+c learnt: 4 lines in refuted cubes, kept in 24 bytes
 c solved by each hand: 3
 c proof: 7 lines, 102 bytes
 c reading: 1.234 s
@@ -69,7 +69,7 @@ c divided: 43 decisions in 40 conflicts of stable mode, into at most 4 cubes
 c looked at: 3 cubes, 2 failed literals, 0.450 s
 c searched: 4 cubes
 c cubes: 7 solved, 3 split, 0 skipped
-c learnt: 8 lines in refuted cubes, kept in 40 bytes
+c learnt: 8 lines in refuted cubes, kept in 48 bytes
 c solved by each hand: 7
 c proof: 17 lines, 277 bytes
 c reading: 1.234 s

@@ -58,7 +58,7 @@ c hands: 1
 c search: 5 conflicts, 4 decisions, 13 propagations, 0 restarts
 c clauses: 2 learnt, 0 forgotten
 c cubes: 3 solved, 1 split, 0 skipped
-c learnt: 4 lines in refuted cubes, kept in 20 bytes
+c learnt: 4 lines in refuted cubes, kept in 24 bytes
 c solved by each hand: 3
 c proof: 7 lines, 94 bytes
 c reading: 1.234 s, peak memory 4321 KiB
@@ -79,7 +79,7 @@ c first search: ordered, 4 conflicts, decided
 c search: 4 conflicts, 3 decisions, 10 propagations, 0 restarts
 c clauses: 3 learnt, 0 forgotten
 c cubes: 1 solved, 0 split, 0 skipped
-c learnt: 4 lines in refuted cubes, kept in 24 bytes
+c learnt: 4 lines in refuted cubes, kept in 28 bytes
 c solved by each hand: 1
 c proof: 4 lines, 62 bytes
 c reading: 1.234 s, peak memory 4321 KiB
@@ -150,7 +150,7 @@ c hands: 1
 c search: 2 conflicts, 1 decisions, 4 propagations, 0 restarts
 c clauses: 2 learnt, 0 forgotten
 c cubes: 1 solved, 0 split, 0 skipped
-c learnt: 3 lines in refuted cubes, kept in 15 bytes
+c learnt: 3 lines in refuted cubes, kept in 18 bytes
 c solved by each hand: 1
 c proof: 3 lines, 37 bytes
 c reading: 1.234 s, peak memory 4321 KiB
@@ -185,7 +185,7 @@ c hands: 1
 c search: 5 conflicts, 4 decisions, 13 propagations, 0 restarts
 c clauses: 2 learnt, 0 forgotten
 c cubes: 3 solved, 1 split, 0 skipped
-c learnt: 4 lines in refuted cubes, kept in 20 bytes
+c learnt: 4 lines in refuted cubes, kept in 24 bytes
 c solved by each hand: 3
 c proof: 0 lines, 0 bytes
 c reading: 1.234 s

@@ -1,5 +1,5 @@
 -- The checker accepts the proof of a refuted tree.
-use Rattle.std.proofs.Common.{◌≡◌, ℕ, ◌+◌, ◌-◌, ◌<◌, ◌≤◌, Bool, true, false, not, List, [], ◌∷◌, ◌++◌, map, length, refl, ap, sym, subst, ◌∙◌, nat_eq, nat_le, eqb-true, le-leb, ◌⊎◌, inl, inr, Option, Some, None, append_assoc, append-nil, length-append, arith, if◌then◌else◌, ◌&&◌, ◌||◌, is_some}
+use Rattle.std.proofs.Common.{◌≡◌, ℕ, ◌+◌, ◌-◌, ◌<◌, ◌≤◌, Bool, true, false, not, List, [], ◌∷◌, ◌++◌, map, filter, length, refl, ap, sym, subst, ◌∙◌, nat_eq, nat_le, eqb-true, le-leb, ◌⊎◌, inl, inr, Option, Some, None, append_assoc, append-nil, length-append, arith, if◌then◌else◌, ◌&&◌, ◌||◌, is_some}
 use Rattle.std.proofs.lemmas.List.{length-map}
 use Rattle.theory.specs.Literals.{Literal, Clause, negated, negations, positive, negative, same, has, has_var, has_both_signs, are_distinct}
 use Rattle.theory.specs.Truth.{Formula, Assignment, IsFormula, IsOver}
@@ -10,9 +10,9 @@ use Rattle.theory.specs.Search.{first_clauses}
 use Rattle.theory.specs.Trees.{Tree, satisfied, refutation, split, IsTree, false_half, true_half, first_model, or_else}
 use Rattle.theory.specs.Steps.{Addition, Step, add}
 use Rattle.theory.specs.Checking.{Numbered, clause_of, hint, take_hints, conflicts, Checker, accepted, no_empty_clause, check_from, checks}
-use Rattle.theory.specs.Replaying.{IsReplayed, AreReplayed, AreRefutation}
+use Rattle.theory.specs.Replaying.{IsReplayed, AreReplayed, IsForgetting, AreForgetting, AreRefutation}
 use Rattle.theory.specs.Checked.{IsCheckedTree}
-use Rattle.theory.specs.Proofs.{additions, renumbered, leaf_steps, tree_steps, prelude, proof, numbers_from, deletion, refuted_steps}
+use Rattle.theory.specs.Proofs.{additions, renumbered, forget_steps, leaf_steps, forgotten_by, undeleted, tree_steps, prelude, proof, numbers_from, deletion, refuted_steps}
 use Rattle.theory.proofs.literals.LiteralLemmas.{and-left, and-right, not_true, or-cases}
 use Rattle.theory.specs.Deletions.{is_among}
 use Rattle.theory.proofs.literals.LiteralSets.{Refutes, true_false, false_unless, negated-negated, other-same, has-head, has-tail, has-equal, has-cases, has-append_right, has-append_cases, has_var-has, has_var-none, has-negations, has-from_negations, Refutes-negations, has_both_signs-none}
@@ -23,7 +23,7 @@ use Rattle.theory.proofs.trees.TreeSoundness.{push-over}
 use Rattle.theory.proofs.checker.AcceptedPrelude.{AreInput, start, prelude-leads}
 use Rattle.theory.proofs.trees.CheckedTrees.{IsCheckedTree-IsTree}
 use Rattle.theory.proofs.checker.AcceptedSteps.{Leads, Leads-then, renumbered-high, AreMoved, Passes-moved, LinesLead, LinesLead-from_AreReplayed}
-use Rattle.theory.proofs.checker.DeletedNumbers.{numbers_from-within, are_different-numbers_from}
+use Rattle.theory.proofs.checker.DeletedNumbers.{numbers_from-within, are_different-numbers_from, is_among-filter, are_different-filter, is_among-map}
 use Rattle.theory.proofs.checker.AcceptedCubes.{CubeLeads, ending, AreOwn, CubeLeads-end}
 
 -- The line of a split cube is accepted, given the last lines of its halves.
@@ -92,8 +92,10 @@ leaf_steps-append : (N first n : ℕ) (Q : List Literal) (xs ys : List Line) →
 leaf_steps-append N first n Q [] ys = let number : n ≡ n + 0 = omega arith in ap (λ k. leaf_steps N first k Q ys) number
 leaf_steps-append N first n Q (x ∷ xs) ys =
     let number : n + 1 + length xs ≡ n + length (x ∷ xs) = omega arith in
+    let gone = forget_steps n (map (renumbered N first) x.forgets) in
     ap (λ rest. add (record { id = n; clause = x.clause ++ negations Q; hints = map (renumbered N first) x.hints; groups = [] }) ∷ rest)
-    (leaf_steps-append N first (n + 1) Q xs ys ∙ ap (λ k. leaf_steps N first (n + 1) Q xs ++ leaf_steps N first k Q ys) number)
+    (ap (λ rest. gone ++ rest) (leaf_steps-append N first (n + 1) Q xs ys ∙ ap (λ k. leaf_steps N first (n + 1) Q xs ++ leaf_steps N first k Q ys) number)
+    ∙ sym (append_assoc gone (leaf_steps N first (n + 1) Q xs) (leaf_steps N first (n + length (x ∷ xs)) Q ys)))
 
 AreReplayed-parts : (V N : ℕ) (Q : List Literal) (K : List Clause) (lines : List Line) (line : Line) → AreReplayed V N Q K (lines ++ line ∷ [])
     → AreReplayed V N Q K lines × IsReplayed V N Q (K ++ map (λ (x : Line). x.clause) lines) line
@@ -102,8 +104,23 @@ AreReplayed-parts V N Q K (l ∷ lines) line h =
     let more = AreReplayed-parts V N Q (K ++ l.clause ∷ []) lines line h.1 in
     ((h.0, more.0), rw (append_assoc K (l.clause ∷ []) (map (λ (x : Line). x.clause) lines)) at more.1)
 
-AreMoved-input : (n : ℕ) (Q : List Literal) (K : List Clause) (here : Numbered) → AreInput K here → AreMoved (length K) (renumbered (length K) n) Q K here
-AreMoved-input n Q K here h m one end =
+-- what they forget, and where
+AreForgetting-parts : (N n : ℕ) (gone : List ℕ) (lines : List Line) (line : Line) → AreForgetting N n gone (lines ++ line ∷ [])
+    → AreForgetting N n gone lines × IsForgetting N (n + length lines) (gone ++ forgotten_by lines) line
+AreForgetting-parts N n gone [] line h =
+    let number : n ≡ n + 0 = omega arith in
+    (tt, subst (λ ns. IsForgetting N (n + 0) ns line) (sym (append-nil gone)) (subst (λ k. IsForgetting N k gone line) number h.0))
+AreForgetting-parts N n gone (x ∷ lines) line h =
+    let more = AreForgetting-parts N (n + 1) (gone ++ x.forgets) lines line h.1 in
+    let number : n + 1 + length lines ≡ n + length (x ∷ lines) = omega arith in
+    ((h.0, more.0), subst (λ ns. IsForgetting N (n + length (x ∷ lines)) ns line) (append_assoc gone x.forgets (forgotten_by lines)) (subst (λ k. IsForgetting N k ((gone ++ x.forgets) ++ forgotten_by lines) line) number more.1))
+
+forgotten_by-append : (xs : List Line) (y : Line) → forgotten_by (xs ++ y ∷ []) ≡ forgotten_by xs ++ y.forgets
+forgotten_by-append [] y = append-nil y.forgets
+forgotten_by-append (x ∷ xs) y = ap (λ ns. x.forgets ++ ns) (forgotten_by-append xs y) ∙ sym (append_assoc x.forgets (forgotten_by xs) y.forgets)
+
+AreMoved-input : (n : ℕ) (Q : List Literal) (K : List Clause) (here : Numbered) → AreInput K here → AreMoved (length K) (renumbered (length K) n) [] Q K here
+AreMoved-input n Q K here h m one end not_gone =
     let low : nat_le m (length K) ≡ true = le-leb m (length K) end in
     let left : clause_of here (renumbered (length K) n m) ≡ clause_of here m = ap (λ b. clause_of here (if b then m else n + (m - length K - 1))) low in
     left ∙ (h m one end ∙ sym (ap (λ b. Some (if b then clause_at K m else clause_at K m ++ negations Q)) low))
@@ -121,52 +138,72 @@ CubeLeads-leaf V n Q K s lines low rises input distinct over r =
     parts : AreReplayed V N Q K r.before × IsReplayed V N Q (K ++ map (λ (x : Line). x.clause) r.before) r.last
     parts = AreReplayed-parts V N Q K r.before r.last (subst (AreReplayed V N Q K) r.ends r.replayed)
 
-    first : LinesLead V N n n Q K s r.before
-    first = LinesLead-from_AreReplayed V N n n Q K s r.before (omega arith) low (omega arith) rises (AreMoved-input n Q K s.clauses input) parts.0
+    forgets : AreForgetting N (N + 1) [] r.before × IsForgetting N (N + 1 + length r.before) (forgotten_by r.before) r.last
+    forgets = AreForgetting-parts N (N + 1) [] r.before r.last (subst (AreForgetting N (N + 1) []) r.ends r.forgetting)
+
+    gone : List ℕ
+    gone = forgotten_by r.before
+
+    first : LinesLead V N n n [] Q K s r.before
+    first = LinesLead-from_AreReplayed V N n n [] Q K s r.before (omega arith) low (omega arith) rises (AreMoved-input n Q K s.clauses input) parts.0 forgets.0
 
     hints : List ℕ
     hints = map (renumbered N n) r.last.hints
 
     conflict_last : take_hints first.state.clauses (negations (negations Q)) hints ≡ conflicts
     conflict_last = subst (λ c. take_hints first.state.clauses (negations (c ++ negations Q)) hints ≡ conflicts) r.empty
-        (Passes-moved N (renumbered N n) Q (K ++ map (λ (x : Line). x.clause) r.before) first.state.clauses r.last first.moved parts.1.passes)
+        (Passes-moved N (renumbered N n) gone Q (K ++ map (λ (x : Line). x.clause) r.before) first.state.clauses r.last first.moved forgets.1.clear parts.1.passes)
 
     count : length (r.before ++ r.last ∷ []) ≡ length r.before + 1
     count = length-append r.before (r.last ∷ [])
 
     learnt : List ℕ
-    learnt = numbers_from n (length r.before)
+    learnt = filter (λ k. not (is_among k (map (renumbered N n) gone))) (numbers_from n (length r.before))
+
+    within : (k : ℕ) → is_among k learnt ≡ true → (n ≤ k) × (k < n + length r.before)
+    within k a = numbers_from-within n (length r.before) k (is_among-filter (λ k. not (is_among k (map (renumbered N n) gone))) k (numbers_from n (length r.before)) a).0
 
     own : AreOwn n (n + length r.before) first.state.clauses learnt
     own = record {
-      distinct = are_different-numbers_from n (length r.before);
-      first = λ k a. (numbers_from-within n (length r.before) k a).0;
-      before = λ k a. (numbers_from-within n (length r.before) k a).1;
-      there = λ k a. there_at k (numbers_from-within n (length r.before) k a);
+      distinct = are_different-filter (λ k. not (is_among k (map (renumbered N n) gone))) (numbers_from n (length r.before)) (are_different-numbers_from n (length r.before));
+      first = λ k a. (within k a).0;
+      before = λ k a. (within k a).1;
+      there = λ k a. there_at k (within k a) (is_among-filter (λ k. not (is_among k (map (renumbered N n) gone))) k (numbers_from n (length r.before)) a).1;
     }
       where
-        there_at : (k : ℕ) → (n ≤ k) × (k < n + length r.before) → is_some (clause_of first.state.clauses k) ≡ true
-        there_at k w =
+        there_at : (k : ℕ) → (n ≤ k) × (k < n + length r.before) → not (is_among k (map (renumbered N n) gone)) ≡ true → is_some (clause_of first.state.clauses k) ≡ true
+        there_at k w left =
             let low_end = w.0 in
             let high_end = w.1 in
             let longer : length (K ++ map (λ (x : Line). x.clause) r.before) ≡ N + length r.before = length-append K (map (λ (x : Line). x.clause) r.before) ∙ ap (λ i. N + i) (length-map r.before (λ (x : Line). x.clause)) in
             let place : ℕ = N + 1 + (k - n) in
             let number : renumbered N n place ≡ n + (place - N - 1) = renumbered-high N n place (omega arith) in
             let same : renumbered N n place ≡ k = number ∙ omega arith in
-            ap (λ i. is_some (clause_of first.state.clauses i)) (sym same) ∙ ap is_some (first.moved place (omega arith) (omega arith))
+            let not_gone : is_among place gone ≡ false = false_unless (is_among place gone) (λ t.
+            true_false (is_among k (map (renumbered N n) gone)) (subst (λ i. is_among i (map (renumbered N n) gone) ≡ true) same (is_among-map (renumbered N n) place gone t)) (not_true (is_among k (map (renumbered N n) gone)) left)) in
+            ap (λ i. is_some (clause_of first.state.clauses i)) (sym same) ∙ ap is_some (first.moved place (omega arith) (omega arith) not_gone)
 
     parted : refuted_steps N n Q (r.before ++ r.last ∷ []) ≡ leaf_steps N n n Q r.before ++ add (ending (n + length r.before) Q hints) ∷ deletion Q (n + length r.before) learnt
     parted =
         let last : n + length (r.before ++ r.last ∷ []) - 1 ≡ n + length r.before = omega (arith, count) in
         let others : length (r.before ++ r.last ∷ []) - 1 ≡ length r.before = omega (arith, count) in
-        ap (λ A. A ++ deletion Q (n + length (r.before ++ r.last ∷ []) - 1) (numbers_from n (length (r.before ++ r.last ∷ []) - 1))) lines_parted
-        ∙ (ap (λ i. (leaf_steps N n n Q r.before ++ add (ending (n + length r.before) Q hints) ∷ []) ++ deletion Q i (numbers_from n (length (r.before ++ r.last ∷ []) - 1))) last
-        ∙ (ap (λ i. (leaf_steps N n n Q r.before ++ add (ending (n + length r.before) Q hints) ∷ []) ++ deletion Q (n + length r.before) (numbers_from n i)) others
+        let same_gone : forgotten_by (r.before ++ r.last ∷ []) ≡ gone = forgotten_by-append r.before r.last ∙ (ap (λ ns. gone ++ ns) r.keeps ∙ append-nil gone) in
+        let numbers : undeleted N n (r.before ++ r.last ∷ []) ≡ learnt
+        = ap (λ ns. filter (λ k. not (is_among k (map (renumbered N n) ns))) (numbers_from n (length (r.before ++ r.last ∷ []) - 1))) same_gone
+        ∙ ap (λ i. filter (λ k. not (is_among k (map (renumbered N n) gone))) (numbers_from n i)) others in
+        ap (λ A. A ++ deletion Q (n + length (r.before ++ r.last ∷ []) - 1) (undeleted N n (r.before ++ r.last ∷ []))) lines_parted
+        ∙ (ap (λ i. (leaf_steps N n n Q r.before ++ add (ending (n + length r.before) Q hints) ∷ []) ++ deletion Q i (undeleted N n (r.before ++ r.last ∷ []))) last
+        ∙ (ap (λ ns. (leaf_steps N n n Q r.before ++ add (ending (n + length r.before) Q hints) ∷ []) ++ deletion Q (n + length r.before) ns) numbers
         ∙ append_assoc (leaf_steps N n n Q r.before) (add (ending (n + length r.before) Q hints) ∷ []) (deletion Q (n + length r.before) learnt)))
       where
         lines_parted : leaf_steps N n n Q (r.before ++ r.last ∷ []) ≡ leaf_steps N n n Q r.before ++ add (ending (n + length r.before) Q hints) ∷ []
-        lines_parted = leaf_steps-append N n n Q r.before (r.last ∷ [])
-            ∙ ap (λ c. leaf_steps N n n Q r.before ++ add (record { id = n + length r.before; clause = c ++ negations Q; hints = hints; groups = [] }) ∷ []) r.empty
+        lines_parted = leaf_steps-append N n n Q r.before (r.last ∷ []) ∙ ap (λ (steps : List Step). leaf_steps N n n Q r.before ++ steps) (last_alone r.last.clause r.last.forgets r.empty r.keeps)
+          where
+            last_alone : (c : Clause) (ns : List ℕ) → c ≡ [] → ns ≡ [] → add (record { id = n + length r.before; clause = c ++ negations Q; hints = hints; groups = [] })
+                ∷ (forget_steps (n + length r.before) (map (renumbered N n) ns) ++ []) ≡ add (ending (n + length r.before) Q hints) ∷ []
+            last_alone [] [] e k = refl
+            last_alone (l ∷ c) ns e k = absurd (cc)
+            last_alone [] (m ∷ ns) e k = absurd (cc)
 
     whole : CubeLeads V n (length (r.before ++ r.last ∷ [])) Q s (leaf_steps N n n Q r.before ++ add (ending (n + length r.before) Q hints) ∷ deletion Q (n + length r.before) learnt)
     whole = CubeLeads-end V n (n + length r.before) (length (r.before ++ r.last ∷ [])) Q s first.state (leaf_steps N n n Q r.before) hints learnt first.leads (omega arith)

@@ -1,18 +1,22 @@
 -- Steps that the checker accepts one after the other.
-use Rattle.std.proofs.Common.{◌≡◌, ℕ, ◌+◌, ◌-◌, ◌<◌, ◌≤◌, Bool, true, false, not, List, [], ◌∷◌, ◌++◌, map, length, refl, ap, sym, ◌∙◌, nat_eq, nat_le, eqb-true, eq-eqb, le-leb, leb-true, leb-false, Option, Some, None, get_or, append_assoc, append-nil, length-append, arith, if◌then◌else◌}
+use Rattle.std.proofs.Common.{◌≡◌, ℕ, ◌+◌, ◌-◌, ◌<◌, ◌≤◌, Bool, true, false, not, List, [], ◌∷◌, ◌++◌, map, length, refl, ap, sym, ◌∙◌, nat_eq, nat_le, eqb-true, eq-eqb, le-leb, leb-true, leb-false, ◌||◌, inl, inr, subst, Option, Some, None, is_some, get_or, append_assoc, append-nil, length-append, arith, if◌then◌else◌}
 use Rattle.std.specs.List.{list_any}
 use Rattle.std.proofs.lemmas.List.{get_or_at}
 use Rattle.std.proofs.lemmas.Option.{unwrap_or-slice_get}
 use Rattle.theory.specs.Literals.{Literal, Clause, negations, has_both_signs}
 use Rattle.theory.specs.Propagation.{clause_at}
 use Rattle.theory.specs.Learning.{Line}
-use Rattle.theory.specs.Steps.{Addition, Step, add}
-use Rattle.theory.specs.Checking.{id_not_rising, literal_out_of_range, both_signs, Numbered, clause_of, take_hints, conflicts, hints_fault, addition_fault, addition_test, Checker, added, Tested, leaves, faulty, test, Checked, refused, check_from}
-use Rattle.theory.specs.Replaying.{carrying_from, Passes, IsReplayed, AreReplayed}
-use Rattle.theory.specs.Proofs.{renumbered, leaf_steps}
-use Rattle.theory.proofs.literals.LiteralSets.{false_unless, list_any-none}
+use Rattle.theory.specs.Steps.{Addition, Step, add, delete}
+use Rattle.theory.specs.Checking.{id_not_rising, literal_out_of_range, both_signs, Numbered, clause_of, take_hints, conflicts, hints_fault, addition_fault, addition_test, deletion_test, Checker, added, Tested, leaves, faulty, test, Checked, refused, check_from}
+use Rattle.theory.specs.Replaying.{carrying_from, Passes, IsReplayed, AreReplayed, AreForgetting}
+use Rattle.theory.specs.Deletions.{is_among, are_different, without_numbers}
+use Rattle.theory.specs.Proofs.{renumbered, forget_steps, leaf_steps, forgotten_by}
+use Rattle.std.proofs.lemmas.List.Folds.{list_any-append}
+use Rattle.theory.proofs.literals.LiteralLemmas.{and-left, and-right, or-cases, or-left, or-right, not_true}
+use Rattle.theory.proofs.literals.LiteralSets.{true_false, false_unless, and-true, or-false_left, or-false_right, list_any-none}
 use Rattle.theory.proofs.trails.LawfulTrails.{clause_at-append}
 use Rattle.theory.proofs.checker.Hints.{take_hints-moved}
+use Rattle.theory.proofs.checker.FewerClauses.{take_hints-without_numbers, clause_of-without_numbers, clause_of-gone, deleted-there}
 use Rattle.theory.proofs.searching.LearntLines.{clause_of-carrying_at}
 use Rattle.theory.proofs.literals.OverVariables.{AreOver, AreOver-from_IsOver}
 
@@ -78,20 +82,32 @@ clause_of-carrying_within n N Q (c ∷ K) m d h = go (nat_eq n m) refl h (clause
     go true e k more = let number : n ≡ m = eqb-true n m e in (omega arith, omega arith)
     go false e k more = let low = (more k).0 in let high = (more k).1 in (omega arith, omega arith)
 
--- each clause of K stands in the checker, under the number that f gives it
-abbrev pub AreMoved : ℕ → (ℕ → ℕ) → List Literal → List Clause → Numbered → Type 0
-AreMoved N f Q K here = (n : ℕ) → 1 ≤ n → n ≤ length K → clause_of here (f n) ≡ Some (if nat_le n N then clause_at K n else clause_at K n ++ negations Q)
+-- each clause of K that isn't gone stands in the checker, under the number that f gives it
+abbrev pub AreMoved : ℕ → (ℕ → ℕ) → List ℕ → List Literal → List Clause → Numbered → Type 0
+AreMoved N f gone Q K here = (n : ℕ) → 1 ≤ n → n ≤ length K → is_among n gone ≡ false → clause_of here (f n) ≡ Some (if nat_le n N then clause_at K n else clause_at K n ++ negations Q)
 
-pub Passes-moved : (N : ℕ) (f : ℕ → ℕ) (Q : List Literal) (K : List Clause) (here : Numbered) (line : Line) → AreMoved N f Q K here → Passes N Q K line
-    → take_hints here (negations (line.clause ++ negations Q)) (map f line.hints) ≡ conflicts
-Passes-moved N f Q K here line moved h = take_hints-moved (carrying_from 1 N Q K) here f (negations (line.clause ++ negations Q)) line.hints at h
+pub Passes-moved : (N : ℕ) (f : ℕ → ℕ) (gone : List ℕ) (Q : List Literal) (K : List Clause) (here : Numbered) (line : Line) → AreMoved N f gone Q K here
+    → ((k : ℕ) → is_among k gone ≡ true → is_among k line.hints ≡ false) → Passes N Q K line → take_hints here (negations (line.clause ++ negations Q)) (map f line.hints) ≡ conflicts
+Passes-moved N f gone Q K here line moved clear h =
+    take_hints-moved (without_numbers all gone) here f P line.hints at (take_hints-without_numbers all gone P line.hints clear ∙ h)
   where
-    at : (n : ℕ) (d : Clause) → clause_of (carrying_from 1 N Q K) n ≡ Some d → clause_of here (f n) ≡ Some d
-    at n d e =
-        let low = (clause_of-carrying_within 1 N Q K n d e).0 in
-        let high = (clause_of-carrying_within 1 N Q K n d e).1 in
-        let end : n ≤ length K = omega arith in
-        moved n low end ∙ (sym (clause_of-carrying_at N Q K n low end) ∙ e)
+    all : Numbered
+    all = carrying_from 1 N Q K
+
+    P : List Literal
+    P = negations (line.clause ++ negations Q)
+
+    at : (n : ℕ) (d : Clause) → clause_of (without_numbers all gone) n ≡ Some d → clause_of here (f n) ≡ Some d
+    at n d e = go (is_among n gone) refl
+      where
+        go : (b : Bool) → is_among n gone ≡ b → clause_of here (f n) ≡ Some d
+        go true a = absurd (let none = clause_of-gone all gone n a in cc)
+        go false a =
+            let there : clause_of all n ≡ Some d = sym (clause_of-without_numbers all gone n a) ∙ e in
+            let low = (clause_of-carrying_within 1 N Q K n d there).0 in
+            let high = (clause_of-carrying_within 1 N Q K n d there).1 in
+            let end : n ≤ length K = omega arith in
+            moved n low end a ∙ (sym (clause_of-carrying_at N Q K n low end) ∙ there)
 
 -- renumbering
 renumbered-low : (N first m : ℕ) → m ≤ N → renumbered N first m ≡ m
@@ -113,9 +129,9 @@ clause_at-push K c =
     unwrap_or-slice_get (K ++ c ∷ []) (length K + 1 - 1) [] ∙ (ap (λ i. get_or (K ++ c ∷ []) i []) place ∙ get_or_at K c [] [] (length K) refl)
 
 -- one more line
-AreMoved-push : (N first n : ℕ) (Q : List Literal) (K : List Clause) (c : Clause) (here : Numbered) → N ≤ length K → N < first → first + length K ≡ n + N
-    → AreMoved N (renumbered N first) Q K here → AreMoved N (renumbered N first) Q (K ++ c ∷ []) ((n, c ++ negations Q) ∷ here)
-AreMoved-push N first n Q K c here long low e moved m one end = go (nat_le m (length K)) refl
+AreMoved-push : (N first n : ℕ) (gone : List ℕ) (Q : List Literal) (K : List Clause) (c : Clause) (here : Numbered) → N ≤ length K → N < first → first + length K ≡ n + N
+    → AreMoved N (renumbered N first) gone Q K here → AreMoved N (renumbered N first) gone Q (K ++ c ∷ []) ((n, c ++ negations Q) ∷ here)
+AreMoved-push N first n gone Q K c here long low e moved m one end not_gone = go (nat_le m (length K)) refl
   where
     longer : length (K ++ c ∷ []) ≡ length K + 1
     longer = length-append K (c ∷ [])
@@ -129,7 +145,7 @@ AreMoved-push N first n Q K c here long low e moved m one end = go (nat_le m (le
         let other : nat_eq n (renumbered N first m) ≡ false = false_unless (nat_eq n (renumbered N first m)) (λ t. let q : n ≡ renumbered N first m = eqb-true n (renumbered N first m) t in omega arith) in
         let here_too : clause_of ((n, c ++ negations Q) ∷ here) (renumbered N first m) ≡ clause_of here (renumbered N first m)
         = ap (λ b. if b then Some (c ++ negations Q) else clause_of here (renumbered N first m)) other in
-        here_too ∙ (moved m one h ∙ ap wanted (sym (clause_at-append K (c ∷ []) m one h)))
+        here_too ∙ (moved m one h not_gone ∙ ap wanted (sym (clause_at-append K (c ∷ []) m one h)))
 
     new : length K < m → clause_of ((n, c ++ negations Q) ∷ here) (renumbered N first m) ≡ wanted (clause_at (K ++ c ∷ []) m)
     new h =
@@ -147,55 +163,162 @@ AreMoved-push N first n Q K c here long low e moved m one end = go (nat_le m (le
     go true t = old (leb-true m (length K) t)
     go false t = new (leb-false m (length K) t)
 
--- what lines leave: all that was there, and the lines' clauses
-pub record LinesLead (V N first n : ℕ) (Q : List Literal) (K : List Clause) (s : Checker) (lines : List Line) : Type 0 where
+-- a deletion of clauses that are there, each once
+pub Leads-forget : (V : ℕ) (s : Checker) (n : ℕ) (ns : List ℕ) → are_different ns ≡ true → ((k : ℕ) → is_among k ns ≡ true → is_some (clause_of s.clauses k) ≡ true)
+    → Leads V s (forget_steps n ns) (record s { clauses = without_numbers s.clauses ns })
+Leads-forget V s n [] distinct there = Leads-none V s
+Leads-forget V s n (i ∷ ns) distinct there =
+    Leads-one V s (record s { clauses = without_numbers s.clauses (i ∷ ns) }) (delete (record { id = n; ids = i ∷ ns })) (ap (deletion_test s) (deleted-there s.clauses (i ∷ ns) distinct there))
+
+-- numbers keep apart where they are renumbered
+renumbered-same : (N first k m : ℕ) → N < first → renumbered N first k ≡ renumbered N first m → k ≡ m
+renumbered-same N first k m low h = go (nat_le k N) refl (nat_le m N) refl
+  where
+    go : (b : Bool) → nat_le k N ≡ b → (d : Bool) → nat_le m N ≡ d → k ≡ m
+    go true p true q = sym (renumbered-low N first k (leb-true k N p)) ∙ (h ∙ renumbered-low N first m (leb-true m N q))
+    go true p false q =
+        let a : k ≤ N = leb-true k N p in
+        let b : N < m = leb-false m N q in
+        let c = renumbered-low N first k a in
+        let d = renumbered-high N first m b in
+        absurd (omega (arith, a, b, c, d, h, low))
+    go false p true q =
+        let a : N < k = leb-false k N p in
+        let b : m ≤ N = leb-true m N q in
+        let c = renumbered-high N first k a in
+        let d = renumbered-low N first m b in
+        absurd (omega (arith, a, b, c, d, h, low))
+    go false p false q =
+        let a : N < k = leb-false k N p in
+        let b : N < m = leb-false m N q in
+        let c = renumbered-high N first k a in
+        let d = renumbered-high N first m b in
+        omega (arith, a, b, c, d, h)
+
+pub is_among-renumbered : (N first k : ℕ) (ns : List ℕ) → N < first → is_among (renumbered N first k) (map (renumbered N first) ns) ≡ true → is_among k ns ≡ true
+is_among-renumbered N first k [] low h = h
+is_among-renumbered N first k (n ∷ ns) low h =
+    elim (or-cases (nat_eq (renumbered N first k) (renumbered N first n)) (is_among (renumbered N first k) (map (renumbered N first) ns)) h) [
+      | inl e ↦ or-left (nat_eq k n) (is_among k ns) (eq-eqb k n (renumbered-same N first k n low (eqb-true (renumbered N first k) (renumbered N first n) e)))
+      | inr r ↦ or-right (nat_eq k n) (is_among k ns) (is_among-renumbered N first k ns low r)
+    ]
+
+-- a number among the renumbered ones is that of one of them
+pub renumbered-from : (N first j : ℕ) (ns : List ℕ) → is_among j (map (renumbered N first) ns) ≡ true → (k : ℕ) × (is_among k ns ≡ true) × (j ≡ renumbered N first k)
+renumbered-from N first j [] h = absurd (cc)
+renumbered-from N first j (n ∷ ns) h = elim (or-cases (nat_eq j (renumbered N first n)) (is_among j (map (renumbered N first) ns)) h) [
+  | inl e ↦ (n, or-left (nat_eq n n) (is_among n ns) (eq-eqb n n refl), eqb-true j (renumbered N first n) e)
+  | inr r ↦ let more = renumbered-from N first j ns r in (more.0, or-right (nat_eq more.0 n) (is_among more.0 ns) more.1, more.2)
+]
+
+are_different-renumbered : (N first : ℕ) (ns : List ℕ) → N < first → are_different ns ≡ true → are_different (map (renumbered N first) ns) ≡ true
+are_different-renumbered N first [] low h = h
+are_different-renumbered N first (n ∷ ns) low h =
+    let alone : is_among n ns ≡ false = not_true (is_among n ns) (and-left (not (is_among n ns)) (are_different ns) h) in
+    let out : is_among (renumbered N first n) (map (renumbered N first) ns) ≡ false
+    = false_unless (is_among (renumbered N first n) (map (renumbered N first) ns)) (λ t. true_false (is_among n ns) (is_among-renumbered N first n ns low t) alone) in
+    and-true (not (is_among (renumbered N first n) (map (renumbered N first) ns))) (are_different (map (renumbered N first) ns)) (ap not out)
+    (are_different-renumbered N first ns low (and-right (not (is_among n ns)) (are_different ns) h))
+
+-- what lines leave: all that was there before the cube, and the clauses that aren't gone
+pub record LinesLead (V N first n : ℕ) (gone : List ℕ) (Q : List Literal) (K : List Clause) (s : Checker) (lines : List Line) : Type 0 where
   pub state : Checker
   pub leads : Leads V s (leaf_steps N first n Q lines) state
   pub last : state.last < n + length lines
-  pub kept : (m : ℕ) → m < n → clause_of state.clauses m ≡ clause_of s.clauses m
-  pub moved : AreMoved N (renumbered N first) Q (K ++ map (λ (x : Line). x.clause) lines) state.clauses
+  pub kept : (m : ℕ) → m < first → clause_of state.clauses m ≡ clause_of s.clauses m
+  pub moved : AreMoved N (renumbered N first) (gone ++ forgotten_by lines) Q (K ++ map (λ (x : Line). x.clause) lines) state.clauses
 
-line_addition : ℕ → ℕ → ℕ → List Literal → Line → Addition
+abbrev line_addition : ℕ → ℕ → ℕ → List Literal → Line → Addition
 line_addition N first n Q line = record { id = n; clause = line.clause ++ negations Q; hints = map (renumbered N first) line.hints; groups = [] }
 
 -- a line that replays is accepted
-Leads-line : (V N first n : ℕ) (Q : List Literal) (K : List Clause) (s : Checker) (line : Line) → s.last < n → AreMoved N (renumbered N first) Q K s.clauses → IsReplayed V N Q K line
-    → Leads V s (add (line_addition N first n Q line) ∷ []) (added s (line_addition N first n Q line))
-unfolding line_addition
-Leads-line V N first n Q K s line rises moved h =
+Leads-line : (V N first n : ℕ) (gone : List ℕ) (Q : List Literal) (K : List Clause) (s : Checker) (line : Line) → s.last < n → AreMoved N (renumbered N first) gone Q K s.clauses
+    → ((k : ℕ) → is_among k gone ≡ true → is_among k line.hints ≡ false) → IsReplayed V N Q K line → Leads V s (add (line_addition N first n Q line) ∷ []) (added s (line_addition N first n Q line))
+Leads-line V N first n gone Q K s line rises moved clear h =
     Leads-add V s (line_addition N first n Q line)
     (addition_fault-none V s.last s.clauses n (line.clause ++ negations Q) (map (renumbered N first) line.hints) rises
-    (AreOver-from_IsOver V (line.clause ++ negations Q) h.over) h.one_sign (Passes-moved N (renumbered N first) Q K s.clauses line moved h.passes))
+    (AreOver-from_IsOver V (line.clause ++ negations Q) h.over) h.one_sign (Passes-moved N (renumbered N first) gone Q K s.clauses line moved clear h.passes))
 
 kept-added : (s : Checker) (a : Addition) (n m : ℕ) → a.id ≡ n → m < n → clause_of (added s a).clauses m ≡ clause_of s.clauses m
 kept-added s a n m e h =
     let other : nat_eq a.id m ≡ false = false_unless (nat_eq a.id m) (λ t. let q : a.id ≡ m = eqb-true a.id m t in omega arith) in
     ap (λ b. if b then Some a.clause else clause_of s.clauses m) other
 
-pub LinesLead-from_AreReplayed : (V N first n : ℕ) (Q : List Literal) (K : List Clause) (s : Checker) (lines : List Line) → N ≤ length K → N < first → first + length K ≡ n + N → s.last < n
-    → AreMoved N (renumbered N first) Q K s.clauses → AreReplayed V N Q K lines → LinesLead V N first n Q K s lines
-unfolding line_addition
-LinesLead-from_AreReplayed V N first n Q K s [] long low e rises moved h = record {
+is_among-append : (k : ℕ) (xs ys : List ℕ) → is_among k (xs ++ ys) ≡ false → (is_among k xs ≡ false) × (is_among k ys ≡ false)
+is_among-append k xs ys h =
+    let parts : is_among k xs || is_among k ys ≡ false = sym (list_any-append (nat_eq k) xs ys) ∙ h in
+    (or-false_left (is_among k xs) (is_among k ys) parts, or-false_right (is_among k xs) (is_among k ys) parts)
+
+pub LinesLead-from_AreReplayed : (V N first n : ℕ) (gone : List ℕ) (Q : List Literal) (K : List Clause) (s : Checker) (lines : List Line) → N ≤ length K → N < first → first + length K ≡ n + N → s.last < n
+    → AreMoved N (renumbered N first) gone Q K s.clauses → AreReplayed V N Q K lines → AreForgetting N (length K + 1) gone lines → LinesLead V N first n gone Q K s lines
+LinesLead-from_AreReplayed V N first n gone Q K s [] long low e rises moved h f = record {
   state = s;
   leads = Leads-none V s;
   last = omega arith;
   kept = λ m l. refl;
-  moved = rw (append-nil K) moved;
+  moved = rw (append-nil K, append-nil gone) moved;
 }
-LinesLead-from_AreReplayed V N first n Q K s (line ∷ lines) long low e rises moved h = finish (LinesLead-from_AreReplayed V N first (n + 1) Q (K ++ line.clause ∷ []) after lines longer low (omega (arith, length-append K (line.clause ∷ []))) (omega arith)
-    (AreMoved-push N first n Q K line.clause s.clauses long low e moved) h.1)
+LinesLead-from_AreReplayed V N first n gone Q K s (line ∷ lines) long low e rises moved h f =
+    finish (LinesLead-from_AreReplayed V N first (n + 1) (gone ++ line.forgets) Q (K ++ line.clause ∷ []) after lines longer low (omega (arith, one_more)) last_rises
+    moved_on h.1 (subst (λ k. AreForgetting N k (gone ++ line.forgets) lines) (sym (ap (λ k. k + 1) one_more)) f.1))
   where
+    one_more : length (K ++ line.clause ∷ []) ≡ length K + 1
+    one_more = length-append K (line.clause ∷ [])
+
+    between : Checker
+    between = added s (line_addition N first n Q line)
+
+    numbers : List ℕ
+    numbers = map (renumbered N first) line.forgets
+
     after : Checker
-    after = added s (line_addition N first n Q line)
+    after = record between { clauses = without_numbers between.clauses numbers }
 
     longer : N ≤ length (K ++ line.clause ∷ [])
-    longer = let l = length-append K (line.clause ∷ []) in omega arith
+    longer = let l = one_more in omega arith
 
-    finish : LinesLead V N first (n + 1) Q (K ++ line.clause ∷ []) after lines → LinesLead V N first n Q K s (line ∷ lines)
+    last_rises : after.last < n + 1
+    last_rises = omega arith
+
+    moved_between : AreMoved N (renumbered N first) gone Q (K ++ line.clause ∷ []) between.clauses
+    moved_between = AreMoved-push N first n gone Q K line.clause s.clauses long low e moved
+
+    -- what the line forgets is there
+    there : (j : ℕ) → is_among j numbers ≡ true → is_some (clause_of between.clauses j) ≡ true
+    there j a =
+        let k = renumbered-from N first j line.forgets a in
+        let own = f.0.own k.0 k.1 in
+        let above = own.0 in
+        let below = own.1 in
+        ap (λ i. is_some (clause_of between.clauses i)) k.2 ∙ ap is_some (moved_between k.0 (omega (arith, above)) (omega (arith, below, one_more)) own.2)
+
+    moved_on : AreMoved N (renumbered N first) (gone ++ line.forgets) Q (K ++ line.clause ∷ []) after.clauses
+    moved_on k one end not_gone =
+        let parts = is_among-append k gone line.forgets not_gone in
+        let out : is_among (renumbered N first k) numbers ≡ false
+        = false_unless (is_among (renumbered N first k) numbers) (λ t. true_false (is_among k line.forgets) (is_among-renumbered N first k line.forgets low t) parts.1) in
+        clause_of-without_numbers between.clauses numbers (renumbered N first k) out ∙ moved_between k one end parts.0
+
+    kept_on : (m : ℕ) → m < first → clause_of after.clauses m ≡ clause_of s.clauses m
+    kept_on m l =
+        let out : is_among m numbers ≡ false = false_unless (is_among m numbers) (λ t.
+        let k = renumbered-from N first m line.forgets t in
+        let own = (f.0.own k.0 k.1).0 in
+        let high = renumbered-high N first k.0 own in
+        let it = k.2 in
+        omega (arith, l, own, high, it)) in
+        clause_of-without_numbers between.clauses numbers m out ∙ kept-added s (line_addition N first n Q line) n m refl (omega (arith, l, e, long))
+
+    first_leads : Leads V s (add (line_addition N first n Q line) ∷ forget_steps n numbers) after
+    first_leads =
+        Leads-then V s between after (add (line_addition N first n Q line) ∷ []) (forget_steps n numbers) (Leads-line V N first n gone Q K s line rises moved f.0.clear h.0)
+        (Leads-forget V between n numbers (are_different-renumbered N first line.forgets low f.0.distinct) there)
+
+    finish : LinesLead V N first (n + 1) (gone ++ line.forgets) Q (K ++ line.clause ∷ []) after lines → LinesLead V N first n gone Q K s (line ∷ lines)
     finish more = record {
       state = more.state;
-      leads = Leads-then V s after more.state (add (line_addition N first n Q line) ∷ []) (leaf_steps N first (n + 1) Q lines) (Leads-line V N first n Q K s line rises moved h.0) more.leads;
+      leads = Leads-then V s after more.state (add (line_addition N first n Q line) ∷ forget_steps n numbers) (leaf_steps N first (n + 1) Q lines) first_leads more.leads;
       last = let l = more.last in omega arith;
-      kept = λ m l. more.kept m (omega arith) ∙ kept-added s (line_addition N first n Q line) n m refl l;
-      moved = rw (← append_assoc K (line.clause ∷ []) (map (λ (x : Line). x.clause) lines)) more.moved;
+      kept = λ m l. more.kept m l ∙ kept_on m l;
+      moved = rw (← append_assoc K (line.clause ∷ []) (map (λ (x : Line). x.clause) lines), ← append_assoc gone line.forgets (forgotten_by lines)) more.moved;
     }

@@ -173,3 +173,40 @@ clause_of-without_numbers K [] k h = refl
 clause_of-without_numbers K (n ∷ ns) k h =
     let other : nat_eq n k ≡ false = false_unless (nat_eq n k) (λ t. true_false (nat_eq k n) (eq-eqb k n (sym (eqb-true n k t))) (or-false_left (nat_eq k n) (is_among k ns) h)) in
     clause_of-without_numbers (without_number K n) ns k (or-false_right (nat_eq k n) (is_among k ns) h) ∙ clause_of-without K n k other
+
+-- hints that name none of several come to the same without them
+pub take_hints-without_numbers : (K : Numbered) (ns : List ℕ) (P : List Literal) (hints : List ℕ) → ((n : ℕ) → is_among n ns ≡ true → is_among n hints ≡ false)
+    → take_hints (without_numbers K ns) P hints ≡ take_hints K P hints
+take_hints-without_numbers K [] P hints h = refl
+take_hints-without_numbers K (n ∷ ns) P hints h =
+    take_hints-without_numbers (without_number K n) ns P hints (λ m a. h m (or-right (nat_eq m n) (is_among m ns) a))
+    ∙ take_hints-without K n P hints (h n (or-left (nat_eq n n) (is_among n ns) (eq-eqb n n refl)))
+
+-- what is deleted isn't there
+clause_of-deleted : (K : Numbered) (n : ℕ) → clause_of (without_number K n) n ≡ None
+clause_of-deleted [] n = refl
+clause_of-deleted (x ∷ K) n = go (nat_eq x.0 n) refl (clause_of-deleted K n)
+  where
+    go : (b : Bool) → nat_eq x.0 n ≡ b → clause_of (without_number K n) n ≡ None → clause_of (cond (not b) (x ∷ without_number K n) (without_number K n)) n ≡ None
+    go true e more = more
+    go false e more = ap (λ b. if b then Some x.1 else clause_of (without_number K n) n) e ∙ more
+
+clause_of-fewer : (K : Numbered) (n k : ℕ) → clause_of K k ≡ None → clause_of (without_number K n) k ≡ None
+clause_of-fewer K n k h = go (nat_eq n k) refl
+  where
+    go : (b : Bool) → nat_eq n k ≡ b → clause_of (without_number K n) k ≡ None
+    go true e = ap (clause_of (without_number K n)) (sym (eqb-true n k e)) ∙ clause_of-deleted K n
+    go false e = clause_of-without K n k e ∙ h
+
+clause_of-still_none : (K : Numbered) (ns : List ℕ) (k : ℕ) → clause_of K k ≡ None → clause_of (without_numbers K ns) k ≡ None
+clause_of-still_none K [] k h = h
+clause_of-still_none K (n ∷ ns) k h = clause_of-still_none (without_number K n) ns k (clause_of-fewer K n k h)
+
+pub clause_of-gone : (K : Numbered) (ns : List ℕ) (k : ℕ) → is_among k ns ≡ true → clause_of (without_numbers K ns) k ≡ None
+clause_of-gone K [] k h = absurd (cc)
+clause_of-gone K (n ∷ ns) k h = go (nat_eq k n) refl h (clause_of-gone (without_number K n) ns k)
+  where
+    go : (b : Bool) → nat_eq k n ≡ b → b || is_among k ns ≡ true → (is_among k ns ≡ true → clause_of (without_numbers (without_number K n) ns) k ≡ None)
+        → clause_of (without_numbers (without_number K n) ns) k ≡ None
+    go true e t more = clause_of-still_none (without_number K n) ns k (ap (clause_of (without_number K n)) (eqb-true k n e) ∙ clause_of-deleted K n)
+    go false e t more = more t

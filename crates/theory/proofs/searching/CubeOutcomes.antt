@@ -16,6 +16,8 @@ use Rattle.theory.proofs.trails.TrailEntries.{has-from_cube_of, literals-consist
 use Rattle.theory.proofs.literals.OverVariables.{AreOver-from_IsOver}
 use Rattle.theory.proofs.searching.EmptyLines.{clause-learn_empty}
 use Rattle.theory.proofs.searching.ModelLemmas.{quiet-true, there-true, length-values}
+use Rattle.theory.proofs.searching.ForgottenClauses.{hints-left}
+use Rattle.theory.proofs.searching.ForgettingLines.{AreForgetting-line}
 use Rattle.theory.proofs.searching.KeptSearches.{AreReplayed-push, IsReplayed-learn}
 
 -- a model makes the first clauses and the cube true; a refuted cube's lines replay
@@ -55,8 +57,10 @@ pub CubeSays-refuted : (V : ℕ) (R : List Literal) (K : List Clause) (Q : List 
     → IsSearchOf V K Q C T lines → CubeSays V K Q (refuted (lines ++ learn_removing R C T n ∷ []))
 CubeSays-refuted V R K Q C T lines n h level i = record {
   replayed = AreReplayed-push V (length K) Q K lines (learn_removing R C T n) i.replayed (IsReplayed-learn V R K Q C T lines n h i);
+  forgetting = AreForgetting-line V K Q C T lines (learn_removing R C T n) i refl (λ k e. hints-left R C T n k i.lawful h e);
   before = lines;
   last = learn_removing R C T n;
   ends = refl;
+  keeps = refl;
   empty = clause-learn_empty R C T n i.lawful level (least_false-at (literals T) C n h).2;
 }

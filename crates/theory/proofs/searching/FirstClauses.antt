@@ -5,7 +5,7 @@ use Rattle.theory.specs.Literals.{Clause}
 use Rattle.theory.specs.Trails.{Trail, up_to}
 use Rattle.theory.specs.Propagation.{Rule}
 use Rattle.theory.specs.Learning.{Line, learn_removing}
-use Rattle.theory.specs.Forgetting.{forget}
+use Rattle.theory.specs.Forgetting.{forgetting, forget}
 use Rattle.theory.specs.Units.{unit_line}
 use Rattle.theory.proofs.literals.LiteralSets.{false_unless}
 use Rattle.theory.proofs.searching.ForgettingNumbers.{length-forget, forget-append, forget-none}
@@ -34,7 +34,7 @@ BeginsWith-learnt K C T U lines line ns own i = record {
     later k t =
         let parts : length C ≡ length K + length i.learnt = ap length i.are_clauses ∙ length-append K i.learnt in
         let before = i.many in
-        let first = (own k t).0 in
+        let first = (own.within k t).0 in
         omega (arith, parts, before, first)
 
     front : forget ns 1 K ≡ K
@@ -59,5 +59,5 @@ IsInvariant-BeginsWith rule V K = record {
         omega (arith, one, other, before);
   };
   decided = λ C T lines l calm v free i. record { learnt = i.learnt; are_clauses = i.are_clauses; many = i.many };
-  learnt = λ R C T lines n ns level h above low own unused i. BeginsWith-learnt K C T (up_to T level) lines (learn_removing R C T n) ns own i;
+  learnt = λ R C T lines n ns level h above low own unused i. BeginsWith-learnt K C T (up_to T level) lines (forgetting ns (learn_removing R C T n)) ns own i;
 }

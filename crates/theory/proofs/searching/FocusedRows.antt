@@ -5,6 +5,7 @@ use Rattle.theory.specs.Literals.{Literal, positive, negative}
 use Rattle.theory.specs.Truth.{Formula}
 use Rattle.theory.specs.Plans.{Constants, default_constants}
 use Rattle.theory.specs.Search.{model, refuted, exhausted}
+use Rattle.theory.specs.Forgetting.{forgetting}
 use Rattle.theory.proofs.searching.Evaluation.{run_focused}
 use Rattle.theory.proofs.searching.Rows.{p1, n1, p2, n2, p3, n3, row17, line}
 
@@ -144,7 +145,7 @@ n20 = negative 20
 abbrev four_in_three : Formula
 four_in_three = record { vars = 12; clauses = (p1 ∷ p2 ∷ p3 ∷ []) ∷ (p4 ∷ p5 ∷ p6 ∷ []) ∷ (p7 ∷ p8 ∷ p9 ∷ []) ∷ (p10 ∷ p11 ∷ p12 ∷ []) ∷ (n1 ∷ n4 ∷ []) ∷ (n1 ∷ n7 ∷ []) ∷ (n1 ∷ n10 ∷ []) ∷ (n4 ∷ n7 ∷ []) ∷ (n4 ∷ n10 ∷ []) ∷ (n7 ∷ n10 ∷ []) ∷ (n2 ∷ n5 ∷ []) ∷ (n2 ∷ n8 ∷ []) ∷ (n2 ∷ n11 ∷ []) ∷ (n5 ∷ n8 ∷ []) ∷ (n5 ∷ n11 ∷ []) ∷ (n8 ∷ n11 ∷ []) ∷ (n3 ∷ n6 ∷ []) ∷ (n3 ∷ n9 ∷ []) ∷ (n3 ∷ n12 ∷ []) ∷ (n6 ∷ n9 ∷ []) ∷ (n6 ∷ n12 ∷ []) ∷ (n9 ∷ n12 ∷ []) ∷ [] }
 
-pigeons : run_focused small 120 four_in_three 1000 [] ≡ Some (refuted (line (p3 ∷ p6 ∷ n11 ∷ []) (13 ∷ 15 ∷ 1 ∷ 2 ∷ 5 ∷ []) ∷ line (p3 ∷ n5 ∷ p9 ∷ []) (11 ∷ 14 ∷ 1 ∷ 3 ∷ 6 ∷ []) ∷ line (n12 ∷ []) (19 ∷ 21 ∷ 22 ∷ 24 ∷ 2 ∷ 5 ∷ 8 ∷ 1 ∷ 3 ∷ 12 ∷ []) ∷ line (n5 ∷ []) (25 ∷ 11 ∷ 14 ∷ 15 ∷ 4 ∷ 7 ∷ 10 ∷ 1 ∷ 3 ∷ 18 ∷ []) ∷ line (n3 ∷ []) (25 ∷ 26 ∷ 17 ∷ 18 ∷ 2 ∷ 8 ∷ 9 ∷ 3 ∷ 4 ∷ 16 ∷ []) ∷ line (n8 ∷ []) (25 ∷ 27 ∷ 12 ∷ 16 ∷ 1 ∷ 4 ∷ 7 ∷ []) ∷ line (n10 ∷ []) (26 ∷ 28 ∷ 9 ∷ 10 ∷ 2 ∷ 3 ∷ 20 ∷ []) ∷ line (p11 ∷ []) (25 ∷ 29 ∷ 4 ∷ []) ∷ line (n2 ∷ []) (30 ∷ 13 ∷ []) ∷ line (p1 ∷ []) (27 ∷ 31 ∷ 1 ∷ []) ∷ line (n4 ∷ []) (32 ∷ 5 ∷ []) ∷ line (n7 ∷ []) (32 ∷ 6 ∷ []) ∷ line (p6 ∷ []) (26 ∷ 33 ∷ 2 ∷ []) ∷ line (p9 ∷ []) (28 ∷ 34 ∷ 3 ∷ []) ∷ line [] (35 ∷ 36 ∷ 20 ∷ []) ∷ []))
+pigeons : run_focused small 120 four_in_three 1000 [] ≡ Some (refuted (line (p3 ∷ p6 ∷ n11 ∷ []) (13 ∷ 15 ∷ 1 ∷ 2 ∷ 5 ∷ []) ∷ line (p3 ∷ n5 ∷ p9 ∷ []) (11 ∷ 14 ∷ 1 ∷ 3 ∷ 6 ∷ []) ∷ line (n12 ∷ []) (19 ∷ 21 ∷ 22 ∷ 24 ∷ 2 ∷ 5 ∷ 8 ∷ 1 ∷ 3 ∷ 12 ∷ []) ∷ line (n5 ∷ []) (25 ∷ 11 ∷ 14 ∷ 15 ∷ 4 ∷ 7 ∷ 10 ∷ 1 ∷ 3 ∷ 18 ∷ []) ∷ line (n3 ∷ []) (25 ∷ 26 ∷ 17 ∷ 18 ∷ 2 ∷ 8 ∷ 9 ∷ 3 ∷ 4 ∷ 16 ∷ []) ∷ forgetting (23 ∷ 24 ∷ []) (line (n8 ∷ []) (25 ∷ 27 ∷ 12 ∷ 16 ∷ 1 ∷ 4 ∷ 7 ∷ [])) ∷ line (n10 ∷ []) (26 ∷ 28 ∷ 9 ∷ 10 ∷ 2 ∷ 3 ∷ 20 ∷ []) ∷ line (p11 ∷ []) (25 ∷ 29 ∷ 4 ∷ []) ∷ line (n2 ∷ []) (30 ∷ 13 ∷ []) ∷ line (p1 ∷ []) (27 ∷ 31 ∷ 1 ∷ []) ∷ line (n4 ∷ []) (32 ∷ 5 ∷ []) ∷ line (n7 ∷ []) (32 ∷ 6 ∷ []) ∷ line (p6 ∷ []) (26 ∷ 33 ∷ 2 ∷ []) ∷ line (p9 ∷ []) (28 ∷ 34 ∷ 3 ∷ []) ∷ line [] (35 ∷ 36 ∷ 20 ∷ []) ∷ []))
 pigeons = refl
 
 -- its model isn't the first one

@@ -16,7 +16,7 @@ use Rattle.theory.specs.Search.{Outcome, model, refuted, exhausted, Next, ends, 
 use Rattle.theory.specs.Scores.{Scores, best_outside}
 use Rattle.theory.specs.Restarts.{restarts}
 use Rattle.theory.specs.Rephasing.{is_over}
-use Rattle.theory.specs.Forgetting.{Mark, fresh_mark, with_used, unused, not_used, forget}
+use Rattle.theory.specs.Forgetting.{Mark, fresh_mark, with_used, unused, not_used, forgetting, forget}
 use Rattle.theory.specs.Focused.{FocusedState, begin, with_units_of, settled, saved_literal, weighed, gone_back, to_forget, round_ended, with_lesson, learnt_next, splits_on, on_quiet, on_conflict, after, IsFocusedStep, RunsFocused}
 use Rattle.theory.proofs.trails.LawfulTrails.{current_level-Propagates, IsLawful-Propagates, IsLawful-decide, IsLawful-append, IsLawful-up_to}
 use Rattle.theory.proofs.trails.TrailLevels.{up_to-up_to, up_to-push}
@@ -26,7 +26,7 @@ use Rattle.theory.proofs.searching.PropagationLemmas.{Propagates-unique}
 use Rattle.theory.proofs.searching.SearchSteps.{above_zero}
 use Rattle.theory.proofs.searching.SearchSoundness.{Says, Propagates-says}
 use Rattle.theory.proofs.searching.OpenTrails.{up_to-Propagates}
-use Rattle.theory.proofs.searching.ForgettingNumbers.{forget-nothing, late-number, AreUnits-forget, AreNoReasons, IsLawful-forget}
+use Rattle.theory.proofs.searching.ForgettingNumbers.{forget-nothing, late-number, late-differ, AreUnits-forget, AreNoReasons, IsLawful-forget}
 use Rattle.theory.proofs.searching.BestVariables.{best_outside-some, best_outside-none}
 use Rattle.theory.proofs.searching.UnitWalks.{AreUnits-append, units-keep, literals-units, least_false-units, conflict-units}
 use Rattle.theory.proofs.searching.Invariants.{Kept, AreLearnt, IsInvariant}
@@ -178,7 +178,7 @@ module _ (c : Constants) (V : ℕ) (H : Type 0) (P : Kept) (inv : IsInvariant H 
 
     -- with learnt clauses forgotten that are no reasons
     forgets : (ns : List ℕ) → AreLearnt ns s.clauses s.lines → AreNoReasons ns (up_to s.trail 0)
-        → P (forget ns 1 s.clauses ++ line.clause ∷ []) (up_to s.trail 0) (s.lines ++ line ∷ [])
+        → P (forget ns 1 s.clauses ++ line.clause ∷ []) (up_to s.trail 0) (s.lines ++ forgetting ns line ∷ [])
         × (H → IsLawful (forget ns 1 s.clauses ++ line.clause ∷ []) (up_to s.trail 0) × AreUnits (forget ns 1 s.clauses ++ line.clause ∷ []) (up_to (up_to s.trail 0) 0))
     forgets ns own free = (
       inv.learnt R s.clauses s.trail s.lines n ns 0 clash above (omega arith) own (λ h. free) i.kept,
@@ -190,11 +190,11 @@ module _ (c : Constants) (V : ℕ) (H : Type 0) (P : Kept) (inv : IsInvariant H 
     )
 
     -- with none forgotten
-    keeps_all : (level : ℕ) → level ≤ back_level s.trail line.clause → P (s.clauses ++ line.clause ∷ []) (up_to s.trail level) (s.lines ++ line ∷ [])
+    keeps_all : (level : ℕ) → level ≤ back_level s.trail line.clause → P (s.clauses ++ line.clause ∷ []) (up_to s.trail level) (s.lines ++ forgetting [] line ∷ [])
         × (H → IsLawful (s.clauses ++ line.clause ∷ []) (up_to s.trail level) × AreUnits (s.clauses ++ line.clause ∷ []) (up_to (up_to s.trail level) 0))
     keeps_all level low = (
-      subst (λ (D : List Clause). P (D ++ line.clause ∷ []) (up_to s.trail level) (s.lines ++ line ∷ [])) (forget-nothing 1 s.clauses)
-          (inv.learnt R s.clauses s.trail s.lines n [] level clash above low (λ k t. absurd (cc)) (λ h k t. absurd (cc)) i.kept),
+      subst (λ (D : List Clause). P (D ++ line.clause ∷ []) (up_to s.trail level) (s.lines ++ forgetting [] line ∷ [])) (forget-nothing 1 s.clauses)
+          (inv.learnt R s.clauses s.trail s.lines n [] level clash above low (record { within = λ k t. absurd (cc); whole = λ k t. absurd (cc); distinct = refl }) (λ h k t. absurd (cc)) i.kept),
       λ h. (
         IsLawful-append s.clauses (line.clause ∷ []) (up_to s.trail level) (IsLawful-up_to s.clauses s.trail level (i.grounded h).0),
         subst (AreUnits (s.clauses ++ line.clause ∷ [])) (sym (up_to-up_to s.trail level 0 (omega arith))) (AreUnits-append s.clauses (line.clause ∷ []) (up_to s.trail 0) (i.grounded h).1),
@@ -219,30 +219,34 @@ module _ (c : Constants) (V : ℕ) (H : Type 0) (P : Kept) (inv : IsInvariant H 
       marked : length w.marks ≡ length s.marks
       marked = length-with_used l.resolved _ s.marks
 
-      go : (over restart : Bool) → Keeps H P (with_lesson (if over then round_ended c (gone_back (over || restart) back w) else gone_back (over || restart) back w) l)
+      go : (over restart : Bool) → Keeps H P (if over then with_lesson (round_ended c (gone_back (over || restart) back w)) l (to_forget c (gone_back (over || restart) back w)) else with_lesson (gone_back (over || restart) back w) l [])
       go true restart =
           let f = forgets s R n i clash above ns own unused_ones in
-          record { kept = f.0; grounded = f.1; marks = one_more s R n i clash above (unused w.marks) _ s.lines l.line (length-map w.marks not_used ∙ (marked ∙ i.marks)) }
+          record { kept = f.0; grounded = f.1; marks = one_more s R n i clash above (unused w.marks) _ s.lines (forgetting ns l.line) (length-map w.marks not_used ∙ (marked ∙ i.marks)) }
         where
           ns : List ℕ
           ns = to_forget c (gone_back true back w)
 
           own : AreLearnt ns s.clauses s.lines
-          own k t =
-              let number = late-number c (up_to s.trail 0) s.clauses w.marks k t in
-              let first = number.0 in
-              let many = i.marks in
-              let same = marked in
-              (omega (arith, first, many, same), number.1)
+          own = record {
+            within = λ k t.
+                let number = late-number c (up_to s.trail 0) s.clauses w.marks k t in
+                let first = number.0 in
+                let many = i.marks in
+                let same = marked in
+                (omega (arith, first, many, same), number.1);
+            whole = λ k t. (late-number c (up_to s.trail 0) s.clauses w.marks k t).3;
+            distinct = late-differ c (up_to s.trail 0) s.clauses w.marks;
+          }
 
           unused_ones : AreNoReasons ns (up_to s.trail 0)
           unused_ones k t = (late-number c (up_to s.trail 0) s.clauses w.marks k t).2
       go false true =
           let f = keeps_all s R n i clash above 0 (omega arith) in
-          record { kept = f.0; grounded = f.1; marks = one_more s R n i clash above w.marks _ s.lines l.line (marked ∙ i.marks) }
+          record { kept = f.0; grounded = f.1; marks = one_more s R n i clash above w.marks _ s.lines (forgetting [] l.line) (marked ∙ i.marks) }
       go false false =
           let f = keeps_all s R n i clash above back (omega arith) in
-          record { kept = f.0; grounded = f.1; marks = one_more s R n i clash above w.marks _ s.lines l.line (marked ∙ i.marks) }
+          record { kept = f.0; grounded = f.1; marks = one_more s R n i clash above w.marks _ s.lines (forgetting [] l.line) (marked ∙ i.marks) }
 
   -- a conflict
   conflict-goes : (budget : ℕ) (s : FocusedState) (n : ℕ) → Keeps H P s → least_false (literals s.trail) s.clauses ≡ Some n → Goes H V P (on_conflict c V budget s n)

@@ -14,9 +14,10 @@ use Rattle.theory.specs.Learnable.{IsOpenBelow}
 use Rattle.theory.specs.Plans.{Constants}
 use Rattle.theory.specs.Units.{has_two, IsUnit, AreUnits}
 use Rattle.theory.specs.Forgetting.{forgotten, forget, is_reason, is_number, Mark, Candidate, candidates, may_go, late_ones, is_late}
+use Rattle.theory.specs.Deletions.{is_among, are_different}
 use Rattle.theory.specs.Kept.{AreLeft}
-use Rattle.theory.proofs.literals.LiteralLemmas.{and-right, or-cases, or-right, not_true}
-use Rattle.theory.proofs.literals.LiteralSets.{true_false, false_unless, or-false_left, or-false_right}
+use Rattle.theory.proofs.literals.LiteralLemmas.{and-left, and-right, or-cases, or-right, not_true}
+use Rattle.theory.proofs.literals.LiteralSets.{true_false, false_unless, and-true, or-false_left, or-false_right}
 use Rattle.theory.proofs.trails.LawfulTrails.{IsLawful-up_to}
 use Rattle.theory.proofs.searching.ForgottenClauses.{is_false-forgotten}
 
@@ -145,11 +146,11 @@ numbers-filter k p (a ∷ all) h = go (p a) h (numbers-filter k p all)
     ]
     go false q more = or-right (nat_eq k a.number) (list_any (of_number k) all) (more q)
 
--- each number is one of the learnt clauses', and no reason
-IsCandidate : Trail → ℕ → ℕ → ℕ → Type 0
-IsCandidate T n count k = (n ≤ k) × (k < n + count) × (is_reason T k ≡ false)
+-- each number is that of a learnt clause that isn't forgotten, and no reason
+IsCandidate : Trail → ℕ → List Clause → ℕ → Type 0
+IsCandidate T n learnt k = (n ≤ k) × (k < n + length learnt) × (is_reason T k ≡ false) × (has_both_signs (unwrap_or (slice_get learnt (k - n)) []) ≡ false)
 
-candidate-number : (c : Constants) (T : Trail) (n : ℕ) (learnt : List Clause) (marks : List Mark) (k : ℕ) → list_any (of_number k) (candidates c T n learnt marks) ≡ true → IsCandidate T n (length learnt) k
+candidate-number : (c : Constants) (T : Trail) (n : ℕ) (learnt : List Clause) (marks : List Mark) (k : ℕ) → list_any (of_number k) (candidates c T n learnt marks) ≡ true → IsCandidate T n learnt k
 unfolding of_number IsCandidate
 candidate-number c T n [] marks k h = absurd (cc)
 candidate-number c T n (d ∷ learnt) [] k h = absurd (cc)
@@ -159,40 +160,90 @@ candidate-number c T n (d ∷ learnt) (m ∷ marks) k h = go (may_go c T n d m) 
     rest = candidates c T (n + 1) learnt marks
 
     More : Type 0
-    More = list_any (of_number k) rest ≡ true → IsCandidate T (n + 1) (length learnt) k
+    More = list_any (of_number k) rest ≡ true → IsCandidate T (n + 1) learnt k
 
-    later : IsCandidate T (n + 1) (length learnt) k → IsCandidate T n (length (d ∷ learnt)) k
-    later i = let low = i.0 in let high = i.1 in (omega arith, omega arith, i.2)
+    later : IsCandidate T (n + 1) learnt k → IsCandidate T n (d ∷ learnt) k
+    later i =
+        let low = i.0 in
+        let high = i.1 in
+        let next : k - n ≡ suc (k - (n + 1)) = omega (arith, low) in
+        (omega arith, omega arith, i.2, subst (λ j. has_both_signs (unwrap_or (slice_get (d ∷ learnt) j) []) ≡ false) (sym next) i.3)
+
+    stays : may_go c T n d m ≡ true → not (has_both_signs d) && not (is_reason T n) ≡ true
+    stays e = and-right (not m.used) (not (has_both_signs d) && not (is_reason T n)) (and-right (nat_lt c.kept_glue m.glue) (not m.used && (not (has_both_signs d) && not (is_reason T n))) e)
 
     no_reason : may_go c T n d m ≡ true → is_reason T n ≡ false
-    no_reason e =
-        not_true (is_reason T n)
-        (and-right (not (has_both_signs d)) (not (is_reason T n)) (and-right (not m.used) (not (has_both_signs d) && not (is_reason T n)) (and-right (nat_lt c.kept_glue m.glue) (not m.used && (not (has_both_signs d) && not (is_reason T n))) e)))
+    no_reason e = not_true (is_reason T n) (and-right (not (has_both_signs d)) (not (is_reason T n)) (stays e))
 
-    here : may_go c T n d m ≡ true → k ≡ n → IsCandidate T n (length (d ∷ learnt)) k
-    here e i = (omega arith, omega arith, ap (is_reason T) i ∙ no_reason e)
+    whole : may_go c T n d m ≡ true → has_both_signs d ≡ false
+    whole e = not_true (has_both_signs d) (and-left (not (has_both_signs d)) (not (is_reason T n)) (stays e))
+
+    here : may_go c T n d m ≡ true → k ≡ n → IsCandidate T n (d ∷ learnt) k
+    here e i =
+        let none : k - n ≡ 0 = omega (arith, i) in
+        (omega arith, omega arith, ap (is_reason T) i ∙ no_reason e, subst (λ j. has_both_signs (unwrap_or (slice_get (d ∷ learnt) j) []) ≡ false) (sym none) (whole e))
 
     go : (b : Bool) → may_go c T n d m ≡ b → list_any (of_number k) (if b then record { number = n; glue = m.glue; size = length d } ∷ rest else rest) ≡ true → More
-        → IsCandidate T n (length (d ∷ learnt)) k
+        → IsCandidate T n (d ∷ learnt) k
     go true e q more = elim (or-cases (nat_eq k n) (list_any (of_number k) rest) q) [
       | inl i ↦ here e (eqb-true k n i)
       | inr i ↦ later (more i)
     ]
     go false e q more = later (more q)
 
+-- a list from a place on
+slice_get-drop : {X : Type 0} (i j : ℕ) (xs : List X) → slice_get (drop i xs) j ≡ slice_get xs (i + j)
+slice_get-drop zero j xs = let e : 0 + j ≡ j = omega arith in rw e refl
+slice_get-drop (suc i) j [] = refl
+slice_get-drop (suc i) j (x ∷ xs) = let e : suc i + j ≡ suc (i + j) = omega arith in slice_get-drop i j xs ∙ ap (slice_get (x ∷ xs)) (sym e)
+
 -- the numbers that a round's end forgets
 pub late-number : (c : Constants) (T : Trail) (K : List Clause) (marks : List Mark) (k : ℕ)
     → list_any (nat_eq k) (late_ones (candidates c T (length K - length marks + 1) (drop (length K - length marks) K) marks)) ≡ true
-    → (length K - length marks < k) × (k ≤ length K) × (is_reason T k ≡ false)
+    → (length K - length marks < k) × (k ≤ length K) × (is_reason T k ≡ false) × (has_both_signs (clause_at K k) ≡ false)
 unfolding IsCandidate
 late-number c T K marks k h =
     let first = length K - length marks in
     let all = candidates c T (first + 1) (drop first K) marks in
-    let n : IsCandidate T (first + 1) (length (drop first K)) k = candidate-number c T (first + 1) (drop first K) marks k (numbers-filter k (is_late all) all h) in
+    let n : IsCandidate T (first + 1) (drop first K) k = candidate-number c T (first + 1) (drop first K) marks k (numbers-filter k (is_late all) all h) in
     let count : length (drop first K) ≡ length K - first = length-drop first K in
     let low = n.0 in
     let high = n.1 in
-    (omega arith, omega (arith, high, count), n.2)
+    let place : first + (k - (first + 1)) ≡ k - 1 = omega (arith, low) in
+    (omega arith, omega (arith, high, count), n.2, subst (λ (o : Option Clause). has_both_signs (unwrap_or o []) ≡ false) (slice_get-drop first (k - (first + 1)) K ∙ ap (slice_get K) place) n.3)
+
+-- each stands once among them
+candidates-differ : (c : Constants) (T : Trail) (p : Candidate → Bool) (n : ℕ) (learnt : List Clause) (marks : List Mark)
+    → are_different (map (λ (a : Candidate). a.number) (filter p (candidates c T n learnt marks))) ≡ true
+unfolding IsCandidate
+candidates-differ c T p n [] marks = refl
+candidates-differ c T p n (d ∷ learnt) [] = refl
+candidates-differ c T p n (d ∷ learnt) (m ∷ marks) = marked (may_go c T n d m) (candidates-differ c T p (n + 1) learnt marks)
+  where
+    rest : List Candidate
+    rest = candidates c T (n + 1) learnt marks
+
+    this : Candidate
+    this = record { number = n; glue = m.glue; size = length d }
+
+    numbers : List ℕ
+    numbers = map (λ (a : Candidate). a.number) (filter p rest)
+
+    alone : is_among n numbers ≡ false
+    alone = false_unless (is_among n numbers) (λ t. let low = (candidate-number c T (n + 1) learnt marks n (numbers-filter n p rest t)).0 in omega (arith, low))
+
+    chosen : (b : Bool) → are_different numbers ≡ true → are_different (map (λ (a : Candidate). a.number) (cond b (this ∷ filter p rest) (filter p rest))) ≡ true
+    chosen true more = and-true (not (is_among n numbers)) (are_different numbers) (ap not alone) more
+    chosen false more = more
+
+    marked : (b : Bool) → are_different numbers ≡ true → are_different (map (λ (a : Candidate). a.number) (filter p (if b then this ∷ rest else rest))) ≡ true
+    marked true more = chosen (p this) more
+    marked false more = more
+
+pub late-differ : (c : Constants) (T : Trail) (K : List Clause) (marks : List Mark) → are_different (late_ones (candidates c T (length K - length marks + 1) (drop (length K - length marks) K) marks)) ≡ true
+late-differ c T K marks =
+    let all = candidates c T (length K - length marks + 1) (drop (length K - length marks) K) marks in
+    candidates-differ c T (is_late all) (length K - length marks + 1) (drop (length K - length marks) K) marks
 
 -- units stay units where no reason is forgotten
 pub AreUnits-forget : (ns : List ℕ) (K : List Clause) (T : Trail) → AreNoReasons ns T → AreUnits K T → AreUnits (forget ns 1 K) T

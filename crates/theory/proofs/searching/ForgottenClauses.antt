@@ -1,6 +1,6 @@
 -- Clauses of which some are forgotten: a forgotten one is never false and never a reason, so what
 -- is learnt is learnt from the others.
-use Rattle.std.proofs.Common.{◌≡◌, ℕ, zero, suc, ◌-◌, ◌≤◌, Bool, true, false, List, [], ◌∷◌, ◌++◌, length, refl, ap, sym, subst, ◌∙◌, ◌⊎◌, inl, inr, Option, Some, None, slice_get, unwrap_or, if◌then◌else◌}
+use Rattle.std.proofs.Common.{◌≡◌, ℕ, zero, suc, ◌-◌, ◌≤◌, Bool, true, false, List, [], ◌∷◌, ◌++◌, length, refl, ap, sym, subst, ◌∙◌, nat_eq, eqb-true, ◌⊎◌, inl, inr, Option, Some, None, slice_get, unwrap_or, if◌then◌else◌}
 use Rattle.theory.specs.Literals.{Literal, Clause, positive, negative, negated, has, has_var, without}
 use Rattle.theory.specs.Status.{is_false}
 use Rattle.theory.specs.Trails.{Entry, Trail, literals}
@@ -8,9 +8,11 @@ use Rattle.theory.specs.Propagation.{clause_at, least_false}
 use Rattle.theory.specs.Lawful.{IsReason, IsGrounded, IsLawfulAfter, IsLawful}
 use Rattle.theory.specs.Learning.{with_literals, resolved_by, reason_used, walk, learnt_from, learn_removing}
 use Rattle.theory.specs.Forgetting.{forgotten}
+use Rattle.theory.specs.Deletions.{is_among}
 use Rattle.theory.specs.Kept.{AreLeft}
-use Rattle.theory.proofs.literals.LiteralSets.{true_false, false_unless, has_var-has, has-cases, Refutes-from_is_false}
+use Rattle.theory.proofs.literals.LiteralSets.{true_false, false_unless, or-none, has_var-has, has-cases, Refutes-from_is_false}
 use Rattle.theory.proofs.trails.LawfulTrails.{least_false-at}
+use Rattle.theory.proofs.searching.Walks.{walk-all, entry-place, grounded-place}
 use Rattle.theory.proofs.trails.TrailEntries.{literals-consistent}
 
 -- the forgotten clause
@@ -19,7 +21,7 @@ is_false-forgotten K T h = false_unless (is_false (literals T) forgotten) (λ t.
     let r = Refutes-from_is_false (literals T) forgotten t in
     literals-consistent K T (positive 1) h (r (negative 1) refl) (r (positive 1) refl))
 
-IsReason-forgotten : (K : List Clause) (P : List Literal) (l : Literal) (n : ℕ) → has_var P l.var ≡ false → IsReason K P l n → clause_at K n ≡ forgotten → ⊥
+pub IsReason-forgotten : (K : List Clause) (P : List Literal) (l : Literal) (n : ℕ) → has_var P l.var ≡ false → IsReason K P l n → clause_at K n ≡ forgotten → ⊥
 IsReason-forgotten K P l n new reason e = go (has-cases (positive 1) l (negative 1 ∷ []) there)
   where
     there : has forgotten l ≡ true
@@ -128,3 +130,17 @@ pub learn-left : (R : List Literal) (A L : List Clause) (T : Trail) (n : ℕ) �
 learn-left R A L T n h t f =
     ap (λ (c : Clause). learnt_from (walk L T R T (with_literals c []) (n ∷ [])) T) (conflict-left A L T n h t f)
     ∙ ap (λ (w : Clause × List ℕ). learnt_from w T) (walk-left A L T R [] T (with_literals (clause_at A n) []) (n ∷ []) h t)
+
+-- no hint of what is learnt is the number of a forgotten clause
+pub hints-left : (R : List Literal) (C : List Clause) (T : Trail) (n k : ℕ) → IsLawful C T → least_false (literals T) C ≡ Some n → clause_at C k ≡ forgotten → is_among k (learn_removing R C T n).hints ≡ false
+hints-left R C T n k lawful f e =
+    walk-all C T R (λ before w. is_among k w.1 ≡ false) (λ before x es w place h i. i) (λ before x es w m place h i. or-none (nat_eq k m) (is_among k w.1) (other before x es w m place h) i)
+    (with_literals (clause_at C n) []) (n ∷ []) (or-none (nat_eq k n) false conflict refl)
+  where
+    conflict : nat_eq k n ≡ false
+    conflict = false_unless (nat_eq k n) (λ t.
+        true_false (is_false (literals T) forgotten) (subst (λ (c : Clause). is_false (literals T) c ≡ true) (ap (clause_at C) (sym (eqb-true k n t)) ∙ e) (least_false-at (literals T) C n f).2) (is_false-forgotten C T lawful))
+
+    other : (before : Trail) (x : Entry) (es : Trail) (w : Clause × List ℕ) (m : ℕ) → T ≡ before ++ x ∷ es → reason_used T R w.0 x ≡ Some m → nat_eq k m ≡ false
+    other before x es w m place h = false_unless (nat_eq k m) (λ t.
+        IsReason-forgotten C (literals before) x.lit m (entry-place C T before x es lawful place).is_new (grounded-place C T R before x es w.0 m lawful place h).1 (ap (clause_at C) (sym (eqb-true k m t)) ∙ e))

@@ -1,17 +1,20 @@
 -- What holds of clauses, trail and lines through a whole search.
 use Rattle.std.proofs.Common.{◌≡◌, ℕ, ◌+◌, ◌-◌, ◌<◌, ◌≤◌, true, false, List, [], ◌∷◌, ◌++◌, length, nat_eq, Some, None}
 use Rattle.std.specs.List.{list_any}
-use Rattle.theory.specs.Literals.{Literal, Clause, has_var, IsVariable}
+use Rattle.theory.specs.Literals.{Literal, Clause, has_var, has_both_signs, IsVariable}
 use Rattle.theory.specs.Trails.{Entry, Trail, literals, current_level, decide, up_to}
-use Rattle.theory.specs.Propagation.{Closed, Propagates, Rule, least_false}
+use Rattle.theory.specs.Propagation.{Closed, Propagates, Rule, clause_at, least_false}
 use Rattle.theory.specs.Learning.{Line, learn_removing, back_level}
 use Rattle.theory.specs.Units.{unit_line, with_reason, AreUnits}
-use Rattle.theory.specs.Forgetting.{forget}
+use Rattle.theory.specs.Forgetting.{forgetting, forget}
+use Rattle.theory.specs.Deletions.{are_different}
 use Rattle.theory.proofs.searching.ForgettingNumbers.{AreNoReasons}
 
--- these are numbers of learnt clauses
-abbrev pub AreLearnt : List ℕ → List Clause → List Line → Type 0
-AreLearnt ns C lines = (k : ℕ) → list_any (nat_eq k) ns ≡ true → (length C - length lines < k) × (k ≤ length C)
+-- these are numbers of learnt clauses, each once, of which none is forgotten
+pub record AreLearnt (ns : List ℕ) (C : List Clause) (lines : List Line) : Type 0 where
+  pub within : (k : ℕ) → list_any (nat_eq k) ns ≡ true → (length C - length lines < k) × (k ≤ length C)
+  pub whole : (k : ℕ) → list_any (nat_eq k) ns ≡ true → has_both_signs (clause_at C k) ≡ false
+  pub distinct : are_different ns ≡ true
 
 -- what is said of clauses, trail and lines
 abbrev pub Kept : Type 1
@@ -32,4 +35,4 @@ pub record IsInvariant (H : Type 0) (rule : Rule) (V : ℕ) (P : Kept) : Type 0 
       → P C T lines → P C (decide T l) lines
   pub learnt : (R : List Literal) (C : List Clause) (T : Trail) (lines : List Line) (n : ℕ) (ns : List ℕ) (level : ℕ) → least_false (literals T) C ≡ Some n → 1 ≤ current_level T
       → level ≤ back_level T (learn_removing R C T n).clause → AreLearnt ns C lines → (H → AreNoReasons ns (up_to T level))
-      → P C T lines → P (forget ns 1 C ++ (learn_removing R C T n).clause ∷ []) (up_to T level) (lines ++ learn_removing R C T n ∷ [])
+      → P C T lines → P (forget ns 1 C ++ (learn_removing R C T n).clause ∷ []) (up_to T level) (lines ++ forgetting ns (learn_removing R C T n) ∷ [])

@@ -1,30 +1,33 @@
 -- What a search keeps: it is so at the beginning, and propagation, decisions, learning, going back
 -- and forgetting keep it.
-use Rattle.std.proofs.Common.{◌≡◌, ℕ, ◌+◌, ◌-◌, ◌<◌, ◌≤◌, true, false, List, [], ◌∷◌, ◌++◌, map, length, ap, sym, subst, ◌∙◌, nat_eq, None, Some, append_assoc, append-nil, length-append, arith, All}
-use Rattle.std.proofs.lemmas.List.{map-append, length-map}
+use Rattle.std.proofs.Common.{◌≡◌, ℕ, ◌+◌, ◌-◌, ◌<◌, ◌≤◌, true, false, List, [], ◌∷◌, ◌++◌, map, length, ap, sym, subst, ◌∙◌, nat_eq, None, Some, append_assoc, append-nil, arith, All, refl, inl, inr}
+use Rattle.std.proofs.lemmas.List.{map-append}
 use Rattle.std.proofs.lemmas.List.Elements.{All-push}
 use Rattle.std.specs.List.{list_any}
-use Rattle.theory.specs.Literals.{Literal, Clause, negations, has, has_var, IsVariable, are_distinct}
+use Rattle.theory.specs.Literals.{Literal, Clause, negations, has, has_var, IsVariable, are_distinct, has_both_signs}
 use Rattle.theory.specs.Truth.{IsOver}
 use Rattle.theory.specs.Status.{is_false}
 use Rattle.theory.specs.Trails.{Trail, literals, current_level, cube_trail, decide, up_to}
 use Rattle.theory.specs.Propagation.{clause_at, least_false, Closed, unit_entry, Propagates, clashes, grows, rests, Rule, IsRule}
 use Rattle.theory.specs.Lawful.{IsLawful, cube_of}
 use Rattle.theory.specs.Learning.{Line, learn_removing, back_level}
-use Rattle.theory.specs.Forgetting.{forget}
+use Rattle.theory.specs.Forgetting.{forgotten, forgetting, forget}
+use Rattle.theory.specs.Deletions.{is_among}
+use Rattle.theory.specs.Proofs.{forgotten_by}
 use Rattle.theory.specs.Replaying.{IsReplayed, AreReplayed}
 use Rattle.theory.specs.Kept.{clauses_of, AreLeft, IsSearchOf}
-use Rattle.theory.proofs.literals.LiteralSets.{false_unless}
+use Rattle.theory.proofs.literals.LiteralSets.{true_false, false_unless}
 use Rattle.theory.proofs.trails.LawfulTrails.{least_false-at, unit_literal-facts, IsLawful-append, IsLawful-up_to, IsLawful-decide, IsLawful-Propagates}
 use Rattle.theory.proofs.trails.TrailLevels.{up_to-up_to}
 use Rattle.theory.proofs.searching.Invariants.{AreLearnt}
+use Rattle.theory.proofs.searching.ForgettingLines.{length-kept, AreForgetting-push, is_among-push, AreForgetting-line, gone-more, gone-line, gone-forget, forgotten-at}
 use Rattle.theory.proofs.literals.OverVariables.{AreOver, IsOver-from_AreOver, AreOver-from_IsOver, IsOver-left, clause_at-over, AreOver-push}
 use Rattle.theory.proofs.searching.OpenTrails.{IsOpenBelow-cube_trail, IsOpenBelow-Propagates, IsOpenBelow-decide, IsOpenBelow-up_to, IsOpenBelow-learn}
 use Rattle.theory.proofs.searching.LearnableLines.{free-learn, current_level-learn}
 use Rattle.theory.proofs.searching.LearntLines.{Passes-learn, has_both_signs-learn, IsVariable-learn, Refutes-learn}
 use Rattle.theory.proofs.trails.TrailEntries.{has-literals_at, entry_of_filter, cube_of-decide, cube_of-Propagates, cube_of-up_to, cube_of-cube_trail, IsLawful-cube_trail}
 use Rattle.theory.proofs.trails.TrailLists.{literals-cube}
-use Rattle.theory.proofs.searching.ForgottenClauses.{AreLeft-refl, AreLeft-append, AreLeft-length, IsLawful-left, conflict-left, learn-left}
+use Rattle.theory.proofs.searching.ForgottenClauses.{AreLeft-refl, AreLeft-append, AreLeft-length, IsLawful-left, conflict-left, learn-left, hints-left}
 use Rattle.theory.proofs.searching.ForgettingNumbers.{AreLeft-forget, forget-append, forget-none, forget-push, AreNoReasons, IsLawful-forget, IsOpenBelow-forget, All-forget}
 
 pub AreOver-Propagates : (rule : Rule) → IsRule rule → (V : ℕ) (K : List Clause) (T U : Trail) (a : Closed) → All (IsOver V) K → Propagates rule K T a U → AreOver V (literals T) → AreOver V (literals U)
@@ -59,6 +62,8 @@ IsSearchOf-begin V K Q formed distinct over = record {
   cube = cube_of-cube_trail Q;
   variables = subst (IsOver V) (sym (literals-cube Q)) over;
   replayed = tt;
+  forgetting = tt;
+  gone = λ k a. absurd (cc);
 }
 
 pub IsSearchOf-Propagates : (rule : Rule) → IsRule rule → (V : ℕ) (K : List Clause) (Q : List Literal) (C : List Clause) (T U : Trail) (a : Closed) (lines : List Line)
@@ -73,6 +78,8 @@ IsSearchOf-Propagates rule g V K Q C T U a lines h i = record {
   cube = cube_of-Propagates rule C T U a h ∙ i.cube;
   variables = IsOver-from_AreOver V (literals U) (AreOver-Propagates rule g V C T U a i.over h (AreOver-from_IsOver V (literals T) i.variables));
   replayed = i.replayed;
+  forgetting = i.forgetting;
+  gone = i.gone;
 }
 
 pub IsSearchOf-decide : (V : ℕ) (K : List Clause) (Q : List Literal) (C : List Clause) (T : Trail) (lines : List Line) (l : Literal) → least_false (literals T) C ≡ None → IsVariable V l.var
@@ -87,6 +94,8 @@ IsSearchOf-decide V K Q C T lines l calm variable free i = record {
   cube = cube_of-decide T l ∙ i.cube;
   variables = IsOver-from_AreOver V (literals (decide T l)) (AreOver-push V T (record { lit = l; reason = None; level = current_level T + 1 }) (AreOver-from_IsOver V (literals T) i.variables) variable);
   replayed = i.replayed;
+  forgetting = i.forgetting;
+  gone = i.gone;
 }
 
 pub IsSearchOf-up_to : (V : ℕ) (K : List Clause) (Q : List Literal) (C : List Clause) (T : Trail) (lines : List Line) (b : ℕ) → b ≤ current_level T
@@ -101,6 +110,8 @@ IsSearchOf-up_to V K Q C T lines b low i = record {
   cube = cube_of-up_to T b ∙ i.cube;
   variables = IsOver-from_AreOver V (literals (up_to T b)) (AreOver-up_to V T b (AreOver-from_IsOver V (literals T) i.variables));
   replayed = i.replayed;
+  forgetting = i.forgetting;
+  gone = i.gone;
 }
 
 -- all clauses of a search, forgotten ones too
@@ -150,6 +161,8 @@ IsSearchOf-learn V R K Q C T lines n h above i = record {
   cube = cube_of-up_to T b ∙ i.cube;
   variables = IsOver-from_AreOver V (literals (up_to T b)) (AreOver-up_to V T b (AreOver-from_IsOver V (literals T) i.variables));
   replayed = AreReplayed-push V (length K) Q K lines line i.replayed replayed;
+  forgetting = AreForgetting-line V K Q C T lines line i refl (λ k e. hints-left R C T n k i.lawful h e);
+  gone = gone-line V K Q C T lines line i refl;
 }
   where
     line : Line
@@ -186,18 +199,67 @@ IsSearchOf-forget V K Q C T lines ns some later unused i = record {
   cube = i.cube;
   variables = i.variables;
   replayed = i.replayed;
+  forgetting = i.forgetting;
+  gone = λ k a. gone-forget ns C k (i.gone k a);
 }
   where
     first : forget ns 1 K ≡ K
     first = forget-none ns 1 K (λ k low high. false_unless (list_any (nat_eq k) ns) (λ t. let above = later k t in absurd (omega (arith, above, high))))
 
+-- what is forgotten stands in the last line
+IsSearchOf-forgetting : (V : ℕ) (R : List Literal) (K : List Clause) (Q : List Literal) (C : List Clause) (T U : Trail) (lines : List Line) (n : ℕ) (ns : List ℕ)
+    → least_false (literals T) C ≡ Some n → AreLearnt ns C lines → IsSearchOf V K Q C T lines
+    → IsSearchOf V K Q (forget ns 1 C ++ (learn_removing R C T n).clause ∷ []) U (lines ++ learn_removing R C T n ∷ [])
+    → IsSearchOf V K Q (forget ns 1 C ++ (learn_removing R C T n).clause ∷ []) U (lines ++ forgetting ns (learn_removing R C T n) ∷ [])
+IsSearchOf-forgetting V R K Q C T U lines n ns h own i after = record {
+  learnt = after.learnt;
+  are_clauses = after.are_clauses;
+  left = subst (λ (c : List Clause). AreLeft c after.learnt) same_clauses after.left;
+  over = after.over;
+  lawful = after.lawful;
+  open_below = after.open_below;
+  cube = after.cube;
+  variables = after.variables;
+  replayed = AreReplayed-push V (length K) Q K lines (forgetting ns line) i.replayed (record { passes = replayed.passes; one_sign = replayed.one_sign; over = replayed.over });
+  forgetting = AreForgetting-push (length K) (length K + 1) [] lines (forgetting ns line) i.forgetting (record {
+    clear = λ k a. hints-left R C T n k i.lawful h (i.gone k a);
+    distinct = own.distinct;
+    own = λ k a. own_number k a;
+  });
+  gone = λ k a. elim (is_among-push k lines (forgetting ns line) a) [
+    | inl b ↦ gone-more (forget ns 1 C) line.clause k (gone-forget ns C k (i.gone k b))
+    | inr b ↦ (let w = own.within k b in let first = w.0 in gone-more (forget ns 1 C) line.clause k (forgotten-at ns C k (omega (arith, first)) w.1 b))
+  ];
+}
+  where
+    line : Line
+    line = learn_removing R C T n
+
+    same_clauses : clauses_of (lines ++ line ∷ []) ≡ clauses_of (lines ++ forgetting ns line ∷ [])
+    same_clauses = map-append (λ (x : Line). x.clause) lines (line ∷ []) ∙ sym (map-append (λ (x : Line). x.clause) lines (forgetting ns line ∷ []))
+
+    replayed : IsReplayed V (length K) Q (K ++ clauses_of lines) line
+    replayed = IsReplayed-learn V R K Q C T lines n h i
+
+    own_number : (k : ℕ) → is_among k ns ≡ true → (length K < k) × (k < length K + 1 + length lines) × (is_among k (forgotten_by lines) ≡ false)
+    own_number k a =
+        let w = own.within k a in
+        let first = w.0 in
+        let last = w.1 in
+        let many = length-kept V K Q C T lines i in (
+          omega (arith, first, many),
+          omega (arith, last, many),
+          false_unless (is_among k (forgotten_by lines)) (λ t. true_false (has_both_signs forgotten) refl (ap has_both_signs (sym (i.gone k t)) ∙ own.whole k a)),
+        )
+
 -- a line is learnt, clauses are forgotten, and the trail goes back
 pub IsSearchOf-learnt : (V : ℕ) (R : List Literal) (K : List Clause) (Q : List Literal) (C : List Clause) (T : Trail) (lines : List Line) (n : ℕ) (ns : List ℕ) (level : ℕ) → least_false (literals T) C ≡ Some n
     → 1 ≤ current_level T → level ≤ back_level T (learn_removing R C T n).clause → AreLearnt ns C lines → AreNoReasons ns (up_to T level) → IsSearchOf V K Q C T lines
-    → IsSearchOf V K Q (forget ns 1 C ++ (learn_removing R C T n).clause ∷ []) (up_to T level) (lines ++ learn_removing R C T n ∷ [])
+    → IsSearchOf V K Q (forget ns 1 C ++ (learn_removing R C T n).clause ∷ []) (up_to T level) (lines ++ forgetting ns (learn_removing R C T n) ∷ [])
 IsSearchOf-learnt V R K Q C T lines n ns level h above low own unused i =
-    subst (λ (D : List Clause). IsSearchOf V K Q D (up_to T level) (lines ++ learn_removing R C T n ∷ [])) (forget-push ns C c (λ k t. (own k t).1))
-    (IsSearchOf-forget V K Q (C ++ c ∷ []) (up_to T level) (lines ++ learn_removing R C T n ∷ []) ns (some-variable V K Q C T lines n h above i) (λ k t. later k (own k t).0) unused back)
+    IsSearchOf-forgetting V R K Q C T (up_to T level) lines n ns h own i
+    (subst (λ (D : List Clause). IsSearchOf V K Q D (up_to T level) (lines ++ learn_removing R C T n ∷ [])) (forget-push ns C c (λ k t. (own.within k t).1))
+    (IsSearchOf-forget V K Q (C ++ c ∷ []) (up_to T level) (lines ++ learn_removing R C T n ∷ []) ns (some-variable V K Q C T lines n h above i) (λ k t. later k (own.within k t).0) unused back))
   where
     c : Clause
     c = (learn_removing R C T n).clause
@@ -212,8 +274,4 @@ IsSearchOf-learnt V R K Q C T lines n ns level h above low own unused i =
         (IsSearchOf-up_to V K Q (C ++ c ∷ []) (up_to T b) (lines ++ learn_removing R C T n ∷ []) level (omega (arith, reached, low)) (IsSearchOf-learn V R K Q C T lines n h above i))
 
     later : (k : ℕ) → length C - length lines < k → length K < k
-    later k first =
-        let parts : length C ≡ length K + length i.learnt = ap length i.are_clauses ∙ length-append K i.learnt in
-        let left : length i.learnt ≡ length (clauses_of lines) = AreLeft-length (clauses_of lines) i.learnt i.left in
-        let all : length (clauses_of lines) ≡ length lines = length-map lines (λ (x : Line). x.clause) in
-        omega (arith, parts, left, all, first)
+    later k first = let many = length-kept V K Q C T lines i in omega (arith, many, first)

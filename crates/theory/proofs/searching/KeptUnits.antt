@@ -1,6 +1,6 @@
 -- A unit of level 0 becomes a clause by its line, and this clause the entry's reason: the trail
 -- stays lawful, and what a search keeps is kept.
-use Rattle.std.proofs.Common.{◌≡◌, ℕ, ◌+◌, ◌-◌, ◌≤◌, true, false, not, ◌&&◌, List, [], ◌∷◌, ◌++◌, length, filter, refl, ap, sym, subst, ◌∙◌, nat_eq, ◌⊎◌, inl, inr, Option, Some, None, is_some, slice_get, unwrap_or, append_assoc, append-nil, length-append, arith}
+use Rattle.std.proofs.Common.{◌≡◌, ℕ, ◌+◌, ◌-◌, ◌≤◌, Bool, true, false, not, ◌&&◌, List, [], ◌∷◌, ◌++◌, length, filter, refl, ap, sym, subst, ◌∙◌, nat_eq, eqb-true, if◌then◌else◌, ◌⊎◌, inl, inr, Option, Some, None, is_some, slice_get, unwrap_or, append_assoc, append-nil, length-append, arith}
 use Rattle.std.proofs.lemmas.List.{map-append}
 use Rattle.std.proofs.lemmas.List.Elements.{filter-append, All-push}
 use Rattle.theory.specs.Literals.{Literal, Clause, negated, negations, has, has_var, without, IsVariable}
@@ -11,18 +11,20 @@ use Rattle.theory.specs.Propagation.{clause_at, Rule, IsRule}
 use Rattle.theory.specs.Lawful.{IsReason, IsGrounded, IsLawfulEntry, IsLawfulAfter, IsLawful, cube_of}
 use Rattle.theory.specs.Learning.{Line}
 use Rattle.theory.specs.Forgetting.{forgotten}
+use Rattle.theory.specs.Deletions.{is_among}
 use Rattle.theory.specs.Replaying.{IsReplayed, Passes}
 use Rattle.theory.specs.Kept.{clauses_of, AreLeft, IsSearchOf}
-use Rattle.theory.specs.Units.{has_two, unit_line, with_reason, reasons_against, IsUnit, AreUnits}
+use Rattle.theory.specs.Units.{has_two, unit_line, with_reason, with_number, reasons_against, IsUnit, AreUnits}
 use Rattle.theory.proofs.literals.ListLemmas.{slice_get-push}
 use Rattle.theory.proofs.literals.LiteralLemmas.{same-refl}
-use Rattle.theory.proofs.literals.LiteralSets.{true_false, has-head, has-cases, has-from_negations}
+use Rattle.theory.proofs.literals.LiteralSets.{true_false, false_unless, or-none, has-head, has-cases, has-from_negations}
 use Rattle.theory.proofs.literals.OverVariables.{AreOver, IsOver-from_AreOver, AreOver-from_IsOver, IsOver-left}
 use Rattle.theory.proofs.trails.LawfulTrails.{IsLawful-append}
 use Rattle.theory.proofs.trails.TrailLists.{current_level-push}
 use Rattle.theory.proofs.trails.TrailEntries.{and-false_right, literals-at, has-literals_at, has-from_cube_of}
 use Rattle.theory.proofs.searching.Walks.{at-place, entry-place}
-use Rattle.theory.proofs.searching.ForgottenClauses.{AreLeft-refl, AreLeft-append, AreLeft-length, AreLeft-at, IsReason-left, IsLawful-left}
+use Rattle.theory.proofs.searching.ForgottenClauses.{AreLeft-refl, AreLeft-append, AreLeft-length, AreLeft-at, IsReason-left, IsLawful-left, IsReason-forgotten}
+use Rattle.theory.proofs.searching.ForgettingLines.{AreForgetting-line, gone-line}
 use Rattle.theory.proofs.searching.KeptSearches.{AreReplayed-push, AreLeft-all, IsSearchOf-Propagates, IsSearchOf-decide, IsSearchOf-learnt}
 use Rattle.theory.proofs.searching.Invariants.{IsInvariant}
 use Rattle.theory.proofs.searching.UnitLines.{Passes-unit_line, has_both_signs-unit_line}
@@ -154,7 +156,7 @@ IsReplayed-unit V K Q C before e es lines n level reason units i =
     same_line =
         let entry = entry-place C T before e es i.lawful refl in
         let clause : clause_at C n ≡ clause_at all n = (IsReason-left all C (literals before) e.lit n left entry.is_new (subst (IsGrounded C before e) reason entry.grounded).1).0 in
-        ap (λ (c : Clause). record { clause = e.lit ∷ []; hints = reasons_against before (without c e.lit) ++ n ∷ [] }) clause
+        ap (λ (c : Clause). record { clause = e.lit ∷ []; hints = reasons_against before (without c e.lit) ++ n ∷ []; forgets = [] }) clause
 
     on_trail : AreOver V (literals T)
     on_trail = AreOver-from_IsOver V (literals T) i.variables
@@ -164,6 +166,17 @@ IsReplayed-unit V K Q C before e es lines n level reason units i =
       | inl x ↦ subst (λ (k : Literal). IsVariable V k.var) (sym x) (on_trail e.lit (has-literals_at T e (at-place T before e es refl)))
       | inr x ↦ on_trail (negated l) (has-from_cube_of all T (negated l) lawful (has-from_negations (cube_of T) l x)).0
     ]
+
+-- no hint of it is the number of a forgotten clause
+reasons-left : (C : List Clause) (T : Trail) (c : Clause) (k n : ℕ) → AreUnits C T → clause_at C k ≡ forgotten → nat_eq k n ≡ false → is_among k (reasons_against T c ++ n ∷ []) ≡ false
+reasons-left C [] c k n u f other = or-none (nat_eq k n) false other refl
+reasons-left C (e ∷ T) c k n u f other = go (has c (negated e.lit)) e.reason u.0 (reasons-left C T c k n u.1 f other)
+  where
+    go : (b : Bool) (r : Option ℕ) → IsUnit C e.lit r → is_among k (reasons_against T c ++ n ∷ []) ≡ false → is_among k (with_number (if b then r else None) (reasons_against T c) ++ n ∷ []) ≡ false
+    go false r v more = more
+    go true None v more = more
+    go true (Some m) v more =
+        or-none (nat_eq k m) (is_among k (reasons_against T c ++ n ∷ [])) (false_unless (nat_eq k m) (λ t. true_false (has_two forgotten) refl (ap has_two (sym f ∙ ap (clause_at C) (eqb-true k m t)) ∙ v.3))) more
 
 -- what a search keeps, where a unit becomes a clause
 pub IsSearchOf-unit : (V : ℕ) (K : List Clause) (Q : List Literal) (C : List Clause) (before : Trail) (e : Entry) (es : Trail) (lines : List Line) (n : ℕ) → current_level (before ++ e ∷ es) ≡ 0
@@ -180,10 +193,19 @@ IsSearchOf-unit V K Q C before e es lines n level reason units i = record {
   cube = cube_of-with_reason before e es n (length C + 1) reason ∙ i.cube;
   variables = subst (IsOver V) (sym (literals-replaced before e (with_reason e (length C + 1)) es refl)) i.variables;
   replayed = AreReplayed-push V (length K) Q K lines line i.replayed replayed;
+  forgetting = AreForgetting-line V K Q C (before ++ e ∷ es) lines line i refl clear;
+  gone = gone-line V K Q C (before ++ e ∷ es) lines line i refl;
 }
   where
     line : Line
     line = unit_line C before e.lit n
+
+    clear : (k : ℕ) → clause_at C k ≡ forgotten → is_among k (reasons_against before (without (clause_at C n) e.lit) ++ n ∷ []) ≡ false
+    clear k f = reasons-left C before (without (clause_at C n) e.lit) k n units f
+        (false_unless (nat_eq k n) (λ t. IsReason-forgotten C (literals before) e.lit n entry.is_new (subst (IsGrounded C before e) reason entry.grounded).1 (ap (clause_at C) (sym (eqb-true k n t)) ∙ f)))
+      where
+        entry : IsLawfulEntry C before e
+        entry = entry-place C (before ++ e ∷ es) before e es i.lawful refl
 
     replayed : IsReplayed V (length K) Q (K ++ clauses_of lines) line
     replayed = IsReplayed-unit V K Q C before e es lines n level reason units i

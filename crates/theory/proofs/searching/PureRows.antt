@@ -61,11 +61,11 @@ unfolding digits
 satisfiable_answer = refl
 
 -- the cube of a pure variable made true is refuted by the variable's own clause
-cube_of_pure : run 30 unused 2 (p3 ∷ []) ≡ Some (refuted (record { clause = []; hints = 5 ∷ [] } ∷ []))
+cube_of_pure : run 30 unused 2 (p3 ∷ []) ≡ Some (refuted (record { clause = []; hints = 5 ∷ []; forgets = [] } ∷ []))
 cube_of_pure = refl
 
 -- so a refuted cube may have a model of the formula, in which a pure variable is true
-cube_with_model : run 30 satisfiable 1 (p2 ∷ []) ≡ Some (refuted (record { clause = []; hints = 2 ∷ [] } ∷ []))
+cube_with_model : run 30 satisfiable 1 (p2 ∷ []) ≡ Some (refuted (record { clause = []; hints = 2 ∷ []; forgets = [] } ∷ []))
 cube_with_model = refl
 
 cube_with_model_satisfied : are_true (value (true ∷ true ∷ [])) satisfiable.clauses ≡ true
@@ -107,7 +107,7 @@ jump_alone : close_within by_number 30 jump.clauses (decided n1 1 ∷ decided n2
     ≡ Some (conflict 2, decided n1 1 ∷ decided n2 2 ∷ decided n3 3 ∷ forced (positive 4) 1 3 ∷ [])
 jump_alone = refl
 
-jump_learns : learn jump.clauses (decided n1 1 ∷ decided n2 2 ∷ decided n3 3 ∷ forced (positive 4) 1 3 ∷ []) 2 ≡ record { clause = p1 ∷ p3 ∷ []; hints = 1 ∷ 2 ∷ [] }
+jump_learns : learn jump.clauses (decided n1 1 ∷ decided n2 2 ∷ decided n3 3 ∷ forced (positive 4) 1 3 ∷ []) 2 ≡ record { clause = p1 ∷ p3 ∷ []; hints = 1 ∷ 2 ∷ []; forgets = [] }
 jump_learns = refl
 
 jump_goes_back : back_level (decided n1 1 ∷ decided n2 2 ∷ decided n3 3 ∷ forced (positive 4) 1 3 ∷ []) (p1 ∷ p3 ∷ []) ≡ 1

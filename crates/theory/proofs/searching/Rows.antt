@@ -45,7 +45,7 @@ row17 = record {
 }
 
 abbrev pub line : Clause → List ℕ → Line
-line c hints = record { clause = c; hints = hints }
+line c hints = record { clause = c; hints = hints; forgets = [] }
 
 abbrev pub text_of : Formula → ℕ → Option (List ℕ)
 text_of F B = option_map (λ t. proof_text (proof F t)) (tree 5 30 F B [])

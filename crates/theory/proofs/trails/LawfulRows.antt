@@ -28,7 +28,7 @@ trail1_lawful = (
   ),
 )
 
-trail1_learns : learn row17.clauses trail1 2 ≡ record { clause = p1 ∷ p2 ∷ []; hints = 1 ∷ 2 ∷ [] }
+trail1_learns : learn row17.clauses trail1 2 ≡ record { clause = p1 ∷ p2 ∷ []; hints = 1 ∷ 2 ∷ []; forgets = [] }
 trail1_learns = refl
 
 trail1_goes_back : back_level trail1 (p1 ∷ p2 ∷ []) ≡ 1
@@ -62,7 +62,7 @@ clauses3 = (p1 ∷ []) ∷ []
 abbrev trail3 : Trail
 trail3 = decided n1 1 ∷ decided n2 2 ∷ []
 
-trail3_learns : learn clauses3 trail3 1 ≡ record { clause = p1 ∷ []; hints = 1 ∷ [] }
+trail3_learns : learn clauses3 trail3 1 ≡ record { clause = p1 ∷ []; hints = 1 ∷ []; forgets = [] }
 trail3_learns = refl
 
 trail3_goes_back : back_level trail3 (p1 ∷ []) ≡ 1
@@ -93,7 +93,7 @@ trail2_lawful = (
   ),
 )
 
-trail2_learns : learn clauses2 trail2 4 ≡ record { clause = []; hints = 9 ∷ 3 ∷ 4 ∷ [] }
+trail2_learns : learn clauses2 trail2 4 ≡ record { clause = []; hints = 9 ∷ 3 ∷ 4 ∷ []; forgets = [] }
 trail2_learns = refl
 
 trail2_passes : Passes 8 (n1 ∷ []) clauses2 (learn clauses2 trail2 4)

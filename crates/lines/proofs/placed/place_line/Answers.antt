@@ -1,4 +1,11 @@
+use Rattle.std.proofs.Common.{[]}
+use Rattle.lines.specs.Rows.{hints_part, forgets_part}
+use Rattle.lines.proofs.LineLemmas.{hints-listing, forgets-listing}
 use Rattle.lines.proofs.placed.place_line.Goals as goal
 
 pub returns-clause-line : goal.returns-clause-line
-returns-clause-line c = λ lines e. c.in_ok-end.ensures.hints lines c.args.clause.now (c.place_clause-middle.ensures.clause lines e)
+returns-clause-line c = λ lines e.
+    let clause = c.args.clause.now in
+    let hints = c.args.hints.now in
+    c.in_ok-end.ensures.numbers (forgets_part lines clause hints [] 0) (forgets-listing lines clause hints)
+    (c.in_ok-behind_hints.ensures.numbers (hints_part lines clause [] 0) (hints-listing lines clause) (c.place_clause-behind_clause.ensures.clause lines e))

@@ -9,7 +9,7 @@ use Rattle.packs.proofs.writing.write_fact.Goals as goal
 
 pub returns-in-Ok-clause-ok : goal.returns-in-Ok-clause-ok
 returns-in-Ok-clause-ok c = λ fs p.
-    let line : Line = record { clause = c.args.fact.now.cube; hints = hints_of c.args.fact.now.claim } in
+    let line : Line = record { clause = c.args.fact.now.cube; hints = hints_of c.args.fact.now.claim; forgets = [] } in
     let first : (row c.bytes.result.now).lines ≡ line ∷ [] = c.bytes.ensures.lines ∙ c.in_ok-first.ensures in
     let joined = bytes-joined c.bytes.result.now c.bytes_behind.result.now line c.bytes.ensures.whole c.bytes_behind.ensures.whole first in
     let body : IsBody (c.bytes.result.now ++ c.bytes_behind.result.now) c.args.fact.now

@@ -7,9 +7,9 @@ use Rattle.replay.proofs.ReplayedLemmas.{taken-replays}
 use Rattle.replay.proofs.passing.passes.Goals as goal
 
 pub returns-clause-passes : goal.returns-clause-passes
-returns-clause-passes c = λ N Q cube h.
+returns-clause-passes c = λ N Q forgets cube h.
     let held = AreHeld-Extends Q c.args.held.now.literals c.negate.new.held.literals c.negate.ensures.extends (AreHeld-holding Q c.args.held.now.literals h) in
-    taken-replays c.args.formula.now.vars N Q c.negate.new.held.literals (known c.args.formula.now c.args.units.now c.args.lines.now) c.args.clause.now c.args.hints.now c.in_ok-conflict.conflict
+    taken-replays c.args.formula.now.vars N Q c.negate.new.held.literals (known c.args.formula.now c.args.units.now c.args.lines.now) c.args.clause.now c.args.hints.now forgets c.in_ok-conflict.conflict
     (c.in_ok-conflict.ensures.conflict N Q held) (c.in_ok-negate.ensures.negated Q h c.if-branch.false) (sym c.if-branch.false ∙ c.in_ok-negate.ensures.both Q h)
     (rw (c.vars.ensures, c.requires.vars) at (c.is_over.ensures.over c.if-not-is_over.false)) cube
 

@@ -1,13 +1,13 @@
-use Rattle.std.proofs.Common.{◌≡◌, ◌++◌, All, length}
+use Rattle.std.proofs.Common.{◌≡◌, All, length}
 use Rattle.theory.specs.Truth.{IsOver}
-use Rattle.theory.specs.Pure.{unit_clauses}
-use Rattle.replay.specs.Known.{IsHolding}
-use Rattle.replay.proofs.ReplayedLemmas.{IsPast}
+use Rattle.replay.specs.Known.{begun, IsHolding}
+use Rattle.replay.proofs.PastLines.{IsPast}
 use Rattle.replay.proofs.passing.refute.Given as goal
 
 abbrev pub invariant-lines : goal.invariant-lines
 invariant-lines l = record {
-  past : IsPast l.formula.vars l.cube (l.formula.clauses ++ unit_clauses l.units) l.lines l.row l.left l.ends;
+  past : IsPast l.formula.vars l.cube (begun l.formula l.units) l.lines l.forgotten.marks.items l.row l.left l.ends;
+  first : l.forgotten.first ≡ length (begun l.formula l.units);
   holding : IsHolding l.cube l.held.literals;
   count : l.count ≡ length l.held.literals;
   over : All (IsOver l.formula.vars) l.lines;

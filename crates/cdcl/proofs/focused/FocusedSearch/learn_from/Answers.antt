@@ -14,7 +14,7 @@ use Rattle.cdcl.proofs.LearntSearches.{same-marked, CanWeigh-marked, AreWaiting-
 use Rattle.cdcl.proofs.LearntStates.{IsLearning, ends-if, analysis-weighed, kernel-weighed, analysis-ended, taught-weighed}
 use Rattle.cdcl.proofs.UsedMarks.{length-with_used}
 use Rattle.cdcl.proofs.focused.FocusedSearch.learn_from.Goals as goal
-use Rattle.cdcl.proofs.focused.FocusedSearch.learn_from.Goals.{In_ok-push-2}
+use Rattle.cdcl.proofs.focused.FocusedSearch.learn_from.Goals.{After-drop-forgets-2}
 
 pub weigh-requires : goal.weigh-requires
 weigh-requires c =
@@ -57,7 +57,7 @@ end_round_where_over-requires-clause-learnt c =
     ≡ record k { clauses = k.clauses ++ w.analysis.learnt.clause.items ∷ []; trail = up_to k.trail (if c.in_ok-restarts.restarts then 0 else w.analysis.learnt.level) }) kernel c.in_ok-last.ensures.kernel)
 
 -- all that the calls did
-learning : (c : In_ok-push-2) → IsLearning c.args.self.now c.args.number (record {
+learning : (c : After-drop-forgets-2) → IsLearning c.args.self.now c.args.number (record {
   constants = c.end_round_where_over.new.self.constants;
   kernel = c.end_round_where_over.new.self.kernel;
   conflicts = c.end_round_where_over.new.self.conflicts;
@@ -87,11 +87,13 @@ learning c =
     let kernel = kernel-weighed s m w a g r c.mark_resolved.ensures.same c.in_ok-restarts.ensures in
     let marked : m.analysis ≡ a = ap (λ (x : FocusedSearch). x.analysis) c.mark_resolved.ensures.same in
     let weighed = analysis-weighed s m w a g r c.mark_resolved.ensures.same c.in_ok-restarts.ensures in
-    let ends = ends-if (is_over b.round b.conflicts) b e c.in_ok-end_round_where_over.ensures.ends c.in_ok-end_round_where_over.ensures.goes_on in
-    let ended : e.analysis ≡ w.analysis = analysis-ended b e (is_over b.round b.conflicts) ends in
+    let ns = c.in_ok-forgets.forgets.items in
+    let ends = ends-if (is_over b.round b.conflicts) b ns e c.in_ok-forgets.ensures.ends c.in_ok-forgets.ensures.goes_on in
+    let ended : e.analysis ≡ w.analysis = analysis-ended b ns e (is_over b.round b.conflicts) ends in
     record {
       clause = w.analysis.learnt.clause.items;
       hints = w.analysis.learnt.hints.items;
+      forgets = ns;
       level = w.analysis.learnt.level;
       g = g;
       restarts = r;
@@ -100,7 +102,7 @@ learning c =
       back = b;
       ended = e;
       taught = taught-weighed s m w a n g r c.requires.conflict c.requires.level c.in_ok-glue.ensures.line c.in_ok-glue.ensures.level c.mark_resolved.ensures.same c.in_ok-restarts.ensures;
-      line = ap (λ (x : Analysis). record { clause = x.learnt.clause.items; hints = x.learnt.hints.items }) weighed ∙ c.in_ok-glue.ensures.line;
+      line = ap (λ (x : Analysis). record { clause = x.learnt.clause.items; hints = x.learnt.hints.items; forgets = [] }) weighed ∙ c.in_ok-glue.ensures.line;
       glue_is = c.in_ok-glue.ensures.glue;
       few = c.in_ok-glue.ensures.few;
       sees = rw marked c.in_ok-glue.ensures.seen;
@@ -116,10 +118,11 @@ learning c =
           kernel c.in_ok-last.ensures.saved;
       kept = c.in_ok-last.ensures.kept;
       same_back = refl;
-      ends = c.in_ok-end_round_where_over.ensures.ends;
-      goes_on = c.in_ok-end_round_where_over.ensures.goes_on;
-      lines = c.in_ok-push.ensures.ok ∙ (ap₂ (λ (x : Clause) (y : List ℕ). e.lines ++ record { clause = x; hints = y } ∷ []) c.deref.ensures.value c.deref-2.ensures.value
-          ∙ ap (λ (x : Analysis). e.lines ++ record { clause = x.learnt.clause.items; hints = x.learnt.hints.items } ∷ []) ended);
+      ends = c.in_ok-forgets.ensures.ends;
+      goes_on = c.in_ok-forgets.ensures.goes_on;
+      lines = c.in_ok-push.ensures.ok ∙ (ap₂ (λ (x : Clause) (y : List ℕ). e.lines ++ record { clause = x; hints = y; forgets = c.deref-3.result.now } ∷ []) c.deref.ensures.value c.deref-2.ensures.value
+          ∙ (ap (λ (z : List ℕ). e.lines ++ record { clause = e.analysis.learnt.clause.items; hints = e.analysis.learnt.hints.items; forgets = z } ∷ []) c.deref-3.ensures.value
+          ∙ ap (λ (x : Analysis). e.lines ++ record { clause = x.learnt.clause.items; hints = x.learnt.hints.items; forgets = ns } ∷ []) ended));
       marks = c.in_ok-push-2.ensures.items ∙ ap (λ (x : Mark). e.marks.items ++ x ∷ []) c.fresh.ensures;
       same = refl;
       lawful = c.trail-trail.ensures.lawful;

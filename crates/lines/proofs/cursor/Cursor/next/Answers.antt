@@ -10,5 +10,5 @@ invariant_of-self c =
       read.inside,
       read.whole,
       omega (arith, one_less, left),
-      AreWithin-tail c.self.inside.literals c.self.inside.hints _ _ _ read.line c.self.invariant.3,
+      AreWithin-tail c.self.inside.literals c.self.inside.numbers _ _ _ read.line c.self.invariant.3,
     )

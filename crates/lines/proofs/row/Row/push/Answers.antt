@@ -10,10 +10,8 @@ overflow_add-self c =
 pub invariant_of-self : goal.invariant_of-self
 invariant_of-self c =
     let e = c.in-Ok.ensures.line _ c.self.invariant.0 in
-    let lines = ap (λ (p : Part). p.lines) e in
-    let a = c.max-self-inside.ensures in
-    let b = c.max-self-inside-in-Ok.ensures in (
+    let lines = ap (λ (p : Part). p.lines) e in (
       e ∙ ap whole (sym lines),
       ap (λ n. n + 1) c.self.invariant.1 ∙ sym (ap length lines ∙ length-push (row c.self.inside.bytes.items).lines _),
-      rw lines (AreWithin-push c.self.inside.literals c.self.inside.hints _ _ (row c.self.inside.bytes.items).lines _ (omega arith) (omega arith) (omega arith) (omega arith) c.self.invariant.2),
+      rw lines (AreWithin-push c.self.inside.literals c.self.inside.numbers _ _ (row c.self.inside.bytes.items).lines _ (omega arith) (omega arith) (omega arith) (omega arith) (omega arith) c.self.invariant.2),
     )

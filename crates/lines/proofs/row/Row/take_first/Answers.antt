@@ -11,5 +11,5 @@ invariant_of-self c =
     let count = ap length first in (
       subst IsWhole (sym cut) c.in_ok-end.ensures.whole,
       omega (arith, c.self.invariant.1, count),
-      AreWithin-tail c.self.inside.literals c.self.inside.hints (row c.self.inside.bytes.items).lines (row left).lines (record { clause = c.read_line.new.clause.items; hints = c.read_line.new.hints.items }) first c.self.invariant.2,
+      AreWithin-tail c.self.inside.literals c.self.inside.numbers (row c.self.inside.bytes.items).lines (row left).lines (record { clause = c.read_line.new.clause.items; hints = c.read_line.new.hints.items; forgets = c.read_line.new.forgets.items }) first c.self.invariant.2,
     )

@@ -11,12 +11,14 @@ returns-then-byte-lt128-clause-scan c = λ p s.
       lines = s.lines;
       literals = s.literals;
       hints = s.hints;
-      in_hints = s.in_hints;
+      forgets = s.forgets;
+      section = s.section;
       value = refl;
       begun = refl;
       within = s.within;
       first = s.first;
       no_hints = s.no_hints;
+      none_forgotten = s.none_forgotten;
       between = λ _. refl;
     } in
     rw (lt-ltb c.args.byte 128 c.if-byte-lt128.true)
