@@ -4,7 +4,7 @@ use crate::effort::{Asked, Choice, FOCUSED_BUDGET, SPREAD_BUDGET, greatest_budge
 use crate::refusals::refusal_of;
 use crate::spread_arguments::{
     Spread, conquer_command, conquer_request, divide_command, divide_request, gather_command,
-    gather_request,
+    gather_request, status_command, status_request,
 };
 use clap::error::ErrorKind;
 use clap::{Arg, ArgAction, ArgMatches, Command, Error};
@@ -267,6 +267,7 @@ fn whole_command<'a>(alloc: Global) -> Result<Command<'a>, AllocError> {
     let command = with_subcommand(command, divide_command(alloc))?;
     let command = with_subcommand(command, conquer_command(alloc))?;
     let command = with_subcommand(command, gather_command(alloc))?;
+    let command = with_subcommand(command, status_command(alloc))?;
     with_subcommand(command, explain_command(alloc))
 }
 
@@ -379,6 +380,7 @@ fn request_in<'a>(matches: &ArgMatches<'a>) -> Option<Request<'a>> {
         "divide" => Some(Request::Spread(divide_request(matches)?)),
         "conquer" => Some(Request::Spread(conquer_request(matches)?)),
         "gather" => Some(Request::Spread(gather_request(matches)?)),
+        "status" => Some(Request::Spread(status_request(matches)?)),
         _ => solve_request(matches),
     }
 }

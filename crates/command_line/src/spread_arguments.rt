@@ -16,6 +16,11 @@ const DIVIDE_BUDGET: &str =
 
 const RUN: &str = "The folder of the run";
 
+const PROGRESS: &str = "Print to standard error about once a second how many cubes are solved";
+
+const GATHER_PROGRESS: &str =
+    "Print to standard error about once a second how much of the proof is written";
+
 /// What is asked for of a run that is spread over machines.
 #[derive(Clone, Copy)]
 pub enum Spread<'a> {
@@ -32,6 +37,7 @@ pub enum Spread<'a> {
         limits: Limits,
         /// How many cubes are to be open, at least: 1 to 65,536.
         wanted: u32,
+        progress: bool,
     },
     /// Write the next round of a run.
     Next {
@@ -45,6 +51,7 @@ pub enum Spread<'a> {
         minutes: Option<u32>,
         /// From 1 to 16.
         hands: u32,
+        progress: bool,
     },
     /// Put the result together, and write the proof and the answer.
     Gather {
@@ -52,7 +59,14 @@ pub enum Spread<'a> {
         proof: &'a str,
         /// From 1 to 16.
         hands: u32,
+        /// Whether cubes that are missing are solved; without it they are counted.
+        solves: bool,
         stats: bool,
+        progress: bool,
+    },
+    /// Say how far the run is.
+    Status {
+        run: &'a str,
     },
 }
 
@@ -132,6 +146,7 @@ pub(crate) fn divide_command<'a>(alloc: Global) -> Result<Command<'a>, AllocErro
         .arg(wanted_option(alloc))?
         .arg(any_model_flag(alloc))?
         .arg(flag(alloc, "large", LARGE))?
+        .arg(flag(alloc, "progress", PROGRESS))?
         .arg(formula_word(alloc))
 }
 
@@ -145,18 +160,29 @@ pub(crate) fn conquer_command<'a>(alloc: Global) -> Result<Command<'a>, AllocErr
             alloc,
             "Threads that solve cubes of the part side by side, 1 to 16",
         ))?
+        .arg(flag(alloc, "progress", PROGRESS))?
         .arg(word(alloc, "RUN", RUN))
 }
 
 pub(crate) fn gather_command<'a>(alloc: Global) -> Result<Command<'a>, AllocError> {
     Command::new(alloc, "gather")
-        .about("Check what a run has found, solve what is missing, and write proof and answer")
+        .about(
+            "Check what a run has found, and write proof and answer: status 4 where cubes are missing",
+        )
         .arg(proof_option(alloc))?
         .arg(hands_option(
             alloc,
             "Threads that check what was found side by side, 1 to 16",
         ))?
+        .arg(flag(alloc, "solve", "Solve the cubes that are missing, too"))?
         .arg(flag(alloc, "stats", "Print to standard error what the packs had"))?
+        .arg(flag(alloc, "progress", GATHER_PROGRESS))?
+        .arg(word(alloc, "RUN", RUN))
+}
+
+pub(crate) fn status_command<'a>(alloc: Global) -> Result<Command<'a>, AllocError> {
+    Command::new(alloc, "status")
+        .about("Say how far a run is: status 0, or that of `divide` where no cube is open")
         .arg(word(alloc, "RUN", RUN))
 }
 
@@ -174,6 +200,7 @@ pub(crate) fn divide_request<'a>(matches: &ArgMatches<'a>) -> Option<Spread<'a>>
         any_model: matches.get_flag("any-model"),
         limits: limits_of(matches),
         wanted: matches.get_one::<u32>("divide")?,
+        progress: matches.get_flag("progress"),
     })
 }
 
@@ -203,6 +230,7 @@ pub(crate) fn conquer_request<'a>(matches: &ArgMatches<'a>) -> Option<Spread<'a>
         part: part_of(matches.get_str("part")?),
         minutes: matches.get_one::<u32>("minutes"),
         hands: matches.get_one::<u32>("hands")?,
+        progress: matches.get_flag("progress"),
     })
 }
 
@@ -211,6 +239,14 @@ pub(crate) fn gather_request<'a>(matches: &ArgMatches<'a>) -> Option<Spread<'a>>
         run: matches.get_str("RUN")?,
         proof: matches.get_str("proof")?,
         hands: matches.get_one::<u32>("hands")?,
+        solves: matches.get_flag("solve"),
         stats: matches.get_flag("stats"),
+        progress: matches.get_flag("progress"),
+    })
+}
+
+pub(crate) fn status_request<'a>(matches: &ArgMatches<'a>) -> Option<Spread<'a>> {
+    Some(Spread::Status {
+        run: matches.get_str("RUN")?,
     })
 }

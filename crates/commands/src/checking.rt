@@ -2,20 +2,20 @@
 ghost use Rattle.std.specs.Prelude.{◌≡◌, Ok};
 ghost use Rattle.std.specs.Thread.{IsSync};
 ghost use Rattle.cnf.specs.Limits.{limits_of};
-ghost use Rattle.lrat_forms.specs.Forms.{text_of};
+ghost use Rattle.lrat_forms.specs.Comments.{read_as};
 ghost use Rattle.runs.specs.Check.{checked_by, CheckSays};
 ghost use Rattle.commands.specs.CheckStatus.{check_status, IsCheckEnd};
 ghost use Rattle.commands.specs.Ends.{end_of, CheckEnds};
 
 use crate::anew::is_seen_in_binary;
-use crate::fault_lines::{FAILED, Screen, print_fault_of, print_not_opened};
+use crate::fault_lines::{FAILED, Screen, print_fault_of, print_no_memory, print_not_opened};
 use crate::input::{open_input, size_of};
 use crate::notes::{note_check, note_number};
 use crate::watched::check_counted;
 use crate::worded::{Known, Opened, say_refused};
 use cnf::Limits;
 use command_line::Shown;
-use lrat_forms::ProofText;
+use lrat_forms::{ProofText, Uncommented};
 use messages::{ProofSource, Refused};
 use noticed::{NoticedReader, NoticedWriter};
 use runs::{Checked, RunFault, Told, check_told};
@@ -179,7 +179,8 @@ fn end_check<R: Files, E: Write>(
 }
 
 /// Checks the open proof, whose text has so many bytes, if that is known, against the open formula,
-/// and says what happened unless it accepts. A proof in binary is read as the text of its steps.
+/// and says what happened unless it accepts. A proof in binary is read as the text of its steps, and a
+/// comment in a text as a step that does nothing.
 fn check_files<
     R: Files + Threads + Wait + Clock + Sync,
     F: Read + Drop,
@@ -198,11 +199,15 @@ fn check_files<
     faults: &mut E,
     screen: Screen,
 ) -> CheckEnd
-    ensures end { IsCheckEnd (limits_of limits) (F.remaining formula.entry.file) (text_of (P.remaining proof.entry.file)) result }
-    ensures says { CheckEnds (limits_of limits) (F.remaining formula.entry.file) (text_of (P.remaining proof.entry.file)) (⟦<NoticedWriter<W> as Write>⟧.contents answer.old) (⟦<NoticedWriter<W> as Write>⟧.contents answer.new) result }
+    ensures end { IsCheckEnd (limits_of limits) (F.remaining formula.entry.file) (read_as (P.remaining proof.entry.file)) result }
+    ensures says { CheckEnds (limits_of limits) (F.remaining formula.entry.file) (read_as (P.remaining proof.entry.file)) (⟦<NoticedWriter<W> as Write>⟧.contents answer.old) (⟦<NoticedWriter<W> as Write>⟧.contents answer.new) result }
 {
     let mut text = NoticedReader::of(formula.file);
-    let mut steps = ProofText::of(NoticedReader::of(proof.file));
+    let steps = ProofText::of(NoticedReader::of(proof.file));
+    let Ok(mut steps) = Uncommented::of(alloc, steps) else {
+        print_no_memory(faults, formula.path, shown.verbose);
+        return CheckEnd::Fault;
+    };
     let answered = check_opened(
         rt, alloc, &mut text, &mut steps, limits, size, shown, answer, faults, screen,
     );
@@ -211,14 +216,14 @@ fn check_files<
         proof: proof.path,
         beginning: text.beginning(),
         formula_error: text.error(),
-        proof_error: steps.inner().error(),
+        proof_error: steps.inner().inner().error(),
         answer_error: answer.error(),
         limits,
     };
     let source = ProofSource {
-        beginning: steps.inner().beginning(),
-        form: steps.form(),
-        broken: steps.broken(),
+        beginning: steps.inner().inner().beginning(),
+        form: steps.inner().form(),
+        broken: steps.inner().broken(),
     };
     end_check(rt, faults, answered, &known, source, shown.verbose)
 }

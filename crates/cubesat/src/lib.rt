@@ -2,9 +2,11 @@
 //! are for other programs are passed on.
 #![tactic(auto)]
 
+mod gathered;
 mod gathering_hands;
 mod program;
 mod spreading;
+mod standing_lines;
 
 pub use cdcl::Plan;
 pub use commands::{Locks, NoLocks, Screen, SystemLocks, explanation};

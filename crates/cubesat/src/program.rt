@@ -145,11 +145,12 @@ pub fn command_with_input<
 }
 
 /// What `command_with_input` does, on a system whose folders can be listed: so it also makes runs
-/// that are spread over machines (`divide`), solves their cubes (`conquer`) and gathers their
-/// results (`gather`). A proof's part is locked by `locks`: of two runs for one proof at once the
-/// later is refused. `divide` prints how many cubes are open, with status 0, or the answer, with
-/// that of `solve`; the status of `conquer` is 0, or 75 where its time is over; that of `gather` is
-/// that of `solve`.
+/// that are spread over machines (`divide`), solves their cubes (`conquer`), gathers their results
+/// (`gather`) and says how far they are (`status`). A proof's part is locked by `locks`: of two
+/// runs for one proof at once the later is refused. `divide` prints how many cubes are open, with
+/// status 0, or the answer, with that of `solve`; the status of `conquer` is 0, or 75 where its
+/// time is over; that of `gather` is that of `solve`, or 4 where cubes are missing; that of
+/// `status` is that of `divide`.
 pub fn command_in_folders<
     R: Files + Threads + Wait + Clock + Sync + Alloc + Clone + Drop,
     I: Read + Drop,

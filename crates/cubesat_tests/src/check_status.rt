@@ -61,9 +61,23 @@ const BINARY: Row = Row {
     ..ACCEPTED
 };
 
-static ROWS: [Row; 10] = [
+static ROWS: [Row; 12] = [
     ACCEPTED,
     BINARY,
+    Row {
+        proof: "c by hand\n5 1 0 1 2 0\nc\n6 0 5 3 4 0\nc end",
+        ..ACCEPTED
+    },
+    // a comment counts as a line
+    Row {
+        proof: "c by hand\n4 1 0 1 2 0\n",
+        wanted: Wanted {
+            status: 1,
+            answer: "refused 21 step 2\n",
+            faults: "c |PROOF|: the number of clause 4 isn't above all numbers before it (line 2)\n",
+        },
+        ..REFUSED
+    },
     REFUSED,
     Row {
         proof: "4 1 0 1 2 0\n",

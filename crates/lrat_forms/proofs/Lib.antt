@@ -1,1 +1,2 @@
+mod CommentLemmas
 mod TextLemmas

@@ -1,7 +1,10 @@
 -- What a proof's reader has left of its text.
 use Rattle.std.specs.Prelude.{ℕ, List, drop, Option, None, ⊤}
 use Rattle.std.specs.Io.KnownBytes.{prepend_known}
+use Rattle.std.specs.Io.Buffered.{reader_remaining}
+use Rattle.lrat_forms.specs.Comments.{uncommented_known}
 use Rattle.lrat_forms.specs.Forms.{text_of}
+use Rattle.lrat_forms.specs.declared.comments.Uncommented.{Uncommented}
 use Rattle.lrat_forms.specs.declared.reader.ProofText.{ProofText}
 use Rattle.lrat_forms.specs.declared.reader.Reading.{Reading}
 use Rattle.lrat_forms.specs.declared.reader.Reading.TheVariants.{First, Text, Binary}
@@ -20,3 +23,7 @@ abbrev pub IsLookedAt : Reading → Type 0
 IsLookedAt First = ⊥
 IsLookedAt (Text given) = ⊤
 IsLookedAt Binary = ⊤
+
+-- what is left of a text with comments, and of what one of them is read as
+abbrev pub uncommented_remaining : {I : Type 0} → (I → Option (List ℕ)) → Uncommented I → Option (List ℕ)
+uncommented_remaining remaining r = prepend_known r.owed.now (uncommented_known r.line (reader_remaining remaining r.inner))

@@ -2,6 +2,7 @@
 #![tactic(auto)]
 
 mod binary;
+mod comments;
 mod drat;
 mod first;
 mod form;
@@ -9,6 +10,7 @@ mod number;
 mod reader;
 mod translation;
 
+pub use comments::Uncommented;
 pub use drat::is_drat;
 pub use form::{Broken, BrokenBy, Form};
 pub use reader::ProofText;

@@ -8,10 +8,10 @@ use std::test::Fail;
 
 /// Gives these bytes, at most so many by one read, and fails once where so many are left.
 #[derive(Clone, Copy, Drop)]
-struct Pieces<'a> {
-    bytes: &'a [u8],
-    size: usize,
-    fails_at: Option<usize>,
+pub struct Pieces<'a> {
+    pub bytes: &'a [u8],
+    pub size: usize,
+    pub fails_at: Option<usize>,
 }
 
 impl Read for Pieces<'_> {
@@ -147,11 +147,7 @@ static ROWS: [Row; 14] = [
 
 /// Puts what one read gives, into room for so many bytes, at the end of a text; whether there may
 /// be more. A read that fails gives nothing.
-fn read_piece<I: Read>(
-    proof: &mut ProofText<I>,
-    room: usize,
-    text: &mut Vec<u8>,
-) -> Result<bool, AllocError> {
+fn read_piece<I: Read>(proof: &mut I, room: usize, text: &mut Vec<u8>) -> Result<bool, AllocError> {
     let mut buf = [0u8; 100];
     match proof.read(&mut buf[..room.min(100)]) {
         Ok(count) => {
@@ -163,11 +159,7 @@ fn read_piece<I: Read>(
 }
 
 /// The text of a proof, read with room for so many bytes.
-fn text_of<I: Read>(
-    alloc: Global,
-    proof: &mut ProofText<I>,
-    room: usize,
-) -> Result<Vec<u8>, AllocError> {
+pub fn text_of<I: Read>(alloc: Global, proof: &mut I, room: usize) -> Result<Vec<u8>, AllocError> {
     let mut text = Vec::new(alloc);
     for _ in 0..u64::MAX {
         if !read_piece(proof, room, &mut text)? {

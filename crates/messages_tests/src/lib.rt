@@ -3,6 +3,8 @@
 #![tactic(auto)]
 
 #[cfg(test)]
+mod comments;
+#[cfg(test)]
 mod files;
 #[cfg(test)]
 mod forms;

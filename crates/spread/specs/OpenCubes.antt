@@ -20,6 +20,12 @@ use Rattle.spread.specs.declared.open_cubes.Words.{Words}
 abbrev pub said_in : Words → List Literal → Option Word
 said_in words Q = get_by (λ key. pointwise ghosts.eq Q key.items) words.by_cube
 
+-- whether a cube of which this is said is solved
+abbrev pub is_solved : Word → Bool
+is_solved (Split x) = false
+is_solved Refuted = true
+is_solved Model = true
+
 -- whether two cubes have the same literals, in their order
 abbrev pub same_cube : List Literal → List Literal → Bool
 same_cube Q R = pointwise ghosts.eq Q R

@@ -9,8 +9,10 @@ ghost use Rattle.spread.specs.Dividing.{from_longer, longer_first, IsBreadth, Di
 ghost use Rattle.spread.specs.Solving.{IsLeft, IsOfTree};
 
 use crate::solving::{Left, solve};
+use crate::told::Told;
 use cdcl::{Plan, Solver};
 use cnf::Formula;
+use cubes::Gate;
 use kernel::Cube;
 use packs::Fact;
 use std::alloc::{AllocError, Global};
@@ -96,16 +98,18 @@ fn take_up(queue: &mut VecDeque<Cube>, left: Left, count: usize) -> Result<bool,
 /// Solves the cubes of a formula by breadth, from the one without literals on, until at least so
 /// many are open or none is. What is said of them is true, and those that wait are just the cubes
 /// that it leaves open. It fails where a request for memory is refused.
-pub(crate) fn by_breadth(
+pub(crate) fn by_breadth<G: Gate>(
     alloc: Global,
     formula: &Formula,
     plan: Plan,
     wanted: usize,
+    gate: &G,
 ) -> Result<Division, AllocError>
     ensures facts { IfOk result (λ d. All (IsTrueFact formula.now plan) d.facts.items) }
     ensures cubes { IfOk result (λ d. All (IsOfTree formula.now plan) d.waiting.items) }
     ensures divides { IfOk result (λ d. Divides formula.now plan d.facts.items d.waiting.items d.has_model) }
 {
+    let told = Told { gate, hand: 0 };
     let mut solver = Solver::open(alloc, formula, plan)?;
     let mut facts = Vec::new(alloc);
     let mut has_model = false;
@@ -119,7 +123,7 @@ pub(crate) fn by_breadth(
             break;
         };
         let count = cube.lits().len();
-        let left = solve(formula, plan, &mut solver, cube, &mut facts)?;
+        let left = solve(formula, plan, &mut solver, cube, &mut facts, &told)?;
         if take_up(&mut queue, left, count)? {
             has_model = true;
         }

@@ -10,9 +10,11 @@ use crate::pack_file::write_pack;
 use crate::run_file::RunFile;
 use crate::said::{Said, say_no_memory};
 use crate::solving::{Left, solve};
+use crate::told::Told;
 use crate::way::Way;
 use cdcl::{Plan, Solver};
 use cnf::Formula;
+use cubes::Gate;
 use kernel::Cube;
 use packs::Fact;
 use std::alloc::{AllocError, Global};
@@ -63,13 +65,14 @@ impl<'a, R: Clock> Time<'a, R> {
 }
 
 /// Solves a cube, and puts its halves on the way, if it is split; whether it has a model.
-fn step(
+fn step<G: Gate>(
     formula: &Formula,
     plan: Plan,
     solver: &mut Solver,
     cube: Cube,
     way: &mut Vec<Cube>,
     facts: &mut Vec<Fact>,
+    told: &Told<'_, G>,
 ) -> Result<bool, AllocError>
     requires formula { solver.old.formula ≡ formula.now }
     requires plan { solver.old.plan ≡ plan }
@@ -79,7 +82,7 @@ fn step(
     ensures facts { OnOk result (All (IsTrueFact formula.now plan) facts.new.items) }
     ensures way { IsOver formula.now.vars cube → IfOk result (λ has_model. IsStep formula.now plan cube has_model way.old.items way.new.items) }
 {
-    match solve(formula, plan, solver, cube, facts)? {
+    match solve(formula, plan, solver, cube, facts, told)? {
         Left::Nothing => Ok(false),
         Left::Model => Ok(true),
         Left::Halves(left, right) => {
@@ -99,7 +102,7 @@ fn note_last<R: Files>(rt: &R, alloc: Global, folder: Folder, facts: &[Fact]) {
 
 /// Solves a cube. Where a model is found or known left of it, nothing is left on the way, nor for
 /// other hands: all that lies right of that.
-fn solve_next<R: Files + Alloc + Clone + Drop, E: Write>(
+fn solve_next<R: Files + Alloc + Clone + Drop, E: Write, G: Gate>(
     rt: &R,
     alloc: Global,
     folder: Folder,
@@ -109,6 +112,7 @@ fn solve_next<R: Files + Alloc + Clone + Drop, E: Write>(
     cube: Cube,
     way: &mut Way<'_>,
     facts: &mut Vec<Fact>,
+    told: &Told<'_, G>,
     faults: &mut E,
 ) -> Result<(), Said>
     requires formula { solver.old.formula ≡ formula.now }
@@ -122,7 +126,7 @@ fn solve_next<R: Files + Alloc + Clone + Drop, E: Write>(
         way.leave();
         return Ok(());
     }
-    match step(formula, plan, solver, cube, &mut way.own, facts) {
+    match step(formula, plan, solver, cube, &mut way.own, facts, told) {
         Ok(false) => Ok(()),
         Ok(true) => {
             note_last(rt, alloc, folder, facts);
@@ -172,7 +176,7 @@ fn next_cube<E: Write>(
 /// Solves the cubes on the way, with what their splits leave, until none is left, a model is found
 /// or the time is over. What was found is written about every ten minutes, and left among the facts
 /// since then.
-fn solve_all<R: Files + Clock + Alloc + Clone + Drop, E: Write>(
+fn solve_all<R: Files + Clock + Alloc + Clone + Drop, E: Write, G: Gate>(
     rt: &R,
     alloc: Global,
     folder: Folder,
@@ -182,6 +186,7 @@ fn solve_all<R: Files + Clock + Alloc + Clone + Drop, E: Write>(
     way: &mut Way<'_>,
     seconds: u64,
     facts: &mut Vec<Fact>,
+    told: &Told<'_, G>,
     faults: &mut E,
 ) -> Result<Ended, Said>
     requires formula { solver.old.formula ≡ formula.now }
@@ -201,7 +206,7 @@ fn solve_all<R: Files + Clock + Alloc + Clone + Drop, E: Write>(
             return Ok(Ended::Done);
         };
         solve_next(
-            rt, alloc, folder, formula, run.plan, solver, cube, way, facts, faults,
+            rt, alloc, folder, formula, run.plan, solver, cube, way, facts, told, faults,
         )?;
     }
     Ok(Ended::OutOfTime) // no time is enough for so many cubes
@@ -209,7 +214,7 @@ fn solve_all<R: Files + Clock + Alloc + Clone + Drop, E: Write>(
 
 /// Solves the cubes on the way, and writes what was found; after so many seconds those that are
 /// left stay open.
-pub(crate) fn go_on<R: Files + Clock + Alloc + Clone + Drop, E: Write>(
+pub(crate) fn go_on<R: Files + Clock + Alloc + Clone + Drop, E: Write, G: Gate>(
     rt: &R,
     alloc: Global,
     folder: Folder,
@@ -217,6 +222,7 @@ pub(crate) fn go_on<R: Files + Clock + Alloc + Clone + Drop, E: Write>(
     formula: &Formula,
     way: &mut Way<'_>,
     seconds: u64,
+    told: &Told<'_, G>,
     faults: &mut E,
 ) -> Result<Ended, Said>
     ensures { IfOk result (λ ended. ended ≡ Ended.Done → way.new.own.items ≡ []) }
@@ -235,6 +241,7 @@ pub(crate) fn go_on<R: Files + Clock + Alloc + Clone + Drop, E: Write>(
         way,
         seconds,
         &mut facts,
+        told,
         faults,
     )?;
     write_pack(rt, alloc, folder, run, formula, &facts, faults)?;

@@ -7,14 +7,14 @@ ghost use Rattle.spread.specs.RunFiles.{IsSettled};
 use crate::breadth::{Division, by_breadth};
 use crate::files::{read_file, write_file};
 use crate::folder::Folder;
-use crate::left_open::left_open;
+use crate::left_open::open_in;
 use crate::pack_file::write_pack;
 use crate::round_file::{next_round, write_round};
 use crate::run_file::{RunFile, formula_in, formula_of, run_in, run_of, run_text};
 use crate::said::{Said, say, say_error, say_no_memory};
 use crate::sums::sum_of;
 use cnf::{Formula, Limits};
-use cubes::OpenGate;
+use cubes::{Gate, OpenGate};
 use kernel::Cube;
 use std::alloc::{AllocError, Global};
 use std::fs::Files;
@@ -33,7 +33,8 @@ pub enum Progress {
     Unsatisfiable,
 }
 
-fn progress_of(count: usize, has_model: bool) -> Progress
+/// By how many cubes are open, and whether a model was claimed right of them.
+pub(crate) fn progress_of(count: usize, has_model: bool) -> Progress
     ensures { result ≡ progress_by count has_model }
 {
     if count > 0 {
@@ -59,6 +60,7 @@ fn make_folders<R: Files>(rt: &R, alloc: Global, folder: Folder, bytes: &[u8]) -
     make_folder(rt, folder.packs(alloc)?.as_str())?;
     make_folder(rt, folder.rounds(alloc)?.as_str())?;
     make_folder(rt, folder.models(alloc)?.as_str())?;
+    make_folder(rt, folder.parts(alloc)?.as_str())?;
     write_file(rt, alloc, folder.formula(alloc)?.as_str(), bytes)
 }
 
@@ -143,7 +145,7 @@ fn check_free<R: Files, E: Write>(
 
 /// Solves the cubes of a run's formula by breadth until at least `wanted` are open, and writes what
 /// that came to. The formula is the one at this path.
-fn write_division<R: Files, E: Write>(
+fn write_division<R: Files, E: Write, G: Gate>(
     rt: &R,
     alloc: Global,
     folder: Folder,
@@ -152,9 +154,10 @@ fn write_division<R: Files, E: Write>(
     text: &str,
     formula: &Formula,
     wanted: usize,
+    gate: &G,
     faults: &mut E,
 ) -> Result<Progress, Said> {
-    let Ok(mut division) = by_breadth(alloc, formula, run.plan, wanted) else {
+    let Ok(mut division) = by_breadth(alloc, formula, run.plan, wanted, gate) else {
         return Err(say_no_memory(faults, path));
     };
     write_run(rt, alloc, folder, run, text, formula, &mut division, faults)
@@ -170,8 +173,8 @@ fn settled(alloc: Global, formula: &Formula, strategy: Strategy) -> Result<Strat
 
 /// Makes the run of a formula: finds the plan that decides it by the strategy, solves its cubes by
 /// breadth until at least `wanted` are open, and writes what was found, the formula and the open
-/// cubes into the folder.
-pub fn divide<R: Files, E: Write>(
+/// cubes into the folder. The gate is told of these cubes as of a hand's.
+pub fn divide<R: Files, E: Write, G: Gate>(
     rt: &R,
     alloc: Global,
     folder: Folder,
@@ -179,6 +182,7 @@ pub fn divide<R: Files, E: Write>(
     strategy: Strategy,
     limits: Limits,
     wanted: usize,
+    gate: &G,
     faults: &mut E,
 ) -> Result<Progress, Said> {
     check_free(rt, alloc, folder, faults)?;
@@ -198,15 +202,8 @@ pub fn divide<R: Files, E: Write>(
     };
     let text = text.as_str();
     write_division(
-        rt, alloc, folder, path, &run, text, &formula, wanted, faults,
+        rt, alloc, folder, path, &run, text, &formula, wanted, gate, faults,
     )
-}
-
-/// The cube without literals, by itself.
-fn root_alone(alloc: Global) -> Result<Vec<Cube>, AllocError> {
-    let mut way = Vec::new(alloc);
-    way.push(Cube::root(alloc))?;
-    Ok(way)
 }
 
 /// Writes the next round of a run: the cubes that its packs leave open. Nothing of what the packs
@@ -219,10 +216,7 @@ pub fn divide_again<R: Files + Alloc + Clone + Drop, E: Write>(
 ) -> Result<Progress, Said> {
     let run = run_in(rt, alloc, folder, faults)?;
     let formula = formula_in(rt, alloc, folder, &run, faults)?;
-    let Ok(root) = root_alone(alloc) else {
-        return Err(say_no_memory(faults, folder.path));
-    };
-    let open = left_open(rt, alloc, folder, &run, &formula, root, faults)?;
+    let open = open_in(rt, alloc, folder, &run, &formula, faults)?;
     if !open.cubes.is_empty() {
         let number = next_round(rt, alloc, folder, faults)?;
         write_round(rt, alloc, folder, number, &open.cubes, faults)?;

@@ -1,6 +1,7 @@
 //! Where things lie in the folder of a run.
 ghost use Rattle.std.specs.Prelude.{◌≡◌, ◌++◌, IfOk, string_bytes, codes};
 
+use crate::slice::Slice;
 use std::alloc::{AllocError, Global};
 
 /// The folder of a run.
@@ -62,6 +63,21 @@ impl<'a> Folder<'a> {
     pub fn round(self, alloc: Global, number: u32) -> Result<String, AllocError> {
         let path = self.path;
         format!(in alloc; "{path}/rounds/{number:04}")
+    }
+
+    /// The folder of the parts that are under way.
+    pub fn parts(self, alloc: Global) -> Result<String, AllocError>
+        ensures { IfOk result (λ path. string_bytes path ≡ self.entry.path.now ++ codes "/parts") }
+    {
+        let path = self.path;
+        format!(in alloc; "{path}/parts")
+    }
+
+    /// The note of a part of a round that is under way.
+    pub fn part(self, alloc: Global, round: u32, slice: Slice) -> Result<String, AllocError> {
+        let path = self.path;
+        let (number, parts) = (slice.number(), slice.parts());
+        format!(in alloc; "{path}/parts/{round:04}-{number}-{parts}")
     }
 
     /// The pack of a name.

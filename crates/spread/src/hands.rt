@@ -6,8 +6,10 @@ use crate::folder::Folder;
 use crate::hand_count::HandCount;
 use crate::run_file::RunFile;
 use crate::said::{Said, say_no_memory};
+use crate::told::Told;
 use crate::way::{Waiting, Way};
 use cnf::Formula;
+use cubes::Gate;
 use std::alloc::{AllocError, Global};
 use std::fs::Files;
 use std::io::Write;
@@ -23,7 +25,7 @@ struct Worked {
 }
 
 /// Solves what waits until nothing does, as one hand does.
-fn work<R: Files + Clock + Alloc + Clone + Drop>(
+fn work<R: Files + Clock + Alloc + Clone + Drop, G: Gate>(
     rt: &R,
     alloc: Global,
     folder: Folder,
@@ -31,16 +33,19 @@ fn work<R: Files + Clock + Alloc + Clone + Drop>(
     formula: &Formula,
     waiting: &Waiting,
     seconds: u64,
+    gate: &G,
+    hand: usize,
 ) -> Worked {
     let mut said = Vec::new(alloc);
     let mut way = Way::of(alloc, waiting);
+    let told = Told { gate, hand };
     let ended = go_on(
-        rt, alloc, folder, run, formula, &mut way, seconds, &mut said,
+        rt, alloc, folder, run, formula, &mut way, seconds, &told, &mut said,
     );
     Worked { ended, said }
 }
 
-fn all_work<R: Files + Clock + Threads + Sync + Alloc + Clone + Drop>(
+fn all_work<R: Files + Clock + Threads + Sync + Alloc + Clone + Drop, G: Gate + Sync>(
     rt: &R,
     alloc: Global,
     folder: Folder,
@@ -49,6 +54,7 @@ fn all_work<R: Files + Clock + Threads + Sync + Alloc + Clone + Drop>(
     waiting: &Waiting,
     seconds: u64,
     hands: HandCount,
+    gate: &G,
 ) -> Result<Vec<Worked>, AllocError>
 where
     R::File: Send,
@@ -59,7 +65,11 @@ where
         rt,
         alloc,
         hands.get(),
-        &|_| { work(rt, alloc, folder, run, formula, waiting, seconds) },
+        &|hand| {
+            work(
+                rt, alloc, folder, run, formula, waiting, seconds, gate, hand,
+            )
+        },
     )
 }
 
@@ -90,7 +100,11 @@ fn end_of<E: Write>(works: &[Worked], faults: &mut E) -> Result<Ended, Said>
 
 /// Lets so many hands solve what waits, each with a solver of its own. Each takes whole cubes, and
 /// writes what it found. What one says is printed once all are home.
-pub(crate) fn solve_by_hands<R: Files + Clock + Threads + Sync + Alloc + Clone + Drop, E: Write>(
+pub(crate) fn solve_by_hands<
+    R: Files + Clock + Threads + Sync + Alloc + Clone + Drop,
+    E: Write,
+    G: Gate + Sync,
+>(
     rt: &R,
     alloc: Global,
     folder: Folder,
@@ -99,6 +113,7 @@ pub(crate) fn solve_by_hands<R: Files + Clock + Threads + Sync + Alloc + Clone +
     waiting: &Waiting,
     seconds: u64,
     hands: HandCount,
+    gate: &G,
     faults: &mut E,
 ) -> Result<Ended, Said>
 where
@@ -106,7 +121,9 @@ where
     R::Dir: Send,
     R::A: Send,
 {
-    match all_work(rt, alloc, folder, run, formula, waiting, seconds, hands) {
+    match all_work(
+        rt, alloc, folder, run, formula, waiting, seconds, hands, gate,
+    ) {
         Ok(works) => end_of(&works, faults),
         Err(_) => Err(say_no_memory(faults, folder.path)),
     }

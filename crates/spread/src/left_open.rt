@@ -1,5 +1,5 @@
 //! The cubes that the packs of a run leave open.
-ghost use Rattle.std.specs.Prelude.{IfOk};
+ghost use Rattle.std.specs.Prelude.{◌≡◌, ◌∷◌, [], IfOk};
 ghost use Rattle.spread.specs.OpenCubes.{AreWordsOf, AreLeftOpen};
 
 use crate::folder::Folder;
@@ -77,4 +77,31 @@ pub(crate) fn left_open<R: Files + Alloc + Clone + Drop, E: Write>(
         Ok(open) => Ok(open),
         Err(_) => Err(say_no_memory(faults, folder.path)),
     }
+}
+
+/// The cube without literals, by itself.
+fn root_alone(alloc: Global) -> Result<Vec<Cube>, AllocError>
+    ensures { IfOk result (λ way. way.items ≡ [] ∷ []) }
+{
+    let mut way = Vec::new(alloc);
+    way.push(Cube::root(alloc))?;
+    Ok(way)
+}
+
+/// What the packs of a run leave open of the formula's whole tree, as `left_open` tells it.
+pub(crate) fn open_in<R: Files + Alloc + Clone + Drop, E: Write>(
+    rt: &R,
+    alloc: Global,
+    folder: Folder,
+    run: &RunFile,
+    formula: &Formula,
+    faults: &mut E,
+) -> Result<OpenCubes, Said>
+    ensures { IfOk result (λ o. AreLeftOpen formula.now ([] ∷ []) o.cubes.items o.has_model) }
+{
+    let Ok(root) = root_alone(alloc) else {
+        return Err(say_no_memory(faults, folder.path));
+    };
+    let open = left_open(rt, alloc, folder, run, formula, root, faults)?;
+    Ok(open)
 }

@@ -24,7 +24,10 @@ mod run_file;
 mod said;
 mod slice;
 mod solving;
+mod standing;
 mod sums;
+mod told;
+mod under_way;
 mod way;
 
 pub use conquering::Ended;
@@ -36,3 +39,4 @@ pub use parts::conquer;
 pub use run_file::{RunFile, formula_bytes_in, run_in};
 pub use said::Said;
 pub use slice::Slice;
+pub use standing::{Standing, progress_in, standing_in};

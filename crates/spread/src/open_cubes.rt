@@ -1,9 +1,10 @@
 //! The cubes that facts leave open.
-ghost use Rattle.std.specs.Prelude.{◌≡◌, ◌↔◌, true, false, List, [], ◌∷◌, ◌++◌, if◌then◌else◌, reverse, All, None, IfOk, OnOk, IsTrue};
+ghost use Rattle.std.specs.HashMap.{values};
+ghost use Rattle.std.specs.Prelude.{◌≡◌, ◌↔◌, true, false, List, [], ◌∷◌, ◌++◌, if◌then◌else◌, reverse, All, None, IfOk, OnOk, IsTrue, count_by};
 ghost use Rattle.theory.specs.Literals.{Literal};
 ghost use Rattle.theory.specs.Trees.{false_half, true_half};
 ghost use Rattle.theory.specs.Checked.{IsFitSplit};
-ghost use Rattle.spread.specs.OpenCubes.{said_in, word_by, said_behind, IsTop, IsBelowTop, LeavesOpen, IsOnTheWay};
+ghost use Rattle.spread.specs.OpenCubes.{said_in, word_by, is_solved, said_behind, IsTop, IsBelowTop, LeavesOpen, IsOnTheWay};
 
 use cdcl::split;
 use cnf::{Formula, Lit};
@@ -28,6 +29,16 @@ fn word_of(claim: &Claim) -> Word
         Claim::Split(var) => Word::Split(*var),
         Claim::Refuted(_) => Word::Refuted,
         Claim::Model => Word::Model,
+    }
+}
+
+/// Whether a cube of which this is said is solved.
+fn is_solved(word: &Word) -> bool
+    ensures { result ≡ is_solved word.now }
+{
+    match word {
+        Word::Refuted | Word::Model => true,
+        Word::Split(_) => false,
     }
 }
 
@@ -126,6 +137,16 @@ impl Words {
         Ok(())
     }
 
+    /// Of how many cubes it is said that they are solved.
+    fn count_solved(&self) -> usize
+        ensures { result ≡ count_by is_solved (values self.now.by_cube) }
+    {
+        self.by_cube
+            .values()
+            .filter(|word| is_solved(*word))
+            .count()
+    }
+
     fn of_cube(&self, cube: &Cube) -> Option<Word>
         ensures { result ≡ said_in self.now cube.now }
     {
@@ -138,6 +159,8 @@ impl Words {
 pub(crate) struct OpenCubes {
     pub(crate) cubes: Vec<Cube>,
     pub(crate) has_model: bool,
+    /// Of how many cubes it is said that they are solved.
+    pub(crate) solved: usize,
 }
 
 /// Puts the halves of a cube on the way, so that the left one comes first; whether they could be.
@@ -203,6 +226,7 @@ pub(crate) fn open_cubes(
     let mut left = OpenCubes {
         cubes: Vec::new(alloc),
         has_model: false,
+        solved: words.count_solved(),
     };
     'cubes: for _ in 0..u64::MAX {
         let Some(cube) = way.pop() else {

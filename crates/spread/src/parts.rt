@@ -12,8 +12,10 @@ use crate::round_file::read_round;
 use crate::run_file::{RunFile, formula_in, run_in};
 use crate::said::{Said, say_no_memory};
 use crate::slice::Slice;
+use crate::under_way::{note_begun, note_ended};
 use crate::way::Waiting;
 use cnf::Formula;
+use cubes::Gate;
 use kernel::Cube;
 use std::alloc::{AllocError, Global};
 use std::fs::Files;
@@ -84,12 +86,8 @@ fn seconds_of(minutes: Option<u32>) -> u64
     }
 }
 
-/// Solves what the packs of a run leave open of a part of a round, with what splits leave, by so
-/// many hands, and writes what was found; after so many minutes the cubes that are left stay open.
-/// Hands take the cubes from left to right. It ends at a model, and where one is known left of the
-/// next cube, since the cubes that wait lie right of it. It can be stopped at any moment, and
-/// started twice: it goes on from what was written. It reads all packs once, at its beginning.
-pub fn conquer<R: Files + Clock + Threads + Sync + Alloc + Clone + Drop, E: Write>(
+/// Solves a part of a round, as `conquer` does.
+fn solve_part<R: Files + Clock + Threads + Sync + Alloc + Clone + Drop, E: Write, G: Gate + Sync>(
     rt: &R,
     alloc: Global,
     folder: Folder,
@@ -97,6 +95,7 @@ pub fn conquer<R: Files + Clock + Threads + Sync + Alloc + Clone + Drop, E: Writ
     slice: Slice,
     minutes: Option<u32>,
     hands: HandCount,
+    gate: &G,
     faults: &mut E,
 ) -> Result<Ended, Said>
 where
@@ -110,6 +109,36 @@ where
     let waiting = Waiting::of(cubes);
     let seconds = seconds_of(minutes);
     solve_by_hands(
-        rt, alloc, folder, &run, &formula, &waiting, seconds, hands, faults,
+        rt, alloc, folder, &run, &formula, &waiting, seconds, hands, gate, faults,
     )
+}
+
+/// Solves what the packs of a run leave open of a part of a round, with what splits leave, by so
+/// many hands, and writes what was found; after so many minutes the cubes that are left stay open.
+/// Hands take the cubes from left to right. It ends at a model, and where one is known left of the
+/// next cube, since the cubes that wait lie right of it. It can be stopped at any moment, and
+/// started twice: it goes on from what was written. It reads all packs once, at its beginning.
+/// While it is under way, a note in the run's folder says so, and the gate is told of each cube.
+pub fn conquer<R: Files + Clock + Threads + Sync + Alloc + Clone + Drop, E: Write, G: Gate + Sync>(
+    rt: &R,
+    alloc: Global,
+    folder: Folder,
+    round: u32,
+    slice: Slice,
+    minutes: Option<u32>,
+    hands: HandCount,
+    gate: &G,
+    faults: &mut E,
+) -> Result<Ended, Said>
+where
+    R::File: Send,
+    R::Dir: Send,
+    R::A: Send,
+{
+    note_begun(rt, alloc, folder, round, slice);
+    let ended = solve_part(
+        rt, alloc, folder, round, slice, minutes, hands, gate, faults,
+    );
+    note_ended(rt, alloc, folder, round, slice);
+    ended
 }

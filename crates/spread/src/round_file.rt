@@ -73,6 +73,20 @@ pub(crate) fn next_round<R: Files, E: Write>(
     }
 }
 
+/// How many rounds a run has, or why that can't be told, which is said.
+pub(crate) fn rounds_of<R: Files, E: Write>(
+    rt: &R,
+    alloc: Global,
+    folder: Folder,
+    faults: &mut E,
+) -> Result<u32, Said> {
+    match first_missing(rt, alloc, folder) {
+        Ok(Some(number)) => Ok(number.saturating_sub(1)),
+        Ok(None) => Ok(MOST_ROUNDS),
+        Err(error) => Err(say_error(faults, folder.path, error)),
+    }
+}
+
 /// The cubes of the lines, or none where a line is no cube over the formula's variables.
 fn cubes_of(alloc: Global, formula: &Formula, text: &str) -> Result<Option<Vec<Cube>>, AllocError> {
     let mut cubes = Vec::new(alloc);

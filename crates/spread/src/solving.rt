@@ -7,8 +7,10 @@ ghost use Rattle.cdcl.specs.Outcome.{outcome_of};
 ghost use Rattle.gathering.specs.Facts.{IsTrueFact};
 ghost use Rattle.spread.specs.Solving.{IsFitOutcome, IsLeftBy, IsLeft};
 
+use crate::told::Told;
 use cdcl::{Outcome, Plan, Solver, split};
 use cnf::Formula;
+use cubes::Gate;
 use gathering::fact_of;
 use kernel::Cube;
 use lines::Row;
@@ -45,13 +47,14 @@ fn left_by(formula: &Formula, cube: &Cube, outcome: &Outcome<Row>) -> Result<Lef
 
 /// Solves a cube, puts what is said of it behind the facts, and answers what it leaves. A cube that
 /// isn't over the formula's variables is passed over. It fails where a request for memory is
-/// refused.
-pub fn solve(
+/// refused, or the gate stops it.
+pub(crate) fn solve<G: Gate>(
     formula: &Formula,
     plan: Plan,
     solver: &mut Solver,
     cube: Cube,
     facts: &mut Vec<Fact>,
+    told: &Told<'_, G>,
 ) -> Result<Left, AllocError>
     requires formula { solver.old.formula ≡ formula.now }
     requires plan { solver.old.plan ≡ plan }
@@ -65,7 +68,10 @@ pub fn solve(
     if !is_over(formula.vars(), cube.lits()) {
         return Ok(Left::Nothing);
     }
-    let outcome = solver.solve(&cube)?;
+    told.begin(&cube);
+    let outcome = solver.solve_watched(&cube, told);
+    told.end(&cube);
+    let outcome = outcome?;
     let left = left_by(formula, &cube, &outcome)?;
     facts.push(fact_of(cube, outcome))?;
     Ok(left)

@@ -117,6 +117,7 @@ static DAMAGED: [Row; 2] = [
         words: &[
             "cubesat",
             "gather",
+            "--solve",
             "--proof",
             "spread_damaged.lrat",
             "spread_damaged",
@@ -129,6 +130,7 @@ static DAMAGED: [Row; 2] = [
         words: &[
             "cubesat",
             "gather",
+            "--solve",
             "--proof",
             "spread_damaged.lrat",
             "--hands",
@@ -161,7 +163,7 @@ fn what_is_damaged_is_named(rt: HostRuntime) -> Result<(), Fail> {
     begin(&rt, "spread_damaged", "spread_damaged.cnf", FOUR)?;
     assert!(rt; first_other(&rt, &BEGUN).is_none());
     for path in ["spread_damaged/packs/0.pack", "spread_damaged/packs/1.pack"] {
-        fs::write(&rt, path, "cubesat pack 1 of nothing\n")?;
+        fs::write(&rt, path, "cubesat pack 2 of nothing\n")?;
     }
     assert!(rt; first_other(&rt, &DAMAGED).is_none());
     assert!(rt; holds(&rt, "spread_damaged.lrat", FOUR_PROOF)?);

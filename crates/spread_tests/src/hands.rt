@@ -109,6 +109,7 @@ const BY_ONE: Row = Row {
     words: &[
         "cubesat",
         "gather",
+        "--solve",
         "--proof",
         "spread_ahead.lrat",
         "--hands",
@@ -124,6 +125,7 @@ const BY_TWO: Row = Row {
     words: &[
         "cubesat",
         "gather",
+        "--solve",
         "--proof",
         "spread_ahead.lrat",
         "--hands",
@@ -135,17 +137,17 @@ const BY_TWO: Row = Row {
 
 /// A pack that says that the cube of -2 alone is refuted, which isn't in the tree.
 const REFUTED: &str =
-    "spread_ahead/packs/cb99a9bd783ea0ea456a2fa8bfbbec051537a8864444f8570dd0c0ad38e827e5.pack";
+    "spread_ahead/packs/4fe24ae1011b821e03c529d91c3860a85fb4863e4e02015989739aec0d67a4a7.pack";
 
 const REFUTED_TEXT: &str =
-    "cubesat pack 1 d19bf49d5f1058235b91384ab4780f1ec9739997ff2f40e5c1dc7d0ed2489e06\n\x08\x00\x00\x00\x00\x00\x00\x00\x04\x00\x04\x00\x00\x02\x02\x00";
+    "cubesat pack 2 b5e6728ad904468848b5c3a5d3964c51fa3852466d021153982a05f906a37e55\n\x0a\x00\x00\x00\x00\x00\x00\x00\x04\x00\x04\x00\x00\x00\x02\x02\x00\x00";
 
 /// One that says that it has a model: then the tree is gone through twice.
 const MODEL: &str =
-    "spread_ahead/packs/edb5560e2f03025ad08fef835030ceb65d4165a701c894291a9af00cbfa9cda0.pack";
+    "spread_ahead/packs/d3df69cb385e83d233f054e4c189ada05f772bafaeba07d8e1ef1d1fb7fd0a4c.pack";
 
 const MODEL_TEXT: &str =
-    "cubesat pack 1 d19bf49d5f1058235b91384ab4780f1ec9739997ff2f40e5c1dc7d0ed2489e06\n\x04\x00\x00\x00\x00\x00\x00\x00\x04\x00\x06\x00";
+    "cubesat pack 2 b5e6728ad904468848b5c3a5d3964c51fa3852466d021153982a05f906a37e55\n\x05\x00\x00\x00\x00\x00\x00\x00\x04\x00\x06\x00\x00";
 
 /// A pack, a command line, and whether the pack is read again once it is gone through: one hand reads
 /// the facts of cubes that it comes to, and several those that come next.

@@ -22,6 +22,8 @@ mod refused_files;
 #[cfg(test)]
 mod rows;
 #[cfg(test)]
+mod standing;
+#[cfg(test)]
 mod steps;
 #[cfg(test)]
 mod stores;

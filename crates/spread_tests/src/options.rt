@@ -328,6 +328,7 @@ static RANGES: [Step; 29] = [
         words: &[
             "cubesat",
             "gather",
+            "--solve",
             "--proof",
             "spread_options/formula.cnf",
             "spread_options",

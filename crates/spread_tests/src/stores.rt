@@ -22,7 +22,9 @@ static MADE: [Step; 1] = [Step::Ends(Row {
 })];
 
 const GATHERED: Row = Row {
-    words: &["cubesat", "gather", "--proof", PROOF, "--stats", RUN],
+    words: &[
+        "cubesat", "gather", "--solve", "--proof", PROOF, "--stats", RUN,
+    ],
     status: 20,
     answer: "s UNSATISFIABLE\n",
     faults: "",
@@ -31,45 +33,45 @@ const GATHERED: Row = Row {
 /// The same by three hands.
 const GATHERED_BY_THREE: Row = Row {
     words: &[
-        "cubesat", "gather", "--proof", PROOF, "--hands", "3", "--stats", RUN,
+        "cubesat", "gather", "--solve", "--proof", PROOF, "--hands", "3", "--stats", RUN,
     ],
     ..GATHERED
 };
 
 /// The left cube is refuted; behind it stands a length of some quintillions, and two bytes.
 const HOSTILE: Step = Step::Put(
-    "spread_stores/packs/17c4b8aeeefa6b975a6bb6a062d30b1af1b7379dbcf41e65762a4062427e5c4e.pack",
-    "cubesat pack 1 d19bf49d5f1058235b91384ab4780f1ec9739997ff2f40e5c1dc7d0ed2489e06\n\x08\x00\x00\x00\x00\x00\x00\x00\x02\x00\x04\x00\x00\x02\x02\x00\x7f\x7f\x7f\x7f\x7f\x7f\x7f\x7f\x00\x02",
+    "spread_stores/packs/f37a6314eed81a0d3e8291ce469b94dbc21828930b6a2a2668a00771d62884f6.pack",
+    "cubesat pack 2 b5e6728ad904468848b5c3a5d3964c51fa3852466d021153982a05f906a37e55\n\x0a\x00\x00\x00\x00\x00\x00\x00\x02\x00\x04\x00\x00\x00\x02\x02\x00\x00\x7f\x7f\x7f\x7f\x7f\x7f\x7f\x7f\x00\x02",
 );
 
 /// The right cube is refuted; three bytes of a length stand behind it.
 const CUT_IN_LENGTH: Step = Step::Put(
-    "spread_stores/packs/e9a36a710c5e114dc090d5d56c3e104dd533b71f6a38c7f25bd4f0db255162d5.pack",
-    "cubesat pack 1 d19bf49d5f1058235b91384ab4780f1ec9739997ff2f40e5c1dc7d0ed2489e06\n\x08\x00\x00\x00\x00\x00\x00\x00\x03\x00\x04\x00\x00\x06\x02\x00\x08\x00\x00",
+    "spread_stores/packs/8fb3e5374d14054ada4c237e51f09559f3073d6643d938f5c8036313897c7c77.pack",
+    "cubesat pack 2 b5e6728ad904468848b5c3a5d3964c51fa3852466d021153982a05f906a37e55\n\x0a\x00\x00\x00\x00\x00\x00\x00\x03\x00\x04\x00\x00\x00\x06\x02\x00\x00\x08\x00\x00",
 );
 
 /// The same, and behind it a fact of the left cube without its last byte.
 const CUT_IN_BODY: Step = Step::Put(
-    "spread_stores/packs/03f713f8bf86165861f59a236e37e265444c736775155a56b43cea823845461b.pack",
-    "cubesat pack 1 d19bf49d5f1058235b91384ab4780f1ec9739997ff2f40e5c1dc7d0ed2489e06\n\x08\x00\x00\x00\x00\x00\x00\x00\x03\x00\x04\x00\x00\x06\x02\x00\x08\x00\x00\x00\x00\x00\x00\x00\x02\x00\x04\x00\x00\x02\x02",
+    "spread_stores/packs/3181bc649a04aad3e751eaabd8e0a79d3cb1f602754db099902ab3c1b99de56e.pack",
+    "cubesat pack 2 b5e6728ad904468848b5c3a5d3964c51fa3852466d021153982a05f906a37e55\n\x0a\x00\x00\x00\x00\x00\x00\x00\x03\x00\x04\x00\x00\x00\x06\x02\x00\x00\x0a\x00\x00\x00\x00\x00\x00\x00\x02\x00\x04\x00\x00\x00\x02\x02\x00",
 );
 
 /// Both cubes are refuted, the right one first.
 const RIGHT_AND_LEFT: Step = Step::Put(
-    "spread_stores/packs/2e1049f57774d475652325f0d7533bfa927224967a5f84386b56c3224c4ef439.pack",
-    "cubesat pack 1 d19bf49d5f1058235b91384ab4780f1ec9739997ff2f40e5c1dc7d0ed2489e06\n\x08\x00\x00\x00\x00\x00\x00\x00\x03\x00\x04\x00\x00\x06\x02\x00\x08\x00\x00\x00\x00\x00\x00\x00\x02\x00\x04\x00\x00\x02\x02\x00",
+    "spread_stores/packs/74c6f70d36213ea0e2276c9e9d46125929b2fcf119d616aec8ddaa2686b577ef.pack",
+    "cubesat pack 2 b5e6728ad904468848b5c3a5d3964c51fa3852466d021153982a05f906a37e55\n\x0a\x00\x00\x00\x00\x00\x00\x00\x03\x00\x04\x00\x00\x00\x06\x02\x00\x00\x0a\x00\x00\x00\x00\x00\x00\x00\x02\x00\x04\x00\x00\x00\x02\x02\x00\x00",
 );
 
 /// The left one first.
 const LEFT_AND_RIGHT: Step = Step::Put(
-    "spread_stores/packs/a46d685bd19b5e6426b9b375fce8c4935ca2f86c65dea5b41c53fb155512cd77.pack",
-    "cubesat pack 1 d19bf49d5f1058235b91384ab4780f1ec9739997ff2f40e5c1dc7d0ed2489e06\n\x08\x00\x00\x00\x00\x00\x00\x00\x02\x00\x04\x00\x00\x02\x02\x00\x08\x00\x00\x00\x00\x00\x00\x00\x03\x00\x04\x00\x00\x06\x02\x00",
+    "spread_stores/packs/146f61aa98b6bd7c5832a44a8f94bfbf64c50488cdb12109291a7de192cbced0.pack",
+    "cubesat pack 2 b5e6728ad904468848b5c3a5d3964c51fa3852466d021153982a05f906a37e55\n\x0a\x00\x00\x00\x00\x00\x00\x00\x02\x00\x04\x00\x00\x00\x02\x02\x00\x00\x0a\x00\x00\x00\x00\x00\x00\x00\x03\x00\x04\x00\x00\x00\x06\x02\x00\x00",
 );
 
 /// The left cube is refuted by the hints of the right one, which isn't so.
 const WRONG_LEFT: Step = Step::Put(
-    "spread_stores/packs/980edc6a773eb3857231951b99f09d06d4eccac2690c4735935f19aab2ec82f6.pack",
-    "cubesat pack 1 d19bf49d5f1058235b91384ab4780f1ec9739997ff2f40e5c1dc7d0ed2489e06\n\x08\x00\x00\x00\x00\x00\x00\x00\x02\x00\x04\x00\x00\x06\x02\x00",
+    "spread_stores/packs/d08df7e7064875d7cc5547254220c114359fa266dd513bc4afd4ed6e05ba5744.pack",
+    "cubesat pack 2 b5e6728ad904468848b5c3a5d3964c51fa3852466d021153982a05f906a37e55\n\x0a\x00\x00\x00\x00\x00\x00\x00\x02\x00\x04\x00\x00\x00\x06\x02\x00\x00",
 );
 
 /// Packs beside that of the division, and what is printed of them all.
@@ -146,6 +148,7 @@ static NO_PACKS: [Step; 9] = [
         words: &[
             "cubesat",
             "gather",
+            "--solve",
             "--proof",
             "spread_bare.lrat",
             "spread_bare",
@@ -161,6 +164,7 @@ static NO_PACKS: [Step; 9] = [
         words: &[
             "cubesat",
             "gather",
+            "--solve",
             "--proof",
             "spread_bare.lrat",
             "spread_bare",
@@ -199,14 +203,15 @@ static LIE: [Step; 6] = [
         faults: "",
     }),
     Step::Put(
-        "spread_lie/packs/54468b1d31b2cea77cbb3775ea86293d3d4fd235e3b97a8aae42fa574f987933.pack",
-        "cubesat pack 1 eb24737f917a806d3f54b358ce26d08bb87cfb00e71329f6644bb7b00b0f2226\n\x08\x00\x00\x00\x00\x00\x00\x00\x02\x00\x04\x00\x00\x02\x02\x00",
+        "spread_lie/packs/dc6bf4813de5679a71c10d1f74659a296fa2da59a7ce46de83942864ed616781.pack",
+        "cubesat pack 2 cf5a036be76f65f14a1dffe58b736c15a1170feb27a53eb5305f2c468d731c8c\n\x0a\x00\x00\x00\x00\x00\x00\x00\x02\x00\x04\x00\x00\x00\x02\x02\x00\x00",
     ),
     Step::Put("spread_lie.lrat", "an old proof"),
     Step::Ends(Row {
         words: &[
             "cubesat",
             "gather",
+            "--solve",
             "--proof",
             "spread_lie.lrat",
             "--stats",

@@ -42,7 +42,7 @@ const UNSOLVED: Row = Row {
 };
 
 const UNGATHERED: Row = Row {
-    words: &["cubesat", "gather", "--proof", PROOF, RUN],
+    words: &["cubesat", "gather", "--solve", "--proof", PROOF, RUN],
     faults: "fault 53\nc spread_unwritten.lrat: no permission to write it\nc the proof isn't whole; make room for all of it, or name another place\n",
     ..UNMADE
 };
@@ -144,7 +144,7 @@ where
 }
 
 /// Command lines, and what is said where they can't print.
-static UNPRINTED: [(&[&str], &str); 3] = [
+static UNPRINTED: [(&[&str], &str); 4] = [
     (
         &[
             "cubesat",
@@ -164,7 +164,18 @@ static UNPRINTED: [(&[&str], &str); 3] = [
         "cubesat: standard output: other error\n",
     ),
     (
-        &["cubesat", "gather", "--proof", PROOF, "spread_unprinted"],
+        &["cubesat", "status", "spread_unprinted"],
+        "cubesat: standard output: other error\n",
+    ),
+    (
+        &[
+            "cubesat",
+            "gather",
+            "--solve",
+            "--proof",
+            PROOF,
+            "spread_unprinted",
+        ],
         "fault 54\nc the answer: other error\nc what was printed is only a beginning of it\n",
     ),
 ];

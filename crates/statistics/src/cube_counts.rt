@@ -1,4 +1,5 @@
-//! What a gate is told of cubes, counted. It is told of no cube with more than 32 literals.
+//! What a gate is told of cubes, counted. Within one machine it is told of none with more than 32
+//! literals.
 //!
 //! Each hand takes the cube that was put first, from its own deque or from another's. So the tree
 //! is gone through by depth: while each hand is at a cube of a depth of d or more, all cubes of a
@@ -78,6 +79,12 @@ impl CubeCounts {
     /// How many cubes are solved.
     pub(crate) fn solved(&self) -> u64 {
         sum(&self.solved)
+    }
+
+    /// How many cubes all hands solved, those with more than 32 literals too, of a run of which a gate
+    /// is told these.
+    pub(crate) fn solved_by_all(&self) -> u64 {
+        sum(&self.by_hand)
     }
 
     /// How many cubes each of so many hands solved.

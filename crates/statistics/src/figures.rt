@@ -93,6 +93,8 @@ pub enum Stage {
     Writing,
     /// `check` reads the formula, and then the proof.
     Checking,
+    /// `divide` or `conquer` solves cubes.
+    Cubes,
 }
 
 /// All that is counted in a run; none of what it didn't come to.

@@ -93,6 +93,20 @@ fn print_read<E: Write>(
     }
 }
 
+fn print_cubes<E: Write>(
+    out: &mut E,
+    manner: Manner,
+    seconds: u64,
+    figures: &Figures,
+) -> io::Result<()> {
+    let (start, end) = (manner.start(), manner.end());
+    let (conflicts, cubes) = (figures.searched().conflicts, figures.cubes.solved_by_all());
+    write!(
+        out,
+        "{start}c {seconds} s: {conflicts} conflicts, {cubes} cubes solved{end}"
+    )
+}
+
 /// `print_line` so many milliseconds after the run began.
 fn print_line_at<E: Write>(out: &mut E, manner: Manner, now: u64, figures: &Figures) {
     let seconds = now / 1000;
@@ -102,6 +116,7 @@ fn print_line_at<E: Write>(out: &mut E, manner: Manner, now: u64, figures: &Figu
         Stage::Joining => print_named(out, manner, seconds, "joining"),
         Stage::Writing => print_written(out, manner, seconds, figures),
         Stage::Checking => print_read(out, manner, seconds, figures),
+        Stage::Cubes => print_cubes(out, manner, seconds, figures),
     };
 }
 

@@ -15,7 +15,7 @@ const TREE: TreeSize = TreeSize {
     bytes: 900,
     most_lines: 7,
     most_literals: 8,
-    most_hints: 9,
+    most_numbers: 9,
 };
 
 /// When a stage ended, in milliseconds since the run began, and the memory by then in KiB.

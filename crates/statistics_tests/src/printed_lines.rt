@@ -26,7 +26,7 @@ enum Beside {
 /// A stage, a search, what is known beside some figures, how many seconds a run takes, and its line.
 type Row = (Stage, Search, Beside, u64, &'static str);
 
-static ROWS: [Row; 28] = [
+static ROWS: [Row; 29] = [
     (
         Stage::Reading,
         Search::Ordered,
@@ -47,6 +47,13 @@ static ROWS: [Row; 28] = [
         Beside::Nothing,
         12,
         "c 12 s: 350000 conflicts, 29166 a second, 4 cubes solved",
+    ),
+    (
+        Stage::Cubes,
+        Search::Ordered,
+        Beside::Nothing,
+        12,
+        "c 12 s: 350000 conflicts, 4 cubes solved",
     ),
     (
         Stage::Joining,

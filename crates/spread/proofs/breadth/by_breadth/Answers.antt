@@ -11,7 +11,7 @@ use Rattle.spread.proofs.breadth.by_breadth.Goals.{then-branch, else-branch, els
 use Rattle.spread.proofs.breadth.by_breadth.Goals as goal
 
 pub cubes-preserved : goal.cubes-preserved
-cubes-preserved c =
+cubes-preserved g c =
     let F = c.args.formula.now in
     let plan = c.args.plan in
     let Q = c.in-Some.cube in
@@ -38,7 +38,7 @@ cubes-preserved c =
     }
 
 pub cubes-init : goal.cubes-init
-cubes-init c =
+cubes-init g c =
     let F = c.args.formula.now in
     let plan = c.args.plan in
     let alone : c.push_back.new.self.items ≡ [] ∷ [] = c.in_ok-push_back.ensures.items ∙ (ap (λ (Qs : List (List Literal)). Qs ++ c.root.result ∷ []) c.new-queue.ensures.items ∙ ap (λ (Q : List Literal). Q ∷ []) c.root.ensures) in
@@ -52,7 +52,7 @@ cubes-init c =
     }
 
 pub returns-clause-cubes : goal.returns-clause-cubes
-returns-clause-cubes c =
+returns-clause-cubes g c =
     let F = c.args.formula.now in
     let plan = c.args.plan in
     let P = IsOfTree F plan in
@@ -65,7 +65,7 @@ returns-clause-cubes c =
     All-same P c.put_in_order.new.queue.items (longer_first waiting) c.in_ok-put_in_order.ensures (longer-cubes P waiting before)
 
 pub returns-clause-divides : goal.returns-clause-divides
-returns-clause-divides c =
+returns-clause-divides g c =
     let F = c.args.formula.now in
     let plan = c.args.plan in
     let facts = c.cubes.facts.items in

@@ -7,7 +7,7 @@ use Rattle.spread.proofs.breadth.by_breadth.Given as goal
 -- the solver is the one of the formula and the plan, what is said so far is true, and what waits
 -- are cubes of the tree, and those that it leaves open
 abbrev pub invariant-cubes : goal.invariant-cubes
-invariant-cubes l = record {
+invariant-cubes g l = record {
   formula : l.solver.formula ≡ l.formula;
   plan : l.solver.plan ≡ l.fn.plan;
   facts : All (IsTrueFact l.formula l.fn.plan) l.facts.items;
