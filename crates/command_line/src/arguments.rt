@@ -2,8 +2,9 @@
 
 use crate::effort::{Asked, Choice, FOCUSED_BUDGET, SPREAD_BUDGET, greatest_budget};
 use crate::refusals::refusal_of;
+use crate::request::{FormulaFile, Request, Shown};
 use crate::spread_arguments::{
-    Spread, conquer_command, conquer_request, divide_command, divide_request, gather_command,
+    conquer_command, conquer_request, divide_command, divide_request, gather_command,
     gather_request, status_command, status_request,
 };
 use clap::error::ErrorKind;
@@ -58,43 +59,13 @@ const SOLVE_BUDGET: &str =
 const BUDGET_TOO_GREAT: &str =
     "only the focused search has budgets above 100000; give --search focused too, or a smaller budget";
 
+const LENIENT: &str =
+    "Read the formula as MiniSat does: whatever its header counts, with `+` and leading zeros, comments behind clauses, and up to a `%`";
+
+const EXTENDED: &str =
+    "Let the proof's clauses have variables above the formula's, as extended resolution defines them, up to 262143, or 100000000 with --large";
+
 const DISTINCT_STATUS: &str = "Exit with status 2 on a fault, and with 1 for a refused proof alone";
-
-/// What is shown of a run, beside its answer and its faults.
-#[derive(Clone, Copy)]
-pub struct Shown {
-    pub stats: bool,
-    pub progress: bool,
-    pub verbose: bool,
-}
-
-/// What the command line asks for.
-#[derive(Clone, Copy)]
-pub enum Request<'a> {
-    /// Decide the formula in `file`, and write its proof to `proof`, if there is to be one.
-    Solve {
-        asked: Asked,
-        proof: Option<&'a str>,
-        file: &'a str,
-        shown: Shown,
-    },
-    /// Check the proof in `proof` against the formula in `formula`.
-    Check {
-        formula: &'a str,
-        proof: &'a str,
-        limits: Limits,
-        /// Whether a fault and a refused proof are to have two exit statuses.
-        distinct_status: bool,
-        shown: Shown,
-    },
-    /// Say what a number that the program printed means, and the one behind it.
-    Explain {
-        number: u32,
-        behind: Option<u32>,
-    },
-    /// Work on a run that is spread over machines.
-    Spread(Spread<'a>),
-}
 
 /// An option that takes no value.
 pub(crate) fn flag<'a>(alloc: Global, name: &'a str, help: &'a str) -> Arg<'a> {
@@ -190,6 +161,7 @@ fn with_flags<'a>(
     progress: &'a str,
 ) -> Result<Command<'a>, AllocError> {
     command
+        .arg(flag(alloc, "lenient", LENIENT))?
         .arg(flag(alloc, "large", large))?
         .arg(flag(alloc, "stats", stats))?
         .arg(flag(alloc, "progress", progress))?
@@ -208,10 +180,21 @@ fn solve_command<'a>(alloc: Global) -> Result<Command<'a>, AllocError> {
 fn check_command<'a>(alloc: Global) -> Result<Command<'a>, AllocError> {
     let command = Command::new(alloc, "check")
         .about("Check a proof: status 0 accepted, 1 refused or on a fault")
+        .arg(flag(alloc, "extended", EXTENDED))?
         .arg(flag(alloc, "distinct-status", DISTINCT_STATUS))?;
     with_flags(alloc, command, CHECK_LARGE, CHECK_STATS, CHECK_PROGRESS)?
         .arg(word(alloc, "FORMULA", FORMULA_FILE))?
         .arg(word(alloc, "PROOF", PROOF_FILE))
+}
+
+fn tidy_command<'a>(alloc: Global) -> Result<Command<'a>, AllocError> {
+    Command::new(alloc, "tidy")
+        .about(
+            "Write a formula again, each literal of a clause once, without clauses that have both signs of a variable",
+        )
+        .arg(flag(alloc, "lenient", LENIENT))?
+        .arg(flag(alloc, "large", SOLVE_LARGE))?
+        .arg(word(alloc, "FILE", FORMULA_FILE))
 }
 
 fn number_word<'a>(alloc: Global) -> Arg<'a> {
@@ -244,6 +227,7 @@ const EXAMPLES: &str = "Examples:
   cubesat solve --stats --proof f.lrat f.cnf             and what it took
   xz -dc f.cnf.xz | cubesat solve -                      standard input, and no proof
   cubesat check f.cnf f.lrat                             check the proof
+  cubesat tidy f.cnf                                     write the formula without what repeats
   cubesat divide --into RUN f.cnf                        begin a run on many machines
   cubesat explain 51 5                                   what `fault 51: refusal 5` means";
 
@@ -264,6 +248,7 @@ fn whole_command<'a>(alloc: Global) -> Result<Command<'a>, AllocError> {
         .subcommand_required(true);
     let command = with_subcommand(command, solve_command(alloc))?;
     let command = with_subcommand(command, check_command(alloc))?;
+    let command = with_subcommand(command, tidy_command(alloc))?;
     let command = with_subcommand(command, divide_command(alloc))?;
     let command = with_subcommand(command, conquer_command(alloc))?;
     let command = with_subcommand(command, gather_command(alloc))?;
@@ -342,26 +327,42 @@ fn asked_in(matches: &ArgMatches<'_>) -> Option<Asked> {
     })
 }
 
+/// The formula's file, which is this word.
+fn formula_in<'a>(matches: &ArgMatches<'a>, name: &str) -> Option<FormulaFile<'a>> {
+    Some(FormulaFile {
+        path: matches.get_str(name)?,
+        is_lenient: matches.get_flag("lenient"),
+    })
+}
+
 fn solve_request<'a>(matches: &ArgMatches<'a>) -> Option<Request<'a>> {
     let asked = asked_in(matches)?;
-    let file = matches.get_str("FILE")?;
+    let formula = formula_in(matches, "FILE")?;
     Some(Request::Solve {
         asked,
         proof: matches.get_str("proof"),
-        file,
+        formula,
         shown: shown_of(matches),
     })
 }
 
 fn check_request<'a>(matches: &ArgMatches<'a>) -> Option<Request<'a>> {
-    let formula = matches.get_str("FORMULA")?;
+    let formula = formula_in(matches, "FORMULA")?;
     let proof = matches.get_str("PROOF")?;
     Some(Request::Check {
         formula,
         proof,
         limits: limits_of(matches),
+        is_extended: matches.get_flag("extended"),
         distinct_status: matches.get_flag("distinct-status"),
         shown: shown_of(matches),
+    })
+}
+
+fn tidy_request<'a>(matches: &ArgMatches<'a>) -> Option<Request<'a>> {
+    Some(Request::Tidy {
+        formula: formula_in(matches, "FILE")?,
+        limits: limits_of(matches),
     })
 }
 
@@ -376,6 +377,7 @@ fn request_in<'a>(matches: &ArgMatches<'a>) -> Option<Request<'a>> {
     let (name, matches) = matches.subcommand()?;
     match name {
         "check" => check_request(matches),
+        "tidy" => tidy_request(matches),
         "explain" => explain_request(matches),
         "divide" => Some(Request::Spread(divide_request(matches)?)),
         "conquer" => Some(Request::Spread(conquer_request(matches)?)),

@@ -1,7 +1,8 @@
 //! Command lines that are refused, though each of their words is right by itself.
 
-use crate::arguments::{Request, STANDARD_INPUT};
+use crate::arguments::STANDARD_INPUT;
 use crate::effort::{Asked, Choice};
+use crate::request::Request;
 use crate::spread_arguments::Spread;
 
 /// Why a request is refused, if it is. `-` is the name of standard input, and of standard output.
@@ -24,7 +25,7 @@ pub(crate) fn refusal_of(request: &Request) -> Option<&'static str> {
             "the proof can't be written to standard output, where the answer goes; give --proof a file, or leave it out",
         ),
         Request::Check { formula, proof, .. }
-            if *formula == STANDARD_INPUT && *proof == STANDARD_INPUT => {
+            if formula.path == STANDARD_INPUT && *proof == STANDARD_INPUT => {
             Some("standard input can't be both the formula and the proof")
         }
         Request::Spread(Spread::Conquer { part: None, .. }) => {

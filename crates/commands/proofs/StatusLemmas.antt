@@ -9,6 +9,8 @@ use Rattle.theory.specs.ProofReading.{ProofReading, ProofReadsWithin, steps, lin
 use Rattle.theory.specs.Checking.{checks, accepted, refused, no_empty_clause}
 use Rattle.theory.specs.Checking as theory
 use Rattle.theory.proofs.checker.Soundness.{accepted-unsatisfiable}
+use Rattle.lrat.specs.declared.variables.Variables.{Variables}
+use Rattle.lrat.specs.Extended.{checked_formula}
 use Rattle.lrat_text.proofs.ProofTexts.{ProofReads-only}
 use Rattle.runs.specs.declared.fault.RunFault.{RunFault}
 use Rattle.runs.specs.declared.verdict.Verdict.{Verdict}
@@ -18,7 +20,9 @@ use Rattle.runs.specs.declared.checked_line.Checked.TheVariants.{Accepted, Refus
 use Rattle.runs.specs.Run.{WritesBoth}
 use Rattle.runs.specs.Answered.{WritesAnswer}
 use Rattle.runs.specs.Limited.{LimitedSays}
+use Rattle.runs.specs.Tidy.{TidySays}
 use Rattle.runs.specs.Check.{checked_of, verdict_of, CheckSays, WritesLine}
+use Rattle.runs.proofs.CheckRuns.{allowed-satisfiable}
 use Rattle.runs.proofs.RightAnswers.{texts-right}
 use Rattle.commands.specs.Status.{solve_status, Answers, IsSolveStatus}
 use Rattle.commands.specs.CheckStatus.{IsProofOf, AreRead, IsCheckEnd}
@@ -84,29 +88,35 @@ checks-accept accepted e = refl
 checks-accept (refused fault n) e = absurd (cc)
 checks-accept no_empty_clause e = absurd (cc)
 
-is_proof : (L : Limits) (F : truth.Formula) (proof : List ℕ) (r : ProofReading) → ProofReadsWithin L proof r → Accepted ≡ verdict_of F r → IsProofOf L F proof
-is_proof L F proof (steps ss) reads e = (ss, reads, checks-accept (checks F ss) e)
-is_proof L F proof (line_fault fault n) reads e = absurd (cc)
-is_proof L F proof too_long reads e = absurd (cc)
+is_proof : (L : Limits) (variables : Variables) (F : truth.Formula) (proof : List ℕ) (r : ProofReading) → ProofReadsWithin L proof r → Accepted ≡ verdict_of (checked_formula L variables F) r → IsProofOf L variables F proof
+is_proof L variables F proof (steps ss) reads e = (ss, reads, checks-accept (checks (checked_formula L variables F) ss) e)
+is_proof L variables F proof (line_fault fault n) reads e = absurd (cc)
+is_proof L variables F proof too_long reads e = absurd (cc)
 
-no_proof : (L : Limits) (F : truth.Formula) (proof : List ℕ) (r : ProofReading) → ProofReadsWithin L proof r → Refused ≡ verdict_of F r → ¬ (IsProofOf L F proof)
-no_proof L F proof r reads e is =
+no_proof : (L : Limits) (variables : Variables) (F : truth.Formula) (proof : List ℕ) (r : ProofReading) → ProofReadsWithin L proof r → Refused ≡ verdict_of (checked_formula L variables F) r → ¬ (IsProofOf L variables F proof)
+no_proof L variables F proof r reads e is =
     let same : r ≡ steps is.0 = ProofReads-only L proof r (steps is.0) reads is.1 in
-    let both : Refused ≡ Accepted = e ∙ ap (verdict_of F) same ∙ ap checked_of is.2 in
+    let both : Refused ≡ Accepted = e ∙ ap (verdict_of (checked_formula L variables F)) same ∙ ap checked_of is.2 in
     absurd (cc)
 
 -- the two texts of a line that was written
-read-so : (L : Limits) (known proofs a b : Option (List ℕ)) (checked : Checked) (So : truth.Formula → List ℕ → Type 0) (w : WritesLine L known proofs a b checked) → So w.check.value w.check.proof → AreRead L known proofs So
-read-so L known proofs a b checked So w so = record { bytes = w.check.bytes; are = w.check.are; value = w.check.value; reads = w.check.reads; proof = w.check.proof; proof_is = w.check.proof_is; so = so }
+read-so : (L : Limits) (variables : Variables) (known proofs a b : Option (List ℕ)) (checked : Checked) (So : truth.Formula → List ℕ → Type 0) (w : WritesLine L variables known proofs a b checked) → So w.check.value w.check.proof → AreRead L known proofs So
+read-so L variables known proofs a b checked So w so = record { bytes = w.check.bytes; are = w.check.are; value = w.check.value; reads = w.check.reads; proof = w.check.proof; proof_is = w.check.proof_is; so = so }
 
-pub check-end : (L : Limits) (known proofs a b : Option (List ℕ)) (r : Result Checked RunFault) → CheckSays L known proofs a b r → IsCheckEnd L known proofs (end_of r)
-check-end L known proofs a b (Ok Accepted) w =
-    let is = is_proof L w.check.value w.check.proof w.check.says.read_as w.check.says.reads w.check.says.verdict in
-    read-so L known proofs a b Accepted (λ F proof. IsProofOf L F proof × ¬ (truth.Satisfiable F)) w (is, accepted-unsatisfiable w.check.value is.0 is.2)
-check-end L known proofs a b (Ok Refused) w =
-    read-so L known proofs a b Refused (λ F proof. ¬ (IsProofOf L F proof)) w (no_proof L w.check.value w.check.proof w.check.says.read_as w.check.says.reads w.check.says.verdict)
-check-end L known proofs a b (Err fault) w = tt
+pub check-end : (L : Limits) (variables : Variables) (known proofs a b : Option (List ℕ)) (r : Result Checked RunFault) → CheckSays L variables known proofs a b r → IsCheckEnd L variables known proofs (end_of r)
+check-end L variables known proofs a b (Ok Accepted) w =
+    let F = w.check.value in
+    let is = is_proof L variables F w.check.proof w.check.says.read_as w.check.says.reads w.check.says.verdict in
+    let none = accepted-unsatisfiable (checked_formula L variables F) is.0 is.2 in
+    read-so L variables known proofs a b Accepted (λ G proof. IsProofOf L variables G proof × ¬ (truth.Satisfiable G)) w (is, λ s. none (allowed-satisfiable L variables F s))
+check-end L variables known proofs a b (Ok Refused) w =
+    read-so L variables known proofs a b Refused (λ F proof. ¬ (IsProofOf L variables F proof)) w (no_proof L variables w.check.value w.check.proof w.check.says.read_as w.check.says.reads w.check.says.verdict)
+check-end L variables known proofs a b (Err fault) w = tt
 
-pub checked-on : (L : Limits) (known' known proofs' proofs a b : Option (List ℕ)) (r : Result Checked RunFault)
-    → known' ≡ known → proofs' ≡ proofs → CheckSays L known' proofs' a b r → CheckSays L known proofs a b r
-checked-on L known' known proofs' proofs a b r of_known of_proofs says = rw (← of_known, ← of_proofs) says
+pub checked-on : (L : Limits) (variables : Variables) (known' known proofs' proofs a b : Option (List ℕ)) (r : Result Checked RunFault)
+    → known' ≡ known → proofs' ≡ proofs → CheckSays L variables known' proofs' a b r → CheckSays L variables known proofs a b r
+checked-on L variables known' known proofs' proofs a b r of_known of_proofs says = rw (← of_known, ← of_proofs) says
+
+-- what a run of `tidy` said that was passed a reader with the bytes of another
+pub tidied-on : {X : Type 0} (L : Limits) (known' known a b : Option (List ℕ)) (r : Result X RunFault) → known' ≡ known → TidySays L known' a b r → TidySays L known a b r
+tidied-on L known' known a b r of_known says = rw (← of_known) says

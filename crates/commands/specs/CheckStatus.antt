@@ -5,6 +5,8 @@ use Rattle.theory.specs.Steps.{Step}
 use Rattle.theory.specs.Reading.{Limits, ReadsWithin, formula, max_bytes}
 use Rattle.theory.specs.ProofReading.{ProofReadsWithin, steps, max_proof_bytes}
 use Rattle.theory.specs.Checking.{checks, accepted}
+use Rattle.lrat.specs.declared.variables.Variables.{Variables}
+use Rattle.lrat.specs.Extended.{checked_formula}
 use Rattle.commands.specs.declared.checking.CheckEnd.{CheckEnd}
 use Rattle.commands.specs.declared.checking.CheckEnd.TheVariants.{Accepted, Refused, Fault}
 
@@ -15,8 +17,8 @@ check_status Fault true = 2
 check_status Fault false = 1
 
 -- the text of a proof is read as steps that the checker accepts
-abbrev pub IsProofOf : Limits → Formula → List ℕ → Type 0
-IsProofOf L F proof = (ss : List Step) × ProofReadsWithin L proof (steps ss) × (checks F ss ≡ accepted)
+abbrev pub IsProofOf : Limits → Variables → Formula → List ℕ → Type 0
+IsProofOf L variables F proof = (ss : List Step) × ProofReadsWithin L proof (steps ss) × (checks (checked_formula L variables F) ss ≡ accepted)
 
 -- so it is with the formula and the text of the proof in the bytes that two readers gave, where
 -- they tell them
@@ -30,7 +32,7 @@ pub record AreRead (L : Limits) (known proof_known : Option (List ℕ)) (So : Fo
   pub so : So value proof
 
 -- a check accepts just where the proof is one of the formula, which no assignment satisfies then
-abbrev pub IsCheckEnd : Limits → Option (List ℕ) → Option (List ℕ) → CheckEnd → Type 0
-IsCheckEnd L known proof_known Accepted = AreRead L known proof_known (λ F proof. IsProofOf L F proof × ¬ (Satisfiable F))
-IsCheckEnd L known proof_known Refused = AreRead L known proof_known (λ F proof. ¬ (IsProofOf L F proof))
-IsCheckEnd L known proof_known Fault = Unit {0}
+abbrev pub IsCheckEnd : Limits → Variables → Option (List ℕ) → Option (List ℕ) → CheckEnd → Type 0
+IsCheckEnd L variables known proof_known Accepted = AreRead L known proof_known (λ F proof. IsProofOf L variables F proof × ¬ (Satisfiable F))
+IsCheckEnd L variables known proof_known Refused = AreRead L known proof_known (λ F proof. ¬ (IsProofOf L variables F proof))
+IsCheckEnd L variables known proof_known Fault = Unit {0}

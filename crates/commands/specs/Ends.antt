@@ -1,6 +1,7 @@
 -- What `solve` and `check` have read and written, by how they end.
 use Rattle.std.specs.Prelude.{◌≡◌, ℕ, List, Option, Result, Ok, Err}
 use Rattle.theory.specs.Reading.{Limits}
+use Rattle.lrat.specs.declared.variables.Variables.{Variables}
 use Rattle.strategies.specs.Strategies.{Strategy}
 use Rattle.runs.specs.Limited.{LimitedSays}
 use Rattle.runs.specs.Check.{CheckSays}
@@ -22,5 +23,5 @@ end_of (Ok checked.Refused) = Refused
 end_of (Err fault) = Fault
 
 -- what a run of the checker says, by how the check ended
-abbrev pub CheckEnds : Limits → Option (List ℕ) → Option (List ℕ) → Option (List ℕ) → Option (List ℕ) → CheckEnd → Type 0
-CheckEnds L known proof a b end = (r : Result Checked RunFault) × CheckSays L known proof a b r × (end ≡ end_of r)
+abbrev pub CheckEnds : Limits → Variables → Option (List ℕ) → Option (List ℕ) → Option (List ℕ) → Option (List ℕ) → CheckEnd → Type 0
+CheckEnds L variables known proof a b end = (r : Result Checked RunFault) × CheckSays L variables known proof a b r × (end ≡ end_of r)

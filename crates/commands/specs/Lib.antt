@@ -3,3 +3,4 @@ pub mod Status
 pub mod CheckStatus
 pub mod Ends
 pub mod Inputs
+pub mod TidyEnds

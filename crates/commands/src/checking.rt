@@ -9,16 +9,17 @@ ghost use Rattle.commands.specs.Ends.{end_of, CheckEnds};
 
 use crate::anew::is_seen_in_binary;
 use crate::fault_lines::{FAILED, Screen, print_fault_of, print_no_memory, print_not_opened};
+use crate::formula_text::formula_text;
 use crate::input::{open_input, size_of};
 use crate::notes::{note_check, note_number};
 use crate::watched::check_counted;
 use crate::worded::{Known, Opened, say_refused};
-use cnf::Limits;
-use command_line::Shown;
+use command_line::{FormulaFile, Shown};
+use lrat::Variables;
 use lrat_forms::{ProofText, Uncommented};
-use messages::{ProofSource, Refused};
+use messages::{Command, ProofSource, Refused};
 use noticed::{NoticedReader, NoticedWriter};
-use runs::{Checked, RunFault, Told, check_told};
+use runs::{CheckRules, Checked, RunFault, Told, check_told};
 use statistics::{Board, Unobserved, print_check_statistics, show_progress};
 use std::alloc::Global;
 use std::fs::Files;
@@ -79,20 +80,20 @@ fn check_beside<
     board: &Board,
     mut formula: F,
     mut proof: P,
-    limits: Limits,
+    rules: CheckRules,
     answer: &mut W,
     faults: &mut E,
     screen: Screen,
 ) -> Result<Told, RunFault>
-    ensures { CheckSays (limits_of limits) (F.remaining formula) (P.remaining proof) (W.contents answer.old) (W.contents answer.new) (checked_by result) }
+    ensures { CheckSays (limits_of rules.limits) rules.variables (F.remaining formula) (P.remaining proof) (W.contents answer.old) (W.contents answer.new) (checked_by result) }
 {
     let manner = screen.manner();
     let (_, result) = thread::join_mut(
         rt,
         &mut || show_progress(rt, board, faults, manner),
         &mut || -> Result<Told, RunFault>
-            ensures { CheckSays (limits_of limits) (F.remaining formula.entry) (P.remaining proof.entry) (W.contents answer.entry.now) (W.contents answer.exit.now) (checked_by result) }
-        { check_counted(rt, alloc, board, &mut formula, &mut proof, limits, answer) },
+            ensures { CheckSays (limits_of rules.limits) rules.variables (F.remaining formula.entry) (P.remaining proof.entry) (W.contents answer.entry.now) (W.contents answer.exit.now) (checked_by result) }
+        { check_counted(rt, alloc, board, &mut formula, &mut proof, rules, answer) },
     );
     result
 }
@@ -110,25 +111,25 @@ fn check_opened<
     alloc: Global,
     formula: F,
     proof: P,
-    limits: Limits,
+    rules: CheckRules,
     size: Option<u64>,
     shown: Shown,
     answer: &mut W,
     faults: &mut E,
     screen: Screen,
 ) -> Result<Told, RunFault>
-    ensures { CheckSays (limits_of limits) (F.remaining formula) (P.remaining proof) (W.contents answer.old) (W.contents answer.new) (checked_by result) }
+    ensures { CheckSays (limits_of rules.limits) rules.variables (F.remaining formula) (P.remaining proof) (W.contents answer.old) (W.contents answer.new) (checked_by result) }
 {
     if !shown.progress && !shown.stats {
-        return check_told(alloc, formula, proof, limits, answer, &Unobserved);
+        return check_told(alloc, formula, proof, rules, answer, &Unobserved);
     }
     let board = Board::of_proof(rt, size);
     let result = if shown.progress {
         check_beside(
-            rt, alloc, &board, formula, proof, limits, answer, faults, screen,
+            rt, alloc, &board, formula, proof, rules, answer, faults, screen,
         )
     } else {
-        check_counted(rt, alloc, &board, formula, proof, limits, answer)
+        check_counted(rt, alloc, &board, formula, proof, rules, answer)
     };
     if shown.stats {
         print_check_statistics(faults, &board.look(rt));
@@ -192,15 +193,15 @@ fn check_files<
     alloc: Global,
     formula: Opened<'_, F>,
     proof: Opened<'_, P>,
-    limits: Limits,
+    rules: CheckRules,
     size: Option<u64>,
     shown: Shown,
     answer: &mut NoticedWriter<W>,
     faults: &mut E,
     screen: Screen,
 ) -> CheckEnd
-    ensures end { IsCheckEnd (limits_of limits) (F.remaining formula.entry.file) (read_as (P.remaining proof.entry.file)) result }
-    ensures says { CheckEnds (limits_of limits) (F.remaining formula.entry.file) (read_as (P.remaining proof.entry.file)) (⟦<NoticedWriter<W> as Write>⟧.contents answer.old) (⟦<NoticedWriter<W> as Write>⟧.contents answer.new) result }
+    ensures end { IsCheckEnd (limits_of rules.limits) rules.variables (F.remaining formula.entry.file) (read_as (P.remaining proof.entry.file)) result }
+    ensures says { CheckEnds (limits_of rules.limits) rules.variables (F.remaining formula.entry.file) (read_as (P.remaining proof.entry.file)) (⟦<NoticedWriter<W> as Write>⟧.contents answer.old) (⟦<NoticedWriter<W> as Write>⟧.contents answer.new) result }
 {
     let mut text = NoticedReader::of(formula.file);
     let steps = ProofText::of(NoticedReader::of(proof.file));
@@ -209,7 +210,7 @@ fn check_files<
         return CheckEnd::Fault;
     };
     let answered = check_opened(
-        rt, alloc, &mut text, &mut steps, limits, size, shown, answer, faults, screen,
+        rt, alloc, &mut text, &mut steps, rules, size, shown, answer, faults, screen,
     );
     let known = Known {
         formula: formula.path,
@@ -218,12 +219,13 @@ fn check_files<
         formula_error: text.error(),
         proof_error: steps.inner().inner().error(),
         answer_error: answer.error(),
-        limits,
+        limits: rules.limits,
     };
     let source = ProofSource {
         beginning: steps.inner().inner().beginning(),
         form: steps.inner().form(),
         broken: steps.inner().broken(),
+        is_extended: rules.variables == Variables::Extended,
     };
     end_check(rt, faults, answered, &known, source, shown.verbose)
 }
@@ -233,21 +235,22 @@ fn check_files<
 pub fn check<R: Files + Threads + Wait + Clock + Sync, I: Read + Drop, W: Write, E: Write + Send>(
     rt: &R,
     alloc: Global,
-    file: &str,
+    formula: FormulaFile<'_>,
     path: &str,
-    limits: Limits,
+    rules: CheckRules,
     standard: I,
     shown: Shown,
     answer: &mut W,
     faults: &mut E,
     screen: Screen,
 ) -> CheckEnd {
+    let file = formula.path;
     if shown.verbose {
         note_check(faults, file, path);
     }
     let mut standard = Some(standard);
-    let formula = match open_input(rt, file, &mut standard) {
-        Ok(formula) => formula,
+    let input = match open_input(rt, file, &mut standard) {
+        Ok(input) => input,
         Err(error) => {
             print_not_opened(faults, file, error, shown.verbose);
             return CheckEnd::Fault;
@@ -260,9 +263,23 @@ pub fn check<R: Files + Threads + Wait + Clock + Sync, I: Read + Drop, W: Write,
             return CheckEnd::Fault;
         }
     };
+    let (limits, command) = (rules.limits, Command::Check);
+    let text = match formula_text(
+        rt,
+        alloc,
+        formula,
+        input,
+        limits,
+        command,
+        shown.verbose,
+        faults,
+    ) {
+        Ok(text) => text,
+        Err(_) => return CheckEnd::Fault,
+    };
     let formula = Opened {
         path: file,
-        file: formula,
+        file: text,
     };
     let size = match size_of(&proof) {
         Some(_) if shown.progress && is_seen_in_binary(rt, path) => None,
@@ -272,6 +289,6 @@ pub fn check<R: Files + Threads + Wait + Clock + Sync, I: Read + Drop, W: Write,
     let mut answer = NoticedWriter::of(answer);
     let answer = &mut answer;
     check_files(
-        rt, alloc, formula, proof, limits, size, shown, answer, faults, screen,
+        rt, alloc, formula, proof, rules, size, shown, answer, faults, screen,
     )
 }

@@ -14,16 +14,16 @@ fn of_formula(number: u32) -> Option<&'static str> {
             "Second header: the word `p` stands behind the header line. Perhaps two formulas were written into one file.",
         ),
         4 => Some(
-            "Bad number: a word of a clause isn't a whole number in plain digits, with at most a `-` in front. Leading zeros, `+`, `-0` and words such as `%` are refused; some old benchmark files end in a `%` line, which has to be cut off.",
+            "Bad number: a word of a clause isn't a whole number in plain digits, with at most a `-` in front. Leading zeros, `+`, `-0` and words such as `%` are refused; some old benchmark files end in a `%` line. --lenient passes over these, but for other words.",
         ),
         5 => Some(
-            "Variable out of range: a literal's variable is greater than the number of variables in the header. Correct the header or the literal.",
+            "Variable out of range: a literal's variable is greater than the number of variables in the header. Correct the header or the literal; --lenient corrects the header.",
         ),
         6 => Some(
-            "Too many clauses: a number stands behind the last of the clauses that the header counts. Correct the count in the header.",
+            "Too many clauses: a number stands behind the last of the clauses that the header counts. Correct the count in the header, as --lenient does.",
         ),
         7 => Some(
-            "Too few clauses: the file ends before as many clauses as the header counts. Correct the count in the header, or find what cut the file short.",
+            "Too few clauses: the file ends before as many clauses as the header counts. Correct the count in the header, as --lenient does, or find what cut the file short.",
         ),
         8 => Some(
             "Clause not ended: the file ends inside a clause. Each clause, also the last one, ends with the word `0`.",
@@ -71,7 +71,7 @@ fn of_steps(number: u32) -> Option<&'static str> {
             "No empty clause: each step is right, but none adds the empty clause, so nothing was refuted. The proof may have been cut off.",
         ),
         31 => Some(
-            "Literal out of range: an added clause has a variable that is greater than the formula's number of variables.",
+            "Literal out of range: an added clause has a variable that is greater than the formula's number of variables. Proofs with extended resolution have such variables; with --extended they may go up to 262,143, and with --large too up to 100,000,000.",
         ),
         _ => None,
     }
@@ -81,7 +81,7 @@ fn of_steps(number: u32) -> Option<&'static str> {
 fn of_text(number: u32) -> Option<&'static str> {
     match number {
         41 => Some(
-            "Bad number: a word of the proof isn't a whole number in plain digits, or is greater than its part of the line allows: 2,147,483,647 for a literal, 9,223,372,036,854,775,807 for all else. Or a step in binary begins with another byte than `a` or `d`. Comments aren't read.",
+            "Bad number: a word of the proof isn't a whole number in plain digits, or is greater than its part of the line allows: 2,147,483,647 for a literal, 9,223,372,036,854,775,807 for all else. Or a step in binary begins with another byte than `a` or `d`.",
         ),
         42 => Some(
             "Line not ended: the proof's last line has no line feed at its end, or its last step in binary isn't whole. It was most likely cut off.",

@@ -1,15 +1,17 @@
-//! The commands that decide a formula and check a proof: their files, statuses, words and figures.
+//! The commands that decide a formula, check a proof and tidy a formula: their files, statuses, words and figures.
 #![tactic(auto)]
 
 mod anew;
 mod checking;
 mod explanations;
 mod fault_lines;
+mod formula_text;
 mod input;
 mod notes;
 mod placed_proof;
 mod same_file;
 mod solving;
+mod tidied;
 mod watched;
 mod worded;
 
@@ -20,6 +22,8 @@ pub use fault_lines::{
 };
 pub use input::{Input, open_input};
 pub use placed_proof::{NotBegun, PlacedProof, begin_proof};
+pub use runs::CheckRules;
 pub use solving::{SATISFIABLE, UNSATISFIABLE, print_not_begun, solve};
+pub use tidied::tidy;
 pub use whole_file::{Locks, NoLocks, SystemLocks};
 pub use worded::Known;

@@ -1,5 +1,5 @@
 //! `solve`: its files, and what is printed of the run.
-ghost use Rattle.std.specs.Prelude.{◌≡◌, IsSome, option_map};
+ghost use Rattle.std.specs.Prelude.{◌≡◌, IsSome, None, option_map};
 ghost use Rattle.std.specs.Thread.{IsSync};
 ghost use Rattle.cnf.specs.Limits.{limits_of};
 ghost use Rattle.strategies.specs.Strategies.{search_by};
@@ -11,16 +11,18 @@ use crate::fault_lines::{
     FAILED, Screen, print_fault_by, print_in_use, print_no_memory, print_not_created,
     print_not_opened, print_part_not_created,
 };
+use crate::formula_text::formula_text;
 use crate::input::{open_input, shown_name};
 use crate::notes::{note_files, note_number, note_solve};
 use crate::placed_proof::{NotBegun, begin_proof};
 use crate::watched::run_counted;
 use crate::worded::{Known, Opened};
-use command_line::{Effort, Shown};
+use cnf::Limits;
+use command_line::{Effort, FormulaFile, Shown};
 use cubes::OpenGate;
-use messages::{Command, say_same_file, say_unproved};
+use messages::{Command, say_repeats, say_same_file, say_unproved};
 use noticed::{NoticedReader, NoticedWriter};
-use runs::{RunFault, TimeLimit, Verdict, answer_limited_within, run_limited_within};
+use runs::{RunFault, TimeLimit, Verdict, answer_limited_within};
 use statistics::{Board, Manner, print_statistics, show_progress};
 use std::alloc::Global;
 use std::fs::Files;
@@ -99,8 +101,21 @@ fn print_cut_off<E: Write>(faults: &mut E, is_unknown: bool, is_lowering: bool) 
     }
 }
 
-/// A run that is counted, with its progress in this manner, if in any. It writes what `run_plain`
-/// writes, and says where it was cut off.
+/// Says that lrat-check takes no proof of this formula, where one was written and that is known.
+fn print_repeats<E: Write>(
+    faults: &mut E,
+    file: FormulaFile<'_>,
+    limits: Limits,
+    is_refuted: bool,
+    has_repeats: bool,
+) {
+    if is_refuted && has_repeats {
+        say_repeats(faults, shown_name(file.path), file.is_lenient, limits);
+    }
+}
+
+/// A run that is counted, with its progress in this manner, if in any. It says where it was cut off,
+/// and whether lrat-check may refuse the proof.
 fn run_shown<
     R: Files + Threads + Wait + Clock + Sync,
     I: Read + Drop,
@@ -114,13 +129,14 @@ fn run_shown<
     input: I,
     answer: &mut W,
     proof: Option<P>,
+    file: FormulaFile<'_>,
     stats: bool,
     faults: &mut E,
     manner: Option<Manner>,
 ) -> Result<Option<Verdict>, RunFault>
     ensures { LimitedSays (limits_of effort.limits) (IsSome effort.seconds) (I.remaining input) effort.strategy (option_map P.contents proof) (W.contents answer.old) (W.contents answer.new) result }
 {
-    let hands = effort.hands;
+    let (limits, hands) = (effort.limits, effort.hands);
     let board = Board::of_strategy(rt, effort.strategy, hands, proof.is_some());
     let result = match manner {
         Some(manner) => run_beside(
@@ -133,34 +149,27 @@ fn run_shown<
         print_statistics(faults, &figures, hands);
     }
     print_cut_off(faults, matches!(result, Ok(None)), figures.is_lowering());
+    let is_refuted = matches!(result, Ok(Some(Verdict::Unsatisfiable)));
+    print_repeats(faults, file, limits, is_refuted, figures.has_repeats);
     result
 }
 
-/// A run of which nothing is shown. Its proof goes to this writer; without one, none is made.
-fn run_plain<R: Files + Threads + Wait + Clock + Sync, I: Read + Drop, W: Write, P: Write + Drop>(
+/// A run without a proof, of which nothing is shown.
+fn run_plain<R: Files + Threads + Wait + Clock + Sync, I: Read + Drop, W: Write>(
     rt: &R,
     alloc: Global,
     effort: Effort,
     input: I,
     answer: &mut W,
-    proof: Option<P>,
 ) -> Result<Option<Verdict>, RunFault>
-    ensures { LimitedSays (limits_of effort.limits) (IsSome effort.seconds) (I.remaining input) effort.strategy (option_map P.contents proof) (W.contents answer.old) (W.contents answer.new) result }
+    ensures { LimitedSays (limits_of effort.limits) (IsSome effort.seconds) (I.remaining input) effort.strategy None (W.contents answer.old) (W.contents answer.new) result }
 {
     let (limits, gate) = (effort.limits, OpenGate);
     let (strategy, hands) = (effort.strategy, effort.hands);
     let limit = TimeLimit::begin(rt, effort.seconds);
-    match proof {
-        Some(mut proof) => {
-            let proof = &mut proof;
-            run_limited_within(
-                rt, alloc, input, limits, answer, proof, strategy, hands, &gate, &limit,
-            )
-        }
-        None => answer_limited_within(
-            rt, alloc, input, limits, answer, strategy, hands, &gate, &limit,
-        ),
-    }
+    answer_limited_within(
+        rt, alloc, input, limits, answer, strategy, hands, &gate, &limit,
+    )
 }
 
 /// Whether it is to be told if a limit of time was reached while a model was lowered.
@@ -168,7 +177,7 @@ fn tells_cut_off(effort: &Effort) -> bool {
     effort.seconds.is_some() && effort.strategy.lowers()
 }
 
-/// A run with what is to be shown of it. It writes what `run_plain` writes.
+/// A run with what is to be shown of it. Its proof goes to this writer; without one, none is made.
 fn run_opened<
     R: Files + Threads + Wait + Clock + Sync,
     I: Read + Drop,
@@ -182,6 +191,7 @@ fn run_opened<
     input: I,
     answer: &mut W,
     proof: Option<P>,
+    file: FormulaFile<'_>,
     shown: Shown,
     faults: &mut E,
     screen: Screen,
@@ -193,13 +203,14 @@ fn run_opened<
     } else {
         None
     };
-    if shown.stats || manner.is_some() || tells_cut_off(&effort) {
-        let stats = shown.stats;
-        return run_shown(
-            rt, alloc, effort, input, answer, proof, stats, faults, manner,
-        );
+    let stats = shown.stats;
+    let is_counted = stats || manner.is_some() || tells_cut_off(&effort);
+    match proof {
+        None if !is_counted => run_plain(rt, alloc, effort, input, answer),
+        proof => run_shown(
+            rt, alloc, effort, input, answer, proof, file, stats, faults, manner,
+        ),
     }
-    run_plain(rt, alloc, effort, input, answer, proof)
 }
 
 /// The proof's writer, if there is to be one, as it is looked at.
@@ -257,6 +268,7 @@ fn solve_opened<
     alloc: Global,
     effort: Effort,
     formula: Opened<'_, I>,
+    is_lenient: bool,
     proof: Option<Opened<'_, P>>,
     shown: Shown,
     answer: &mut NoticedWriter<W>,
@@ -271,6 +283,10 @@ fn solve_opened<
         Some(proof) => proof.path,
         None => NO_PATH,
     };
+    let file = FormulaFile {
+        path: formula.path,
+        is_lenient,
+    };
     let mut input = NoticedReader::of(formula.file);
     let mut output = noticed_proof(proof);
     let answered = run_opened(
@@ -280,6 +296,7 @@ fn solve_opened<
         &mut input,
         answer,
         output.as_mut(),
+        file,
         shown,
         faults,
         screen,
@@ -337,7 +354,7 @@ pub fn solve<
     alloc: Global,
     effort: Effort,
     proof: Option<&str>,
-    file: &str,
+    formula: FormulaFile<'_>,
     standard: I,
     shown: Shown,
     answer: &mut W,
@@ -345,6 +362,7 @@ pub fn solve<
     screen: Screen,
     locks: &L,
 ) -> u8 {
+    let (file, is_lenient) = (formula.path, formula.is_lenient);
     if shown.verbose {
         note_solve(faults, &effort, file, proof);
     }
@@ -359,13 +377,27 @@ pub fn solve<
         },
         None => None,
     };
+    let (limits, command) = (effort.limits, Command::Solve);
+    let text = match formula_text(
+        rt,
+        alloc,
+        formula,
+        input,
+        limits,
+        command,
+        shown.verbose,
+        faults,
+    ) {
+        Ok(text) => text,
+        Err(status) => return status,
+    };
     let formula = Opened {
         path: file,
-        file: input,
+        file: text,
     };
     let mut answer = NoticedWriter::of(answer);
     let answer = &mut answer;
     solve_opened(
-        rt, alloc, effort, formula, proof, shown, answer, faults, screen,
+        rt, alloc, effort, formula, is_lenient, proof, shown, answer, faults, screen,
     )
 }

@@ -5,10 +5,10 @@ ghost use Rattle.cnf.specs.Limits.{limits_of};
 ghost use Rattle.runs.specs.Check.{CheckSays, checked_by};
 ghost use Rattle.runs.specs.Limited.{LimitedSays};
 
-use cnf::Limits;
 use command_line::Effort;
 use runs::{
-    RunFault, TimeLimit, Told, Verdict, answer_limited_observed, check_told, run_limited_observed,
+    CheckRules, RunFault, TimeLimit, Told, Verdict, answer_limited_observed, check_told,
+    run_limited_observed,
 };
 use statistics::{Board, CountedReader, CountedWriter, TextWatch, Watch};
 use std::alloc::Global;
@@ -35,7 +35,7 @@ fn run_on_board<
 ) -> Result<Option<Verdict>, RunFault>
     ensures { LimitedSays (limits_of effort.limits) (IsSome effort.seconds) (I.remaining input) effort.strategy (option_map P.contents proof) (W.contents answer.old) (W.contents answer.new) result }
 {
-    let watch = Watch { rt, board };
+    let watch = Watch { rt, alloc, board };
     let limit = TimeLimit::begin(rt, effort.seconds);
     let (limits, strategy, hands) = (effort.limits, effort.strategy, effort.hands);
     match proof {
@@ -85,12 +85,12 @@ pub(crate) fn check_counted<R: Files + Wait + Clock, F: Read + Drop, P: Read + D
     board: &Board,
     formula: F,
     proof: P,
-    limits: Limits,
+    rules: CheckRules,
     answer: &mut W,
 ) -> Result<Told, RunFault>
-    ensures { CheckSays (limits_of limits) (F.remaining formula) (P.remaining proof) (W.contents answer.old) (W.contents answer.new) (checked_by result) }
+    ensures { CheckSays (limits_of rules.limits) rules.variables (F.remaining formula) (P.remaining proof) (W.contents answer.old) (W.contents answer.new) (checked_by result) }
 {
-    let watch = Watch { rt, board };
+    let watch = Watch { rt, alloc, board };
     let text_watch = TextWatch { rt, board };
     let text = CountedReader {
         inner: formula,
@@ -100,7 +100,7 @@ pub(crate) fn check_counted<R: Files + Wait + Clock, F: Read + Drop, P: Read + D
         inner: proof,
         counter: &watch,
     };
-    let result = check_told(alloc, text, counted, limits, answer, &watch);
+    let result = check_told(alloc, text, counted, rules, answer, &watch);
     watch.checked();
     board.end_progress(rt);
     result

@@ -112,6 +112,7 @@ fn gather_once<R: Files + Threads + Wait + Clock + Sync, W: Write, E: Write>(
     let mut input = NoticedReader::of(run.held.formula.as_slice());
     let watch = Watch {
         rt,
+        alloc,
         board: run.board,
     };
     let counted = CountedWriter {
@@ -157,6 +158,7 @@ fn gather_twice<R: Files + Threads + Wait + Clock + Sync, W: Write, E: Write>(
     let mut input = NoticedReader::of(run.held.formula.as_slice());
     let watch = Watch {
         rt,
+        alloc,
         board: run.board,
     };
     let counted = CountedWriter {

@@ -3,8 +3,12 @@
 use crate::spreading::work_on;
 use clap::Error;
 use clap::error::ErrorKind;
+use cnf::Limits;
 use command_line::{Request, request_of};
-use commands::{FAILED, Locks, NoLocks, Screen, check, explanation, print_fault, solve};
+use commands::{
+    CheckRules, FAILED, Locks, NoLocks, Screen, check, explanation, print_fault, solve, tidy,
+};
+use lrat::Variables;
 use messages::say_no_memory;
 use runs::RunFault;
 use std::alloc::Global;
@@ -65,6 +69,16 @@ fn print_unparsed<W: Write, E: Write>(error: Error, answer: &mut W, faults: &mut
     }
 }
 
+/// By which rules a proof is checked.
+fn rules_of(limits: Limits, is_extended: bool) -> CheckRules {
+    let variables = if is_extended {
+        Variables::Extended
+    } else {
+        Variables::OfFormula
+    };
+    CheckRules { limits, variables }
+}
+
 /// Does what is asked for; the status.
 fn serve<
     R: Files + Threads + Wait + Clock + Sync,
@@ -86,25 +100,30 @@ fn serve<
         Request::Solve {
             asked,
             proof,
-            file,
+            formula,
             shown,
         } => {
             let effort = asked.effort();
             solve(
-                rt, alloc, effort, proof, file, input, shown, answer, faults, screen, locks,
+                rt, alloc, effort, proof, formula, input, shown, answer, faults, screen, locks,
             )
         }
         Request::Check {
             formula,
             proof,
             limits,
+            is_extended,
             distinct_status,
             shown,
         } => {
+            let rules = rules_of(limits, is_extended);
             let end = check(
-                rt, alloc, formula, proof, limits, input, shown, answer, faults, screen,
+                rt, alloc, formula, proof, rules, input, shown, answer, faults, screen,
             );
             end.status(distinct_status)
+        }
+        Request::Tidy { formula, limits } => {
+            tidy(rt, alloc, formula, limits, input, answer, faults)
         }
         Request::Explain { number, behind } => explain(number, behind, answer, faults),
         Request::Spread(_) => {
@@ -120,8 +139,8 @@ fn serve<
 /// Does all that the program does for a command line, of which the first word is the program's
 /// name: reads and writes its files, reads `input` where the line has `-` for one, writes the
 /// answer to `answer`, faults and what is shown of the run to `faults`, and answers the exit
-/// status: 10 satisfiable, 20 unsatisfiable, 0 for a formula that isn't decided in time, for a
-/// proof that is accepted, for help and for an explanation, 1 for a proof that is refused, on a
+/// status: 10 satisfiable, 20 unsatisfiable, 0 for a formula that isn't decided in time, or that is
+/// written, for a proof that is accepted, for help and for an explanation, 1 for a proof that is refused, on a
 /// fault or a wrong command line. A failed write to `faults` changes nothing else. `screen` says
 /// where `faults` leads. Of two runs for one proof at once the earlier fails.
 pub fn command_with_input<

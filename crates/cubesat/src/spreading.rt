@@ -49,7 +49,7 @@ fn divide_counted<R: Files + Wait + Clock>(
     wanted: usize,
     said: &mut Vec<u8>,
 ) -> Result<Progress, Said> {
-    let watch = Watch { rt, board };
+    let watch = Watch { rt, alloc, board };
     let folder = Folder { path: into };
     let progress = divide(
         rt, alloc, folder, formula, strategy, limits, wanted, &watch, said,
@@ -132,7 +132,7 @@ where
     R::Dir: Send,
     R::A: Send,
 {
-    let watch = Watch { rt, board };
+    let watch = Watch { rt, alloc, board };
     let folder = Folder { path: run };
     let ended = conquer(
         rt, alloc, folder, round, slice, minutes, hands, &watch, said,

@@ -13,6 +13,8 @@ mod focused;
 #[cfg(test)]
 mod kept_proof;
 #[cfg(test)]
+mod lenient_texts;
+#[cfg(test)]
 mod options;
 #[cfg(test)]
 mod program;
@@ -24,6 +26,8 @@ mod shown;
 mod shown_faults;
 #[cfg(test)]
 mod standard_input;
+#[cfg(test)]
+mod tidied;
 #[cfg(test)]
 mod told;
 #[cfg(test)]

@@ -59,6 +59,21 @@ const LOWERED: Row = Row {
     ..FOCUSED_BEHIND
 };
 
+/// A proof that defines the variable 4, which the formula doesn't have.
+const EXTENDED: Row = Row {
+    before: Some(
+        "9 4 -1 -2 0 0\n10 -4 1 0 0\n11 -4 2 0 0\n12 1 2 0 1 2 0\n13 1 0 12 3 4 0\n14 2 0 13 5 6 0\n15 0 13 14 7 8 0\n",
+    ),
+    words: &["cubesat", "check", "--extended", "FORMULA", "PROOF"],
+    wanted: Wanted {
+        status: 0,
+        answer: "accepted\n",
+        faults: "",
+    },
+    after: "9 4 -1 -2 0 0\n10 -4 1 0 0\n11 -4 2 0 0\n12 1 2 0 1 2 0\n13 1 0 12 3 4 0\n14 2 0 13 5 6 0\n15 0 13 14 7 8 0\n",
+    ..BUDGET_1
+};
+
 /// Any model will do.
 const NOT_LOWERED: Row = Row {
     words: &[
@@ -81,7 +96,7 @@ const NOT_LOWERED: Row = Row {
     ..LOWERED
 };
 
-static ROWS: [Row; 20] = [
+static ROWS: [Row; 21] = [
     BUDGET_1,
     Row {
         words: &[
@@ -223,6 +238,7 @@ static ROWS: [Row; 20] = [
         ],
         ..LOWERED
     },
+    EXTENDED,
 ];
 
 #[test]

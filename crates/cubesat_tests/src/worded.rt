@@ -209,7 +209,7 @@ static FORMULAS: [Row; 18] = [
 ];
 
 /// Proofs that are refused.
-static PROOFS: [Row; 26] = [
+static PROOFS: [Row; 27] = [
     Row {
         proof: b"4 1 0 1 2 0\n",
         answer: "refused 21 step 1\n",
@@ -289,7 +289,14 @@ static PROOFS: [Row; 26] = [
     Row {
         proof: b"5 3 0 0\n",
         answer: "refused 31 step 1\n",
-        faults: "c |PROOF|: clause 5 has a variable that the formula doesn't have (line 1)\n",
+        faults: "c |PROOF|: clause 5 has a variable that the formula doesn't have; --extended allows that (line 1)\n",
+        ..CHECKED
+    },
+    Row {
+        proof: b"5 262143 0 0\n6 262144 0 0\n",
+        words: &["cubesat", "check", "--extended", "FORMULA", "PROOF"],
+        answer: "refused 31 step 2\n",
+        faults: "c |PROOF|: clause 6 has a variable above the limit, 262,143; --large has a higher one (line 2)\n",
         ..CHECKED
     },
     Row {

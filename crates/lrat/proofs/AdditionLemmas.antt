@@ -1,5 +1,5 @@
 -- Additions: what is held true at first, and what the hints come to.
-use Rattle.std.proofs.Common.{◌≡◌, ℕ, zero, suc, ◌<◌, Bool, true, false, not, ◌||◌, List, [], ◌∷◌, length, Option, Some, None, cond, nat_eq, nat_le, eqb-true, refl, ap, sym, subst, ◌∙◌, inl, inr, get_or, arith}
+use Rattle.std.proofs.Common.{◌≡◌, ℕ, zero, suc, ◌<◌, ◌≤◌, ◌⊎◌, Bool, true, false, not, ◌||◌, List, [], ◌∷◌, length, Option, Some, None, cond, nat_eq, nat_le, nat_lt, eqb-true, refl, ap, sym, subst, ◌∙◌, inl, inr, get_or, arith}
 use Rattle.std.specs.List.{list_any}
 use Rattle.std.proofs.lemmas.Bool.{leb-true}
 use Rattle.theory.specs.Literals.{Literal, Clause, same, has, has_var, has_both_signs, negated, negations, without}
@@ -10,6 +10,7 @@ use Rattle.theory.specs.Checking.{Numbered, Fault, take_hints, is_closed, rup_fa
 use Rattle.theory.proofs.literals.LiteralLemmas.{same-eq}
 use Rattle.theory.proofs.literals.LiteralSets.{false_unless, or-false_left, or-false_right, has-tail, has-cases, has-equal, has_var-none, other-same, negated-negated, has-negations, has-from_negations}
 use Rattle.lrat.specs.Assumed.{IsAssumed, AreSame}
+use Rattle.lrat.proofs.StreamLemmas.{lt-true, lt-false}
 use Rattle.lrat.proofs.SameLiterals.{AreSame-by, take_hints-same, hints_fault-same}
 
 any-nothing : (d : Clause) → list_any (has []) d ≡ false
@@ -64,6 +65,19 @@ rup-none (g ∷ gs) h = absurd (let n : length (g ∷ gs) ≡ 0 = eqb-true (leng
 pub rup-some : (gs : List Group) → nat_eq (length gs) 0 ≡ false → rup_fault gs ≡ Some hint_after_conflict
 rup-some [] h = absurd (cc)
 rup-some (g ∷ gs) h = refl
+
+-- g is the greatest variable of a clause: there are as many now, or enough, or it is none within W
+pub room-made : (W g n : ℕ) (c : Clause) → ((v : ℕ) → list_any (λ l. not (nat_le l.var v)) c ≡ nat_lt v g) → n ≡ g → g ≤ W → list_any (λ l. not (nat_le l.var n)) c ≡ list_any (λ l. not (nat_le l.var W)) c
+room-made W g n c most is fits = most n ∙ (lt-false n g (omega (arith, is)) ∙ (sym (lt-false W g fits) ∙ sym (most W)))
+
+pub room-there : (V W g : ℕ) (c : Clause) → ((v : ℕ) → list_any (λ l. not (nat_le l.var v)) c ≡ nat_lt v g) → V ≤ W → (g ≤ V) ⊎ (W < g) → list_any (λ l. not (nat_le l.var V)) c ≡ list_any (λ l. not (nat_le l.var W)) c
+room-there V W g c most more (inl low) = most V ∙ (lt-false V g low ∙ (sym (lt-false W g (omega (arith, low, more))) ∙ sym (most W)))
+room-there V W g c most more (inr high) = most V ∙ (lt-true V g (omega (arith, high, more)) ∙ (sym (lt-true W g high) ∙ sym (most W)))
+
+-- whether the addition has another variable is all that their number decides
+pub fault-over : (V W last : ℕ) (K : Numbered) (a : Addition) → list_any (λ l. not (nat_le l.var V)) a.clause ≡ list_any (λ l. not (nat_le l.var W)) a.clause → addition_fault V last K a ≡ addition_fault W last K a
+fault-over V W last K a same =
+    ap (λ b. cond (nat_le a.id last) (Some id_not_rising) (cond b (Some literal_out_of_range) (cond (has_both_signs a.clause) (Some both_signs) (hints_fault K a (take_hints K (negations a.clause) a.hints))))) same
 
 -- what an addition without a fault has
 pub passed : (V last : ℕ) (K : Numbered) (a : Addition) → None ≡ addition_fault V last K a → (nat_le a.id last ≡ false) × (list_any (λ l. not (nat_le l.var V)) a.clause ≡ false)

@@ -33,6 +33,10 @@ pub add-leaves : (V : ℕ) (s t : Checker) (a : theory.Addition) → None ≡ ad
 add-leaves V s t a none clauses last empty =
     ap (addition_test s a) (sym none) ∙ ap leaves (λ i. record { clauses = sym clauses i; last = sym last i; empty = sym empty i })
 
+-- one with a fault
+pub add-faulty : (V : ℕ) (s : Checker) (a : theory.Addition) (f : checking.Fault) → Some f ≡ addition_fault V s.last s.clauses a → test V s (theory.add a) ≡ faulty f
+add-faulty V s a f is = ap (addition_test s a) (sym is)
+
 pub check-leaves : (V n : ℕ) (s t : Checker) (step : theory.Step) (steps rest : List theory.Step) → steps ≡ step ∷ rest → test V s step ≡ leaves t
     → check_from V n s steps ≡ check_from V (n + 1) t rest
 check-leaves V n s t step steps rest e h =

@@ -10,3 +10,4 @@ pub mod Occurrences
 pub mod Indexed
 pub mod Flat
 pub mod Running
+pub mod Extended

@@ -28,13 +28,13 @@ abbrev pub named_at : Option Stop → Option ℕ
 named_at None = None
 named_at (Some s) = named_in s.fault
 
--- the number of the formula's variables
+-- how many variables clauses may have
 abbrev pub vars_of : ProofStream → ℕ
-vars_of s = s.checker.held.vars
+vars_of s = s.checker.vars
 
 -- the checker is ready for a step, as long as none was at fault
 abbrev pub IsReadyUnless : Option Stop → Checker → Type 0
-IsReadyUnless None c = IsReady c.held.vars c
+IsReadyUnless None c = IsReady c.vars c
 IsReadyUnless (Some s) c = Unit {0}
 
 pub record IsRunning (s : ProofStream) : Type 0 where

@@ -1,5 +1,5 @@
 -- What a step leaves of a checker.
-use Rattle.std.specs.Prelude.{◌≡◌, ℕ, Bool, true, false, [], length, Option, Some, None}
+use Rattle.std.specs.Prelude.{◌≡◌, ◌≤◌, ℕ, Bool, true, false, [], length, Option, Some, None}
 use Rattle.theory.specs.Truth.{Formula}
 use Rattle.theory.specs.Checking as theory
 use Rattle.theory.specs.Checking.{Numbered}
@@ -22,10 +22,12 @@ checker_of s = record { clauses = there s.clauses; last = s.last; empty = s.empt
 abbrev pub start : Formula → theory.Checker
 start F = record { clauses = theory.numbered_from 1 F.clauses; last = length F.clauses; empty = false }
 
--- between two steps nothing is held true, and no clause has a number above the last
+-- between two steps nothing is held true, and no clause has a number above the last; the variables
+-- that clauses had so far are some of those that they may have
 pub record IsReady (V : ℕ) (s : Checker) : Type 0 where
-  pub clauses_vars : s.clauses.vars ≡ V
-  pub held_vars : s.held.vars ≡ V
+  pub vars : s.vars ≡ V
+  pub clauses_vars : s.clauses.vars ≡ s.held.vars
+  pub held_vars : s.held.vars ≤ V
   pub none_held : s.held.literals ≡ []
   pub indexed : IsIndexed s.clauses.slots s.occurrences
   pub up_to : AreUpTo s.last s.clauses.slots

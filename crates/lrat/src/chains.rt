@@ -57,7 +57,8 @@ impl Chains {
     {
         if self.heads.len() < count {
             self.heads.resize(count, 0)?;
-            self.entries.reserve(entries)?;
+            self.entries
+                .reserve(entries.saturating_sub(self.entries.len()))?;
         }
         Ok(())
     }

@@ -1,5 +1,5 @@
 //! The checker of proofs: reverse unit propagation and resolution asymmetric tautologies, by hints.
-ghost use Rattle.std.specs.Prelude.{◌≡◌, ◌<◌, ◌≤◌, ◌^◌, ℕ, [], ◌∷◌, true, false, not, None, Some, map, IfOk, OnOk, MatchOption, MatchResult, nat_le};
+ghost use Rattle.std.specs.Prelude.{◌≡◌, ◌<◌, ◌≤◌, ◌^◌, ℕ, [], ◌∷◌, true, false, not, None, Some, map, IfOk, OnOk, MatchOption, MatchResult, nat_le, nat_lt};
 ghost use Rattle.std.specs.List.{list_any};
 ghost use Rattle.theory.specs.Literals.{has_both_signs, negations};
 ghost use Rattle.theory.specs.Truth.{IsOver, Satisfiable};
@@ -30,6 +30,8 @@ use std::alloc::{AllocError, Global};
 /// held true between steps.
 #[derive(Drop)]
 pub(crate) struct Checker {
+    // how many variables clauses may have; there are tables for those that they had so far
+    vars: u32,
     clauses: Clauses,
     occurrences: Occurrences,
     held: Held,
@@ -47,6 +49,19 @@ fn is_over(vars: u32, clause: &[Lit]) -> bool
         }
     }
     true
+}
+
+/// The greatest variable of a clause, or 0.
+fn greatest_variable(clause: &[Lit]) -> u32
+    ensures { (vars : ℕ) → list_any (λ l. not (nat_le l.var vars)) clause.now ≡ nat_lt vars result }
+{
+    let mut greatest = 0;
+    for lit in clause {
+        if lit.var() > greatest {
+            greatest = lit.var();
+        }
+    }
+    greatest
 }
 
 /// Puts the negations of a clause's literals to none, unless it has both signs of a variable.
@@ -122,12 +137,15 @@ fn delete(clauses: &mut Clauses, ids: &[u64]) -> bool
 }
 
 impl Checker {
-    /// The checker of a formula, whose clauses have the numbers from 1 on.
-    pub(crate) fn new(alloc: Global, formula: &Formula) -> Result<Checker, AllocError>
+    /// The checker of a formula, whose clauses have the numbers from 1 on, where clauses may have so
+    /// many variables.
+    pub(crate) fn new(alloc: Global, formula: &Formula, vars: u32) -> Result<Checker, AllocError>
+        requires { formula.now.vars ≤ vars }
         ensures start { IfOk result (λ s. checker_of s ≡ start formula.now) }
-        ensures ready { IfOk result (λ s. IsReady formula.now.vars s) }
+        ensures ready { IfOk result (λ s. IsReady vars s) }
     {
         Ok(Checker {
+            vars,
             clauses: Clauses::new(alloc, formula)?,
             occurrences: Occurrences::new(alloc),
             held: Held::new(alloc, formula.vars())?,
@@ -136,12 +154,31 @@ impl Checker {
         })
     }
 
+    /// Makes room for the variables of a clause, if it may have them.
+    fn make_room(&mut self, clause: &[Lit]) -> Result<(), AllocError>
+        requires { IsReady self.old.vars self.old }
+        ensures same { checker_of self.new ≡ checker_of self.old }
+        ensures ready { IsReady self.old.vars self.new }
+        ensures room { OnOk result (list_any (λ l. not (nat_le l.var self.new.held.vars)) clause.now ≡ list_any (λ l. not (nat_le l.var self.old.vars)) clause.now) }
+    {
+        if self.held.vars() == self.vars {
+            return Ok(());
+        }
+        let vars = greatest_variable(clause);
+        if self.held.vars() < vars && vars <= self.vars {
+            self.held.widen(vars)?;
+            self.clauses.widen(vars);
+        }
+        Ok(())
+    }
+
     /// Adds a clause, or answers the addition's fault.
     fn add(&mut self, alloc: Global, addition: &Addition) -> Result<Option<Fault>, AllocError>
-        requires { IsReady self.old.held.vars self.old }
-        ensures tested { IfOk result (λ o. Tests (test self.old.held.vars (checker_of self.old) (add addition.now)) self.old.held.vars o self.new) }
-        ensures vars { self.new.held.vars ≡ self.old.held.vars }
+        requires { IsReady self.old.vars self.old }
+        ensures tested { IfOk result (λ o. Tests (test self.old.vars (checker_of self.old) (add addition.now)) self.old.vars o self.new) }
+        ensures vars { self.new.vars ≡ self.old.vars }
     {
+        self.make_room(addition.clause())?;
         let fault = addition_fault(
             alloc,
             &mut self.held,
@@ -165,9 +202,9 @@ impl Checker {
 
     /// Takes clauses away, or answers the deletion's fault.
     fn remove(&mut self, deletion: &Deletion) -> Option<Fault>
-        requires { IsReady self.old.held.vars self.old }
-        ensures tested { Tests (test self.old.held.vars (checker_of self.old) (delete deletion.now)) self.old.held.vars result self.new }
-        ensures vars { self.new.held.vars ≡ self.old.held.vars }
+        requires { IsReady self.old.vars self.old }
+        ensures tested { Tests (test self.old.vars (checker_of self.old) (delete deletion.now)) self.old.vars result self.new }
+        ensures vars { self.new.vars ≡ self.old.vars }
     {
         if delete(&mut self.clauses, deletion.ids()) {
             None
@@ -180,10 +217,10 @@ impl Checker {
     /// the places change, so that the occurrences are gathered anew when they are asked for next:
     /// that costs a chain for each literal, and so is what has to be gained.
     fn tidy(&mut self, alloc: Global) -> Result<(), AllocError>
-        requires { IsReady self.old.held.vars self.old }
+        requires { IsReady self.old.vars self.old }
         ensures same { OnOk result (checker_of self.new ≡ checker_of self.old) }
-        ensures ready { OnOk result (IsReady self.old.held.vars self.new) }
-        ensures vars { self.new.held.vars ≡ self.old.held.vars }
+        ensures ready { OnOk result (IsReady self.old.vars self.new) }
+        ensures vars { self.new.vars ≡ self.old.vars }
     {
         let chains = 2 * self.held.vars() as usize + 2;
         if self.clauses.is_sparse(chains) {
@@ -202,9 +239,9 @@ impl Checker {
 
     /// Takes a step, or answers its fault.
     pub(crate) fn test(&mut self, alloc: Global, step: &Step) -> Result<Option<Fault>, AllocError>
-        requires { IsReady self.old.held.vars self.old }
-        ensures tested { IfOk result (λ o. Tests (test self.old.held.vars (checker_of self.old) (step_of step.now)) self.old.held.vars o self.new) }
-        ensures vars { self.new.held.vars ≡ self.old.held.vars }
+        requires { IsReady self.old.vars self.old }
+        ensures tested { IfOk result (λ o. Tests (test self.old.vars (checker_of self.old) (step_of step.now)) self.old.vars o self.new) }
+        ensures vars { self.new.vars ≡ self.old.vars }
     {
         match step {
             Step::Add(addition) => self.add(alloc, addition),
@@ -228,7 +265,7 @@ pub fn check(alloc: Global, formula: &Formula, steps: &[Step]) -> Result<(), Che
         (λ e. IsRefused formula.now (map step_of steps.now) e) }
     ensures sound { IfOk result (λ _. ¬ (Satisfiable formula.now)) }
 {
-    let mut checker = match Checker::new(alloc, formula) {
+    let mut checker = match Checker::new(alloc, formula, formula.vars()) {
         Ok(checker) => checker,
         Err(_) => return Err(CheckFault::NoMemory),
     };

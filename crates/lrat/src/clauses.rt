@@ -194,6 +194,14 @@ impl Clauses {
         self.vars
     }
 
+    /// The same clauses over more variables.
+    pub(crate) fn widen(&mut self, vars: u32)
+        requires { self.old.vars ≤ vars }
+        ensures { self.new ≡ record { vars = vars; slots = self.old.slots } }
+    {
+        self.vars = vars;
+    }
+
     /// The number and the literals of the clause in the slot at a place, if it is there.
     pub(crate) fn at(&self, place: usize) -> Option<(u64, &[Lit])>
         requires { place < length self.now.slots }

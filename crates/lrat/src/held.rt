@@ -50,6 +50,18 @@ impl Held {
         self.vars
     }
 
+    /// Puts more variables behind the others, which are free. Where memory is refused, nothing has
+    /// changed.
+    pub(crate) fn widen(&mut self, vars: u32) -> Result<(), AllocError>
+        requires { self.old.vars ≤ vars }
+        ensures ok { OnOk result (self.new ≡ record { vars = vars; literals = self.old.literals }) }
+        ensures err { OnErr result (self.new ≡ self.old) }
+    {
+        self.values.resize(vars as usize + 1, None)?;
+        self.vars = vars;
+        Ok(())
+    }
+
     /// How many literals there are.
     pub fn len(&self) -> usize
         ensures { result ≡ length self.now.literals }

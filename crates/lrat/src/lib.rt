@@ -16,6 +16,7 @@ mod laws;
 mod occurrences;
 mod refusal;
 mod stream;
+mod variables;
 
 pub use check_fault::CheckFault;
 pub use checker::check;
@@ -28,3 +29,4 @@ pub use lrat_text::{
 };
 pub use refusal::Refusal;
 pub use stream::ProofStream;
+pub use variables::Variables;

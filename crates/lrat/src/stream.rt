@@ -45,9 +45,9 @@ fn test(
     number: u64,
 ) -> Result<(), AllocError>
     requires { IsReadyUnless stopped.old checker.old }
-    ensures progress { OnOk result (progress_of stopped.new checker.new ≡ checked_step checker.old.held.vars number (progress_of stopped.old checker.old) (step_of step.now)) }
+    ensures progress { OnOk result (progress_of stopped.new checker.new ≡ checked_step checker.old.vars number (progress_of stopped.old checker.old) (step_of step.now)) }
     ensures ready { OnOk result (IsReadyUnless stopped.new checker.new) }
-    ensures vars { checker.new.held.vars ≡ checker.old.held.vars }
+    ensures vars { checker.new.vars ≡ checker.old.vars }
 {
     if stopped.is_some() {
         return Ok(());
@@ -69,10 +69,21 @@ impl ProofStream {
         ensures vars { IfOk result (λ s. vars_of s ≡ formula.now.vars) }
         ensures running { IfOk result IsRunning }
     {
+        ProofStream::over(alloc, formula, formula.vars())
+    }
+
+    /// The same where the proof's clauses may have so many variables. Beside the literals it takes
+    /// memory by the greatest variable that a clause has.
+    pub fn over(alloc: Global, formula: &Formula, vars: u32) -> Result<ProofStream, AllocError>
+        requires { formula.now.vars ≤ vars }
+        ensures begin { IfOk result (λ s. stream_of s ≡ begin formula.now) }
+        ensures vars { IfOk result (λ s. vars_of s ≡ vars) }
+        ensures running { IfOk result IsRunning }
+    {
         Ok(ProofStream {
             alloc,
             text: Text::new(alloc),
-            checker: Checker::new(alloc, formula)?,
+            checker: Checker::new(alloc, formula, vars)?,
             stopped: None,
             seen: 0,
         })

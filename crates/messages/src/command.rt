@@ -5,6 +5,7 @@
 pub enum Command {
     Solve,
     Check,
+    Tidy,
 }
 
 impl Command {
@@ -13,6 +14,7 @@ impl Command {
         match self {
             Command::Solve => "cubesat solve -",
             Command::Check => "cubesat check - PROOF",
+            Command::Tidy => "cubesat tidy -",
         }
     }
 }

@@ -9,6 +9,7 @@ mod format;
 mod formula;
 mod line_feeds;
 mod name;
+mod passed;
 mod picture;
 mod proof;
 mod refused;
@@ -20,6 +21,7 @@ pub use files::{
     say_answer_not_written, say_no_memory, say_not_created, say_not_read, say_part_in_use,
     say_part_not_created, say_proof_not_written, say_same_file, say_unproved,
 };
-pub use formula::say_formula_refused;
+pub use formula::{say_formula_refused, say_repeats};
+pub use passed::say_passed_over;
 pub use proof::{ProofSource, say_proof_refused};
 pub use refused::Refused;

@@ -18,6 +18,8 @@ pub struct ProofSource<'a> {
     pub form: Form,
     /// Where it can't be read on, if it is in binary and that is so.
     pub broken: Option<Broken>,
+    /// Whether its clauses may have variables that the formula doesn't have.
+    pub is_extended: bool,
 }
 
 /// Where a proof is at fault: at a line of a text, or at a step in binary, from 1 on.
@@ -55,8 +57,22 @@ impl Display for Added {
     }
 }
 
-/// The words before and behind the clause that is wrongly added.
-fn words_around(number: u32) -> Option<(&'static str, &'static str)> {
+/// The words for a clause with a variable that none may have within these limits.
+fn words_of_variable(limits: Limits, is_extended: bool) -> &'static str {
+    match limits {
+        _ if !is_extended =>
+            " has a variable that the formula doesn't have; --extended allows that",
+        Limits::Standard => " has a variable above the limit, 262,143; --large has a higher one",
+        Limits::Large => " has a variable above the limit, 100,000,000",
+    }
+}
+
+/// The words before and behind the clause that is wrongly added, within these limits.
+fn words_around(
+    number: u32,
+    limits: Limits,
+    is_extended: bool,
+) -> Option<(&'static str, &'static str)> {
     match number {
         21 => Some(("the number of ", " isn't above all numbers before it")),
         22 => Some(("", " has a variable in both signs")),
@@ -66,7 +82,7 @@ fn words_around(number: u32) -> Option<(&'static str, &'static str)> {
         26 => Some(("the hints of ", " end without a conflict")),
         27 => Some(("", " has no hints for one of its candidates")),
         28 => Some(("a group of ", " is for no candidate that needs one")),
-        31 => Some(("", " has a variable that the formula doesn't have")),
+        31 => Some(("", words_of_variable(limits, is_extended))),
         _ => None,
     }
 }
@@ -160,6 +176,7 @@ fn say_refused_at<E: Write>(
     refused: Refused,
     limits: Limits,
     at: At,
+    is_extended: bool,
     excerpt: Option<&Excerpt>,
 ) {
     let added = added_by(at.line, excerpt);
@@ -167,7 +184,7 @@ fn say_refused_at<E: Write>(
         say_named(out, name, refused.number, named, added, at);
         return;
     }
-    let _ = match words_around(refused.number) {
+    let _ = match words_around(refused.number, limits, is_extended) {
         Some((before, behind)) => writeln!(out, "c {name}: {before}{added}{behind} {at}"),
         None => {
             let words = words_at(refused.number, limits, at);
@@ -197,9 +214,12 @@ fn say_why<E: Write>(
         say_broken(out, name, broken);
         return;
     }
-    let form = source.form;
+    let (form, is_extended) = (source.form, source.is_extended);
     match refused.line {
-        Some(line) => say_refused_at(out, name, refused, limits, At { form, line }, excerpt),
+        Some(line) => {
+            let at = At { form, line };
+            say_refused_at(out, name, refused, limits, at, is_extended, excerpt);
+        }
         None => {
             let words = words_of(refused.number, limits);
             let _ = writeln!(out, "c {name}: {words}");

@@ -15,11 +15,22 @@ const UNSHOWN: &str = "FILE";
 #[derive(Clone, Copy)]
 pub(crate) struct Arguments<'a> {
     file: &'a str,
+    // what stands for standard input
+    unnamed: &'static str,
 }
 
 impl<'a> Arguments<'a> {
     pub(crate) fn of(file: &'a str) -> Arguments<'a> {
-        Arguments { file }
+        Arguments { file, unnamed: "" }
+    }
+
+    /// The same for a command that reads the file again: ` FILE` stands for standard input, which is
+    /// used up.
+    pub(crate) fn of_file(file: &'a str) -> Arguments<'a> {
+        Arguments {
+            file,
+            unnamed: " FILE",
+        }
     }
 }
 
@@ -48,7 +59,7 @@ fn write_quoted<W: fmt::Write>(f: &mut Formatter<W>, text: &str) -> fmt::Result 
 impl Display for Arguments<'_> {
     fn fmt<W: fmt::Write>(&self, f: &mut Formatter<W>) -> fmt::Result {
         if self.file == STANDARD_INPUT {
-            return Ok(());
+            return write!(f, "{}", self.unnamed);
         }
         if self.file.chars().any(|character| character.is_control()) {
             return write!(f, " {UNSHOWN}");

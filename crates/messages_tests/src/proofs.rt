@@ -88,7 +88,7 @@ static REFUSED: [Row; 17] = [
         31,
         Some(1),
         None,
-        "c p.lrat: clause 5 has a variable that the formula doesn't have (line 1)\n",
+        "c p.lrat: clause 5 has a variable that the formula doesn't have; --extended allows that (line 1)\n",
     ),
     (
         41,
@@ -122,6 +122,7 @@ fn text(beginning: &[u8]) -> ProofSource<'_> {
         beginning,
         form: Form::Text,
         broken: None,
+        is_extended: false,
     }
 }
 
@@ -283,6 +284,7 @@ fn proofs_in_binary(rt: HostRuntime) {
             beginning: b"a\x05\x02\x00\x02\x04\x00",
             form: Form::Binary,
             broken: *broken,
+            is_extended: false,
         };
         let refused = Refused {
             number: *number,
@@ -312,4 +314,36 @@ fn a_proof_above_the_large_limit(rt: HostRuntime) {
     );
     let wanted = b"c p.lrat: longer than the limit, 4,611,686,018,427,387,904 bytes\n";
     assert!(rt; out.as_slice() == wanted.as_slice());
+}
+
+/// Where a proof's clauses may have variables above the formula's, a limit is left.
+static EXTENDED: [(Limits, &str); 2] = [
+    (
+        Limits::Standard,
+        "c p.lrat: clause 5 has a variable above the limit, 262,143; --large has a higher one (line 1)\n",
+    ),
+    (
+        Limits::Large,
+        "c p.lrat: clause 5 has a variable above the limit, 100,000,000 (line 1)\n",
+    ),
+];
+
+#[test]
+fn variables_above_the_limit(rt: HostRuntime) {
+    for (limits, wanted) in &EXTENDED {
+        let mut out = Vec::new(rt.alloc());
+        let mut excerpt = Excerpt::around(Place { line: 1, column: 1 });
+        excerpt.add(PROOF);
+        let refused = Refused {
+            number: 31,
+            line: Some(1),
+            named: None,
+        };
+        let source = ProofSource {
+            is_extended: true,
+            ..text(PROOF)
+        };
+        say_proof_refused(&mut out, "p.lrat", refused, *limits, source, Some(&excerpt));
+        assert!(rt; out.as_slice() == wanted.as_bytes(), "{wanted}");
+    }
 }

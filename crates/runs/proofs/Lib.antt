@@ -12,3 +12,4 @@ pub mod AtOnceLemmas
 pub mod StreamedLemmas
 pub mod ProofLemmas
 pub mod PartLemmas
+pub mod TidyRuns

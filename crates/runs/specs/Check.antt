@@ -15,6 +15,8 @@ use Rattle.lrat_text.specs.declared.fault.TextFault.{TextFault}
 use Rattle.lrat_text.specs.declared.fault.TextFault.TheVariants as texts
 use Rattle.lrat.specs.declared.check_fault.CheckFault.{CheckFault}
 use Rattle.lrat.specs.CheckFaults.{check_fault_step}
+use Rattle.lrat.specs.declared.variables.Variables.{Variables}
+use Rattle.lrat.specs.Extended.{checked_formula}
 use Rattle.runs.specs.declared.fault.RunFault.{RunFault}
 use Rattle.runs.specs.declared.fault.RunFault.TheVariants.{Read, NoMemory, ProofWriteFailed, AnswerWriteFailed, ProofReadFailed}
 use Rattle.runs.specs.declared.check.Told.{Told}
@@ -60,25 +62,26 @@ pub record IsLine (L : Limits) (F : truth.Formula) (proof : List ℕ) (checked :
   pub verdict : checked ≡ verdict_of F read_as
   pub line_is : line ≡ check_text F read_as
 
--- the same for the bytes that two readers gave, where they tell them
-pub record IsCheckOf (L : Limits) (formula_known proof_known : Option (List ℕ)) (checked : Checked) (line : List ℕ) : Type 0 where
+-- the same for the bytes that two readers gave, where they tell them, of the formula over the
+-- variables that the proof's clauses may have
+pub record IsCheckOf (L : Limits) (variables : Variables) (formula_known proof_known : Option (List ℕ)) (checked : Checked) (line : List ℕ) : Type 0 where
   pub bytes : List ℕ
   pub are : IfSome formula_known (λ xs. bytes ≡ take (max_bytes L + 1) xs)
   pub value : truth.Formula
   pub reads : ReadsWithin L bytes (formula value)
   pub proof : List ℕ
   pub proof_is : IfSome proof_known (λ xs. proof ≡ take (max_proof_bytes L + 1) xs)
-  pub says : IsLine L value proof checked line
+  pub says : IsLine L (checked_formula L variables value) proof checked line
 
-pub record WritesLine (L : Limits) (formula_known proof_known answer_old answer_new : Option (List ℕ)) (checked : Checked) : Type 0 where
+pub record WritesLine (L : Limits) (variables : Variables) (formula_known proof_known answer_old answer_new : Option (List ℕ)) (checked : Checked) : Type 0 where
   pub line : List ℕ
-  pub check : IsCheckOf L formula_known proof_known checked line
+  pub check : IsCheckOf L variables formula_known proof_known checked line
   pub written : Appends answer_old answer_new line
 
-pub record StopsInLine (L : Limits) (formula_known proof_known answer_old answer_new : Option (List ℕ)) : Type 0 where
+pub record StopsInLine (L : Limits) (variables : Variables) (formula_known proof_known answer_old answer_new : Option (List ℕ)) : Type 0 where
   pub checked : Checked
   pub line : List ℕ
-  pub check : IsCheckOf L formula_known proof_known checked line
+  pub check : IsCheckOf L variables formula_known proof_known checked line
   pub count : ℕ
   pub written : Appends answer_old answer_new (take count line)
 
@@ -98,13 +101,13 @@ pub record IsProofUnread (L : Limits) (formula_known answer_old answer_new : Opt
   pub kept : Keeps answer_old answer_new
 
 -- what a run of the checker answers of the bytes of its readers, and what it leaves in its writer
-abbrev pub CheckSays : Limits → Option (List ℕ) → Option (List ℕ) → Option (List ℕ) → Option (List ℕ) → Result Checked RunFault → Type 0
-CheckSays L known proof a b (Ok checked) = WritesLine L known proof a b checked
-CheckSays L known proof a b (Err (Read fault)) = IsUnchecked L known a b fault
-CheckSays L known proof a b (Err NoMemory) = Keeps a b
-CheckSays L known proof a b (Err ProofWriteFailed) = ⊥
-CheckSays L known proof a b (Err AnswerWriteFailed) = StopsInLine L known proof a b
-CheckSays L known proof a b (Err ProofReadFailed) = IsProofUnread L known a b
+abbrev pub CheckSays : Limits → Variables → Option (List ℕ) → Option (List ℕ) → Option (List ℕ) → Option (List ℕ) → Result Checked RunFault → Type 0
+CheckSays L variables known proof a b (Ok checked) = WritesLine L variables known proof a b checked
+CheckSays L variables known proof a b (Err (Read fault)) = IsUnchecked L known a b fault
+CheckSays L variables known proof a b (Err NoMemory) = Keeps a b
+CheckSays L variables known proof a b (Err ProofWriteFailed) = ⊥
+CheckSays L variables known proof a b (Err AnswerWriteFailed) = StopsInLine L variables known proof a b
+CheckSays L variables known proof a b (Err ProofReadFailed) = IsProofUnread L known a b
 
 -- the verdict of a check that also tells why
 abbrev pub checked_by : Result Told RunFault → Result Checked RunFault

@@ -1,7 +1,8 @@
 //! A run of the checker of proofs.
-ghost use Rattle.std.specs.Prelude.{MatchResult};
+ghost use Rattle.std.specs.Prelude.{◌≡◌, MatchResult};
 ghost use Rattle.theory.specs.Reading.{standard};
 ghost use Rattle.cnf.specs.Limits.{limits_of};
+ghost use Rattle.lrat.specs.Extended.{checked_formula};
 ghost use Rattle.runs.specs.Check.{CheckSays, checked_by};
 ghost use Rattle.runs.specs.Streamed.{Judges, IsStop};
 
@@ -10,11 +11,30 @@ use crate::fault::RunFault;
 use crate::output::write_text;
 use crate::proof_input::feed_all;
 use cnf::{Formula, Limits, read_from_within};
-use lrat::{ProofStream, Refusal};
+use lrat::{ProofStream, Refusal, Variables};
 use messages::Refused;
 use statistics::{Observer, Unobserved};
 use std::alloc::Global;
 use std::io::{Read, Write};
+
+/// How large the files of a check may be, and which variables the proof's clauses may have.
+#[derive(Clone, Copy)]
+pub struct CheckRules {
+    pub limits: Limits,
+    pub variables: Variables,
+}
+
+impl CheckRules {
+    /// The proof's clauses may have the formula's variables, within these limits.
+    pub fn within(limits: Limits) -> CheckRules
+        ensures { result ≡ record { limits = limits; variables = Variables.OfFormula } }
+    {
+        CheckRules {
+            limits,
+            variables: Variables::OfFormula,
+        }
+    }
+}
 
 /// The checker's verdict on a proof, and what words of a refusal need.
 #[derive(Clone, Copy)]
@@ -56,11 +76,15 @@ fn judge<P: Read>(
     alloc: Global,
     formula: Formula,
     proof: &mut P,
-    limits: Limits,
+    rules: CheckRules,
 ) -> Result<Judged, RunFault>
-    ensures { MatchResult result (λ j. Judges (limits_of limits) formula (P.remaining proof.old) j.verdict) IsStop }
+    ensures { MatchResult result
+        (λ j. Judges (limits_of rules.limits) (checked_formula (limits_of rules.limits) rules.variables formula) (P.remaining proof.old) j.verdict)
+        IsStop }
 {
-    let mut stream = match ProofStream::new(alloc, &formula) {
+    let limits = rules.limits;
+    let vars = rules.variables.allowed(&formula, limits);
+    let mut stream = match ProofStream::over(alloc, &formula, vars) {
         Ok(stream) => stream,
         Err(_) => return Err(RunFault::NoMemory),
     };
@@ -71,23 +95,23 @@ fn judge<P: Read>(
     Ok(Judged { verdict, named })
 }
 
-/// What `check_run_within` does, with the same faults; the answer also says why the proof is refused,
-/// if it is. An observer is told once, before the line is written.
+/// What `check_run_within` does by these rules, with the same faults; the answer also says why the
+/// proof is refused, if it is. An observer is told once, before the line is written.
 pub fn check_told<R: Read + Drop, P: Read + Drop, W: Write, O: Observer>(
     alloc: Global,
     formula: R,
     mut proof: P,
-    limits: Limits,
+    rules: CheckRules,
     answer: &mut W,
     observer: &O,
 ) -> Result<Told, RunFault>
-    ensures { CheckSays (limits_of limits) (R.remaining formula) (P.remaining proof) (W.contents answer.old) (W.contents answer.new) (checked_by result) }
+    ensures { CheckSays (limits_of rules.limits) rules.variables (R.remaining formula) (P.remaining proof) (W.contents answer.old) (W.contents answer.new) (checked_by result) }
 {
-    let formula = match read_from_within(alloc, formula, limits) {
+    let formula = match read_from_within(alloc, formula, rules.limits) {
         Ok(formula) => formula,
         Err(fault) => return Err(RunFault::of_read(fault)),
     };
-    let judged = judge(alloc, formula, &mut proof, limits)?;
+    let judged = judge(alloc, formula, &mut proof, rules)?;
     let line = match checked_line(alloc, judged.verdict) {
         Ok(line) => line,
         Err(_) => return Err(RunFault::NoMemory),
@@ -111,9 +135,10 @@ pub fn check_run_within<R: Read + Drop, P: Read + Drop, W: Write>(
     limits: Limits,
     answer: &mut W,
 ) -> Result<Checked, RunFault>
-    ensures { CheckSays (limits_of limits) (R.remaining formula) (P.remaining proof) (W.contents answer.old) (W.contents answer.new) result }
+    ensures { CheckSays (limits_of limits) Variables.OfFormula (R.remaining formula) (P.remaining proof) (W.contents answer.old) (W.contents answer.new) result }
 {
-    match check_told(alloc, formula, proof, limits, answer, &Unobserved) {
+    let rules = CheckRules::within(limits);
+    match check_told(alloc, formula, proof, rules, answer, &Unobserved) {
         Ok(told) => Ok(told.checked),
         Err(fault) => Err(fault),
     }
@@ -126,7 +151,7 @@ pub fn check_run<R: Read + Drop, P: Read + Drop, W: Write>(
     proof: P,
     answer: &mut W,
 ) -> Result<Checked, RunFault>
-    ensures { CheckSays standard (R.remaining formula) (P.remaining proof) (W.contents answer.old) (W.contents answer.new) result }
+    ensures { CheckSays standard Variables.OfFormula (R.remaining formula) (P.remaining proof) (W.contents answer.old) (W.contents answer.new) result }
 {
     check_run_within(alloc, formula, proof, Limits::Standard, answer)
 }

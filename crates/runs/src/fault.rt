@@ -18,7 +18,7 @@ pub enum RunFault {
     #[error("the proof couldn't be written")]
     ProofWriteFailed,
     /// A write or flush of the answer failed. The whole proof is written, and a beginning of the
-    /// answer; of a check a beginning of its line.
+    /// answer; of a check a beginning of its line, of `tidy` one of the formula.
     #[error("the answer couldn't be written")]
     AnswerWriteFailed,
     /// The proof that is to be checked wasn't read. Nothing is written.

@@ -18,12 +18,13 @@ mod proof_output;
 mod proof_stream;
 mod stored;
 mod threaded;
+mod tidy;
 mod verdict;
 
 pub use alone::{run_one, run_one_by_plan};
 pub use answered::answer_within;
 pub use at_once::{gather_at_once, gather_at_once_by_hands};
-pub use check::{Told, check_run, check_run_within, check_told};
+pub use check::{CheckRules, Told, check_run, check_run_within, check_told};
 pub use checked_line::Checked;
 pub use fault::RunFault;
 pub use laws::runs_write_the_same;
@@ -33,4 +34,5 @@ pub use limited::{
 };
 pub use stored::{GatheredFrom, gather_stored, gather_stored_by_hands};
 pub use threaded::{run, run_by_plan, run_within};
+pub use tidy::tidy_within;
 pub use verdict::Verdict;

@@ -1,7 +1,10 @@
 //! Worked rows of checking: the line written for the bytes of a formula and a proof.
-use runs::{Checked, check_run};
+use cnf::Limits;
+use lrat::Variables;
+use runs::{CheckRules, Checked, check_run, check_told};
 use samples::faulty::Trickle;
 use samples::{FOUR, FOUR_PROOF, WIDE, WIDE_PROOF};
+use statistics::Unobserved;
 use std::alloc::Global;
 use std::test::Fail;
 
@@ -97,6 +100,61 @@ fn lines_of_proofs(rt: HostRuntime) -> Result<(), Fail> {
         for count in &PIECES {
             assert!(rt; has_line(rt.alloc(), row, *count)?, "{} by {count}", row.1);
         }
+    }
+    Ok(())
+}
+
+/// Proofs of the four clauses whose clauses have more variables than the two of the formula: limits,
+/// a proof and its line.
+static EXTENDED: [(Limits, &str, &str); 8] = [
+    // 3 is 1 and 2, defined by a clause without a candidate and two with closed ones
+    (
+        Limits::Standard,
+        "5 3 -1 -2 0 0\n6 -3 1 0 0\n7 -3 2 0 0\n8 1 0 1 2 0\n9 0 8 3 4 0\n",
+        ACCEPTED,
+    ),
+    // variables far apart, a lesser one behind a greater
+    (
+        Limits::Standard,
+        "5 262143 0 0\n6 3 1 0 0\n7 -3 -1 0 0\n8 90000 -3 0 0\n9 -90000 3 0 0\n10 1 0 1 2 0\n11 0 10 3 4 0\n",
+        ACCEPTED,
+    ),
+    (
+        Limits::Standard,
+        "5 3 0 0\n6 3 262144 0 0\n",
+        "refused 31 step 2\n",
+    ),
+    (
+        Limits::Large,
+        "5 262144 0 0\n6 1 0 1 2 0\n7 0 6 3 4 0\n",
+        ACCEPTED,
+    ),
+    (Limits::Large, "5 100000001 0 0\n", "refused 31 step 1\n"),
+    // a candidate that isn't closed
+    (
+        Limits::Standard,
+        "5 3 1 0 0\n6 -3 0 0\n",
+        "refused 27 step 2\n",
+    ),
+    (
+        Limits::Standard,
+        "5 3 1 0 0\n6 -3 -2 0 -5 0\n",
+        "refused 26 step 2\n",
+    ),
+    (Limits::Standard, "5 3 -3 0 0\n", "refused 22 step 1\n"),
+];
+
+#[test]
+fn lines_of_extended_proofs(rt: HostRuntime) -> Result<(), Fail> {
+    for (limits, proof, line) in &EXTENDED {
+        let rules = CheckRules {
+            limits: *limits,
+            variables: Variables::Extended,
+        };
+        let mut said = Vec::new(rt.alloc());
+        let (text, steps) = (FOUR.as_bytes(), proof.as_bytes());
+        let _ = check_told(rt.alloc(), text, steps, rules, &mut said, &Unobserved)?;
+        assert!(rt; said.as_slice() == line.as_bytes(), "{proof}");
     }
     Ok(())
 }

@@ -32,6 +32,19 @@ impl FormulaSize {
     }
 }
 
+/// How many bytes are searched for line feeds at a time.
+const BLOCK: usize = 128;
+
+/// How many of a block's bytes end a line. A count that is a byte itself compiles to code that takes
+/// 16 bytes at once.
+fn count_lines(block: &[u8]) -> u8 {
+    let mut count = 0u8;
+    for byte in block {
+        count = count.wrapping_add(u8::from(*byte == b'\n'));
+    }
+    count
+}
+
 /// How much of a text went by.
 #[derive(Clone, Copy)]
 pub struct TextSize {
@@ -47,10 +60,8 @@ impl TextSize {
     /// How many bytes a text has, and how many of them end a line.
     pub fn of(text: &[u8]) -> TextSize {
         let mut lines = 0usize;
-        for byte in text {
-            if *byte == b'\n' {
-                lines = lines.saturating_add(1);
-            }
+        for block in text.chunks(BLOCK) {
+            lines = lines.saturating_add(usize::from(count_lines(block)));
         }
         TextSize {
             lines,
@@ -112,6 +123,8 @@ pub struct Figures {
     pub(crate) is_drawn: bool,
     /// The formula's size, once it is read.
     pub(crate) formula: Option<FormulaSize>,
+    /// Whether a literal stands twice in a clause of it, where a proof is to be written.
+    pub has_repeats: bool,
     /// How many hands solve it, 1 to 16.
     pub hands: usize,
     /// Which cubes hands have begun and solved.
@@ -156,6 +169,7 @@ impl Figures {
             is_ended: false,
             is_drawn: false,
             formula: None,
+            has_repeats: false,
             hands: 1,
             cubes: CubeCounts::none(),
             division: DivisionCounts::none(),
@@ -296,6 +310,11 @@ impl Figures {
         self.stage = Stage::Solving;
         self.formula = Some(size);
         self.read = Some(end);
+    }
+
+    /// It is known whether a literal stands twice in a clause.
+    pub(crate) fn set_repeats(&mut self, has_repeats: bool) {
+        self.has_repeats = has_repeats;
     }
 
     /// It is solved, without a model where the tree has a size.

@@ -11,15 +11,18 @@ use cnf::Formula;
 use cubes::{Gate, Tree};
 use kernel::Cube;
 use lines::Row;
+use std::alloc::Global;
 use std::rt::Files;
 use std::sync::Wait;
 use std::time::Clock;
 use strategies::{LoweringCounts, Stages};
+use tidying::has_repeats;
 
 /// Counts a run on a board.
 #[derive(Drop)]
 pub struct Watch<'a, R> {
     pub rt: &'a R,
+    pub alloc: Global,
     pub board: &'a Board,
 }
 
@@ -36,6 +39,20 @@ impl<R: Wait + Clock> Counter for Watch<'_, R> {
     fn went_by(&self, piece: &[u8]) {
         let size = TextSize::of(piece);
         self.board.figures().lock(self.rt).add_proof(size);
+    }
+}
+
+impl<R: Wait> Watch<'_, R> {
+    /// Notes whether a literal stands twice in a clause, if a proof is to be written; where memory
+    /// is refused, nothing.
+    fn note_repeats(&self, formula: &Formula) {
+        let has_no_proof = self.board.look(self.rt).has_no_proof;
+        if has_no_proof {
+            return;
+        }
+        if let Ok(has_repeats) = has_repeats(self.alloc, formula) {
+            self.board.figures().lock(self.rt).set_repeats(has_repeats);
+        }
     }
 }
 
@@ -149,6 +166,7 @@ impl<R: Wait + Clock> Stages for Watch<'_, R> {
 
 impl<R: Files + Wait + Clock> Observer for Watch<'_, R> {
     fn read(&self, formula: &Formula) {
+        self.note_repeats(formula);
         let size = FormulaSize::of(formula);
         let end = self.stage_end();
         self.board.figures().lock(self.rt).end_reading(size, end);

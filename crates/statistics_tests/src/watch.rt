@@ -42,7 +42,7 @@ static TOLD: [Told; 4] = [
 
 /// Tells a gate of two hands.
 fn watch_two<R: Wait + Clock>(rt: &R, alloc: Global, board: &Board) -> Result<(), AllocError> {
-    let watch = Watch { rt, board };
+    let watch = Watch { rt, alloc, board };
     for (hand, numbers, is_solved) in &TOLD {
         let cube = cube_of(alloc, 2, numbers)?;
         watch.before(*hand, &cube);
@@ -102,7 +102,7 @@ static CUBES: [(usize, &[i32], bool); 6] = [
 
 /// Two hands solve a cube and its halves.
 fn watch_halves<R: Wait + Clock>(rt: &R, alloc: Global, board: &Board) -> Result<(), AllocError> {
-    let watch = Watch { rt, board };
+    let watch = Watch { rt, alloc, board };
     for (hand, numbers, is_end) in &CUBES {
         let cube = cube_of(alloc, 2, numbers)?;
         if *is_end {
@@ -145,7 +145,7 @@ fn wait_without_cubes<R: Wait + Clock>(rt: &R, alloc: Global) -> Result<bool, Fa
 
 /// A run by the search that is made first, by a hand, and in the lowering.
 fn watch_stages<R: Wait + Clock>(rt: &R, alloc: Global, board: &Board) -> Result<(), AllocError> {
-    let watch = Watch { rt, board };
+    let watch = Watch { rt, alloc, board };
     watch.searched_first(counts_of(4));
     watch.searched_first(counts_of(10));
     watch.ended_first(false);

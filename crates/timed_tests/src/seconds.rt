@@ -27,8 +27,9 @@ struct Row<'a> {
     proof: &'a str,
 }
 
-/// The clock is read as the files are open, and before each cube: the root, and its halves. The
-/// limit is reached before the first of these.
+/// The clock is read as the run begins, as the files are open, as the formula is read, and before
+/// each cube: the root, and its halves; by several hands as each cube begins and ends too. The limit
+/// is reached before the first of these.
 const ENDED: Row = Row {
     formula: Some(FOUR),
     words: &[
@@ -42,7 +43,7 @@ const ENDED: Row = Row {
         "PROOF",
         "FORMULA",
     ],
-    clock: &[5_000, 15_000],
+    clock: &[5_000, 5_000, 5_000, 15_000],
     limits: ROOMY,
     status: 0,
     answer: "s UNKNOWN\n",
@@ -51,7 +52,7 @@ const ENDED: Row = Row {
 
 /// It isn't reached.
 const DECIDED: Row = Row {
-    clock: &[5_000, 14_999],
+    clock: &[5_000, 5_000, 5_000, 14_999],
     status: 20,
     answer: "s UNSATISFIABLE\n",
     proof: FOUR_PROOF,
@@ -103,26 +104,25 @@ const ONE_CUBE: Row = Row {
         "PROOF",
         "FORMULA",
     ],
-    clock: &[5_000, 14_999, 15_000],
+    clock: &[5_000, 5_000, 5_000, 14_999, 15_000],
     ..ENDED
 };
 
-/// With the automatic search the clock is read as the run begins too, and as the formula is read. The
-/// limit is reached before the search that is made first.
+/// With the automatic search it is so without a proof too. The limit is reached before the search that
+/// is made first.
 const AUTOMATIC: Row = Row {
     words: &["cubesat", "solve", "FORMULA", "--seconds", "10"],
-    clock: &[5_000, 5_000, 5_000, 15_000],
     ..ENDED
 };
 
-static ROWS: [Row; 25] = [
+static ROWS: [Row; 26] = [
     ENDED,
     Row {
-        clock: &[5_000, 14_999, 15_000],
+        clock: &[5_000, 5_000, 5_000, 14_999, 15_000],
         ..ENDED
     },
     Row {
-        clock: &[5_000, 5_000, 5_000, 4_000_000_000_000],
+        clock: &[5_000, 5_000, 5_000, 5_000, 5_000, 4_000_000_000_000],
         ..ENDED
     },
     Row {
@@ -143,10 +143,10 @@ static ROWS: [Row; 25] = [
             "PROOF",
             "FORMULA",
         ],
-        clock: &[5_000, 14_999, 15_000],
+        clock: &[5_000, 5_000, 5_000, 14_999, 15_000],
         ..ENDED
     },
-    // no proof is asked for
+    // no proof is asked for: it is read as the run begins, and before each cube
     Row {
         words: &[
             "cubesat",
@@ -157,6 +157,7 @@ static ROWS: [Row; 25] = [
             "--seconds",
             "10",
         ],
+        clock: &[5_000, 15_000],
         ..ENDED
     },
     Row {
@@ -189,17 +190,35 @@ static ROWS: [Row; 25] = [
             "--any-model",
             "FORMULA",
         ],
+        clock: &[5_000, 15_000],
         ..ENDED
     },
     Row {
         words: &LONGEST,
-        clock: &[0, 1_000_000_000_000],
+        clock: &[0, 0, 0, 1_000_000_000_000],
         ..ENDED
     },
     DECIDED,
-    // it is reached once all is solved
+    // it is reached once all is solved, without a proof, and with one by several hands
     Row {
+        words: &[
+            "cubesat",
+            "solve",
+            "--seconds",
+            "10",
+            "--budget",
+            "1",
+            "FORMULA",
+        ],
         clock: &[5_000, 14_999, 14_999, 14_999, 15_000],
+        proof: "old",
+        ..DECIDED
+    },
+    Row {
+        clock: &[
+            5_000, 5_000, 5_000, 14_999, 14_999, 14_999, 14_999, 14_999, 14_999, 14_999, 14_999,
+            14_999, 15_000,
+        ],
         ..DECIDED
     },
     Row {
@@ -215,16 +234,16 @@ static ROWS: [Row; 25] = [
         ..DECIDED
     },
     Row {
-        clock: &[UNREAD, 50_000],
+        clock: &[UNREAD, UNREAD, 50_000],
         ..DECIDED
     },
     Row {
-        clock: &[5_000, UNREAD],
+        clock: &[5_000, 5_000, 5_000, UNREAD],
         ..DECIDED
     },
     // it goes back
     Row {
-        clock: &[50_000, 5_000],
+        clock: &[50_000, 50_000, 50_000, 5_000],
         ..DECIDED
     },
     Row {
@@ -233,7 +252,7 @@ static ROWS: [Row; 25] = [
     },
     Row {
         words: &LONGEST,
-        clock: &[0, 999_999_999_999],
+        clock: &[0, 0, 0, 999_999_999_999],
         ..DECIDED
     },
     REFUSED,

@@ -4,6 +4,7 @@ use Rattle.lrat.proofs.checker.Checker.new.Goals as goal
 
 pub returns-clause-ready : goal.returns-clause-ready
 returns-clause-ready c = record {
+  vars = search rules;
   clauses_vars = search rules;
   held_vars = search rules;
   none_held = search rules;

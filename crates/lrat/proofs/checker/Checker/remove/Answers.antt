@@ -8,8 +8,9 @@ use Rattle.lrat.proofs.checker.Checker.remove.Goals as goal
 pub returns-then-delete-clause-tested : goal.returns-then-delete-clause-tested
 returns-then-delete-clause-tested c =
     let all = deleted-all _ _ _ (rw c.ids.ensures.ids at c.delete.ensures.deleted) c.if-delete.true in (
-      delete-leaves c.args.self.now.held.vars (checker_of c.args.self.now) c.args.deletion.now (there c.delete.new.clauses) all,
+      delete-leaves c.args.self.now.vars (checker_of c.args.self.now) c.args.deletion.now (there c.delete.new.clauses) all,
       record {
+        vars = c.requires.vars;
         clauses_vars = c.delete.ensures.vars ∙ c.requires.clauses_vars;
         held_vars = c.requires.held_vars;
         indexed = IsIndexed-stay _ _ c.args.self.now.occurrences c.delete.ensures.stay c.requires.indexed;

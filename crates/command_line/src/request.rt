@@ -1,0 +1,55 @@
+//! What the command line asks for.
+
+use crate::effort::Asked;
+use crate::spread_arguments::Spread;
+use cnf::Limits;
+
+/// The file of a formula, and whether it is read leniently.
+#[derive(Clone, Copy)]
+pub struct FormulaFile<'a> {
+    pub path: &'a str,
+    pub is_lenient: bool,
+}
+
+/// What is shown of a run, beside its answer and its faults.
+#[derive(Clone, Copy)]
+pub struct Shown {
+    pub stats: bool,
+    pub progress: bool,
+    pub verbose: bool,
+}
+
+/// What the command line asks for.
+#[derive(Clone, Copy)]
+pub enum Request<'a> {
+    /// Decide the formula, and write its proof to `proof`, if there is to be one.
+    Solve {
+        asked: Asked,
+        proof: Option<&'a str>,
+        formula: FormulaFile<'a>,
+        shown: Shown,
+    },
+    /// Check the proof in `proof` against the formula.
+    Check {
+        formula: FormulaFile<'a>,
+        proof: &'a str,
+        limits: Limits,
+        /// Whether the proof's clauses may have variables that the formula doesn't have.
+        is_extended: bool,
+        /// Whether a fault and a refused proof are to have two exit statuses.
+        distinct_status: bool,
+        shown: Shown,
+    },
+    /// Write the formula again, without what repeats.
+    Tidy {
+        formula: FormulaFile<'a>,
+        limits: Limits,
+    },
+    /// Say what a number that the program printed means, and the one behind it.
+    Explain {
+        number: u32,
+        behind: Option<u32>,
+    },
+    /// Work on a run that is spread over machines.
+    Spread(Spread<'a>),
+}

@@ -1,0 +1,2 @@
+pub mod Tidied
+pub mod Texts
