@@ -11,6 +11,12 @@ import circuits  # noqa: E402
 from solver import Formula  # noqa: E402
 
 
+def write(path, formula):
+    variables, clauses = formula
+    with open(path, "w") as file:
+        file.write(f"p cnf {variables} {len(clauses)}\n" + "".join(" ".join(map(str, [*it, 0])) + "\n" for it in clauses))
+
+
 def numbered(formula):
     return len(formula.numbers), formula.clauses
 
