@@ -126,6 +126,11 @@ class Trail:
     def free_variables(self):
         return (it for it in range(1, self.variables + 1) if it not in self.entry)
 
+    def held_variables(self):
+        """Those that stand in a first clause without both signs of a variable."""
+        clauses = (it for it in self.clauses.literals[1 : self.first + 1] if not any(-literal in it for literal in it))
+        return sorted({abs(literal) for it in clauses for literal in it})
+
     def propagate(self):
         """The number of the first false clause, or None where no clause is false or unit."""
         while True:
@@ -247,7 +252,7 @@ class Ordered(Search):
 
 
 class Focused(Search):
-    """It decides the variables that gained most in conflicts, in two modes, learns shorter lines, and one
+    """It decides the held variables that gained most in conflicts, in two modes, learns shorter lines, and one
     for each unit of level 0, restarts, and forgets learnt clauses in rounds. `counts` says how often it
     does what."""
 
@@ -259,6 +264,8 @@ class Focused(Search):
         self.saved = [True] * (self.variables + 1)
         # of each line, where that of a unit is 0, and of those of the restarting modes
         self.glues, self.mode_glues, self.restarted = [], [], 0
+        # among which it chooses
+        self.held = self.held_variables()
         # the numbers of the clauses used since the last round
         self.used = set()
         self.round, self.round_end = 1, ROUND_LENGTH
@@ -267,14 +274,14 @@ class Focused(Search):
         return max(variables, key=lambda it: (self.scores[it], it), default=None)
 
     def decision(self):
-        best = self.best(self.free_variables())
+        best = self.best(it for it in self.held if it not in self.entry)
         if best is None:
             return None
         self.stable_decisions += self.is_stable
         return best if self.saved[best] else -best
 
     def splits_on(self):
-        return self.best(it for it in range(1, self.variables + 1) if it not in self.entry or self.level_of(it) > 0)
+        return self.best(it for it in self.held if it not in self.entry or self.level_of(it) > 0)
 
     def end_propagation(self):
         if self.level() == 0:
@@ -397,7 +404,7 @@ class Look(Trail):
     def __init__(self, variables, clauses, cube):
         super().__init__(variables, clauses, cube)
         conflict = self.propagate()
-        free = [*self.free_variables()]
+        free = [it for it in self.held_variables() if it not in self.entry]
         if conflict:
             self.outcome = ("refuted", [*self.settle(), self.learn(conflict)])
         elif not free:
@@ -406,7 +413,7 @@ class Look(Trail):
             self.outcome = ("exhausted", self.splits_on(self.candidates(free)))
 
     def candidates(self, free):
-        """The first of the free variables: those in many clauses with each sign, and of equal ones the greatest."""
+        """The first of the held variables that are free: those in many clauses with each sign, and of equal ones the greatest."""
         one_signed = [it for it in self.clauses.literals if not any(-literal in it for literal in it)]
         count = collections.Counter(literal for it in one_signed for literal in it)
         return sorted(free, key=lambda it: ((count[it] + 1) * (count[-it] + 1), it), reverse=True)[:CANDIDATES]
@@ -441,14 +448,22 @@ def budget_of(budget, search, cube):
     return min(budget * (len(cube) + 1), MAX_BUDGETS[search])
 
 
-def first_clauses(variables, clauses):
-    """The clauses that each search begins with: those of the formula, and the units of its pure variables."""
+def pure_units(variables, clauses):
+    """The unit clauses of the pure variables."""
     positive = {it for clause in clauses for it in clause if it > 0}
-    return [*clauses, *([-it] for it in range(1, variables + 1) if it not in positive)]
+    return [[-it] for it in range(1, variables + 1) if it not in positive]
 
 
-def values_of(literals):
-    return tuple(it > 0 for it in sorted(literals, key=abs))
+def first_clauses(variables, clauses, search):
+    """The clauses that a search begins with: those of the formula, and for the ordered search the units
+    of its pure variables."""
+    return [*clauses, *(pure_units(variables, clauses) if search == "ordered" else [])]
+
+
+def values_of(variables, literals):
+    """The values of the variables; those without a literal are false."""
+    true = {*literals}
+    return tuple(it in true for it in range(1, variables + 1))
 
 
 class Tree:
@@ -460,7 +475,7 @@ class Tree:
         self.variables, self.budget, self.search = variables, budget, search
         self.divide = divide if search == "focused" else 0
         self.is_divided = False
-        self.clauses = first_clauses(variables, clauses)
+        self.clauses = first_clauses(variables, clauses, search)
         self.text = [f"{at} {unit[0]} 0 0\n" for at, unit in enumerate(self.clauses, 1) if at > len(clauses)]
         self.last = len(self.clauses)
         self.searched = []
@@ -468,7 +483,7 @@ class Tree:
             self.cube([])
             self.model, self.proof = None, "".join(self.text)
         except Satisfied as satisfied:
-            self.model, self.proof = values_of(satisfied.args[0]), ""
+            self.model, self.proof = values_of(variables, satisfied.args[0]), ""
 
     def add(self, literals, hints):
         self.last += 1
@@ -522,8 +537,9 @@ class Lowering:
     undivided. `model` is the first model; `questions` says of each question whether it had a model."""
 
     def __init__(self, variables, clauses, budget, model):
-        self.variables, self.clauses, self.budget = variables, first_clauses(variables, clauses), budget
-        self.model, self.questions, self.conflicts = model, [], 0
+        self.variables, self.clauses, self.budget = variables, clauses, budget
+        self.units = pure_units(variables, clauses)
+        self.model, self.questions, self.conflicts = self.with_units(model), [], 0
         prefix = []
         for it in range(1, variables + 1):
             if not self.follows(prefix, it):
@@ -531,16 +547,20 @@ class Lowering:
 
     def follows(self, prefix, variable):
         """Whether the variable has a value once propagation from the prefix has come to rest."""
-        trail = Trail(self.variables, self.clauses, prefix)
+        trail = Trail(self.variables, [*self.clauses, *self.units], prefix)
         trail.propagate()
         return variable in trail.entry
+
+    def with_units(self, model):
+        """The model where the pure variables are false."""
+        return model and tuple(value and [-it] not in self.units for it, value in enumerate(model, 1))
 
     def lowers(self, cube):
         """A question: whether there is a model in the cube, which then is the one at hand."""
         found = self.model_in(cube)
         self.questions.append(found is not None)
         if found is not None:
-            self.model = found
+            self.model = self.with_units(found)
         return self.questions[-1]
 
     def model_in(self, cube):
@@ -549,7 +569,7 @@ class Lowering:
         kind, found = search.outcome
         if kind == "exhausted":
             return self.model_in([*cube, -found]) or self.model_in([*cube, found])
-        return values_of(found) if kind == "model" else None
+        return values_of(self.variables, found) if kind == "model" else None
 
 
 class Automatic:
@@ -558,7 +578,7 @@ class Automatic:
     decides, `lowering` that of its model, or None where there is no lowering."""
 
     def __init__(self, variables, clauses, first, divide, is_any_model, budget=FOCUSED_BUDGET):
-        self.first = Ordered(variables, first_clauses(variables, clauses), [], first)
+        self.first = Ordered(variables, first_clauses(variables, clauses, "ordered"), [], first)
         self.is_decided = self.first.outcome[0] != "exhausted"
         plan = (first, "ordered", 0) if self.is_decided else (budget, "focused", divide)
         self.tree = Tree(variables, clauses, *plan)

@@ -3,7 +3,8 @@ use Rattle.std.proofs.Common.{◌≡◌, ℕ, zero, suc, ◌+◌, ◌<◌, ◌�
 use Rattle.std.proofs.lemmas.List.{take_at}
 use Rattle.theory.specs.Literals.{Clause}
 use Rattle.theory.specs.Plans.{Constants}
-use Rattle.theory.specs.Truth.{Assignment}
+use Rattle.theory.specs.Truth.{Formula, Assignment}
+use Rattle.theory.specs.Held.{held}
 use Rattle.theory.specs.Trails.{Trail, literals, current_level, up_to}
 use Rattle.theory.specs.Propagation.{Closed, quiet, conflict, by_place, Propagates}
 use Rattle.theory.specs.Lessons.{lesson_of}
@@ -28,7 +29,9 @@ use Rattle.cdcl.specs.declared.focused.FocusedSearch.{FocusedSearch}
 use Rattle.cdcl.specs.declared.focused.Stop.{Stop}
 use Rattle.cdcl.specs.declared.focused.Stop.TheVariants.{Ended, Spent}
 use Rattle.cdcl.specs.Saving.{AgreeOutside}
+use Rattle.cdcl.specs.Searching.{formula_of}
 use Rattle.cdcl.specs.Focusing.{state_of, stable_at, HasSaved, HasUnits, IsFocusing, StepsAs, Answers, IsSettled, Closes, Continues, Follows, Onward, IsFocusedSearchStep, next_of}
+use Rattle.cdcl.proofs.SearchedFormulas.{formula-stays}
 use Rattle.cdcl.proofs.Steps.{GoesOn-trans}
 use Rattle.cdcl.proofs.SettledSearches.{settled-of}
 use Rattle.cdcl.proofs.FocusedSteps.{HasSaved-Propagates}
@@ -72,7 +75,7 @@ Closes-settled s n k a vars clauses first order memory closes more i = record {
   };
   saves = λ saved has. rw (i.continues.goes_on.0, i.literals_stay) (subst (λ (M : Assignment). AgreeOutside k.vars (literals k.trail) M saved) (sym i.saved) (HasSaved-Propagates s k a saved vars closes has));
   longer = let long = length-Propagates by_place s.kernel.clauses s.kernel.trail k.trail a closes in let same = i.long in omega (arith, long, same);
-  resumes = λ above saved. subst (StepsAs s.constants s.kernel.vars (state_of s saved)) (sym (state saved ∙ stays above saved)) (as-before saved);
+  resumes = λ above saved. subst (StepsAs s.constants (formula_of s.kernel) (state_of s saved)) (sym (state saved ∙ stays above saved)) (as-before saved);
 }
   where
     state : (saved : Assignment) → state_of n saved ≡ settled (record (state_of s saved) { trail = k.trail })
@@ -90,20 +93,20 @@ Closes-settled s n k a vars clauses first order memory closes more i = record {
         (false_unless (nat_eq (current_level k.trail) 0) (λ t. let none = eqb-true (current_level k.trail) 0 t in let same = i.level in omega (arith, none, same, above)))
 
     -- from the trail that propagation left it steps as from the one before
-    as-before : (saved : Assignment) → StepsAs s.constants s.kernel.vars (state_of s saved) (record (state_of s saved) { trail = k.trail })
+    as-before : (saved : Assignment) → StepsAs s.constants (formula_of s.kernel) (state_of s saved) (record (state_of s saved) { trail = k.trail })
     as-before saved last next w = record { answer = w.answer; trail = w.trail; propagates = more w.answer w.trail w.propagates; follows = w.follows }
 
 -- it is above level 0 where it is exhausted
-above-exhausted : (c : Constants) (V last x : ℕ) (s : FocusedState) (a : Closed) → definition.after c V last s a ≡ ends (exhausted x) → 1 ≤ current_level s.trail
-above-exhausted c V last x s quiet e = go (best_outside V (literals s.trail) s.scores) e
+above-exhausted : (c : Constants) (F : Formula) (last x : ℕ) (s : FocusedState) (a : Closed) → definition.after c F last s a ≡ ends (exhausted x) → 1 ≤ current_level s.trail
+above-exhausted c F last x s quiet e = go (best_outside (held F) (literals s.trail) s.scores) e
   where
-    go : (o : Option ℕ) → definition.on_quiet V s o ≡ ends (exhausted x) → 1 ≤ current_level s.trail
+    go : (o : Option ℕ) → definition.on_quiet F.vars s o ≡ ends (exhausted x) → 1 ≤ current_level s.trail
     go None e = absurd (cc)
     go (Some y) e = absurd (cc)
-above-exhausted c V last x s (conflict n) e = go (nat_eq (current_level s.trail) 0) refl e
+above-exhausted c F last x s (conflict n) e = go (nat_eq (current_level s.trail) 0) refl e
   where
     Rest : Next FocusedState
-    Rest = if nat_eq (s.conflicts + 1) last then ends (exhausted (splits_on V s)) else goes_on (learnt_next c V s (lesson_of s.clauses s.trail n))
+    Rest = if nat_eq (s.conflicts + 1) last then ends (exhausted (splits_on F s)) else goes_on (learnt_next c F.vars s (lesson_of s.clauses s.trail n))
 
     positive : (m : ℕ) → nat_eq m 0 ≡ false → 1 ≤ m
     positive zero h = absurd (cc)
@@ -137,13 +140,17 @@ step-from last s n t a (Ok o) c h = λ saved has.
     constants : n.constants ≡ s.constants
     constants = c.continues.constants
 
-    vars : n.kernel.vars ≡ s.kernel.vars
-    vars = c.continues.goes_on.0
+    formula : formula_of n.kernel ≡ formula_of s.kernel
+    formula = formula-stays s.kernel n.kernel c.continues.goes_on
 
-    same : (saved : Assignment) → definition.after s.constants s.kernel.vars last (settled (record (state_of s saved) { trail = c.trail })) a ≡ definition.after n.constants n.kernel.vars last (state_of n saved) a
+    same : (saved : Assignment) → definition.after s.constants (formula_of s.kernel) last (settled (record (state_of s saved) { trail = c.trail })) a
+        ≡ definition.after n.constants (formula_of n.kernel) last (state_of n saved) a
     same saved =
-        sym (ap (λ (x : FocusedState). definition.after s.constants s.kernel.vars last x a) (c.state saved))
-        ∙ (ap (λ V. definition.after s.constants V last (state_of n saved) a) (sym vars) ∙ ap (λ d. definition.after d n.kernel.vars last (state_of n saved) a) (sym constants))
+        sym (ap (λ (x : FocusedState). definition.after s.constants (formula_of s.kernel) last x a) (c.state saved))
+        ∙ (ap (λ (G : Formula). definition.after s.constants G last (state_of n saved) a) (sym formula) ∙ ap (λ d. definition.after d (formula_of n.kernel) last (state_of n saved) a) (sym constants))
+
+    steps : (x y : FocusedState) → StepsAs n.constants (formula_of n.kernel) x y → StepsAs s.constants (formula_of s.kernel) x y
+    steps x y h = subst (λ (G : Formula). StepsAs s.constants G x y) formula (subst (λ (d : Constants). StepsAs d (formula_of n.kernel) x y) constants h)
 
     decided : n.decided ≡ s.decided
     decided = counted-of s n a (λ x. x.decisions) (λ x u. refl) (λ x T. refl) c s.decisions.saved
@@ -154,16 +161,16 @@ step-from last s n t a (Ok o) c h = λ saved has.
     conflicts : n.conflicts ≡ s.conflicts
     conflicts = closes-conflicts s n a c
 
-    onward : (saved : Assignment) (o : Option Stop) (values : Assignment) → definition.after n.constants n.kernel.vars last (state_of n saved) a ≡ next_of o t values → Onward last n saved o t values → Onward last s saved o t values
+    onward : (saved : Assignment) (o : Option Stop) (values : Assignment) → definition.after n.constants (formula_of n.kernel) last (state_of n saved) a ≡ next_of o t values → Onward last n saved o t values → Onward last s saved o t values
     onward saved (Some (Ended o)) values next i = (i.0 ∙ decided, i.1)
     onward saved (Some Spent) values next i =
-        let above = above-exhausted n.constants n.kernel.vars last (splits_on t.kernel.vars (state_of t values)) (state_of n saved) a next in
-        let steps : StepsAs s.constants s.kernel.vars (state_of n saved) (state_of t values) = rw (constants, vars) at i.resumes in record {
+        let above = above-exhausted n.constants (formula_of n.kernel) last (splits_on (formula_of t.kernel) (state_of t values)) (state_of n saved) a next in
+        let more = steps (state_of n saved) (state_of t values) i.resumes in record {
           spent = i.spent;
           saves = i.saves;
           decided = i.decided ∙ decided;
           stable = i.stable ∙ stable;
-          resumes = λ later next w. c.resumes above saved later next (steps later next w);
+          resumes = λ later next w. c.resumes above saved later next (more later next w);
         }
     onward saved None values next i = record { saves = i.saves; focusing = i.focusing; counted = i.counted; moves = moves i.moves }
       where
@@ -175,9 +182,9 @@ step-from last s n t a (Ok o) c h = λ saved has.
 Nothing : Kept
 Nothing C T lines = Unit {0}
 
-nothing-kept : (V : ℕ) → IsInvariant (Unit {0}) by_place V Nothing
+nothing-kept : (vs : List ℕ) → IsInvariant (Unit {0}) by_place vs Nothing
 unfolding Nothing
-nothing-kept V = record {
+nothing-kept vs = record {
   propagated = λ C T U lines a h p. tt;
   unit = λ C before e es lines n level reason units p. tt;
   decided = λ C T lines l h v free p. tt;
@@ -191,7 +198,7 @@ goes-units last s t None f units h none =
     let saved = s.decisions.saved in
     let w = h saved (λ v k free. refl) in
     let k : Keeps (Unit {0}) Nothing (state_of t w.values)
-    = step-goes s.constants s.kernel.vars (Unit {0}) Nothing (nothing-kept s.kernel.vars) last (state_of s saved) (goes_on (state_of t w.values)) (record { kept = tt; grounded = λ x. (f.searching.lawful, units); marks = f.marks }) w.step in
+    = step-goes s.constants (formula_of s.kernel) (Unit {0}) Nothing (nothing-kept (held (formula_of s.kernel))) last (state_of s saved) (goes_on (state_of t w.values)) (record { kept = tt; grounded = λ x. (f.searching.lawful, units); marks = f.marks }) w.step in
     (k.grounded tt).1
 goes-units last s t (Some stop) f units h none = absurd (cc)
 

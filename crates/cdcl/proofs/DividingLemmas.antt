@@ -1,19 +1,25 @@
 -- A look at a cube, and what the first search says of a formula's division.
-use Rattle.std.proofs.Common.{◌≡◌, ◌≢◌, min, take, ℕ, ◌+◌, ◌*◌, ◌^◌, ◌<◌, ◌≤◌, false, nat_lt, le-ltb, List, [], ◌∷◌, ◌++◌, Option, Some, refl, ap, ap₂, sym, subst, ◌∙◌, arith}
+use Rattle.std.proofs.Common.{◌≡◌, ◌≢◌, true, Bool, not, nat_eq, None, cond, find, eq-eqb, min, take, ℕ, ◌+◌, ◌*◌, ◌^◌, ◌<◌, ◌≤◌, false, nat_lt, le-ltb, List, [], ◌∷◌, ◌++◌, Option, Some, IfSome, filter, refl, ap, ap₂, sym, subst, ◌∙◌, arith}
 use Rattle.std.proofs.Math.Pow.{pow_mono}
-use Rattle.theory.specs.Literals.{Literal, Clause}
+use Rattle.std.specs.List.{list_any}
+use Rattle.theory.specs.Literals.{Literal, Clause, IsVariable, has_var}
 use Rattle.theory.specs.Truth.{Formula}
 use Rattle.theory.specs.Plans.{Constants, focused, Plan}
-use Rattle.theory.specs.Trails.{Trail, literals, cube_trail, least_free}
+use Rattle.theory.specs.Trails.{Trail, literals, variables, cube_trail}
+use Rattle.theory.specs.Held.{is_held, held, least_held}
 use Rattle.theory.specs.Propagation.{Closed, quiet, conflict, by_place, Propagates}
 use Rattle.theory.specs.Learning.{learn}
 use Rattle.theory.specs.Units.{Units, units_of}
-use Rattle.theory.specs.Search.{Outcome, refuted, exhausted, Next, ends, goes_on, first_clauses, max_focused}
+use Rattle.theory.specs.Search.{Outcome, model, refuted, exhausted, values, Next, ends, goes_on, max_focused}
 use Rattle.theory.proofs.literals.OverVariables.{AreOver-from_IsOver}
 use Rattle.lookahead.proofs.TrailLengths.{length-lawful}
 use Rattle.theory.specs.Focused.{FocusedState, if_stable, begin, settled, after, splits_on, IsFocusedStep}
 use Rattle.theory.specs.Looking.{Chooses, no_choice, best_ones, max_candidates, ranks, SplitsInto, Looks}
 use Rattle.theory.specs.Dividing.{LeadsTo, stays, moves, HasFewDecisions, first_conflicts, IsDivisible}
+use Rattle.theory.proofs.literals.LiteralLemmas.{or-left, or-right, not_true}
+use Rattle.theory.proofs.literals.LiteralSets.{true_false}
+use Rattle.theory.proofs.searching.HeldVariables.{held-variable, held-is, held-has}
+use Rattle.theory.proofs.searching.BestVariables.{none-among}
 use Rattle.theory.proofs.searching.PropagationLemmas.{Propagates-unique}
 use Rattle.kernel.specs.declared.order.Order.TheVariants.{ByPlace}
 use Rattle.lookahead.specs.declared.ranking.Ranked.{Ranked}
@@ -33,18 +39,55 @@ use Rattle.cdcl.specs.Solving.{IsKnown, IsDivisionOf, FirstSays, IsDividing}
 pub never-upper : (d divide : ℕ) → divide ≤ 65536 → 17 ≤ d → false ≡ nat_lt (2 ^ d) divide
 never-upper d divide few many = let more = pow_mono {i = 17} {j = d} many in sym (le-ltb (2 ^ d) divide (omega (arith, more, few)))
 
--- the variable that is chosen is what a look at the cube comes to
-pub splits-some : (F : Formula) (V : ℕ) (K : List Clause) (T : Trail) (w : Option ℕ) (v x : ℕ) (o : Outcome) → V ≡ F.vars → K ≡ first_clauses F → w ≡ least_free V T → w ≡ Some v → o ≡ exhausted x
-    → Chooses K T no_choice (best_ones max_candidates V (ranks V K) (literals T)) x → SplitsInto F T (least_free F.vars T) o
-splits-some F V K T w v x o vars clauses free some is chosen =
-    subst (λ u. SplitsInto F T u o) (sym some ∙ (free ∙ ap (λ n. least_free n T) vars)) (x, is, rw (vars, clauses) at chosen)
+-- what is found passes, and is one of the list
+found : (p : ℕ → Bool) (vs : List ℕ) (v : ℕ) → find p vs ≡ Some v → (list_any (nat_eq v) vs ≡ true) × (p v ≡ true)
+found p [] v e = absurd (cc)
+found p (w ∷ vs) v e = go (p w) refl e (found p vs v)
+  where
+    go : (b : Bool) → p w ≡ b → cond b (Some w) (find p vs) ≡ Some v → (find p vs ≡ Some v → (list_any (nat_eq v) vs ≡ true) × (p v ≡ true)) → (list_any (nat_eq v) (w ∷ vs) ≡ true) × (p v ≡ true)
+    go true t q more = let same : w ≡ v = cc in (or-left (nat_eq v w) (list_any (nat_eq v) vs) (eq-eqb v w (sym same)), ap p (sym same) ∙ t)
+    go false t q more = let m = more q in (or-right (nat_eq v w) (list_any (nat_eq v) vs) m.0, m.1)
 
-pub looks-quiet : (F : Formula) (Q : List Literal) (V : ℕ) (K : List Clause) (T U : Trail) (o : Outcome) → V ≡ F.vars → K ≡ first_clauses F → T ≡ cube_trail Q → Propagates by_place K T quiet U
-    → ((G : Formula) → V ≡ G.vars → K ≡ first_clauses G → SplitsInto G U (least_free G.vars U) o) → Looks F Q o
+not-no : (b : Bool) → not b ≡ false → b ≡ true
+not-no true h = refl
+not-no false h = absurd (cc)
+
+all-there : (F : Formula) (T : Trail) (v : ℕ) → least_held F T ≡ None → IsVariable F.vars v → is_held F.clauses v ≡ true → has_var (literals T) v ≡ true
+all-there F T v none k h = not-no (has_var (literals T) v) (none-among (λ w. not (has_var (literals T) w)) (held F) v none (held-has F v k h))
+
+-- where no variable that is held is free, the trail's values are what a look comes to
+pub splits-none : (F : Formula) (T : Trail) (o : Outcome) → ((v : ℕ) → IsVariable F.vars v → is_held F.clauses v ≡ true → has_var (literals T) v ≡ true) → o ≡ model (values F.vars T) → SplitsInto F T (least_held F T) o
+splits-none F T o all is = go (least_held F T) refl
+  where
+    go : (w : Option ℕ) → least_held F T ≡ w → SplitsInto F T w o
+    go None e = is
+    go (Some v) e =
+        let it = found (λ w. not (has_var (literals T) w)) (held F) v e in
+        true_false (has_var (literals T) v) (all v (held-variable F v it.0) (held-is F v it.0)) (not_true (has_var (literals T) v) it.1)
+
+-- else the variable that is chosen
+pub splits-some : (F : Formula) (T : Trail) (x : ℕ) (o : Outcome) → ¬ ((v : ℕ) → IsVariable F.vars v → is_held F.clauses v ≡ true → has_var (literals T) v ≡ true) → o ≡ exhausted x
+    → Chooses F.clauses T no_choice (best_ones max_candidates (held F) (ranks F.vars F.clauses) (literals T)) x → SplitsInto F T (least_held F T) o
+splits-some F T x o some is chosen = go (least_held F T) refl
+  where
+    go : (w : Option ℕ) → least_held F T ≡ w → SplitsInto F T w o
+    go None e = absurd (some (λ v k h. all-there F T v e k h))
+    go (Some v) e = (x, is, chosen)
+
+pub chosen-some : (F : Formula) (V : ℕ) (K : List Clause) (T : Trail) (found : Option ℕ) (x : ℕ) → found ≡ Some x → V ≡ F.vars → K ≡ F.clauses
+    → IfSome found (Chooses K T no_choice (best_ones max_candidates (filter (is_held K) (variables V)) (ranks V K) (literals T)))
+    → Chooses F.clauses T no_choice (best_ones max_candidates (held F) (ranks F.vars F.clauses) (literals T)) x
+chosen-some F V K T found x is vars clauses h =
+    subst (λ (L : List Clause). Chooses L T no_choice (best_ones max_candidates (filter (is_held L) (variables F.vars)) (ranks F.vars L) (literals T)) x) clauses
+    (subst (λ (W : ℕ). Chooses K T no_choice (best_ones max_candidates (filter (is_held K) (variables W)) (ranks W K) (literals T)) x) vars
+    (subst (λ (o : Option ℕ). IfSome o (Chooses K T no_choice (best_ones max_candidates (filter (is_held K) (variables V)) (ranks V K) (literals T)))) is h))
+
+pub looks-quiet : (F : Formula) (Q : List Literal) (V : ℕ) (K : List Clause) (T U : Trail) (o : Outcome) → V ≡ F.vars → K ≡ F.clauses → T ≡ cube_trail Q → Propagates by_place K T quiet U
+    → ((G : Formula) → V ≡ G.vars → K ≡ G.clauses → SplitsInto G U (least_held G U) o) → Looks F Q o
 looks-quiet F Q V K T U o vars clauses trail closes splits = record { answer = quiet; trail = U; propagates = rw (clauses, trail) at closes; comes_to = splits F vars clauses }
 
 -- a look that propagation refutes, where the units gave these lines
-pub looks-refuted : (F : Formula) (Q : List Literal) (K : List Clause) (T U : Trail) (n : ℕ) (u : Units) (o : Outcome) → K ≡ first_clauses F → T ≡ cube_trail Q → Propagates by_place K T (conflict n) U → u ≡ units_of K U
+pub looks-refuted : (F : Formula) (Q : List Literal) (K : List Clause) (T U : Trail) (n : ℕ) (u : Units) (o : Outcome) → K ≡ F.clauses → T ≡ cube_trail Q → Propagates by_place K T (conflict n) U → u ≡ units_of K U
     → o ≡ refuted (u.lines ++ learn u.clauses u.trail n ∷ []) → Looks F Q o
 looks-refuted F Q K T U n u o clauses trail closes units is = record {
   answer = conflict n;
@@ -64,10 +107,10 @@ ends-unique {State} IsStep one s u v o p (moves {t = t} h more) last (moves {t =
     let same : w ≡ t = cc in
     ends-unique IsStep one t u v o p more last (subst (λ (x : State). LeadsTo IsStep x v) same rest) end
 
-step-unique : (c : Constants) (V budget : ℕ) (s : FocusedState) (m n : Next FocusedState) → IsFocusedStep c V budget s m → IsFocusedStep c V budget s n → m ≡ n
-step-unique c V budget s m n h k =
+step-unique : (c : Constants) (F : Formula) (budget : ℕ) (s : FocusedState) (m n : Next FocusedState) → IsFocusedStep c F budget s m → IsFocusedStep c F budget s n → m ≡ n
+step-unique c F budget s m n h k =
     let one = Propagates-unique by_place s.clauses s.trail h.trail k.trail h.answer k.answer h.propagates k.propagates in
-    sym h.follows ∙ ap₂ (λ (T : Trail) (a : Closed). after c V budget (settled (record s { trail = T })) a) one.0 one.1 ∙ k.follows
+    sym h.follows ∙ ap₂ (λ (T : Trail) (a : Closed). after c F budget (settled (record s { trail = T })) a) one.0 one.1 ∙ k.follows
 
 -- what was counted at its last conflict is less than the program's numbers
 pub spent-counts : (last : ℕ) (s : FocusedSearch) → IsSpent last s → last ≤ max_focused → (s.decided < 2 ^ 60) × (s.stable_conflicts < 2 ^ 31)
@@ -82,19 +125,19 @@ spent-counts last s h within =
     (omega (arith, long, few, most, counted, within), omega (arith, stable, counted, within))
 
 -- the first search says whether there are few decisions
-pub few-decisions : (c : Constants) (F : Formula) (t : ℕ) (s : FocusedSearch) → Reaches c F.vars t (begin c F []) s → 4 * s.decided < 5 * stable_at s → HasFewDecisions c F t
+pub few-decisions : (c : Constants) (F : Formula) (t : ℕ) (s : FocusedSearch) → Reaches c F t (begin c F []) s → 4 * s.decided < 5 * stable_at s → HasFewDecisions c F t
 few-decisions c F t s r few = record {
   state = r.final;
-  var = splits_on F.vars (state_of s r.values);
+  var = splits_on F (state_of s r.values);
   leads = r.leads;
   last = r.ends_there;
   few = let same = r.decided in let stable = r.stable in omega (arith, same, stable, few);
 }
 
-many-decisions : (c : Constants) (F : Formula) (t : ℕ) (s : FocusedSearch) → Reaches c F.vars t (begin c F []) s → HasFewDecisions c F t → 4 * s.decided < 5 * stable_at s
+many-decisions : (c : Constants) (F : Formula) (t : ℕ) (s : FocusedSearch) → Reaches c F t (begin c F []) s → HasFewDecisions c F t → 4 * s.decided < 5 * stable_at s
 many-decisions c F t s r h =
-    let x = splits_on F.vars (state_of s r.values) in
-    let one = ends-unique (IsFocusedStep c F.vars t) (step-unique c F.vars t) (begin c F []) r.final h.state (exhausted x) (exhausted h.var) r.leads r.ends_there h.leads h.last in
+    let x = splits_on F (state_of s r.values) in
+    let one = ends-unique (IsFocusedStep c F t) (step-unique c F t) (begin c F []) r.final h.state (exhausted x) (exhausted h.var) r.leads r.ends_there h.leads h.last in
     let same = ap (λ (u : FocusedState). u.decisions) one.0 in
     let counted = r.decided in
     let stable = ap (λ (u : FocusedState). u.stable_conflicts + if_stable u) one.0 in
@@ -102,8 +145,8 @@ many-decisions c F t s r h =
     let few = h.few in
     omega (arith, same, counted, stable, counted_too, few)
 
-own-outcome : (c : Constants) (F : Formula) (t count : ℕ) (o : Outcome) → RunsTo c F.vars t (begin c F []) o count → HasFewDecisions c F t → (x : ℕ) × (o ≡ exhausted x)
-own-outcome c F t count o r h = (h.var, (ends-unique (IsFocusedStep c F.vars t) (step-unique c F.vars t) (begin c F []) r.final h.state o (exhausted h.var) r.leads r.last h.leads h.last).1)
+own-outcome : (c : Constants) (F : Formula) (t count : ℕ) (o : Outcome) → RunsTo c F t (begin c F []) o count → HasFewDecisions c F t → (x : ℕ) × (o ≡ exhausted x)
+own-outcome c F t count o r h = (h.var, (ends-unique (IsFocusedStep c F t) (step-unique c F t) (begin c F []) r.final h.state o (exhausted h.var) r.leads r.last h.leads h.last).1)
 
 -- so it says whether the formula is divided
 first-divides : (c : Constants) (F : Formula) (t : ℕ) (first : First) (s : FocusedSearch) → FirstSays c F t first s → first ≢ FewDecisions → ¬ (HasFewDecisions c F t)

@@ -1,5 +1,5 @@
 -- How the focused search of a cube begins.
-use Rattle.std.proofs.Common.{◌≡◌, ℕ, zero, suc, true, false, List, [], ◌∷◌, length, take, drop, refl, ap, sym, subst, ◌∙◌, All, arith}
+use Rattle.std.proofs.Common.{◌≡◌, ℕ, zero, suc, true, false, Bool, Vec, Global, List, [], ◌∷◌, length, take, drop, refl, ap, sym, subst, ◌∙◌, All, arith}
 use Rattle.std.proofs.lemmas.List.Elements.{All-nil}
 use Rattle.theory.specs.Literals.{Literal, Clause, IsVariable}
 use Rattle.theory.specs.Truth.{Formula, IsOver, value}
@@ -17,8 +17,10 @@ use Rattle.cdcl.specs.declared.focused.FocusedSearch.{FocusedSearch}
 use Rattle.cdcl.specs.declared.decisions.Decisions.{Decisions}
 use Rattle.cdcl.specs.Forgetful.{IsPlain}
 use Rattle.cdcl.specs.Saving.{AreWaiting, AreKept}
-use Rattle.cdcl.specs.Searching.{IsReady}
+use Rattle.cdcl.specs.Searching.{formula_of, IsReady}
 use Rattle.cdcl.specs.Focusing.{IsEquipped, Begins}
+use Rattle.cdcl.proofs.SearchedFormulas.{formula-ready}
+use Rattle.cdcl.proofs.WaitingLemmas.{holds-still}
 use Rattle.cdcl.proofs.SettledSearches.{AreUnits-cube}
 use Rattle.cdcl.proofs.Beginnings.{IsBegun, IsBegun-restart}
 use Rattle.theory.proofs.searching.MappedVariables.{at-variable, length-mapped}
@@ -31,12 +33,13 @@ none-left (suc n) (c ∷ K) e = none-left n K (omega arith)
 
 pub Begins-focused : (F : Formula) (Q : List Literal) (s t : FocusedSearch) (free : Decisions) → IsEquipped s → IsReady ByPlace F s.kernel → AreWaiting s.kernel.vars [] free → AreKept s.decisions free
     → t.decisions.scores ≡ record free.scores { scores = first_scores free.scores.constants (vars_of free.scores) } → length t.decisions.saved ≡ length free.saved → ((v : ℕ) → IsVariable (length free.saved) v → value t.decisions.saved v ≡ true)
+    → t.decisions.held ≡ free.held
     → t.kernel ≡ record s.kernel { clauses = take s.kernel.first s.kernel.clauses; trail = cube_trail Q }
     → IsLawful t.kernel.clauses t.kernel.trail → IsOver t.kernel.vars (literals t.kernel.trail) → All (IsOver t.kernel.vars) t.kernel.clauses
     → t.conflicts ≡ 0 → t.stable_conflicts ≡ 0 → t.decided ≡ 0 → t.lines ≡ [] → t.marks.items ≡ [] → t.averages ≡ first_averages s.averages.constants
     → t.restarted ≡ 0 → t.pace ≡ first_pace s.constants → t.round ≡ first_turn s.constants → t.constants ≡ s.constants → t.analysis ≡ s.analysis
     → Begins F s.constants Q t
-Begins-focused F Q s t free e ready waiting kept scores long all went lawful over clauses_over counted stable decided lines marks averages restarted pace round constants analysis = record {
+Begins-focused F Q s t free e ready waiting kept scores long all flags went lawful over clauses_over counted stable decided lines marks averages restarted pace round constants analysis = record {
   ready = b.ready;
   focusing = record {
     searching = b.searching;
@@ -46,13 +49,15 @@ Begins-focused F Q s t free e ready waiting kept scores long all went lawful ove
         vars = ap (λ (r : Ranking). vars_of r) scores ∙ (length-mapped {X = ℕ} (λ v. 0) (vars_of free.scores) ∙ (waiting.vars ∙ sym vars));
         long = ap (λ (r : Ranking). length r.waiting) scores ∙ (waiting.long ∙ sym vars);
         saved = long ∙ (waiting.saved ∙ sym vars);
-        waits = rw scores (λ v k f. waiting.waits v (rw (length-mapped {X = ℕ} (λ v. 0) (vars_of free.scores)) at k) refl);
+        flags = ap (λ (bs : Vec Bool Global). length bs.items) flags ∙ (waiting.flags ∙ sym vars);
+        waits = rw (scores, flags) (λ v k h f. waiting.waits v (rw (length-mapped {X = ℕ} (λ v. 0) (vars_of free.scores)) at k) h refl);
       };
       seen = rw (analysis, vars) e.seen;
       levels = rw (analysis, vars) e.levels;
       removing = rw (analysis, vars) e.removing;
       scored = ap (λ (r : Ranking). r.constants) scores ∙ (kept.constants ∙ (e.scored ∙ sym constants));
       averaged = ap (λ (a : Averages). a.constants) averages ∙ (e.averaged ∙ sym constants);
+      held = holds-still (formula_of s.kernel) (formula_of t.kernel) s.decisions t.decisions (formula-ready ByPlace F t.kernel b.ready ∙ sym (formula-ready ByPlace F s.kernel ready)) (flags ∙ kept.held) e.held;
     };
     taken = rw averages (omega arith);
     stable = omega (arith, stable);

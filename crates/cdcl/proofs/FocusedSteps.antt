@@ -1,7 +1,8 @@
 -- The steps of the focused search, as the definition has them.
 use Rattle.std.proofs.Common.{◌≡◌, ℕ, zero, suc, ◌+◌, ◌-◌, ◌*◌, ◌^◌, ◌<◌, ◌≤◌, Bool, true, false, [], ◌∷◌, ◌++◌, length, length-append, refl, ap, sym, subst, ◌∙◌, nat_eq, eq-eqb, ◌⊎◌, inl, inr, Some, None, Result, Ok, Err, IfOk, All, arith, if◌then◌else◌}
 use Rattle.theory.specs.Literals.{IsVariable, has_var}
-use Rattle.theory.specs.Truth.{Assignment, IsOver, value}
+use Rattle.theory.specs.Truth.{Formula, Assignment, IsOver, value}
+use Rattle.theory.specs.Held.{held}
 use Rattle.theory.specs.Trails.{Trail, Entry, literals, current_level}
 use Rattle.theory.specs.Propagation.{Closed, quiet, conflict, by_place, Propagates, least_false}
 use Rattle.theory.specs.Lawful.{IsLawful}
@@ -19,7 +20,6 @@ use Rattle.theory.proofs.searching.OpenTrails.{IsOpenBelow-decide}
 use Rattle.theory.proofs.literals.OverVariables.{AreOver-from_IsOver}
 use Rattle.theory.proofs.searching.SplitSoundness.{Propagates-more, has_var-front}
 use Rattle.theory.proofs.trails.TrailLists.{literals-append}
-use Rattle.theory.proofs.searching.BestVariables.{best_outside-some}
 use Rattle.kernel.specs.State.{State}
 use Rattle.kernel.specs.declared.order.Order.TheVariants.{ByPlace}
 use Rattle.cdcl.specs.declared.focused.FocusedSearch.{FocusedSearch}
@@ -28,9 +28,11 @@ use Rattle.cdcl.specs.declared.focused.Stop.TheVariants.{Ended, Spent}
 use Rattle.cdcl.specs.declared.decisions.Decisions.{Decisions}
 use Rattle.cdcl.specs.Outcome.{LinesOutcome, outcome_of}
 use Rattle.cdcl.specs.Saving.{AreWaiting}
+use Rattle.cdcl.specs.Searching.{formula_of}
 use Rattle.cdcl.specs.Removing.{HasRoomFor}
 use Rattle.cdcl.specs.Focusing.{state_of, RunsTo, HasSaved, HasUnits, IsEquipped, IsFocusing, IsSpent, Follows, GoesOnward, IsFocusedSearchStep, Reaches, Stops}
 use Rattle.cdcl.proofs.SearchingLemmas.{IsSearching-Propagates}
+use Rattle.cdcl.proofs.WaitingLemmas.{best-held, holds-still}
 use Rattle.lookahead.proofs.TrailLengths.{length-lawful, length-Propagates}
 use Rattle.cdcl.proofs.Progress.{remaining}
 
@@ -39,7 +41,7 @@ pub free-before : (T R : Trail) (v : ℕ) → has_var (literals (T ++ R)) v ≡ 
 free-before T R v h = has_var-front (literals T) (literals R) v (subst (λ P. has_var P v ≡ false) (literals-append T R) h)
 
 pub AreWaiting-longer : (V : ℕ) (T R : Trail) (d : Decisions) → AreWaiting V (literals T) d → AreWaiting V (literals (T ++ R)) d
-AreWaiting-longer V T R d h = record { vars = h.vars; long = h.long; saved = h.saved; waits = λ v k free. h.waits v k (free-before T R v free) }
+AreWaiting-longer V T R d h = record { vars = h.vars; long = h.long; saved = h.saved; flags = h.flags; waits = λ v k t free. h.waits v k t (free-before T R v free) }
 
 -- the kernel has propagated
 pub IsFocusing-Propagates : (s : FocusedSearch) (k : State) (a : Closed) → IsFocusing s → k.vars ≡ s.kernel.vars → k.clauses ≡ s.kernel.clauses → k.first ≡ s.kernel.first → k.order ≡ s.kernel.order → k.short ≡ false
@@ -55,6 +57,7 @@ IsFocusing-Propagates s k a f vars clauses first order memory closes =
         removing = rw vars f.equipped.removing;
         scored = f.equipped.scored;
         averaged = f.equipped.averaged;
+        held = rw (vars, clauses, first) f.equipped.held;
       };
       taken = f.taken;
       stable = f.stable;
@@ -72,12 +75,12 @@ HasSaved-Propagates s k a saved vars closes h v variable free =
 
 -- a decision
 pub Follows-decided : (budget : ℕ) (s t : FocusedSearch) (saved : Assignment) (x : ℕ) → IsFocusing s → s.conflicts < budget → least_false (literals s.kernel.trail) s.kernel.clauses ≡ None
-    → best_outside s.kernel.vars (literals s.kernel.trail) s.decisions.scores.scores ≡ Some x → HasSaved s saved
+    → best_outside (held (formula_of s.kernel)) (literals s.kernel.trail) s.decisions.scores.scores ≡ Some x → HasSaved s saved
     → t.kernel ≡ record s.kernel { trail = s.kernel.trail ++ record { lit = saved_literal s.decisions.saved x; reason = None; level = current_level s.kernel.trail + 1 } ∷ [] }
     → IsLawful t.kernel.clauses t.kernel.trail → IsOver t.kernel.vars (literals t.kernel.trail) → All (IsOver t.kernel.vars) t.kernel.clauses
     → AreWaiting s.kernel.vars (literals s.kernel.trail) t.decisions → t.decisions.scores.scores ≡ s.decisions.scores.scores → t.decisions.scores.constants ≡ s.decisions.scores.constants
-    → t.decisions.saved ≡ s.decisions.saved → t ≡ record s { kernel = t.kernel; decisions = t.decisions; decided = s.decided + (if is_restarting s.pace.mode then 0 else 1) } → Follows budget quiet s saved None t
-Follows-decided budget s t saved x f counted calm best has went lawful over clauses_over waiting scores constants same is = record {
+    → t.decisions.saved ≡ s.decisions.saved → t.decisions.held ≡ s.decisions.held → t ≡ record s { kernel = t.kernel; decisions = t.decisions; decided = s.decided + (if is_restarting s.pace.mode then 0 else 1) } → Follows budget quiet s saved None t
+Follows-decided budget s t saved x f counted calm best has went lawful over clauses_over waiting scores constants same flags is = record {
   values = saved;
   next = ap (definition.on_quiet s.kernel.vars (state_of s saved)) best ∙ ap goes_on next;
   onward = record {
@@ -100,8 +103,11 @@ Follows-decided budget s t saved x f counted calm best has went lawful over clau
     clauses : t.kernel.clauses ≡ s.kernel.clauses
     clauses = ap (λ (k : State). k.clauses) went
 
+    formula : formula_of t.kernel ≡ formula_of s.kernel
+    formula = ap formula_of went
+
     x-is : IsVariable s.kernel.vars x × (has_var (literals s.kernel.trail) x ≡ false)
-    x-is = best_outside-some s.kernel.vars (literals s.kernel.trail) s.decisions.scores.scores x best
+    x-is = best-held (formula_of s.kernel) (literals s.kernel.trail) s.decisions.scores.scores x best
 
     literal-is : saved_literal s.decisions.saved x ≡ saved_literal saved x
     literal-is = ap (λ b. record { var = x; positive = b }) (has x x-is.0 x-is.1)
@@ -158,6 +164,7 @@ Follows-decided budget s t saved x f counted calm best has went lawful over clau
           removing = subst (λ (u : FocusedSearch). HasRoomFor t.kernel.vars u.analysis.removing) (sym is) (rw vars f.equipped.removing);
           scored = subst (λ (u : FocusedSearch). t.decisions.scores.constants ≡ u.constants) (sym is) (constants ∙ f.equipped.scored);
           averaged = subst (λ (u : FocusedSearch). u.averages.constants ≡ u.constants) (sym is) f.equipped.averaged;
+          held = holds-still (formula_of s.kernel) (formula_of t.kernel) s.decisions t.decisions formula flags f.equipped.held;
         }
 
 -- a conflict at level 0
@@ -220,7 +227,7 @@ GoesOnward-less budget s t saved counted vars g = go g.moves
 -- the search went from s to t
 abbrev pub GoesTo : ℕ → FocusedSearch → FocusedSearch → Type 0
 GoesTo budget s t =
-    (saved : Assignment) → HasSaved s saved → (now : Assignment) × HasSaved t now × LeadsTo (IsFocusedStep s.constants s.kernel.vars budget) (state_of s saved) (state_of t now)
+    (saved : Assignment) → HasSaved s saved → (now : Assignment) × HasSaved t now × LeadsTo (IsFocusedStep s.constants (formula_of s.kernel) budget) (state_of s saved) (state_of t now)
 
 -- one step more
 leads-step : {State : Type 0} (IsStep : State → Next State → Type 0) (s t u : State) → LeadsTo IsStep s t → IsStep t (goes_on u) → LeadsTo IsStep s u
@@ -232,38 +239,49 @@ pub leads-runs : {State : Type 0} (IsStep : State → Next State → Type 0) (s 
 leads-runs IsStep s t o stays last = stops last
 leads-runs IsStep s t o (moves {t = m} first more) last = steps first (leads-runs IsStep m t o more last)
 
-pub RunsTo-runs : (c : Constants) (V budget : ℕ) (s : FocusedState) (o : search.Outcome) (decided : ℕ) → RunsTo c V budget s o decided → RunsFrom (IsFocusedStep c V budget) s o
-RunsTo-runs c V budget s o decided r = leads-runs (IsFocusedStep c V budget) s r.final o r.leads r.last
+pub RunsTo-runs : (c : Constants) (F : Formula) (budget : ℕ) (s : FocusedState) (o : search.Outcome) (decided : ℕ) → RunsTo c F budget s o decided → RunsFrom (IsFocusedStep c F budget) s o
+RunsTo-runs c F budget s o decided r = leads-runs (IsFocusedStep c F budget) s r.final o r.leads r.last
 
 pub GoesTo-first : (budget : ℕ) (s : FocusedSearch) → GoesTo budget s s
 GoesTo-first budget s saved h = (saved, h, stays)
 
-pub GoesTo-step : (budget : ℕ) (s t u : FocusedSearch) → t.constants ≡ s.constants → t.kernel.vars ≡ s.kernel.vars → GoesTo budget s t
+-- a step of a search of the same formula with the same numbers is one of the first search
+step-of : (last : ℕ) (s t : FocusedSearch) (x : FocusedState) (n : Next FocusedState) → t.constants ≡ s.constants → formula_of t.kernel ≡ formula_of s.kernel
+    → IsFocusedStep t.constants (formula_of t.kernel) last x n → IsFocusedStep s.constants (formula_of s.kernel) last x n
+step-of last s t x n constants formula w =
+    subst (λ (G : Formula). IsFocusedStep s.constants G last x n) formula (subst (λ (c : Constants). IsFocusedStep c (formula_of t.kernel) last x n) constants w)
+
+pub GoesTo-step : (budget : ℕ) (s t u : FocusedSearch) → t.constants ≡ s.constants → formula_of t.kernel ≡ formula_of s.kernel → GoesTo budget s t
     → ((saved : Assignment) → HasSaved t saved → IsFocusedSearchStep budget t saved None u) → GoesTo budget s u
-GoesTo-step budget s t u constants vars leads step saved h =
+GoesTo-step budget s t u constants formula leads step saved h =
     let l = leads saved h in
-    let w = step l.0 l.1 in
-    (w.values, w.onward.saves, leads-step (IsFocusedStep s.constants s.kernel.vars budget) (state_of s saved) (state_of t l.0) (state_of u w.values) l.2 (rw (constants, vars) at w.step))
+    let w = step l.0 l.1 in (
+      w.values,
+      w.onward.saves,
+      leads-step (IsFocusedStep s.constants (formula_of s.kernel) budget) (state_of s saved) (state_of t l.0) (state_of u w.values) l.2
+          (step-of budget s t (state_of t l.0) (goes_on (state_of u w.values)) constants formula w.step),
+    )
 
 -- where it stops
-pub GoesTo-stops : (last : ℕ) (s t u : FocusedSearch) (stop : Stop) → t.constants ≡ s.constants → t.kernel.vars ≡ s.kernel.vars → u.kernel.vars ≡ t.kernel.vars → GoesTo last s t
+pub GoesTo-stops : (last : ℕ) (s t u : FocusedSearch) (stop : Stop) → t.constants ≡ s.constants → formula_of t.kernel ≡ formula_of s.kernel → formula_of u.kernel ≡ formula_of t.kernel → GoesTo last s t
     → ((saved : Assignment) → HasSaved t saved → IsFocusedSearchStep last t saved (Some stop) u)
-    → (saved : Assignment) → HasSaved s saved → Stops s.constants s.kernel.vars last (state_of s saved) stop u
-GoesTo-stops last s t u (Ended o) constants vars same leads step saved h =
+    → (saved : Assignment) → HasSaved s saved → Stops s.constants (formula_of s.kernel) last (state_of s saved) stop u
+GoesTo-stops last s t u (Ended o) constants formula same leads step saved h =
     let l = leads saved h in
     let w = step l.0 l.1 in
-    (record { final = state_of t l.0; leads = l.2; last = rw (constants, vars) at w.step; decided = sym w.onward.0 }, w.onward.1)
-GoesTo-stops last s t u Spent constants vars same leads step saved h =
+    (record { final = state_of t l.0; leads = l.2; last = step-of last s t (state_of t l.0) (ends (outcome_of o)) constants formula w.step; decided = sym w.onward.0 }, w.onward.1)
+GoesTo-stops last s t u Spent constants formula same leads step saved h =
     let l = leads saved h in
     let w = step l.0 l.1 in record {
       final = state_of t l.0;
       values = w.values;
       leads = l.2;
-      ends_there = rw (same, constants, vars) at w.step;
+      ends_there = subst (λ (G : Formula). IsFocusedStep s.constants (formula_of s.kernel) last (state_of t l.0) (ends (exhausted (splits_on G (state_of u w.values))))) (same ∙ formula)
+          (step-of last s t (state_of t l.0) (ends (exhausted (splits_on (formula_of u.kernel) (state_of u w.values)))) constants formula w.step);
       saves = w.onward.saves;
       decided = sym w.onward.decided;
       stable = sym w.onward.stable;
-      resumes = rw (constants, vars) at w.onward.resumes;
+      resumes = λ later next r. step-of later s t (state_of t l.0) next constants formula (w.onward.resumes later next (step-of later t s (state_of u w.values) next (sym constants) (sym formula) r));
     }
 
 pub stops-spent : (last : ℕ) (s t : FocusedSearch) (saved : Assignment) (stop : Stop) → IsFocusedSearchStep last s saved (Some stop) t → stop ≡ Spent → IsSpent last t
@@ -271,12 +289,12 @@ stops-spent last s t saved (Ended o) w e = absurd (cc)
 stops-spent last s t saved Spent w e = w.onward.spent
 
 -- at its last conflict it is exhausted, if that is the last of its budget
-pub Reaches-exhausted : (c : Constants) (V last x count : ℕ) (s : FocusedState) (t : FocusedSearch) → Reaches c V last s t → t.kernel.vars ≡ V
-    → ((saved : Assignment) → x ≡ splits_on t.kernel.vars (state_of t saved)) → count ≡ t.decided → RunsTo c V last s (exhausted x) count
-Reaches-exhausted c V last x count s t r vars splits same = record {
+pub Reaches-exhausted : (c : Constants) (F : Formula) (last x count : ℕ) (s : FocusedState) (t : FocusedSearch) → Reaches c F last s t → formula_of t.kernel ≡ F
+    → ((saved : Assignment) → x ≡ splits_on (formula_of t.kernel) (state_of t saved)) → count ≡ t.decided → RunsTo c F last s (exhausted x) count
+Reaches-exhausted c F last x count s t r formula splits same = record {
   final = r.final;
   leads = r.leads;
-  last = subst (λ y. IsFocusedStep c V last r.final (ends (exhausted y))) (ap (λ W. splits_on W (state_of t r.values)) (sym vars) ∙ sym (splits r.values)) r.ends_there;
+  last = subst (λ y. IsFocusedStep c F last r.final (ends (exhausted y))) (ap (λ (G : Formula). splits_on G (state_of t r.values)) (sym formula) ∙ sym (splits r.values)) r.ends_there;
   decided = r.decided ∙ sym same;
 }
 

@@ -1,10 +1,10 @@
 -- What the focused search is behind a conflict that it learns from: the state that the definition
 -- gives, and all that it keeps.
-use Rattle.std.proofs.Common.{◌≡◌, ℕ, ◌+◌, ◌-◌, ◌<◌, ◌≤◌, Bool, true, false, ◌||◌, List, [], ◌∷◌, ◌++◌, length, take, drop, refl, ap, sym, subst, ◌∙◌, All, None, arith, length-append, nat_eq, slice_index_or, if◌then◌else◌}
+use Rattle.std.proofs.Common.{◌≡◌, ℕ, ◌+◌, ◌-◌, ◌<◌, ◌≤◌, Bool, true, false, ◌||◌, List, [], ◌∷◌, ◌++◌, length, take, drop, refl, ap, sym, subst, ◌∙◌, All, None, arith, length-append, nat_eq, slice_index_or, Vec, Global, if◌then◌else◌}
 use Rattle.std.specs.List.{list_any}
 use Rattle.std.proofs.lemmas.List.{length-map}
 use Rattle.theory.specs.Literals.{Clause, IsVariable}
-use Rattle.theory.specs.Truth.{Assignment}
+use Rattle.theory.specs.Truth.{Assignment, value}
 use Rattle.theory.specs.Trails.{Trail, literals, current_level, up_to}
 use Rattle.theory.specs.Propagation.{least_false}
 use Rattle.theory.specs.Lawful.{IsLawful}
@@ -34,11 +34,13 @@ use Rattle.cdcl.specs.declared.lesson.Analysis.{Analysis}
 use Rattle.cdcl.specs.Forgetful.{IsPlain, late_numbers}
 use Rattle.cdcl.specs.Numbers.{is_one_of}
 use Rattle.cdcl.specs.Saving.{AgreeOutside, AreWaiting}
+use Rattle.cdcl.specs.Searching.{formula_of, GoesOn}
 use Rattle.cdcl.specs.Removing.{HasRoomFor}
 use Rattle.cdcl.specs.Focusing.{state_of, values_after, HasSaved, IsEquipped, IsFocusing, IsTaught, Learns, Continues, CanForget, CanWeigh, Weighs}
 use Rattle.cdcl.proofs.FocusedLemmas.{removed, none-false-learnt, low-learnt, lower-level, IsPlain-learn, AllPlain-forget, AllPlain-push, take-push, take-forget}
 use Rattle.cdcl.proofs.SeenLemmas.{scores_after-same, seen-variable, All-one_of}
-use Rattle.cdcl.proofs.WaitingLemmas.{AgreeOutside-saved}
+use Rattle.cdcl.proofs.SearchedFormulas.{formula-stays}
+use Rattle.cdcl.proofs.WaitingLemmas.{AgreeOutside-saved, holds-still}
 use Rattle.cdcl.proofs.UsedMarks.{length-with_used}
 use Rattle.cdcl.proofs.NextStates.{flat, used_marks, learnt_next-flat}
 use Rattle.cdcl.proofs.RephasedValues.{AgreeOutside-rephased, length-rephased}
@@ -229,12 +231,27 @@ module _ (s : FocusedSearch) (n : ℕ) (t : FocusedSearch) (f : IsFocusing s) (l
       go true = omega arith
       go false = omega arith
 
+  -- which variables are held stays
+  held-back : t.decisions.held ≡ l.back.decisions.held
+  held-back = next.held ∙ sym (l.kept.held ∙ (l.weighs.held ∙ marked-of s n t l (λ x. x.decisions.held)))
+
+  goes : GoesOn s.kernel t.kernel
+  goes = (
+    vars-is,
+    first-is,
+    holds (λ C. take s.kernel.first C ≡ take s.kernel.first K) (take-push s.kernel.first K l.clause within)
+        (take-forget ns 1 s.kernel.first all least ∙ take-push s.kernel.first K l.clause within),
+    short-is,
+    order-is,
+  )
+
   waiting-next : AreWaiting s.kernel.vars (literals (up_to T target)) t.decisions
   waiting-next = record {
     vars = ap (λ (r : Ranking). vars_of r) next.scores ∙ l.waiting.vars;
     long = ap (λ (r : Ranking). length r.waiting) next.scores ∙ l.waiting.long;
     saved = ap (λ (M : Assignment). length M) next.saved ∙ go over;
-    waits = rw next.scores l.waiting.waits;
+    flags = ap (λ (bs : Vec Bool Global). length bs.items) held-back ∙ l.waiting.flags;
+    waits = rw (next.scores, held-back) l.waiting.waits;
   }
     where
       go : (o : Bool) → length (if o then rephased s.round.number l.back.decisions.saved else l.back.decisions.saved) ≡ s.kernel.vars
@@ -250,6 +267,7 @@ module _ (s : FocusedSearch) (n : ℕ) (t : FocusedSearch) (f : IsFocusing s) (l
     scored = ap (λ (r : Ranking). r.constants) next.scores ∙ (l.kept.constants
         ∙ (ap (λ (r : Ranking). r.constants) l.weighs.scores ∙ (marked-of s n t l (λ x. x.decisions.scores.constants) ∙ (f.equipped.scored ∙ sym next.constants))));
     averaged = ap (λ (a : Averages). a.constants) next.averages ∙ (f.equipped.averaged ∙ sym next.constants);
+    held = holds-still (formula_of s.kernel) (formula_of t.kernel) s.decisions t.decisions (formula-stays s.kernel t.kernel goes) next.held f.equipped.held;
   }
 
   pub next-focusing : IsFocusing t
@@ -291,14 +309,7 @@ module _ (s : FocusedSearch) (n : ℕ) (t : FocusedSearch) (f : IsFocusing s) (l
 
   pub next-continues : Continues s t
   next-continues = record {
-    goes_on = (
-      vars-is,
-      first-is,
-      holds (λ C. take s.kernel.first C ≡ take s.kernel.first K) (take-push s.kernel.first K l.clause within)
-          (take-forget ns 1 s.kernel.first all least ∙ take-push s.kernel.first K l.clause within),
-      short-is,
-      order-is,
-    );
+    goes_on = goes;
     constants = next.constants;
     equipped = equipped;
   }
@@ -343,10 +354,12 @@ AreWaiting-weighed s m w g restarts f e h =
     let kernel : w.kernel ≡ s.kernel = ap (λ (x : FocusedSearch). x.kernel) h.same ∙ ap (λ (x : FocusedSearch). x.kernel) e in
     let before = f.equipped.waiting in
     let old : m.decisions ≡ s.decisions = ap (λ (x : FocusedSearch). x.decisions) e in
+    let flags : w.decisions.held ≡ s.decisions.held = h.held ∙ ap (λ (d : Decisions). d.held) old in
     rw kernel (record {
       vars = h.kept.vars ∙ (ap (λ (d : Decisions). vars_of d.scores) old ∙ before.vars);
       long = ap (λ (W : List Bool). length W) h.kept.waiting ∙ (ap (λ (d : Decisions). length d.scores.waiting) old ∙ before.long);
       saved = ap (λ (M : Assignment). length M) h.saved ∙ (ap (λ (d : Decisions). length d.saved) old ∙ before.saved);
-      waits = λ v k free. ap (λ (W : List Bool). slice_index_or W (v - 1) false) (h.kept.waiting ∙ ap (λ (d : Decisions). d.scores.waiting) old)
-          ∙ before.waits v (subst (λ V. IsVariable V v) (h.kept.vars ∙ ap (λ (d : Decisions). vars_of d.scores) old) k) free;
+      flags = ap (λ (bs : Vec Bool Global). length bs.items) flags ∙ before.flags;
+      waits = λ v k t free. ap (λ (W : List Bool). slice_index_or W (v - 1) false) (h.kept.waiting ∙ ap (λ (d : Decisions). d.scores.waiting) old)
+          ∙ before.waits v (subst (λ V. IsVariable V v) (h.kept.vars ∙ ap (λ (d : Decisions). vars_of d.scores) old) k) (subst (λ (bs : Vec Bool Global). value bs.items v ≡ true) flags t) free;
     })

@@ -94,6 +94,10 @@ module _ (b : FocusedSearch) (ns : List ℕ) (e : FocusedSearch) where
   ended-saved true h = h.saved
   ended-saved false h = ap (λ (s : FocusedSearch). s.decisions.saved) h.1
 
+  ended-held : (o : Bool) → EndsIf o b ns e → e.decisions.held ≡ b.decisions.held
+  ended-held true h = h.held
+  ended-held false h = ap (λ (s : FocusedSearch). s.decisions.held) h.1
+
   ended-round : (o : Bool) → EndsIf o b ns e → e.round ≡ (if o then next_turn b.constants b.conflicts b.round else b.round)
   ended-round true h = h.round
   ended-round false h = ap (λ (s : FocusedSearch). s.round) h.1
@@ -121,6 +125,7 @@ pub record IsNext (s : FocusedSearch) (n : ℕ) (t : FocusedSearch) (l : IsLearn
   pub marks : t.marks.items ≡ (if is_over s.round (s.conflicts + 1) then unused l.marked.marks.items else l.marked.marks.items) ++ fresh_mark l.g ∷ []
   pub scores : t.decisions.scores ≡ l.back.decisions.scores
   pub saved : t.decisions.saved ≡ (if is_over s.round (s.conflicts + 1) then rephased s.round.number l.back.decisions.saved else l.back.decisions.saved)
+  pub held : t.decisions.held ≡ s.decisions.held
   pub averages : t.averages ≡ with_next s.averages s.pace.mode l.g
   pub restarted : t.restarted ≡ (if l.restarts then s.conflicts + 1 else s.restarted)
   pub pace : t.pace ≡ (if is_over s.round (s.conflicts + 1) then pace_after (s.conflicts + 1) s.pace else s.pace)
@@ -211,6 +216,7 @@ module _ (s : FocusedSearch) (n : ℕ) (t : FocusedSearch) (l : IsLearning s n t
         marks = l.marks ∙ ap (λ (ms : List Mark). ms ++ fresh_mark l.g ∷ []) (ended-marks l.back l.forgets l.ended o ends ∙ ap (λ m. if o then unused m else m) (ap (λ x. x.items) marks-back));
         scores = last-of (λ x. x.decisions.scores) ∙ ended-scores l.back l.forgets l.ended o ends;
         saved = last-of (λ x. x.decisions.saved) ∙ (ended-saved l.back l.forgets l.ended o ends ∙ ap (λ (r : Turn). if o then rephased r.number l.back.decisions.saved else l.back.decisions.saved) round-back);
+        held = last-of (λ x. x.decisions.held) ∙ (ended-held l.back l.forgets l.ended o ends ∙ (l.kept.held ∙ (l.weighs.held ∙ marked-of (λ x. x.decisions.held))));
         averages = last-of (λ x. x.averages)
             ∙ (ended-of (λ x. x.averages) ∙ (back-of (λ x. x.averages) ∙ (l.weighs.averages ∙ marked-of (λ x. with_next x.averages x.pace.mode l.g))));
         restarted = last-of (λ x. x.restarted)

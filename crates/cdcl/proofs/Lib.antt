@@ -1,3 +1,4 @@
+pub mod SearchedFormulas
 pub mod PlaceLemmas
 pub mod FlagLemmas
 pub mod PlaceBags

@@ -3,16 +3,17 @@ use Rattle.std.proofs.Common.{◌≡◌, ◌≢◌, ℕ, ◌≤◌, min, List, [
 use Rattle.std.proofs.lemmas.List.Elements.{All-take}
 use Rattle.theory.specs.Literals.{Literal, IsCube}
 use Rattle.theory.specs.Truth.{Formula, Assignment, IsOver}
+use Rattle.theory.specs.Pure.{searched}
+use Rattle.theory.specs.Beginnings.{begun, beginning_by}
 use Rattle.theory.specs.Plans.{Constants, ordered, focused, Plan}
 use Rattle.theory.specs.Trails.{variables}
-use Rattle.theory.specs.Search.{Outcome, exhausted, RunsFrom, budget_within, max_budget, max_focused, first_clauses}
+use Rattle.theory.specs.Search.{Outcome, exhausted, RunsFrom, budget_within, max_budget, max_focused}
 use Rattle.theory.specs.Dividing.{first_conflicts, IsDivisible}
 use Rattle.theory.specs.Ordered.{IsOrderedStep}
 use Rattle.theory.specs.Focused as definition
 use Rattle.theory.specs.Runs.{RunsBy, most_conflicts, cube_budget, Runs, by_search}
 use Rattle.theory.specs.Results.{OutcomeSays}
 use Rattle.theory.proofs.searching.OutcomeLemmas.{IsLookedAt-search, Runs-says}
-use Rattle.theory.proofs.searching.PureVariables.{IsFormula-searched}
 use Rattle.kernel.specs.declared.order.Order.TheVariants.{ByNumber, ByPlace}
 use Rattle.cdcl.specs.Outcome.{LinesOutcome}
 use Rattle.cdcl.specs.declared.ordered.OrderedSearch.{OrderedSearch}
@@ -21,14 +22,24 @@ use Rattle.cdcl.specs.declared.focused.Stop.{Stop}
 use Rattle.cdcl.specs.declared.dividing.DividingSearch.{DividingSearch}
 use Rattle.cdcl.specs.declared.searcher.Searcher.TheVariants.{Ordered}
 use Rattle.cdcl.specs.Outcome.{outcome_of}
-use Rattle.cdcl.specs.Searching.{IsReady, search_of}
+use Rattle.cdcl.specs.Searching.{formula_of, IsReady, search_of}
 use Rattle.cdcl.specs.Searching as ordered_search
 use Rattle.cdcl.specs.Focusing.{state_of, RunsTo, Reaches, Stops, HasSaved, IsKept}
 use Rattle.cdcl.specs.Focusing as focused_search
-use Rattle.cdcl.specs.Solving.{IsReadyBy, IsDividing}
+use Rattle.theory.specs.Beginnings.{begun_by}
+use Rattle.cdcl.specs.declared.root.Root.{Root}
+use Rattle.cdcl.specs.Solving.{IsReadyBy, IsDividing, IsRootOf}
 use Rattle.cdcl.proofs.Beginnings.{Begins-runs, Begins-says}
 use Rattle.cdcl.proofs.FocusedSteps.{RunsTo-runs}
+use Rattle.cdcl.proofs.SearchedFormulas.{formula-ready}
 use Rattle.cdcl.proofs.LongerSearches.{RunsTo-longer, Reaches-longer}
+
+-- how a plan's search begins
+pub begun_by-ordered : (F : Formula) (plan : Plan) → plan.search ≡ ordered → begun_by plan.search F ≡ searched F
+begun_by-ordered F plan search = ap (λ s. record F { clauses = (begun F (beginning_by s)).clauses }) search
+
+pub begun_by-focused : (F : Formula) (plan : Plan) (c : Constants) → plan.search ≡ focused c → begun_by plan.search F ≡ F
+begun_by-focused F plan c search = ap (λ s. record F { clauses = (begun F (beginning_by s)).clauses }) search
 
 -- the first search is asked within the budget of the cube without literals
 pub within-budget : (B t : ℕ) → min first_conflicts B ≡ t → t ≤ budget_within max_focused B []
@@ -58,16 +69,21 @@ says-ordered Q budget s begun (Ok o) begins runs = λ F plan ready is over.
 
 -- by the focused search
 runs-focused : (Q : List Literal) (budget decided : ℕ) (s begun : FocusedSearch) (o : LinesOutcome) → ((F : Formula) → IsReady ByPlace F s.kernel → focused_search.Begins F s.constants Q begun)
-    → ((saved : Assignment) → HasSaved begun saved → RunsTo begun.constants begun.kernel.vars budget (state_of begun saved) (outcome_of o) decided)
+    → ((saved : Assignment) → HasSaved begun saved → RunsTo begun.constants (formula_of begun.kernel) budget (state_of begun saved) (outcome_of o) decided)
     → (F : Formula) (B : ℕ) → IsReady ByPlace F s.kernel → budget ≡ budget_within max_focused B Q → RunsBy (focused s.constants) F B Q (outcome_of o)
 runs-focused Q budget decided s begun o begins runs F B ready is =
     let b = begins F ready in
-    rw (b.constants, b.ready.vars, is, b.begun) at (RunsTo-runs begun.constants begun.kernel.vars budget (state_of begun (map (λ v. true) (variables F.vars))) (outcome_of o) decided (runs (map (λ v. true) (variables F.vars)) b.saves))
+    let first : Assignment = map (λ v. true) (variables F.vars) in
+    subst (λ x. RunsFrom (definition.IsFocusedStep s.constants F (budget_within max_focused B Q)) x (outcome_of o)) b.begun
+    (subst (λ n. RunsFrom (definition.IsFocusedStep s.constants F n) (state_of begun first) (outcome_of o)) is
+    (subst (λ (G : Formula). RunsFrom (definition.IsFocusedStep s.constants G budget) (state_of begun first) (outcome_of o)) (formula-ready ByPlace F begun.kernel b.ready)
+    (subst (λ (c : Constants). RunsFrom (definition.IsFocusedStep c (formula_of begun.kernel) budget) (state_of begun first) (outcome_of o)) b.constants
+    (RunsTo-runs begun.constants (formula_of begun.kernel) budget (state_of begun first) (outcome_of o) decided (runs first b.saves)))))
 
 -- the search of a plan
 pub search-runs : {E : Type 0} (Q : List Literal) (budget decided : ℕ) (s : DividingSearch) (begun : FocusedSearch) (r : Result LinesOutcome E)
     → ((F : Formula) → IsReady ByPlace F s.search.kernel → focused_search.Begins F s.search.constants Q begun)
-    → IfOk r (λ o. (saved : Assignment) → HasSaved begun saved → RunsTo begun.constants begun.kernel.vars budget (state_of begun saved) (outcome_of o) decided)
+    → IfOk r (λ o. (saved : Assignment) → HasSaved begun saved → RunsTo begun.constants (formula_of begun.kernel) budget (state_of begun saved) (outcome_of o) decided)
     → IfOk r (λ o. (F : Formula) (plan : Plan) → IsDividing plan F s → budget ≡ cube_budget plan Q → RunsBy plan.search F plan.budget Q (outcome_of o))
 search-runs Q budget decided s begun (Err e) begins runs = tt
 search-runs Q budget decided s begun (Ok o) begins runs = λ F plan d is.
@@ -75,24 +91,28 @@ search-runs Q budget decided s begun (Ok o) begins runs = λ F plan d is.
 
 -- the first search, of the cube without literals
 pub first-stops : (F : Formula) (c : Constants) (t : ℕ) (begun s : FocusedSearch) (stop : Stop) → focused_search.Begins F c [] begun
-    → ((saved : Assignment) → HasSaved begun saved → Stops begun.constants begun.kernel.vars t (state_of begun saved) stop s) → Stops c F.vars t (definition.begin c F []) stop s
-first-stops F c t begun s stop b stops = rw (b.constants, b.ready.vars, b.begun) at (stops (map (λ v. true) (variables F.vars)) b.saves)
+    → ((saved : Assignment) → HasSaved begun saved → Stops begun.constants (formula_of begun.kernel) t (state_of begun saved) stop s) → Stops c F t (definition.begin c F []) stop s
+first-stops F c t begun s stop b stops =
+    let first : Assignment = map (λ v. true) (variables F.vars) in
+    subst (λ x. Stops c F t x stop s) b.begun
+    (subst (λ (G : Formula). Stops c G t (state_of begun first) stop s) (formula-ready ByPlace F begun.kernel b.ready)
+    (subst (λ (d : Constants). Stops d (formula_of begun.kernel) t (state_of begun first) stop s) b.constants (stops first b.saves)))
 
 -- what it comes to is the outcome by the plan, where that doesn't divide the formula
 pub first-runs : (F : Formula) (plan : Plan) (c : Constants) (t budget count : ℕ) (o : Outcome) → plan.search ≡ focused c → min first_conflicts plan.budget ≡ t → budget ≡ cube_budget plan [] → 1 ≤ t
-    → ¬ (IsDivisible F plan) → RunsTo c F.vars t (definition.begin c F []) o count → ((x : ℕ) → o ≢ exhausted x) → Runs F plan [] o
+    → ¬ (IsDivisible F plan) → RunsTo c F t (definition.begin c F []) o count → ((x : ℕ) → o ≢ exhausted x) → Runs F plan [] o
 first-runs F plan c t budget count o search asked is some whole runs own =
     by_search (λ l. whole l.divisible)
     (subst (λ s. RunsBy s F plan.budget [] o) (sym search)
-    (RunsTo-longer c F.vars t (budget_within max_focused plan.budget []) count (definition.begin c F []) o (within-budget plan.budget t asked) some own runs))
+    (RunsTo-longer c F t (budget_within max_focused plan.budget []) count (definition.begin c F []) o (within-budget plan.budget t asked) some own runs))
 
 pub first-goes-on : (F : Formula) (plan : Plan) (c : Constants) (t budget count : ℕ) (s : FocusedSearch) (o : Outcome) → plan.search ≡ focused c → min first_conflicts plan.budget ≡ t → budget ≡ cube_budget plan [] → 1 ≤ t
-    → ¬ (IsDivisible F plan) → Reaches c F.vars t (definition.begin c F []) s → ((saved : Assignment) → HasSaved s saved → RunsTo c F.vars budget (state_of s saved) o count) → Runs F plan [] o
+    → ¬ (IsDivisible F plan) → Reaches c F t (definition.begin c F []) s → ((saved : Assignment) → HasSaved s saved → RunsTo c F budget (state_of s saved) o count) → Runs F plan [] o
 first-goes-on F plan c t budget count s o search asked is some whole reached runs =
     by_search (λ l. whole l.divisible)
     (subst (λ s. RunsBy s F plan.budget [] o) (sym search)
-    (Reaches-longer c F.vars t (budget_within max_focused plan.budget []) count (definition.begin c F []) s o (within-budget plan.budget t asked) some reached
-    (subst (λ n. (saved : Assignment) → HasSaved s saved → RunsTo c F.vars n (state_of s saved) o count) (is ∙ ap (λ x. budget_within (most_conflicts x) plan.budget []) search) runs)))
+    (Reaches-longer c F t (budget_within max_focused plan.budget []) count (definition.begin c F []) s o (within-budget plan.budget t asked) some reached
+    (subst (λ n. (saved : Assignment) → HasSaved s saved → RunsTo c F n (state_of s saved) o count) (is ∙ ap (λ x. budget_within (most_conflicts x) plan.budget []) search) runs)))
 
 -- the search goes on to the next cube
 pub dividing-kept : {X E : Type 0} (r : Result X E) (old s : DividingSearch) (t : FocusedSearch) → ((F : Formula) (plan : Plan) → IsDividing plan F old → IsDividing plan F s) → OnOk r (IsKept s.search t)
@@ -125,5 +145,15 @@ says-ready Q budget s (Err e) cube over runs = tt
 says-ready Q budget s (Ok o) cube over runs = λ F plan d is within.
     let h = d.ready in
     let k = s.search.kernel in
-    let all : All (IsOver F.vars) (first_clauses F) = subst (All (IsOver F.vars)) h.clauses (subst (λ V. All (IsOver V) (take k.first k.clauses)) h.vars (All-take (IsOver k.vars) k.first k.clauses over)) in
-    Runs-says F plan Q (outcome_of o) (IsFormula-searched F all) cube within (runs F plan d is)
+    let all : All (IsOver F.vars) F.clauses = subst (All (IsOver F.vars)) h.clauses (subst (λ V. All (IsOver V) (take k.first k.clauses)) h.vars (All-take (IsOver k.vars) k.first k.clauses over)) in
+    Runs-says F plan Q (outcome_of o) all cube within (runs F plan d is)
+
+-- a search that is opened for a formula is one of the clauses that the plan's search begins with
+pub ready-begun : (F : Formula) (plan : Plan) (s : OrderedSearch) → plan.search ≡ ordered → IsReady ByNumber (searched F) s.kernel → IsReadyBy plan (begun_by plan.search F) (Ordered s)
+ready-begun F plan s it ready = (it, subst (λ (G : Formula). IsReady ByNumber G s.kernel) (sym (begun_by-ordered F plan it)) ready)
+
+pub root-begun : (F : Formula) (plan : Plan) (c : Constants) (root : Root) → plan.search ≡ focused c → IsRootOf (begun_by plan.search F) plan root → IsRootOf F plan root
+root-begun F plan c root it is = subst (λ (G : Formula). IsRootOf G plan root) (begun_by-focused F plan c it) is
+
+pub dividing-begun : (F : Formula) (plan : Plan) (c : Constants) (s : DividingSearch) → plan.search ≡ focused c → IsDividing plan F s → IsDividing plan (begun_by plan.search F) s
+dividing-begun F plan c s it d = subst (λ (G : Formula). IsDividing plan G s) (sym (begun_by-focused F plan c it)) d

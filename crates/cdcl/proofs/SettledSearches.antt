@@ -25,10 +25,13 @@ use Rattle.cdcl.specs.declared.decisions.Decisions.{Decisions}
 use Rattle.cdcl.specs.Forgetful.{IsPlain}
 use Rattle.cdcl.specs.Removing.{HasRoomFor}
 use Rattle.cdcl.specs.Saving.{AreWaiting}
+use Rattle.cdcl.specs.Searching.{formula_of, GoesOn}
 use Rattle.cdcl.specs.Units.{unit_marks, IsSettling}
 use Rattle.cdcl.specs.Focusing.{state_of, IsEquipped, IsFocusing, HasUnits, IsSettled}
 use Rattle.cdcl.proofs.FocusedLemmas.{AllPlain-push}
+use Rattle.cdcl.proofs.SearchedFormulas.{formula-stays}
 use Rattle.cdcl.proofs.UnitSteps.{settling-last}
+use Rattle.cdcl.proofs.WaitingLemmas.{holds-still}
 
 -- a cube's literals have no reasons
 pub AreUnits-cube : (K : List Clause) (Q : List Literal) → AreUnits K (up_to (cube_trail Q) 0)
@@ -138,6 +141,15 @@ module _ (s t : FocusedSearch) (place : ℕ) (f : IsFocusing s) (level : current
       ∙ (ap (with_units_of (state_of s saved)) is
       ∙ sym (ap (λ b. if b then with_units_of (state_of s saved) u else state_of s saved) (eq-eqb (current_level s.kernel.trail) 0 level)))))
 
+  goes : GoesOn s.kernel t.kernel
+  goes = (
+    vars-is,
+    first-is,
+    ap (take s.kernel.first) clauses-is ∙ take-append-le s.kernel.first s.kernel.clauses (clauses_of i.lines) f.searching.within,
+    ap (λ (k : State). k.short) i.more.kernel ∙ f.searching.has_memory,
+    ap (λ (k : State). k.order) i.more.kernel,
+  )
+
   equipped : IsEquipped t
   equipped = record {
     waiting = rw (vars-is, literals-is) (subst (λ (d : Decisions). AreWaiting s.kernel.vars (literals s.kernel.trail) d) (sym (stays (λ x. x.decisions))) f.equipped.waiting);
@@ -146,6 +158,7 @@ module _ (s t : FocusedSearch) (place : ℕ) (f : IsFocusing s) (level : current
     removing = rw vars-is (subst (λ a. HasRoomFor s.kernel.vars a) (sym (stays (λ x. x.analysis.removing))) f.equipped.removing);
     scored = stays (λ x. x.decisions.scores.constants) ∙ (f.equipped.scored ∙ sym (stays (λ x. x.constants)));
     averaged = stays (λ x. x.averages.constants) ∙ (f.equipped.averaged ∙ sym (stays (λ x. x.constants)));
+    held = holds-still (formula_of s.kernel) (formula_of t.kernel) s.decisions t.decisions (formula-stays s.kernel t.kernel goes) (stays (λ x. x.decisions.held)) f.equipped.held;
   }
 
   settled-focusing : IsFocusing t
@@ -176,13 +189,7 @@ module _ (s t : FocusedSearch) (place : ℕ) (f : IsFocusing s) (level : current
     focusing = settled-focusing;
     units = subst (AreUnits t.kernel.clauses) (sym (ap (up_to t.kernel.trail) (sym none-above) ∙ up_to-current t.kernel.clauses t.kernel.trail lawful)) (of-units (λ w. AreUnits w.clauses w.trail) all-units);
     continues = record {
-      goes_on = (
-        vars-is,
-        first-is,
-        ap (take s.kernel.first) clauses-is ∙ take-append-le s.kernel.first s.kernel.clauses (clauses_of i.lines) f.searching.within,
-        settled-focusing.searching.has_memory,
-        ap (λ (k : State). k.order) i.more.kernel,
-      );
+      goes_on = goes;
       constants = stays (λ x. x.constants);
       equipped = equipped;
     };

@@ -2,7 +2,7 @@
 use Rattle.std.proofs.Common.{◌≡◌, ℕ, ◌<◌, ◌≤◌, length, take, ap, Some, None, ◌∙◌, refl, arith}
 use Rattle.std.proofs.lemmas.List.{length-take}
 use Rattle.theory.specs.Trails.{literals}
-use Rattle.theory.specs.Search.{RunsFrom, stops, steps, first_clauses}
+use Rattle.theory.specs.Search.{RunsFrom, stops, steps}
 use Rattle.theory.specs.Search as search
 use Rattle.theory.specs.Ordered.{OrderedState, IsOrderedStep}
 use Rattle.theory.specs.Lawful.{IsLawful}

@@ -1,21 +1,24 @@
 -- Which variables wait, and which values are saved, as entries are taken off the trail.
-use Rattle.std.proofs.Common.{◌≡◌, ℕ, suc, zero, ◌+◌, ◌-◌, ◌<◌, ◌≤◌, Bool, true, false, ◌||◌, List, [], ◌∷◌, length, take, get_or, slice_get, slice_set, refl, ap, sym, subst, ◌∙◌, nat_eq, eqb-true, eq-eqb, Some, None, Option, unwrap_or, option_map, arith, inl, inr, if◌then◌else◌, cond, ◌⊎◌, count_by, All, filter, nat_le}
+use Rattle.std.proofs.Common.{◌≡◌, ℕ, suc, zero, ◌+◌, ◌-◌, ◌<◌, ◌≤◌, Bool, true, false, ◌||◌, List, [], ◌∷◌, length, take, get_or, slice_get, slice_set, refl, ap, sym, subst, ◌∙◌, nat_eq, eqb-true, eq-eqb, Some, None, Option, unwrap_or, option_map, arith, inl, inr, if◌then◌else◌, cond, ◌⊎◌, count_by, All, filter, map, not, ◌&&◌, ◌++◌, ap₂, nat_le}
 use Rattle.std.proofs.Math.Seq.{take-length}
 use Rattle.std.proofs.lemmas.Bool.{cases_eq}
 use Rattle.std.proofs.lemmas.List.Sums.{sum_by-set}
-use Rattle.std.proofs.lemmas.List.Elements.{All-nil, All-cons, All-head, All-tail, All-push, All-weaker}
+use Rattle.std.proofs.lemmas.List.Elements.{filter-append, All-nil, All-cons, All-head, All-tail, All-push, All-weaker}
 use Rattle.theory.proofs.literals.OverVariables.{AreOver-from_IsOver}
 use Rattle.std.proofs.lemmas.List.{get_or-set_same, get_or-set_other, length-set}
 use Rattle.theory.specs.Literals.{Literal, Clause, IsVariable, has, has_var, positive}
-use Rattle.theory.specs.Truth.{Assignment, IsOver, value}
-use Rattle.theory.specs.Scores.{Scores, score_of, better, best_of}
+use Rattle.theory.specs.Truth.{Formula, Assignment, IsOver, value}
+use Rattle.theory.specs.Held.{is_held, held}
+use Rattle.theory.specs.Scores.{Scores, score_of, better, best_of, best_outside}
 use Rattle.theory.specs.Trails.{Trail, Entry, literals, entry_of, variables}
 use Rattle.theory.specs.Lawful.{IsLawful}
 use Rattle.theory.specs.Focused.{saved_after}
-use Rattle.theory.proofs.literals.LiteralSets.{true_false, false_unless, has_var-has, or-none}
+use Rattle.theory.proofs.literals.LiteralSets.{true_false, and-true, false_unless, has_var-has, or-none}
+use Rattle.theory.proofs.searching.BestVariables.{best_outside-some}
+use Rattle.theory.proofs.searching.HeldVariables.{held-variable}
 use Rattle.theory.proofs.searching.MappedVariables.{at-variable}
 use Rattle.heuristics.specs.Rankings.{Ranking, vars_of, waits, with_waiting, best_waiting}
-use Rattle.cdcl.specs.Saving.{AgreeOutside, AreWaiting}
+use Rattle.cdcl.specs.Saving.{AgreeOutside, AreWaiting, HoldsAsIn}
 use Rattle.cdcl.specs.declared.decisions.Decisions.{Decisions}
 use Rattle.cdcl.proofs.PlaceLemmas.{placed-there, placed-is, place-below, entry_of-placed}
 use Rattle.cdcl.proofs.TrailFronts.{has_var-last}
@@ -49,35 +52,42 @@ waits-same r v b inside = get_or-set_same r.waiting (v - 1) b false inside
 pub waits-other : (r : Ranking) (v w : ℕ) (b : Bool) → 1 ≤ v → 1 ≤ w → (w ≡ v → ⊥) → waits (with_waiting r v b) w ≡ waits r w
 waits-other r v w b one two other = get_or-set_other r.waiting (v - 1) (w - 1) b false (λ e. other (omega (arith, e)))
 
--- one that isn't free may be taken out
-pub AreWaiting-out : (V : ℕ) (P : List Literal) (d e : Decisions) (x : ℕ) → AreWaiting V P d → IsVariable V x → has_var P x ≡ true → e.scores ≡ with_waiting d.scores x false → e.saved ≡ d.saved → AreWaiting V P e
-AreWaiting-out V P d e x h variable there out saved = record {
+-- one that isn't held, or isn't free, may be taken out
+pub AreWaiting-out : (V : ℕ) (P : List Literal) (d e : Decisions) (x : ℕ) → AreWaiting V P d → IsVariable V x → (value d.held.items x && not (has_var P x)) ≡ false → e.scores ≡ with_waiting d.scores x false → e.saved ≡ d.saved
+    → e.held ≡ d.held → AreWaiting V P e
+AreWaiting-out V P d e x h variable other out saved same = record {
   vars = rw out h.vars;
   long = rw out (length-set d.scores.waiting (x - 1) false ∙ h.long);
   saved = rw saved h.saved;
-  waits = λ v k free. rw out (waits-other d.scores x v false variable.0 k.0 (λ q. true_false (has_var P x) there (subst (λ w. has_var P w ≡ false) q free)) ∙ h.waits v (rw out at k) free);
+  flags = rw same h.flags;
+  waits = λ v k t free. rw out (waits-other d.scores x v false variable.0 k.0 (kept v (rw same at t) free) ∙ h.waits v (rw out at k) (rw same at t) free);
 }
+  where
+    kept : (v : ℕ) → value d.held.items v ≡ true → has_var P v ≡ false → v ≡ x → ⊥
+    kept v t free q = true_false (value d.held.items x && not (has_var P x))
+        (and-true (value d.held.items x) (not (has_var P x)) (ap (value d.held.items) (sym q) ∙ t) (ap not (ap (has_var P) (sym q) ∙ free))) other
 
 -- the variable of the last entry waits, and its value is saved
 pub AreWaiting-free : (V : ℕ) (T : Trail) (n : ℕ) (d e : Decisions) (f : Entry) → n < length T → f ≡ get_or T n f → IsVariable V f.lit.var → AreWaiting V (literals (take (n + 1) T)) d
-    → e.scores ≡ with_waiting d.scores f.lit.var true → length e.saved ≡ length d.saved → AreWaiting V (literals (take n T)) e
-AreWaiting-free V T n d e f inside is variable h put saved = record {
+    → e.scores ≡ with_waiting d.scores f.lit.var true → length e.saved ≡ length d.saved → e.held ≡ d.held → AreWaiting V (literals (take n T)) e
+AreWaiting-free V T n d e f inside is variable h put saved same = record {
   vars = rw put h.vars;
   long = rw put (length-set d.scores.waiting (f.lit.var - 1) true ∙ h.long);
   saved = saved ∙ h.saved;
-  waits = λ v k free. rw put (waiting v (rw put at k) free (cases_eq v f.lit.var));
+  flags = rw same h.flags;
+  waits = λ v k t free. rw put (waiting v (rw put at k) (rw same at t) free (cases_eq v f.lit.var));
 }
   where
-    waiting : (v : ℕ) → IsVariable (vars_of d.scores) v → has_var (literals (take n T)) v ≡ false → (v ≡ f.lit.var) ⊎ (v ≡ f.lit.var → ⊥) → waits (with_waiting d.scores f.lit.var true) v ≡ true
-    waiting v k free (inl same) =
+    waiting : (v : ℕ) → IsVariable (vars_of d.scores) v → value d.held.items v ≡ true → has_var (literals (take n T)) v ≡ false → (v ≡ f.lit.var) ⊎ (v ≡ f.lit.var → ⊥) → waits (with_waiting d.scores f.lit.var true) v ≡ true
+    waiting v k t free (inl e) =
         let long = h.long in
         let low = variable.0 in
         let high = variable.1 in
-        ap (waits (with_waiting d.scores f.lit.var true)) same ∙ waits-same d.scores f.lit.var true (omega (arith, long, low, high))
-    waiting v k free (inr other) =
+        ap (waits (with_waiting d.scores f.lit.var true)) e ∙ waits-same d.scores f.lit.var true (omega (arith, long, low, high))
+    waiting v k t free (inr other) =
         waits-other d.scores f.lit.var v true variable.0 k.0 other
-        ∙ h.waits v k (has_var-last T n v f inside ∙ or-none (has_var (literals (take n T)) v) (nat_eq v (get_or T n f).lit.var) free
-        (false_unless (nat_eq v (get_or T n f).lit.var) (λ t. other (eqb-true v (get_or T n f).lit.var t ∙ ap (λ (x : Entry). x.lit.var) (sym is)))))
+        ∙ h.waits v k t (has_var-last T n v f inside ∙ or-none (has_var (literals (take n T)) v) (nat_eq v (get_or T n f).lit.var) free
+        (false_unless (nat_eq v (get_or T n f).lit.var) (λ u. other (eqb-true v (get_or T n f).lit.var u ∙ ap (λ (x : Entry). x.lit.var) (sym is)))))
 
 pub AgreeOutside-free : (V : ℕ) (K : List Clause) (T : Trail) (n : ℕ) (S R M : Assignment) (f : Entry) → IsLawful K T → n < length T → f ≡ get_or T n f → IsVariable V f.lit.var → length S ≡ V
     → R ≡ slice_set S (f.lit.var - 1) f.lit.positive → AgreeOutside V (literals (take (n + 1) T)) S (saved_after V T M) → AgreeOutside V (literals (take n T)) R (saved_after V T M)
@@ -155,6 +165,25 @@ pub best-waits : (r : Ranking) (x : ℕ) → best_waiting r ≡ Some x → IsVar
 best-waits r x e =
     best-in (λ v. IsVariable (vars_of r) v × (waits r v ≡ true)) r.scores (filter (waits r) (variables (vars_of r))) x
     (All-passing (IsVariable (vars_of r)) (waits r) (variables (vars_of r)) (All-variables (vars_of r))) e
+
+-- the flags choose the variables that are held
+pub filter-variables : (p q : ℕ → Bool) (V : ℕ) → ((v : ℕ) → IsVariable V v → p v ≡ q v) → filter p (variables V) ≡ filter q (variables V)
+filter-variables p q zero h = refl
+filter-variables p q (suc V) h =
+    filter-append p (variables V) (suc V ∷ [])
+    ∙ (ap₂ (λ (xs : List ℕ) b. xs ++ cond b (suc V ∷ []) []) (filter-variables p q V (λ v k. h v (k.0, let high = k.1 in omega arith))) (h (suc V) (omega arith, omega arith))
+    ∙ sym (filter-append q (variables V) (suc V ∷ [])))
+
+pub chosen-held : (F : Formula) (flags : List Bool) → HoldsAsIn F flags → filter (value flags) (variables F.vars) ≡ held F
+chosen-held F flags h = filter-variables (value flags) (is_held F.clauses) F.vars (λ v k. ap (λ (xs : List Bool). value xs v) h ∙ at-variable (is_held F.clauses) F.vars v false k)
+
+-- they are so still for the same formula
+pub holds-still : (F G : Formula) (d e : Decisions) → G ≡ F → e.held ≡ d.held → HoldsAsIn F d.held.items → HoldsAsIn G e.held.items
+holds-still F G d e same held h = ap (λ x. x.items) held ∙ (h ∙ ap (λ (X : Formula). map (is_held X.clauses) (variables X.vars)) (sym same))
+
+-- the best one of those that are held is a variable that is free
+pub best-held : (F : Formula) (P : List Literal) (s : Scores) (x : ℕ) → best_outside (held F) P s ≡ Some x → IsVariable F.vars x × (has_var P x ≡ false)
+best-held F P s x e = let h = best_outside-some (held F) P s x e in (held-variable F x h.0, h.1)
 
 -- the variable of an entry
 pub entry-variable : (V : ℕ) (T : Trail) (n : ℕ) (e : Entry) → IsOver V (literals T) → n < length T → e ≡ get_or T n e → IsVariable V e.lit.var

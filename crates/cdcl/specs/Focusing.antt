@@ -28,8 +28,8 @@ use Rattle.cdcl.specs.declared.focused.Stop.TheVariants.{Ended, Spent}
 use Rattle.cdcl.specs.Forgetful.{IsPlain, late_numbers}
 use Rattle.cdcl.specs.Removing.{HasRoomFor}
 use Rattle.cdcl.specs.Outcome.{LinesOutcome, outcome_of}
-use Rattle.cdcl.specs.Saving.{AgreeOutside, AreWaiting}
-use Rattle.cdcl.specs.Searching.{IsReady, IsSearching, GoesOn}
+use Rattle.cdcl.specs.Saving.{AgreeOutside, AreWaiting, HoldsAsIn}
+use Rattle.cdcl.specs.Searching.{formula_of, IsReady, IsSearching, GoesOn}
 
 -- the state with these saved values
 abbrev pub state_of : FocusedSearch → Assignment → FocusedState
@@ -66,6 +66,7 @@ pub record IsEquipped (s : FocusedSearch) : Type 0 where
   pub removing : HasRoomFor s.kernel.vars s.analysis.removing
   pub scored : s.decisions.scores.constants ≡ s.constants
   pub averaged : s.averages.constants ≡ s.constants
+  pub held : HoldsAsIn (formula_of s.kernel) s.decisions.held.items
 
 -- what it keeps from step to step: between two conflicts fewer than 2 ^ 27 literals are decided, each
 -- of which is on the trail
@@ -107,6 +108,7 @@ pub record Weighs (old : FocusedSearch) (glue : ℕ) (back : Bool) (new : Focuse
   pub scores : new.decisions.scores ≡ after_conflict old.decisions.scores old.pace.mode old.analysis.seen.numbers
   pub kept : rankings.IsKept old.decisions.scores new.decisions.scores
   pub saved : new.decisions.saved ≡ old.decisions.saved
+  pub held : new.decisions.held ≡ old.decisions.held
   pub conflicts : new.conflicts ≡ old.conflicts + 1
   pub stable : new.stable_conflicts ≡ stable_at old
   pub averages : new.averages ≡ with_next old.averages old.pace.mode glue
@@ -130,6 +132,7 @@ pub record EndsRound (old : FocusedSearch) (forgets : List ℕ) (new : FocusedSe
   pub marks : new.marks.items ≡ unused old.marks.items
   pub scores : new.decisions.scores ≡ old.decisions.scores
   pub saved : new.decisions.saved ≡ rephased old.round.number old.decisions.saved
+  pub held : new.decisions.held ≡ old.decisions.held
   pub round : new.round ≡ next_turn old.constants old.conflicts old.round
   pub pace : new.pace ≡ pace_after old.conflicts old.pace
   -- all else stays
@@ -183,7 +186,7 @@ pub record Learns (old : FocusedSearch) (saved : Assignment) (n : ℕ) (new : Fo
 -- what follows where a step stopped the search, or left the state with these saved values
 abbrev pub next_of : Option Stop → FocusedSearch → Assignment → Next FocusedState
 next_of (Some (Ended o)) s saved = ends (outcome_of o)
-next_of (Some Spent) s saved = ends (exhausted (splits_on s.kernel.vars (state_of s saved)))
+next_of (Some Spent) s saved = ends (exhausted (splits_on (formula_of s.kernel) (state_of s saved)))
 next_of None s saved = goes_on (state_of s saved)
 
 -- what is so where it goes on: one more conflict is counted, or the trail is longer
@@ -201,8 +204,8 @@ pub record IsSpent (last : ℕ) (s : FocusedSearch) : Type 0 where
   pub counted : s.conflicts + 1 ≡ last
 
 -- each step from the state t is one from the state s, whatever the last conflict is
-abbrev pub StepsAs : Constants → ℕ → FocusedState → FocusedState → Type 0
-StepsAs c V s t = (last : ℕ) (next : Next FocusedState) → IsFocusedStep c V last t next → IsFocusedStep c V last s next
+abbrev pub StepsAs : Constants → Formula → FocusedState → FocusedState → Type 0
+StepsAs c F s t = (last : ℕ) (next : Next FocusedState) → IsFocusedStep c F last t next → IsFocusedStep c F last s next
 
 -- what holds behind an answer of propagation
 abbrev pub Answers : Closed → FocusedSearch → Type 0
@@ -221,7 +224,7 @@ pub record Closes (old : FocusedSearch) (a : Closed) (new : FocusedSearch) : Typ
   pub saves : (saved : Assignment) → HasSaved old saved → HasSaved new saved
   pub longer : length old.kernel.trail ≤ length new.kernel.trail
   -- above level 0 it may go on from there as from the state before
-  pub resumes : 1 ≤ current_level new.kernel.trail → (saved : Assignment) → StepsAs old.constants old.kernel.vars (state_of old saved) (state_of new saved)
+  pub resumes : 1 ≤ current_level new.kernel.trail → (saved : Assignment) → StepsAs old.constants (formula_of old.kernel) (state_of old saved) (state_of new saved)
 
 -- what is so where it stopped there: it may go on as from the state before
 pub record StopsAt (last : ℕ) (old : FocusedSearch) (saved : Assignment) (new : FocusedSearch) (values : Assignment) : Type 0 where
@@ -229,7 +232,7 @@ pub record StopsAt (last : ℕ) (old : FocusedSearch) (saved : Assignment) (new 
   pub saves : HasSaved new values
   pub decided : new.decided ≡ old.decided
   pub stable : stable_at new ≡ stable_at old
-  pub resumes : StepsAs old.constants old.kernel.vars (state_of old saved) (state_of new values)
+  pub resumes : StepsAs old.constants (formula_of old.kernel) (state_of old saved) (state_of new values)
 
 -- an outcome that a search comes to by itself
 abbrev pub IsOwn : LinesOutcome → Type 0
@@ -244,37 +247,37 @@ Onward last old saved None new values = GoesOnward last old new values
 -- what follows an answer of propagation, where the definition has these saved values
 pub record Follows (last : ℕ) (a : Closed) (old : FocusedSearch) (saved : Assignment) (r : Option Stop) (new : FocusedSearch) : Type 0 where
   pub values : Assignment
-  pub next : definition.after old.constants old.kernel.vars last (state_of old saved) a ≡ next_of r new values
+  pub next : definition.after old.constants (formula_of old.kernel) last (state_of old saved) a ≡ next_of r new values
   pub onward : Onward last old saved r new values
 
 -- a step of the definition
 pub record IsFocusedSearchStep (last : ℕ) (old : FocusedSearch) (saved : Assignment) (r : Option Stop) (new : FocusedSearch) : Type 0 where
   pub values : Assignment
-  pub step : IsFocusedStep old.constants old.kernel.vars last (state_of old saved) (next_of r new values)
+  pub step : IsFocusedStep old.constants (formula_of old.kernel) last (state_of old saved) (next_of r new values)
   pub onward : Onward last old saved r new values
 
 -- a search goes from the state s on to this outcome, with so many decisions at its end
-pub record RunsTo (c : Constants) (V budget : ℕ) (s : FocusedState) (o : Outcome) (count : ℕ) : Type 0 where
+pub record RunsTo (c : Constants) (F : Formula) (budget : ℕ) (s : FocusedState) (o : Outcome) (count : ℕ) : Type 0 where
   pub final : FocusedState
-  pub leads : LeadsTo (IsFocusedStep c V budget) s final
-  pub last : IsFocusedStep c V budget final (ends o)
+  pub leads : LeadsTo (IsFocusedStep c F budget) s final
+  pub last : IsFocusedStep c F budget final (ends o)
   pub decided : final.decisions ≡ count
 
 -- a search goes from the state s on to its last conflict
-pub record Reaches (c : Constants) (V last : ℕ) (s : FocusedState) (new : FocusedSearch) : Type 0 where
+pub record Reaches (c : Constants) (F : Formula) (last : ℕ) (s : FocusedState) (new : FocusedSearch) : Type 0 where
   pub final : FocusedState
   pub values : Assignment
-  pub leads : LeadsTo (IsFocusedStep c V last) s final
-  pub ends_there : IsFocusedStep c V last final (ends (exhausted (splits_on V (state_of new values))))
+  pub leads : LeadsTo (IsFocusedStep c F last) s final
+  pub ends_there : IsFocusedStep c F last final (ends (exhausted (splits_on F (state_of new values))))
   pub saves : HasSaved new values
   pub decided : final.decisions ≡ new.decided
   pub stable : final.stable_conflicts + if_stable final ≡ stable_at new
-  pub resumes : StepsAs c V final (state_of new values)
+  pub resumes : StepsAs c F final (state_of new values)
 
 -- it stops so
-abbrev pub Stops : Constants → ℕ → ℕ → FocusedState → Stop → FocusedSearch → Type 0
-Stops c V last s (Ended o) new = RunsTo c V last s (outcome_of o) new.decided × IsOwn o
-Stops c V last s Spent new = Reaches c V last s new
+abbrev pub Stops : Constants → Formula → ℕ → FocusedState → Stop → FocusedSearch → Type 0
+Stops c F last s (Ended o) new = RunsTo c F last s (outcome_of o) new.decided × IsOwn o
+Stops c F last s Spent new = Reaches c F last s new
 
 -- the search of the formula's cube Q begins
 pub record Begins (F : Formula) (c : Constants) (Q : List Literal) (s : FocusedSearch) : Type 0 where

@@ -6,7 +6,7 @@ use Rattle.theory.specs.Reading.{large, max_vars}
 use Rattle.theory.specs.Trails.{literals}
 use Rattle.theory.specs.Lawful.{IsLawful}
 use Rattle.theory.specs.Learnable.{IsOpenBelow}
-use Rattle.theory.specs.Search.{Next, ends, goes_on, first_clauses}
+use Rattle.theory.specs.Search.{Next, ends, goes_on}
 use Rattle.theory.specs.Ordered.{OrderedState, IsOrderedStep, begin}
 use Rattle.kernel.specs.State.{State}
 use Rattle.kernel.specs.declared.order.Order.{Order}
@@ -17,14 +17,18 @@ use Rattle.cdcl.specs.Outcome.{LinesOutcome, outcome_of}
 abbrev pub search_of : OrderedSearch → OrderedState
 search_of s = record { clauses = s.kernel.clauses; trail = s.kernel.trail; conflicts = s.conflicts; decided = s.decided; lines = s.lines }
 
+-- the formula of a kernel's first clauses
+abbrev pub formula_of : State → Formula
+formula_of k = record { vars = k.vars; clauses = take k.first k.clauses }
+
 -- the kernel, which propagates in this order, may go over to a cube of the formula
 pub record IsReady (order : Order) (F : Formula) (k : State) : Type 0 where
   pub has_memory : k.short ≡ false
   pub in_order : k.order ≡ order
   pub vars : k.vars ≡ F.vars
   pub few : F.vars ≤ max_vars large
-  pub first : k.first ≡ length (first_clauses F)
-  pub clauses : take k.first k.clauses ≡ first_clauses F
+  pub first : k.first ≡ length F.clauses
+  pub clauses : take k.first k.clauses ≡ F.clauses
 
 -- what a search keeps of its kernel from step to step
 pub record IsSearching (order : Order) (k : State) : Type 0 where

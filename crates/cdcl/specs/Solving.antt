@@ -2,7 +2,7 @@
 use Rattle.std.specs.Prelude.{◌≡◌, ℕ, ◌*◌, ◌<◌, ◌≤◌, Bool, [], min}
 use Rattle.theory.specs.Truth.{Formula}
 use Rattle.theory.specs.Plans.{Constants, ordered, focused, Plan}
-use Rattle.theory.specs.Search.{exhausted, first_clauses, max_focused}
+use Rattle.theory.specs.Search.{exhausted, max_focused}
 use Rattle.theory.specs.Focused.{begin}
 use Rattle.theory.specs.Dividing.{first_conflicts, IsDivisible}
 use Rattle.theory.specs.Runs.{Runs}
@@ -22,8 +22,8 @@ use Rattle.cdcl.specs.Searching.{IsReady}
 use Rattle.cdcl.specs.Outcome.{outcome_of}
 use Rattle.cdcl.specs.Focusing.{IsEquipped, RunsTo, IsOwn, Reaches, stable_at}
 
--- what a solver is seen as: which formula it solves cubes of, by which plan, and whether it has met
--- want of memory
+-- what a solver is seen as: which formula it solves cubes of, as its search begins with it, by which
+-- plan, and whether it has met want of memory
 pub record Solving : Type 0 where
   pub formula : Formula
   pub plan : Plan
@@ -37,13 +37,13 @@ IsSolverOf F plan s = (s.formula ≡ F) × (s.plan ≡ plan)
 abbrev pub IsDivisionOf : Formula → Plan → Division → Type 0
 IsDivisionOf F plan Unasked = Unit {0}
 IsDivisionOf F plan Whole = ¬ (IsDivisible F plan)
-IsDivisionOf F plan (Divided ranking) = IsDivisible F plan × IsRanking F.vars (first_clauses F) ranking
+IsDivisionOf F plan (Divided ranking) = IsDivisible F plan × IsRanking F.vars F.clauses ranking
 
 -- and it is known
 abbrev pub IsKnown : Formula → Plan → Division → Type 0
 IsKnown F plan Unasked = ⊥
 IsKnown F plan Whole = ¬ (IsDivisible F plan)
-IsKnown F plan (Divided ranking) = IsDivisible F plan × IsRanking F.vars (first_clauses F) ranking
+IsKnown F plan (Divided ranking) = IsDivisible F plan × IsRanking F.vars F.clauses ranking
 
 -- what is known of a formula's cube without literals is true
 abbrev pub IsRootOf : Formula → Plan → Root → Type 0
@@ -54,9 +54,9 @@ IsRootOf F plan (LookedAt x) = IsDivisible F plan × Runs F plan [] (exhausted x
 -- the first search has come to this, up to its conflict number t: an outcome, or the conflict, with
 -- fewer than five decisions for four conflicts of stable mode, or with more
 abbrev pub FirstSays : Constants → Formula → ℕ → First → FocusedSearch → Type 0
-FirstSays c F t (Ended o) s = RunsTo c F.vars t (begin c F []) (outcome_of o) s.decided × IsOwn o
-FirstSays c F t FewDecisions s = Reaches c F.vars t (begin c F []) s × (4 * s.decided < 5 * stable_at s)
-FirstSays c F t ManyDecisions s = Reaches c F.vars t (begin c F []) s × ¬ (4 * s.decided < 5 * stable_at s)
+FirstSays c F t (Ended o) s = RunsTo c F t (begin c F []) (outcome_of o) s.decided × IsOwn o
+FirstSays c F t FewDecisions s = Reaches c F t (begin c F []) s × (4 * s.decided < 5 * stable_at s)
+FirstSays c F t ManyDecisions s = Reaches c F t (begin c F []) s × ¬ (4 * s.decided < 5 * stable_at s)
 
 -- the search goes by the plan, and may go over to a cube of the formula
 pub record IsDividing (plan : Plan) (F : Formula) (s : DividingSearch) : Type 0 where

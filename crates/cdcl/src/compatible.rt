@@ -2,6 +2,7 @@
 //! with each line of a refuted cube in memory of its own.
 ghost use Rattle.std.specs.Prelude.{◌≡◌, ◌≤◌, IfOk, Some};
 ghost use Rattle.theory.specs.Truth.{IsOver};
+ghost use Rattle.theory.specs.Pure.{searched};
 ghost use Rattle.theory.specs.Trails.{literals};
 ghost use Rattle.theory.specs.Propagation.{least_false};
 ghost use Rattle.theory.specs.Learning.{learn, back_level};
@@ -25,7 +26,8 @@ use std::marker::Model;
 
 /// A learnt clause without the cube's literals, by rising variable, the numbers of the clauses that
 /// it was resolved from, and of those that are forgotten behind it. Behind the formula's clauses
-/// come the unit clauses of its pure literals; the numbers above these count the cube's own lines.
+/// come, with the ordered search, the unit clauses of its pure literals; the numbers above these
+/// count the cube's own lines.
 #[derive(Drop)]
 pub struct Line {
     clause: Vec<Lit>,
@@ -111,8 +113,9 @@ impl KeepsLines for Refutation {
     }
 }
 
-/// The outcome of one cube over the formula's variables, by the ordered search, where the root has a
-/// budget of 1 to 100,000 conflicts, and the cube one by its literals. It takes time and memory by
+/// The outcome of one cube over the formula's variables, by the ordered search of the formula with the
+/// unit clauses of its pure variables, where the root has a budget of 1 to 100,000 conflicts, and the
+/// cube one by its literals. It takes time and memory by
 /// the formula too: who has many cubes keeps a `Solver`. An error comes only where memory was
 /// refused.
 pub fn solve_cube(
@@ -123,8 +126,8 @@ pub fn solve_cube(
 ) -> Result<Outcome, AllocError>
     requires budget { (1 ≤ budget) × (budget ≤ 100000) }
     requires over { IsOver formula.now.vars cube.now }
-    ensures runs { IfOk result (λ o. Runs formula.now (ordered_within budget) cube.now (outcome_of o)) }
-    ensures says { IfOk result (λ o. OutcomeSays ordered formula.now cube.now (outcome_of o)) }
+    ensures runs { IfOk result (λ o. Runs (searched formula.now) (ordered_within budget) cube.now (outcome_of o)) }
+    ensures says { IfOk result (λ o. OutcomeSays ordered (searched formula.now) cube.now (outcome_of o)) }
 {
     let mut solver = Solver::open(alloc, formula, Plan::ordered(budget))?;
     let outcome = solver.solve(cube)?.kept(alloc)?;

@@ -1,26 +1,31 @@
 //! Which variable the focused search decides, and with which value.
-ghost use Rattle.std.specs.Prelude.{◌≡◌, ◌≤◌, ◌<◌, ◌-◌, ◌^◌, ℕ, true, false, [], IfOk, OnOk, length, take, slice_set, slice_index_or, map};
-ghost use Rattle.theory.specs.Literals.{IsVariable};
+ghost use Rattle.std.specs.Prelude.{◌≡◌, ◌≤◌, ◌<◌, ◌-◌, ◌^◌, ◌&&◌, not, ℕ, true, false, [], IfOk, OnOk, length, take, slice_set, slice_index_or, map};
+ghost use Rattle.theory.specs.Literals.{IsVariable, has_var};
 ghost use Rattle.theory.specs.Truth.{value};
 ghost use Rattle.theory.specs.Trails.{literals, up_to};
+ghost use Rattle.theory.specs.Held.{held};
 ghost use Rattle.theory.specs.Scores.{best_outside, first_scores};
 ghost use Rattle.theory.specs.Focused.{saved_after, saved_literal};
 ghost use Rattle.heuristics.specs.Changes.{changed};
 ghost use Rattle.heuristics.specs.Rankings.{first_ranking, vars_of, with_waiting};
-ghost use Rattle.cdcl.specs.Saving.{AgreeOutside, AreWaiting, AreKept};
+ghost use Rattle.cdcl.specs.Searching.{formula_of};
+ghost use Rattle.cdcl.specs.Saving.{AgreeOutside, AreWaiting, AreKept, HoldsAsIn};
 
 use crate::saved::Saved;
 use cnf::Lit;
 use heuristics::{Change, Constants, Scores};
 use kernel::{Entry, SearchKernel};
+use lookahead::held;
 use std::alloc::{AllocError, Global};
 
 /// By what variables are decided.
 pub(crate) struct Decisions {
-    /// The scores of the variables. Each free one waits, and maybe some that stand on the trail.
+    /// The scores of the variables. Each held one that is free waits, and maybe some others.
     pub(crate) scores: Scores,
     /// The value of each variable when it left the trail last.
     pub(crate) saved: Saved,
+    /// Whether the formula's clauses hold each variable; no other one is decided.
+    pub(crate) held: Vec<bool>,
 }
 
 // written out, so that proofs of its owners stay short (docs/PROVING.md)
@@ -29,6 +34,7 @@ impl Drop for Decisions {
         let Decisions {
             scores: _,
             saved: _,
+            held: _,
         } = self;
     }
 }
@@ -51,35 +57,59 @@ pub(crate) fn count_up_to(kernel: &SearchKernel, level: u32) -> usize
 }
 
 impl Decisions {
-    /// The decisions among the variables 1 to `vars`, before the first cube.
+    /// The decisions among the variables of a kernel that its first clauses hold, before the first
+    /// cube.
     pub(crate) fn open(
         alloc: Global,
-        vars: u32,
+        kernel: &SearchKernel,
         constants: Constants,
     ) -> Result<Decisions, AllocError>
-        ensures waiting { IfOk result (λ d. AreWaiting vars [] d) }
-        ensures scores { IfOk result (λ d. d.scores ≡ first_ranking constants vars) }
+        requires { kernel.now.vars < 2 ^ 31 }
+        ensures waiting { IfOk result (λ d. AreWaiting kernel.now.vars [] d) }
+        ensures scores { IfOk result (λ d. d.scores ≡ first_ranking constants kernel.now.vars) }
+        ensures held { IfOk result (λ d. HoldsAsIn (formula_of kernel.now) d.held.items) }
     {
         Ok(Decisions {
-            scores: Scores::open(alloc, vars, constants)?,
-            saved: Saved::with_room(alloc, vars)?,
+            scores: Scores::open(alloc, kernel.vars(), constants)?,
+            saved: Saved::with_room(alloc, kernel.vars())?,
+            held: held(alloc, kernel)?,
         })
     }
 
-    /// The free variable of greatest score, of several the greatest. Those that stand on the trail
-    /// don't wait any more, once they are met.
+    /// Whether a clause of the formula holds the variable.
+    fn holds(&self, var: u32) -> bool
+        requires { IsVariable (length self.now.held.items) var }
+        ensures { result ≡ value self.now.held.items var }
+    {
+        self.held[var as usize - 1]
+    }
+
+    /// Whether the variable may be decided: a clause holds it, and it is free.
+    fn may_decide(&self, kernel: &SearchKernel, var: u32) -> bool
+        requires { IsVariable (length self.now.held.items) var }
+        ensures { result ≡ (value self.now.held.items var && not (has_var (literals kernel.now.trail) var)) }
+    {
+        if !self.holds(var) {
+            return false;
+        }
+        kernel.value(var).is_none()
+    }
+
+    /// The held free variable of greatest score, of several the greatest. Others don't wait any more,
+    /// once they are met.
     pub(crate) fn best_free(&mut self, kernel: &SearchKernel) -> Option<u32>
         requires waiting { AreWaiting kernel.now.vars (literals kernel.now.trail) self.old }
-        ensures best { result ≡ best_outside kernel.now.vars (literals kernel.now.trail) self.old.scores.scores }
+        requires held { HoldsAsIn (formula_of kernel.now) self.old.held.items }
+        ensures best { result ≡ best_outside (held (formula_of kernel.now)) (literals kernel.now.trail) self.old.scores.scores }
         ensures waiting { AreWaiting kernel.now.vars (literals kernel.now.trail) self.new }
         ensures kept { AreKept self.old self.new }
         ensures saved { self.new.saved ≡ self.old.saved }
     {
         'waiting: while let Some(var) = self.scores.best() {
-            match kernel.value(var) {
-                None => return Some(var),
-                Some(_) => self.scores.take_out(var),
+            if self.may_decide(kernel, var) {
+                return Some(var);
             }
+            self.scores.take_out(var);
         }
         None
     }
@@ -99,6 +129,7 @@ impl Decisions {
         requires saved { IsVariable (length self.old.saved) entry.lit.var }
         ensures scores { OnOk result (self.new.scores ≡ with_waiting self.old.scores entry.lit.var true) }
         ensures saved { OnOk result (self.new.saved ≡ slice_set self.old.saved (entry.lit.var - 1) entry.lit.positive) }
+        ensures held { OnOk result (self.new.held ≡ self.old.held) }
     {
         let var = entry.lit.var();
         self.saved.save(var, entry.lit.positive())?;
@@ -129,6 +160,7 @@ impl Decisions {
     pub(crate) fn rephase(&mut self, change: Change)
         ensures scores { self.new.scores ≡ self.old.scores }
         ensures saved { self.new.saved ≡ changed change self.old.saved }
+        ensures held { self.new.held ≡ self.old.held }
     {
         self.saved.change(change);
     }
@@ -139,6 +171,7 @@ impl Decisions {
         ensures scores { self.new.scores ≡ record self.old.scores { scores = first_scores self.old.scores.constants (vars_of self.old.scores) } }
         ensures long { length self.new.saved ≡ length self.old.saved }
         ensures all { (v : ℕ) → IsVariable (length self.old.saved) v → value self.new.saved v ≡ true }
+        ensures held { self.new.held ≡ self.old.held }
     {
         self.scores.begin_again();
         self.saved.clear();

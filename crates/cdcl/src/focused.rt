@@ -11,7 +11,7 @@ ghost use Rattle.heuristics.specs.Modes.{mode_of};
 ghost use Rattle.kernel.specs.Answer.{closed_of};
 ghost use Rattle.kernel.specs.declared.order.Order.TheVariants.{ByPlace};
 ghost use Rattle.cdcl.specs.Outcome.{outcome_of};
-ghost use Rattle.cdcl.specs.Searching.{IsReady};
+ghost use Rattle.cdcl.specs.Searching.{IsReady, formula_of};
 ghost use Rattle.cdcl.specs.declared.focused.Stop.TheVariants.{Spent};
 ghost use Rattle.cdcl.specs.Focusing.{state_of, RunsTo, Stops, IsSpent, HasSaved, HasUnits, IsEquipped, IsFocusing, Follows, IsFocusedSearchStep, Begins, Closes, Continues};
 
@@ -21,6 +21,7 @@ use crate::lesson::Analysis;
 use crate::line_marks::Mark;
 use crate::opening::open_kernel;
 use crate::outcome::Outcome;
+use crate::plan::Search;
 use crate::tally::Tally;
 use crate::unit_hints::UnitHints;
 use crate::values::{refute, values};
@@ -112,9 +113,10 @@ impl FocusedSearch {
         ensures equipped { IfOk result IsEquipped }
         ensures constants { IfOk result (λ s. s.constants ≡ constants) }
     {
-        let kernel = open_kernel(alloc, formula, Order::ByPlace)?;
+        let units = Search::Focused.units(alloc, formula)?;
+        let kernel = open_kernel(alloc, formula, &units, Order::ByPlace)?;
         let vars = kernel.vars();
-        let decisions = Decisions::open(alloc, vars, constants)?;
+        let decisions = Decisions::open(alloc, &kernel, constants)?;
         let analysis = Analysis::open(alloc, vars)?;
         let averages = Glues::open(alloc, constants)?;
         Ok(FocusedSearch {
@@ -174,7 +176,7 @@ impl FocusedSearch {
         requires units { HasUnits self.old }
         requires counted { (self.old.conflicts < budget) × (budget ≤ max_focused) }
         ensures runs { IfOk result (λ o. (saved : Assignment) → HasSaved self.old saved →
-            RunsTo self.old.constants self.old.kernel.vars budget (state_of self.old saved) (outcome_of o) self.new.decided) }
+            RunsTo self.old.constants (formula_of self.old.kernel) budget (state_of self.old saved) (outcome_of o) self.new.decided) }
         ensures kept { OnOk result (Continues self.old self.new) }
     {
         match self.run_to(budget, watcher)? {
@@ -190,7 +192,7 @@ impl FocusedSearch {
         requires units { HasUnits self.old }
         requires counted { (self.old.conflicts < last) × (last ≤ max_focused) }
         ensures stops { IfOk result (λ stop. (saved : Assignment) → HasSaved self.old saved →
-            Stops self.old.constants self.old.kernel.vars last (state_of self.old saved) stop self.new) }
+            Stops self.old.constants (formula_of self.old.kernel) last (state_of self.old saved) stop self.new) }
         ensures spent { IfOk result (λ stop. stop ≡ Spent → IsSpent last self.new) }
         ensures kept { OnOk result (Continues self.old self.new) }
     {
@@ -230,8 +232,8 @@ impl FocusedSearch {
         Ok(closed)
     }
 
-    /// Where propagation came to rest: decides the free variable of greatest score, or gives the
-    /// model where none is free.
+    /// Where propagation came to rest: decides the held free variable of greatest score, or gives
+    /// the model where none is free.
     fn on_quiet(&mut self) -> Result<Option<Stop>, AllocError>
         requires focusing { IsFocusing self.old }
         requires quiet { Propagates by_place self.old.kernel.clauses self.old.kernel.trail quiet self.old.kernel.trail }
@@ -291,12 +293,12 @@ impl FocusedSearch {
         )
     }
 
-    /// The variable in which the cube is exhausted: of those that don't stand at level 0, the one
-    /// of greatest score. It goes back there.
+    /// The variable in which the cube is exhausted: of the held ones that don't stand at level 0, the
+    /// one of greatest score. It goes back there.
     fn split(&mut self) -> Result<u32, AllocError>
         requires focusing { IsFocusing self.old }
         requires level { 1 ≤ current_level self.old.kernel.trail }
-        ensures splits { IfOk result (λ x. (saved : Assignment) → x ≡ splits_on self.old.kernel.vars (state_of self.old saved)) }
+        ensures splits { IfOk result (λ x. (saved : Assignment) → x ≡ splits_on (formula_of self.old.kernel) (state_of self.old saved)) }
         ensures decided { self.new.decided ≡ self.old.decided }
         ensures kept { OnOk result (Continues self.old self.new) }
     {

@@ -3,6 +3,7 @@
 #![tactic(auto)]
 
 mod analysis;
+mod beginning;
 mod below;
 mod budget;
 mod compatible;

@@ -2,8 +2,8 @@
 ghost use Rattle.std.specs.Prelude.{◌≡◌, ◌<◌, ◌^◌, [], List, take, false, IfOk, OnOk};
 ghost use Rattle.theory.specs.Literals.{Literal};
 ghost use Rattle.theory.specs.Truth.{Formula, IsOver};
-ghost use Rattle.theory.specs.Trails.{current_level, cube_trail, least_free};
-ghost use Rattle.theory.specs.Search.{first_clauses};
+ghost use Rattle.theory.specs.Trails.{current_level, cube_trail};
+ghost use Rattle.theory.specs.Held.{least_held};
 ghost use Rattle.theory.specs.Looking.{SplitsInto, Looks};
 ghost use Rattle.kernel.specs.declared.order.Order.TheVariants.{ByPlace};
 ghost use Rattle.lookahead.specs.Rankings.{IsRanking};
@@ -37,7 +37,7 @@ impl FocusedSearch {
     ) -> Result<Outcome<Row>, AllocError>
         requires over { self.old.kernel.short ≡ false → IsOver self.old.kernel.vars cube.now }
         requires equipped { IsEquipped self.old }
-        requires ready { (F : Formula) × IsReady ByPlace F self.old.kernel × IsRanking F.vars (first_clauses F) ranking.now }
+        requires ready { (F : Formula) × IsReady ByPlace F self.old.kernel × IsRanking F.vars F.clauses ranking.now }
         ensures looks { IfOk result (λ o. (F : Formula) → IsReady ByPlace F self.old.kernel → Looks F cube.now (outcome_of o)) }
         ensures kept { OnOk result (IsKept self.old self.new) }
     {
@@ -54,7 +54,7 @@ impl FocusedSearch {
         requires focusing { IsFocusing self.old }
         requires level { current_level self.old.kernel.trail ≡ 0 }
         requires ranking { IsRanking self.old.kernel.vars self.old.kernel.clauses ranking.now }
-        ensures looks { IfOk result (λ o. (F : Formula) (Q : List Literal) → self.old.kernel.vars ≡ F.vars → self.old.kernel.clauses ≡ first_clauses F →
+        ensures looks { IfOk result (λ o. (F : Formula) (Q : List Literal) → self.old.kernel.vars ≡ F.vars → self.old.kernel.clauses ≡ F.clauses →
             self.old.kernel.trail ≡ cube_trail Q → self.old.lines ≡ [] → Looks F Q (outcome_of o)) }
         ensures kept { OnOk result (Continues self.old self.new) }
     {
@@ -67,20 +67,20 @@ impl FocusedSearch {
         }
     }
 
-    /// Where propagation came to rest: the model where no variable is free, and else the variable
-    /// that the cube is split on.
+    /// Where propagation came to rest: the model where no held variable is free, and else the
+    /// variable that the cube is split on.
     fn look_at_rest(&mut self, ranking: &Ranking) -> Result<Outcome<Row>, AllocError>
         requires focusing { IsFocusing self.old }
         requires rest { IsAtRest self.old.kernel }
         requires ranking { IsRanking self.old.kernel.vars self.old.kernel.clauses ranking.now }
-        ensures splits { IfOk result (λ o. (F : Formula) → self.old.kernel.vars ≡ F.vars → self.old.kernel.clauses ≡ first_clauses F →
-            SplitsInto F self.old.kernel.trail (least_free F.vars self.old.kernel.trail) (outcome_of o)) }
+        ensures splits { IfOk result (λ o. (F : Formula) → self.old.kernel.vars ≡ F.vars → self.old.kernel.clauses ≡ F.clauses →
+            SplitsInto F self.old.kernel.trail (least_held F self.old.kernel.trail) (outcome_of o)) }
         ensures kept { OnOk result (Continues self.old self.new) }
     {
         let alloc = self.lines.allocator();
-        match self.kernel.least_free() {
+        match choose(alloc, &mut self.kernel, ranking)? {
             None => Ok(Outcome::Model(values(alloc, &self.kernel)?)),
-            Some(_) => Ok(Outcome::Exhausted(choose(alloc, &mut self.kernel, ranking)?)),
+            Some(var) => Ok(Outcome::Exhausted(var)),
         }
     }
 }

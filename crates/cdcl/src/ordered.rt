@@ -1,6 +1,7 @@
 //! The ordered search in one cube, up to a budget of conflicts.
 ghost use Rattle.std.specs.Prelude.{◌≡◌, ◌≤◌, ◌<◌, ◌^◌, ◌+◌, ◌++◌, ◌∷◌, [], false, Some, IfOk, OnOk};
 ghost use Rattle.theory.specs.Truth.{Formula, IsOver};
+ghost use Rattle.theory.specs.Pure.{searched};
 ghost use Rattle.theory.specs.Trails.{literals, current_level, least_free};
 ghost use Rattle.theory.specs.Propagation.{by_number, Propagates, quiet, conflict, least_false};
 ghost use Rattle.theory.specs.Lawful.{IsLawful};
@@ -17,6 +18,7 @@ use crate::counts::{Counts, Watcher, tell};
 use crate::marks::Room;
 use crate::opening::open_kernel;
 use crate::outcome::Outcome;
+use crate::plan::Search;
 use crate::values::{refute, values};
 use cnf::{Formula, Lit};
 use kernel::{Closed, Cube, Order, SearchKernel};
@@ -53,12 +55,13 @@ impl Drop for OrderedSearch {
 }
 
 impl OrderedSearch {
-    /// A search of a formula, before its first cube.
+    /// A search of a formula with the unit clauses of its pure variables, before its first cube.
     pub(crate) fn open(alloc: Global, formula: &Formula) -> Result<OrderedSearch, AllocError>
-        ensures { IfOk result (λ s. IsReady ByNumber formula.now s.kernel) }
+        ensures { IfOk result (λ s. IsReady ByNumber (searched formula.now) s.kernel) }
     {
+        let units = Search::Ordered.units(alloc, formula)?;
         Ok(OrderedSearch {
-            kernel: open_kernel(alloc, formula, Order::ByNumber)?,
+            kernel: open_kernel(alloc, formula, &units, Order::ByNumber)?,
             conflicts: 0,
             decided: None,
             lines: Row::new(alloc),

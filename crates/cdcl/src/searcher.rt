@@ -6,6 +6,7 @@ ghost use Rattle.theory.specs.Search.{exhausted, max_focused};
 ghost use Rattle.theory.specs.Runs.{cube_budget, Runs};
 ghost use Rattle.theory.specs.Results.{OutcomeSays};
 ghost use Rattle.cdcl.specs.Outcome.{outcome_of};
+ghost use Rattle.theory.specs.Beginnings.{begun_by};
 ghost use Rattle.cdcl.specs.Solving.{IsReadyBy, IsRootOf};
 
 use crate::counts::{Counts, Watcher};
@@ -35,8 +36,8 @@ impl Searcher {
         plan: Plan,
         root: Root,
     ) -> Result<Searcher, AllocError>
-        requires { IsRootOf formula.now plan root }
-        ensures { IfOk result (IsReadyBy plan formula.now) }
+        requires { IsRootOf (begun_by plan.search formula.now) plan root }
+        ensures { IfOk result (IsReadyBy plan (begun_by plan.search formula.now)) }
     {
         match plan.search() {
             Search::Ordered => Ok(Searcher::Ordered(OrderedSearch::open(alloc, formula)?)),

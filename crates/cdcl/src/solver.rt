@@ -5,6 +5,7 @@ ghost use Rattle.theory.specs.Search.{exhausted};
 ghost use Rattle.theory.specs.Runs.{Runs};
 ghost use Rattle.theory.specs.Results.{OutcomeSays};
 ghost use Rattle.cdcl.specs.Outcome.{outcome_of};
+ghost use Rattle.theory.specs.Beginnings.{begun_by};
 ghost use Rattle.cdcl.specs.Solving.{IsRootOf};
 
 use crate::budget::budget_of;
@@ -20,9 +21,9 @@ use std::alloc::{AllocError, Global};
 use std::marker::Model;
 use std::snapshot::Snapshot;
 
-/// Solves cubes of one formula by one plan. The formula's clauses are copied once, with a unit
-/// clause for each of its pure literals, and the room for analysis is made once, so that a cube
-/// costs what its search does and not what the formula holds. A cube's budget is the root's times
+/// Solves cubes of one formula by one plan. The formula's clauses are copied once, for the ordered
+/// search with a unit clause for each of its pure literals, and the room for analysis is made once,
+/// so that a cube costs what its search does and not what the formula holds. A cube's budget is the root's times
 /// one more than the cube's literals, and at most 1,000,000, or with the focused search
 /// 1,000,000,000. Where the plan wants a division, the first cube of few literals is preceded by a search of up to 20,000 conflicts, which says whether
 /// the formula is divided. Once a call has met want of memory, each later one answers it.
@@ -49,20 +50,21 @@ impl Drop for Solver {
 
 impl Model for Solver {
     ghost use Rattle.std.specs.Prelude.{◌≡◌, false};
+    ghost use Rattle.theory.specs.Beginnings.{begun_by};
     ghost use Rattle.cdcl.specs.Solving.{IsReadyBy, Solving};
 
     ghost Value = { Solving };
 
-    ghost view = { λ a. record { formula = a.formula.value; plan = a.plan; short = a.short } };
+    ghost view = { λ a. record { formula = begun_by a.plan.search a.formula.value; plan = a.plan; short = a.short } };
 
-    ghost invariant = { λ a. a.short ≡ false → IsReadyBy a.plan a.formula.value a.search };
+    ghost invariant = { λ a. a.short ≡ false → IsReadyBy a.plan (begun_by a.plan.search a.formula.value) a.search };
 }
 
 impl Solver {
     /// A solver of a formula by a plan. It takes time and memory by the formula's literals and
     /// variables, and fails where that is refused.
     pub fn open(alloc: Global, formula: &Formula, plan: Plan) -> Result<Solver, AllocError>
-        ensures { IfOk result (λ s. s ≡ record { formula = formula.now; plan = plan; short = false }) }
+        ensures { IfOk result (λ s. s ≡ record { formula = begun_by plan.search formula.now; plan = plan; short = false }) }
     {
         let solver = Solver::open_told(alloc, formula, plan, Root::Unknown)?;
         Ok(solver)
@@ -76,8 +78,8 @@ impl Solver {
         plan: Plan,
         root: Root,
     ) -> Result<Solver, AllocError>
-        requires { IsRootOf formula.now plan root }
-        ensures { IfOk result (λ s. s ≡ record { formula = formula.now; plan = plan; short = false }) }
+        requires { IsRootOf (begun_by plan.search formula.now) plan root }
+        ensures { IfOk result (λ s. s ≡ record { formula = begun_by plan.search formula.now; plan = plan; short = false }) }
     {
         Ok(Solver {
             search: Searcher::open(alloc, formula, plan, root)?,

@@ -126,7 +126,7 @@ static ROWS: [Row; 15] = [
     },
     Row {
         name: "worth not by the sum",
-        text: "p cnf 6 16\n5 -4 0\n-6 -5 3 0\n2 -6 4 0\n4 2 6 0\n-1 2 0\n-1 -4 -6 0\n-1 6 4 0\n2 -3 0\n3 -4 -2 0\n-3 -1 6 0\n-6 4 -3 0\n-1 4 -5 0\n-2 3 0\n-6 -1 4 0\n-5 -6 -4 0\n3 -1 -6 0\n",
+        text: "p cnf 6 17\n5 -4 0\n-6 -5 3 0\n2 -6 4 0\n4 2 6 0\n-1 2 0\n-1 -4 -6 0\n-1 6 4 0\n2 -3 0\n3 -4 -2 0\n-3 -1 6 0\n-6 4 -3 0\n-1 4 -5 0\n-2 3 0\n-6 -1 4 0\n-5 -6 -4 0\n3 -1 -6 0\n-1 0\n",
         budget: 2,
         divide: 8,
         cube: &[],
@@ -180,7 +180,7 @@ fn conflicts_in(
     solver: &mut Solver,
     row: &Row,
 ) -> Result<u64, AllocError>
-    requires { solver.old.formula ≡ formula.now }
+    requires { solver.old.formula.vars ≡ formula.now.vars }
 {
     let before = solver.counts().conflicts;
     let cube = cube_of(alloc, formula.vars(), row.cube)?;
@@ -195,7 +195,7 @@ fn solves(
     solver: &mut Solver,
     row: &Row,
 ) -> Result<bool, AllocError>
-    requires { solver.old.formula ≡ formula.now }
+    requires { solver.old.formula.vars ≡ formula.now.vars }
 {
     let cube = cube_of(alloc, formula.vars(), row.cube)?;
     let outcome = solver.solve(&cube)?;
@@ -212,7 +212,7 @@ fn goes_on(
     row: &Row,
     known: (u32, u64),
 ) -> Result<bool, AllocError>
-    requires { told.old.formula ≡ formula.now }
+    requires { told.old.formula.vars ≡ formula.now.vars }
 {
     let (var, most) = known;
     if split_of(alloc, told)? != Some(var) || told.counts().conflicts != 0 {

@@ -13,7 +13,10 @@ use std::test::Fail;
 /// one is text is checked by a prover's step a byte.
 pub(crate) type Row<'a, T> = (&'a str, T, u32, Wanted<'a>);
 
-static USUAL: [Row<&str>; 3] = [
+// clauses with both signs of a variable hold none, and no unit of a pure variable is added
+const NOT_ALL_HELD: &str = "p cnf 4 6\n1 2 0\n-1 2 0\n1 -2 0\n-1 -2 0\n1 -3 0\n4 -4 0\n";
+
+static USUAL: [Row<&str>; 7] = [
     ("four, one conflict", FOUR, 1, Wanted::ExhaustedOn(2)),
     (
         "four, two conflicts",
@@ -32,6 +35,30 @@ static USUAL: [Row<&str>; 3] = [
             (&[1], &[10, 11, 3]),
             (&[], &[10, 11, 12, 7]),
         ]),
+    ),
+    (
+        "a variable that isn't held is false",
+        "p cnf 3 3\n1 2 0\n-1 2 0\n3 -3 0\n",
+        1,
+        Wanted::Model(&[true, true, false]),
+    ),
+    (
+        "a pure variable is decided",
+        "p cnf 2 1\n1 -2 0\n",
+        1,
+        Wanted::Model(&[true, true]),
+    ),
+    (
+        "not all held, one conflict",
+        NOT_ALL_HELD,
+        1,
+        Wanted::ExhaustedOn(3),
+    ),
+    (
+        "not all held, two conflicts",
+        NOT_ALL_HELD,
+        2,
+        Wanted::Refuted(&[(&[-1], &[2, 4]), (&[2], &[7, 1]), (&[], &[7, 8, 3])]),
     ),
 ];
 

@@ -229,8 +229,8 @@ fn comes_in_turn(
     solver: &mut Solver,
     turn: &Turn,
 ) -> Result<bool, AllocError>
-    requires { solver.old.formula ≡ formula.now }
-    ensures { solver.new.formula ≡ formula.now }
+    requires { solver.old.formula.vars ≡ formula.now.vars }
+    ensures { solver.new.formula.vars ≡ formula.now.vars }
 {
     let cube = cube_of(alloc, formula.vars(), turn.cube)?;
     let outcome = solver.solve(&cube)?;
@@ -245,7 +245,7 @@ fn first_failed(
     solver: &mut Solver,
     turns: &[Turn],
 ) -> Result<Option<usize>, Fail>
-    requires { solver.old.formula ≡ formula.now }
+    requires { solver.old.formula.vars ≡ formula.now.vars }
 {
     'turns: for place in 0..turns.len() {
         if !comes_in_turn(alloc, formula, solver, &turns[place])? {

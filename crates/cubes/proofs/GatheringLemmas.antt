@@ -12,8 +12,10 @@ use Rattle.theory.specs.Results.{Solved, What, done, skipped}
 use Rattle.theory.specs.Checked.{IsCheckedOutcome, IsCheckedOf, found_here}
 use Rattle.theory.proofs.trees.ResultLemmas.{IsCheckedResult-IsResult, IsCheckedResult-says}
 use Rattle.cdcl.specs.Outcome.{outcome_by}
+use Rattle.theory.specs.Beginnings.{begun_by}
 use Rattle.cdcl.specs.declared.outcome.Outcome.{Outcome}
 use Rattle.cdcl.specs.declared.outcome.Outcome.TheVariants as outcome
+use Rattle.cdcl.proofs.SearchedFormulas.{IsFormula-begun_by, ResultSays-begun_by}
 use Rattle.cubes.specs.declared.gathering.Gathering.{Gathering}
 use Rattle.cubes.specs.declared.tree.Tree.{Tree}
 use Rattle.cubes.specs.declared.tree.Tree.TheVariants as tree
@@ -147,10 +149,13 @@ pub IsCheckedResultBy-IsResultBy : {L : Type 0} (lines : L → List Line) (F : F
 IsCheckedResultBy-IsResultBy lines F plan (tree.Model values) formed result = IsCheckedResult-IsResult F plan (trees.model_of values.items) formed result
 IsCheckedResultBy-IsResultBy lines F plan (tree.Refuted nodes) formed result = (result.0, IsCheckedResult-IsResult F plan (trees.tree_of result.0) formed result.1, result.2)
 
--- what a result says of a formula
-pub says-checked : {L : Type 0} (lines : L → List Line) (F : Formula) (by : Search) (t : Tree L) → IsFormula F → IsCheckedResultBy lines by F t → Says by F t
-says-checked lines F by (tree.Model values) formed result = IsCheckedResult-says by F (trees.model_of values.items) formed result
-says-checked lines F by (tree.Refuted nodes) formed result = IsCheckedResult-says by F (trees.tree_of result.0) formed result.1
+-- what a checked result of the clauses that a plan's search begins with says of the formula
+pub says-begun : {L : Type 0} (lines : L → List Line) (F : Formula) (plan : Plan) (t : Tree L) → IsFormula F → IsCheckedResultBy lines plan.search (begun_by plan.search F) t → Says plan.search F t
+says-begun lines F plan (tree.Model values) formed result =
+    ResultSays-begun_by F plan (trees.model_of values.items) formed (IsCheckedResult-says plan.search (begun_by plan.search F) (trees.model_of values.items) result)
+says-begun lines F plan (tree.Refuted nodes) formed result =
+    ResultSays-begun_by F plan (trees.tree_of result.0) formed (IsCheckedResult-says plan.search (begun_by plan.search F) (trees.tree_of result.0) result.1)
 
-pub says : {L : Type 0} (lines : L → List Line) (F : Formula) (plan : Plan) (t : Tree L) → IsFormula F → IsResultBy lines F plan t → Says plan.search F t
-says lines F plan t formed result = says-checked lines F plan.search t formed (IsCheckedResultBy-IsResultBy lines F plan t formed result)
+-- and so does the plan's own
+pub says : {L : Type 0} (lines : L → List Line) (F : Formula) (plan : Plan) (t : Tree L) → IsFormula F → IsResultBy lines (begun_by plan.search F) plan t → Says plan.search F t
+says lines F plan t formed result = says-begun lines F plan t formed (IsCheckedResultBy-IsResultBy lines (begun_by plan.search F) plan t (IsFormula-begun_by F plan formed) result)

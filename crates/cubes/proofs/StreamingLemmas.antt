@@ -17,13 +17,17 @@ use Rattle.cubes.specs.Streaming.{nodes_from, nodes_in, IsCheckedNode, AreTaken}
 use Rattle.cubes.proofs.GatheringLemmas.{IsKnown}
 use Rattle.cubes.proofs.Walks.{by_checks}
 
+pub if_some-map : {X : Type 0} (o : Option X) (P Q : X → Type 0) → ((x : X) → P x → Q x) → IfSome o P → IfSome o Q
+if_some-map None P Q f h = tt
+if_some-map (Some x) P Q f h = f x h
+
 -- the node of a cube that was reached is checked
 pub node-checked : (F : Formula) (by : Search) (Q : List Literal) (o : search.Outcome) (node : Option LinesNode) → IsKnown F (by_checks F by) Q o → nodes_in node ≡ nodes_from o
-    → IfSome node (λ n. (by : Search) × (P : List Literal) × IsCheckedNode by F P (node_of n))
+    → IfSome node (λ n. (P : List Literal) × IsCheckedNode by F P (node_of n))
 node-checked F by Q o None known e = tt
 node-checked F by Q (search.model M) (Some n) known e = absurd (cc)
-node-checked F by Q (search.refuted lines) (Some n) known e = let same : node_of n ≡ trees.refuted_leaf lines = cc in (by, Q, subst (IsCheckedNode by F Q) (sym same) known)
-node-checked F by Q (search.exhausted x) (Some n) known e = let same : node_of n ≡ trees.split_on x = cc in (by, Q, subst (IsCheckedNode by F Q) (sym same) known)
+node-checked F by Q (search.refuted lines) (Some n) known e = let same : node_of n ≡ trees.refuted_leaf lines = cc in (Q, subst (IsCheckedNode by F Q) (sym same) known)
+node-checked F by Q (search.exhausted x) (Some n) known e = let same : node_of n ≡ trees.split_on x = cc in (Q, subst (IsCheckedNode by F Q) (sym same) known)
 
 -- what was taken so far, or by the end
 abbrev pub AreTakenBy : (List trees.Node → Type 0) → Option LinesTree → Gathering (List Line) → Type 0

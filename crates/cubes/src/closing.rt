@@ -1,6 +1,7 @@
 //! What all hands have done, once they are home.
 ghost use Rattle.std.specs.Prelude.{◌≡◌, ◌≤◌, false, [], map, flat_map, length, All, IfOk};
 ghost use Rattle.theory.specs.Plans.{Plan};
+ghost use Rattle.theory.specs.Beginnings.{begun_by};
 ghost use Rattle.pool.specs.Pools.{AreAllOf};
 ghost use Rattle.cubes.specs.Shares.{AreNumbered, HaveWorked, AreHarvested};
 
@@ -47,7 +48,7 @@ pub(crate) fn close_all<L: KeepsLines>(
     requires root { pool.root ≡ [] }
     requires long { All (λ w. w.short_of_memory ≡ false) works.items }
     ensures results { IfOk result (λ r. r.items ≡ flat_map (λ w. w.solved.items) works.items) }
-    ensures harvested { IfOk result (λ r. (plan : Plan) → HaveWorked L.lines formula.now plan works.items → AreHarvested L.lines formula.now plan works.items r.items) }
+    ensures harvested { IfOk result (λ r. (plan : Plan) → HaveWorked L.lines (begun_by plan.search formula.now) plan works.items → AreHarvested L.lines (begun_by plan.search formula.now) plan works.items r.items) }
 {
     let _vars = formula.vars(); // the formula is there for the contract alone
     let (hands, results) = parted(alloc, works)?;

@@ -4,6 +4,7 @@
 ghost use Rattle.std.specs.Prelude.{◌≡◌, ℕ, ◌≤◌, ◌<◌, ◌^◌, false, List, [], map, flat_map, length, All, Option, IfOk};
 ghost use Rattle.theory.specs.Literals.{Literal};
 ghost use Rattle.theory.specs.Truth.{Formula};
+ghost use Rattle.theory.specs.Pure.{searched};
 ghost use Rattle.theory.specs.Plans.{ordered, ordered_within};
 ghost use Rattle.theory.specs.Plans as plans;
 ghost use Rattle.theory.specs.Ledger.{times, all_got};
@@ -46,7 +47,7 @@ pub fn work<R: Wait + Clock, G: Gate>(
     requires budget { (1 ≤ budget) × (budget ≤ 100000) }
     requires vars { hand.vars ≡ formula.now.vars }
     ensures same { SameHand hand result.hand }
-    ensures work { Worked_as formula.now (ordered_within budget) result.short_of_memory hand.ledger result.hand.ledger result.solved.items }
+    ensures work { Worked_as (searched formula.now) (ordered_within budget) result.short_of_memory hand.ledger result.hand.ledger result.solved.items }
     ensures home { GoesHome result.short_of_memory hand.ledger result.hand.ledger }
 {
     let plan = Plan::ordered(budget);
@@ -69,12 +70,12 @@ pub fn harvest(
     requires some { 1 ≤ length works.items }
     requires in_order { AreNumbered works.items }
     requires root { pool.root ≡ [] }
-    requires works { All (λ w. IsWork formula.now (ordered_within budget) w.short_of_memory w.hand.ledger (map solved_of w.solved.items)) works.items }
+    requires works { All (λ w. IsWork (searched formula.now) (ordered_within budget) w.short_of_memory w.hand.ledger (map solved_of w.solved.items)) works.items }
     requires long { All (λ w. w.short_of_memory ≡ false) works.items }
     ensures results { IfOk result (λ r. r.items ≡ flat_map (λ w. w.solved.items) works.items) }
-    ensures closed { IfOk result (λ _. (least : Option ℕ) × IsClosed formula.now (ordered_within budget) (map share_of works.items) [] least 0) }
+    ensures closed { IfOk result (λ _. (least : Option ℕ) × IsClosed (searched formula.now) (ordered_within budget) (map share_of works.items) [] least 0) }
     ensures once { IfOk result (λ _. (Q : List Literal) → times Q (flat_map all_got (ledgers_of (map share_of works.items))) ≤ 1) }
-    ensures whole { IfOk result (λ r. IsWhole formula.now (ordered_within budget) (map solved_of r.items)) }
+    ensures whole { IfOk result (λ r. IsWhole (searched formula.now) (ordered_within budget) (map solved_of r.items)) }
 {
     let _budget = budget; // it is there for the contract alone
     close_all(alloc, formula, pool, works)
@@ -97,8 +98,8 @@ pub fn gather(
     results: Vec<Solved>,
 ) -> Result<Tree, AllocError>
     requires budget { (1 ≤ budget) × (budget ≤ 100000) }
-    requires results { AreTrueResults formula.now (ordered_within budget) results.items }
-    ensures result { IfOk result (λ t. IsResultOf formula.now (ordered_within budget) t) }
+    requires results { AreTrueResults (searched formula.now) (ordered_within budget) results.items }
+    ensures result { IfOk result (λ t. IsResultOf (searched formula.now) (ordered_within budget) t) }
     ensures says { IfOk result (λ t. Says ordered formula.now t) }
 {
     let _vars = formula.vars(); // it ensures what the proof needs of the formula
@@ -109,7 +110,7 @@ pub fn gather(
 /// As `solve_one_by_plan`.
 pub fn solve_one(alloc: Global, formula: &Formula, budget: u32) -> Result<Tree, AllocError>
     requires { (1 ≤ budget) × (budget ≤ 100000) }
-    ensures result { IfOk result (λ t. IsResultOf formula.now (ordered_within budget) t) }
+    ensures result { IfOk result (λ t. IsResultOf (searched formula.now) (ordered_within budget) t) }
     ensures says { IfOk result (λ t. Says ordered formula.now t) }
 {
     gather(alloc, formula, budget, Vec::new(alloc))
@@ -126,7 +127,7 @@ pub fn solve_with<R: Threads + Wait + Clock + Sync, G: Gate + Sync>(
 ) -> Result<Tree, AllocError>
     requires budget { (1 ≤ budget) × (budget ≤ 100000) }
     requires hands { (1 ≤ hands) × (hands ≤ 16) }
-    ensures result { IfOk result (λ t. IsResultOf formula.now (ordered_within budget) t) }
+    ensures result { IfOk result (λ t. IsResultOf (searched formula.now) (ordered_within budget) t) }
     ensures says { IfOk result (λ t. Says ordered formula.now t) }
 {
     solve_in(rt, alloc, formula, Plan::ordered(budget), hands, gate)

@@ -8,6 +8,7 @@ ghost use Rattle.theory.specs.Runs.{Runs};
 ghost use Rattle.theory.specs.Ledger.{IsFit};
 ghost use Rattle.theory.specs.Round.{HasWorked};
 ghost use Rattle.cdcl.specs.Outcome.{outcome_of};
+ghost use Rattle.theory.specs.Beginnings.{begun_by};
 ghost use Rattle.cdcl.specs.Solving.{IsRootOf};
 ghost use Rattle.pool.specs.Hands.{SameHand, IsAllTaken};
 ghost use Rattle.cubes.specs.Hands.{Gets, IsWorker, EndsIn, Settles, AddsRound, AddsHandOn, AddsHalves, AddsCarried, GoesOn, GoesHome};
@@ -97,10 +98,10 @@ impl<L: KeepsLines> Worker<L> {
         cube: &Cube,
     ) -> Result<Ending, AllocError>
         requires over { IsOver formula.now.vars cube.now }
-        requires worker { IsWorker formula.now plan self.old }
+        requires worker { IsWorker (begun_by plan.search formula.now) plan self.old }
         ensures hand { self.new.hand ≡ self.old.hand }
-        ensures settles { IfOk result (λ e. Settles formula.now plan cube.now e (results_by L.lines self.old.solved.items) (results_by L.lines self.new.solved.items)) }
-        ensures worker { OnOk result (IsWorker formula.now plan self.new) }
+        ensures settles { IfOk result (λ e. Settles (begun_by plan.search formula.now) plan cube.now e (results_by L.lines self.old.solved.items) (results_by L.lines self.new.solved.items)) }
+        ensures worker { OnOk result (IsWorker (begun_by plan.search formula.now) plan self.new) }
         ensures none { OnErr result (self.new.solved.items ≡ self.old.solved.items) }
     {
         let alloc = *self.solved.allocator();
@@ -127,11 +128,11 @@ impl<L: KeepsLines> Worker<L> {
         half: Cube,
     ) -> Result<(), AllocError>
         requires over { IsOver formula.now.vars half }
-        requires worker { IsWorker formula.now plan self.old }
+        requires worker { IsWorker (begun_by plan.search formula.now) plan self.old }
         ensures same { SameHand self.old.hand self.new.hand }
-        ensures worker { OnOk result (IsWorker formula.now plan self.new) }
+        ensures worker { OnOk result (IsWorker (begun_by plan.search formula.now) plan self.new) }
         ensures calls { GoesOn self.old.hand.ledger self.new.hand.ledger }
-        ensures part { AddsHandOn formula.now plan (is_ok result) half self.old.hand.ledger self.new.hand.ledger (results_by L.lines self.old.solved.items) (results_by L.lines self.new.solved.items) }
+        ensures part { AddsHandOn (begun_by plan.search formula.now) plan (is_ok result) half self.old.hand.ledger self.new.hand.ledger (results_by L.lines self.old.solved.items) (results_by L.lines self.new.solved.items) }
     {
         if half.lits().len() > DEEPEST {
             return self.carry_on(formula, plan, gate, half);
@@ -158,11 +159,11 @@ impl<L: KeepsLines> Worker<L> {
         requires over { IsOver formula.now.vars cube.now }
         requires variable { IsVariable formula.now.vars var }
         requires free { has_var cube.now var ≡ false }
-        requires worker { IsWorker formula.now plan self.old }
+        requires worker { IsWorker (begun_by plan.search formula.now) plan self.old }
         ensures same { SameHand self.old.hand self.new.hand }
-        ensures worker { OnOk result (IsWorker formula.now plan self.new) }
+        ensures worker { OnOk result (IsWorker (begun_by plan.search formula.now) plan self.new) }
         ensures calls { GoesOn self.old.hand.ledger self.new.hand.ledger }
-        ensures part { AddsHalves formula.now plan (is_ok result) cube.now var self.old.hand.ledger self.new.hand.ledger (results_by L.lines self.old.solved.items) (results_by L.lines self.new.solved.items) }
+        ensures part { AddsHalves (begun_by plan.search formula.now) plan (is_ok result) cube.now var self.old.hand.ledger self.new.hand.ledger (results_by L.lines self.old.solved.items) (results_by L.lines self.new.solved.items) }
     {
         let _vars = formula.vars(); // it ensures that there are fewer than 2^31
         let (left, right) = split(cube, var)?;
@@ -180,11 +181,11 @@ impl<L: KeepsLines> Worker<L> {
         half: Cube,
     ) -> Result<(), AllocError>
         requires over { IsOver formula.now.vars half }
-        requires worker { IsWorker formula.now plan self.old }
+        requires worker { IsWorker (begun_by plan.search formula.now) plan self.old }
         ensures same { SameHand self.old.hand self.new.hand }
-        ensures worker { OnOk result (IsWorker formula.now plan self.new) }
+        ensures worker { OnOk result (IsWorker (begun_by plan.search formula.now) plan self.new) }
         ensures calls { GoesOn self.old.hand.ledger self.new.hand.ledger }
-        ensures part { AddsCarried formula.now plan (is_ok result) half self.old.hand.ledger self.new.hand.ledger (results_by L.lines self.old.solved.items) (results_by L.lines self.new.solved.items) }
+        ensures part { AddsCarried (begun_by plan.search formula.now) plan (is_ok result) half self.old.hand.ledger self.new.hand.ledger (results_by L.lines self.old.solved.items) (results_by L.lines self.new.solved.items) }
     {
         let _vars = formula.vars(); // it ensures that there are fewer than 2^31
         let _lits = half.lits(); // it ensures that their variables are distinct
@@ -214,11 +215,11 @@ impl<L: KeepsLines> Worker<L> {
         cube: Cube,
     ) -> Result<(), AllocError>
         requires over { IsOver formula.now.vars cube }
-        requires worker { IsWorker formula.now plan self.old }
+        requires worker { IsWorker (begun_by plan.search formula.now) plan self.old }
         ensures same { SameHand self.old.hand self.new.hand }
-        ensures worker { OnOk result (IsWorker formula.now plan self.new) }
+        ensures worker { OnOk result (IsWorker (begun_by plan.search formula.now) plan self.new) }
         ensures calls { GoesOn self.old.hand.ledger self.new.hand.ledger }
-        ensures part { AddsRound formula.now plan (is_ok result) cube self.old.hand.ledger self.new.hand.ledger (results_by L.lines self.old.solved.items) (results_by L.lines self.new.solved.items) }
+        ensures part { AddsRound (begun_by plan.search formula.now) plan (is_ok result) cube self.old.hand.ledger self.new.hand.ledger (results_by L.lines self.old.solved.items) (results_by L.lines self.new.solved.items) }
     {
         let place = place_of(&cube);
         let seen = self.hand.look();
@@ -278,9 +279,9 @@ pub(crate) fn work_in<L: KeepsLines, R: Wait + Clock, G: Gate>(
     gate: &G,
 ) -> Worked<L>
     requires vars { hand.vars ≡ formula.now.vars }
-    requires root { IsRootOf formula.now plan root }
+    requires root { IsRootOf (begun_by plan.search formula.now) plan root }
     ensures same { SameHand hand result.hand }
-    ensures work { HasWorked formula.now plan result.short_of_memory hand.ledger result.hand.ledger (results_by L.lines result.solved.items) }
+    ensures work { HasWorked (begun_by plan.search formula.now) plan result.short_of_memory hand.ledger result.hand.ledger (results_by L.lines result.solved.items) }
     ensures home { GoesHome result.short_of_memory hand.ledger result.hand.ledger }
 {
     let mut worker = Worker {

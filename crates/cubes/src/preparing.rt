@@ -3,6 +3,7 @@
 ghost use Rattle.std.specs.Prelude.{◌≡◌, IfOk};
 ghost use Rattle.cubes.specs.declared.preparing.Beginning.TheVariants.{Decided};
 ghost use Rattle.cubes.specs.Preparing.{Begins, Told};
+ghost use Rattle.theory.specs.Beginnings.{begun_by};
 
 use crate::gate::{Gate, Prepared};
 use crate::tree::{Node, Tree};
@@ -41,7 +42,7 @@ pub(crate) fn prepare<L: KeepsLines, G: Gate>(
     plan: Plan,
     gate: &G,
 ) -> Result<Beginning<L>, AllocError>
-    ensures begins { IfOk result (λ b. Begins L.lines formula.now plan b) }
+    ensures begins { IfOk result (λ b. Begins L.lines (begun_by plan.search formula.now) plan b) }
     ensures says { IfOk result (λ b. Told plan.search formula.now b) }
 {
     if !plan.may_divide() {

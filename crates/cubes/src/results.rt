@@ -6,6 +6,7 @@ ghost use Rattle.theory.specs.Runs.{Runs};
 ghost use Rattle.theory.specs.Results.{OutcomeSays, IsWhole, done};
 ghost use Rattle.theory.specs.Checked.{IsCheckedOf};
 ghost use Rattle.cdcl.specs.Outcome.{outcome_of, outcome_by};
+ghost use Rattle.theory.specs.Beginnings.{begun_by};
 ghost use Rattle.cdcl.specs.Solving.{IsRootOf};
 ghost use Rattle.cubes.specs.Solved.{AreTrueBy, AreTrueResults, AreCheckedBy, AreCheckedResults, results_by};
 ghost use Rattle.cubes.specs.Known.{AreOutcomes};
@@ -57,10 +58,10 @@ impl OwnSolver {
         watcher: &W,
     ) -> Result<Outcome<Row>, AllocError>
         requires over { IsOver formula.now.vars cube.now }
-        requires solver { IsOwnSolver formula.now plan self.old }
-        ensures runs { IfOk result (λ o. Runs formula.now plan cube.now (outcome_of o)) }
-        ensures says { IfOk result (λ o. OutcomeSays plan.search formula.now cube.now (outcome_of o)) }
-        ensures kept { OnOk result (IsOwnSolver formula.now plan self.new) }
+        requires solver { IsOwnSolver (begun_by plan.search formula.now) plan self.old }
+        ensures runs { IfOk result (λ o. Runs (begun_by plan.search formula.now) plan cube.now (outcome_of o)) }
+        ensures says { IfOk result (λ o. OutcomeSays plan.search (begun_by plan.search formula.now) cube.now (outcome_of o)) }
+        ensures kept { OnOk result (IsOwnSolver (begun_by plan.search formula.now) plan self.new) }
     {
         let mut ready = match self.solver.take() {
             Some(solver) => solver,
@@ -100,11 +101,11 @@ impl<L: KeepsLines> Source<L> {
         gate: &G,
     ) -> Result<Outcome<L>, AllocError>
         requires over { IsOver formula.now.vars cube.now }
-        requires source { IsSource L.lines formula.now plan self.old }
-        ensures checked { IfOk result (λ o. IsCheckedOf plan.search formula.now cube.now (done (outcome_by L.lines o))) }
-        ensures runs { AreOutcomes L.lines formula.now plan self.old.known → IfOk result (λ o. Runs formula.now plan cube.now (outcome_by L.lines o)) }
-        ensures kept { OnOk result (IsSource L.lines formula.now plan self.new) }
-        ensures still { AreOutcomes L.lines formula.now plan self.old.known → OnOk result (AreOutcomes L.lines formula.now plan self.new.known) }
+        requires source { IsSource L.lines (begun_by plan.search formula.now) plan self.old }
+        ensures checked { IfOk result (λ o. IsCheckedOf plan.search (begun_by plan.search formula.now) cube.now (done (outcome_by L.lines o))) }
+        ensures runs { AreOutcomes L.lines (begun_by plan.search formula.now) plan self.old.known → IfOk result (λ o. Runs (begun_by plan.search formula.now) plan cube.now (outcome_by L.lines o)) }
+        ensures kept { OnOk result (IsSource L.lines (begun_by plan.search formula.now) plan self.new) }
+        ensures still { AreOutcomes L.lines (begun_by plan.search formula.now) plan self.old.known → OnOk result (AreOutcomes L.lines (begun_by plan.search formula.now) plan self.new.known) }
     {
         match self.known.take(cube) {
             Some(outcome) => Ok(outcome),
@@ -128,10 +129,10 @@ pub(crate) fn gather_in<L: KeepsLines, G: Gate>(
     results: Vec<Solved<L>>,
     gate: &G,
 ) -> Result<Tree<L>, AllocError>
-    requires results { AreCheckedBy L.lines plan.search formula.now results.items }
-    requires root { IsRootOf formula.now plan root }
-    ensures checked { IfOk result (λ t. IsCheckedResultBy L.lines plan.search formula.now t) }
-    ensures result { AreTrueBy L.lines formula.now plan results.items → IfOk result (λ t. IsResultBy L.lines formula.now plan t) }
+    requires results { AreCheckedBy L.lines plan.search (begun_by plan.search formula.now) results.items }
+    requires root { IsRootOf (begun_by plan.search formula.now) plan root }
+    ensures checked { IfOk result (λ t. IsCheckedResultBy L.lines plan.search (begun_by plan.search formula.now) t) }
+    ensures result { AreTrueBy L.lines (begun_by plan.search formula.now) plan results.items → IfOk result (λ t. IsResultBy L.lines (begun_by plan.search formula.now) plan t) }
     ensures says { IfOk result (λ t. Says plan.search formula.now t) }
 {
     let _vars = formula.vars(); // it ensures what the proof needs of the formula
@@ -160,9 +161,9 @@ pub fn gather_by_plan(
     plan: Plan,
     results: Vec<Solved<Row>>,
 ) -> Result<Tree<Row>, AllocError>
-    requires results { AreCheckedResults plan.search formula.now results.items }
-    ensures checked { IfOk result (λ t. IsCheckedResultOf plan.search formula.now t) }
-    ensures result { AreTrueResults formula.now plan results.items → IfOk result (λ t. IsResultOf formula.now plan t) }
+    requires results { AreCheckedResults plan.search (begun_by plan.search formula.now) results.items }
+    ensures checked { IfOk result (λ t. IsCheckedResultOf plan.search (begun_by plan.search formula.now) t) }
+    ensures result { AreTrueResults (begun_by plan.search formula.now) plan results.items → IfOk result (λ t. IsResultOf (begun_by plan.search formula.now) plan t) }
     ensures says { IfOk result (λ t. Says plan.search formula.now t) }
 {
     gather_in(alloc, formula, plan, Root::Unknown, results, &OpenGate)
@@ -197,7 +198,7 @@ pub fn solve_one_by_plan(
     formula: &Formula,
     plan: Plan,
 ) -> Result<Tree<Row>, AllocError>
-    ensures result { IfOk result (λ t. IsResultOf formula.now plan t) }
+    ensures result { IfOk result (λ t. IsResultOf (begun_by plan.search formula.now) plan t) }
     ensures says { IfOk result (λ t. Says plan.search formula.now t) }
 {
     gather_by_plan(alloc, formula, plan, Vec::new(alloc))

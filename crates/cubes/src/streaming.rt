@@ -8,6 +8,7 @@ ghost use Rattle.theory.specs.Trees as trees;
 ghost use Rattle.theory.specs.Runs.{Runs};
 ghost use Rattle.theory.specs.Results.{done};
 ghost use Rattle.theory.specs.Checked.{IsCheckedOf};
+ghost use Rattle.theory.specs.Beginnings.{begun_by};
 ghost use Rattle.cdcl.specs.Outcome.{outcome_of};
 ghost use Rattle.cubes.specs.Result.{node_of, IsResultOf, IsCheckedResultOf, Says};
 ghost use Rattle.cubes.specs.Streaming.{nodes_from, nodes_in, IsCheckedNode, AreTaken};
@@ -39,8 +40,8 @@ pub trait GivesOutcomes {
     ) -> Result<Outcome<Row>, AllocError>
         requires over { IsOver formula.now.vars cube.now }
         requires gives { gives self.old formula.now plan }
-        ensures checked { IfOk result (λ o. IsCheckedOf plan.search formula.now cube.now (done (outcome_of o))) }
-        ensures own { gives_own self.old formula.now plan → IfOk result (λ o. Runs formula.now plan cube.now (outcome_of o)) }
+        ensures checked { IfOk result (λ o. IsCheckedOf plan.search (begun_by plan.search formula.now) cube.now (done (outcome_of o))) }
+        ensures own { gives_own self.old formula.now plan → IfOk result (λ o. Runs (begun_by plan.search formula.now) plan cube.now (outcome_of o)) }
         ensures still { OnOk result (gives self.new formula.now plan) }
         ensures still_own { gives_own self.old formula.now plan → OnOk result (gives_own self.new formula.now plan) };
 }
@@ -48,8 +49,8 @@ pub trait GivesOutcomes {
 /// Takes the nodes of a formula's tree, in the order node, left subtree, right subtree, and makes of
 /// them what it does, in an `Out`.
 pub trait TakesNodes<Out> {
-    // it takes nodes of this formula's tree
-    ghost is_for: { Self → Formula → Type 0 };
+    // it takes nodes of the tree of this formula by this search
+    ghost is_for: { Self → plans.Search → Formula → Type 0 };
 
     // by taking these nodes, it came from the first state, and what was made by then, to the last
     // one, and what is made now
@@ -57,11 +58,10 @@ pub trait TakesNodes<Out> {
 
     /// Takes the next node. A failure ends the way through the tree, and it isn't asked again then.
     fn take(&mut self, out: &mut Out, formula: &Formula, node: Node<Row>) -> Result<(), AllocError>
-        requires is_for { is_for self.old formula.now }
-        requires node { (search : plans.Search) × (Q : List Literal) × IsCheckedNode search formula.now Q (node_of node) }
+        requires node { (search : plans.Search) × (Q : List Literal) × is_for self.old search formula.now × IsCheckedNode search (begun_by search formula.now) Q (node_of node) }
         ensures takes { (first : Self) (begun : Out) (nodes : List trees.Node) → takes first begun nodes self.old out.old
             → OnOk result (takes first begun (nodes ++ node_of node ∷ []) self.new out.new) }
-        ensures still { OnOk result (is_for self.new formula.now) };
+        ensures still { (search : plans.Search) → is_for self.old search formula.now → OnOk result (is_for self.new search formula.now) };
 }
 
 /// Takes nodes, and makes nothing of them.
@@ -69,7 +69,7 @@ pub trait TakesNodes<Out> {
 pub struct Untaken;
 
 impl TakesNodes<()> for Untaken {
-    ghost is_for = { λ _ _. ⊤ };
+    ghost is_for = { λ _ _ _. ⊤ };
 
     ghost takes = { λ _ _ _ _ _. ⊤ };
 
@@ -105,11 +105,10 @@ fn hand_on<Out, T: TakesNodes<Out>>(
     formula: &Formula,
     node: Option<Node<Row>>,
 ) -> Result<(), AllocError>
-    requires is_for { T.is_for taker.old formula.now }
-    requires node { IfSome node (λ n. (search : plans.Search) × (Q : List Literal) × IsCheckedNode search formula.now Q (node_of n)) }
+    requires node { IfSome node (λ n. (search : plans.Search) × (Q : List Literal) × T.is_for taker.old search formula.now × IsCheckedNode search (begun_by search formula.now) Q (node_of n)) }
     ensures takes { (first : T) (begun : Out) (nodes : List trees.Node) → T.takes first begun nodes taker.old out.old
         → OnOk result (T.takes first begun (nodes ++ nodes_in node) taker.new out.new) }
-    ensures still { OnOk result (T.is_for taker.new formula.now) }
+    ensures still { (search : plans.Search) → T.is_for taker.old search formula.now → OnOk result (T.is_for taker.new search formula.now) }
 {
     if let Some(node) = node {
         taker.take(out, formula, node)?;
@@ -130,15 +129,15 @@ pub fn go_through<Out, S: GivesOutcomes, T: TakesNodes<Out>>(
     out: &mut Out,
 ) -> Result<Tree<Unkept>, AllocError>
     requires gives { S.gives source.old formula.now plan }
-    requires is_for { T.is_for taker.old formula.now }
+    requires is_for { T.is_for taker.old plan.search formula.now }
     requires begun { T.takes taker.old out.old [] taker.old out.old }
-    ensures checked { IfOk result (λ t. IsCheckedResultOf plan.search formula.now t) }
-    ensures own { S.gives_own source.old formula.now plan → IfOk result (λ t. IsResultOf formula.now plan t) }
+    ensures checked { IfOk result (λ t. IsCheckedResultOf plan.search (begun_by plan.search formula.now) t) }
+    ensures own { S.gives_own source.old formula.now plan → IfOk result (λ t. IsResultOf (begun_by plan.search formula.now) plan t) }
     ensures says { IfOk result (λ t. Says plan.search formula.now t) }
     ensures taken { IfOk result (λ t. AreTaken (λ nodes. T.takes taker.old out.old nodes taker.new out.new) t) }
     ensures still { OnOk result (S.gives source.new formula.now plan) }
     ensures still_own { S.gives_own source.old formula.now plan → OnOk result (S.gives_own source.new formula.now plan) }
-    ensures is_for { OnOk result (T.is_for taker.new formula.now) }
+    ensures is_for { OnOk result (T.is_for taker.new plan.search formula.now) }
 {
     let _vars = formula.vars(); // it ensures what the proof needs of the formula
     let mut gathering = Gathering::start(alloc);

@@ -2,6 +2,7 @@
 ghost use Rattle.std.specs.Prelude.{◌≡◌, ◌≤◌, [], false, length, All, IfOk};
 ghost use Rattle.theory.specs.Results.{IsWhole};
 ghost use Rattle.pool.specs.Pools.{AreNew};
+ghost use Rattle.theory.specs.Beginnings.{begun_by};
 ghost use Rattle.cdcl.specs.Solving.{IsRootOf};
 ghost use Rattle.cubes.specs.Result.{IsResultBy, IsResultOf, Says};
 ghost use Rattle.cubes.specs.Shares.{HasDone, HaveDone};
@@ -37,16 +38,16 @@ fn all_work<L: KeepsLines + Send, R: Threads + Wait + Clock + Sync, G: Gate + Sy
     hands: Vec<Hand>,
 ) -> Result<Vec<Worked<L>>, AllocError>
     requires vars { All (λ h. h.vars ≡ formula.now.vars) hands.items }
-    requires root { IsRootOf formula.now plan root }
+    requires root { IsRootOf (begun_by plan.search formula.now) plan root }
     ensures len { IfOk result (λ v. length v.items ≡ length hands.items) }
-    ensures each { IfOk result (λ v. HaveDone L.lines formula.now plan hands.items v.items) }
+    ensures each { IfOk result (λ v. HaveDone L.lines (begun_by plan.search formula.now) plan hands.items v.items) }
 {
     thread::map_vec(
         rt,
         hands,
         &|hand: Hand| -> Worked<L>
-            requires { (hand.vars ≡ formula.now.vars) × IsRootOf formula.now plan root }
-            ensures { HasDone L.lines formula.entry.now plan hand result }
+            requires { (hand.vars ≡ formula.now.vars) × IsRootOf (begun_by plan.search formula.now) plan root }
+            ensures { HasDone L.lines (begun_by plan.search formula.entry.now) plan hand result }
         { work_in(rt, alloc, hand, formula, plan, root, gate) },
     )
 }
@@ -77,8 +78,8 @@ fn results_in<L: KeepsLines + Send, R: Threads + Wait + Clock + Sync, G: Gate + 
     requires some { 1 ≤ pool.hands }
     requires root { pool.root ≡ [] }
     requires hands { AreNew pool formula.now.vars hands.items }
-    requires known { IsRootOf formula.now plan known }
-    ensures { IfOk result (λ r. IsWhole formula.now plan (results_by L.lines r.items)) }
+    requires known { IsRootOf (begun_by plan.search formula.now) plan known }
+    ensures { IfOk result (λ r. IsWhole (begun_by plan.search formula.now) plan (results_by L.lines r.items)) }
 {
     let works = all_work(rt, alloc, formula, plan, known, gate, hands)?;
     if is_short(&works) {
@@ -101,8 +102,8 @@ fn solve_by_hands<L: KeepsLines + Send, R: Threads + Wait + Clock + Sync, G: Gat
     requires some { 1 ≤ pool.hands }
     requires root { pool.root ≡ [] }
     requires hands { AreNew pool formula.now.vars hands.items }
-    requires known { IsRootOf formula.now plan known }
-    ensures result { IfOk result (λ t. IsResultBy L.lines formula.now plan t) }
+    requires known { IsRootOf (begun_by plan.search formula.now) plan known }
+    ensures result { IfOk result (λ t. IsResultBy L.lines (begun_by plan.search formula.now) plan t) }
     ensures says { IfOk result (λ t. Says plan.search formula.now t) }
 {
     let _vars = formula.vars(); // it ensures what the proof needs of the formula
@@ -118,8 +119,8 @@ fn solve_here<L: KeepsLines, G: Gate>(
     root: Root,
     gate: &G,
 ) -> Result<Tree<L>, AllocError>
-    requires { IsRootOf formula.now plan root }
-    ensures result { IfOk result (λ t. IsResultBy L.lines formula.now plan t) }
+    requires { IsRootOf (begun_by plan.search formula.now) plan root }
+    ensures result { IfOk result (λ t. IsResultBy L.lines (begun_by plan.search formula.now) plan t) }
     ensures says { IfOk result (λ t. Says plan.search formula.now t) }
 {
     gather_in(alloc, formula, plan, root, Vec::new(alloc), gate)
@@ -136,8 +137,8 @@ fn solve_from<L: KeepsLines + Send, R: Threads + Wait + Clock + Sync, G: Gate + 
     gate: &G,
 ) -> Result<Tree<L>, AllocError>
     requires hands { (1 ≤ hands) × (hands ≤ 16) }
-    requires root { IsRootOf formula.now plan root }
-    ensures result { IfOk result (λ t. IsResultBy L.lines formula.now plan t) }
+    requires root { IsRootOf (begun_by plan.search formula.now) plan root }
+    ensures result { IfOk result (λ t. IsResultBy L.lines (begun_by plan.search formula.now) plan t) }
     ensures says { IfOk result (λ t. Says plan.search formula.now t) }
 {
     match pool::open(alloc, hands, formula.vars(), Cube::root(alloc)) {
@@ -156,7 +157,7 @@ pub(crate) fn solve_in<L: KeepsLines + Send, R: Threads + Wait + Clock + Sync, G
     gate: &G,
 ) -> Result<Tree<L>, AllocError>
     requires hands { (1 ≤ hands) × (hands ≤ 16) }
-    ensures result { IfOk result (λ t. IsResultBy L.lines formula.now plan t) }
+    ensures result { IfOk result (λ t. IsResultBy L.lines (begun_by plan.search formula.now) plan t) }
     ensures says { IfOk result (λ t. Says plan.search formula.now t) }
 {
     match prepare(alloc, formula, plan, gate)? {
@@ -178,7 +179,7 @@ pub fn solve_by_plan<R: Threads + Wait + Clock + Sync, G: Gate + Sync>(
     gate: &G,
 ) -> Result<Tree<Row>, AllocError>
     requires hands { (1 ≤ hands) × (hands ≤ 16) }
-    ensures result { IfOk result (λ t. IsResultOf formula.now plan t) }
+    ensures result { IfOk result (λ t. IsResultOf (begun_by plan.search formula.now) plan t) }
     ensures says { IfOk result (λ t. Says plan.search formula.now t) }
 {
     solve_in(rt, alloc, formula, plan, hands, gate)

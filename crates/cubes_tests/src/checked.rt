@@ -2,6 +2,7 @@
 //! true of the plan.
 ghost use Rattle.std.specs.Prelude.{OnOk};
 ghost use Rattle.theory.specs.Plans.{ordered};
+ghost use Rattle.theory.specs.Pure.{searched};
 ghost use Rattle.cubes.specs.Solved.{AreCheckedResults};
 
 use crate::results::solved;
@@ -34,8 +35,8 @@ fn put(
     numbers: &[i32],
     results: &mut Vec<Solved<LineRow>>,
 ) -> Result<(), AllocError>
-    requires { AreCheckedResults ordered formula.now results.old.items }
-    ensures { OnOk result (AreCheckedResults ordered formula.now results.new.items) }
+    requires { AreCheckedResults ordered (searched formula.now) results.old.items }
+    ensures { OnOk result (AreCheckedResults ordered (searched formula.now) results.new.items) }
 {
     let cube = cube_of(alloc, formula.vars(), numbers)?;
     let outcome = solved(alloc, formula, Plan::ordered(100), &cube)?;

@@ -2,6 +2,7 @@
 //! root, and the tree that is assembled from it.
 ghost use Rattle.std.specs.Prelude.{◌≡◌, ◌≤◌, false, map, length, All, IfOk};
 ghost use Rattle.theory.specs.Plans.{ordered_within};
+ghost use Rattle.theory.specs.Pure.{searched};
 ghost use Rattle.theory.specs.Results.{IsWhole};
 ghost use Rattle.cubes.specs.Shares.{HasDone, HaveDone};
 ghost use Rattle.cubes.specs.Solved.{solved_of};
@@ -32,14 +33,14 @@ fn all_work<R: Threads + Wait + Clock + Sync>(
 ) -> Result<Vec<Worked>, AllocError>
     requires { All (λ h. h.vars ≡ formula.now.vars) hands.items }
     ensures len { IfOk result (λ v. length v.items ≡ length hands.items) }
-    ensures each { IfOk result (λ v. HaveDone (λ lines. lines) formula.now (ordered_within 1) hands.items v.items) }
+    ensures each { IfOk result (λ v. HaveDone (λ lines. lines) (searched formula.now) (ordered_within 1) hands.items v.items) }
 {
     thread::map_vec(
         rt,
         hands,
         &|hand: Hand| -> Worked
             requires { hand.vars ≡ formula.now.vars }
-            ensures { HasDone (λ lines. lines) formula.entry.now (ordered_within 1) hand result }
+            ensures { HasDone (λ lines. lines) (searched formula.entry.now) (ordered_within 1) hand result }
         { work(rt, alloc, hand, formula, 1, &OpenGate) },
     )
 }
@@ -63,7 +64,7 @@ fn harvested<R: Threads + Wait + Clock + Sync>(
     hands: usize,
 ) -> Result<Vec<Solved>, Fail>
     requires { (1 ≤ hands) × (hands ≤ 16) }
-    ensures { IfOk result (λ r. IsWhole formula.now (ordered_within 1) (map solved_of r.items)) }
+    ensures { IfOk result (λ r. IsWhole (searched formula.now) (ordered_within 1) (map solved_of r.items)) }
 {
     let (pool, all) = pool::open(alloc, hands, formula.vars(), Cube::root(alloc))?;
     let works = all_work(rt, alloc, formula, all)?;
@@ -74,7 +75,7 @@ fn harvested<R: Threads + Wait + Clock + Sync>(
 }
 
 fn tree_of(alloc: Global, formula: &Formula, results: Vec<Solved>) -> Result<Tree, AllocError>
-    requires { IsWhole formula.now (ordered_within 1) (map solved_of results.items) }
+    requires { IsWhole (searched formula.now) (ordered_within 1) (map solved_of results.items) }
 {
     let _vars = formula.vars(); // it ensures that there are fewer than 2^31
     assemble(alloc, results)

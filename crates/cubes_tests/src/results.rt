@@ -3,6 +3,8 @@ ghost use Rattle.std.specs.Prelude.{IfOk, OnOk};
 ghost use Rattle.theory.specs.Truth.{IsOver};
 ghost use Rattle.theory.specs.Plans as plans;
 ghost use Rattle.theory.specs.Plans.{ordered_within};
+ghost use Rattle.theory.specs.Pure.{searched};
+ghost use Rattle.theory.specs.Beginnings.{begun_by};
 ghost use Rattle.theory.specs.Runs.{Runs};
 ghost use Rattle.theory.specs.Results.{OutcomeSays};
 ghost use Rattle.cdcl.specs.Outcome.{outcome_of};
@@ -60,8 +62,8 @@ pub fn solved(
     cube: &Cube,
 ) -> Result<Outcome<LineRow>, AllocError>
     requires { IsOver formula.now.vars cube.now }
-    ensures runs { IfOk result (λ o. Runs formula.now plan cube.now (outcome_of o)) }
-    ensures says { IfOk result (λ o. OutcomeSays plan.search formula.now cube.now (outcome_of o)) }
+    ensures runs { IfOk result (λ o. Runs (begun_by plan.search formula.now) plan cube.now (outcome_of o)) }
+    ensures says { IfOk result (λ o. OutcomeSays plan.search (begun_by plan.search formula.now) cube.now (outcome_of o)) }
 {
     let mut solver = Solver::open(alloc, formula, plan)?;
     solver.solve(cube)
@@ -75,8 +77,8 @@ fn put_result(
     given: Given,
     results: &mut Vec<Solved<LineRow>>,
 ) -> Result<bool, AllocError>
-    requires { AreTrueResults formula.now (ordered_within 1) results.old.items }
-    ensures { OnOk result (AreTrueResults formula.now (ordered_within 1) results.new.items) }
+    requires { AreTrueResults (searched formula.now) (ordered_within 1) results.old.items }
+    ensures { OnOk result (AreTrueResults (searched formula.now) (ordered_within 1) results.new.items) }
 {
     let cube = cube_of(alloc, formula.vars(), numbers)?;
     if let Given::Skipped(place) = given {

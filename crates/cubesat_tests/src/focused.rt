@@ -88,7 +88,7 @@ static DECIDED: [Decided; 16] = [
         "p cnf 3 4\n1 2 0\n1 -2 0\n-1 2 0\n-1 -2 0\n",
         "1",
         UNSATISFIABLE,
-        "5 -3 0 0\n6 1 2 0 1 0\n7 2 0 6 3 0\n7 d 6 0\n8 1 -2 0 2 0\n9 -2 0 8 4 0\n9 d 8 0\n10 0 7 9 0\n",
+        "5 1 2 0 1 0\n6 2 0 5 3 0\n6 d 5 0\n7 1 -2 0 2 0\n8 -2 0 7 4 0\n8 d 7 0\n9 0 6 8 0\n",
     ),
     (EIGHT, "1", UNSATISFIABLE, SPLIT),
     (EIGHT, "2", UNSATISFIABLE, SPLIT),

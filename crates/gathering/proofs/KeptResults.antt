@@ -6,6 +6,7 @@ use Rattle.theory.specs.Truth.{Formula}
 use Rattle.theory.specs.Plans.{Search, Plan}
 use Rattle.theory.specs.Search.{Outcome, model, refuted, exhausted}
 use Rattle.theory.specs.Runs.{Runs}
+use Rattle.theory.specs.Beginnings.{begun_by}
 use Rattle.theory.specs.Results.{What, IsTrueOf}
 use Rattle.theory.specs.Checked.{IsCheckedOf}
 use Rattle.cubes.specs.Solved.{LinesSolved, what_by, AreCheckedResults, AreTrueResults}
@@ -39,11 +40,12 @@ checked-done search F Q (Split x) what h is = subst (IsCheckedOf search F Q) (sy
 checked-done search F Q (Refuted lines) what h is = subst (IsCheckedOf search F Q) (sym is) (λ cube over. h)
 checked-done search F Q Model what h is = absurd is
 
-pub Keeps-checked : (search : Search) (F : Formula) (fs : List Fact) (ss : List LinesSolved) → Keeps search F fs ss → AreCheckedResults search F ss
-Keeps-checked search F fs ss nothing = All-nil (λ (s : LinesSolved). IsCheckedOf search F s.cube (what_by (λ lines. lines) s.what))
+pub Keeps-checked : (search : Search) (F : Formula) (fs : List Fact) (ss : List LinesSolved) → Keeps search F fs ss → AreCheckedResults search (begun_by search F) ss
+Keeps-checked search F fs ss nothing = All-nil (λ (s : LinesSolved). IsCheckedOf search (begun_by search F) s.cube (what_by (λ lines. lines) s.what))
 Keeps-checked search F fs ss (keeps {f = f} {fs = gs} {s = s} {ss = ts} c is more) =
-    All-cons (λ (t : LinesSolved). IsCheckedOf search F t.cube (what_by (λ lines. lines) t.what)) s ts
-    (subst (λ Q. IsCheckedOf search F Q (what_by (λ lines. lines) s.what)) (sym is.cube) (checked-done search F f.cube f.claim (what_by (λ lines. lines) s.what) c.claim is.what))
+    let G = begun_by search F in
+    All-cons (λ (t : LinesSolved). IsCheckedOf search G t.cube (what_by (λ lines. lines) t.what)) s ts
+    (subst (λ Q. IsCheckedOf search G Q (what_by (λ lines. lines) s.what)) (sym is.cube) (checked-done search G f.cube f.claim (what_by (λ lines. lines) s.what) c.claim is.what))
     (Keeps-checked search F gs ts more)
 Keeps-checked search F fs ss (leaves_out {fs = gs} c more) = Keeps-checked search F gs ss more
 
@@ -53,11 +55,12 @@ true-done F plan Q (model M) claim what runs says is = absurd (subst (λ c. IsDo
 true-done F plan Q (refuted lines) claim what runs says is = subst (IsTrueOf F plan Q) (sym (subst (λ c. IsDoneAs c what) says is)) runs
 true-done F plan Q (exhausted x) claim what runs says is = subst (IsTrueOf F plan Q) (sym (subst (λ c. IsDoneAs c what) says is)) runs
 
-pub Keeps-true : (search : Search) (F : Formula) (plan : Plan) (fs : List Fact) (ss : List LinesSolved) → All (IsTrueFact F plan) fs → Keeps search F fs ss → AreTrueResults F plan ss
-Keeps-true search F plan fs ss all nothing = All-nil (λ (s : LinesSolved). IsTrueOf F plan s.cube (what_by (λ lines. lines) s.what))
+pub Keeps-true : (search : Search) (F : Formula) (plan : Plan) (fs : List Fact) (ss : List LinesSolved) → All (IsTrueFact F plan) fs → Keeps search F fs ss → AreTrueResults (begun_by plan.search F) plan ss
+Keeps-true search F plan fs ss all nothing = All-nil (λ (s : LinesSolved). IsTrueOf (begun_by plan.search F) plan s.cube (what_by (λ lines. lines) s.what))
 Keeps-true search F plan fs ss all (keeps {f = f} {fs = gs} {s = s} {ss = ts} c is more) =
     let h = All-head (IsTrueFact F plan) f gs all in
-    All-cons (λ (t : LinesSolved). IsTrueOf F plan t.cube (what_by (λ lines. lines) t.what)) s ts
-    (subst (λ Q. IsTrueOf F plan Q (what_by (λ lines. lines) s.what)) (sym is.cube) (true-done F plan f.cube h.outcome f.claim (what_by (λ lines. lines) s.what) h.runs h.says is.what))
+    let G = begun_by plan.search F in
+    All-cons (λ (t : LinesSolved). IsTrueOf G plan t.cube (what_by (λ lines. lines) t.what)) s ts
+    (subst (λ Q. IsTrueOf G plan Q (what_by (λ lines. lines) s.what)) (sym is.cube) (true-done G plan f.cube h.outcome f.claim (what_by (λ lines. lines) s.what) h.runs h.says is.what))
     (Keeps-true search F plan gs ts (All-tail (IsTrueFact F plan) f gs all) more)
 Keeps-true search F plan fs ss all (leaves_out {f = f} {fs = gs} c more) = Keeps-true search F plan gs ss (All-tail (IsTrueFact F plan) f gs all) more

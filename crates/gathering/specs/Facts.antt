@@ -4,6 +4,7 @@ use Rattle.theory.specs.Truth.{Formula}
 use Rattle.theory.specs.Plans.{Plan}
 use Rattle.theory.specs.Search.{Outcome, model, refuted, exhausted}
 use Rattle.theory.specs.Runs.{Runs}
+use Rattle.theory.specs.Beginnings.{begun_by}
 use Rattle.theory.specs.Results.{done}
 use Rattle.theory.specs.Results as results
 use Rattle.cubes.specs.Solved.{LinesSolved, what_by}
@@ -20,7 +21,7 @@ claim_of (exhausted x) = Split x
 -- a fact is true: it says of its cube what the outcome by the plan is
 pub record IsTrueFact (F : Formula) (plan : Plan) (f : Fact) : Type 0 where
   pub outcome : Outcome
-  pub runs : Runs F plan f.cube outcome
+  pub runs : Runs (begun_by plan.search F) plan f.cube outcome
   pub says : f.claim ≡ claim_of outcome
 
 -- what became of a cube is what is said of it

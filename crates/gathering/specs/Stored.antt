@@ -3,6 +3,7 @@ use Rattle.std.specs.Prelude.{◌≡◌, List, Option, Some, All}
 use Rattle.theory.specs.Literals.{Literal}
 use Rattle.theory.specs.Truth.{Formula}
 use Rattle.theory.specs.Plans.{Search, Plan}
+use Rattle.theory.specs.Beginnings.{begun_by}
 use Rattle.packs.specs.declared.fact.Fact.{Fact}
 use Rattle.packs.specs.Checking.{IsCheckedFact, IsChecking}
 use Rattle.cubes.specs.Source.{IsOwnSolver}
@@ -20,4 +21,4 @@ AreTrueFacts facts F plan s = (fs : List Fact) × (facts s ≡ Some fs) × All (
 -- the checker and the solver are the formula's, by the plan
 pub record Gives {S : Type 0} (F : Formula) (plan : Plan) (o : StoredOutcomes S) : Type 0 where
   pub checker : IsChecking plan.search F o.checker
-  pub solver : IsOwnSolver F plan o.solver
+  pub solver : IsOwnSolver (begun_by plan.search F) plan o.solver

@@ -4,6 +4,7 @@ ghost use Rattle.std.specs.Thread.{IsSync};
 ghost use Rattle.theory.specs.Truth as truth;
 ghost use Rattle.theory.specs.Plans as plans;
 ghost use Rattle.theory.specs.Runs.{Runs};
+ghost use Rattle.theory.specs.Beginnings.{begun_by};
 ghost use Rattle.theory.specs.Results.{done};
 ghost use Rattle.theory.specs.Checked.{IsCheckedOf};
 ghost use Rattle.cdcl.specs.Outcome.{outcome_of};
@@ -169,8 +170,8 @@ fn take_home(
 ) -> Result<(), AllocError>
     ensures checked { (F : truth.Formula) (plan : plans.Plan) → All (IsHome F plan) homes.items → AreReady F plan checkers.old.items ahead.old.items
         → OnOk result (AreReady F plan checkers.new.items ahead.new.items) }
-    ensures own { (F : truth.Formula) (plan : plans.Plan) → All (IsOwnHome F plan) homes.items → AreTrueResults F plan ahead.old.items
-        → OnOk result (AreTrueResults F plan ahead.new.items) }
+    ensures own { (F : truth.Formula) (plan : plans.Plan) → All (IsOwnHome F plan) homes.items → AreTrueResults (begun_by plan.search F) plan ahead.old.items
+        → OnOk result (AreTrueResults (begun_by plan.search F) plan ahead.new.items) }
 {
     'homes: while let Some(home) = homes.pop() {
         let Home { checker, results } = home;

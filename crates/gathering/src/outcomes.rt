@@ -3,6 +3,7 @@ ghost use Rattle.std.specs.Prelude.{◌≡◌, ◌↔◌, IsTrue, IfOk, OnOk, If
 ghost use Rattle.theory.specs.Truth.{Formula, IsOver};
 ghost use Rattle.theory.specs.Plans as plans;
 ghost use Rattle.theory.specs.Runs.{Runs};
+ghost use Rattle.theory.specs.Beginnings.{begun_by};
 ghost use Rattle.theory.specs.Results.{done};
 ghost use Rattle.theory.specs.Checked.{IsCheckedOf};
 ghost use Rattle.cdcl.specs.Outcome.{outcome_of};
@@ -99,8 +100,8 @@ impl<S: KeepsFacts> StoredOutcomes<S> {
     /// What the last fact of a cube says that is checked, if there is one.
     fn stored(&mut self, formula: &Formula, cube: &Cube) -> Result<Option<Outcome<Row>>, AllocError>
         requires { (plan : plans.Plan) × Gives formula.now plan self.old }
-        ensures checked { (plan : plans.Plan) → Gives formula.now plan self.old → IfOk result (λ o. IfSome o (λ o. IsCheckedOf plan.search formula.now cube.now (done (outcome_of o)))) }
-        ensures own { (plan : plans.Plan) → Gives formula.now plan self.old → AreTrueFacts S.facts formula.now plan self.old.store → IfOk result (λ o. IfSome o (λ o. Runs formula.now plan cube.now (outcome_of o))) }
+        ensures checked { (plan : plans.Plan) → Gives formula.now plan self.old → IfOk result (λ o. IfSome o (λ o. IsCheckedOf plan.search (begun_by plan.search formula.now) cube.now (done (outcome_of o)))) }
+        ensures own { (plan : plans.Plan) → Gives formula.now plan self.old → AreTrueFacts S.facts formula.now plan self.old.store → IfOk result (λ o. IfSome o (λ o. Runs (begun_by plan.search formula.now) plan cube.now (outcome_of o))) }
         ensures still { (plan : plans.Plan) → Gives formula.now plan self.old → Gives formula.now plan self.new }
         ensures kept { S.facts self.new.store ≡ S.facts self.old.store }
     {

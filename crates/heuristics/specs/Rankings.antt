@@ -30,9 +30,9 @@ first_ranking c V = record { constants = c; scores = first_scores c V; waiting =
 abbrev pub best_waiting : Ranking → Option ℕ
 best_waiting r = best_of r.scores (filter (waits r) (variables (vars_of r)))
 
--- each variable without a literal in P waits
-abbrev pub AllWait : Ranking → List Literal → Type 0
-AllWait r P = (v : ℕ) → IsVariable (vars_of r) v → has_var P v ≡ false → waits r v ≡ true
+-- each variable that passes the test and has no literal in P waits
+abbrev pub AllWait : Ranking → (ℕ → Bool) → List Literal → Type 0
+AllWait r p P = (v : ℕ) → IsVariable (vars_of r) v → p v ≡ true → has_var P v ≡ false → waits r v ≡ true
 
 -- the same, but that the variable waits or doesn't
 abbrev pub with_waiting : Ranking → ℕ → Bool → Ranking

@@ -1,6 +1,6 @@
 -- The numbers in a tree's proof are within their limits, where its text is no longer than a proof
 -- may be.
-use Rattle.std.proofs.Common.{◌≡◌, ℕ, ◌+◌, ◌-◌, ◌<◌, ◌≤◌, not, List, [], ◌∷◌, ◌++◌, length, length-append, map, None, ap, sym, subst, ◌∙◌, append_assoc, arith, All}
+use Rattle.std.proofs.Common.{◌≡◌, ℕ, ◌+◌, ◌-◌, ◌<◌, ◌≤◌, not, List, [], ◌∷◌, ◌++◌, length, length-append, map, None, refl, ap, sym, subst, ◌∙◌, append_assoc, arith, All}
 use Rattle.std.proofs.lemmas.List.Elements.{All-nil, All-cons, All-filter, All-push, All-append, All-weaker, All-map}
 use Rattle.std.proofs.lemmas.List.{map-append}
 use Rattle.lrat_text.specs.declared.step.Step as steps
@@ -9,14 +9,15 @@ use Rattle.theory.specs.Literals.{Literal, IsVariable, positive, negative, negat
 use Rattle.theory.specs.Truth.{Formula, IsOver}
 use Rattle.theory.specs.Reading.{large, IsWithinLimits, max_vars}
 use Rattle.theory.specs.Learning.{Line}
-use Rattle.theory.specs.Search.{first_clauses}
+use Rattle.theory.specs.Pure.{searched}
+use Rattle.theory.specs.Beginnings.{Beginning, as_it_is, by_pure_units, begun, proof}
 use Rattle.theory.specs.Deletions.{is_among}
 use Rattle.theory.specs.Steps.{Step, delete}
 use Rattle.std.specs.List.{join_with_byte}
 use Rattle.theory.specs.Texts.{lf, space, step_words, step_text, proof_text}
 use Rattle.theory.specs.Trees.{Tree, satisfied, refutation, split, first_model, false_half, true_half}
 use Rattle.theory.specs.Checked.{IsCheckedTree}
-use Rattle.theory.specs.Proofs.{additions, renumbered, leaf_steps, refuted_steps, tree_steps, split_steps, deletion, forget_steps, forgotten_by, undeleted, numbers_from, prelude, proof}
+use Rattle.theory.specs.Proofs.{additions, renumbered, leaf_steps, refuted_steps, tree_steps, split_steps, deletion, forget_steps, forgotten_by, undeleted, numbers_from, prelude, lines_of}
 use Rattle.theory.proofs.checker.PreludeSteps.{IsStep-prelude}
 use Rattle.theory.proofs.searching.PureVariables.{length-first_clauses, length-pure_literals}
 use Rattle.theory.proofs.checker.DeletedNumbers.{numbers_from-All}
@@ -111,12 +112,12 @@ split-steps n left right Q fits some before more behind over =
     (deletion-within Q n (left ∷ right ∷ []) (omega arith, fits) (All-weaker (λ h. (1 ≤ h) × (h ≤ n - 1)) IsNumber (λ h w. let from = w.0 in let to = w.1 in (from, omega arith)) (left ∷ right ∷ []) hints))
 
 -- the lines of a tree without a model, of which there is one at least
-tree-steps : (F : Formula) (n : ℕ) (Q : List Literal) (t : Tree) → IsWithinLimits large F → AreOver F.vars Q → IsCheckedTree F Q t → first_model t ≡ None → length (first_clauses F) < n
-    → n + additions t ≤ max_number + 1 → All IsStep (tree_steps (length (first_clauses F)) n Q t) × (1 ≤ additions t)
+tree-steps : (F : Formula) (n : ℕ) (Q : List Literal) (t : Tree) → F.vars ≤ max_vars large → AreOver F.vars Q → IsCheckedTree F Q t → first_model t ≡ None → length F.clauses < n
+    → n + additions t ≤ max_number + 1 → All IsStep (tree_steps (length F.clauses) n Q t) × (1 ≤ additions t)
 tree-steps F n Q (satisfied M) within over h none low fits = absurd (cc)
 tree-steps F n Q (refutation lines) within over h none low fits =
     let are = refutation-lines F Q lines within h in (
-      refuted-steps (length (first_clauses F)) n Q lines low are.0 fits (IsOver-opposites F.vars Q within.vars (IsOver-from_AreOver F.vars Q over)) are.1,
+      refuted-steps (length F.clauses) n Q lines low are.0 fits (IsOver-opposites F.vars Q within (IsOver-from_AreOver F.vars Q over)) are.1,
       are.0,
     )
 tree-steps F n Q (split x l r) within over h none low fits =
@@ -126,24 +127,31 @@ tree-steps F n Q (split x l r) within over h none low fits =
     let some = left.1 in
     let more = right.1 in
     let last = split-steps (n + additions l + additions r) (n + additions l - 1) (n + additions l + additions r - 1) Q (omega arith) (omega arith) (omega arith) (omega arith) (omega arith)
-    (IsOver-opposites F.vars Q within.vars (IsOver-from_AreOver F.vars Q over)) in
-    let N = length (first_clauses F) in (
+    (IsOver-opposites F.vars Q within (IsOver-from_AreOver F.vars Q over)) in
+    let N = length F.clauses in (
       All-append IsStep (tree_steps N n (false_half Q x) l ++ tree_steps N (n + additions l) (true_half Q x) r) (split_steps (n + additions l + additions r) Q (n + additions l - 1) (n + additions l + additions r - 1))
           (All-append IsStep (tree_steps N n (false_half Q x) l) (tree_steps N (n + additions l) (true_half Q x) r) left.0 right.0) last,
       omega arith,
     )
 
-pub proof-within : (F : Formula) (t : Tree) → IsWithinLimits large F → IsCheckedTree F [] t → first_model t ≡ None → length (proof_text (proof F t)) ≤ max_proof_bytes large → All IsStep (proof F t)
-proof-within F t within h none short =
-    let N = length (first_clauses F) in
-    let few = few-steps (proof F t) in
-    let whole = length-append (prelude F) (tree_steps N (N + 1) [] t) in
+-- behind lines that are within their limits, so are those of a tree of these clauses
+lines-within : (F G : Formula) (before : List Step) (t : Tree) → IsWithinLimits large F → G.vars ≡ F.vars → length G.clauses ≤ length F.clauses + F.vars → All IsStep before → IsCheckedTree G [] t → first_model t ≡ None
+    → length (proof_text (before ++ lines_of G.clauses t)) ≤ max_proof_bytes large → All IsStep (before ++ lines_of G.clauses t)
+lines-within F G before t within same few_clauses are h none short =
+    let N = length G.clauses in
+    let few = few-steps (before ++ lines_of G.clauses t) in
+    let whole = length-append before (tree_steps N (N + 1) [] t) in
     let count = tree-length N (N + 1) [] t in
     let clauses = within.clauses in
     let vars = within.vars in
+    All-append IsStep before (tree_steps N (N + 1) [] t) are (tree-steps G (N + 1) [] t (omega arith) (λ l a. absurd (cc)) h none (omega arith) (omega arith)).0
+
+pub proof-within : (F : Formula) (b : Beginning) (t : Tree) → IsWithinLimits large F → IsCheckedTree (begun F b) [] t → first_model t ≡ None → length (proof_text (proof F b t)) ≤ max_proof_bytes large → All IsStep (proof F b t)
+proof-within F as_it_is t within h none short = lines-within F F [] t within refl (omega arith) (All-nil IsStep) h none short
+proof-within F by_pure_units t within h none short =
     let first = length-first_clauses F in
     let units = length-pure_literals F in
-    All-append IsStep (prelude F) (tree_steps N (N + 1) [] t) (IsStep-prelude F within) (tree-steps F (N + 1) [] t within (λ l a. absurd (cc)) h none (omega arith) (omega arith)).0
+    lines-within F (searched F) (prelude F) t within refl (omega arith) (IsStep-prelude F within) h none short
 
 -- a line more in the list of steps
 pub steps-more : (old new : List steps.Step) (step : steps.Step) (line : Step) (before after whole : List Step) → All IsStep (map step_of old) → map step_of old ++ before ≡ whole → before ≡ line ∷ after → IsStep line

@@ -4,9 +4,8 @@ use Rattle.std.proofs.lemmas.List.{same_from_push}
 use Rattle.std.proofs.lemmas.List.Elements.{All-nil, All-cons, All-weaker}
 use Rattle.theory.specs.Literals.{Literal, Clause, IsVariable, negations}
 use Rattle.theory.specs.Truth.{Formula}
-use Rattle.theory.specs.Reading.{large, IsWithinLimits, max_vars}
+use Rattle.theory.specs.Reading.{large, max_vars}
 use Rattle.theory.specs.Learning.{Line}
-use Rattle.theory.specs.Search.{first_clauses}
 use Rattle.theory.specs.Checked.{IsCheckedTree}
 use Rattle.theory.specs.Trees.{Tree, satisfied, refutation, split, Node, nodes_of, false_half, true_half}
 use Rattle.theory.specs.Checking.{clause_of, Hint, missing, false_clause, not_unit, unit_in, hint, conflicts, fails, end_at_conflict, no_such_clause, hint_not_unit, take_hints}
@@ -72,25 +71,25 @@ replayed-lines V N n Q K gone (line ∷ lines) few count h f keeps =
       replayed-lines V N (n + 1) Q (K ++ line.clause ∷ []) (gone ++ line.forgets) lines few longer h.1 f.1 (λ before last e. keeps (line ∷ before) last (ap (λ (ls : List Line). line ∷ ls) e)),
     )
 
-pub refutation-lines : (F : Formula) (Q : List Literal) (lines : List Line) → IsWithinLimits large F → AreRefutation F.vars (length (first_clauses F)) Q (first_clauses F) lines
-    → (0 < length lines) × AreLines (length (first_clauses F)) (length (first_clauses F)) lines
+pub refutation-lines : (F : Formula) (Q : List Literal) (lines : List Line) → F.vars ≤ max_vars large → AreRefutation F.vars (length F.clauses) Q F.clauses lines
+    → (0 < length lines) × AreLines (length F.clauses) (length F.clauses) lines
 refutation-lines F Q lines within h =
     let long = ap length h.ends ∙ length-append h.before (h.last ∷ []) in
     let keeps : KeepsLast lines = λ before last e. ap (λ (l : Line). l.forgets) (same_from_push before h.before last h.last (sym e ∙ h.ends)).1 ∙ h.keeps in
-    (omega arith, replayed-lines F.vars (length (first_clauses F)) (length (first_clauses F)) Q (first_clauses F) [] lines within.vars refl h.replayed h.forgetting keeps)
+    (omega arith, replayed-lines F.vars (length F.clauses) (length F.clauses) Q F.clauses [] lines within refl h.replayed h.forgetting keeps)
 
 nodes-append : (N : ℕ) (ns ms : List Node) → AreNodes N ns → AreNodes N ms → AreNodes N (ns ++ ms)
 nodes-append N [] ms h k = k
 nodes-append N (n ∷ ns) ms h k = (h.0, nodes-append N ns ms h.1 k)
 
 -- the nodes of a cube's tree
-pub tree-nodes : (F : Formula) (Q : List Literal) (t : Tree) → IsWithinLimits large F → IsCheckedTree F Q t → AreNodes (length (first_clauses F)) (nodes_of t)
+pub tree-nodes : (F : Formula) (Q : List Literal) (t : Tree) → F.vars ≤ max_vars large → IsCheckedTree F Q t → AreNodes (length F.clauses) (nodes_of t)
 tree-nodes F Q (satisfied M) within h = tt
 tree-nodes F Q (refutation lines) within h = (refutation-lines F Q lines within h, tt)
 tree-nodes F Q (split x l r) within h =
     let low = h.0.0.0 in
     let high = h.0.0.1 in
-    let few = within.vars in (
+    let few = within in (
       (low, omega arith),
-      nodes-append (length (first_clauses F)) (nodes_of l) (nodes_of r) (tree-nodes F (false_half Q x) l within h.1) (tree-nodes F (true_half Q x) r within h.2),
+      nodes-append (length F.clauses) (nodes_of l) (nodes_of r) (tree-nodes F (false_half Q x) l within h.1) (tree-nodes F (true_half Q x) r within h.2),
     )

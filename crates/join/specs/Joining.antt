@@ -2,7 +2,6 @@
 use Rattle.std.specs.Prelude.{ℕ, ◌+◌, ◌-◌, Bool, List, [], ◌∷◌, ◌++◌, map, length, Some, None}
 use Rattle.theory.specs.Literals.{Literal, negations}
 use Rattle.theory.specs.Truth.{Formula}
-use Rattle.theory.specs.Pure.{pure_literals}
 use Rattle.theory.specs.Trees as trees
 use Rattle.theory.specs.Steps.{Step, add}
 use Rattle.theory.specs.Learning.{Line}
@@ -35,7 +34,7 @@ abbrev pub on_nodes : ℕ → Joined → List trees.Node → Joined
 on_nodes N s [] = s
 on_nodes N s (n ∷ ns) = on_nodes N (on_node N s n) ns
 
--- the line of a pure variable's negation
+-- the line of a unit clause
 abbrev pub unit_line : ℕ → Literal → Step
 unit_line n l = add (record { id = n; clause = l ∷ []; hints = []; groups = [] })
 
@@ -71,6 +70,6 @@ bare s = record { halves = s.halves; next = s.next; steps = [] }
 abbrev pub before_nodes : ℕ → List Literal → Joined
 before_nodes C units = record { halves = []; next = C + length units + 1; steps = unit_steps (C + 1) units }
 
--- what follows the first nodes of a formula's tree
-abbrev pub after_nodes : Formula → List trees.Node → Joined
-after_nodes F nodes = on_nodes (length F.clauses + length (pure_literals F)) (before_nodes (length F.clauses) (pure_literals F)) nodes
+-- what follows the first nodes of a formula's tree, behind the lines of these units
+abbrev pub after_nodes : Formula → List Literal → List trees.Node → Joined
+after_nodes F units nodes = on_nodes (length F.clauses + length units) (before_nodes (length F.clauses) units) nodes

@@ -3,15 +3,17 @@ use Rattle.std.specs.Prelude.{◌≡◌, ℕ, ◌+◌, ◌<◌, ◌≤◌, List,
 use Rattle.theory.specs.Literals.{Literal, IsVariable}
 use Rattle.theory.specs.Truth.{Formula, IsOver}
 use Rattle.theory.specs.Reading.{large, max_vars}
-use Rattle.theory.specs.Pure.{pure_literals}
 use Rattle.theory.specs.Learning.{Line}
 use Rattle.theory.specs.Trees as trees
 use Rattle.theory.specs.Steps.{Step}
-use Rattle.theory.specs.Proofs.{proof}
+use Rattle.theory.specs.Plans.{Constants}
+use Rattle.theory.specs.Beginnings.{Beginning, begun, proof}
 use Rattle.theory.specs.Checking.{checks, accepted}
 use Rattle.theory.specs.ProofReading.{IsStep, max_proof_bytes}
 use Rattle.theory.specs.Texts.{proof_text}
-use Rattle.cubes.specs.Result.{LinesTree, node_of}
+use Rattle.cdcl.specs.Plans.{search_of, beginning_of, first_units}
+use Rattle.cdcl.specs.declared.plan.Search.{Search}
+use Rattle.cubes.specs.Result.{LinesTree, node_of, IsCheckedResultOf}
 use Rattle.cubes.specs.declared.tree.Node.{Node}
 use Rattle.cubes.specs.declared.tree.Tree.TheVariants.{Model, Refuted}
 use Rattle.cubes.specs.declared.traversal.Split.{Split}
@@ -50,10 +52,17 @@ pub record IsHalf (n : ℕ) (h : Split ℕ) : Type 0 where
   pub variable : IsVariable (max_vars large) h.var
   pub left : IsBefore n h.left
 
--- the pure literals that the proof of a result begins with: that of a model has none
-abbrev pub AreUnitsOf : Formula → LinesTree → List Literal → Type 0
-AreUnitsOf F (Model values) units = units ≡ []
-AreUnitsOf F (Refuted nodes) units = units ≡ pure_literals F
+-- the literals whose unit clauses the proof of a result by this search begins with: that of a model
+-- has none
+abbrev pub AreUnitsOf : Formula → Search → LinesTree → List Literal → Type 0
+AreUnitsOf F search (Model values) units = units ≡ []
+AreUnitsOf F search (Refuted nodes) units = units ≡ first_units search F
+
+-- the nodes of a result by this search, with whatever numbers, are those of a checked tree; of a
+-- model nothing is asked, since it has none
+abbrev pub AreChecked : Formula → Search → LinesTree → Type 0
+AreChecked F search (Model values) = Unit {0}
+AreChecked F search (Refuted nodes) = (constants : Constants) × IsCheckedResultOf (search_of search constants) (begun F (beginning_of search)) (Refuted nodes)
 
 -- the nodes of a result: a model has none
 abbrev pub AreNodesOf : LinesTree → List (Node (List Line)) → Type 0
@@ -61,9 +70,9 @@ AreNodesOf (Model values) nodes = nodes ≡ []
 AreNodesOf (Refuted ns) nodes = nodes ≡ ns.items
 
 -- the steps for a result: none for a model, and else the proof of the tree whose nodes they are
-abbrev pub AreStepsOf : Formula → LinesTree → List Step → Type 0
-AreStepsOf F (Model values) steps = steps ≡ []
-AreStepsOf F (Refuted nodes) steps = (t : trees.Tree) → trees.first_model t ≡ None → trees.nodes_of t ≡ map node_of nodes.items → steps ≡ proof F t
+abbrev pub AreStepsOf : Formula → Beginning → LinesTree → List Step → Type 0
+AreStepsOf F b (Model values) steps = steps ≡ []
+AreStepsOf F b (Refuted nodes) steps = (t : trees.Tree) → trees.first_model t ≡ None → trees.nodes_of t ≡ map node_of nodes.items → steps ≡ proof F b t
 
 -- the checker accepts the steps for a result that is no model
 abbrev pub AreAccepted : Formula → LinesTree → List Step → Type 0

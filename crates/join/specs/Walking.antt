@@ -3,7 +3,6 @@ use Rattle.std.specs.Prelude.{◌≡◌, ℕ, ◌+◌, ◌-◌, ◌<◌, ◌≤�
 use Rattle.std.specs.Vec.Iter.{into_iter_items}
 use Rattle.theory.specs.Literals.{Literal}
 use Rattle.theory.specs.Truth.{Formula}
-use Rattle.theory.specs.Pure.{pure_literals}
 use Rattle.theory.specs.Trees as trees
 use Rattle.theory.specs.Learning.{Line}
 use Rattle.theory.specs.Reading.{large, max_vars, max_clauses}
@@ -126,8 +125,9 @@ abbrev pub Makes : Joiner → Joiner → Bool → Type 0
 Makes old new true = IsMade old new
 Makes old new false = IsKept old new
 
--- the first nodes of a formula's tree were taken, and these lines were made of what they give
-pub record HasJoined (F : Formula) (nodes : List trees.Node) (lines : List Step) (j : Joiner) : Type 0 where
+-- the first nodes of a formula's tree were taken, behind the lines of these units, and these lines
+-- were made of what they give
+pub record HasJoined (F : Formula) (units : List Literal) (nodes : List trees.Node) (lines : List Step) (j : Joiner) : Type 0 where
   pub lawful : IsJoining j
-  pub clauses : j.clauses ≡ length F.clauses + length (pure_literals F)
-  pub so_far : behind lines (joined j) ≡ after_nodes F nodes
+  pub clauses : j.clauses ≡ length F.clauses + length units
+  pub so_far : behind lines (joined j) ≡ after_nodes F units nodes

@@ -1,20 +1,21 @@
-//! The lines of a refuted tree's proof, one after the other: those of the pure literals, and then,
-//! subtree by subtree, the left half's lines, the right half's, and that of the split, with what
-//! each leaves to be deleted.
+//! The lines of a refuted tree's proof, one after the other: those of the units that the search
+//! begins with, and then, subtree by subtree, the left half's lines, the right half's, and that of
+//! the split, with what each leaves to be deleted.
 ghost use Rattle.std.specs.Prelude.{◌≡◌, ℕ, ◌-◌, ◌≤◌, [], ◌++◌, map, length, IfOk, OnOk};
 ghost use Rattle.std.specs.Bool.{OnFalse};
 ghost use Rattle.std.specs.Vec.{vec_capacity};
-ghost use Rattle.theory.specs.Plans.{Search};
+ghost use Rattle.cdcl.specs.Plans.{beginning_of};
 ghost use Rattle.theory.specs.ProofReading.{IsStep};
-ghost use Rattle.cubes.specs.Result.{IsCheckedResultOf, node_of};
+ghost use Rattle.cubes.specs.Result.{node_of};
 ghost use Rattle.join.specs.Joining.{bare, on_nodes};
-ghost use Rattle.join.specs.Numbered.{AreNodes, AreNodesOf, AreUnitsOf, AreStepsOf, AreAccepted, AreWithin};
+ghost use Rattle.join.specs.Numbered.{AreChecked, AreNodes, AreNodesOf, AreUnitsOf, AreStepsOf, AreAccepted, AreWithin};
 ghost use Rattle.join.specs.Rooms.{HasRoom, longest_text};
 ghost use Rattle.join.specs.Walking.{joined, line_of, lines_left, HasNextLine, IsAtEnd, IsBetweenLines, IsBetweenNodes, IsStanding, OnMore};
 
 use crate::joiner::Joiner;
 use crate::line::ProofLine;
 use crate::room::Need;
+use cdcl::Search;
 use cnf::{Formula, Lit};
 use cubes::{Node, Tree, TreeSize};
 use lines::Row;
@@ -47,14 +48,20 @@ fn size_of(node: &Node<Row>) -> usize {
     }
 }
 
-/// The pure literals that a result's proof begins with; that of a model has none.
-fn units_of(alloc: Global, formula: &Formula, tree: &Tree<Row>) -> Result<Vec<Lit>, AllocError>
-    ensures { IfOk result (λ units. AreUnitsOf formula.now tree.now units.items) }
+/// The literals whose unit clauses a result's proof begins with, where it is the result of this
+/// search; that of a model has none.
+fn units_of(
+    alloc: Global,
+    formula: &Formula,
+    search: Search,
+    tree: &Tree<Row>,
+) -> Result<Vec<Lit>, AllocError>
+    ensures { IfOk result (λ units. AreUnitsOf formula.now search tree.now units.items) }
 {
     match tree {
         Tree::Model(_) => Ok(Vec::new(alloc)),
         Tree::Refuted(_) => {
-            let units = formula.pure(alloc)?;
+            let units = search.units(alloc, formula)?;
             Ok(units)
         }
     }
@@ -71,12 +78,18 @@ fn nodes_of(alloc: Global, tree: Tree<Row>) -> Vec<Node<Row>>
 }
 
 impl Lines {
-    /// The lines for a formula's result, which may be one that nobody vouches for and that was
-    /// checked: those of its pure literals and of its tree, and none for a model. All memory that
-    /// they need is asked for here; it fails only where that is refused.
-    pub fn of(alloc: Global, formula: &Formula, tree: Tree<Row>) -> Result<Lines, AllocError>
-        requires { (search : Search) × IsCheckedResultOf search formula.now tree }
-        ensures steps { IfOk result (λ l. AreStepsOf formula.now tree (lines_left l)) }
+    /// The lines for a formula's result by this search, which may be one that nobody vouches for and
+    /// that was checked: those of the units that the search begins with and of its tree, and none
+    /// for a model. All memory that they need is asked for here; it fails only where that is
+    /// refused.
+    pub fn of(
+        alloc: Global,
+        formula: &Formula,
+        search: Search,
+        tree: Tree<Row>,
+    ) -> Result<Lines, AllocError>
+        requires { AreChecked formula.now search tree }
+        ensures steps { IfOk result (λ l. AreStepsOf formula.now (beginning_of search) tree (lines_left l)) }
         ensures within { IfOk result (λ l. AreWithin (lines_left l)) }
         ensures accepted { IfOk result (λ l. AreAccepted formula.now tree (lines_left l)) }
         ensures lawful { IfOk result IsBetweenNodes }
@@ -84,7 +97,7 @@ impl Lines {
     {
         let _vars = formula.vars(); // it ensures what the proof needs of the formula
         let clauses = formula.clause_count() as u64;
-        let units = units_of(alloc, formula, &tree)?;
+        let units = units_of(alloc, formula, search, &tree)?;
         let need = match TreeSize::of(&tree) {
             Some(size) => Need::of(size, formula.vars() as usize),
             None => Need::none(),

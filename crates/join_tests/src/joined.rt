@@ -2,7 +2,7 @@
 ghost use Rattle.std.specs.Prelude.{◌≤◌};
 
 use crate::fed::put_line;
-use cdcl::Plan;
+use cdcl::{Plan, Search};
 use cnf::{Formula, read_formula};
 use cubes::{solve_one, solve_one_by_plan};
 use join::{Lines, ProofLine, join, proof_bytes};
@@ -29,7 +29,7 @@ fn proof_of(alloc: Global, formula: &Formula, budget: u32) -> Result<Vec<u8>, Al
 {
     let _vars = formula.vars(); // it ensures what the proof needs of the formula
     let tree = solve_one_by_plan(alloc, formula, Plan::ordered(budget))?;
-    let mut lines = Lines::of(alloc, formula, tree)?;
+    let mut lines = Lines::of(alloc, formula, Search::Ordered, tree)?;
     let mut text = Vec::new(alloc);
     while lines.next_line()? {
         put_line(lines.line(), &mut text)?;
@@ -135,7 +135,7 @@ fn a_model_has_no_proof(rt: HostRuntime) -> Result<(), Fail> {
 fn text_of_steps(alloc: Global, formula: &Formula) -> Result<Vec<u8>, AllocError> {
     let _vars = formula.vars(); // it ensures what the proof needs of the formula
     let tree = solve_one(alloc, formula, 2)?;
-    let steps = join(alloc, formula, tree)?;
+    let steps = join(alloc, formula, Search::Ordered, tree)?;
     proof_bytes(alloc, &steps)
 }
 
@@ -171,7 +171,7 @@ fn has_room(alloc: Global, text: &str, budget: u32) -> Result<bool, Fail> {
     }
     let _vars = formula.vars(); // it ensures what the proof needs of the formula
     let tree = solve_one_by_plan(alloc, &formula, Plan::ordered(budget))?;
-    let mut lines = Lines::of(alloc, &formula, tree)?;
+    let mut lines = Lines::of(alloc, &formula, Search::Ordered, tree)?;
     let size = lines.line_size();
     while lines.next_line()? {
         if lines.line_size() != size || most_bytes(lines.line()) > size {

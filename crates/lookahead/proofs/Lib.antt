@@ -1,4 +1,5 @@
 pub mod TableLemmas
+pub mod HeldCounts
 pub mod RankingOrder
 pub mod RankingLemmas
 pub mod TrailLengths

@@ -1,19 +1,21 @@
 -- The variables that are free, in the order of a ranking, are the best ones of those that are free.
-use Rattle.std.proofs.Common.{◌≡◌, ℕ, zero, suc, ◌+◌, ◌-◌, ◌<◌, ◌≤◌, Bool, true, false, not, ◌||◌, cond, nat_eq, eqb-true, eq-eqb, All, List, [], ◌∷◌, ◌++◌, length, length-append, append_assoc, append-nil, map, drop, get_or, is_some, option_map, refl, ap, sym, ◌∙◌, Some, None, arith, if◌then◌else◌}
+use Rattle.std.proofs.Common.{◌≡◌, ℕ, zero, suc, ◌+◌, ◌-◌, ◌<◌, ◌≤◌, Bool, true, false, not, ◌&&◌, ◌||◌, cond, nat_eq, eqb-true, eq-eqb, All, List, [], ◌∷◌, ◌++◌, length, length-append, append_assoc, append-nil, map, filter, drop, get_or, is_some, option_map, refl, ap, sym, ◌∙◌, Some, None, arith, if◌then◌else◌}
 use Rattle.std.specs.List.{list_any, count_by}
 use Rattle.std.proofs.lemmas.List.{drop_all}
-use Rattle.std.proofs.lemmas.List.Elements.{All-nil, All-cons}
+use Rattle.std.proofs.lemmas.List.Elements.{All-nil, All-cons, All-head}
 use Rattle.std.proofs.lemmas.List.Sums.{sum_by-cons}
 use Rattle.std.proofs.lemmas.List.Sorted.{sorted_far, sum_by-IsPermutation, list_any-IsPermutation}
 use Rattle.theory.specs.Literals.{Literal, Clause, has_var, positive, IsVariable}
 use Rattle.theory.specs.Trails.{Trail, Entry, literals, entry_of, variables}
-use Rattle.theory.specs.Scores.{Scores, score_of, best_outside}
+use Rattle.theory.specs.Truth.{Formula}
+use Rattle.theory.specs.Held.{is_held, held}
+use Rattle.theory.specs.Scores.{Scores, score_of, best_of, best_outside}
 use Rattle.theory.specs.Looking.{rank, ranks, best_ones}
-use Rattle.theory.proofs.literals.LiteralLemmas.{not_true, or-left, or-right}
-use Rattle.theory.proofs.literals.LiteralSets.{true_false, false_unless, or-false_left, or-false_right}
-use Rattle.theory.proofs.searching.BestOnes.{best_of-top, best_of-nobody}
-use Rattle.theory.proofs.searching.BestVariables.{in-variables}
-use Rattle.theory.proofs.searching.MappedVariables.{at-variable, variables-has, variables-once}
+use Rattle.theory.proofs.literals.LiteralLemmas.{not_true, and-left, and-right, or-left, or-right}
+use Rattle.theory.proofs.literals.LiteralSets.{true_false, and-true, false_unless, or-false_left, or-false_right}
+use Rattle.theory.proofs.searching.BestOnes.{best_of-top, best_of-nobody, filter-both}
+use Rattle.theory.proofs.searching.HeldVariables.{held-variable, held-is, held-has}
+use Rattle.theory.proofs.searching.MappedVariables.{at-variable, variables-once}
 use Rattle.lookahead.specs.Rankings.{goes_before, ranked_by, first_free, IsRanking}
 use Rattle.lookahead.specs.declared.ranking.Ranked.{Ranked}
 use Rattle.lookahead.proofs.RankingOrder.{order, IsNotBefore-from_test}
@@ -22,15 +24,17 @@ use Rattle.lookahead.proofs.RankingOrder.{order, IsNotBefore-from_test}
 abbrev pub holds : List Ranked → ℕ → Bool
 holds rs v = list_any (λ (r : Ranked). nat_eq v r.var) rs
 
--- what is so of a list by rank
-record AreRanked (s : Scores) (V : ℕ) (rs : List Ranked) : Type 0 where
+-- what is so of a list by rank, of those of the variables 1 to V that pass
+record AreRanked (s : Scores) (V : ℕ) (p : ℕ → Bool) (rs : List Ranked) : Type 0 where
   far : (i j : ℕ) (d : Ranked) → i ≤ j → j < length rs → goes_before (get_or rs j d) (get_or rs i d) ≡ false
-  scored : (i : ℕ) (d : Ranked) → i < length rs → IsVariable V (get_or rs i d).var × ((get_or rs i d).rank ≡ score_of s (get_or rs i d).var)
+  chosen : (i : ℕ) (d : Ranked) → i < length rs → IsVariable V (get_or rs i d).var × (p (get_or rs i d).var ≡ true)
+  scored : (i : ℕ) (d : Ranked) → i < length rs → (get_or rs i d).rank ≡ score_of s (get_or rs i d).var
   apart : (i j : ℕ) (d : Ranked) → i < j → j < length rs → (get_or rs i d).var ≡ (get_or rs j d).var → ⊥
 
-AreRanked-rest : (s : Scores) (V : ℕ) (r : Ranked) (rs : List Ranked) → AreRanked s V (r ∷ rs) → AreRanked s V rs
-AreRanked-rest s V r rs h = record {
+AreRanked-rest : (s : Scores) (V : ℕ) (p : ℕ → Bool) (r : Ranked) (rs : List Ranked) → AreRanked s V p (r ∷ rs) → AreRanked s V p rs
+AreRanked-rest s V p r rs h = record {
   far = λ i j d l u. h.far (suc i) (suc j) d (omega arith) (omega arith);
+  chosen = λ i d u. h.chosen (suc i) d (omega arith);
   scored = λ i d u. h.scored (suc i) d (omega arith);
   apart = λ i j d l u. h.apart (suc i) (suc j) d (omega arith) (omega arith);
 }
@@ -45,48 +49,57 @@ holds-at (r ∷ rs) v d h = go (nat_eq v r.var) refl h (holds-at rs v d)
     go true e t more = (0, omega arith, sym (eqb-true v r.var e))
     go false e t more = let m = more t in let u = m.1 in (suc m.0, omega (arith, u), m.2)
 
--- the free ones are in the list
-abbrev AreThere : ℕ → List Literal → List Ranked → Type 0
-AreThere V Q rs = (v : ℕ) → IsVariable V v → has_var Q v ≡ false → holds rs v ≡ true
+-- the free ones that pass are in the list
+abbrev AreThere : ℕ → (ℕ → Bool) → List Literal → List Ranked → Type 0
+AreThere V p Q rs = (v : ℕ) → IsVariable V v → p v ≡ true → has_var Q v ≡ false → holds rs v ≡ true
 
 -- the first one is the best one, if it is free
-first-top : (s : Scores) (V : ℕ) (Q : List Literal) (r : Ranked) (rs : List Ranked) → AreRanked s V (r ∷ rs) → AreThere V Q (r ∷ rs) → has_var Q r.var ≡ false → best_outside V Q s ≡ Some r.var
-first-top s V Q r rs h there free = best_of-top s (λ v. not (has_var Q v)) V r.var (record {
-  low = first.0.0;
-  high = first.0.1;
-  passes = ap not free;
-  above = above;
-})
+first-top : (s : Scores) (V : ℕ) (p : ℕ → Bool) (Q : List Literal) (r : Ranked) (rs : List Ranked) → AreRanked s V p (r ∷ rs) → AreThere V p Q (r ∷ rs) → has_var Q r.var ≡ false
+    → best_outside (filter p (variables V)) Q s ≡ Some r.var
+first-top s V p Q r rs h there free =
+    ap (best_of s) (filter-both (λ v. not (has_var Q v)) p (variables V))
+    ∙ best_of-top s (λ v. p v && not (has_var Q v)) V r.var (record {
+      low = first.0.0;
+      high = first.0.1;
+      passes = and-true (p r.var) (not (has_var Q r.var)) first.1 (ap not free);
+      above = above;
+    })
   where
-    first : IsVariable V r.var × (r.rank ≡ score_of s r.var)
-    first = h.scored 0 r (omega arith)
+    first : IsVariable V r.var × (p r.var ≡ true)
+    first = h.chosen 0 r (omega arith)
 
-    above : (v : ℕ) → 1 ≤ v → v ≤ V → not (has_var Q v) ≡ true → (score_of s v ≤ score_of s r.var) × (score_of s v ≡ score_of s r.var → v ≤ r.var)
-    above v l u t = go (holds-at (r ∷ rs) v r (there v (l, u) (not_true (has_var Q v) t)))
+    score : r.rank ≡ score_of s r.var
+    score = h.scored 0 r (omega arith)
+
+    above : (v : ℕ) → 1 ≤ v → v ≤ V → (p v && not (has_var Q v)) ≡ true → (score_of s v ≤ score_of s r.var) × (score_of s v ≡ score_of s r.var → v ≤ r.var)
+    above v l u t = go (holds-at (r ∷ rs) v r (there v (l, u) (and-left (p v) (not (has_var Q v)) t) (not_true (has_var Q v) (and-right (p v) (not (has_var Q v)) t))))
       where
         go : (j : ℕ) × (j < suc (length rs)) × ((get_or (r ∷ rs) j r).var ≡ v) → (score_of s v ≤ score_of s r.var) × (score_of s v ≡ score_of s r.var → v ≤ r.var)
         go m =
             let a = get_or (r ∷ rs) m.0 r in
             let not_before = IsNotBefore-from_test a r (h.far 0 m.0 r (omega arith) m.1) in
-            let score : a.rank ≡ score_of s v = (h.scored m.0 r m.1).1 ∙ ap (score_of s) m.2 in
+            let other : a.rank ≡ score_of s v = h.scored m.0 r m.1 ∙ ap (score_of s) m.2 in
             let low = not_before.rank in
-            let is = first.1 in
+            let is = score in
             let here = m.2 in
-            (omega (arith, score, low, is), λ e. let less = not_before.var (omega (arith, score, is, e)) in omega (arith, less, here))
+            (omega (arith, other, low, is), λ e. let less = not_before.var (omega (arith, other, is, e)) in omega (arith, less, here))
 
-first-nobody : (s : Scores) (V : ℕ) (Q : List Literal) → AreThere V Q [] → best_outside V Q s ≡ None
-first-nobody s V Q there = best_of-nobody s (λ v. not (has_var Q v)) V (λ v l u. go v (l, u) (has_var Q v) refl)
+first-nobody : (s : Scores) (V : ℕ) (p : ℕ → Bool) (Q : List Literal) → AreThere V p Q [] → best_outside (filter p (variables V)) Q s ≡ None
+first-nobody s V p Q there =
+    ap (best_of s) (filter-both (λ v. not (has_var Q v)) p (variables V))
+    ∙ best_of-nobody s (λ v. p v && not (has_var Q v)) V (λ v l u. go v (l, u) (p v) (has_var Q v) refl refl)
   where
-    go : (v : ℕ) → IsVariable V v → (b : Bool) → has_var Q v ≡ b → not b ≡ false
-    go v k true e = refl
-    go v k false e = absurd (let t = there v k e in cc)
+    go : (v : ℕ) → IsVariable V v → (a b : Bool) → p v ≡ a → has_var Q v ≡ b → (a && not b) ≡ false
+    go v k false b t e = refl
+    go v k true true t e = refl
+    go v k true false t e = absurd (let h = there v k t e in cc)
 
 -- P is what is on the trail, and Q has the variables that were taken besides
-best-first : (s : Scores) (V : ℕ) (rs : List Ranked) (n : ℕ) (P Q : List Literal) → AreRanked s V rs → AreThere V Q rs
-    → ((i : ℕ) (d : Ranked) → i < length rs → has_var Q (get_or rs i d).var ≡ has_var P (get_or rs i d).var) → best_ones n V s Q ≡ first_free n P rs
-best-first s V rs zero P Q h there agree = refl
-best-first s V [] (suc n) P Q h there agree = rw (first-nobody s V Q there, best_ones) refl
-best-first s V (r ∷ rs) (suc n) P Q h there agree = go (has_var P r.var) refl (λ m R h t a. best-first s V rs m P R h t a)
+best-first : (s : Scores) (V : ℕ) (p : ℕ → Bool) (rs : List Ranked) (n : ℕ) (P Q : List Literal) → AreRanked s V p rs → AreThere V p Q rs
+    → ((i : ℕ) (d : Ranked) → i < length rs → has_var Q (get_or rs i d).var ≡ has_var P (get_or rs i d).var) → best_ones n (filter p (variables V)) s Q ≡ first_free n P rs
+best-first s V p rs zero P Q h there agree = refl
+best-first s V p [] (suc n) P Q h there agree = rw (first-nobody s V p Q there, best_ones) refl
+best-first s V p (r ∷ rs) (suc n) P Q h there agree = go (has_var P r.var) refl (λ m R h t a. best-first s V p rs m P R h t a)
   where
     same : has_var Q r.var ≡ has_var P r.var
     same = agree 0 r (omega arith)
@@ -97,26 +110,41 @@ best-first s V (r ∷ rs) (suc n) P Q h there agree = go (has_var P r.var) refl 
     others : (i : ℕ) (d : Ranked) → i < length rs → has_var (positive r.var ∷ Q) (get_or rs i d).var ≡ has_var Q (get_or rs i d).var
     others i d u = ap (λ b. b || has_var Q (get_or rs i d).var) (false_unless (nat_eq (get_or rs i d).var r.var) (λ t. absurd (h.apart 0 (suc i) d (omega arith) (omega arith) (sym (eqb-true (get_or rs i d).var r.var t)))))
 
-    go : (b : Bool) → has_var P r.var ≡ b → ((m : ℕ) (R : List Literal) → AreRanked s V rs → AreThere V R rs → ((i : ℕ) (d : Ranked) → i < length rs → has_var R (get_or rs i d).var ≡ has_var P (get_or rs i d).var)
-        → best_ones m V s R ≡ first_free m P rs) → best_ones (suc n) V s Q ≡ (if b then first_free (suc n) P rs else r.var ∷ first_free n P rs)
-    go true e rest = rest (suc n) Q (AreRanked-rest s V r rs h)
-        (λ v k free. after v (λ is. true_false (has_var Q v) (ap (has_var Q) is ∙ (same ∙ e)) free) (there v k free))
+    go : (b : Bool) → has_var P r.var ≡ b → ((m : ℕ) (R : List Literal) → AreRanked s V p rs → AreThere V p R rs → ((i : ℕ) (d : Ranked) → i < length rs → has_var R (get_or rs i d).var ≡ has_var P (get_or rs i d).var)
+        → best_ones m (filter p (variables V)) s R ≡ first_free m P rs) → best_ones (suc n) (filter p (variables V)) s Q ≡ (if b then first_free (suc n) P rs else r.var ∷ first_free n P rs)
+    go true e rest = rest (suc n) Q (AreRanked-rest s V p r rs h)
+        (λ v k t free. after v (λ is. true_false (has_var Q v) (ap (has_var Q) is ∙ (same ∙ e)) free) (there v k t free))
         (λ i d u. agree (suc i) d (omega arith))
-    go false e rest = rw (first-top s V Q r rs h there (same ∙ e), best_ones) (ap (λ xs. r.var ∷ xs) (rest n (positive r.var ∷ Q) (AreRanked-rest s V r rs h)
-        (λ v k free. after v (λ is. true_false (nat_eq v r.var) (eq-eqb v r.var is) (or-false_left (nat_eq v r.var) (has_var Q v) free)) (there v k (or-false_right (nat_eq v r.var) (has_var Q v) free)))
+    go false e rest = rw (first-top s V p Q r rs h there (same ∙ e), best_ones) (ap (λ xs. r.var ∷ xs) (rest n (positive r.var ∷ Q) (AreRanked-rest s V p r rs h)
+        (λ v k t free. after v (λ is. true_false (nat_eq v r.var) (eq-eqb v r.var is) (or-false_left (nat_eq v r.var) (has_var Q v) free)) (there v k t (or-false_right (nat_eq v r.var) (has_var Q v) free)))
         (λ i d u. others i d u ∙ agree (suc i) d (omega arith))))
 
--- those that are found are free
-first_free-all : (V n : ℕ) (P : List Literal) (rs : List Ranked) → ((i : ℕ) (d : Ranked) → i < length rs → IsVariable V (get_or rs i d).var) → All (λ x. IsVariable V x × (has_var P x ≡ false)) (first_free n P rs)
-first_free-all V zero P rs over = All-nil (λ x. IsVariable V x × (has_var P x ≡ false))
-first_free-all V (suc n) P [] over = All-nil (λ x. IsVariable V x × (has_var P x ≡ false))
-first_free-all V (suc n) P (r ∷ rs) over =
-    go (has_var P r.var) refl (first_free-all V (suc n) P rs (λ i d u. over (suc i) d (omega arith))) (first_free-all V n P rs (λ i d u. over (suc i) d (omega arith)))
+-- those that are found are free, and as all are
+first_free-all : (A : ℕ → Type 0) (n : ℕ) (P : List Literal) (rs : List Ranked) → ((i : ℕ) (d : Ranked) → i < length rs → A (get_or rs i d).var) → All (λ x. A x × (has_var P x ≡ false)) (first_free n P rs)
+first_free-all A zero P rs over = All-nil (λ x. A x × (has_var P x ≡ false))
+first_free-all A (suc n) P [] over = All-nil (λ x. A x × (has_var P x ≡ false))
+first_free-all A (suc n) P (r ∷ rs) over =
+    go (has_var P r.var) refl (first_free-all A (suc n) P rs (λ i d u. over (suc i) d (omega arith))) (first_free-all A n P rs (λ i d u. over (suc i) d (omega arith)))
   where
-    go : (b : Bool) → has_var P r.var ≡ b → All (λ x. IsVariable V x × (has_var P x ≡ false)) (first_free (suc n) P rs) → All (λ x. IsVariable V x × (has_var P x ≡ false)) (first_free n P rs)
-        → All (λ x. IsVariable V x × (has_var P x ≡ false)) (if b then first_free (suc n) P rs else r.var ∷ first_free n P rs)
+    go : (b : Bool) → has_var P r.var ≡ b → All (λ x. A x × (has_var P x ≡ false)) (first_free (suc n) P rs) → All (λ x. A x × (has_var P x ≡ false)) (first_free n P rs)
+        → All (λ x. A x × (has_var P x ≡ false)) (if b then first_free (suc n) P rs else r.var ∷ first_free n P rs)
     go true e same less = same
-    go false e same less = All-cons (λ x. IsVariable V x × (has_var P x ≡ false)) r.var (first_free n P rs) (over 0 r (omega arith), e) less
+    go false e same less = All-cons (λ x. A x × (has_var P x ≡ false)) r.var (first_free n P rs) (over 0 r (omega arith), e) less
+
+-- where none is found, none of them is free
+first_free-none : (n : ℕ) (P : List Literal) (rs : List Ranked) (v : ℕ) → holds rs v ≡ true → first_free (suc n) P rs ≡ [] → has_var P v ≡ true
+first_free-none n P [] v there none = absurd (cc)
+first_free-none n P (r ∷ rs) v there none = go (has_var P r.var) refl none (nat_eq v r.var) refl there (first_free-none n P rs v)
+  where
+    go : (b : Bool) → has_var P r.var ≡ b → (if b then first_free (suc n) P rs else r.var ∷ first_free n P rs) ≡ [] → (c : Bool) → nat_eq v r.var ≡ c → (c || holds rs v) ≡ true
+        → (holds rs v ≡ true → first_free (suc n) P rs ≡ [] → has_var P v ≡ true) → has_var P v ≡ true
+    go true e q true f t more = ap (has_var P) (eqb-true v r.var f) ∙ e
+    go true e q false f t more = more t q
+    go false e q c f t more = absurd (cc)
+
+pub empty-length : (xs : List ℕ) → length xs ≡ 0 → xs ≡ []
+empty-length [] h = refl
+empty-length (x ∷ xs) h = absurd (omega (arith, h))
 
 -- from a place on
 first_free-at : (n place : ℕ) (P : List Literal) (rs : List Ranked) (d : Ranked) → place < length rs
@@ -218,45 +246,69 @@ not-false : (b : Bool) → not b ≡ false → b ≡ true
 not-false true h = refl
 not-false false h = absurd (cc)
 
--- whether one isn't as all are made: of a variable that isn't one of these, or with another rank
-abbrev is_odd : ℕ → (ℕ → ℕ) → Ranked → Bool
-is_odd V f r = not (list_any (nat_eq r.var) (variables V)) || not (nat_eq r.rank (f r.var))
+-- a test passes no more often where others are left out
+count-filter : (p q : ℕ → Bool) (vs : List ℕ) → count_by q (filter p vs) ≤ count_by q vs
+count-filter p q [] = omega arith
+count-filter p q (v ∷ vs) = go (p v) (count-filter p q vs)
+  where
+    go : (b : Bool) → count_by q (filter p vs) ≤ count_by q vs → count_by q (cond b (v ∷ filter p vs) (filter p vs)) ≤ count_by q (v ∷ vs)
+    go true less =
+        let a = sum_by-cons (λ y. cond (q y) 1 0) v (filter p vs) in
+        let b = sum_by-cons (λ y. cond (q y) 1 0) v vs in
+        omega (arith, a, b, less)
+    go false less = let b = sum_by-cons (λ y. cond (q y) 1 0) v vs in omega (arith, b, less)
 
-none-odd : (V : ℕ) (f : ℕ → ℕ) (vs : List ℕ) → ((v : ℕ) → list_any (nat_eq v) vs ≡ true → list_any (nat_eq v) (variables V) ≡ true) → list_any (is_odd V f) (map (ranked_by f) vs) ≡ false
-none-odd V f [] among = refl
-none-odd V f (v ∷ vs) among =
-    let here : list_any (nat_eq v) (variables V) ≡ true = among v (or-left (nat_eq v v) (list_any (nat_eq v) vs) (eq-eqb v v refl)) in
-    let more = none-odd V f vs (λ w t. among w (or-right (nat_eq w v) (list_any (nat_eq w) vs) t)) in
+-- whether one isn't as all are made: of a variable that isn't one of these, or with another rank
+abbrev is_odd : List ℕ → (ℕ → ℕ) → Ranked → Bool
+is_odd all f r = not (list_any (nat_eq r.var) all) || not (nat_eq r.rank (f r.var))
+
+none-odd : (all : List ℕ) (f : ℕ → ℕ) (vs : List ℕ) → ((v : ℕ) → list_any (nat_eq v) vs ≡ true → list_any (nat_eq v) all ≡ true) → list_any (is_odd all f) (map (ranked_by f) vs) ≡ false
+none-odd all f [] among = refl
+none-odd all f (v ∷ vs) among =
+    let here : list_any (nat_eq v) all ≡ true = among v (or-left (nat_eq v v) (list_any (nat_eq v) vs) (eq-eqb v v refl)) in
+    let more = none-odd all f vs (λ w t. among w (or-right (nat_eq w v) (list_any (nat_eq w) vs) t)) in
     rw (here, eq-eqb (f v) (f v) refl) more
 
 -- a ranking has what the lemmas above want
 module _ (V : ℕ) (K : List Clause) (rs : List Ranked) (h : IsRanking V K rs) where
-  there : (Q : List Literal) → AreThere V Q rs
-  there Q v k free =
-      sym (list_any-IsPermutation (λ (r : Ranked). nat_eq v r.var) (map (ranked_by (rank K)) (variables V)) rs h.permutation)
-      ∙ (holds-mapped (rank K) (variables V) v ∙ variables-has V v k)
+  abbrev F : Formula
+  F = record { vars = V; clauses = K }
+
+  -- the variables that are ranked
+  abbrev vs : List ℕ
+  vs = filter (is_held K) (variables V)
+
+  there : (Q : List Literal) → AreThere V (is_held K) Q rs
+  there Q v k t free =
+      sym (list_any-IsPermutation (λ (r : Ranked). nat_eq v r.var) (map (ranked_by (rank K)) vs) rs h.permutation)
+      ∙ (holds-mapped (rank K) vs v ∙ held-has F v k t)
 
   once : (v : ℕ) → count_by (λ (r : Ranked). nat_eq v r.var) rs ≤ 1
   once v =
-      let same = sum_by-IsPermutation (λ (r : Ranked). cond (nat_eq v r.var) 1 0) (map (ranked_by (rank K)) (variables V)) rs h.permutation in
-      let mapped = count-mapped (rank K) (variables V) v in
+      let same = sum_by-IsPermutation (λ (r : Ranked). cond (nat_eq v r.var) 1 0) (map (ranked_by (rank K)) vs) rs h.permutation in
+      let mapped = count-mapped (rank K) vs v in
+      let fewer = count-filter (is_held K) (nat_eq v) (variables V) in
       let one = variables-once V v in
-      omega (arith, same, mapped, one)
+      omega (arith, same, mapped, fewer, one)
 
-  plain : (i : ℕ) (d : Ranked) → i < length rs → is_odd V (rank K) (get_or rs i d) ≡ false
-  plain i d u = any-none (is_odd V (rank K)) rs i d
-      (sym (list_any-IsPermutation (is_odd V (rank K)) (map (ranked_by (rank K)) (variables V)) rs h.permutation) ∙ none-odd V (rank K) (variables V) (λ v t. t)) u
+  plain : (i : ℕ) (d : Ranked) → i < length rs → is_odd vs (rank K) (get_or rs i d) ≡ false
+  plain i d u = any-none (is_odd vs (rank K)) rs i d
+      (sym (list_any-IsPermutation (is_odd vs (rank K)) (map (ranked_by (rank K)) vs) rs h.permutation) ∙ none-odd vs (rank K) vs (λ v t. t)) u
 
-  variable : (i : ℕ) (d : Ranked) → i < length rs → IsVariable V (get_or rs i d).var
-  variable i d u = in-variables V (get_or rs i d).var (not-false _ (or-false_left _ _ (plain i d u)))
+  variable : (i : ℕ) (d : Ranked) → i < length rs → IsVariable V (get_or rs i d).var × (is_held K (get_or rs i d).var ≡ true)
+  variable i d u =
+      let v = (get_or rs i d).var in
+      let among : list_any (nat_eq v) vs ≡ true = not-false _ (or-false_left _ _ (plain i d u)) in
+      (held-variable F v among, held-is F v among)
 
-  AreRanked-IsRanking : AreRanked (ranks V K) V rs
+  AreRanked-IsRanking : AreRanked (ranks V K) V (is_held K) rs
   AreRanked-IsRanking = record {
     far = λ i j d l u. sorted_far goes_before order rs h.sorted i j d l u;
+    chosen = variable;
     scored = λ i d u.
         let r = get_or rs i d in
         let is : r.rank ≡ rank K r.var = eqb-true r.rank (rank K r.var) (not-false _ (or-false_right _ _ (plain i d u))) in
-        (variable i d u, is ∙ sym (at-variable (rank K) V r.var 0 (variable i d u)));
+        is ∙ sym (at-variable (rank K) V r.var 0 (variable i d u).0);
     apart = λ i j d l u e.
         let v = (get_or rs i d).var in
         let two = count-two (λ (r : Ranked). nat_eq v r.var) rs i j d l u (eq-eqb v v refl) (eq-eqb v (get_or rs j d).var e) in
@@ -265,7 +317,24 @@ module _ (V : ℕ) (K : List Clause) (rs : List Ranked) (h : IsRanking V K rs) w
   }
 
   pub first_free-free : (n : ℕ) (P : List Literal) → All (λ x. IsVariable V x × (has_var P x ≡ false)) (first_free n P rs)
-  first_free-free n P = first_free-all V n P rs variable
+  first_free-free n P = first_free-all (IsVariable V) n P rs (λ i d u. (variable i d u).0)
 
-  pub best_ones-free : (n : ℕ) (P : List Literal) → best_ones n V (ranks V K) P ≡ first_free n P rs
-  best_ones-free n P = best-first (ranks V K) V rs n P P AreRanked-IsRanking (there P) (λ i d u. refl)
+  pub best_ones-free : (n : ℕ) (P : List Literal) → best_ones n (filter (is_held K) (variables V)) (ranks V K) P ≡ first_free n P rs
+  best_ones-free n P = best-first (ranks V K) V (is_held K) rs n P P AreRanked-IsRanking (there P) (λ i d u. refl)
+
+  -- none is found just where none is free
+  pub none-free : (n : ℕ) (P : List Literal) (v : ℕ) → first_free (suc n) P rs ≡ [] → IsVariable V v → is_held K v ≡ true → has_var P v ≡ true
+  none-free n P v none k t = go (has_var P v) refl
+    where
+      go : (b : Bool) → has_var P v ≡ b → has_var P v ≡ true
+      go true e = e
+      go false e = first_free-none n P rs v (there P v k t e) none
+
+  pub some-free : (n : ℕ) (P : List Literal) → ((v : ℕ) → IsVariable V v → is_held K v ≡ true → has_var P v ≡ true) → first_free n P rs ≡ []
+  some-free n P all = go (first_free n P rs) (first_free-all (λ x. IsVariable V x × (is_held K x ≡ true)) n P rs variable)
+    where
+      go : (xs : List ℕ) → All (λ x. (IsVariable V x × (is_held K x ≡ true)) × (has_var P x ≡ false)) xs → xs ≡ []
+      go [] a = refl
+      go (x ∷ xs) a =
+          let first = All-head (λ x. (IsVariable V x × (is_held K x ≡ true)) × (has_var P x ≡ false)) x xs a in
+          true_false (has_var P x) (all x first.0.0 first.0.1) first.1

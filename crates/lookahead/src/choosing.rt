@@ -1,7 +1,8 @@
 //! A look at a cube: what the decision of each candidate brings.
-ghost use Rattle.std.specs.Prelude.{◌≡◌, ◌≤◌, ℕ, false, All, IfOk, IfSome, OnOk};
+ghost use Rattle.std.specs.Prelude.{◌≡◌, ◌≤◌, ◌↔◌, ℕ, true, false, filter, All, IfOk, IfSome, IsNone, OnOk};
 ghost use Rattle.theory.specs.Literals.{IsVariable, has_var};
-ghost use Rattle.theory.specs.Trails.{literals};
+ghost use Rattle.theory.specs.Trails.{literals, variables};
+ghost use Rattle.theory.specs.Held.{is_held};
 ghost use Rattle.theory.specs.Looking.{Brings, IsWorth, no_choice, better_choice, Chooses, ranks, best_ones, max_candidates};
 ghost use Rattle.lookahead.specs.Rankings.{IsRanking};
 ghost use Rattle.lookahead.specs.Resting.{IsAtRest};
@@ -96,21 +97,28 @@ fn best(kernel: &mut SearchKernel, candidates: &[u32]) -> Result<u32, AllocError
     Ok(choice.var)
 }
 
-/// The variable that a cube is split on, where propagation left the kernel's trail at level 0. It
-/// takes time by the propagation of two literals for each of at most 32 candidates, and leaves the
-/// kernel as it was, except where memory is refused.
+/// The variable that a cube is split on, where propagation left the kernel's trail at level 0; none
+/// where no variable that a clause holds is free. It takes time by the propagation of two literals
+/// for each of at most 32 candidates, and leaves the kernel as it was, except where memory is
+/// refused.
 pub fn choose(
     alloc: Global,
     kernel: &mut SearchKernel,
     ranking: &Ranking,
-) -> Result<u32, AllocError>
+) -> Result<Option<u32>, AllocError>
     requires rest { IsAtRest kernel.old }
     requires ranking { IsRanking kernel.old.vars kernel.old.clauses ranking.now }
-    ensures chooses { IfOk result (Chooses kernel.old.clauses kernel.old.trail no_choice
-        (best_ones max_candidates kernel.old.vars (ranks kernel.old.vars kernel.old.clauses) (literals kernel.old.trail))) }
+    ensures none { IfOk result (λ found. IsNone found ↔
+        ((v : ℕ) → IsVariable kernel.old.vars v → is_held kernel.old.clauses v ≡ true → has_var (literals kernel.old.trail) v ≡ true)) }
+    ensures chooses { IfOk result (λ found. IfSome found (Chooses kernel.old.clauses kernel.old.trail no_choice
+        (best_ones max_candidates (filter (is_held kernel.old.clauses) (variables kernel.old.vars))
+        (ranks kernel.old.vars kernel.old.clauses) (literals kernel.old.trail)))) }
     ensures kept { OnOk result (kernel.new ≡ kernel.old) }
 {
     let candidates = ranking.candidates(alloc, kernel)?;
+    if candidates.is_empty() {
+        return Ok(None);
+    }
     let var = best(kernel, &candidates)?;
-    Ok(var)
+    Ok(Some(var))
 }

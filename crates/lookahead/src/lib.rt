@@ -2,8 +2,10 @@
 #![tactic(auto)]
 
 mod choosing;
+mod holding;
 mod occurrences;
 mod ranking;
 
 pub use choosing::choose;
+pub use holding::held;
 pub use ranking::Ranking;

@@ -1,9 +1,10 @@
 //! The variables of a formula by their ranks: which of them a look tries.
-ghost use Rattle.std.specs.Prelude.{◌≡◌, ◌<◌, ◌≤◌, ◌+◌, ◌*◌, ◌^◌, ℕ, List, take, length, map, IfOk, vec_len};
+ghost use Rattle.std.specs.Prelude.{◌≡◌, ◌<◌, ◌≤◌, ◌+◌, ◌*◌, ◌^◌, ℕ, List, take, length, map, filter, IfOk, vec_len};
 ghost use Rattle.std.specs.List.Sorted.{IsPermutation, IsSortedBy};
 ghost use Rattle.std.specs.Ordering.{is_lt};
 ghost use Rattle.theory.specs.Literals.{Literal, Clause};
 ghost use Rattle.theory.specs.Trails.{literals, variables};
+ghost use Rattle.theory.specs.Held.{is_held};
 ghost use Rattle.theory.specs.Looking.{rank, ranks, best_ones, max_candidates};
 ghost use Rattle.lookahead.specs.Tables.{code, at, AreOccurrences};
 ghost use Rattle.lookahead.specs.Rankings.{goes_before, ranked_by, first_free, IsRanking};
@@ -17,6 +18,9 @@ use std::marker::Model;
 
 /// So many variables are tried in a look, if as many are free.
 const MAX_CANDIDATES: usize = 32;
+
+/// The rank of a variable that no clause holds.
+const NOT_HELD: u64 = 1;
 
 /// A variable with its rank.
 #[derive(Clone, Copy)]
@@ -55,24 +59,37 @@ fn rank_of(counts: &[u32], var: u32) -> u64
     (u64::from(positive) + 1) * (u64::from(negative) + 1)
 }
 
-/// The variables in their own order, each with its rank.
-fn rank_all(alloc: Global, counts: &[u32], vars: u32) -> Result<Vec<Ranked>, AllocError>
+/// Whether a clause holds the variable, where its literals stand in so many clauses.
+pub(crate) fn is_held(counts: &[u32], var: u32) -> bool
+    requires variable { (1 ≤ var) × (var < 2 ^ 31) }
+    requires room { 2 * var + 1 < length counts.now }
+    requires few { (l : Literal) → l.var ≡ var → at counts.now (code l) < 2 ^ 31 }
+    ensures { (K : List Clause) (V : ℕ) → AreOccurrences V K counts.now → var ≤ V → result ≡ is_held K var }
+{
+    rank_of(counts, var) > NOT_HELD
+}
+
+/// The variables that clauses hold in their own order, each with its rank.
+fn rank_held(alloc: Global, counts: &[u32], vars: u32) -> Result<Vec<Ranked>, AllocError>
     requires vars { vars < 2 ^ 31 }
     requires room { length counts.now ≡ 2 * vars + 2 }
     requires few { (l : Literal) → l.var ≤ vars → at counts.now (code l) < 2 ^ 31 }
-    ensures { IfOk result (λ r. (K : List Clause) → AreOccurrences vars K counts.now → r.items ≡ map (ranked_by (rank K)) (variables vars)) }
+    ensures { IfOk result (λ r. (K : List Clause) → AreOccurrences vars K counts.now →
+        r.items ≡ map (ranked_by (rank K)) (filter (is_held K) (variables vars))) }
 {
     let mut ranked = Vec::new(alloc);
     for before in 0..vars {
         let var = before + 1;
-        let rank = rank_of(counts, var);
-        ranked.push(Ranked { rank, var })?;
+        if is_held(counts, var) {
+            let rank = rank_of(counts, var);
+            ranked.push(Ranked { rank, var })?;
+        }
     }
     Ok(ranked)
 }
 
-/// The variables of a kernel's first clauses by falling rank: a variable ranks high where both of
-/// its literals stand in many of them.
+/// The variables that a kernel's first clauses hold, by falling rank: a variable ranks high where
+/// both of its literals stand in many of them.
 #[derive(Drop)]
 pub struct Ranking {
     ranked: Vec<Ranked>,
@@ -95,7 +112,7 @@ impl Ranking {
         ensures { IfOk result (IsRanking kernel.now.vars (take kernel.now.first kernel.now.clauses)) }
     {
         let counts = occurrences(alloc, kernel)?;
-        let mut ranked = rank_all(alloc, &counts, kernel.vars())?;
+        let mut ranked = rank_held(alloc, &counts, kernel.vars())?;
         sort(&mut ranked);
         Ok(Ranking { ranked })
     }

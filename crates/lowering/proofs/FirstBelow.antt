@@ -5,7 +5,7 @@ use Rattle.std.proofs.lemmas.List.Elements.{All-head, All-tail}
 use Rattle.theory.specs.Literals.{Literal, IsVariable}
 use Rattle.theory.specs.Truth.{Formula, Assignment, IsOver, IsFormula, AreTrue, Satisfies, value, is_true}
 use Rattle.theory.specs.FirstModel.{comes_before, IsFirst}
-use Rattle.theory.specs.Search.{searched}
+use Rattle.theory.specs.Pure.{searched}
 use Rattle.theory.proofs.searching.PureModels.{IsFirst-searched}
 use Rattle.theory.proofs.trees.FirstModel.{Differ, differ}
 use Rattle.lowering.specs.Lowering.{Agrees, IsFirstBelow}

@@ -1,4 +1,5 @@
 pub mod FirstBelow
 pub mod TrueTrails
 pub mod OpenCubes
+pub mod FalseVariables
 pub mod SettledPrefixes

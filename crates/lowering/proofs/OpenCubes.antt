@@ -8,7 +8,7 @@ use Rattle.theory.specs.Truth.{Formula, Assignment, IsOver, AreTrue, Satisfies, 
 use Rattle.theory.specs.FirstModel.{IsFoundIn, IsModelIn}
 use Rattle.theory.specs.Plans.{Search, ordered, focused}
 use Rattle.theory.specs.Learning.{Line}
-use Rattle.theory.specs.Search.{Outcome, model, refuted, exhausted, searched}
+use Rattle.theory.specs.Search.{Outcome, model, refuted, exhausted}
 use Rattle.theory.specs.Results.{OutcomeSays}
 use Rattle.theory.specs.Trees.{false_half, true_half}
 use Rattle.theory.proofs.literals.LiteralSets.{and-true}
@@ -161,26 +161,26 @@ says-model ordered F c M h = record { satisfies = h.satisfies; cube = h.cube }
 says-model (focused k) F c M h = h
 
 -- the last of the open cubes was searched
-module _ (search : Search) (F K : Formula) (Q c : List Literal) (cubes rest : List (List Literal)) (same : K ≡ F) (last : cubes ≡ rest ++ c ∷ []) (are : AreOpen (searched F) Q cubes) where
+module _ (search : Search) (F K : Formula) (Q c : List Literal) (cubes rest : List (List Literal)) (same : K ≡ F) (last : cubes ≡ rest ++ c ∷ []) (are : AreOpen F Q cubes) where
   says : (o : Outcome) → OutcomeSays search K c o → OutcomeSays search F c o
   says o h = subst (λ G. OutcomeSays search G c o) same h
 
-  are-last : AreOpen (searched F) Q (rest ++ c ∷ [])
-  are-last = subst (AreOpen (searched F) Q) last are
+  are-last : AreOpen F Q (rest ++ c ∷ [])
+  are-last = subst (AreOpen F Q) last are
 
-  pub found-within : (M : Assignment) → OutcomeSays search K c (model M) → IsModelIn (searched F) Q M
+  pub found-within : (M : Assignment) → OutcomeSays search K c (model M) → IsModelIn F Q M
   found-within M h =
-      let it = says-model search (searched F) c M (says (model M) h) in
-      record { satisfies = it.satisfies; cube = within-last (searched F) Q rest c are-last M it.cube }
+      let it = says-model search F c M (says (model M) h) in
+      record { satisfies = it.satisfies; cube = within-last F Q rest c are-last M it.cube }
 
   pub over-searched : IsOver F.vars c
-  over-searched = over-last (searched F) Q rest c are-last
+  over-searched = over-last F Q rest c are-last
 
-  pub open-refuted : (lines : List Line) (next : List (List Literal)) → next ≡ rest → OutcomeSays search K c (refuted lines) → AreOpen (searched F) Q next
-  open-refuted lines next is h = subst (AreOpen (searched F) Q) (sym is) (AreOpen-refuted (searched F) Q rest c are-last (says (refuted lines) h).0)
+  pub open-refuted : (lines : List Line) (next : List (List Literal)) → next ≡ rest → OutcomeSays search K c (refuted lines) → AreOpen F Q next
+  open-refuted lines next is h = subst (AreOpen F Q) (sym is) (AreOpen-refuted F Q rest c are-last (says (refuted lines) h).0)
 
-  pub open-split : (x : ℕ) (next : List (List Literal)) → next ≡ (rest ++ true_half c x ∷ []) ++ false_half c x ∷ [] → OutcomeSays search K c (exhausted x) → AreOpen (searched F) Q next
-  open-split x next is h = subst (AreOpen (searched F) Q) (sym is) (AreOpen-split (searched F) Q rest c x are-last (says (exhausted x) h).0)
+  pub open-split : (x : ℕ) (next : List (List Literal)) → next ≡ (rest ++ true_half c x ∷ []) ++ false_half c x ∷ [] → OutcomeSays search K c (exhausted x) → AreOpen F Q next
+  open-split x next is h = subst (AreOpen F Q) (sym is) (AreOpen-split F Q rest c x are-last (says (exhausted x) h).0)
 
   pub smaller-refuted : (next : List (List Literal)) → next ≡ rest → left_in F.vars next < left_in F.vars cubes
   smaller-refuted next is = rw (is, last) (less-refuted F.vars rest c)

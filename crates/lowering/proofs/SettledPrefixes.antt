@@ -9,7 +9,7 @@ use Rattle.theory.specs.Truth.{Formula, Assignment, IsOver, AreTrue, Satisfies, 
 use Rattle.theory.specs.Trails.{Entry, Trail, literals, entry_of, current_level, decide}
 use Rattle.theory.specs.Propagation.{quiet, by_place, Propagates}
 use Rattle.theory.specs.FirstModel.{IsModelIn}
-use Rattle.theory.specs.Search.{first_clauses, searched}
+use Rattle.theory.specs.Pure.{first_clauses, searched}
 use Rattle.theory.proofs.literals.LiteralSets.{has_var-head, or-none, false_unless, true_false}
 use Rattle.theory.proofs.literals.LiteralLemmas.{not_true}
 use Rattle.theory.proofs.literals.TrueClauses.{AreTrue-append}
@@ -189,11 +189,12 @@ module _ (F : Formula) (x : ℕ) (p : Prefix) (l : Literal) (q : List Literal) (
   pub over-question : IsOver F.vars p.cube → IsVariable F.vars x → IsOver F.vars q
   over-question over v = subst (IsOver F.vars) (sym is-question) (All-push (λ k. IsVariable F.vars k.var) p.cube (negative x) over v)
 
-  pub model-question : (K : Assignment) → IsModelIn (searched F) q K → IsModelIn (searched F) (p.cube ++ negative x ∷ []) K
-  model-question K m = subst (λ c. IsModelIn (searched F) c K) is-question m
+  pub model-question : (K : Assignment) → IsModelIn F q K → IsModelIn F (p.cube ++ negative x ∷ []) K
+  model-question K m = subst (λ c. IsModelIn F c K) is-question m
 
   pub none-question : HasNoModelIn (searched F) q → HasNoModelIn (searched F) (p.cube ++ negative x ∷ [])
   none-question none = subst (HasNoModelIn (searched F)) is-question none
 
-  pub false-question : (K : Assignment) → IsModelIn (searched F) q K → is_true (value K) l ≡ true
-  false-question K m = subst (λ k. is_true (value K) k ≡ true) (sym of) (AreTrue-back (value K) p.cube (negative x ∷ []) (model-question K m).cube).0
+-- in a model of it the variable is false
+pub false-question : (F : Formula) (x : ℕ) (p : Prefix) (l : Literal) → l ≡ negative x → (K : Assignment) → IsModelIn (searched F) (p.cube ++ negative x ∷ []) K → is_true (value K) l ≡ true
+false-question F x p l of K m = subst (λ k. is_true (value K) k ≡ true) (sym of) (AreTrue-back (value K) p.cube (negative x ∷ []) m.cube).0

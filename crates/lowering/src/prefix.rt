@@ -3,7 +3,7 @@ ghost use Rattle.std.specs.Prelude.{◌≡◌, ◌+◌, true, false, IfOk, OnOk}
 ghost use Rattle.theory.specs.Literals.{IsVariable, has_var};
 ghost use Rattle.theory.specs.Truth.{Satisfies, is_true, value};
 ghost use Rattle.theory.specs.Trails.{literals};
-ghost use Rattle.theory.specs.Search.{searched};
+ghost use Rattle.theory.specs.Pure.{pure_literals, searched};
 ghost use Rattle.lowering.specs.Lowering.{IsPrefix};
 
 use cnf::{Formula, Lit};
@@ -31,16 +31,17 @@ impl Prefix {
     pub(crate) fn open(
         alloc: Global,
         formula: &Formula,
+        units: &[Lit],
         model: &[bool],
     ) -> Result<Prefix, AllocError>
-        requires { Satisfies (searched formula.now) model.now }
+        requires units { units.now ≡ pure_literals formula.now }
+        requires model { Satisfies (searched formula.now) model.now }
         ensures { IfOk result (IsPrefix formula.now 1 model.now) }
     {
         let _model = model; // it is there for the contract alone
         let _vars = formula.vars(); // it ensures what the proof needs of the formula
-        let units = formula.pure(alloc)?;
         let cube = Cube::root(alloc);
-        let mut kernel = SearchKernel::open(alloc, formula, &units, &cube, Order::ByPlace)?;
+        let mut kernel = SearchKernel::open(alloc, formula, units, &cube, Order::ByPlace)?;
         match kernel.close()? {
             Closed::Quiet => Ok(Prefix { cube, kernel }),
             Closed::Conflict(_) => unreachable!(),

@@ -3,7 +3,6 @@
 ghost use Rattle.std.specs.Prelude.{◌≡◌, IfOk, OnOk, MatchOption};
 ghost use Rattle.theory.specs.Truth.{IsOver};
 ghost use Rattle.theory.specs.FirstModel.{IsModelIn};
-ghost use Rattle.theory.specs.Search.{searched};
 ghost use Rattle.lowering.specs.Lowering.{HasNoModelIn};
 
 use cdcl::{Outcome, Solver, Watcher, split};
@@ -11,10 +10,10 @@ use cnf::Formula;
 use kernel::Cube;
 use std::alloc::{AllocError, Global};
 
-/// A model of the formula in the cube, in which its pure variables are false, or none where there is
-/// none. A solver of the formula searches the cube, and the cubes below it from left to right, as far
-/// as a model. No line of a refuted cube is kept. It fails where a request for memory is refused or
-/// the watcher stops the solver.
+/// A model in the cube of the formula that the solver's search begins with, or none where there is
+/// none. The solver searches the cube, and the cubes below it from left to right, as far as a model.
+/// No line of a refuted cube is kept. It fails where a request for memory is refused or the watcher
+/// stops the solver.
 pub(crate) fn model_in<W: Watcher>(
     alloc: Global,
     formula: &Formula,
@@ -22,9 +21,9 @@ pub(crate) fn model_in<W: Watcher>(
     cube: Cube,
     watcher: &W,
 ) -> Result<Option<Vec<bool>>, AllocError>
-    requires over { IsOver formula.now.vars cube }
-    requires solver { solver.old.formula ≡ formula.now }
-    ensures found { IfOk result (λ found. MatchOption found (HasNoModelIn (searched formula.now) cube) (λ values. IsModelIn (searched formula.now) cube values.items)) }
+    requires over { IsOver solver.old.formula.vars cube }
+    requires solver { solver.old.formula.vars ≡ formula.now.vars }
+    ensures found { IfOk result (λ found. MatchOption found (HasNoModelIn solver.old.formula cube) (λ values. IsModelIn solver.old.formula cube values.items)) }
     ensures solver { OnOk result ((solver.new.formula ≡ solver.old.formula) × (solver.new.plan ≡ solver.old.plan)) }
 {
     let _vars = formula.vars(); // it ensures that there are fewer than 2^31

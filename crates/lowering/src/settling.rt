@@ -1,10 +1,10 @@
 //! The first model of a formula, from any of its models.
-ghost use Rattle.std.specs.Prelude.{◌≡◌, ◌+◌, true, IfOk, OnOk, IfSome, MatchOption};
+ghost use Rattle.std.specs.Prelude.{◌≡◌, ◌+◌, true, length, IfOk, OnOk, IfSome, MatchOption};
 ghost use Rattle.theory.specs.Literals.{IsVariable};
 ghost use Rattle.theory.specs.Truth.{IsOver, Satisfies, is_true, value};
 ghost use Rattle.theory.specs.FirstModel.{IsFirst, IsModelIn};
-ghost use Rattle.theory.specs.Search.{searched};
-ghost use Rattle.lowering.specs.Lowering.{HasNoModelIn, IsFirstBelow, IsPrefix, IsLowering};
+ghost use Rattle.theory.specs.Pure.{searched};
+ghost use Rattle.lowering.specs.Lowering.{HasNoModelIn, IsFalsified, IsAsked, IsFirstBelow, IsPrefix, IsLowering};
 
 use crate::prefix::Prefix;
 use crate::question::model_in;
@@ -35,6 +35,8 @@ pub(crate) struct Lowering {
     pub(crate) prefix: Prefix,
     /// The model at hand.
     pub(crate) model: Vec<bool>,
+    /// The pure literals.
+    pub(crate) units: Vec<Lit>,
     pub(crate) questions: Questions,
 }
 
@@ -44,13 +46,27 @@ impl Drop for Lowering {
         let Lowering {
             prefix: _,
             model: _,
+            units: _,
             questions: _,
         } = self;
     }
 }
 
+/// Makes the variables false whose negations are among these literals.
+fn make_false(model: &mut [bool], units: &[Lit])
+    requires { IsOver (length model.old) units.now }
+    ensures { IsFalsified units.now model.old model.new }
+{
+    for unit in units {
+        if !unit.positive() {
+            model[unit.var() as usize - 1] = false;
+        }
+    }
+}
+
 impl Questions {
-    /// A model in the cube, or none where there is none. The first question opens the solver.
+    /// A model in the cube, or none where there is none in which the pure variables are false. The
+    /// first question opens the solver.
     fn ask<W: LoweringWatcher>(
         &mut self,
         alloc: Global,
@@ -60,9 +76,9 @@ impl Questions {
         watcher: &W,
     ) -> Result<Option<Vec<bool>>, AllocError>
         requires over { IsOver formula.now.vars cube }
-        requires solver { IfSome self.old.solver (λ s. s.formula ≡ formula.now) }
-        ensures found { IfOk result (λ found. MatchOption found (HasNoModelIn (searched formula.now) cube) (λ values. IsModelIn (searched formula.now) cube values.items)) }
-        ensures solver { OnOk result (IfSome self.new.solver (λ s. s.formula ≡ formula.now)) }
+        requires solver { IfSome self.old.solver (IsAsked formula.now) }
+        ensures found { IfOk result (λ found. MatchOption found (HasNoModelIn (searched formula.now) cube) (λ values. IsModelIn formula.now cube values.items)) }
+        ensures solver { OnOk result (IfSome self.new.solver (IsAsked formula.now)) }
     {
         let mut solver = match self.solver.take() {
             Some(solver) => solver,
@@ -83,11 +99,14 @@ impl Questions {
 
 impl Lowering {
     /// Nothing is settled.
-    fn begin(alloc: Global, formula: &Formula, model: Vec<bool>) -> Result<Lowering, AllocError>
-        requires { Satisfies (searched formula.now) model.items }
+    fn begin(alloc: Global, formula: &Formula, mut model: Vec<bool>) -> Result<Lowering, AllocError>
+        requires { Satisfies formula.now model.items }
         ensures { IfOk result (IsLowering formula.now 1) }
     {
-        let prefix = Prefix::open(alloc, formula, &model)?;
+        let _vars = formula.vars(); // it ensures what the proof needs of the formula
+        let units = formula.pure(alloc)?;
+        make_false(&mut model, &units);
+        let prefix = Prefix::open(alloc, formula, &units, &model)?;
         let questions = Questions {
             solver: None,
             counts: LoweringCounts::none(),
@@ -95,6 +114,7 @@ impl Lowering {
         Ok(Lowering {
             prefix,
             model,
+            units,
             questions,
         })
     }
@@ -116,7 +136,8 @@ impl Lowering {
         ensures first { OnOk result (IsFirstBelow (searched formula.now) (var + 1) self.new.model.items) }
         ensures prefix { OnOk result (IsPrefix formula.now var self.new.model.items self.new.prefix) }
         ensures kept { OnOk result (self.new.prefix ≡ self.old.prefix) }
-        ensures solver { OnOk result (IfSome self.new.questions.solver (λ s. s.formula ≡ formula.now)) }
+        ensures units { self.new.units ≡ self.old.units }
+        ensures solver { OnOk result (IfSome self.new.questions.solver (IsAsked formula.now)) }
     {
         let _vars = formula.vars(); // it ensures that there are fewer than 2^31
         let negative = Lit::of(var, false);
@@ -128,6 +149,7 @@ impl Lowering {
         match self.questions.ask(alloc, formula, plan, cube, watcher)? {
             Some(values) => {
                 self.model = values;
+                make_false(&mut self.model, &self.units);
                 Ok(negative)
             }
             None => Ok(Lit::of(var, true)),
@@ -162,18 +184,19 @@ impl Lowering {
         let Lowering {
             prefix: _,
             model,
+            units: _,
             questions: _,
         } = self;
         model
     }
 }
 
-/// The formula's first model, from any model in which its pure variables are false, as each search's
-/// models have them. Least variable first, one that the model at hand has true, and that doesn't
-/// follow by propagation from what is settled before it, is a question: the cube of what is settled
-/// and this variable false is searched by the plan, from nothing, and the cubes below it. It takes
-/// the time of its questions and that of one propagation, and memory by the formula. It fails where
-/// a request for memory is refused or the watcher stops it.
+/// The formula's first model, from any model, in which the pure variables are made false at once.
+/// Least variable first, one that the model at hand has true, and that doesn't follow by propagation
+/// from what is settled before it, is a question: the cube of what is settled and this variable
+/// false is searched by the plan, from nothing, and the cubes below it. It takes the time of its
+/// questions and that of one propagation, and memory by the formula. It fails where a request for
+/// memory is refused or the watcher stops it.
 pub fn lowered<W: LoweringWatcher>(
     alloc: Global,
     formula: &Formula,
@@ -181,7 +204,7 @@ pub fn lowered<W: LoweringWatcher>(
     model: Vec<bool>,
     watcher: &W,
 ) -> Result<Vec<bool>, AllocError>
-    requires { Satisfies (searched formula.now) model.items }
+    requires { Satisfies formula.now model.items }
     ensures { IfOk result (λ values. IsFirst formula.now values.items) }
 {
     let mut lowering = Lowering::begin(alloc, formula, model)?;

@@ -1,8 +1,10 @@
 -- Which facts are checked, and what checks them.
-use Rattle.std.specs.Prelude.{◌≡◌, List, Option, Some, None}
+use Rattle.std.specs.Prelude.{◌≡◌, List, [], Option, Some, None}
 use Rattle.theory.specs.Literals.{Literal}
 use Rattle.theory.specs.Truth.{Formula, IsOver}
 use Rattle.theory.specs.Plans.{Search, ordered, focused}
+use Rattle.theory.specs.Pure.{pure_literals}
+use Rattle.theory.specs.Beginnings.{begun_by}
 use Rattle.theory.specs.Checked.{IsCheckedSplit, AreCheckedLines}
 use Rattle.replay.specs.Opened.{opened}
 use Rattle.replay.specs.Splits.{IsReady}
@@ -18,10 +20,11 @@ IsCheckedClaim search F Q (Split x) = IsCheckedSplit search F Q x
 IsCheckedClaim search F Q (Refuted lines) = AreCheckedLines F Q lines
 IsCheckedClaim search F Q Model = ⊥
 
--- and the cube is one over the formula's variables
+-- and the cube is one over the formula's variables; it is checked over the clauses that the search
+-- begins with
 pub record IsCheckedFact (search : Search) (F : Formula) (f : Fact) : Type 0 where
   pub over : IsOver F.vars f.cube
-  pub claim : IsCheckedClaim search F f.cube f.claim
+  pub claim : IsCheckedClaim search (begun_by search F) f.cube f.claim
 
 -- the least splits are looked for by the ordered search alone
 abbrev pub IsSplitting : Search → Formula → Option LeastSplits → Type 0
@@ -30,7 +33,12 @@ IsSplitting ordered F None = ⊥
 IsSplitting (focused c) F (Some s) = ⊥
 IsSplitting (focused c) F None = Unit {0}
 
+-- the literals whose unit clauses the search begins with too
+abbrev pub units_by : Search → Formula → List Literal
+units_by ordered F = pure_literals F
+units_by (focused c) F = []
+
 -- it checks facts of the formula, by the search
 pub record IsChecking (search : Search) (F : Formula) (c : FactChecker) : Type 0 where
-  pub replayer : c.replayer ≡ opened F
+  pub replayer : c.replayer ≡ opened F (units_by search F)
   pub splits : IsSplitting search F c.splits

@@ -1,13 +1,16 @@
 //! Facts that nobody vouches for, one after the other.
-ghost use Rattle.std.specs.Prelude.{◌↔◌, IsTrue, IfOk};
+ghost use Rattle.std.specs.Prelude.{◌≡◌, ◌↔◌, IsTrue, IfOk};
 ghost use Rattle.theory.specs.Truth.{IsOver};
 ghost use Rattle.theory.specs.Plans.{Search, Constants, ordered, focused};
-ghost use Rattle.theory.specs.Checked.{IsCheckedSplit};
-ghost use Rattle.packs.specs.Checking.{IsCheckedFact, IsSplitting, IsChecking};
+ghost use Rattle.theory.specs.Beginnings.{begun_by};
+ghost use Rattle.theory.specs.Checked.{IsCheckedSplit, AreCheckedLines};
+ghost use Rattle.replay.specs.Opened.{opened};
+ghost use Rattle.packs.specs.Checking.{IsCheckedFact, IsSplitting, IsChecking, units_by};
 
 use crate::fact::{Claim, Fact};
 use cnf::Formula;
 use kernel::Cube;
+use lines::Row;
 use replay::{LeastSplits, Replayer, is_fit_split, is_over};
 use std::alloc::{AllocError, Global};
 
@@ -30,7 +33,7 @@ fn is_checked_split(
     requires over { IsOver formula.now.vars cube.now }
     requires splitting { (search : Search) × IsSplitting search formula.now splits.old }
     ensures split { (search : Search) → IsSplitting search formula.now splits.old →
-        IfOk result (λ b. IsTrue b ↔ IsCheckedSplit search formula.now cube.now var) }
+        IfOk result (λ b. IsTrue b ↔ IsCheckedSplit search (begun_by search formula.now) cube.now var) }
     ensures splitting { (search : Search) → IsSplitting search formula.now splits.old → IsSplitting search formula.now splits.new }
 {
     match splits {
@@ -39,14 +42,31 @@ fn is_checked_split(
     }
 }
 
+/// Whether the lines of a row replay as a refutation of a cube, over the clauses that the search
+/// begins with that `replayer` is opened for.
+fn are_checked_lines(
+    replayer: &mut Replayer,
+    formula: &Formula,
+    cube: &Cube,
+    row: &Row,
+) -> Result<bool, AllocError>
+    requires { (search : Search) × (replayer.old ≡ opened formula.now (units_by search formula.now)) }
+    ensures lines { (search : Search) → replayer.old ≡ opened formula.now (units_by search formula.now) →
+        IfOk result (λ b. IsTrue b ↔ AreCheckedLines (begun_by search formula.now) cube.now row.now) }
+    ensures stays { replayer.new ≡ replayer.old }
+{
+    replayer.replays(formula, cube, row)
+}
+
 impl FactChecker {
     /// Opened for a formula and the ordered search. It takes time by the formula's literals, and
     /// fails where a request for memory is refused.
     pub fn ordered(alloc: Global, formula: &Formula) -> Result<FactChecker, AllocError>
         ensures { IfOk result (IsChecking ordered formula.now) }
     {
+        let units = formula.pure(alloc)?;
         Ok(FactChecker {
-            replayer: Replayer::open(alloc, formula)?,
+            replayer: Replayer::open(alloc, formula, units)?,
             splits: Some(LeastSplits::open(alloc, formula)?),
         })
     }
@@ -57,7 +77,7 @@ impl FactChecker {
         ensures { (constants : Constants) → IfOk result (IsChecking (focused constants) formula.now) }
     {
         Ok(FactChecker {
-            replayer: Replayer::open(alloc, formula)?,
+            replayer: Replayer::open(alloc, formula, Vec::new(alloc))?,
             splits: None,
         })
     }
@@ -79,7 +99,7 @@ impl FactChecker {
         }
         let answer = match &fact.claim {
             Claim::Split(var) => is_checked_split(&mut self.splits, formula, &fact.cube, *var)?,
-            Claim::Refuted(row) => self.replayer.replays(formula, &fact.cube, row)?,
+            Claim::Refuted(row) => are_checked_lines(&mut self.replayer, formula, &fact.cube, row)?,
             Claim::Model => false,
         };
         Ok(answer)

@@ -1,6 +1,5 @@
 //! Lines of cubes, and whether they replay: by one replayer, cube after cube.
 ghost use Rattle.std.specs.Prelude.{◌≡◌};
-ghost use Rattle.replay.specs.Opened.{opened};
 
 use cnf::{Formula, Lit, read_formula};
 use lines::Row;
@@ -234,7 +233,7 @@ fn replays(
     formula: &Formula,
     case: &Case,
 ) -> Result<bool, AllocError>
-    requires { replayer.old ≡ opened formula.now }
+    requires { replayer.old.vars ≡ formula.now.vars }
     ensures { replayer.new ≡ replayer.old }
 {
     let (_, numbers, lines, _) = *case;
@@ -250,7 +249,8 @@ fn first_of<'a>(
     formula: &Formula,
     cases: &[Case<'a>],
 ) -> Result<Option<&'a str>, Fail> {
-    let mut replayer = Replayer::open(alloc, formula)?;
+    let units = formula.pure(alloc)?;
+    let mut replayer = Replayer::open(alloc, formula, units)?;
     for case in cases {
         if replays(alloc, &mut replayer, formula, case)? != case.3 {
             return Ok(Some(case.0));

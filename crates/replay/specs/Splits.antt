@@ -1,7 +1,7 @@
 -- What is kept of the kernel that looks at splits.
 use Rattle.std.specs.Prelude.{◌≡◌, take, false}
 use Rattle.theory.specs.Truth.{Formula}
-use Rattle.theory.specs.Search.{first_clauses}
+use Rattle.theory.specs.Pure.{first_clauses}
 use Rattle.kernel.specs.declared.order.Order.TheVariants.{ByNumber}
 use Rattle.replay.specs.declared.splits.LeastSplits.{LeastSplits}
 

@@ -1,7 +1,8 @@
 //! What replays lines of one cube after the other.
-ghost use Rattle.std.specs.Prelude.{◌≡◌, ◌↔◌, [], IsTrue, IfOk};
+ghost use Rattle.std.specs.Prelude.{◌≡◌, ◌≤◌, ◌↔◌, [], length, IsTrue, IfOk};
 ghost use Rattle.theory.specs.Checked.{AreCheckedLines};
-ghost use Rattle.replay.specs.Opened.{opened};
+ghost use Rattle.theory.specs.Truth.{IsOver};
+ghost use Rattle.replay.specs.Opened.{opened, with_units};
 
 use crate::line_clauses::LineClauses;
 use crate::passing::refute;
@@ -16,7 +17,7 @@ use trail::Cube;
 /// variables, and by the literals of the longest row that it was given.
 #[derive(Drop)]
 pub struct Replayer {
-    // the pure literals, by rising variable
+    // the literals whose unit clauses the search begins with too, by rising variable
     units: Vec<Lit>,
     // what is held true; nothing between two cubes
     held: Held,
@@ -25,7 +26,7 @@ pub struct Replayer {
 }
 
 impl Model for Replayer {
-    ghost use Rattle.std.specs.Prelude.{◌≡◌, []};
+    ghost use Rattle.std.specs.Prelude.{◌≡◌, ◌≤◌, [], length};
     ghost use Rattle.theory.specs.Truth.{IsOver};
     ghost use Rattle.replay.specs.Opened.{Opened};
 
@@ -33,17 +34,19 @@ impl Model for Replayer {
 
     ghost view = { λ a. record { vars = a.held.vars; units = a.units.items } };
 
-    ghost invariant = { λ a. (a.held.literals ≡ []) × (a.lines ≡ []) × IsOver a.held.vars a.units.items };
+    ghost invariant = { λ a. (a.held.literals ≡ []) × (a.lines ≡ []) × IsOver a.held.vars a.units.items × (length a.units.items ≤ a.held.vars) };
 }
 
 impl Replayer {
-    /// A replayer for a formula. It takes time by the formula's literals, and fails where a request
-    /// for memory is refused.
-    pub fn open(alloc: Global, formula: &Formula) -> Result<Replayer, AllocError>
-        ensures { IfOk result (λ r. r ≡ opened formula.now) }
+    /// A replayer for a formula, where a search of it begins with the unit clauses of these literals
+    /// too. It takes memory by the variables, and fails where that is refused.
+    pub fn open(alloc: Global, formula: &Formula, units: Vec<Lit>) -> Result<Replayer, AllocError>
+        requires over { IsOver formula.now.vars units.items }
+        requires few { length units.items ≤ formula.now.vars }
+        ensures { IfOk result (λ r. r ≡ opened formula.now units.items) }
     {
         Ok(Replayer {
-            units: formula.pure(alloc)?,
+            units,
             held: Held::new(alloc, formula.vars())?,
             lines: LineClauses::new(alloc),
         })
@@ -56,8 +59,8 @@ impl Replayer {
     /// time by the literals of the cube, of the lines and of the clauses that hints name, and none
     /// by the formula. It fails where a request for memory is refused, and can be asked again.
     pub fn replays(&mut self, formula: &Formula, cube: &Cube, row: &Row) -> Result<bool, AllocError>
-        requires { self.old ≡ opened formula.now }
-        ensures replays { IfOk result (λ b. IsTrue b ↔ AreCheckedLines formula.now cube.now row.now) }
+        requires { self.old.vars ≡ formula.now.vars }
+        ensures replays { IfOk result (λ b. IsTrue b ↔ AreCheckedLines (with_units formula.now self.old.units) cube.now row.now) }
         ensures stays { self.new ≡ self.old }
     {
         let answer = refute(

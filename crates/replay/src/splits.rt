@@ -2,6 +2,7 @@
 ghost use Rattle.std.specs.Prelude.{◌≡◌, ◌↔◌, IsTrue, IfOk, false};
 ghost use Rattle.theory.specs.Literals.{has_var};
 ghost use Rattle.theory.specs.Truth.{IsOver};
+ghost use Rattle.theory.specs.Pure.{searched};
 ghost use Rattle.theory.specs.Checked.{IsFitSplit, IsLeastSplit};
 ghost use Rattle.replay.specs.Splits.{IsReady};
 
@@ -55,7 +56,7 @@ impl LeastSplits {
     pub fn is_least(&mut self, formula: &Formula, cube: &Cube, var: u32) -> Result<bool, AllocError>
         requires over { IsOver formula.now.vars cube.now }
         requires ready { IsReady formula.now self.old }
-        ensures least { IfOk result (λ b. IsTrue b ↔ IsLeastSplit formula.now cube.now var) }
+        ensures least { IfOk result (λ b. IsTrue b ↔ IsLeastSplit (searched formula.now) cube.now var) }
         ensures ready { IsReady formula.now self.new }
     {
         self.kernel.restart(cube)?;

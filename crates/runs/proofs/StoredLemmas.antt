@@ -4,19 +4,21 @@ use Rattle.std.proofs.Common.{◌≡◌, ℕ, ◌+◌, Bool, true, false, List, 
 use Rattle.std.specs.Io.KnownBytes.{Appends}
 use Rattle.theory.specs.Literals.{Literal}
 use Rattle.theory.specs.Truth.{Formula, Satisfiable}
-use Rattle.theory.specs.Plans.{Search, Plan}
-use Rattle.theory.specs.Pure.{pure_literals}
+use Rattle.theory.specs.Plans.{Search, ordered, focused, Plan}
+use Rattle.theory.specs.Beginnings.{begun, begun_by, beginning_by, proof}
 use Rattle.theory.specs.Reading.{Limits, large, IsWithinLimits}
 use Rattle.theory.specs.Steps.{Step}
 use Rattle.theory.specs.Texts.{step_text, proof_text, answer_text}
 use Rattle.theory.specs.Trees as trees
-use Rattle.theory.specs.Proofs.{proof}
 use Rattle.theory.specs.Checked.{IsCheckedResult}
 use Rattle.theory.specs.Written.{IsUnsatisfiableText}
 use Rattle.cnf.specs.declared.fault.ReadFault.{ReadFault}
 use Rattle.cnf.specs.declared.fault.ReadFault.TheVariants as reading
 use Rattle.cnf.specs.Faults.{IsReadOf}
 use Rattle.lrat_text.proofs.WrittenTexts.{proof_text-ProofReads}
+use Rattle.cdcl.specs.Plans.{search_from, beginning_of, first_units}
+use Rattle.cdcl.specs.declared.plan.Search as declared
+use Rattle.cdcl.proofs.SearchedFormulas.{begun_by-is}
 use Rattle.packs.specs.declared.fact.Fact.{Fact}
 use Rattle.gathering.specs.Stored.{AreTrueFacts}
 use Rattle.cubes.specs.declared.tree.Tree.{Tree}
@@ -24,7 +26,7 @@ use Rattle.cubes.specs.declared.tree.Tree.TheVariants.{Model, Refuted}
 use Rattle.cubes.specs.Result.{LinesNode, LinesTree, node_of, Says}
 use Rattle.strategies.specs.Strategies.{Strategy, search_by}
 use Rattle.strategies.specs.Choosing.{IsChosen, alone}
-use Rattle.strategies.specs.Deciding.{IsDecidedBy}
+use Rattle.strategies.specs.Deciding.{IsDecidedAs}
 use Rattle.strategies.specs.Texts.{IsRefutationText}
 use Rattle.cubes.specs.Streaming.{IsCheckedNode}
 use Rattle.join.specs.Joining.{Joined, behind, before_nodes, after_nodes, on_node, on_nodes}
@@ -41,7 +43,7 @@ use Rattle.runs.specs.declared.verdict.Verdict.{Verdict}
 use Rattle.runs.specs.declared.verdict.Verdict.TheVariants.{Unsatisfiable}
 use Rattle.runs.specs.declared.proof_stream.ProofStream.{ProofStream}
 use Rattle.runs.proofs.RightAnswers.{texts-right}
-use Rattle.runs.proofs.TextLemmas.{short-large}
+use Rattle.runs.proofs.TextLemmas.{short-large, named-beginning}
 use Rattle.runs.proofs.WrittenLemmas.{Appends-then}
 
 pub proof_text-append : (ls ms : List Step) → proof_text (ls ++ ms) ≡ proof_text ls ++ proof_text ms
@@ -150,23 +152,37 @@ streamed-ended a b c whole s m w =
     (Appends-then a b c m.passed.written (s.buffer.items ++ rest) m.passed.appended w)
 
 -- the node of a cube that was checked is within its limits
-pub checked-node : (F : Formula) (search : Search) (Q : List Literal) (N : ℕ) (n : trees.Node) → IsWithinLimits large F → N ≡ length F.clauses + length (pure_literals F) → IsCheckedNode search F Q n → IsNode N n
-checked-node F search Q N (trees.split_on x) within count checked = IsNode-split F search Q N x within checked
-checked-node F search Q N (trees.refuted_leaf lines) within count checked = IsNode-refuted F search Q N lines within count checked
+checked-in : (F : Formula) (s : declared.Search) (search : Search) (Q : List Literal) (N : ℕ) (n : trees.Node) → IsWithinLimits large F → N ≡ length F.clauses + length (first_units s F) → IsCheckedNode search (begun F (beginning_of s)) Q n → IsNode N n
+checked-in F s search Q N (trees.split_on x) within count checked = IsNode-split F s search Q N x within checked
+checked-in F s search Q N (trees.refuted_leaf lines) within count checked = IsNode-refuted F s search Q N lines within count checked
+
+-- a search begins as its name says
+begun-named : (F : Formula) (search : Search) → begun_by search F ≡ begun F (beginning_of (search_from search))
+begun-named F ordered = refl
+begun-named F (focused c) = refl
+
+pub checked-node : (F : Formula) (search : Search) (Q : List Literal) (N : ℕ) (n : trees.Node) → IsWithinLimits large F → N ≡ length F.clauses + length (first_units (search_from search) F) → IsCheckedNode search (begun_by search F) Q n → IsNode N n
+checked-node F search Q N n within count checked = checked-in F (search_from search) search Q N n within count (subst (λ (G : Formula). IsCheckedNode search G Q n) (begun-named F search) checked)
 
 -- what the nodes of a tree without a model give is its proof
-pub nodes-proof : (F : Formula) (first : ProofStream) (ns : List trees.Node) (t : trees.Tree) → IsStreamFor F first → joined first.joiner ≡ before_nodes (length F.clauses) (pure_literals F) → ns ≡ trees.nodes_of t → trees.first_model t ≡ None
-    → proof_text (on_nodes first.joiner.clauses (joined first.joiner) ns).steps ≡ proof_text (proof F t)
-nodes-proof F first ns t stream begun same none =
+pub nodes-proof : (F : Formula) (s : declared.Search) (first : ProofStream) (ns : List trees.Node) (t : trees.Tree) → IsStreamFor s F first → joined first.joiner ≡ before_nodes (length F.clauses) (first_units s F) → ns ≡ trees.nodes_of t
+    → trees.first_model t ≡ None → proof_text (on_nodes first.joiner.clauses (joined first.joiner) ns).steps ≡ proof_text (proof F (beginning_of s) t)
+nodes-proof F s first ns t stream before same none =
     ap (λ (N : ℕ). proof_text (on_nodes N (joined first.joiner) ns).steps) stream.clauses
-    ∙ ap (λ (s : Joined). proof_text (on_nodes (length F.clauses + length (pure_literals F)) s ns).steps) begun
-    ∙ ap (λ ms. proof_text (after_nodes F ms).steps) same
-    ∙ ap proof_text (after-tree F t none)
+    ∙ ap (λ (j : Joined). proof_text (on_nodes (length F.clauses + length (first_units s F)) j ns).steps) before
+    ∙ ap (λ ms. proof_text (after_nodes F (first_units s F) ms).steps) same
+    ∙ ap proof_text (after-tree F s t none)
+
+-- that of a plan
+plan-proof : (F : Formula) (plan : Plan) (first : ProofStream) (ns : List trees.Node) (t : trees.Tree) → IsStreamFor (search_from plan.search) F first → joined first.joiner ≡ before_nodes (length F.clauses) (first_units (search_from plan.search) F)
+    → ns ≡ trees.nodes_of t → trees.first_model t ≡ None → proof_text (on_nodes first.joiner.clauses (joined first.joiner) ns).steps ≡ proof_text (proof F (beginning_by plan.search) t)
+plan-proof F plan first ns t stream before same none =
+    nodes-proof F (search_from plan.search) first ns t stream before same none ∙ ap (λ b. proof_text (proof F b t)) (named-beginning plan.search)
 
 -- all nodes of a tree without a model were taken, and what was left is written
-pub refutation-written : (F : Formula) (plan : Plan) (are_true : Type 0) (a b c : Option (List ℕ)) (first last : ProofStream) (nodes : List LinesNode) → IsStreamFor F first → joined first.joiner ≡ before_nodes (length F.clauses) (pure_literals F)
-    → first.buffer.items ≡ [] → (t : trees.Tree) × IsCheckedResult plan.search F (trees.tree_of t) × (map node_of nodes ≡ trees.nodes_of t)
-    → (are_true → (t : trees.Tree) × trees.IsResult F plan (trees.tree_of t) × (map node_of nodes ≡ trees.nodes_of t)) → IsStreamed a b first (map node_of nodes) last
+pub refutation-written : (F : Formula) (plan : Plan) (are_true : Type 0) (a b c : Option (List ℕ)) (first last : ProofStream) (nodes : List LinesNode) → IsStreamFor (search_from plan.search) F first
+    → joined first.joiner ≡ before_nodes (length F.clauses) (first_units (search_from plan.search) F) → first.buffer.items ≡ [] → (t : trees.Tree) × IsCheckedResult plan.search (begun_by plan.search F) (trees.tree_of t) × (map node_of nodes ≡ trees.nodes_of t)
+    → (are_true → (t : trees.Tree) × trees.IsResult (begun_by plan.search F) plan (trees.tree_of t) × (map node_of nodes ≡ trees.nodes_of t)) → IsStreamed a b first (map node_of nodes) last
     → Appends b c (last.buffer.items ++ proof_text (joined last.joiner).steps) → (text : List ℕ) × IsProofText F plan are_true text × Appends a c text
 refutation-written F plan are_true a b c first last nodes stream begun empty checked own streamed ended =
     let ns = map node_of nodes in
@@ -175,21 +191,23 @@ refutation-written F plan are_true a b c first last nodes stream begun empty che
       record {
         tree = checked.0;
         checked = checked.1;
-        text_is = nodes-proof F first ns checked.0 stream begun checked.2 checked.1.1;
-        own = λ are. let o = own are in (o.0, o.1, nodes-proof F first ns o.0 stream begun o.2 o.1.1);
+        text_is = plan-proof F plan first ns checked.0 stream begun checked.2 checked.1.1;
+        own = λ are. let o = own are in (o.0, o.1, plan-proof F plan first ns o.0 stream begun o.2 o.1.1);
       },
       streamed-ended a b c whole last (subst (λ before. IsMaking a b whole before last) empty streamed.making) ended,
     )
 
 -- the proof of a checked tree is accepted
-accepted-proof : (L : Limits) (F : Formula) (search : Search) (t : trees.Tree) (text : List ℕ) → IsWithinLimits large F → IsCheckedResult search F (trees.tree_of t) → text ≡ proof_text (proof F t) → IsAccepted L F text
-accepted-proof L F search t text within checked same =
+accepted-in : (L : Limits) (F : Formula) (s : declared.Search) (search : Search) (t : trees.Tree) (text : List ℕ) → IsWithinLimits large F → IsCheckedResult search (begun F (beginning_of s)) (trees.tree_of t) → text ≡ proof_text (proof F (beginning_of s) t)
+    → IsAccepted L F text
+accepted-in L F s search t text within checked same =
+    let steps = proof F (beginning_of s) t in
     subst (IsAccepted L F) (sym same)
-    (λ short. (
-      proof F t,
-      proof_text-ProofReads L (proof F t) (lines-within F search t (proof F t) within checked refl (short-large L (length (proof_text (proof F t))) short)) short,
-      lines-accepted F search t (proof F t) checked refl,
-    ))
+    (λ short. (steps, proof_text-ProofReads L steps (lines-within F s search t steps within checked refl (short-large L (length (proof_text steps)) short)) short, lines-accepted F s search t steps checked refl))
+
+accepted-proof : (L : Limits) (F : Formula) (search : Search) (t : trees.Tree) (text : List ℕ) → IsWithinLimits large F → IsCheckedResult search (begun_by search F) (trees.tree_of t) → text ≡ proof_text (proof F (beginning_by search) t) → IsAccepted L F text
+accepted-proof L F search t text within checked same =
+    accepted-in L F (search_from search) search t text within (subst (λ (G : Formula). IsCheckedResult search G (trees.tree_of t)) (begun-named F search) checked) (same ∙ ap (λ b. proof_text (proof F b t)) (sym (named-beginning search)))
 
 -- with it the verdict is right
 pub refuted-right : (L : Limits) (F : Formula) (plan : Plan) (search : Search) (are_true : Type 0) (text answer : List ℕ) → IsWithinLimits large F → ¬ (Satisfiable F) → answer ≡ answer_text None → IsProofText F plan are_true text → IsRight L search F Unsatisfiable text answer
@@ -200,7 +218,15 @@ pub refuted-texts : (L : Limits) (F : Formula) (plan : Plan) (s : Strategy) (are
     → AreTexts L F s Unsatisfiable text answer
 refuted-texts L F plan s are_true text answer within chosen are says is of =
     let own = of.own are in
-    let written : IsUnsatisfiableText F plan text answer = record { unsatisfiable = says; tree = own.0; is_tree = own.1.0; proof_is = own.2; answer_is = is } in
+    let written : IsUnsatisfiableText F plan text answer = record {
+      unsatisfiable = says;
+      beginning = beginning_by plan.search;
+      begins = refl;
+      tree = own.0;
+      is_tree = subst (λ (G : Formula). trees.IsTree G plan [] own.0) (begun_by-is F plan) own.1.0;
+      proof_is = own.2;
+      answer_is = is;
+    } in
     let refutation : IsRefutationText F s text answer = record { plan = plan; chosen = chosen; text = written } in
     (refutation, accepted-proof L F plan.search of.tree text within of.checked of.text_is)
 
@@ -211,7 +237,7 @@ stored-right L F plan search are_true (Model values) verdict text answer within 
 stored-right L F plan search are_true (Refuted nodes) verdict text answer within says is of = rw is.0 (refuted-right L F plan search are_true text answer within says is.1 of)
 
 -- and of true facts, for the strategy's own texts
-pub stored-texts : (L : Limits) (F : Formula) (s : Strategy) (plan : Plan) (are_true : Type 0) (tree : LinesTree) (verdict : Verdict) (text answer : List ℕ) → IsWithinLimits large F → s.first ≡ None → plan ≡ s.plan → are_true → IsDecidedBy F s tree → Says (search_by s) F tree
+pub stored-texts : (L : Limits) (F : Formula) (s : Strategy) (plan : Plan) (are_true : Type 0) (tree : LinesTree) (verdict : Verdict) (text answer : List ℕ) → IsWithinLimits large F → s.first ≡ None → plan ≡ s.plan → are_true → IsDecidedAs F s (search_from s.plan.search) tree → Says (search_by s) F tree
     → IsAnswer tree verdict answer → IsProofOf F plan are_true tree text → AreTexts L F s verdict text answer
 stored-texts L F s plan are_true (Model values) verdict text answer within lone e are result says is of =
     rw is.0 (record { model = values.items; found = says; is_answer = result; proof_is = of; answer_is = is.1 })

@@ -3,15 +3,16 @@ use Rattle.std.specs.Prelude.{◌≡◌, ℕ, ◌+◌, Bool, true, false, List, 
 use Rattle.std.specs.Io.KnownBytes.{Appends, Keeps}
 use Rattle.theory.specs.Truth as truth
 use Rattle.theory.specs.Plans.{Search, Plan}
-use Rattle.theory.specs.Pure.{pure_literals}
 use Rattle.theory.specs.Reading.{Limits, ReadsWithin, formula, large, max_bytes, IsWithinLimits}
 use Rattle.theory.specs.Steps.{Step}
 use Rattle.theory.specs.Texts.{step_text, proof_text}
 use Rattle.theory.specs.Trees as trees
-use Rattle.theory.specs.Proofs.{proof}
+use Rattle.theory.specs.Beginnings.{begun_by, beginning_by, proof}
 use Rattle.theory.specs.Checked.{IsCheckedResult}
 use Rattle.packs.specs.declared.fact.Fact.{Fact}
 use Rattle.gathering.specs.Stored.{AreTrueFacts}
+use Rattle.cdcl.specs.Plans.{first_units}
+use Rattle.cdcl.specs.declared.plan.Search as declared
 use Rattle.cubes.specs.declared.tree.Tree.{Tree}
 use Rattle.cubes.specs.declared.tree.Tree.TheVariants.{Model, Refuted}
 use Rattle.join.specs.Joining.{Joined, behind, on_nodes}
@@ -53,10 +54,10 @@ pub record IsDrained (a b : Option (List ℕ)) (old new : ProofStream) : Type 0 
   pub all : (joined new.joiner).steps ≡ []
   pub clauses : new.joiner.clauses ≡ old.joiner.clauses
 
--- it makes lines of nodes of the formula's tree
-pub record IsStreamFor (F : truth.Formula) (s : ProofStream) : Type 0 where
+-- it makes lines of nodes of the formula's tree by this search
+pub record IsStreamFor (search : declared.Search) (F : truth.Formula) (s : ProofStream) : Type 0 where
   pub within : IsWithinLimits large F
-  pub clauses : s.joiner.clauses ≡ length F.clauses + length (pure_literals F)
+  pub clauses : s.joiner.clauses ≡ length F.clauses + length (first_units search F)
   pub lawful : IsJoining s.joiner
 
 -- by taking these nodes it came from the first state to the last one
@@ -67,9 +68,9 @@ pub record IsStreamed (a b : Option (List ℕ)) (first : ProofStream) (nodes : L
 -- the text of a checked tree's proof, and where the facts are true that of the plan's own
 pub record IsProofText (F : truth.Formula) (plan : Plan) (are_true : Type 0) (text : List ℕ) : Type 0 where
   pub tree : trees.Tree
-  pub checked : IsCheckedResult plan.search F (trees.tree_of tree)
-  pub text_is : text ≡ proof_text (proof F tree)
-  pub own : are_true → (t : trees.Tree) × trees.IsResult F plan (trees.tree_of t) × (text ≡ proof_text (proof F t))
+  pub checked : IsCheckedResult plan.search (begun_by plan.search F) (trees.tree_of tree)
+  pub text_is : text ≡ proof_text (proof F (beginning_by plan.search) tree)
+  pub own : are_true → (t : trees.Tree) × trees.IsResult (begun_by plan.search F) plan (trees.tree_of t) × (text ≡ proof_text (proof F (beginning_by plan.search) t))
 
 -- and for any result: that of a model has none
 abbrev pub IsProofOf : {L : Type 0} → truth.Formula → Plan → Type 0 → Tree L → List ℕ → Type 0

@@ -24,7 +24,7 @@ use join::{Lines, answer_bytes};
 use lines::Row;
 use std::alloc::{AllocError, Global};
 use std::io::{Read, Write};
-use strategies::Strategy;
+use strategies::{Decided, Strategy};
 
 /// What a run is to write.
 pub(crate) struct Output {
@@ -78,18 +78,19 @@ pub(crate) fn output_of(
     formula: &Formula,
     limits: Limits,
     strategy: Strategy,
-    tree: Tree<Row>,
+    decided: Decided,
 ) -> Result<Output, AllocError>
-    requires result { IsDecidedBy formula.now strategy tree }
-    requires says { Says (search_by strategy) formula.now tree }
+    requires result { IsDecidedBy formula.now strategy decided }
+    requires says { Says (search_by strategy) formula.now decided.tree }
     ensures texts { IfOk result (λ o. AreTexts (limits_of limits) formula.now strategy o.verdict (proof_text (lines_left o.lines)) o.answer.items) }
     ensures lines { IfOk result (λ o. IsBetweenNodes o.lines) }
     ensures buffer { IfOk result (λ o. o.buffer.items ≡ []) }
 {
     let (_limits, _strategy) = (limits, strategy); // they are there for the contract alone
     let _vars = formula.vars(); // it ensures what the proof needs of the formula
+    let Decided { search, tree } = decided;
     let (verdict, answer) = answer_of(alloc, formula, &tree)?;
-    let lines = Lines::of(alloc, formula, tree)?;
+    let lines = Lines::of(alloc, formula, search, tree)?;
     let buffer = room(alloc, &lines)?;
     Ok(Output {
         verdict,
@@ -121,7 +122,9 @@ pub fn run_one_by_plan<R: Read + Drop, W: Write, P: Write>(
         return Err(RunFault::NoMemory);
     };
     let strategy = Strategy::of(plan);
-    let mut output = match output_of(alloc, &formula, Limits::Standard, strategy, tree) {
+    let search = plan.search();
+    let decided = Decided { search, tree };
+    let mut output = match output_of(alloc, &formula, Limits::Standard, strategy, decided) {
         Ok(output) => output,
         Err(_) => return Err(RunFault::NoMemory),
     };

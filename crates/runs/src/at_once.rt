@@ -1,7 +1,7 @@
 //! A run without threads, over facts that are kept elsewhere and that nobody vouches for. It goes
 //! through the formula's tree once: the proof is written as the nodes come.
 ghost use Rattle.std.specs.Prelude.{◌≡◌, ◌⊎◌, [], length, IsNone, IfOk, IfErr, IfSome, MatchResult};
-ghost use Rattle.theory.specs.Pure.{pure_literals};
+ghost use Rattle.cdcl.specs.Plans.{search_from, first_units};
 ghost use Rattle.strategies.specs.Strategies.{by_plan};
 ghost use Rattle.cnf.specs.Limits.{limits_of};
 ghost use Rattle.join.specs.Joining.{before_nodes};
@@ -36,8 +36,8 @@ pub(crate) fn write_if_refuted<O: GivesOutcomes, P: Write>(
     proof: &mut P,
 ) -> Result<bool, RunFault>
     requires gives { O.gives outcomes.old formula.now plan }
-    requires stream { IsStreamFor formula.now stream.old }
-    requires joined { joined stream.old.joiner ≡ before_nodes (length formula.now.clauses) (pure_literals formula.now) }
+    requires stream { IsStreamFor (search_from plan.search) formula.now stream.old }
+    requires joined { joined stream.old.joiner ≡ before_nodes (length formula.now.clauses) (first_units (search_from plan.search) formula.now) }
     requires buffer { stream.old.buffer.items ≡ [] }
     ensures { MatchResult result
         (WritesIfRefuted formula.now plan (O.gives_own outcomes.old formula.now plan) (P.contents proof.old) (P.contents proof.new))
@@ -82,7 +82,7 @@ fn gather_at_once_by<R: Read + Drop, S: KeepsFacts + Drop, H: OpensOutcomes<S>, 
     let Ok(text) = answer_bytes(alloc, &formula, None) else {
         return Err(RunFault::NoMemory);
     };
-    let Ok(mut stream) = ProofStream::begin(alloc, &formula) else {
+    let Ok(mut stream) = ProofStream::begin(alloc, &formula, plan.search()) else {
         return Err(RunFault::NoMemory);
     };
     if !write_if_refuted(alloc, &formula, plan, &mut outcomes, &mut stream, proof)? {

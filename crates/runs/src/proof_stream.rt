@@ -1,7 +1,7 @@
 //! The text of a proof whose nodes come one after the other, as it is written.
 ghost use Rattle.std.specs.Prelude.{◌≡◌, [], ◌++◌, ◌⊎◌, length, IfOk, OnOk, MatchResult};
 ghost use Rattle.std.specs.Io.KnownBytes.{Appends};
-ghost use Rattle.theory.specs.Pure.{pure_literals};
+ghost use Rattle.cdcl.specs.Plans.{search_from, first_units};
 ghost use Rattle.theory.specs.Texts.{proof_text};
 ghost use Rattle.join.specs.Joining.{before_nodes};
 ghost use Rattle.join.specs.Walking.{joined, IsJoining};
@@ -10,6 +10,7 @@ ghost use Rattle.runs.specs.Stored.{PutsNext, IsDrained, IsStreamFor, IsStreamed
 use crate::fault::RunFault;
 use crate::output::{write_bytes, write_text};
 use crate::proof_output::{ENOUGH, put_text};
+use cdcl::Search;
 use cnf::Formula;
 use cubes::{Node, TakesNodes};
 use join::Joiner;
@@ -52,15 +53,20 @@ fn put_next(joiner: &mut Joiner, buffer: &mut Vec<u8>) -> Result<bool, AllocErro
 }
 
 impl ProofStream {
-    /// Before the first node of the formula's tree. It takes memory by the formula's pure literals.
-    pub(crate) fn begin(alloc: Global, formula: &Formula) -> Result<ProofStream, AllocError>
-        ensures stream { IfOk result (IsStreamFor formula.now) }
-        ensures joined { IfOk result (λ s. joined s.joiner ≡ before_nodes (length formula.now.clauses) (pure_literals formula.now)) }
+    /// Before the first node of the formula's tree by this search. It takes memory by the units that
+    /// the search begins with.
+    pub(crate) fn begin(
+        alloc: Global,
+        formula: &Formula,
+        search: Search,
+    ) -> Result<ProofStream, AllocError>
+        ensures stream { IfOk result (IsStreamFor search formula.now) }
+        ensures joined { IfOk result (λ s. joined s.joiner ≡ before_nodes (length formula.now.clauses) (first_units search formula.now)) }
         ensures buffer { IfOk result (λ s. s.buffer.items ≡ []) }
     {
         let _vars = formula.vars(); // it ensures what the proof needs of the formula
         let clauses = formula.clause_count() as u64;
-        let units = formula.pure(alloc)?;
+        let units = search.units(alloc, formula)?;
         Ok(ProofStream {
             joiner: Joiner::start(alloc, clauses, units)?,
             buffer: Vec::with_capacity(alloc, 2 * ENOUGH)?,
@@ -115,7 +121,7 @@ impl ProofStream {
 }
 
 impl<W: Write> TakesNodes<W> for ProofStream {
-    ghost is_for = { λ s F. IsStreamFor F s };
+    ghost is_for = { λ s search F. IsStreamFor (search_from search) F s };
 
     ghost takes = { λ first begun nodes last out. IsStreamed (W.contents begun) (W.contents out) first nodes last };
 

@@ -50,7 +50,7 @@ fn write_refutation<O: GivesOutcomes, P: Write>(
         (λ _. (text : List ℕ) × IsProofText formula.now plan (O.gives_own outcomes.old formula.now plan) text × Appends (P.contents proof.old) (P.contents proof.new) text)
         (IsUnwritten (P.contents proof.old) (P.contents proof.new)) }
 {
-    let Ok(mut stream) = ProofStream::begin(alloc, formula) else {
+    let Ok(mut stream) = ProofStream::begin(alloc, formula, plan.search()) else {
         return Err(RunFault::NoMemory);
     };
     match write_if_refuted(alloc, formula, plan, outcomes, &mut stream, proof) {

@@ -54,11 +54,11 @@ pub(crate) fn run_observed<
     };
     observer.read(&formula);
     let solved = solve_by_strategy(rt, alloc, &formula, strategy, hands, gate, observer);
-    let Ok(tree) = solved else {
+    let Ok(decided) = solved else {
         return Err(RunFault::NoMemory);
     };
-    observer.solved(&tree);
-    let mut output = match output_of(alloc, &formula, limits, strategy, tree) {
+    observer.solved(&decided.tree);
+    let mut output = match output_of(alloc, &formula, limits, strategy, decided) {
         Ok(output) => output,
         Err(_) => return Err(RunFault::NoMemory),
     };

@@ -10,6 +10,7 @@ use Rattle.theory.specs.Plans.{Plan}
 use Rattle.theory.specs.Search.{Outcome, model, refuted, exhausted}
 use Rattle.theory.specs.Trees.{false_half, true_half}
 use Rattle.theory.specs.Runs.{Runs}
+use Rattle.theory.specs.Beginnings.{begun_by}
 use Rattle.packs.specs.declared.fact.Fact.{Fact}
 use Rattle.gathering.specs.Facts.{claim_of}
 use Rattle.spread.specs.declared.solving.Left.TheVariants.{Nothing, Model, Halves}
@@ -141,7 +142,7 @@ sorted F plan facts queue ordered has_model b e =
 
 -- what the first one's outcome leaves
 module _ (F : Formula) (plan : Plan) (facts new : List Fact) (Q : List Literal) (rest queue : List (List Literal)) (known : Bool) (h : IsNext F plan facts Q rest known) where
-  pub refuted-waits : (lines : List Line) → Runs F plan Q (refuted lines) → new ≡ facts ++ record { cube = Q; claim = claim_of (refuted lines) } ∷ [] → queue ≡ rest → IsBreadth F plan new queue known
+  pub refuted-waits : (lines : List Line) → Runs (begun_by plan.search F) plan Q (refuted lines) → new ≡ facts ++ record { cube = Q; claim = claim_of (refuted lines) } ∷ [] → queue ≡ rest → IsBreadth F plan new queue known
   refuted-waits lines runs e same = record {
     count = length Q;
     first = h.high;
@@ -152,7 +153,7 @@ module _ (F : Formula) (plan : Plan) (facts new : List Fact) (Q : List Literal) 
     divides = subst (λ (fs : List Fact). Divides F plan fs (h.low ++ h.high) known) (sym e) (goes_on h.low h.high Q (refuted lines) h.divides refl runs);
   }
 
-  pub model-waits : (M : Assignment) → Runs F plan Q (model M) → new ≡ facts ++ record { cube = Q; claim = claim_of (model M) } ∷ [] → queue ≡ from_longer (length Q) rest → IsBreadth F plan new queue true
+  pub model-waits : (M : Assignment) → Runs (begun_by plan.search F) plan Q (model M) → new ≡ facts ++ record { cube = Q; claim = claim_of (model M) } ∷ [] → queue ≡ from_longer (length Q) rest → IsBreadth F plan new queue true
   model-waits M runs e same = record {
     count = length Q;
     first = [];
@@ -164,7 +165,7 @@ module _ (F : Formula) (plan : Plan) (facts new : List Fact) (Q : List Literal) 
         (subst (λ (fs : List Fact). Divides F plan fs h.low true) (sym e) (goes_on h.low h.high Q (model M) h.divides refl runs));
   }
 
-  pub split-waits : (x : ℕ) → Runs F plan Q (exhausted x) → new ≡ facts ++ record { cube = Q; claim = claim_of (exhausted x) } ∷ [] → queue ≡ (rest ++ false_half Q x ∷ []) ++ true_half Q x ∷ [] → IsBreadth F plan new queue known
+  pub split-waits : (x : ℕ) → Runs (begun_by plan.search F) plan Q (exhausted x) → new ≡ facts ++ record { cube = Q; claim = claim_of (exhausted x) } ∷ [] → queue ≡ (rest ++ false_half Q x ∷ []) ++ true_half Q x ∷ [] → IsBreadth F plan new queue known
   split-waits x runs e same =
       let low = false_half Q x in
       let high = true_half Q x in
@@ -297,7 +298,7 @@ module _ (F : Formula) (plan : Plan) (before after : List Fact) (Q : List Litera
   pub nothing-left-waits : IsLeft F plan Q Nothing before after → queue ≡ rest → IsBreadth F plan after queue known
   nothing-left-waits left e = go left.outcome left.runs left.leaves left.said
     where
-      go : (o : Outcome) → Runs F plan Q o → IsLeftBy Q o Nothing → after ≡ before ++ record { cube = Q; claim = claim_of o } ∷ [] → IsBreadth F plan after queue known
+      go : (o : Outcome) → Runs (begun_by plan.search F) plan Q o → IsLeftBy Q o Nothing → after ≡ before ++ record { cube = Q; claim = claim_of o } ∷ [] → IsBreadth F plan after queue known
       go (model M) runs l said = absurd l
       go (refuted lines) runs l said = refuted-waits F plan before after Q rest queue known first lines runs said e
       go (exhausted x) runs l said = absurd l
@@ -305,7 +306,7 @@ module _ (F : Formula) (plan : Plan) (before after : List Fact) (Q : List Litera
   pub model-left-waits : IsLeft F plan Q Model before after → queue ≡ from_longer (length Q) rest → IsBreadth F plan after queue true
   model-left-waits left e = go left.outcome left.runs left.leaves left.said
     where
-      go : (o : Outcome) → Runs F plan Q o → IsLeftBy Q o Model → after ≡ before ++ record { cube = Q; claim = claim_of o } ∷ [] → IsBreadth F plan after queue true
+      go : (o : Outcome) → Runs (begun_by plan.search F) plan Q o → IsLeftBy Q o Model → after ≡ before ++ record { cube = Q; claim = claim_of o } ∷ [] → IsBreadth F plan after queue true
       go (model M) runs l said = model-waits F plan before after Q rest queue known first M runs said e
       go (refuted lines) runs l said = absurd l
       go (exhausted x) runs l said = absurd l
@@ -313,7 +314,7 @@ module _ (F : Formula) (plan : Plan) (before after : List Fact) (Q : List Litera
   pub halves-wait : (low high : List Literal) → IsLeft F plan Q (Halves low high) before after → queue ≡ (rest ++ low ∷ []) ++ high ∷ [] → IsBreadth F plan after queue known
   halves-wait low high left e = go left.outcome left.runs left.leaves left.said
     where
-      go : (o : Outcome) → Runs F plan Q o → IsLeftBy Q o (Halves low high) → after ≡ before ++ record { cube = Q; claim = claim_of o } ∷ [] → IsBreadth F plan after queue known
+      go : (o : Outcome) → Runs (begun_by plan.search F) plan Q o → IsLeftBy Q o (Halves low high) → after ≡ before ++ record { cube = Q; claim = claim_of o } ∷ [] → IsBreadth F plan after queue known
       go (model M) runs l said = absurd l
       go (refuted lines) runs l said = absurd l
       go (exhausted x) runs l said =

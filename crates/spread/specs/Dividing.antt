@@ -6,6 +6,7 @@ use Rattle.theory.specs.Plans.{Plan}
 use Rattle.theory.specs.Search.{Outcome, model, refuted, exhausted}
 use Rattle.theory.specs.Trees.{false_half, true_half}
 use Rattle.theory.specs.Runs.{Runs}
+use Rattle.theory.specs.Beginnings.{begun_by}
 use Rattle.packs.specs.declared.fact.Fact.{Fact}
 use Rattle.gathering.specs.Facts.{claim_of}
 
@@ -27,7 +28,7 @@ model_known known (exhausted x) = known
 -- right of them is cut off by a model.
 pub data Divides (F : Formula) (plan : Plan) : List Fact → List (List Literal) → Bool → Type 0 where
   begins : Divides F plan [] ([] ∷ []) false
-  goes_on : {facts : List Fact} {cubes : List (List Literal)} {has_model : Bool} (low high : List (List Literal)) (Q : List Literal) (o : Outcome) → Divides F plan facts cubes has_model → cubes ≡ low ++ Q ∷ high → Runs F plan Q o
+  goes_on : {facts : List Fact} {cubes : List (List Literal)} {has_model : Bool} (low high : List (List Literal)) (Q : List Literal) (o : Outcome) → Divides F plan facts cubes has_model → cubes ≡ low ++ Q ∷ high → Runs (begun_by plan.search F) plan Q o
       → Divides F plan (facts ++ record { cube = Q; claim = claim_of o } ∷ []) (opened_by low high Q o) (model_known has_model o)
 
 -- the open cubes as they wait, by breadth: those with so many literals, and behind them those left

@@ -6,6 +6,7 @@ use Rattle.theory.specs.Plans.{Plan}
 use Rattle.theory.specs.Search.{Outcome, model, refuted, exhausted}
 use Rattle.theory.specs.Trees.{false_half, true_half, IsCubeOf}
 use Rattle.theory.specs.Runs.{Runs}
+use Rattle.theory.specs.Beginnings.{begun_by}
 use Rattle.theory.specs.Checked.{IsFitSplit}
 use Rattle.packs.specs.declared.fact.Fact.{Fact}
 use Rattle.gathering.specs.Facts.{claim_of}
@@ -28,7 +29,7 @@ IsLeftBy Q o left = ⊥
 -- and by its outcome by the plan, which is said behind the facts that were said before
 pub record IsLeft (F : Formula) (plan : Plan) (Q : List Literal) (left : Left) (before after : List Fact) : Type 0 where
   pub outcome : Outcome
-  pub runs : Runs F plan Q outcome
+  pub runs : Runs (begun_by plan.search F) plan Q outcome
   pub fit : IsFitOutcome F Q outcome
   pub leaves : IsLeftBy Q outcome left
   pub said : after ≡ before ++ record { cube = Q; claim = claim_of outcome } ∷ []
@@ -36,7 +37,7 @@ pub record IsLeft (F : Formula) (plan : Plan) (Q : List Literal) (left : Left) (
 -- Q is a cube of the formula's tree, over the formula's variables
 pub record IsOfTree (F : Formula) (plan : Plan) (Q : List Literal) : Type 0 where
   pub over : IsOver F.vars Q
-  pub cube : IsCubeOf F plan [] Q
+  pub cube : IsCubeOf (begun_by plan.search F) plan [] Q
 
 -- where the cube Q is solved, its outcome says whether it has a model, and what is put on the way
 -- of the hand that solved it: the halves of an exhausted cube, the left one last, and else nothing
@@ -48,7 +49,7 @@ IsStepBy Q (exhausted x) has_model put = (has_model ≡ false) × (put ≡ true_
 -- and the outcome is the one by the plan
 pub record IsStep (F : Formula) (plan : Plan) (Q : List Literal) (has_model : Bool) (before after : List (List Literal)) : Type 0 where
   pub outcome : Outcome
-  pub runs : Runs F plan Q outcome
+  pub runs : Runs (begun_by plan.search F) plan Q outcome
   pub put : List (List Literal)
   pub steps : IsStepBy Q outcome has_model put
   pub way : after ≡ before ++ put

@@ -1,5 +1,6 @@
 //! Solving the cubes of a part, as one hand does.
 ghost use Rattle.std.specs.Prelude.{◌≡◌, [], All, IfOk, IfNone, OnOk};
+ghost use Rattle.theory.specs.Beginnings.{begun_by};
 ghost use Rattle.theory.specs.Truth.{IsOver};
 ghost use Rattle.gathering.specs.Facts.{IsTrueFact};
 ghost use Rattle.spread.specs.Solving.{IsStep};
@@ -74,10 +75,10 @@ fn step<G: Gate>(
     facts: &mut Vec<Fact>,
     told: &Told<'_, G>,
 ) -> Result<bool, AllocError>
-    requires formula { solver.old.formula ≡ formula.now }
+    requires formula { solver.old.formula ≡ begun_by plan.search formula.now }
     requires plan { solver.old.plan ≡ plan }
     requires facts { All (IsTrueFact formula.now plan) facts.old.items }
-    ensures formula { solver.new.formula ≡ formula.now }
+    ensures formula { solver.new.formula ≡ begun_by plan.search formula.now }
     ensures plan { solver.new.plan ≡ plan }
     ensures facts { OnOk result (All (IsTrueFact formula.now plan) facts.new.items) }
     ensures way { IsOver formula.now.vars cube → IfOk result (λ has_model. IsStep formula.now plan cube has_model way.old.items way.new.items) }
@@ -115,10 +116,10 @@ fn solve_next<R: Files + Alloc + Clone + Drop, E: Write, G: Gate>(
     told: &Told<'_, G>,
     faults: &mut E,
 ) -> Result<(), Said>
-    requires formula { solver.old.formula ≡ formula.now }
+    requires formula { solver.old.formula ≡ begun_by plan.search formula.now }
     requires plan { solver.old.plan ≡ plan }
     requires facts { All (IsTrueFact formula.now plan) facts.old.items }
-    ensures formula { solver.new.formula ≡ formula.now }
+    ensures formula { solver.new.formula ≡ begun_by plan.search formula.now }
     ensures plan { solver.new.plan ≡ plan }
     ensures facts { OnOk result (All (IsTrueFact formula.now plan) facts.new.items) }
 {
@@ -189,7 +190,7 @@ fn solve_all<R: Files + Clock + Alloc + Clone + Drop, E: Write, G: Gate>(
     told: &Told<'_, G>,
     faults: &mut E,
 ) -> Result<Ended, Said>
-    requires formula { solver.old.formula ≡ formula.now }
+    requires formula { solver.old.formula ≡ begun_by run.now.plan.search formula.now }
     requires plan { solver.old.plan ≡ run.now.plan }
     requires facts { All (IsTrueFact formula.now run.now.plan) facts.old.items }
     ensures facts { OnOk result (All (IsTrueFact formula.now run.now.plan) facts.new.items) }

@@ -1,5 +1,6 @@
 //! Solving cubes, one after the other, with what is said of them.
 ghost use Rattle.std.specs.Prelude.{◌≡◌, ◌∷◌, ◌++◌, [], All, OnOk, IfOk};
+ghost use Rattle.theory.specs.Beginnings.{begun_by};
 ghost use Rattle.theory.specs.Truth.{IsOver};
 ghost use Rattle.theory.specs.Trees.{false_half, true_half};
 ghost use Rattle.theory.specs.Checked.{IsFitSplit};
@@ -56,10 +57,10 @@ pub(crate) fn solve<G: Gate>(
     facts: &mut Vec<Fact>,
     told: &Told<'_, G>,
 ) -> Result<Left, AllocError>
-    requires formula { solver.old.formula ≡ formula.now }
+    requires formula { solver.old.formula ≡ begun_by plan.search formula.now }
     requires plan { solver.old.plan ≡ plan }
     requires facts { All (IsTrueFact formula.now plan) facts.old.items }
-    ensures formula { solver.new.formula ≡ formula.now }
+    ensures formula { solver.new.formula ≡ begun_by plan.search formula.now }
     ensures plan { solver.new.plan ≡ plan }
     ensures facts { OnOk result (All (IsTrueFact formula.now plan) facts.new.items) }
     ensures left { IsOver formula.now.vars cube → IfOk result (λ left. IsLeft formula.now plan cube left facts.old.items facts.new.items) }

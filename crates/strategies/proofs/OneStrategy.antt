@@ -2,6 +2,8 @@
 use Rattle.std.proofs.Common.{◌≡◌, ℕ, Bool, true, false, List, [], Some, refl, sym, ap, subst, ◌∙◌}
 use Rattle.theory.specs.Truth.{Formula, Assignment}
 use Rattle.theory.specs.Plans.{Plan, ordered_within}
+use Rattle.theory.specs.Pure.{searched}
+use Rattle.theory.specs.Beginnings.{begun_by}
 use Rattle.theory.specs.Search.{Outcome, exhausted}
 use Rattle.theory.specs.Runs.{Runs}
 use Rattle.theory.specs.Trees.{model_of, IsResult}
@@ -16,9 +18,9 @@ use Rattle.strategies.specs.Choosing.{IsDecision, IsChosen, alone, decides, goes
 use Rattle.strategies.specs.Texts.{IsModelText, IsRefutationText}
 
 -- an outcome that decides isn't an exhaustion
-not-exhausted : (F : Formula) (B C x : ℕ) (o : Outcome) → B ≡ C → Runs F (ordered_within B) [] o → IsDecision o → Runs F (ordered_within C) [] (exhausted x) → ⊥
+not-exhausted : (F : Formula) (B C x : ℕ) (o : Outcome) → B ≡ C → Runs (searched F) (ordered_within B) [] o → IsDecision o → Runs (searched F) (ordered_within C) [] (exhausted x) → ⊥
 not-exhausted F B C x o same r d k =
-    let e : o ≡ exhausted x = Runs-unique F (ordered_within C) [] o (exhausted x) (subst (λ n. Runs F (ordered_within n) [] o) same r) k in
+    let e : o ≡ exhausted x = Runs-unique (searched F) (ordered_within C) [] o (exhausted x) (subst (λ n. Runs (searched F) (ordered_within n) [] o) same r) k in
     subst IsDecision e d
 
 pub IsChosen-unique : (F : Formula) (s : Strategy) (p q : Plan) → IsChosen F s p → IsChosen F s q → p ≡ q
@@ -36,7 +38,7 @@ IsChosen-unique F s p q (goes_on f r) (goes_on g k) = refl
 pub models-same : (b : Bool) (F : Formula) (s : Strategy) (M N : Assignment) → IsModelBy b F s M → IsModelBy b F s N → M ≡ N
 models-same true F s M N h k = IsFirst-unique F M N h k
 models-same false F s M N h k =
-    IsFirstLeaf-unique F k.0 [] M N (subst (λ p. IsResult F p (model_of M)) (IsChosen-unique F s h.0 k.0 h.1 k.1) h.2) k.2
+    IsFirstLeaf-unique (begun_by k.0.search F) k.0 [] M N (subst (λ (p : Plan). IsResult (begun_by p.search F) p (model_of M)) (IsChosen-unique F s h.0 k.0 h.1 k.1) h.2) k.2
 
 pub model-texts-same : (F : Formula) (s : Strategy) (p a q b : List ℕ) → IsModelText F s p a → IsModelText F s q b → Same p a q b
 model-texts-same F s p a q b t u =

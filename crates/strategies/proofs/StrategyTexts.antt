@@ -2,7 +2,9 @@
 -- that lowers is the ordered search's.
 use Rattle.std.proofs.Common.{◌≡◌, ℕ, Bool, true, false, List, [], ◌⊎◌, inl, inr, Some, None, refl, sym, ap, subst, ◌∙◌, if◌then◌else◌}
 use Rattle.theory.specs.Truth.{Formula, Assignment, IsFormula}
-use Rattle.theory.specs.Plans.{Search, ordered, Plan, ordered_within}
+use Rattle.theory.specs.Plans.{Search, ordered, focused, Plan, ordered_within}
+use Rattle.theory.specs.Pure.{searched}
+use Rattle.theory.specs.Beginnings.{begun, model_back, beginning_by, begun_by}
 use Rattle.theory.specs.FirstModel.{IsFirst, IsFound}
 use Rattle.theory.specs.Search.{Outcome, model, refuted, exhausted}
 use Rattle.theory.specs.Runs.{Runs}
@@ -15,12 +17,40 @@ use Rattle.theory.proofs.searching.OutcomeLemmas.{Runs-refuted}
 use Rattle.theory.proofs.searching.PureModels.{Satisfiable-searched}
 use Rattle.theory.proofs.trees.FirstModelLemmas.{IsFirst-unique}
 use Rattle.theory.proofs.trees.OneText.{Same, Reads-one_formula}
-use Rattle.theory.proofs.trees.ResultLemmas.{IsResult-says}
+use Rattle.cdcl.proofs.SearchedFormulas.{begun_by-is}
 use Rattle.strategies.specs.Strategies.{Strategy, by_plan, search_by}
 use Rattle.strategies.specs.Choosing.{IsDecision, IsChosen, alone, decides, IsModelBy}
 use Rattle.strategies.specs.Texts.{IsModelText, IsRefutationText, IsWrittenBy}
-use Rattle.strategies.proofs.FoundModels.{chosen-found}
+use Rattle.strategies.proofs.FoundModels.{result-says, chosen-found}
 use Rattle.strategies.proofs.OneStrategy.{IsChosen-unique, model-texts-same, refutation-texts-same}
+
+-- a model of what the search begins with is the formula's as it is
+model_back-same : (s : Search) (F : Formula) (M : Assignment) → model_back F (beginning_by s) M ≡ M
+model_back-same ordered F M = refl
+model_back-same (focused c) F M = refl
+
+-- the texts of a plan with a model, without the beginning that is its search's
+satisfiable-text : (F : Formula) (plan : Plan) (M : Assignment) (p a : List ℕ) → IsFound plan.search F M → IsResult (begun_by plan.search F) plan (model_of M) → p ≡ [] → a ≡ answer_text (Some M) → IsSatisfiableText F plan p a
+satisfiable-text F plan M p a found result proof_is answer_is = record {
+  beginning = beginning_by plan.search;
+  begins = refl;
+  model = M;
+  found = subst (IsFound plan.search F) (sym (model_back-same plan.search F M)) found;
+  is_result = subst (λ (G : Formula). IsResult G plan (model_of M)) (begun_by-is F plan) result;
+  proof_is = proof_is;
+  answer_is = answer_is ∙ ap (λ N. answer_text (Some N)) (sym (model_back-same plan.search F M));
+}
+
+satisfiable-model : (F : Formula) (plan : Plan) (p a : List ℕ) → IsSatisfiableText F plan p a
+    → (M : Assignment) × IsFound plan.search F M × IsResult (begun_by plan.search F) plan (model_of M) × (p ≡ []) × (a ≡ answer_text (Some M))
+satisfiable-model F plan p a t =
+    let same : model_back F t.beginning t.model ≡ t.model = ap (λ b. model_back F b t.model) t.begins ∙ model_back-same plan.search F t.model in (
+      t.model,
+      subst (IsFound plan.search F) same t.found,
+      subst (λ (G : Formula). IsResult G plan (model_of t.model)) (ap (begun F) t.begins ∙ sym (begun_by-is F plan)) t.is_result,
+      t.proof_is,
+      t.answer_is ∙ ap (λ N. answer_text (Some N)) same,
+    )
 
 -- the texts for a formula
 abbrev AreFor : Formula → Strategy → List ℕ → List ℕ → Type 0
@@ -41,17 +71,14 @@ IsWrittenBy-one L bytes s p a q b t u = texts-same u.value s p a q b (for-this L
 
 -- a plan alone
 alone-plan : (F : Formula) (plan : Plan) (p a : List ℕ) → AreFor F (by_plan plan) p a → IsSatisfiableText F plan p a ⊎ IsUnsatisfiableText F plan p a
-alone-plan F plan p a (inl t) = inl (record {
-  model = t.model;
-  found = t.found;
-  is_result = subst (λ q. IsResult F q (model_of t.model)) (IsChosen-unique F (by_plan plan) t.is_answer.0 plan t.is_answer.1 (alone refl)) t.is_answer.2;
-  proof_is = t.proof_is;
-  answer_is = t.answer_is;
-})
+alone-plan F plan p a (inl t) = inl (satisfiable-text F plan t.model p a t.found
+    (subst (λ (q : Plan). IsResult (begun_by q.search F) q (model_of t.model)) (IsChosen-unique F (by_plan plan) t.is_answer.0 plan t.is_answer.1 (alone refl)) t.is_answer.2) t.proof_is t.answer_is)
 alone-plan F plan p a (inr t) = inr (subst (λ q. IsUnsatisfiableText F q p a) (IsChosen-unique F (by_plan plan) t.plan plan t.chosen (alone refl)) t.text)
 
 plan-alone : (F : Formula) (plan : Plan) (p a : List ℕ) → IsSatisfiableText F plan p a ⊎ IsUnsatisfiableText F plan p a → AreFor F (by_plan plan) p a
-plan-alone F plan p a (inl t) = inl (record { model = t.model; found = t.found; is_answer = (plan, alone refl, t.is_result); proof_is = t.proof_is; answer_is = t.answer_is })
+plan-alone F plan p a (inl t) =
+    let m = satisfiable-model F plan p a t in
+    inl (record { model = m.0; found = m.1; is_answer = (plan, alone refl, m.2); proof_is = m.3; answer_is = m.4 })
 plan-alone F plan p a (inr t) = inr (record { plan = plan; chosen = alone refl; text = t })
 
 pub IsWritten-alone : (L : Limits) (bytes : List ℕ) (plan : Plan) (p a : List ℕ) → IsWrittenBy L bytes (by_plan plan) p a → IsWrittenWithin L bytes plan p a
@@ -69,38 +96,37 @@ ordered-first F search M it h = subst (λ search. IsFound search F M) it h
 
 answers-same : (F : Formula) (s : Strategy) (plan : Plan) (p a q b : List ℕ) → s.lowers ≡ true → plan.search ≡ ordered → AreFor F s p a → IsSatisfiableText F plan q b ⊎ IsUnsatisfiableText F plan q b → a ≡ b
 answers-same F s plan p a q b low it (inl t) (inl u) =
-    t.answer_is
-    ∙ ap (λ m. answer_text (Some m)) (IsFirst-unique F t.model u.model (lowered-first F s t.model low t.is_answer) (ordered-first F plan.search u.model it u.found))
-    ∙ sym u.answer_is
+    let m = satisfiable-model F plan q b u in
+    t.answer_is ∙ ap (λ m. answer_text (Some m)) (IsFirst-unique F t.model m.0 (lowered-first F s t.model low t.is_answer) (ordered-first F plan.search m.0 it m.1)) ∙ sym m.4
 answers-same F s plan p a q b low it (inl t) (inr u) = absurd (u.unsatisfiable (t.model, IsFound-satisfies (search_by s) F t.model t.found))
-answers-same F s plan p a q b low it (inr t) (inl u) = absurd (t.text.unsatisfiable (u.model, IsFound-satisfies plan.search F u.model u.found))
+answers-same F s plan p a q b low it (inr t) (inl u) = absurd (let m = satisfiable-model F plan q b u in t.text.unsatisfiable (m.0, IsFound-satisfies plan.search F m.0 m.1))
 answers-same F s plan p a q b low it (inr t) (inr u) = t.text.answer_is ∙ sym u.answer_is
 
 pub answer-first : (L : Limits) (bytes : List ℕ) (s : Strategy) (plan : Plan) (p a q b : List ℕ) → s.lowers ≡ true → plan.search ≡ ordered → IsWrittenBy L bytes s p a → IsWrittenWithin L bytes plan q b → a ≡ b
 answer-first L bytes s plan p a q b low it t u = answers-same u.value s plan p a q b low it (for-this L bytes s u.value p a u.reads t) u.texts
 
 -- the model of a formula that the ordered search decides is its result
-decided-model : (F : Formula) (B : ℕ) (o : Outcome) (M : Assignment) → IsFormula F → Runs F (ordered_within B) [] o → IsDecision o → IsFirst F M → IsResult F (ordered_within B) (model_of M)
+decided-model : (F : Formula) (B : ℕ) (o : Outcome) (M : Assignment) → IsFormula F → Runs (searched F) (ordered_within B) [] o → IsDecision o → IsFirst F M → IsResult (searched F) (ordered_within B) (model_of M)
 decided-model F B (model N) M formed r d first =
-    let same : N ≡ M = IsFirst-unique F N M (IsResult-says F (ordered_within B) (model_of N) formed (here r)) first in
-    subst (λ N. IsResult F (ordered_within B) (model_of N)) same (here r)
+    let same : N ≡ M = IsFirst-unique F N M (result-says F (ordered_within B) (model_of N) formed (here r)) first in
+    subst (λ N. IsResult (searched F) (ordered_within B) (model_of N)) same (here r)
 decided-model F B (refuted lines) M formed r d first =
     let some = Satisfiable-searched F formed (M, first.satisfies) in
-    absurd (Runs-refuted F (ordered_within B) [] lines refl r some.0 some.1 tt)
+    absurd (Runs-refuted (searched F) (ordered_within B) [] lines refl r some.0 some.1 tt)
 decided-model F B (exhausted x) M formed r d first = absurd d
 
-decided-result : (b : Bool) (F : Formula) (s : Strategy) (B : ℕ) (o : Outcome) (M : Assignment) → IsFormula F → s.first ≡ Some B → Runs F (ordered_within B) [] o → IsDecision o → IsModelBy b F s M → IsResult F (ordered_within B) (model_of M)
+decided-result : (b : Bool) (F : Formula) (s : Strategy) (B : ℕ) (o : Outcome) (M : Assignment) → IsFormula F → s.first ≡ Some B → Runs (searched F) (ordered_within B) [] o → IsDecision o → IsModelBy b F s M → IsResult (searched F) (ordered_within B) (model_of M)
 decided-result true F s B o M formed f r d h = decided-model F B o M formed r d h
-decided-result false F s B o M formed f r d h = subst (λ p. IsResult F p (model_of M)) (IsChosen-unique F s h.0 (ordered_within B) h.1 (decides f r d)) h.2
+decided-result false F s B o M formed f r d h = subst (λ (p : Plan). IsResult (begun_by p.search F) p (model_of M)) (IsChosen-unique F s h.0 (ordered_within B) h.1 (decides f r d)) h.2
 
-decided-texts : (F : Formula) (s : Strategy) (B : ℕ) (o : Outcome) (p a : List ℕ) → IsFormula F → s.first ≡ Some B → Runs F (ordered_within B) [] o → IsDecision o → AreFor F s p a
+decided-texts : (F : Formula) (s : Strategy) (B : ℕ) (o : Outcome) (p a : List ℕ) → IsFormula F → s.first ≡ Some B → Runs (searched F) (ordered_within B) [] o → IsDecision o → AreFor F s p a
     → IsSatisfiableText F (ordered_within B) p a ⊎ IsUnsatisfiableText F (ordered_within B) p a
 decided-texts F s B o p a formed f r d (inl t) =
     let result = decided-result s.lowers F s B o t.model formed f r d t.is_answer in
-    inl (record { model = t.model; found = IsResult-says F (ordered_within B) (model_of t.model) formed result; is_result = result; proof_is = t.proof_is; answer_is = t.answer_is })
+    inl (satisfiable-text F (ordered_within B) t.model p a (result-says F (ordered_within B) (model_of t.model) formed result) result t.proof_is t.answer_is)
 decided-texts F s B o p a formed f r d (inr t) = inr (subst (λ q. IsUnsatisfiableText F q p a) (IsChosen-unique F s t.plan (ordered_within B) t.chosen (decides f r d)) t.text)
 
-pub decided-written : (L : Limits) (bytes : List ℕ) (s : Strategy) (B : ℕ) (F : Formula) (o : Outcome) (p a : List ℕ) → s.first ≡ Some B → ReadsWithin L bytes (formula F) → Runs F (ordered_within B) [] o → IsDecision o → IsWrittenBy L bytes s p a
+pub decided-written : (L : Limits) (bytes : List ℕ) (s : Strategy) (B : ℕ) (F : Formula) (o : Outcome) (p a : List ℕ) → s.first ≡ Some B → ReadsWithin L bytes (formula F) → Runs (searched F) (ordered_within B) [] o → IsDecision o → IsWrittenBy L bytes s p a
     → IsWrittenWithin L bytes (ordered_within B) p a
 decided-written L bytes s B F o p a f reads r d w =
     record { value = F; reads = reads; texts = decided-texts F s B o p a reads.1.within.formula f r d (for-this L bytes s F p a reads w) }
@@ -113,14 +139,14 @@ model-by-chosen : (b : Bool) (F : Formula) (s : Strategy) (plan : Plan) (M : Ass
     → IsFound (if b then ordered else plan.search) F M × IsModelBy b F (chosen_of s plan) M
 model-by-chosen true F s plan M formed chosen h = (h, h)
 model-by-chosen false F s plan M formed chosen h =
-    let result = subst (λ p. IsResult F p (model_of M)) (IsChosen-unique F s h.0 plan h.1 chosen) h.2 in
-    (IsResult-says F plan (model_of M) formed result, (plan, alone refl, result))
+    let result = subst (λ (p : Plan). IsResult (begun_by p.search F) p (model_of M)) (IsChosen-unique F s h.0 plan h.1 chosen) h.2 in
+    (result-says F plan (model_of M) formed result, (plan, alone refl, result))
 
 model-by-strategy : (b : Bool) (F : Formula) (s : Strategy) (plan : Plan) (M : Assignment) → IsFormula F → IsChosen F s plan → IsModelBy b F (chosen_of s plan) M
     → IsFound (if b then ordered else s.plan.search) F M × IsModelBy b F s M
 model-by-strategy true F s plan M formed chosen h = (h, h)
 model-by-strategy false F s plan M formed chosen h =
-    let result = subst (λ p. IsResult F p (model_of M)) (IsChosen-unique F (chosen_of s plan) h.0 plan h.1 (alone refl)) h.2 in
+    let result = subst (λ (p : Plan). IsResult (begun_by p.search F) p (model_of M)) (IsChosen-unique F (chosen_of s plan) h.0 plan h.1 (alone refl)) h.2 in
     (chosen-found F s plan M formed chosen result, (plan, chosen, result))
 
 to-chosen : (F : Formula) (s : Strategy) (plan : Plan) (p a : List ℕ) → IsFormula F → IsChosen F s plan → AreFor F s p a → AreFor F (chosen_of s plan) p a

@@ -2,6 +2,8 @@
 use Rattle.std.specs.Prelude.{◌≡◌, ℕ, Bool, true, false, [], Some, None}
 use Rattle.theory.specs.Truth.{Formula, Assignment}
 use Rattle.theory.specs.Plans.{Plan, ordered_within}
+use Rattle.theory.specs.Pure.{searched}
+use Rattle.theory.specs.Beginnings.{begun_by}
 use Rattle.theory.specs.Search.{Outcome, model, refuted, exhausted}
 use Rattle.theory.specs.Runs.{Runs}
 use Rattle.theory.specs.FirstModel.{IsFirst}
@@ -22,10 +24,10 @@ Decides o false = (x : ℕ) × (o ≡ exhausted x)
 -- the plan that decides the formula
 pub data IsChosen (F : Formula) (s : Strategy) : Plan → Type 0 where
   alone : s.first ≡ None → IsChosen F s s.plan
-  decides : {B : ℕ} {o : Outcome} → s.first ≡ Some B → Runs F (ordered_within B) [] o → IsDecision o → IsChosen F s (ordered_within B)
-  goes_on : {B x : ℕ} → s.first ≡ Some B → Runs F (ordered_within B) [] (exhausted x) → IsChosen F s s.plan
+  decides : {B : ℕ} {o : Outcome} → s.first ≡ Some B → Runs (searched F) (ordered_within B) [] o → IsDecision o → IsChosen F s (ordered_within B)
+  goes_on : {B x : ℕ} → s.first ≡ Some B → Runs (searched F) (ordered_within B) [] (exhausted x) → IsChosen F s s.plan
 
 -- the model is the answer: the first one, or the one that the chosen plan finds
 abbrev pub IsModelBy : Bool → Formula → Strategy → Assignment → Type 0
 IsModelBy true F s M = IsFirst F M
-IsModelBy false F s M = (plan : Plan) × IsChosen F s plan × IsResult F plan (model_of M)
+IsModelBy false F s M = (plan : Plan) × IsChosen F s plan × IsResult (begun_by plan.search F) plan (model_of M)

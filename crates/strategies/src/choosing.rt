@@ -1,6 +1,7 @@
 //! The search that is made first, and the plan that is chosen by it.
 ghost use Rattle.std.specs.Prelude.{◌≡◌, ◌≤◌, [], IfOk};
 ghost use Rattle.theory.specs.Plans.{ordered_within};
+ghost use Rattle.theory.specs.Pure.{searched};
 ghost use Rattle.theory.specs.Runs.{Runs};
 ghost use Rattle.cdcl.specs.Outcome.{outcome_of};
 ghost use Rattle.strategies.specs.Choosing.{Decides, IsChosen};
@@ -64,7 +65,7 @@ pub(crate) fn first_outcome<G: Gate, S: Stages>(
     stages: &S,
 ) -> Result<Outcome<Row>, AllocError>
     requires { (1 ≤ budget) × (budget ≤ 100000) }
-    ensures { IfOk result (λ o. Runs formula.now (ordered_within budget) [] (outcome_of o)) }
+    ensures { IfOk result (λ o. Runs (searched formula.now) (ordered_within budget) [] (outcome_of o)) }
 {
     let root = Cube::root(alloc);
     let mut solver = Solver::open(alloc, formula, Plan::ordered(budget))?;

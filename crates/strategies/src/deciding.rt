@@ -1,9 +1,11 @@
 //! A formula's result by a strategy.
 ghost use Rattle.std.specs.Prelude.{◌≡◌, ◌⊎◌, ◌≤◌, true, false, None, IfOk, MatchOption};
 ghost use Rattle.theory.specs.Plans.{ordered};
+ghost use Rattle.theory.specs.Beginnings.{begun_by};
+ghost use Rattle.cdcl.specs.Plans.{search_from};
 ghost use Rattle.cubes.specs.Result.{IsResultOf, IsCheckedResultOf, Says};
 ghost use Rattle.strategies.specs.Strategies.{search_by};
-ghost use Rattle.strategies.specs.Deciding.{IsDecidedBy, IsFoundBy, IsModelOf, IsRefuted, IsTreeBy};
+ghost use Rattle.strategies.specs.Deciding.{IsDecidedAs, IsDecidedBy, IsFoundBy, IsModelOf, IsRefuted, IsTreeBy};
 
 use crate::choosing::first_outcome;
 use crate::lowest::first_model;
@@ -16,6 +18,13 @@ use std::alloc::{AllocError, Global};
 use std::sync::Wait;
 use std::thread::Threads;
 use std::time::Clock;
+
+/// A formula's result, and the search that it is of.
+#[derive(Drop)]
+pub struct Decided {
+    pub search: Search,
+    pub tree: Tree<Row>,
+}
 
 /// Whether a model that the plan finds may have to be lowered: the ordered search finds the first.
 fn is_lowered(strategy: Strategy, plan: Plan) -> bool
@@ -118,19 +127,24 @@ pub fn solve_by_strategy<R: Threads + Wait + Clock + Sync, G: Gate + Sync, S: St
     hands: usize,
     gate: &G,
     stages: &S,
-) -> Result<Tree<Row>, AllocError>
+) -> Result<Decided, AllocError>
     requires hands { (1 ≤ hands) × (hands ≤ 16) }
     ensures result { IfOk result (IsDecidedBy formula.now strategy) }
-    ensures says { IfOk result (λ t. Says (search_by strategy) formula.now t) }
+    ensures says { IfOk result (λ d. Says (search_by strategy) formula.now d.tree) }
 {
     let _vars = formula.vars(); // it ensures what the proof needs of the formula
     let (plan, tree) = tree_of(rt, alloc, formula, strategy, hands, gate, stages)?;
+    let search = plan.search();
     match tree {
         Tree::Model(values) => {
             let answer = answer_of(alloc, formula, strategy, plan, values, gate, stages)?;
-            Ok(Tree::Model(answer))
+            let tree = Tree::Model(answer);
+            Ok(Decided { search, tree })
         }
-        Tree::Refuted(nodes) => Ok(Tree::Refuted(nodes)),
+        Tree::Refuted(nodes) => {
+            let tree = Tree::Refuted(nodes);
+            Ok(Decided { search, tree })
+        }
     }
 }
 
@@ -170,9 +184,9 @@ pub fn answered<G: Gate, S: Stages>(
     stages: &S,
 ) -> Result<Tree<Unkept>, AllocError>
     requires alone { strategy.first ≡ None }
-    requires checked { IsCheckedResultOf strategy.plan.search formula.now tree }
+    requires checked { IsCheckedResultOf strategy.plan.search (begun_by strategy.plan.search formula.now) tree }
     ensures says { IfOk result (λ t. Says (search_by strategy) formula.now t) }
-    ensures own { IsResultOf formula.now strategy.plan tree → IfOk result (IsDecidedBy formula.now strategy) }
+    ensures own { IsResultOf (begun_by strategy.plan.search formula.now) strategy.plan tree → IfOk result (IsDecidedAs formula.now strategy (search_from strategy.plan.search)) }
 {
     let _vars = formula.vars(); // it ensures what the proof needs of the formula
     let plan = strategy.plan();

@@ -2,6 +2,7 @@
 ghost use Rattle.std.specs.Prelude.{◌≡◌, ◌↔◌, ℕ, List, [], true, Some, None};
 ghost use Rattle.theory.specs.Truth.{Formula};
 ghost use Rattle.theory.specs.Plans.{Plan, ordered, ordered_within};
+ghost use Rattle.theory.specs.Pure.{searched};
 ghost use Rattle.theory.specs.Search.{Outcome};
 ghost use Rattle.theory.specs.Runs.{Runs};
 ghost use Rattle.theory.specs.Reading.{Limits, ReadsWithin, formula};
@@ -26,7 +27,7 @@ pub fn answers_are_the_first()
     ensures answer { (L : Limits) (bytes : List ℕ) (s : Strategy) (plan : Plan) (p a q b : List ℕ) → s.lowers ≡ true → plan.search ≡ ordered →
         IsWrittenBy L bytes s p a → IsWrittenWithin L bytes plan q b → a ≡ b }
     ensures texts { (L : Limits) (bytes : List ℕ) (s : Strategy) (B : ℕ) (F : Formula) (o : Outcome) (p a : List ℕ) → s.first ≡ Some B →
-        ReadsWithin L bytes (formula F) → Runs F (ordered_within B) [] o → IsDecision o → IsWrittenBy L bytes s p a →
+        ReadsWithin L bytes (formula F) → Runs (searched F) (ordered_within B) [] o → IsDecision o → IsWrittenBy L bytes s p a →
         IsWrittenWithin L bytes (ordered_within B) p a }
 {}
 

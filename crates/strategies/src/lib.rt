@@ -9,7 +9,7 @@ mod lowest;
 mod strategy;
 
 pub use choosing::chosen;
-pub use deciding::{answered, decide_by_strategy, solve_by_strategy};
+pub use deciding::{Decided, answered, decide_by_strategy, solve_by_strategy};
 pub use laws::{answers_are_the_first, chosen_plans_write_the_same, strategies_write_the_same};
 pub use lowering::LoweringCounts;
 pub use strategy::{Stages, Strategy, Unstaged};

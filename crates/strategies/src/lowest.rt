@@ -2,7 +2,6 @@
 ghost use Rattle.std.specs.Prelude.{IfOk};
 ghost use Rattle.theory.specs.Truth.{Satisfies};
 ghost use Rattle.theory.specs.FirstModel.{IsFirst};
-ghost use Rattle.theory.specs.Search.{searched};
 
 use crate::strategy::Stages;
 use cdcl::Plan;
@@ -28,9 +27,8 @@ impl<G: Gate, S: Stages> LoweringWatcher for Lowers<'_, G, S> {
     }
 }
 
-/// The formula's first model, from a model in which its pure variables are false, as each search's
-/// models have them: questions are searched by the plan, undivided. It fails where a request for
-/// memory is refused or the gate stops it.
+/// The formula's first model, from any model: questions are searched by the plan, undivided. It fails
+/// where a request for memory is refused or the gate stops it.
 pub(crate) fn first_model<G: Gate, S: Stages>(
     alloc: Global,
     formula: &Formula,
@@ -39,7 +37,7 @@ pub(crate) fn first_model<G: Gate, S: Stages>(
     gate: &G,
     stages: &S,
 ) -> Result<Vec<bool>, AllocError>
-    requires { Satisfies (searched formula.now) model.items }
+    requires { Satisfies formula.now model.items }
     ensures { IfOk result (λ values. IsFirst formula.now values.items) }
 {
     let plan = plan.divided(0);

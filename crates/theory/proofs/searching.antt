@@ -28,6 +28,7 @@ pub mod ModelLemmas
 pub mod BestVariables
 pub mod ScoreBounds
 pub mod GlueBounds
+pub mod HeldVariables
 pub mod CubeOutcomes
 pub mod OrderedOutcomes
 pub mod SplitSoundness

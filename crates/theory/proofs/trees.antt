@@ -14,3 +14,4 @@ pub mod OneResult
 pub mod Assemblies
 pub mod CheckedResults
 pub mod Divisions
+pub mod BegunSearches

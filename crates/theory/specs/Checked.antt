@@ -9,7 +9,7 @@ use Rattle.theory.specs.FirstModel.{IsFoundIn}
 use Rattle.theory.specs.Trails.{Trail, cube_trail, least_free}
 use Rattle.theory.specs.Propagation.{quiet, by_number, Propagates}
 use Rattle.theory.specs.Learning.{Line}
-use Rattle.theory.specs.Search.{Outcome, model, refuted, exhausted, first_clauses, searched}
+use Rattle.theory.specs.Search.{Outcome, model, refuted, exhausted}
 use Rattle.theory.specs.Replaying.{AreRefutation}
 use Rattle.theory.specs.Trees.{Tree, satisfied, refutation, split, false_half, true_half, first_model, Result, model_of, tree_of}
 use Rattle.theory.specs.Results.{What, done, skipped}
@@ -21,7 +21,7 @@ IsFitSplit F Q x = IsVariable F.vars x × (has_var Q x ≡ false)
 -- x is the least variable that is free where propagation from the cube Q comes to rest
 pub record IsLeastSplit (F : Formula) (Q : List Literal) (x : ℕ) : Type 0 where
   pub trail : Trail
-  pub rests : Propagates by_number (first_clauses F) (cube_trail Q) quiet trail
+  pub rests : Propagates by_number F.clauses (cube_trail Q) quiet trail
   pub least : least_free F.vars trail ≡ Some x
 
 -- what is checked of a split on the way to a model: by the ordered search that it is the least one,
@@ -32,7 +32,7 @@ IsCheckedSplit (focused c) F Q x = IsFitSplit F Q x
 
 -- the lines replay as a refutation of the cube Q, over the clauses that a search begins with
 abbrev pub AreCheckedLines : Formula → List Literal → List Line → Type 0
-AreCheckedLines F Q lines = AreRefutation F.vars (length (first_clauses F)) Q (first_clauses F) lines
+AreCheckedLines F Q lines = AreRefutation F.vars (length F.clauses) Q F.clauses lines
 
 -- in the tree of the cube Q the lines of each refuted leaf replay, and each split is fit. Of a
 -- satisfied leaf it says nothing.
@@ -44,7 +44,7 @@ IsCheckedTree F Q (split x left right) = IsFitSplit F Q x × IsCheckedTree F (fa
 -- M is a model as the search finds it in the cube of a leaf below Q; each split on the way there is
 -- checked, and left of the way are checked trees without a satisfied leaf
 pub data IsCheckedFirstLeaf (search : Search) (F : Formula) : List Literal → Assignment → Type 0 where
-  found_here : {Q : List Literal} {M : Assignment} → IsFoundIn search (searched F) Q M → IsCheckedFirstLeaf search F Q M
+  found_here : {Q : List Literal} {M : Assignment} → IsFoundIn search F Q M → IsCheckedFirstLeaf search F Q M
   found_left : {Q : List Literal} {M : Assignment} (x : ℕ) → IsCheckedSplit search F Q x → IsCheckedFirstLeaf search F (false_half Q x) M → IsCheckedFirstLeaf search F Q M
   found_right : {Q : List Literal} {M : Assignment} (x : ℕ) (left : Tree) → IsCheckedSplit search F Q x → IsCheckedTree F (false_half Q x) left → first_model left ≡ None
       → IsCheckedFirstLeaf search F (true_half Q x) M → IsCheckedFirstLeaf search F Q M
@@ -56,7 +56,7 @@ IsCheckedResult search F (tree_of t) = IsCheckedTree F [] t × (first_model t �
 
 -- a model is one as the search finds it in the cube Q, lines replay, and a split is checked
 abbrev pub IsCheckedOutcome : Search → Formula → List Literal → Outcome → Type 0
-IsCheckedOutcome search F Q (model M) = IsFoundIn search (searched F) Q M
+IsCheckedOutcome search F Q (model M) = IsFoundIn search F Q M
 IsCheckedOutcome search F Q (refuted lines) = AreCheckedLines F Q lines
 IsCheckedOutcome search F Q (exhausted x) = IsCheckedSplit search F Q x
 

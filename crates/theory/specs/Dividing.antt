@@ -19,8 +19,8 @@ pub data LeadsTo {State : Type 0} (IsStep : State → Next State → Type 0) : S
 pub record HasFewDecisions (c : Constants) (F : Formula) (t : ℕ) : Type 0 where
   pub state : FocusedState
   pub var : ℕ
-  pub leads : LeadsTo (IsFocusedStep c F.vars t) (begin c F []) state
-  pub last : IsFocusedStep c F.vars t state (ends (exhausted var))
+  pub leads : LeadsTo (IsFocusedStep c F t) (begin c F []) state
+  pub last : IsFocusedStep c F t state (ends (exhausted var))
   pub few : 4 * state.decisions < 5 * (state.stable_conflicts + if_stable state)
 
 -- after so many conflicts the first search is asked

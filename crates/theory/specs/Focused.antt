@@ -8,11 +8,12 @@ use Rattle.theory.specs.Literals.{Literal, Clause, has, has_var, positive}
 use Rattle.theory.specs.Truth.{Formula, Assignment, value}
 use Rattle.theory.specs.Plans.{Constants}
 use Rattle.theory.specs.Trails.{Trail, literals, current_level, cube_trail, decide, up_to, variables}
+use Rattle.theory.specs.Held.{held}
 use Rattle.theory.specs.Propagation.{Closed, quiet, conflict, by_place, Propagates}
 use Rattle.theory.specs.Learning.{Line, learn, back_level}
 use Rattle.theory.specs.Units.{Units, units_of}
 use Rattle.theory.specs.Lessons.{Lesson, lesson_of}
-use Rattle.theory.specs.Search.{Outcome, model, refuted, exhausted, first_clauses, budget_within, max_focused, values, Next, ends, goes_on, RunsFrom}
+use Rattle.theory.specs.Search.{Outcome, model, refuted, exhausted, budget_within, max_focused, values, Next, ends, goes_on, RunsFrom}
 use Rattle.theory.specs.Modes.{Pace, first_pace, is_restarting, pace_after}
 use Rattle.theory.specs.Scores.{Scores, first_scores, best_outside, is_seen, scores_after}
 use Rattle.theory.specs.Restarts.{Glues, no_glues, glues_after, restarts}
@@ -42,7 +43,7 @@ pub record FocusedState : Type 0 where
 
 abbrev pub begin : Constants → Formula → List Literal → FocusedState
 begin c F Q = record {
-  clauses = first_clauses F;
+  clauses = F.clauses;
   trail = cube_trail Q;
   lines = [];
   marks = [];
@@ -73,7 +74,7 @@ settled s = if nat_eq (current_level s.trail) 0 then with_units_of s (units_of s
 abbrev pub saved_literal : Assignment → ℕ → Literal
 saved_literal saved x = record { var = x; positive = value saved x }
 
--- the free variable of greatest score gets its saved value
+-- the held free variable of greatest score gets its saved value
 abbrev pub decided_next : FocusedState → ℕ → FocusedState
 decided_next s x = record s { trail = decide s.trail (saved_literal s.saved x); decisions = s.decisions + if_stable s }
 
@@ -136,30 +137,30 @@ learnt_next c V s l =
     let back = gone_back (over || restarts c w.pace.mode w.restarted w.conflicts w.averages) (back_level s.trail l.line.clause) w in
     if over then with_lesson (round_ended c back) l (to_forget c back) else with_lesson back l []
 
--- the variable in which a cube is exhausted: of those that aren't on the trail at level 0, the one
--- of greatest score
-abbrev pub splits_on : ℕ → FocusedState → ℕ
-splits_on V s = unwrap_or (best_outside V (literals (up_to s.trail 0)) s.scores) 0
+-- the variable in which a cube is exhausted: of the held ones that aren't on the trail at level 0,
+-- the one of greatest score
+abbrev pub splits_on : Formula → FocusedState → ℕ
+splits_on F s = unwrap_or (best_outside (held F) (literals (up_to s.trail 0)) s.scores) 0
 
 -- a conflict with the clause of number n
-abbrev pub on_conflict : Constants → ℕ → ℕ → FocusedState → ℕ → Next FocusedState
-on_conflict c V budget s n =
+abbrev pub on_conflict : Constants → Formula → ℕ → FocusedState → ℕ → Next FocusedState
+on_conflict c F budget s n =
     if nat_eq (current_level s.trail) 0 then ends (refuted (s.lines ++ learn s.clauses s.trail n ∷ []))
-    else if nat_eq (s.conflicts + 1) budget then ends (exhausted (splits_on V s))
-    else goes_on (learnt_next c V s (lesson_of s.clauses s.trail n))
+    else if nat_eq (s.conflicts + 1) budget then ends (exhausted (splits_on F s))
+    else goes_on (learnt_next c F.vars s (lesson_of s.clauses s.trail n))
 
 -- what follows an answer of propagation
-abbrev pub after : Constants → ℕ → ℕ → FocusedState → Closed → Next FocusedState
-after c V budget s quiet = on_quiet V s (best_outside V (literals s.trail) s.scores)
-after c V budget s (conflict n) = on_conflict c V budget s n
+abbrev pub after : Constants → Formula → ℕ → FocusedState → Closed → Next FocusedState
+after c F budget s quiet = on_quiet F.vars s (best_outside (held F) (literals s.trail) s.scores)
+after c F budget s (conflict n) = on_conflict c F budget s n
 
--- a step: propagation, the units, and what follows the answer
-pub record IsFocusedStep (c : Constants) (V budget : ℕ) (s : FocusedState) (next : Next FocusedState) : Type 0 where
+-- a step of the search of F: propagation, the units, and what follows the answer
+pub record IsFocusedStep (c : Constants) (F : Formula) (budget : ℕ) (s : FocusedState) (next : Next FocusedState) : Type 0 where
   pub answer : Closed
   pub trail : Trail
   pub propagates : Propagates by_place s.clauses s.trail answer trail
-  pub follows : after c V budget (settled (record s { trail = trail })) answer ≡ next
+  pub follows : after c F budget (settled (record s { trail = trail })) answer ≡ next
 
 -- the outcome of the cube Q, where B is the budget of the root
 abbrev pub RunsFocused : Constants → Formula → ℕ → List Literal → Outcome → Type 0
-RunsFocused c F B Q o = RunsFrom (IsFocusedStep c F.vars (budget_within max_focused B Q)) (begin c F Q) o
+RunsFocused c F B Q o = RunsFrom (IsFocusedStep c F (budget_within max_focused B Q)) (begin c F Q) o

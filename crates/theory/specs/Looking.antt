@@ -6,11 +6,12 @@
 use Rattle.std.specs.Prelude.{◌≡◌, ℕ, zero, suc, ◌+◌, ◌-◌, ◌*◌, nat_lt, not, ◌&&◌, List, [], ◌∷◌, ◌++◌, map, length, count_by, Option, Some, None, ◌⊎◌, if◌then◌else◌}
 use Rattle.theory.specs.Literals.{Literal, Clause, has, has_both_signs, positive, negative}
 use Rattle.theory.specs.Truth.{Formula}
-use Rattle.theory.specs.Trails.{Trail, literals, cube_trail, decide, variables, least_free}
+use Rattle.theory.specs.Trails.{Trail, literals, cube_trail, decide, variables}
+use Rattle.theory.specs.Held.{held, least_held}
 use Rattle.theory.specs.Propagation.{Closed, quiet, conflict, by_place, Propagates}
 use Rattle.theory.specs.Learning.{learn}
 use Rattle.theory.specs.Units.{units_of}
-use Rattle.theory.specs.Search.{Outcome, model, refuted, exhausted, first_clauses, values}
+use Rattle.theory.specs.Search.{Outcome, model, refuted, exhausted, values}
 use Rattle.theory.specs.Scores.{Scores, best_outside}
 
 -- how many clauses hold the literal; those with both signs of a variable don't count
@@ -25,11 +26,11 @@ rank K x = (occurrences K (positive x) + 1) * (occurrences K (negative x) + 1)
 abbrev pub ranks : ℕ → List Clause → Scores
 ranks V K = record { scores = map (rank K) (variables V); step = 0 }
 
--- of the variables 1 to V that have no literal in P the n of greatest score, the greatest one
--- first; of equal ones the greatest variable
-abbrev pub best_ones : ℕ → ℕ → Scores → List Literal → List ℕ
-best_ones zero V s P = []
-best_ones (suc n) V s P = elim (best_outside V P s) [ None ↦ [] | Some x ↦ x ∷ best_ones n V s (positive x ∷ P) ]
+-- of these variables that have no literal in P the n of greatest score, the greatest one first; of
+-- equal ones the last
+abbrev pub best_ones : ℕ → List ℕ → Scores → List Literal → List ℕ
+best_ones zero vs s P = []
+best_ones (suc n) vs s P = elim (best_outside vs P s) [ None ↦ [] | Some x ↦ x ∷ best_ones n vs s (positive x ∷ P) ]
 
 -- so many variables are tried
 abbrev pub max_candidates : ℕ
@@ -79,8 +80,8 @@ pub data Chooses (K : List Clause) (T : Trail) : Choice → List ℕ → ℕ →
 -- the variable that a cube is split on, where propagation left this trail
 abbrev pub IsChosen : Formula → Trail → ℕ → Type 0
 IsChosen F T x =
-    let K = first_clauses F in
-    Chooses K T no_choice (best_ones max_candidates F.vars (ranks F.vars K) (literals T)) x
+    let K = F.clauses in
+    Chooses K T no_choice (best_ones max_candidates (held F) (ranks F.vars K) (literals T)) x
 
 abbrev pub SplitsInto : Formula → Trail → Option ℕ → Outcome → Type 0
 SplitsInto F T None o = o ≡ model (values F.vars T)
@@ -88,13 +89,13 @@ SplitsInto F T (Some v) o = (x : ℕ) × (o ≡ exhausted x) × IsChosen F T x
 
 -- what a cube comes to behind an answer of propagation
 abbrev pub ComesTo : Formula → Closed → Trail → Outcome → Type 0
-ComesTo F (conflict n) T o = let u = units_of (first_clauses F) T in o ≡ refuted (u.lines ++ learn u.clauses u.trail n ∷ [])
-ComesTo F quiet T o = SplitsInto F T (least_free F.vars T) o
+ComesTo F (conflict n) T o = let u = units_of F.clauses T in o ≡ refuted (u.lines ++ learn u.clauses u.trail n ∷ [])
+ComesTo F quiet T o = SplitsInto F T (least_held F T) o
 
 -- a look at the cube Q: propagation refutes it, or leaves a model, or it is to be split on the
 -- variable that is chosen
 pub record Looks (F : Formula) (Q : List Literal) (o : Outcome) : Type 0 where
   pub answer : Closed
   pub trail : Trail
-  pub propagates : Propagates by_place (first_clauses F) (cube_trail Q) answer trail
+  pub propagates : Propagates by_place F.clauses (cube_trail Q) answer trail
   pub comes_to : ComesTo F answer trail o

@@ -8,7 +8,7 @@ use Rattle.theory.specs.Truth.{Formula}
 use Rattle.theory.specs.Trails.{Trail, current_level, cube_trail, decide, up_to, least_free}
 use Rattle.theory.specs.Propagation.{Closed, quiet, conflict, by_number, Propagates}
 use Rattle.theory.specs.Learning.{Line, learn, back_level}
-use Rattle.theory.specs.Search.{Outcome, model, refuted, exhausted, first_clauses, budget_of, values, Next, ends, goes_on, RunsFrom}
+use Rattle.theory.specs.Search.{Outcome, model, refuted, exhausted, budget_of, values, Next, ends, goes_on, RunsFrom}
 
 -- its state: the clauses and the trail, the conflicts counted, the first variable decided, and the
 -- lines learnt
@@ -20,7 +20,7 @@ pub record OrderedState : Type 0 where
   pub lines : List Line
 
 abbrev pub begin : Formula → List Literal → OrderedState
-begin F Q = record { clauses = first_clauses F; trail = cube_trail Q; conflicts = 0; decided = None; lines = [] }
+begin F Q = record { clauses = F.clauses; trail = cube_trail Q; conflicts = 0; decided = None; lines = [] }
 
 -- the state after the decision that x is false
 abbrev pub decided_next : OrderedState → ℕ → OrderedState

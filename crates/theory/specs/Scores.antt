@@ -30,10 +30,9 @@ abbrev pub best_of : Scores → List ℕ → Option ℕ
 best_of s [] = None
 best_of s (v ∷ vs) = better s v (best_of s vs)
 
--- of the variables 1 to V that have no literal in P, the one of greatest score, of several the
--- greatest
-abbrev pub best_outside : ℕ → List Literal → Scores → Option ℕ
-best_outside V P s = best_of s (filter (λ v. not (has_var P v)) (variables V))
+-- of these variables that have no literal in P, the one of greatest score, of several the last
+abbrev pub best_outside : List ℕ → List Literal → Scores → Option ℕ
+best_outside vs P s = best_of s (filter (λ v. not (has_var P v)) vs)
 
 -- whether a conflict has seen the variable: it is above level 0, and in a clause of these numbers
 abbrev pub is_seen : List Clause → Trail → List ℕ → ℕ → Bool

@@ -5,13 +5,14 @@ ghost use Rattle.theory.specs.Truth.{Formula, Assignment, IsOver, IsFormula, Sat
 ghost use Rattle.theory.specs.FirstModel.{IsFound, IsFoundIn};
 ghost use Rattle.theory.specs.Plans.{Search, ordered, Plan};
 ghost use Rattle.theory.specs.Learning.{Line};
-ghost use Rattle.theory.specs.Search.{Outcome, searched};
+ghost use Rattle.theory.specs.Pure.{searched};
+ghost use Rattle.theory.specs.Search.{Outcome};
 ghost use Rattle.theory.specs.Runs.{Runs};
 ghost use Rattle.theory.specs.Trees.{Tree, Result, IsResult, IsTree, IsFirstLeaf, first_model};
 ghost use Rattle.theory.specs.Steps.{Step, Addition, add};
 ghost use Rattle.theory.specs.Checking.{checks, accepted};
 ghost use Rattle.theory.specs.Replaying.{AreRefutation};
-ghost use Rattle.theory.specs.Proofs.{proof};
+ghost use Rattle.theory.specs.Beginnings.{Beginning, begun, IsBeginning, proof};
 ghost use Rattle.theory.specs.Results.{OutcomeSays, ResultSays, What, Solved, IsTrueOf};
 ghost use Rattle.theory.specs.Assembly.{IsAssembled};
 ghost use Rattle.theory.specs.Checked.{IsLeastSplit, IsCheckedTree, IsCheckedFirstLeaf, IsCheckedResult, IsCheckedOutcome, IsCheckedOf, model_in};
@@ -28,36 +29,39 @@ pub fn checked_tree_has_no_model()
     ensures lines { (V N : ℕ) (Q : List Literal) (K : List Clause) (lines : List Line) (m : ℕ → Bool) → AreRefutation V N Q K lines →
         IsTrue (are_true m K) → ¬ (AreTrue m Q) }
     ensures tree { (F : Formula) (Q : List Literal) (t : Tree) (M : Assignment) → IsCheckedTree F Q t → first_model t ≡ None →
-        Satisfies (searched F) M → ¬ (AreTrue (value M) Q) }
+        Satisfies F M → ¬ (AreTrue (value M) Q) }
 {}
 
-/// The proof of a checked tree without a satisfied leaf is accepted, and ends with the empty
-/// clause. So the formula isn't satisfiable.
+/// The proof of a checked tree without a satisfied leaf is accepted, however the search began, and
+/// ends with the empty clause. So the formula isn't satisfiable.
 pub fn checked_proof_is_accepted()
-    ensures accepted { (F : Formula) (t : Tree) → IsCheckedTree F [] t → first_model t ≡ None → checks F (proof F t) ≡ accepted }
-    ensures empty { (F : Formula) (t : Tree) → IsCheckedTree F [] t → first_model t ≡ None →
-        (before : List Step) × (line : Addition) × (proof F t ≡ before ++ add line ∷ []) × (line.clause ≡ []) }
-    ensures unsatisfiable { (F : Formula) (t : Tree) → IsCheckedTree F [] t → first_model t ≡ None → ¬ (Satisfiable F) }
+    ensures accepted { (search : Search) (F : Formula) (b : Beginning) (t : Tree) → IsBeginning search F b → IsCheckedTree (begun F b) [] t →
+        first_model t ≡ None → checks F (proof F b t) ≡ accepted }
+    ensures empty { (search : Search) (F : Formula) (b : Beginning) (t : Tree) → IsBeginning search F b → IsCheckedTree (begun F b) [] t →
+        first_model t ≡ None →
+        (before : List Step) × (line : Addition) × (proof F b t ≡ before ++ add line ∷ []) × (line.clause ≡ []) }
+    ensures unsatisfiable { (search : Search) (F : Formula) (b : Beginning) (t : Tree) → IsBeginning search F b →
+        IsCheckedTree (begun F b) [] t → first_model t ≡ None → ¬ (Satisfiable F) }
 {}
 
-/// Below the least variable that is free behind propagation, all that satisfies the formula, the
-/// clauses of its pure variables and the cube agrees. So the model of a checked first leaf is what
-/// the search finds in the cube, and in the formula: by the ordered search the first one.
+/// Below the least variable that is free behind propagation, all that satisfies the formula and the
+/// cube agrees. So the model of a checked first leaf is what the search finds in the cube, and in
+/// the formula: by the ordered search the first one.
 pub fn checked_leaf_is_found()
     ensures below { (F : Formula) (Q : List Literal) (x u : ℕ) (M N : Assignment) → IsLeastSplit F Q x → 1 ≤ u → u < x →
-        Satisfies (searched F) M → AreTrue (value M) Q → Satisfies (searched F) N → AreTrue (value N) Q → value M u ≡ value N u }
+        Satisfies F M → AreTrue (value M) Q → Satisfies F N → AreTrue (value N) Q → value M u ≡ value N u }
     ensures cube { (search : Search) (F : Formula) (Q : List Literal) (M : Assignment) → IsCheckedFirstLeaf search F Q M →
-        IsFoundIn search (searched F) Q M }
-    ensures formula { (search : Search) (F : Formula) (M : Assignment) → IsFormula F → IsCheckedFirstLeaf search F [] M → IsFound search F M }
+        IsFoundIn search F Q M }
+    ensures formula { (search : Search) (F : Formula) (M : Assignment) → IsCheckedFirstLeaf search F [] M → IsFound search F M }
 {}
 
 /// What a checked result says is so. By the ordered search all checked results of a formula give
 /// one answer; by any two searches both have a model or neither has.
 pub fn checked_result_is_right()
-    ensures says { (search : Search) (F : Formula) (r : Result) → IsFormula F → IsCheckedResult search F r → ResultSays search F r }
-    ensures one_answer { (F : Formula) (r s : Result) → IsFormula F → IsCheckedResult ordered F r → IsCheckedResult ordered F s →
+    ensures says { (search : Search) (F : Formula) (r : Result) → IsCheckedResult search F r → ResultSays search F r }
+    ensures one_answer { (F : Formula) (r s : Result) → IsCheckedResult ordered F r → IsCheckedResult ordered F s →
         model_in r ≡ model_in s }
-    ensures one_verdict { (search other : Search) (F : Formula) (r s : Result) → IsFormula F → IsCheckedResult search F r →
+    ensures one_verdict { (search other : Search) (F : Formula) (r s : Result) → IsCheckedResult search F r →
         IsCheckedResult other F s → is_some (model_in r) ≡ is_some (model_in s) }
 {}
 

@@ -7,8 +7,7 @@ use Rattle.std.proofs.lemmas.Option.{unwrap_or-slice_get}
 use Rattle.theory.specs.Literals.{Literal, Clause, has, has_both_signs, negations, positive, negative, IsVariable}
 use Rattle.theory.specs.Truth.{Formula}
 use Rattle.theory.specs.Propagation.{clause_at}
-use Rattle.theory.specs.Pure.{occurs, is_pure, pure_variables, unit_clauses}
-use Rattle.theory.specs.Search.{first_clauses}
+use Rattle.theory.specs.Pure.{occurs, is_pure, pure_variables, unit_clauses, first_clauses}
 use Rattle.theory.specs.Steps.{Addition, add}
 use Rattle.theory.specs.Checking.{id_not_rising, literal_out_of_range, both_signs, missing_candidate, Numbered, numbered_from, clause_of, are_dealt_with, addition_fault, Checker, added}
 use Rattle.theory.specs.Proofs.{unit_steps, prelude}
@@ -34,7 +33,7 @@ clause_of-numbered_from n (c ∷ K) (suc i) h =
     ap (λ b. if b then Some c else clause_of (numbered_from (n + 1) K) (n + suc i)) other
     ∙ (ap (clause_of (numbered_from (n + 1) K)) number ∙ clause_of-numbered_from (n + 1) K i (omega arith))
 
-AreInput-numbered_from : (K : List Clause) → AreInput K (numbered_from 1 K)
+pub AreInput-numbered_from : (K : List Clause) → AreInput K (numbered_from 1 K)
 AreInput-numbered_from K n one end =
     let number : 1 + (n - 1) ≡ n = omega arith in
     let at : clause_of (numbered_from 1 K) (1 + (n - 1)) ≡ Some (get_or K (n - 1) []) = clause_of-numbered_from 1 K (n - 1) (omega arith) in

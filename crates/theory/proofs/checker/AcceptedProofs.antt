@@ -2,17 +2,15 @@
 use Rattle.std.proofs.Common.{◌≡◌, ℕ, ◌+◌, ◌-◌, ◌<◌, ◌≤◌, Bool, true, false, not, List, [], ◌∷◌, ◌++◌, map, filter, length, refl, ap, sym, subst, ◌∙◌, nat_eq, nat_le, eqb-true, le-leb, ◌⊎◌, inl, inr, Option, Some, None, append_assoc, append-nil, length-append, arith, if◌then◌else◌, ◌&&◌, ◌||◌, is_some}
 use Rattle.std.proofs.lemmas.List.{length-map}
 use Rattle.theory.specs.Literals.{Literal, Clause, negated, negations, positive, negative, same, has, has_var, has_both_signs, are_distinct}
-use Rattle.theory.specs.Truth.{Formula, Assignment, IsFormula, IsOver}
-use Rattle.theory.specs.Plans.{Plan}
+use Rattle.theory.specs.Truth.{Formula, Assignment, IsOver}
 use Rattle.theory.specs.Propagation.{clause_at}
 use Rattle.theory.specs.Learning.{Line}
-use Rattle.theory.specs.Search.{first_clauses}
-use Rattle.theory.specs.Trees.{Tree, satisfied, refutation, split, IsTree, false_half, true_half, first_model, or_else}
-use Rattle.theory.specs.Steps.{Addition, Step, add}
+use Rattle.theory.specs.Trees.{Tree, satisfied, refutation, split, false_half, true_half, first_model, or_else}
+use Rattle.theory.specs.Steps.{Step, add}
 use Rattle.theory.specs.Checking.{Numbered, clause_of, hint, take_hints, conflicts, Checker, accepted, no_empty_clause, check_from, checks}
 use Rattle.theory.specs.Replaying.{IsReplayed, AreReplayed, IsForgetting, AreForgetting, AreRefutation}
 use Rattle.theory.specs.Checked.{IsCheckedTree}
-use Rattle.theory.specs.Proofs.{additions, renumbered, forget_steps, leaf_steps, forgotten_by, undeleted, tree_steps, prelude, proof, numbers_from, deletion, refuted_steps}
+use Rattle.theory.specs.Proofs.{additions, renumbered, forget_steps, leaf_steps, forgotten_by, undeleted, tree_steps, lines_of, numbers_from, deletion, refuted_steps}
 use Rattle.theory.proofs.literals.LiteralLemmas.{and-left, and-right, not_true, or-cases}
 use Rattle.theory.specs.Deletions.{is_among}
 use Rattle.theory.proofs.literals.LiteralSets.{Refutes, true_false, false_unless, negated-negated, other-same, has-head, has-tail, has-equal, has-cases, has-append_right, has-append_cases, has_var-has, has_var-none, has-negations, has-from_negations, Refutes-negations, has_both_signs-none}
@@ -20,11 +18,10 @@ use Rattle.theory.proofs.trails.TrailEntries.{are_distinct-push}
 use Rattle.theory.proofs.checker.Hints.{hint-false, hint-unit, take_hints-false, take_hints-unit}
 use Rattle.theory.proofs.literals.OverVariables.{AreOver, AreOver-negations, AreOver-from_IsOver}
 use Rattle.theory.proofs.trees.TreeSoundness.{push-over}
-use Rattle.theory.proofs.checker.AcceptedPrelude.{AreInput, start, prelude-leads}
-use Rattle.theory.proofs.trees.CheckedTrees.{IsCheckedTree-IsTree}
+use Rattle.theory.proofs.checker.AcceptedPrelude.{AreInput, start}
 use Rattle.theory.proofs.checker.AcceptedSteps.{Leads, Leads-then, renumbered-high, AreMoved, Passes-moved, LinesLead, LinesLead-from_AreReplayed}
 use Rattle.theory.proofs.checker.DeletedNumbers.{numbers_from-within, are_different-numbers_from, is_among-filter, are_different-filter, is_among-map}
-use Rattle.theory.proofs.checker.AcceptedCubes.{CubeLeads, ending, AreOwn, CubeLeads-end}
+use Rattle.theory.proofs.checker.AcceptedCubes.{CubeLeads, EndsEmpty, ending, AreOwn, CubeLeads-end}
 
 -- The line of a split cube is accepted, given the last lines of its halves.
 pub take_hints-split : (there : Numbered) (Q : List Literal) (x left right : ℕ) → has_var Q x ≡ false → clause_of there left ≡ Some (negations (false_half Q x))
@@ -266,10 +263,10 @@ or_else-none None p h = (refl, h)
 
 -- The lines of a checked tree without a satisfied leaf are accepted.
 pub CubeLeads-tree : (F : Formula) (n : ℕ) (Q : List Literal) (t : Tree) (s : Checker) → are_distinct Q ≡ true → IsOver F.vars Q → IsCheckedTree F Q t → first_model t ≡ None
-    → length (first_clauses F) < n → s.last < n → AreInput (first_clauses F) s.clauses → CubeLeads F.vars n (additions t) Q s (tree_steps (length (first_clauses F)) n Q t)
+    → length F.clauses < n → s.last < n → AreInput F.clauses s.clauses → CubeLeads F.vars n (additions t) Q s (tree_steps (length F.clauses) n Q t)
 CubeLeads-tree F n Q (satisfied M) s distinct over h none low rises input = absurd (cc)
 CubeLeads-tree F n Q (refutation lines) s distinct over h none low rises input =
-    CubeLeads-leaf F.vars n Q (first_clauses F) s lines low rises input distinct (AreOver-from_IsOver F.vars Q over) h
+    CubeLeads-leaf F.vars n Q F.clauses s lines low rises input distinct (AreOver-from_IsOver F.vars Q over) h
 CubeLeads-tree F n Q (split x l r) s distinct over h none low rises input =
     let both = or_else-none (first_model l) (first_model r) none in
     let fit = h.0 in
@@ -277,38 +274,32 @@ CubeLeads-tree F n Q (split x l r) s distinct over h none low rises input =
     let e = left.last in
     let right = CubeLeads-tree F (n + additions l) (true_half Q x) r left.state (are_distinct-push Q (positive x) distinct fit.1) (push-over F.vars Q (positive x) over fit.0) h.2 both.1
     (omega arith) (omega arith) (λ m one end. left.kept m (omega arith) ∙ input m one end) in
-    CubeLeads-split F.vars (length (first_clauses F)) n Q x l r s distinct (AreOver-from_IsOver F.vars Q over) fit.1 left right
+    CubeLeads-split F.vars (length F.clauses) n Q x l r s distinct (AreOver-from_IsOver F.vars Q over) fit.1 left right
 
--- The checker accepts the proof of a checked tree without a satisfied leaf: the prelude, and then
--- the lines of the tree.
-tree-leads : (F : Formula) (t : Tree) → IsCheckedTree F [] t → first_model t ≡ None
-    → CubeLeads F.vars (length (first_clauses F) + 1) (additions t) [] (prelude-leads F).state (tree_steps (length (first_clauses F)) (length (first_clauses F) + 1) [] t)
-tree-leads F t h none =
-    let begun = prelude-leads F in
+-- what stands before the lines of a tree: steps that leave the clauses that its search begins with
+pub record AreBefore (F : Formula) (K : List Clause) (before : List Step) : Type 0 where
+  pub state : Checker
+  pub leads : Leads F.vars (start F) before state
+  pub last : state.last ≡ length K
+  pub input : AreInput K state.clauses
+
+-- The checker accepts these steps and then the lines of a checked tree without a satisfied leaf.
+tree-leads : (F : Formula) (K : List Clause) (before : List Step) (t : Tree) → (begun : AreBefore F K before) → IsCheckedTree (record F { clauses = K }) [] t → first_model t ≡ None
+    → CubeLeads F.vars (length K + 1) (additions t) [] begun.state (lines_of K t)
+tree-leads F K before t begun h none =
     let last = begun.last in
-    CubeLeads-tree F (length (first_clauses F) + 1) [] t begun.state refl (λ k d j. absurd (omega arith)) h none (omega arith) (omega arith) begun.input
+    CubeLeads-tree (record F { clauses = K }) (length K + 1) [] t begun.state refl (λ k d j. absurd (omega arith)) h none (omega arith) (omega arith) begun.input
 
-pub checks-checked : (F : Formula) (t : Tree) → IsCheckedTree F [] t → first_model t ≡ None → checks F (proof F t) ≡ accepted
-checks-checked F t h none =
-    let begun = prelude-leads F in
-    let tree = tree-leads F t h none in
-    let whole : Leads F.vars (start F) (proof F t) tree.state
-    = Leads-then F.vars (start F) begun.state tree.state (prelude F) (tree_steps (length (first_clauses F)) (length (first_clauses F) + 1) [] t) begun.leads tree.leads in
-    ap (check_from F.vars 1 (start F)) (sym (append-nil (proof F t))) ∙ (whole 1 [] ∙ ap (λ b. if b then accepted else no_empty_clause) (tree.empty refl))
+pub checks-checked : (F : Formula) (K : List Clause) (before : List Step) (t : Tree) → AreBefore F K before → IsCheckedTree (record F { clauses = K }) [] t → first_model t ≡ None
+    → checks F (before ++ lines_of K t) ≡ accepted
+checks-checked F K before t begun h none =
+    let tree = tree-leads F K before t begun h none in
+    let whole : Leads F.vars (start F) (before ++ lines_of K t) tree.state = Leads-then F.vars (start F) begun.state tree.state before (lines_of K t) begun.leads tree.leads in
+    ap (check_from F.vars 1 (start F)) (sym (append-nil (before ++ lines_of K t))) ∙ (whole 1 [] ∙ ap (λ b. if b then accepted else no_empty_clause) (tree.empty refl))
 
 -- Its last line is the empty clause.
-pub checked-ends_empty : (F : Formula) (t : Tree) → IsCheckedTree F [] t → first_model t ≡ None → (before : List Step) × (line : Addition) × (proof F t ≡ before ++ add line ∷ []) × (line.clause ≡ [])
-checked-ends_empty F t h none =
-    let e = (tree-leads F t h none).ends refl in
-    (prelude F ++ e.0, e.1, ap (λ steps. prelude F ++ steps) e.2 ∙ sym (append_assoc (prelude F) e.0 (add e.1 ∷ [])), e.3)
-
--- A formula's tree is a checked one.
-root-checked : (F : Formula) (plan : Plan) (t : Tree) → IsFormula F → IsTree F plan [] t → IsCheckedTree F [] t
-root-checked F plan t formed h = IsCheckedTree-IsTree F plan [] t formed refl (λ k d j. absurd (omega arith)) h
-
-pub checks-proof : (F : Formula) (plan : Plan) (t : Tree) → IsFormula F → IsTree F plan [] t → first_model t ≡ None → checks F (proof F t) ≡ accepted
-checks-proof F plan t formed h none = checks-checked F t (root-checked F plan t formed h) none
-
-pub proof-ends_empty : (F : Formula) (plan : Plan) (t : Tree) → IsFormula F → IsTree F plan [] t → first_model t ≡ None
-    → (before : List Step) × (line : Addition) × (proof F t ≡ before ++ add line ∷ []) × (line.clause ≡ [])
-proof-ends_empty F plan t formed h none = checked-ends_empty F t (root-checked F plan t formed h) none
+pub checked-ends_empty : (F : Formula) (K : List Clause) (before : List Step) (t : Tree) → AreBefore F K before → IsCheckedTree (record F { clauses = K }) [] t → first_model t ≡ None
+    → EndsEmpty (before ++ lines_of K t)
+checked-ends_empty F K before t begun h none =
+    let e = (tree-leads F K before t begun h none).ends refl in
+    (before ++ e.0, e.1, ap (λ steps. before ++ steps) e.2 ∙ sym (append_assoc before e.0 (add e.1 ∷ [])), e.3)

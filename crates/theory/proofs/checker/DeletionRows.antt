@@ -7,7 +7,7 @@ use Rattle.theory.specs.Trees.{Tree, refutation, split}
 use Rattle.theory.specs.Steps.{Step, add, delete}
 use Rattle.theory.specs.Checking.{checks, accepted, refused, no_such_clause, numbered_from, clause_of}
 use Rattle.theory.specs.Deletions.{is_among, names, clauses_after, AreDeletable}
-use Rattle.theory.specs.Proofs.{proof}
+use Rattle.theory.specs.Beginnings.{by_pure_units, proof}
 use Rattle.theory.specs.Texts.{proof_text}
 use Rattle.theory.proofs.literals.LiteralLemmas.{or-cases}
 use Rattle.theory.proofs.checker.DeletionsPutIn.{checks-deletion}
@@ -22,12 +22,12 @@ empty_leaf m n = refutation (line [] (m ∷ n ∷ []) ∷ [])
 abbrev four_leaves : Tree
 four_leaves = split 1 (split 2 (empty_leaf 1 2) (empty_leaf 3 4)) (split 2 (empty_leaf 5 6) (empty_leaf 7 8))
 
-four_leaves_proof : proof_text (proof row17 four_leaves)
+four_leaves_proof : proof_text (proof row17 by_pure_units four_leaves)
     ≡ codes "9 1 2 0 1 2 0\n10 1 -2 0 3 4 0\n11 1 0 9 10 0\n11 d 9 10 0\n12 -1 2 0 5 6 0\n13 -1 -2 0 7 8 0\n14 -1 0 12 13 0\n14 d 12 13 0\n15 0 11 14 0\n"
 unfolding digits
 four_leaves_proof = refl
 
-four_leaves_accepted : checks row17 (proof row17 four_leaves) ≡ accepted
+four_leaves_accepted : checks row17 (proof row17 by_pure_units four_leaves) ≡ accepted
 four_leaves_accepted = refl
 
 -- 5 3 1 0 0 / 6 -3 -1 0 0 / 7 1 0 1 2 0 / 8 0 7 3 4 0 /, whose step 6 leaves out a candidate that

@@ -5,7 +5,6 @@ use Rattle.theory.specs.Literals.{Literal, Clause, has_var}
 use Rattle.theory.specs.Truth.{Formula, AreTrue, is_true, are_true}
 use Rattle.theory.specs.Trails.{Trail, literals, cube_trail}
 use Rattle.theory.specs.Propagation.{Closed, quiet, clause_at, Rule, IsRule, by_number, Propagates, clashes, grows, rests, unit_entry}
-use Rattle.theory.specs.Search.{first_clauses}
 use Rattle.theory.specs.Checked.{IsLeastSplit}
 use Rattle.theory.proofs.literals.LiteralLemmas.{or-cases}
 use Rattle.theory.proofs.literals.ClauseLemmas.{clause_at-true}
@@ -39,9 +38,9 @@ Propagates-true rule g m K T U a t (grows {u = u} h i more) p =
     (subst (AreTrue m) (sym (literals-append T (unit_entry T u ∷ []))) (AreTrue-append m (literals T) (u.1 ∷ []) p (unit, tt)))
 
 -- Below the least free variable all that satisfies the formula and the cube agrees.
-pub least-agree : (F : Formula) (Q : List Literal) (x : ℕ) (m n : ℕ → Bool) → IsLeastSplit F Q x → are_true m (first_clauses F) ≡ true → AreTrue m Q
-    → are_true n (first_clauses F) ≡ true → AreTrue n Q → (u : ℕ) → 1 ≤ u → u < x → m u ≡ n u
+pub least-agree : (F : Formula) (Q : List Literal) (x : ℕ) (m n : ℕ → Bool) → IsLeastSplit F Q x → are_true m F.clauses ≡ true → AreTrue m Q
+    → are_true n F.clauses ≡ true → AreTrue n Q → (u : ℕ) → 1 ≤ u → u < x → m u ≡ n u
 least-agree F Q x m n s a p b q u one below = agree-on m n (literals s.trail) u (on_trail m a p) (on_trail n b q) (assigned-below F.vars x u s.trail s.least one below)
   where
-    on_trail : (k : ℕ → Bool) → are_true k (first_clauses F) ≡ true → AreTrue k Q → AreTrue k (literals s.trail)
-    on_trail k c r = Propagates-true by_number IsRule-by_number k (first_clauses F) (cube_trail Q) s.trail quiet c s.rests (subst (AreTrue k) (sym (literals-cube Q)) r)
+    on_trail : (k : ℕ → Bool) → are_true k F.clauses ≡ true → AreTrue k Q → AreTrue k (literals s.trail)
+    on_trail k c r = Propagates-true by_number IsRule-by_number k F.clauses (cube_trail Q) s.trail quiet c s.rests (subst (AreTrue k) (sym (literals-cube Q)) r)

@@ -1,6 +1,6 @@
 -- The best of the variables that pass a test: the one of greatest score, of several the greatest
 -- variable.
-use Rattle.std.proofs.Common.{◌≡◌, ℕ, zero, suc, ◌<◌, ◌≤◌, Bool, true, false, List, [], ◌∷◌, ◌++◌, filter, refl, ap, sym, ◌∙◌, subst, nat_le, leb-true, leb-false, le-leb, Option, Some, None, inl, inr, append-nil, arith, if◌then◌else◌}
+use Rattle.std.proofs.Common.{◌≡◌, ℕ, zero, suc, ◌<◌, ◌≤◌, Bool, true, false, List, [], ◌∷◌, ◌++◌, filter, refl, ap, sym, ◌∙◌, subst, nat_le, leb-true, leb-false, le-leb, Option, Some, None, inl, inr, append-nil, arith, if◌then◌else◌, cond, ◌&&◌}
 use Rattle.std.proofs.lemmas.Bool.{cases_eq, lt-leb}
 use Rattle.std.proofs.lemmas.List.Elements.{filter-append}
 use Rattle.theory.specs.Trails.{variables}
@@ -138,3 +138,13 @@ best_of-nobody s p V h = go (best_of s (filter p (variables V))) (best_of-is s p
     go : (o : Option ℕ) → IsAnswer s p V o → o ≡ None
     go None k = refl
     go (Some y) k = true_false (p y) k.passes (h y k.low k.high)
+
+-- two tests, one after the other, are one
+pub filter-both : (p q : ℕ → Bool) (vs : List ℕ) → filter p (filter q vs) ≡ filter (λ v. q v && p v) vs
+filter-both p q [] = refl
+filter-both p q (v ∷ vs) = go (q v) (p v) (filter-both p q vs) refl
+  where
+    go : (a b : Bool) → filter p (filter q vs) ≡ filter (λ v. q v && p v) vs → p v ≡ b → filter p (cond a (v ∷ filter q vs) (filter q vs)) ≡ cond (a && b) (v ∷ filter (λ v. q v && p v) vs) (filter (λ v. q v && p v) vs)
+    go true true more e = rw e (ap (λ (r : List ℕ). v ∷ r) more)
+    go true false more e = rw e more
+    go false b more e = more

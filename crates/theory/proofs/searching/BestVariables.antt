@@ -8,7 +8,6 @@ use Rattle.theory.specs.Trails.{variables}
 use Rattle.theory.specs.Scores.{Scores, score_of, better, best_of, best_outside}
 use Rattle.theory.proofs.literals.LiteralLemmas.{or-cases, or-left, or-right, not_true}
 use Rattle.theory.proofs.literals.LiteralSets.{true_false}
-use Rattle.theory.proofs.searching.ModelLemmas.{none-passes}
 
 best_of-some : (s : Scores) (vs : List ℕ) (x : ℕ) → best_of s vs ≡ Some x → list_any (nat_eq x) vs ≡ true
 best_of-some s [] x h = absurd (cc)
@@ -41,7 +40,7 @@ best_of-none s (v ∷ vs) h = absurd (go (best_of s vs) h)
     go (Some w) q = pick w (nat_le (score_of s v) (score_of s w)) q
 
 -- what is left of a list by a test
-from-filter : (p : ℕ → Bool) (vs : List ℕ) (x : ℕ) → list_any (nat_eq x) (filter p vs) ≡ true → (list_any (nat_eq x) vs ≡ true) × (p x ≡ true)
+pub from-filter : (p : ℕ → Bool) (vs : List ℕ) (x : ℕ) → list_any (nat_eq x) (filter p vs) ≡ true → (list_any (nat_eq x) vs ≡ true) × (p x ≡ true)
 from-filter p [] x h = absurd (cc)
 from-filter p (v ∷ vs) x h = go (p v) refl h (from-filter p vs x)
   where
@@ -80,18 +79,27 @@ in-variables (suc V) x h = elim (or-cases (list_any (nat_eq x) (variables V)) (l
     last : x ≡ suc V → IsVariable (suc V) x
     last e = (omega arith, omega arith)
 
--- of the variables outside
-pub best_outside-some : (V : ℕ) (P : List Literal) (s : Scores) (x : ℕ) → best_outside V P s ≡ Some x → IsVariable V x × (has_var P x ≡ false)
-best_outside-some V P s x h =
-    let f = from-filter (λ v. not (has_var P v)) (variables V) x (best_of-some s (filter (λ v. not (has_var P v)) (variables V)) x h) in
-    (in-variables V x f.0, not_true (has_var P x) f.1)
+-- of those outside
+pub best_outside-some : (vs : List ℕ) (P : List Literal) (s : Scores) (x : ℕ) → best_outside vs P s ≡ Some x → (list_any (nat_eq x) vs ≡ true) × (has_var P x ≡ false)
+best_outside-some vs P s x h =
+    let f = from-filter (λ v. not (has_var P v)) vs x (best_of-some s (filter (λ v. not (has_var P v)) vs) x h) in
+    (f.0, not_true (has_var P x) f.1)
 
-pub best_outside-none : (V : ℕ) (P : List Literal) (s : Scores) → best_outside V P s ≡ None → find (λ v. not (has_var P v)) (variables V) ≡ None
-best_outside-none V P s h = find-filter (λ v. not (has_var P v)) (variables V) (best_of-none s (filter (λ v. not (has_var P v)) (variables V)) h)
+pub best_outside-none : (vs : List ℕ) (P : List Literal) (s : Scores) → best_outside vs P s ≡ None → find (λ v. not (has_var P v)) vs ≡ None
+best_outside-none vs P s h = find-filter (λ v. not (has_var P v)) vs (best_of-none s (filter (λ v. not (has_var P v)) vs) h)
 
-pub best_outside-there : (V : ℕ) (P : List Literal) (s : Scores) (v : ℕ) → IsVariable V v → has_var P v ≡ false → (x : ℕ) × (best_outside V P s ≡ Some x)
-best_outside-there V P s v variable free = go (best_outside V P s) refl
+-- where none is found, each of them fails
+pub none-among : (p : ℕ → Bool) (vs : List ℕ) (v : ℕ) → find p vs ≡ None → list_any (nat_eq v) vs ≡ true → p v ≡ false
+none-among p [] v h a = absurd (cc)
+none-among p (w ∷ vs) v h a = go (p w) refl h (none-among p vs v)
   where
-    go : (o : Option ℕ) → best_outside V P s ≡ o → (x : ℕ) × (best_outside V P s ≡ Some x)
+    go : (b : Bool) → p w ≡ b → cond b (Some w) (find p vs) ≡ None → (find p vs ≡ None → list_any (nat_eq v) vs ≡ true → p v ≡ false) → p v ≡ false
+    go true e q more = absurd (cc)
+    go false e q more = elim (or-cases (nat_eq v w) (list_any (nat_eq v) vs) a) [ inl i ↦ ap p (eqb-true v w i) ∙ e | inr r ↦ more q r ]
+
+pub best_outside-there : (vs : List ℕ) (P : List Literal) (s : Scores) (v : ℕ) → list_any (nat_eq v) vs ≡ true → has_var P v ≡ false → (x : ℕ) × (best_outside vs P s ≡ Some x)
+best_outside-there vs P s v among free = go (best_outside vs P s) refl
+  where
+    go : (o : Option ℕ) → best_outside vs P s ≡ o → (x : ℕ) × (best_outside vs P s ≡ Some x)
     go (Some x) e = (x, e)
-    go None e = true_false (not (has_var P v)) (ap not free) (none-passes (λ v. not (has_var P v)) V v (best_outside-none V P s e) variable)
+    go None e = true_false (not (has_var P v)) (ap not free) (none-among (λ v. not (has_var P v)) vs v (best_outside-none vs P s e) among)

@@ -34,9 +34,22 @@ all-true : (m : ℕ → Bool) (Q : List Literal) → ((l : Literal) → has Q l 
 all-true m [] f = tt
 all-true m (l ∷ Q) f = (f l (has-head l Q), all-true m Q (λ k h. f k (has-tail l k Q h)))
 
+pub CubeSays-true : (V : ℕ) (K : List Clause) (Q : List Literal) (C : List Clause) (T : Trail) (lines : List Line) → are_true (value (values V T)) K ≡ true → IsSearchOf V K Q C T lines
+    → CubeSays V K Q (model (values V T))
+CubeSays-true V K Q C T lines all i = (length-values V T, all, all-true m Q each)
+  where
+    m : ℕ → Bool
+    m = value (values V T)
+
+    each : (l : Literal) → has Q l ≡ true → is_true m l ≡ true
+    each l a =
+        let there : has (literals T) l ≡ true = on-trail V K Q C T lines l i a in
+        there-true V T l (AreOver-from_IsOver V (literals T) i.variables l there) there
+        (false_unless (has (literals T) (negated l)) (λ t. literals-consistent C T l i.lawful there t))
+
 pub CubeSays-model : (V : ℕ) (K : List Clause) (Q : List Literal) (C : List Clause) (T : Trail) (lines : List Line) → least_free V T ≡ None → least_false (literals T) C ≡ None
     → IsSearchOf V K Q C T lines → CubeSays V K Q (model (values V T))
-CubeSays-model V K Q C T lines full calm i = (length-values V T, and-left (are_true m K) (are_true m i.learnt) both, all-true m Q each)
+CubeSays-model V K Q C T lines full calm i = CubeSays-true V K Q C T lines (and-left (are_true m K) (are_true m i.learnt) both) i
   where
     m : ℕ → Bool
     m = value (values V T)
@@ -46,12 +59,6 @@ CubeSays-model V K Q C T lines full calm i = (length-values V T, and-left (are_t
 
     both : are_true m K && are_true m i.learnt ≡ true
     both = sym (list_all-append (is_true_clause m) K i.learnt) ∙ subst (λ (c : List Clause). are_true m c ≡ true) i.are_clauses all
-
-    each : (l : Literal) → has Q l ≡ true → is_true m l ≡ true
-    each l a =
-        let there : has (literals T) l ≡ true = on-trail V K Q C T lines l i a in
-        there-true V T l (AreOver-from_IsOver V (literals T) i.variables l there) there
-        (false_unless (has (literals T) (negated l)) (λ t. literals-consistent C T l i.lawful there t))
 
 pub CubeSays-refuted : (V : ℕ) (R : List Literal) (K : List Clause) (Q : List Literal) (C : List Clause) (T : Trail) (lines : List Line) (n : ℕ) → least_false (literals T) C ≡ Some n → current_level T ≡ 0
     → IsSearchOf V K Q C T lines → CubeSays V K Q (refuted (lines ++ learn_removing R C T n ∷ []))

@@ -80,15 +80,15 @@ abbrev pub run : ℕ → Formula → ℕ → List Literal → Option Outcome
 run n F B Q = run_within n (ordered_step n F.vars (budget_of B Q)) (begin F Q)
 
 -- the focused search
-abbrev pub then_focused : Constants → ℕ → ℕ → FocusedState → Option (Closed × Trail) → Option (Next FocusedState)
-then_focused c V budget s None = None
-then_focused c V budget s (Some a) = Some (focused.after c V budget (focused.settled (record s { trail = a.1 })) a.0)
+abbrev pub then_focused : Constants → Formula → ℕ → FocusedState → Option (Closed × Trail) → Option (Next FocusedState)
+then_focused c F budget s None = None
+then_focused c F budget s (Some a) = Some (focused.after c F budget (focused.settled (record s { trail = a.1 })) a.0)
 
-abbrev pub focused_step : Constants → ℕ → ℕ → ℕ → FocusedState → Option (Next FocusedState)
-focused_step c m V budget s = then_focused c V budget s (close_within by_place m s.clauses s.trail)
+abbrev pub focused_step : Constants → ℕ → Formula → ℕ → FocusedState → Option (Next FocusedState)
+focused_step c m F budget s = then_focused c F budget s (close_within by_place m s.clauses s.trail)
 
 abbrev pub run_focused : Constants → ℕ → Formula → ℕ → List Literal → Option Outcome
-run_focused c n F B Q = run_within n (focused_step c n F.vars (budget_within max_focused B Q)) (focused.begin c F Q)
+run_focused c n F B Q = run_within n (focused_step c n F (budget_within max_focused B Q)) (focused.begin c F Q)
 
 -- a tree, by a function that gives the outcomes of its cubes where it can
 abbrev pub both : ℕ → Option Tree → Option Tree → Option Tree

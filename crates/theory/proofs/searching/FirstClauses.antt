@@ -46,8 +46,8 @@ BeginsWith-learnt K C T U lines line ns own i = record {
 pub BeginsWith-begin : (K : List Clause) (T : Trail) → BeginsWith K K T []
 BeginsWith-begin K T = record { learnt = []; are_clauses = sym (append-nil K); many = refl }
 
-pub IsInvariant-BeginsWith : (rule : Rule) (V : ℕ) (K : List Clause) → IsInvariant ⊥ rule V (BeginsWith K)
-IsInvariant-BeginsWith rule V K = record {
+pub IsInvariant-BeginsWith : (rule : Rule) (vs : List ℕ) (K : List Clause) → IsInvariant ⊥ rule vs (BeginsWith K)
+IsInvariant-BeginsWith rule vs K = record {
   propagated = λ C T U lines a h i. record { learnt = i.learnt; are_clauses = i.are_clauses; many = i.many };
   unit = λ C before e es lines n level reason units i. record {
     learnt = i.learnt ++ (e.lit ∷ []) ∷ [];

@@ -5,14 +5,15 @@ use Rattle.std.proofs.lemmas.List.{length-map}
 use Rattle.theory.specs.Literals.{Literal, Clause, has, positive}
 use Rattle.theory.specs.Truth.{Formula, Assignment}
 use Rattle.theory.specs.Plans.{Constants}
-use Rattle.theory.specs.Trails.{Trail, literals, current_level, cube_trail, up_to, variables, least_free}
+use Rattle.theory.specs.Trails.{Trail, literals, current_level, cube_trail, up_to, variables}
+use Rattle.theory.specs.Held.{held, least_held}
 use Rattle.theory.specs.Propagation.{Closed, quiet, conflict, by_place, clause_at, least_false}
 use Rattle.theory.specs.Lawful.{IsLawful}
 use Rattle.theory.specs.Learning.{Line, learn, learn_removing, back_level}
 use Rattle.theory.specs.Removing.{first_walk, removable}
 use Rattle.theory.specs.Units.{Units, units_of, AreUnits}
 use Rattle.theory.specs.Lessons.{Lesson, lesson_of}
-use Rattle.theory.specs.Search.{Outcome, model, refuted, exhausted, Next, ends, goes_on, first_clauses, budget_within, max_focused, values}
+use Rattle.theory.specs.Search.{Outcome, model, refuted, exhausted, Next, ends, goes_on, budget_within, max_focused, values}
 use Rattle.theory.specs.Scores.{Scores, best_outside}
 use Rattle.theory.specs.Restarts.{restarts}
 use Rattle.theory.specs.Rephasing.{is_over}
@@ -39,14 +40,14 @@ pub record Keeps (H : Type 0) (P : Kept) (s : FocusedState) : Type 0 where
   pub marks : length s.marks ≡ length s.lines
 
 -- how a search that keeps P ends: with a model, before the units
-pub record EndsWithModel (V : ℕ) (P : Kept) (M : Assignment) : Type 0 where
+pub record EndsWithModel (F : Formula) (P : Kept) (M : Assignment) : Type 0 where
   pub clauses : List Clause
   pub trail : Trail
   pub lines : List Line
   pub keeps : P clauses trail lines
   pub none_false : least_false (literals trail) clauses ≡ None
-  pub none_free : least_free V trail ≡ None
-  pub is_values : M ≡ values V trail
+  pub none_free : least_held F trail ≡ None
+  pub is_values : M ≡ values F.vars trail
 
 -- with a conflict of this number
 pub record EndsWithConflict (P : Kept) : Type 0 where
@@ -57,14 +58,14 @@ pub record EndsWithConflict (P : Kept) : Type 0 where
   pub keeps : P clauses trail lines
   pub is_false : least_false (literals trail) clauses ≡ Some number
 
-abbrev pub EndsSo : ℕ → Kept → Outcome → Type 0
-EndsSo V P (model M) = EndsWithModel V P M
-EndsSo V P (refuted lines) = (e : EndsWithConflict P) × (current_level e.trail ≡ 0) × (lines ≡ e.lines ++ learn e.clauses e.trail e.number ∷ [])
-EndsSo V P (exhausted x) = (e : EndsWithConflict P) × (1 ≤ current_level e.trail) × (scores : Scores) × (x ≡ unwrap_or (best_outside V (literals (up_to e.trail 0)) scores) 0)
+abbrev pub EndsSo : Formula → Kept → Outcome → Type 0
+EndsSo F P (model M) = EndsWithModel F P M
+EndsSo F P (refuted lines) = (e : EndsWithConflict P) × (current_level e.trail ≡ 0) × (lines ≡ e.lines ++ learn e.clauses e.trail e.number ∷ [])
+EndsSo F P (exhausted x) = (e : EndsWithConflict P) × (1 ≤ current_level e.trail) × (scores : Scores) × (x ≡ unwrap_or (best_outside (held F) (literals (up_to e.trail 0)) scores) 0)
 
-abbrev pub Goes : Type 0 → ℕ → Kept → Next FocusedState → Type 0
-Goes H V P (goes_on t) = Keeps H P t
-Goes H V P (ends o) = EndsSo V P o
+abbrev pub Goes : Type 0 → Formula → Kept → Next FocusedState → Type 0
+Goes H F P (goes_on t) = Keeps H P t
+Goes H F P (ends o) = EndsSo F P o
 
 -- units are units up to a level
 AreUnits-up_to : (K : List Clause) (T : Trail) (b : ℕ) → AreUnits K T → AreUnits K (up_to T b)
@@ -79,7 +80,7 @@ length-with_used : (ns : List ℕ) (n : ℕ) (marks : List Mark) → length (wit
 length-with_used ns n [] = refl
 length-with_used ns n (m ∷ marks) = ap suc (length-with_used ns (n + 1) marks)
 
-module _ (c : Constants) (V : ℕ) (H : Type 0) (P : Kept) (inv : IsInvariant H by_place V P) where
+module _ (c : Constants) (F : Formula) (H : Type 0) (P : Kept) (inv : IsInvariant H by_place (held F) P) where
   -- what is known where propagation came to rest, before the units and behind them
   record Rests (s t : FocusedState) : Type 0 where
     before : P s.clauses s.trail s.lines
@@ -140,21 +141,21 @@ module _ (c : Constants) (V : ℕ) (H : Type 0) (P : Kept) (inv : IsInvariant H 
       go true e (conflict n) h = conflict-units s.clauses s.trail n h
 
   -- a decision, or the model
-  quiet-goes : (s t : FocusedState) → Keeps H P t → Rests s t → Goes H V P (on_quiet V t (best_outside V (literals t.trail) t.scores))
-  quiet-goes s t i rests = go (best_outside V (literals t.trail) t.scores) refl
+  quiet-goes : (s t : FocusedState) → Keeps H P t → Rests s t → Goes H F P (on_quiet F.vars t (best_outside (held F) (literals t.trail) t.scores))
+  quiet-goes s t i rests = go (best_outside (held F) (literals t.trail) t.scores) refl
     where
-      go : (o : Option ℕ) → best_outside V (literals t.trail) t.scores ≡ o → Goes H V P (on_quiet V t o)
+      go : (o : Option ℕ) → best_outside (held F) (literals t.trail) t.scores ≡ o → Goes H F P (on_quiet F.vars t o)
       go None e = record {
         clauses = s.clauses;
         trail = s.trail;
         lines = s.lines;
         keeps = rests.before;
         none_false = rests.none_false;
-        none_free = best_outside-none V (literals s.trail) t.scores (subst (λ (Q : List Literal). best_outside V Q t.scores ≡ None) rests.same e);
-        is_values = ap (λ (Q : List Literal). map (λ v. has Q (positive v)) (variables V)) rests.same;
+        none_free = best_outside-none (held F) (literals s.trail) t.scores (subst (λ (Q : List Literal). best_outside (held F) Q t.scores ≡ None) rests.same e);
+        is_values = ap (λ (Q : List Literal). map (λ v. has Q (positive v)) (variables F.vars)) rests.same;
       }
       go (Some x) e =
-          let x_is = best_outside-some V (literals t.trail) t.scores x e in
+          let x_is = best_outside-some (held F) (literals t.trail) t.scores x e in
           let l = saved_literal t.saved x in
           record {
             kept = inv.decided t.clauses t.trail t.lines l rests.calm x_is.0 x_is.1 i.kept;
@@ -201,14 +202,14 @@ module _ (c : Constants) (V : ℕ) (H : Type 0) (P : Kept) (inv : IsInvariant H 
       ),
     )
 
-  learnt-keeps : (s : FocusedState) (n : ℕ) → Keeps H P s → least_false (literals s.trail) s.clauses ≡ Some n → 1 ≤ current_level s.trail → Keeps H P (learnt_next c V s (lesson_of s.clauses s.trail n))
+  learnt-keeps : (s : FocusedState) (n : ℕ) → Keeps H P s → least_false (literals s.trail) s.clauses ≡ Some n → 1 ≤ current_level s.trail → Keeps H P (learnt_next c F.vars s (lesson_of s.clauses s.trail n))
   learnt-keeps s n i clash above = go (is_over w.round w.conflicts) (restarts c w.pace.mode w.restarted w.conflicts w.averages)
     where
       l : Lesson
       l = lesson_of s.clauses s.trail n
 
       w : FocusedState
-      w = weighed c V s l
+      w = weighed c F.vars s l
 
       R : List Literal
       R = removable s.clauses s.trail (first_walk s.clauses s.trail n).0 s.trail []
@@ -249,24 +250,24 @@ module _ (c : Constants) (V : ℕ) (H : Type 0) (P : Kept) (inv : IsInvariant H 
           record { kept = f.0; grounded = f.1; marks = one_more s R n i clash above w.marks _ s.lines (forgetting [] l.line) (marked ∙ i.marks) }
 
   -- a conflict
-  conflict-goes : (budget : ℕ) (s : FocusedState) (n : ℕ) → Keeps H P s → least_false (literals s.trail) s.clauses ≡ Some n → Goes H V P (on_conflict c V budget s n)
+  conflict-goes : (budget : ℕ) (s : FocusedState) (n : ℕ) → Keeps H P s → least_false (literals s.trail) s.clauses ≡ Some n → Goes H F P (on_conflict c F budget s n)
   conflict-goes budget s n i h = go (nat_eq (current_level s.trail) 0) refl (nat_eq (s.conflicts + 1) budget)
     where
       here : EndsWithConflict P
       here = record { clauses = s.clauses; trail = s.trail; lines = s.lines; number = n; keeps = i.kept; is_false = h }
 
       go : (b : Bool) → nat_eq (current_level s.trail) 0 ≡ b → (d : Bool)
-          → Goes H V P (if b then ends (refuted (s.lines ++ learn s.clauses s.trail n ∷ [])) else if d then ends (exhausted (splits_on V s)) else goes_on (learnt_next c V s (lesson_of s.clauses s.trail n)))
+          → Goes H F P (if b then ends (refuted (s.lines ++ learn s.clauses s.trail n ∷ [])) else if d then ends (exhausted (splits_on F s)) else goes_on (learnt_next c F.vars s (lesson_of s.clauses s.trail n)))
       go true e d = (here, eqb-true (current_level s.trail) 0 e, refl)
       go false e true = (here, above_zero (current_level s.trail) e, s.scores, refl)
       go false e false = learnt-keeps s n i h (above_zero (current_level s.trail) e)
 
-  after-goes : (budget : ℕ) (s t : FocusedState) (a : Closed) → Keeps H P t → Answered s t a → Goes H V P (after c V budget t a)
+  after-goes : (budget : ℕ) (s t : FocusedState) (a : Closed) → Keeps H P t → Answered s t a → Goes H F P (after c F budget t a)
   after-goes budget s t quiet i h = quiet-goes s t i h
   after-goes budget s t (conflict n) i h = conflict-goes budget t n i h
 
-  pub step-goes : (budget : ℕ) (s : FocusedState) (n : Next FocusedState) → Goes H V P (goes_on s) → IsFocusedStep c V budget s n → Goes H V P n
-  step-goes budget s n i w = subst (Goes H V P) w.follows (after-goes budget t (settled t) w.answer (settled-keeps t closes) (settled-answered t w.answer closes says))
+  pub step-goes : (budget : ℕ) (s : FocusedState) (n : Next FocusedState) → Goes H F P (goes_on s) → IsFocusedStep c F budget s n → Goes H F P n
+  step-goes budget s n i w = subst (Goes H F P) w.follows (after-goes budget t (settled t) w.answer (settled-keeps t closes) (settled-answered t w.answer closes says))
     where
       t : FocusedState
       t = record s { trail = w.trail }
@@ -290,17 +291,17 @@ AreUnits-cube_trail K [] = tt
 AreUnits-cube_trail K (q ∷ Q) = (tt, AreUnits-cube_trail K Q)
 
 -- so ends a run, by what it keeps
-pub RunsFocused-ends : (c : Constants) (F : Formula) (B : ℕ) (Q : List Literal) (o : Outcome) (H : Type 0) (P : Kept) → IsInvariant H by_place F.vars P
-    → (H → IsLawful (first_clauses F) (cube_trail Q)) → P (first_clauses F) (cube_trail Q) [] → RunsFocused c F B Q o → EndsSo F.vars P o
+pub RunsFocused-ends : (c : Constants) (F : Formula) (B : ℕ) (Q : List Literal) (o : Outcome) (H : Type 0) (P : Kept) → IsInvariant H by_place (held F) P
+    → (H → IsLawful F.clauses (cube_trail Q)) → P F.clauses (cube_trail Q) [] → RunsFocused c F B Q o → EndsSo F P o
 RunsFocused-ends c F B Q o H P inv lawful begins runs =
-    RunsFrom-says (IsFocusedStep c F.vars (budget_within max_focused B Q)) (Goes H F.vars P) (step-goes c F.vars H P inv (budget_within max_focused B Q)) (begin c F Q) o runs
-    (record { kept = begins; grounded = λ h. (lawful h, AreUnits-up_to (first_clauses F) (cube_trail Q) 0 (AreUnits-cube_trail (first_clauses F) Q)); marks = refl })
+    RunsFrom-says (IsFocusedStep c F (budget_within max_focused B Q)) (Goes H F P) (step-goes c F H P inv (budget_within max_focused B Q)) (begin c F Q) o runs
+    (record { kept = begins; grounded = λ h. (lawful h, AreUnits-up_to F.clauses (cube_trail Q) 0 (AreUnits-cube_trail F.clauses Q)); marks = refl })
 
 -- a state of the focused search has one step, and so a cube has one outcome
-IsFocusedStep-unique : (c : Constants) (V budget : ℕ) (s : FocusedState) (m n : Next FocusedState) → IsFocusedStep c V budget s m → IsFocusedStep c V budget s n → m ≡ n
-IsFocusedStep-unique c V budget s m n h k =
+IsFocusedStep-unique : (c : Constants) (F : Formula) (budget : ℕ) (s : FocusedState) (m n : Next FocusedState) → IsFocusedStep c F budget s m → IsFocusedStep c F budget s n → m ≡ n
+IsFocusedStep-unique c F budget s m n h k =
     let one = Propagates-unique by_place s.clauses s.trail h.trail k.trail h.answer k.answer h.propagates k.propagates in
-    sym h.follows ∙ ap₂ (λ (T : Trail) (a : Closed). after c V budget (settled (record s { trail = T })) a) one.0 one.1 ∙ k.follows
+    sym h.follows ∙ ap₂ (λ (T : Trail) (a : Closed). after c F budget (settled (record s { trail = T })) a) one.0 one.1 ∙ k.follows
 
 pub RunsFocused-unique : (c : Constants) (F : Formula) (B : ℕ) (Q : List Literal) (o p : Outcome) → RunsFocused c F B Q o → RunsFocused c F B Q p → o ≡ p
-RunsFocused-unique c F B Q o p h k = RunsFrom-unique (IsFocusedStep c F.vars _) (IsFocusedStep-unique c F.vars _) (begin c F Q) o p h k
+RunsFocused-unique c F B Q o p h k = RunsFrom-unique (IsFocusedStep c F _) (IsFocusedStep-unique c F _) (begin c F Q) o p h k

@@ -26,7 +26,7 @@ use Rattle.theory.proofs.searching.Walks.{at-place, entry-place}
 use Rattle.theory.proofs.searching.ForgottenClauses.{AreLeft-refl, AreLeft-append, AreLeft-length, AreLeft-at, IsReason-left, IsLawful-left, IsReason-forgotten}
 use Rattle.theory.proofs.searching.ForgettingLines.{AreForgetting-line, gone-line}
 use Rattle.theory.proofs.searching.KeptSearches.{AreReplayed-push, AreLeft-all, IsSearchOf-Propagates, IsSearchOf-decide, IsSearchOf-learnt}
-use Rattle.theory.proofs.searching.Invariants.{IsInvariant}
+use Rattle.theory.proofs.searching.Invariants.{IsAmong, IsInvariant}
 use Rattle.theory.proofs.searching.UnitLines.{Passes-unit_line, has_both_signs-unit_line}
 
 -- the last clause of a list
@@ -210,10 +210,11 @@ IsSearchOf-unit V K Q C before e es lines n level reason units i = record {
     replayed : IsReplayed V (length K) Q (K ++ clauses_of lines) line
     replayed = IsReplayed-unit V K Q C before e es lines n level reason units i
 
-pub IsInvariant-IsSearchOf : (rule : Rule) → IsRule rule → (V : ℕ) (K : List Clause) (Q : List Literal) → IsInvariant (Unit {0}) rule V (IsSearchOf V K Q)
-IsInvariant-IsSearchOf rule g V K Q = record {
+pub IsInvariant-IsSearchOf : (rule : Rule) → IsRule rule → (V : ℕ) (vs : List ℕ) → ((v : ℕ) → IsAmong vs v → IsVariable V v) → (K : List Clause) (Q : List Literal)
+    → IsInvariant (Unit {0}) rule vs (IsSearchOf V K Q)
+IsInvariant-IsSearchOf rule g V vs within K Q = record {
   propagated = λ C T U lines a h i. IsSearchOf-Propagates rule g V K Q C T U a lines h i;
   unit = λ C before e es lines n level reason units i. IsSearchOf-unit V K Q C before e es lines n level reason (units tt) i;
-  decided = λ C T lines l h v f i. IsSearchOf-decide V K Q C T lines l (h tt) v f i;
+  decided = λ C T lines l h v f i. IsSearchOf-decide V K Q C T lines l (h tt) (within l.var v) f i;
   learnt = λ R C T lines n ns level h above low own unused i. IsSearchOf-learnt V R K Q C T lines n ns level h above low own (unused tt) i;
 }

@@ -6,7 +6,7 @@ use Rattle.theory.specs.Truth.{Formula}
 use Rattle.theory.specs.Trails.{Trail, current_level, cube_trail, least_free}
 use Rattle.theory.specs.Propagation.{Closed, quiet, conflict, by_number, Propagates}
 use Rattle.theory.specs.Learning.{Line, learn}
-use Rattle.theory.specs.Search.{Outcome, refuted, exhausted, Next, ends, goes_on, RunsFrom, stops, steps, first_clauses, budget_of}
+use Rattle.theory.specs.Search.{Outcome, refuted, exhausted, Next, ends, goes_on, RunsFrom, stops, steps, budget_of}
 use Rattle.theory.specs.Ordered.{OrderedState, begin, decided_next, learnt_next, on_quiet, after, IsOrderedStep, RunsOrdered}
 use Rattle.theory.specs.Checked.{IsFitSplit, IsLeastSplit}
 use Rattle.theory.proofs.searching.RunLemmas.{RunsFrom-says}
@@ -18,7 +18,7 @@ use Rattle.theory.proofs.searching.SplitSoundness.{Propagates-more, free-of-cube
 -- have.
 pub IsFitSplit-least : (F : Formula) (Q : List Literal) (x : ℕ) → IsLeastSplit F Q x → IsFitSplit F Q x
 IsFitSplit-least F Q x s =
-    let more = Propagates-more by_number (first_clauses F) (cube_trail Q) s.trail quiet s.rests in
+    let more = Propagates-more by_number F.clauses (cube_trail Q) s.trail quiet s.rests in
     free-of-cube F.vars Q more.0 x (ap (least_free F.vars) (sym more.1) ∙ s.least)
 
 -- y was decided first, so a search that is exhausted is so in y

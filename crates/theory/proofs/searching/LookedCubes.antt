@@ -2,34 +2,35 @@
 use Rattle.std.proofs.Common.{◌≡◌, ℕ, zero, suc, ◌+◌, ◌-◌, ◌≤◌, Bool, true, false, List, [], ◌∷◌, ◌++◌, length, refl, ap, ap₂, sym, subst, ◌∙◌, nat_lt, ltb-false, Option, Some, None, inl, inr, length-append, arith, if◌then◌else◌}
 use Rattle.theory.specs.Literals.{Literal, Clause, has_var, positive, negative, IsVariable, IsCube}
 use Rattle.theory.specs.Truth.{Formula, Assignment, IsOver, IsFormula, Satisfies, AreTrue, value, are_true}
-use Rattle.theory.specs.Trails.{Trail, literals, current_level, cube_trail, decide, least_free}
+use Rattle.theory.specs.Trails.{Trail, literals, current_level, cube_trail, decide}
+use Rattle.theory.specs.Held.{held, least_held}
 use Rattle.theory.specs.Propagation.{Closed, quiet, conflict, by_place, Propagates, Rule}
 use Rattle.theory.specs.Learning.{Line}
-use Rattle.theory.specs.Search.{Outcome, model, refuted, exhausted, first_clauses, searched, values}
+use Rattle.theory.specs.Search.{Outcome, model, refuted, exhausted, values}
 use Rattle.theory.specs.Scores.{Scores, best_outside}
 use Rattle.theory.specs.Units.{units_of}
 use Rattle.theory.specs.Looking.{best_ones, ranks, brought, Brings, worth, Choice, no_choice, better_choice, IsWorth, Chooses, has_chosen, fails, tries, IsChosen, SplitsInto, ComesTo, Looks}
 use Rattle.theory.specs.Kept.{IsSearchOf}
 use Rattle.theory.proofs.literals.LiteralSets.{or-false_right}
 use Rattle.theory.proofs.searching.Rules.{IsRule-by_place}
-use Rattle.theory.proofs.searching.PureVariables.{IsOver-first_clauses}
 use Rattle.theory.proofs.searching.PropagationLemmas.{Propagates-unique}
 use Rattle.theory.proofs.trails.TrailLists.{literals-append, literals-cube}
 use Rattle.theory.proofs.searching.OpenTrails.{current_level-cube_trail}
 use Rattle.theory.proofs.searching.SplitSoundness.{Propagates-more, has_var-front}
-use Rattle.theory.proofs.searching.SearchSteps.{least_free-variable}
 use Rattle.theory.proofs.searching.SearchSoundness.{Propagates-says}
-use Rattle.theory.proofs.searching.BestVariables.{best_outside-some, best_outside-there}
+use Rattle.theory.proofs.searching.BestVariables.{best_outside-some, best_outside-none}
 use Rattle.theory.proofs.searching.KeptSearches.{IsSearchOf-begin}
-use Rattle.theory.proofs.searching.CubeOutcomes.{CubeSays, CubeSays-model, CubeSays-refuted}
+use Rattle.theory.proofs.searching.CubeOutcomes.{CubeSays, CubeSays-true, CubeSays-refuted}
 use Rattle.theory.proofs.searching.KeptUnits.{IsInvariant-IsSearchOf}
 use Rattle.theory.proofs.searching.UnitWalks.{current_level-units, conflict-units, IsSearchOf-units}
 use Rattle.theory.proofs.searching.TrueSearches.{IsTrueSearch-units, IsTrueSearch, IsTrueSearch-begin, IsTrueSearch-conflict, IsInvariant-IsTrueSearch}
-use Rattle.theory.proofs.searching.ModelLemmas.{quiet-true, length-values}
+use Rattle.theory.proofs.searching.ModelLemmas.{length-values}
+use Rattle.theory.proofs.searching.HeldVariables.{held-variable, quiet-held}
+use Rattle.theory.proofs.searching.Invariants.{IsAmong}
 
 -- propagation leaves the cube's trail at level 0
-level-looked : (rule : Rule) (F : Formula) (Q : List Literal) (T : Trail) (a : Closed) → Propagates rule (first_clauses F) (cube_trail Q) a T → current_level T ≡ 0
-level-looked rule F Q T a p = (Propagates-more rule (first_clauses F) (cube_trail Q) T a p).2 ∙ current_level-cube_trail Q
+level-looked : (rule : Rule) (F : Formula) (Q : List Literal) (T : Trail) (a : Closed) → Propagates rule F.clauses (cube_trail Q) a T → current_level T ≡ 0
+level-looked rule F Q T a p = (Propagates-more rule F.clauses (cube_trail Q) T a p).2 ∙ current_level-cube_trail Q
 
 -- one outcome
 
@@ -68,11 +69,11 @@ SplitsInto-unique F T (Some v) o p h k = h.1 ∙ ap exhausted (Chooses-unique _ 
 
 ComesTo-unique : (F : Formula) (a : Closed) (T : Trail) (o p : Outcome) → ComesTo F a T o → ComesTo F a T p → o ≡ p
 ComesTo-unique F (conflict n) T o p h k = h ∙ sym k
-ComesTo-unique F quiet T o p h k = SplitsInto-unique F T (least_free F.vars T) o p h k
+ComesTo-unique F quiet T o p h k = SplitsInto-unique F T (least_held F T) o p h k
 
 pub Looks-unique : (F : Formula) (Q : List Literal) (o p : Outcome) → Looks F Q o → Looks F Q p → o ≡ p
 Looks-unique F Q o p h k =
-    let one = Propagates-unique by_place (first_clauses F) (cube_trail Q) h.trail k.trail h.answer k.answer h.propagates k.propagates in
+    let one = Propagates-unique by_place F.clauses (cube_trail Q) h.trail k.trail h.answer k.answer h.propagates k.propagates in
     ComesTo-unique F h.answer h.trail o p h.comes_to (rw one.0 (rw one.1 k.comes_to))
 
 -- what a look says
@@ -81,25 +82,25 @@ abbrev Each : (ℕ → Type 0) → List ℕ → Type 0
 Each P [] = Unit {0}
 Each P (x ∷ xs) = P x × Each P xs
 
--- each of the best ones is a variable that isn't in P
-abbrev AreFree : ℕ → List Literal → List ℕ → Type 0
-AreFree V P xs = Each (λ x. IsVariable V x × (has_var P x ≡ false)) xs
+-- each of the best ones is one of these variables that isn't in P
+abbrev AreFree : List ℕ → List Literal → List ℕ → Type 0
+AreFree vs P xs = Each (λ x. IsAmong vs x × (has_var P x ≡ false)) xs
 
-behind : (V : ℕ) (P : List Literal) (l : Literal) (xs : List ℕ) → AreFree V (l ∷ P) xs → AreFree V P xs
-behind V P l [] h = tt
-behind V P l (x ∷ xs) h = ((h.0.0, has_var-behind h.0.1), behind V P l xs h.1)
+behind : (vs : List ℕ) (P : List Literal) (l : Literal) (xs : List ℕ) → AreFree vs (l ∷ P) xs → AreFree vs P xs
+behind vs P l [] h = tt
+behind vs P l (x ∷ xs) h = ((h.0.0, has_var-behind h.0.1), behind vs P l xs h.1)
   where
     has_var-behind : has_var (l ∷ P) x ≡ false → has_var P x ≡ false
     has_var-behind q = or-false_right _ (has_var P x) q
 
-best_ones-free : (n V : ℕ) (s : Scores) (P : List Literal) → AreFree V P (best_ones n V s P)
-best_ones-free zero V s P = tt
-best_ones-free (suc n) V s P = go (best_outside V P s) refl (λ x. best_ones-free n V s (positive x ∷ P))
+best_ones-free : (n : ℕ) (vs : List ℕ) (s : Scores) (P : List Literal) → AreFree vs P (best_ones n vs s P)
+best_ones-free zero vs s P = tt
+best_ones-free (suc n) vs s P = go (best_outside vs P s) refl (λ x. best_ones-free n vs s (positive x ∷ P))
   where
-    go : (o : Option ℕ) → best_outside V P s ≡ o → ((x : ℕ) → AreFree V (positive x ∷ P) (best_ones n V s (positive x ∷ P)))
-        → AreFree V P (elim o [ None ↦ [] | Some x ↦ x ∷ best_ones n V s (positive x ∷ P) ])
+    go : (o : Option ℕ) → best_outside vs P s ≡ o → ((x : ℕ) → AreFree vs (positive x ∷ P) (best_ones n vs s (positive x ∷ P)))
+        → AreFree vs P (elim o [ None ↦ [] | Some x ↦ x ∷ best_ones n vs s (positive x ∷ P) ])
     go None e more = tt
-    go (Some x) e more = (best_outside-some V P s x e, behind V P (positive x) _ (more x))
+    go (Some x) e more = (best_outside-some vs P s x e, behind vs P (positive x) _ (more x))
 
 -- what is brought is at least the literal itself
 brought-some : (K : List Clause) (T : Trail) (l : Literal) (n : ℕ) → Brings K T l (Some n) → 1 ≤ n
@@ -147,97 +148,102 @@ Chooses-says P K T c (x ∷ xs) y all before some (tries {w = w} h more) =
     chosen [] = better.1
     chosen (z ∷ zs) = tt
 
--- the variable that is chosen is free
-IsChosen-free : (F : Formula) (T : Trail) (v x : ℕ) → least_free F.vars T ≡ Some v → IsChosen F T x → IsVariable F.vars x × (has_var (literals T) x ≡ false)
-IsChosen-free F T v x free h = go (best_outside F.vars (literals T) scores) refl h
+-- the variable that is chosen is held, and free
+IsChosen-free : (F : Formula) (T : Trail) (v x : ℕ) → least_held F T ≡ Some v → IsChosen F T x → IsAmong (held F) x × (has_var (literals T) x ≡ false)
+IsChosen-free F T v x free h = go (best_outside (held F) (literals T) scores) refl h
   where
     scores : Scores
-    scores = ranks F.vars (first_clauses F)
+    scores = ranks F.vars F.clauses
 
     rest : ℕ → List ℕ
-    rest y = best_ones 31 F.vars scores (positive y ∷ literals T)
+    rest y = best_ones 31 (held F) scores (positive y ∷ literals T)
 
-    go : (o : Option ℕ) → best_outside F.vars (literals T) scores ≡ o → Chooses (first_clauses F) T no_choice (elim o [ None ↦ [] | Some y ↦ y ∷ rest y ]) x
-        → IsVariable F.vars x × (has_var (literals T) x ≡ false)
-    go None e c = absurd (let some = best_outside-there F.vars (literals T) scores v (least_free-variable F.vars T v free).0 (least_free-variable F.vars T v free).1 in let it = some.1 in cc)
+    go : (o : Option ℕ) → best_outside (held F) (literals T) scores ≡ o → Chooses F.clauses T no_choice (elim o [ None ↦ [] | Some y ↦ y ∷ rest y ]) x
+        → IsAmong (held F) x × (has_var (literals T) x ≡ false)
+    go None e c =
+        let none = best_outside-none (held F) (literals T) scores e in
+        absurd (cc)
     go (Some y) e c =
-        Chooses-says (λ z. IsVariable F.vars z × (has_var (literals T) z ≡ false)) (first_clauses F) T no_choice (y ∷ rest y) x
-        (best_outside-some F.vars (literals T) scores y e, behind F.vars (literals T) (positive y) (rest y) (best_ones-free 31 F.vars scores (positive y ∷ literals T)))
+        Chooses-says (λ z. IsAmong (held F) z × (has_var (literals T) z ≡ false)) F.clauses T no_choice (y ∷ rest y) x
+        (best_outside-some (held F) (literals T) scores y e, behind (held F) (literals T) (positive y) (rest y) (best_ones-free 31 (held F) scores (positive y ∷ literals T)))
         (λ w. absurd (omega (arith, w))) tt c
 
-ComesTo-says : (F : Formula) (Q : List Literal) (a : Closed) (T : Trail) (o : Outcome) → Propagates by_place (first_clauses F) (cube_trail Q) a T
-    → IsSearchOf F.vars (first_clauses F) Q (first_clauses F) T [] → ComesTo F a T o → CubeSays F.vars (first_clauses F) Q o
-ComesTo-says F Q (conflict n) T o p i h =
+ComesTo-says : (F : Formula) (Q : List Literal) (a : Closed) (T : Trail) (o : Outcome) → IsFormula F → Propagates by_place F.clauses (cube_trail Q) a T
+    → IsSearchOf F.vars F.clauses Q F.clauses T [] → ComesTo F a T o → CubeSays F.vars F.clauses Q o
+ComesTo-says F Q (conflict n) T o formed p i h =
     let level = level-looked by_place F Q T (conflict n) p in
-    let u = units_of (first_clauses F) T in
-    subst (CubeSays F.vars (first_clauses F) Q) (sym h)
-    (CubeSays-refuted F.vars [] (first_clauses F) Q u.clauses u.trail u.lines n (conflict-units (first_clauses F) T n (Propagates-says by_place (first_clauses F) (cube_trail Q) T (conflict n) p))
-    (current_level-units (first_clauses F) T ∙ level) (IsSearchOf-units F.vars (first_clauses F) Q (first_clauses F) T [] level i).0)
-ComesTo-says F Q quiet T o p i h = go (least_free F.vars T) refl h
+    let u = units_of F.clauses T in
+    subst (CubeSays F.vars F.clauses Q) (sym h)
+    (CubeSays-refuted F.vars [] F.clauses Q u.clauses u.trail u.lines n (conflict-units F.clauses T n (Propagates-says by_place F.clauses (cube_trail Q) T (conflict n) p))
+    (current_level-units F.clauses T ∙ level) (IsSearchOf-units F.vars F.clauses Q F.clauses T [] level i).0)
+ComesTo-says F Q quiet T o formed p i h = go (least_held F T) refl h
   where
-    go : (v : Option ℕ) → least_free F.vars T ≡ v → SplitsInto F T v o → CubeSays F.vars (first_clauses F) Q o
-    go None e s = subst (CubeSays F.vars (first_clauses F) Q) (sym s) (CubeSays-model F.vars (first_clauses F) Q (first_clauses F) T [] e (Propagates-says by_place (first_clauses F) (cube_trail Q) T quiet p) i)
-    go (Some v) e s = subst (CubeSays F.vars (first_clauses F) Q) (sym s.1) tt
+    go : (v : Option ℕ) → least_held F T ≡ v → SplitsInto F T v o → CubeSays F.vars F.clauses Q o
+    go None e s = subst (CubeSays F.vars F.clauses Q) (sym s) (CubeSays-true F.vars F.clauses Q F.clauses T [] (quiet-held F T e formed (Propagates-says by_place F.clauses (cube_trail Q) T quiet p)) i)
+    go (Some v) e s = subst (CubeSays F.vars F.clauses Q) (sym s.1) tt
 
 -- its refutation replays, and its model makes the first clauses and the cube true
-pub Looks-says : (F : Formula) (Q : List Literal) (o : Outcome) → IsFormula F → IsCube Q → IsOver F.vars Q → Looks F Q o → CubeSays F.vars (first_clauses F) Q o
+pub Looks-says : (F : Formula) (Q : List Literal) (o : Outcome) → IsFormula F → IsCube Q → IsOver F.vars Q → Looks F Q o → CubeSays F.vars F.clauses Q o
 Looks-says F Q o formed cube over h =
-    ComesTo-says F Q h.answer h.trail o h.propagates
-    ((IsInvariant-IsSearchOf by_place IsRule-by_place F.vars (first_clauses F) Q).propagated (first_clauses F) (cube_trail Q) h.trail [] h.answer h.propagates
-    (IsSearchOf-begin F.vars (first_clauses F) Q (IsOver-first_clauses F formed) cube over)) h.comes_to
+    ComesTo-says F Q h.answer h.trail o formed h.propagates
+    ((IsInvariant-IsSearchOf by_place IsRule-by_place F.vars (held F) (held-variable F) F.clauses Q).propagated F.clauses (cube_trail Q) h.trail [] h.answer h.propagates
+    (IsSearchOf-begin F.vars F.clauses Q formed cube over)) h.comes_to
 
 -- a refuted cube has no model
-pub Looks-refuted : (F : Formula) (Q : List Literal) (lines : List Line) → IsCube Q → Looks F Q (refuted lines) → (M : Assignment) → Satisfies (searched F) M → AreTrue (value M) Q → ⊥
+pub Looks-refuted : (F : Formula) (Q : List Literal) (lines : List Line) → IsCube Q → Looks F Q (refuted lines) → (M : Assignment) → Satisfies F M → AreTrue (value M) Q → ⊥
 Looks-refuted F Q lines cube h M s q = go h.answer h.propagates h.comes_to
   where
-    i : IsTrueSearch (value M) Q (first_clauses F) h.trail []
-    i = (IsInvariant-IsTrueSearch by_place IsRule-by_place F.vars (value M) Q q).propagated (first_clauses F) (cube_trail Q) h.trail [] h.answer h.propagates (IsTrueSearch-begin (value M) (first_clauses F) Q s.clauses cube)
+    i : IsTrueSearch (value M) Q F.clauses h.trail []
+    i = (IsInvariant-IsTrueSearch by_place IsRule-by_place (held F) (value M) Q q).propagated F.clauses (cube_trail Q) h.trail [] h.answer h.propagates (IsTrueSearch-begin (value M) F.clauses Q s.clauses cube)
 
     free : (v : Option ℕ) → SplitsInto F h.trail v (refuted lines) → ⊥
     free None e = cc
     free (Some v) e = let it = e.1 in cc
 
-    go : (a : Closed) → Propagates by_place (first_clauses F) (cube_trail Q) a h.trail → ComesTo F a h.trail (refuted lines) → ⊥
+    go : (a : Closed) → Propagates by_place F.clauses (cube_trail Q) a h.trail → ComesTo F a h.trail (refuted lines) → ⊥
     go (conflict n) p c =
         let level = level-looked by_place F Q h.trail (conflict n) p in
-        let u = units_of (first_clauses F) h.trail in
-        IsTrueSearch-conflict (value M) [] Q u.clauses u.trail u.lines n q (conflict-units (first_clauses F) h.trail n (Propagates-says by_place (first_clauses F) (cube_trail Q) h.trail (conflict n) p))
-        (current_level-units (first_clauses F) h.trail ∙ level) (IsTrueSearch-units (value M) Q q (first_clauses F) h.trail [] level i)
-    go quiet p c = free (least_free F.vars h.trail) c
+        let u = units_of F.clauses h.trail in
+        IsTrueSearch-conflict (value M) [] Q u.clauses u.trail u.lines n q (conflict-units F.clauses h.trail n (Propagates-says by_place F.clauses (cube_trail Q) h.trail (conflict n) p))
+        (current_level-units F.clauses h.trail ∙ level) (IsTrueSearch-units (value M) Q q F.clauses h.trail [] level i)
+    go quiet p c = free (least_held F h.trail) c
 
 -- a model satisfies the formula, and the clauses of the pure variables
-pub Looks-satisfies : (F : Formula) (Q : List Literal) (M : Assignment) → IsFormula F → Looks F Q (model M) → Satisfies (searched F) M
+pub Looks-satisfies : (F : Formula) (Q : List Literal) (M : Assignment) → IsFormula F → Looks F Q (model M) → Satisfies F M
 Looks-satisfies F Q M formed h = go h.answer h.propagates h.comes_to
   where
-    full : Propagates by_place (first_clauses F) (cube_trail Q) quiet h.trail → (v : Option ℕ) → least_free F.vars h.trail ≡ v → SplitsInto F h.trail v (model M) → Satisfies (searched F) M
+    full : Propagates by_place F.clauses (cube_trail Q) quiet h.trail → (v : Option ℕ) → least_held F h.trail ≡ v → SplitsInto F h.trail v (model M) → Satisfies F M
     full p None e s =
         let is : M ≡ values F.vars h.trail = cc in
         record {
           values = ap length is ∙ length-values F.vars h.trail;
-          clauses = ap (λ (x : Assignment). are_true (value x) (first_clauses F)) is
-              ∙ quiet-true F.vars h.trail (first_clauses F) e (IsOver-first_clauses F formed) (Propagates-says by_place (first_clauses F) (cube_trail Q) h.trail quiet p);
+          clauses = ap (λ (x : Assignment). are_true (value x) F.clauses) is
+              ∙ quiet-held F h.trail e formed (Propagates-says by_place F.clauses (cube_trail Q) h.trail quiet p);
         }
     full p (Some v) e s = absurd (let it = s.1 in cc)
 
-    go : (a : Closed) → Propagates by_place (first_clauses F) (cube_trail Q) a h.trail → ComesTo F a h.trail (model M) → Satisfies (searched F) M
+    go : (a : Closed) → Propagates by_place F.clauses (cube_trail Q) a h.trail → ComesTo F a h.trail (model M) → Satisfies F M
     go (conflict n) p c = absurd (cc)
-    go quiet p c = full p (least_free F.vars h.trail) refl c
+    go quiet p c = full p (least_held F h.trail) refl c
 
--- it is split on a variable of the formula that it doesn't have
-pub Looks-exhausted : (F : Formula) (Q : List Literal) (x : ℕ) → Looks F Q (exhausted x) → IsVariable F.vars x × (has_var Q x ≡ false)
-Looks-exhausted F Q x h = go h.answer h.propagates h.comes_to
+-- it is split on a held variable that it doesn't have
+pub Looks-splits : (F : Formula) (Q : List Literal) (x : ℕ) → Looks F Q (exhausted x) → IsAmong (held F) x × (has_var Q x ≡ false)
+Looks-splits F Q x h = go h.answer h.propagates h.comes_to
   where
-    on : IsVariable F.vars x × (has_var (literals h.trail) x ≡ false) → Propagates by_place (first_clauses F) (cube_trail Q) quiet h.trail → IsVariable F.vars x × (has_var Q x ≡ false)
+    on : IsAmong (held F) x × (has_var (literals h.trail) x ≡ false) → Propagates by_place F.clauses (cube_trail Q) quiet h.trail → IsAmong (held F) x × (has_var Q x ≡ false)
     on f p =
-        let more = Propagates-more by_place (first_clauses F) (cube_trail Q) h.trail quiet p in
+        let more = Propagates-more by_place F.clauses (cube_trail Q) h.trail quiet p in
         let parts : literals h.trail ≡ Q ++ literals more.0
         = ap literals more.1 ∙ (literals-append (cube_trail Q) more.0 ∙ ap (λ (P : List Literal). P ++ literals more.0) (literals-cube Q)) in
         (f.0, has_var-front Q (literals more.0) x (subst (λ (P : List Literal). has_var P x ≡ false) parts f.1))
 
-    free : Propagates by_place (first_clauses F) (cube_trail Q) quiet h.trail → (v : Option ℕ) → least_free F.vars h.trail ≡ v → SplitsInto F h.trail v (exhausted x) → IsVariable F.vars x × (has_var Q x ≡ false)
+    free : Propagates by_place F.clauses (cube_trail Q) quiet h.trail → (v : Option ℕ) → least_held F h.trail ≡ v → SplitsInto F h.trail v (exhausted x) → IsAmong (held F) x × (has_var Q x ≡ false)
     free p None e s = absurd (cc)
     free p (Some v) e s = let is : s.0 ≡ x = (let it = s.1 in cc) in on (IsChosen-free F h.trail v x e (subst (IsChosen F h.trail) is s.2)) p
 
-    go : (a : Closed) → Propagates by_place (first_clauses F) (cube_trail Q) a h.trail → ComesTo F a h.trail (exhausted x) → IsVariable F.vars x × (has_var Q x ≡ false)
+    go : (a : Closed) → Propagates by_place F.clauses (cube_trail Q) a h.trail → ComesTo F a h.trail (exhausted x) → IsAmong (held F) x × (has_var Q x ≡ false)
     go (conflict n) p c = absurd (cc)
-    go quiet p c = free p (least_free F.vars h.trail) refl c
+    go quiet p c = free p (least_held F h.trail) refl c
+
+pub Looks-exhausted : (F : Formula) (Q : List Literal) (x : ℕ) → Looks F Q (exhausted x) → IsVariable F.vars x × (has_var Q x ≡ false)
+Looks-exhausted F Q x h = let at = Looks-splits F Q x h in (held-variable F x at.0, at.1)

@@ -122,19 +122,22 @@ there-true V T l r h n = ap (same_sign l.positive) (value-values V T l.var r) �
     go true e = (let one : positive l.var ≡ l = λ i. record { var = l.var; positive = sym e i } in rw one h)
     go false e = (let one : positive l.var ≡ negated l = λ i. record { var = l.var; positive = sym (ap not e) i } in rw one (ap not n))
 
-clause-true : (V : ℕ) (T : Trail) (c : Clause) → least_free V T ≡ None → IsOver V c → is_false (literals T) c ≡ false → is_true_clause (value (values V T)) c ≡ true
-clause-true V T [] f o h = absurd (cc)
-clause-true V T (l ∷ c) f o h = go (has (literals T) (negated l)) refl h (clause-true V T c f (λ k d i. o (suc k) d (omega arith)))
+pub clause-assigned : (V : ℕ) (T : Trail) (c : Clause) → ((v : ℕ) → IsVariable V v → has_var c v ≡ true → has_var (literals T) v ≡ true) → IsOver V c → is_false (literals T) c ≡ false → is_true_clause (value (values V T)) c ≡ true
+clause-assigned V T [] f o h = absurd (cc)
+clause-assigned V T (l ∷ c) f o h = go (has (literals T) (negated l)) refl h (clause-assigned V T c (λ v r a. f v r (or-right (nat_eq v l.var) (has_var c v) a)) (λ k d i. o (suc k) d (omega arith)))
   where
     r : IsVariable V l.var
     r = o 0 l (omega arith)
 
     here : has (literals T) (negated l) ≡ false → is_true (value (values V T)) l ≡ true
-    here n = elim (sign-cases (literals T) l (all_assigned V T l.var f r)) [ inl a ↦ there-true V T l r a n | inr b ↦ absurd (cc) ]
+    here n = elim (sign-cases (literals T) l (f l.var r (or-left (nat_eq l.var l.var) (has_var c l.var) (eq-eqb l.var l.var refl)))) [ inl a ↦ there-true V T l r a n | inr b ↦ absurd (cc) ]
 
     go : (b : Bool) → has (literals T) (negated l) ≡ b → b && is_false (literals T) c ≡ false → (is_false (literals T) c ≡ false → is_true_clause (value (values V T)) c ≡ true) → is_true_clause (value (values V T)) (l ∷ c) ≡ true
     go true e k more = or-right (is_true (value (values V T)) l) (is_true_clause (value (values V T)) c) (more k)
     go false e k more = or-left (is_true (value (values V T)) l) (is_true_clause (value (values V T)) c) (here e)
+
+clause-true : (V : ℕ) (T : Trail) (c : Clause) → least_free V T ≡ None → IsOver V c → is_false (literals T) c ≡ false → is_true_clause (value (values V T)) c ≡ true
+clause-true V T c f o h = clause-assigned V T c (λ v r a. all_assigned V T v f r) o h
 
 -- where no clause is false and no variable is free, all clauses are true
 pub quiet-true : (V : ℕ) (T : Trail) (K : List Clause) → least_free V T ≡ None → All (IsOver V) K → least_false (literals T) K ≡ None → are_true (value (values V T)) K ≡ true

@@ -6,12 +6,11 @@ use Rattle.theory.specs.Truth.{Formula, IsOver, IsFormula}
 use Rattle.theory.specs.Trails.{literals, current_level, least_free}
 use Rattle.theory.specs.Propagation.{Closed, quiet, conflict, by_number, least_false}
 use Rattle.theory.specs.Learning.{Line, learn}
-use Rattle.theory.specs.Search.{Outcome, refuted, exhausted, Next, ends, goes_on, first_clauses, budget_of}
+use Rattle.theory.specs.Search.{Outcome, refuted, exhausted, Next, ends, goes_on, budget_of}
 use Rattle.theory.specs.Ordered.{OrderedState, learnt_next, on_quiet, on_conflict, after, RunsOrdered, begin, IsOrderedStep}
 use Rattle.theory.specs.Kept.{IsSearchOf}
 use Rattle.theory.proofs.searching.Rules.{IsRule-by_number}
 use Rattle.theory.proofs.searching.RunLemmas.{RunsFrom-says}
-use Rattle.theory.proofs.searching.PureVariables.{IsOver-first_clauses}
 use Rattle.theory.proofs.searching.SearchSoundness.{Says, Propagates-says}
 use Rattle.theory.proofs.searching.SearchSteps.{above_zero, least_free-variable}
 use Rattle.theory.proofs.searching.KeptSearches.{IsSearchOf-begin, IsSearchOf-Propagates, IsSearchOf-decide, IsSearchOf-learn}
@@ -55,10 +54,10 @@ module _ (V : ℕ) (K : List Clause) (Q : List Literal) where
       (IsSearchOf-Propagates by_number IsRule-by_number V K Q s.clauses s.trail w.trail w.answer s.lines w.propagates i) (Propagates-says by_number s.clauses s.trail w.trail w.answer w.propagates))
 
 -- What the outcome of a cube says.
-pub RunsOrdered-says : (F : Formula) (B : ℕ) (Q : List Literal) (o : Outcome) → IsFormula F → IsCube Q → IsOver F.vars Q → RunsOrdered F B Q o → CubeSays F.vars (first_clauses F) Q o
+pub RunsOrdered-says : (F : Formula) (B : ℕ) (Q : List Literal) (o : Outcome) → IsFormula F → IsCube Q → IsOver F.vars Q → RunsOrdered F B Q o → CubeSays F.vars F.clauses Q o
 RunsOrdered-says F B Q o formed cube over runs =
-    RunsFrom-says (IsOrderedStep F.vars (budget_of B Q)) (SaysNext F.vars (first_clauses F) Q) (step-says F.vars (first_clauses F) Q (budget_of B Q)) (begin F Q) o runs
-    (IsSearchOf-begin F.vars (first_clauses F) Q (IsOver-first_clauses F formed) cube over)
+    RunsFrom-says (IsOrderedStep F.vars (budget_of B Q)) (SaysNext F.vars F.clauses Q) (step-says F.vars F.clauses Q (budget_of B Q)) (begin F Q) o runs
+    (IsSearchOf-begin F.vars F.clauses Q formed cube over)
 
 -- what is kept by a step that goes on
 pub IsSearchOf-ordered_step : (V budget : ℕ) (K : List Clause) (Q : List Literal) (s t : OrderedState) → IsOrderedStep V budget s (goes_on t) → IsSearchOf V K Q s.clauses s.trail s.lines

@@ -5,8 +5,7 @@ use Rattle.std.proofs.lemmas.List.Elements.{All-head, All-tail}
 use Rattle.theory.specs.Literals.{Literal, Clause, same_sign, has, positive, negative, IsVariable}
 use Rattle.theory.specs.Truth.{Formula, Assignment, IsOver, IsFormula, AreTrue, Satisfies, Satisfiable, value, is_true, is_true_clause, are_true}
 use Rattle.theory.specs.FirstModel.{IsFirst, comes_before}
-use Rattle.theory.specs.Pure.{occurs, is_pure, pure_literals, pure_units}
-use Rattle.theory.specs.Search.{searched}
+use Rattle.theory.specs.Pure.{occurs, is_pure, pure_literals, pure_units, searched}
 use Rattle.theory.proofs.literals.LiteralLemmas.{and-left, and-right, or-cases, or-left, or-right, not_true}
 use Rattle.theory.proofs.literals.LiteralSets.{and-true, true_false, has-head, has-tail}
 use Rattle.theory.proofs.literals.TrueClauses.{AreTrue-has}
@@ -130,8 +129,16 @@ all-true m [] f = tt
 all-true m (l ∷ ls) f = (f l (has-head l ls), all-true m ls (λ k h. f k (has-tail l k ls h)))
 
 -- an assignment with the formula's pure variables made false
-purified : Formula → Assignment → Assignment
+pub purified : Formula → Assignment → Assignment
 purified F M = lowered (is_pure F.clauses) 1 M
+
+pub length-purified : (F : Formula) (M : Assignment) → length (purified F M) ≡ length M
+unfolding purified
+length-purified F M = length-lowered (is_pure F.clauses) 1 M
+
+pub value-purified : (F : Formula) (M : Assignment) (v : ℕ) → 1 ≤ v → value (purified F M) v ≡ (if is_pure F.clauses v then false else value M v)
+unfolding purified
+value-purified F M v h = value-lowered (is_pure F.clauses) M v h
 
 purified-true : (F : Formula) (M : Assignment) → AreTrue (value (purified F M)) (pure_literals F)
 unfolding purified
@@ -144,7 +151,7 @@ purified-true F M = all-true (value (purified F M)) (pure_literals F) each
         ap (is_true (value (purified F M))) one.0 ∙ ap not low
 
 -- What satisfies the formula, with its pure variables made false, satisfies their clauses too.
-Satisfies-purified : (F : Formula) (M : Assignment) → IsFormula F → Satisfies F M → Satisfies (searched F) (purified F M)
+pub Satisfies-purified : (F : Formula) (M : Assignment) → IsFormula F → Satisfies F M → Satisfies (searched F) (purified F M)
 unfolding purified
 Satisfies-purified F M formed h = record {
   values = length-lowered (is_pure F.clauses) 1 M ∙ h.values;

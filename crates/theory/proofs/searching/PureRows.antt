@@ -4,10 +4,10 @@ use Rattle.std.specs.Fmt.{digits}
 use Rattle.theory.specs.Literals.{Literal, positive, negative}
 use Rattle.theory.specs.Truth.{Formula, value, are_true}
 use Rattle.theory.specs.Trails.{Entry}
-use Rattle.theory.specs.Pure.{pure_variables, pure_literals}
+use Rattle.theory.specs.Pure.{pure_variables, pure_literals, first_clauses, searched}
 use Rattle.theory.specs.Propagation.{quiet, conflict, by_number}
 use Rattle.theory.specs.Learning.{learn, back_level}
-use Rattle.theory.specs.Search.{refuted, first_clauses}
+use Rattle.theory.specs.Search.{refuted}
 use Rattle.theory.specs.Steps.{add}
 use Rattle.theory.specs.Checking.{checks, accepted, refused, no_such_clause, missing_candidate}
 use Rattle.theory.proofs.searching.Evaluation.{run, close_within}
@@ -61,11 +61,11 @@ unfolding digits
 satisfiable_answer = refl
 
 -- the cube of a pure variable made true is refuted by the variable's own clause
-cube_of_pure : run 30 unused 2 (p3 ∷ []) ≡ Some (refuted (record { clause = []; hints = 5 ∷ []; forgets = [] } ∷ []))
+cube_of_pure : run 30 (searched unused) 2 (p3 ∷ []) ≡ Some (refuted (record { clause = []; hints = 5 ∷ []; forgets = [] } ∷ []))
 cube_of_pure = refl
 
 -- so a refuted cube may have a model of the formula, in which a pure variable is true
-cube_with_model : run 30 satisfiable 1 (p2 ∷ []) ≡ Some (refuted (record { clause = []; hints = 2 ∷ []; forgets = [] } ∷ []))
+cube_with_model : run 30 (searched satisfiable) 1 (p2 ∷ []) ≡ Some (refuted (record { clause = []; hints = 2 ∷ []; forgets = [] } ∷ []))
 cube_with_model = refl
 
 cube_with_model_satisfied : are_true (value (true ∷ true ∷ [])) satisfiable.clauses ≡ true

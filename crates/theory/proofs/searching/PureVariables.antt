@@ -7,8 +7,7 @@ use Rattle.std.proofs.lemmas.List.Folds.{list_all-append}
 use Rattle.theory.specs.Literals.{Literal, Clause, has, has_var, positive, negative, negated, IsVariable, IsCube, are_distinct}
 use Rattle.theory.specs.Truth.{Formula, IsOver, IsFormula, AreTrue, is_true, is_true_clause, are_true}
 use Rattle.theory.specs.Trails.{variables}
-use Rattle.theory.specs.Pure.{occurs, is_pure, pure_variables, pure_literals, unit_clauses, pure_units}
-use Rattle.theory.specs.Search.{first_clauses, searched}
+use Rattle.theory.specs.Pure.{occurs, is_pure, pure_variables, pure_literals, unit_clauses, pure_units, first_clauses, searched}
 use Rattle.theory.proofs.literals.LiteralLemmas.{and-left, and-right, or-left, not_true}
 use Rattle.theory.proofs.literals.LiteralSets.{and-true, true_false, has-cases, has-append_left, has-append_right, has-append_cases, has-head, has_var-none}
 use Rattle.theory.proofs.trails.TrailEntries.{are_distinct-push}

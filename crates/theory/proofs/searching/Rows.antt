@@ -5,7 +5,8 @@ use Rattle.theory.specs.Truth.{Formula}
 use Rattle.theory.specs.Learning.{Line}
 use Rattle.theory.specs.Trees.{first_model}
 use Rattle.theory.specs.Checking.{checks, Checked, accepted}
-use Rattle.theory.specs.Proofs.{proof}
+use Rattle.theory.specs.Pure.{searched}
+use Rattle.theory.specs.Beginnings.{by_pure_units, proof}
 use Rattle.theory.specs.Texts.{proof_text, answer_text}
 use Rattle.std.specs.Fmt.{digits}
 use Rattle.theory.proofs.searching.Evaluation.{tree}
@@ -48,10 +49,10 @@ abbrev pub line : Clause → List ℕ → Line
 line c hints = record { clause = c; hints = hints; forgets = [] }
 
 abbrev pub text_of : Formula → ℕ → Option (List ℕ)
-text_of F B = option_map (λ t. proof_text (proof F t)) (tree 5 30 F B [])
+text_of F B = option_map (λ t. proof_text (proof F by_pure_units t)) (tree 5 30 (searched F) B [])
 
 abbrev pub check_of : Formula → ℕ → Option Checked
-check_of F B = option_map (λ t. checks F (proof F t)) (tree 5 30 F B [])
+check_of F B = option_map (λ t. checks F (proof F by_pure_units t)) (tree 5 30 (searched F) B [])
 
 row2_proof : text_of row2 1 ≡ Some (codes "2 0 1 0\n")
 unfolding digits

@@ -6,7 +6,7 @@ use Rattle.theory.specs.Status.{is_false, others_false}
 use Rattle.theory.specs.Trails.{Entry, Trail, literals, current_level, level_at, entry_of, cube_trail, up_to, least_free, variables}
 use Rattle.theory.specs.Propagation.{Closed, quiet, conflict, Propagates, clashes, grows, rests, unit_entry, clause_at, least_false, Rule, IsRule, by_number}
 use Rattle.theory.specs.Learning.{Line, learn, walk, resolved_by, is_resolved_on, with_literals, is_of_cube, back_level}
-use Rattle.theory.specs.Search.{Outcome, model, refuted, exhausted, Next, ends, goes_on, RunsFrom, first_clauses, searched, budget_of}
+use Rattle.theory.specs.Search.{Outcome, model, refuted, exhausted, Next, ends, goes_on, RunsFrom, budget_of}
 use Rattle.theory.specs.Ordered.{OrderedState, after, on_quiet, on_conflict, RunsOrdered, begin, learnt_next, IsOrderedStep}
 use Rattle.theory.proofs.searching.Rules.{IsRule-by_number}
 use Rattle.theory.proofs.searching.RunLemmas.{RunsFrom-says}
@@ -326,9 +326,9 @@ module _ (V : ℕ) (m : ℕ → Bool) where
     subst (λ (b : Trail). TrailOk V K m b (cube_trail Q)) (cube-push P l) (cube-ok K (P ++ l ∷ []) Q d.1 h.1),
   )
 
-  pub begin-ok : (F : Formula) (Q : List Literal) → are_true m (first_clauses F) ≡ true → IsCube Q → AreTrue m Q → StateOk (begin F Q)
-  begin-ok F Q a c h = record { clauses = a; trail = cube-ok (first_clauses F) [] Q (IsDistinctFrom-cube Q c) h }
+  pub begin-ok : (F : Formula) (Q : List Literal) → are_true m F.clauses ≡ true → IsCube Q → AreTrue m Q → StateOk (begin F Q)
+  begin-ok F Q a c h = record { clauses = a; trail = cube-ok F.clauses [] Q (IsDistinctFrom-cube Q c) h }
 
 -- A refuted cube has no model.
-pub refuted-unsatisfiable : (F : Formula) (B : ℕ) (Q : List Literal) (lines : List Line) → IsCube Q → RunsOrdered F B Q (refuted lines) → (M : Assignment) → Satisfies (searched F) M → AreTrue (value M) Q → ⊥
+pub refuted-unsatisfiable : (F : Formula) (B : ℕ) (Q : List Literal) (lines : List Line) → IsCube Q → RunsOrdered F B Q (refuted lines) → (M : Assignment) → Satisfies F M → AreTrue (value M) Q → ⊥
 refuted-unsatisfiable F B Q lines c r M s h = run-says F.vars (value M) (budget_of B Q) (begin F Q) (refuted lines) r (begin-ok F.vars (value M) F Q s.clauses c h)

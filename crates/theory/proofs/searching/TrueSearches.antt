@@ -79,8 +79,8 @@ IsTrueSearch-units m Q q C T lines level i =
 pub are_true-units : (m : ℕ → Bool) (C : List Clause) (T : Trail) → IsLawful C T → current_level T ≡ 0 → AreTrue m (cube_of T) → are_true m C ≡ true → are_true m (units_of C T).clauses ≡ true
 are_true-units m C T lawful level q a = (IsTrueSearch-units m (cube_of T) q C T [] level (record { lawful = lawful; cube = refl; all_true = a })).all_true
 
-pub IsInvariant-IsTrueSearch : (rule : Rule) → IsRule rule → (V : ℕ) (m : ℕ → Bool) (Q : List Literal) → AreTrue m Q → IsInvariant (Unit {0}) rule V (IsTrueSearch m Q)
-IsInvariant-IsTrueSearch rule g V m Q q = record {
+pub IsInvariant-IsTrueSearch : (rule : Rule) → IsRule rule → (vs : List ℕ) (m : ℕ → Bool) (Q : List Literal) → AreTrue m Q → IsInvariant (Unit {0}) rule vs (IsTrueSearch m Q)
+IsInvariant-IsTrueSearch rule g vs m Q q = record {
   propagated = λ C T U lines a h i. record {
     lawful = IsLawful-Propagates rule g C T U a h i.lawful;
     cube = cube_of-Propagates rule C T U a h ∙ i.cube;

@@ -2,9 +2,9 @@
 -- a formula give one answer.
 use Rattle.std.proofs.Common.{◌≡◌, List, [], length, Some, None, All, refl, ap, arith, is_some}
 use Rattle.theory.specs.Literals.{Literal, IsCube, positive, negative}
-use Rattle.theory.specs.Truth.{Formula, IsFormula, IsOver, value}
+use Rattle.theory.specs.Truth.{Formula, IsOver, value}
 use Rattle.theory.specs.Plans.{Search, ordered, Plan}
-use Rattle.theory.specs.Search.{Outcome, model, refuted, exhausted, first_clauses}
+use Rattle.theory.specs.Search.{Outcome, model, refuted, exhausted}
 use Rattle.theory.specs.Trees.{false_half, true_half, first_model, Result, model_of, tree_of, IsResult}
 use Rattle.theory.specs.Results.{Solved, done, IsTrueOf, OutcomeSays, ResultSays}
 use Rattle.theory.specs.Assembly.{outcome_in, IsAssembled, at_model, at_refutation, left_model, right_model, no_model}
@@ -20,7 +20,7 @@ use Rattle.theory.proofs.trees.ResultLemmas.{IsCheckedResult-says}
 -- A checked outcome says what a true one says.
 pub IsCheckedOutcome-says : (search : Search) (F : Formula) (Q : List Literal) (o : Outcome) → IsCheckedOutcome search F Q o → OutcomeSays search F Q o
 IsCheckedOutcome-says search F Q (model M) h = h
-IsCheckedOutcome-says search F Q (refuted lines) h = (λ M s. AreRefutation-refutes (value M) F.vars (length (first_clauses F)) Q (first_clauses F) lines h s.clauses, h)
+IsCheckedOutcome-says search F Q (refuted lines) h = (λ M s. AreRefutation-refutes (value M) F.vars (length F.clauses) Q F.clauses lines h s.clauses, h)
 IsCheckedOutcome-says search F Q (exhausted x) h = IsFitSplit-checked search F Q x h
 
 -- what is checked of a result of the cube from which the walk began
@@ -72,8 +72,8 @@ says-one F (model_of M) (tree_of u) h k = absurd (k (M, h.satisfies))
 says-one F (tree_of t) (model_of N) h k = absurd (h (N, k.satisfies))
 says-one F (tree_of t) (tree_of u) h k = refl
 
-pub IsCheckedResult-one : (F : Formula) (r s : Result) → IsFormula F → IsCheckedResult ordered F r → IsCheckedResult ordered F s → model_in r ≡ model_in s
-IsCheckedResult-one F r s f h k = says-one F r s (IsCheckedResult-says ordered F r f h) (IsCheckedResult-says ordered F s f k)
+pub IsCheckedResult-one : (F : Formula) (r s : Result) → IsCheckedResult ordered F r → IsCheckedResult ordered F s → model_in r ≡ model_in s
+IsCheckedResult-one F r s h k = says-one F r s (IsCheckedResult-says ordered F r h) (IsCheckedResult-says ordered F s k)
 
 -- and by any two searches there is a model or there is none
 says-same : (search other : Search) (F : Formula) (r s : Result) → ResultSays search F r → ResultSays other F s → is_some (model_in r) ≡ is_some (model_in s)
@@ -82,6 +82,6 @@ says-same search other F (model_of M) (tree_of u) h k = absurd (k (M, IsFound-sa
 says-same search other F (tree_of t) (model_of N) h k = absurd (h (N, IsFound-satisfies other F N k))
 says-same search other F (tree_of t) (tree_of u) h k = refl
 
-pub IsCheckedResult-same : (search other : Search) (F : Formula) (r s : Result) → IsFormula F → IsCheckedResult search F r → IsCheckedResult other F s
+pub IsCheckedResult-same : (search other : Search) (F : Formula) (r s : Result) → IsCheckedResult search F r → IsCheckedResult other F s
     → is_some (model_in r) ≡ is_some (model_in s)
-IsCheckedResult-same search other F r s f h k = says-same search other F r s (IsCheckedResult-says search F r f h) (IsCheckedResult-says other F s f k)
+IsCheckedResult-same search other F r s h k = says-same search other F r s (IsCheckedResult-says search F r h) (IsCheckedResult-says other F s k)

@@ -10,6 +10,7 @@ use Rattle.theory.specs.Dividing.{IsDivisible, IsLookedAt}
 use Rattle.theory.specs.Runs.{RunsBy, Runs, by_search, by_look}
 use Rattle.theory.specs.Trees.{Tree, satisfied, refutation, split, IsTree, false_half, true_half, cubes_at, IsFirstLeaf, here, on_left, on_right}
 use Rattle.theory.specs.Reading.{Limits, ReadsWithin, formula}
+use Rattle.theory.specs.Beginnings.{Beginning, begun, Begins}
 use Rattle.theory.specs.Written.{IsWrittenWithin}
 
 -- the second plan gives each cube the outcome that the first one does
@@ -51,31 +52,36 @@ pub Runs-searched : (F : Formula) (plan : Plan) (Q : List Literal) (o : Outcome)
 Runs-searched F plan Q o = (search-of F plan Q o, Runs-by_search F (undivided plan) Q o refl)
 
 -- so the texts are those of the same plan without a division
-pub IsWritten-undivided : (L : Limits) (bytes : List ℕ) (plan : Plan) (proof answer : List ℕ) → ((F : Formula) → ReadsWithin L bytes (formula F) → ¬ (IsDivisible F plan))
+pub IsWritten-undivided : (L : Limits) (bytes : List ℕ) (plan : Plan) (proof answer : List ℕ)
+    → ((F : Formula) (b : Beginning) → ReadsWithin L bytes (formula F) → Begins plan F b → ¬ (IsDivisible (begun F b) plan))
     → IsWrittenWithin L bytes plan proof answer → IsWrittenWithin L bytes (undivided plan) proof answer
 IsWritten-undivided L bytes plan proof answer whole w = record {
   value = w.value;
   reads = w.reads;
   texts = elim w.texts [
     | inl s ↦ inl (record {
+      beginning = s.beginning;
+      begins = s.begins;
       model = s.model;
       found = s.found;
-      is_result = IsFirstLeaf-agree w.value plan (undivided plan) [] s.model agree s.is_result;
+      is_result = IsFirstLeaf-agree (begun w.value s.beginning) plan (undivided plan) [] s.model (agree s.beginning s.begins) s.is_result;
       proof_is = s.proof_is;
       answer_is = s.answer_is;
     })
     | inr u ↦ inr (record {
       unsatisfiable = u.unsatisfiable;
+      beginning = u.beginning;
+      begins = u.begins;
       tree = u.tree;
-      is_tree = IsTree-agree w.value plan (undivided plan) [] u.tree agree u.is_tree;
+      is_tree = IsTree-agree (begun w.value u.beginning) plan (undivided plan) [] u.tree (agree u.beginning u.begins) u.is_tree;
       proof_is = u.proof_is;
       answer_is = u.answer_is;
     })
   ];
 }
   where
-    agree : Agree w.value plan (undivided plan)
-    agree Q o runs = Runs-undivided w.value plan Q o (whole w.value w.reads) runs
+    agree : (b : Beginning) → Begins plan w.value b → Agree (begun w.value b) plan (undivided plan)
+    agree b begins Q o runs = Runs-undivided (begun w.value b) plan Q o (whole w.value b w.reads begins) runs
 
 -- a tree has few cubes of a size
 pub cubes_at-few : (n : ℕ) (t : Tree) → cubes_at n t ≤ 2 ^ n

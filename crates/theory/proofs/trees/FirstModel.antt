@@ -8,14 +8,13 @@ use Rattle.theory.specs.Status.{is_false}
 use Rattle.theory.specs.Trails.{Trail, literals, current_level, least_free, variables, decide}
 use Rattle.theory.specs.Propagation.{Closed, quiet, conflict, Propagates, clause_at, least_false, by_number}
 use Rattle.theory.specs.Learning.{Line, learn}
-use Rattle.theory.specs.Search.{model, refuted, exhausted, Next, ends, goes_on, RunsFrom, first_clauses, searched, budget_of, values}
+use Rattle.theory.specs.Search.{model, refuted, exhausted, Next, ends, goes_on, RunsFrom, budget_of, values}
 use Rattle.theory.specs.Ordered.{OrderedState, after, on_quiet, RunsOrdered, begin, learnt_next, IsOrderedStep}
 use Rattle.theory.proofs.searching.RunLemmas.{RunsFrom-says}
 use Rattle.theory.proofs.literals.LiteralLemmas.{and-left, or-cases, same-eq, or-left, or-right}
 use Rattle.theory.proofs.searching.SearchSoundness.{StateOk, Why, TrailOk, NextSays, Says, Propagates-says, closed-ok, after-says, begin-ok, fresh-all, last-differs}
 use Rattle.theory.proofs.literals.ClauseLemmas.{clause_at-true}
 use Rattle.theory.proofs.searching.ModelLemmas.{value-values, quiet-true, length-values, none-passes}
-use Rattle.theory.proofs.searching.PureVariables.{IsOver-first_clauses}
 use Rattle.theory.proofs.trails.TrailLists.{literals-append}
 use Rattle.theory.proofs.literals.TrueClauses.{AreTrue-append, others_false-true}
 
@@ -284,19 +283,19 @@ ended-first V F N M len g h =
     agree u i j = d.agree (u - 1) (omega arith) ∙ at_value u (i, (let s = short in omega arith))
 
 -- A model satisfies the formula, and the clauses of the pure variables.
-pub model-satisfies : (F : Formula) (B : ℕ) (Q : List Literal) (M : Assignment) → IsFormula F → RunsOrdered F B Q (model M) → Satisfies (searched F) M
+pub model-satisfies : (F : Formula) (B : ℕ) (Q : List Literal) (M : Assignment) → IsFormula F → RunsOrdered F B Q (model M) → Satisfies F M
 model-satisfies F B Q M o r =
     let kept : IsKept F.vars (budget_of B Q) (λ s. Unit {0}) = record { closes = λ s a T h c. tt; goes = λ s t a h k e. tt } in
-    let g = run-ended F.vars (budget_of B Q) (first_clauses F) (λ s. Unit {0}) (begin F Q) M kept r tt ([], sym (append-nil (first_clauses F))) in
+    let g = run-ended F.vars (budget_of B Q) F.clauses (λ s. Unit {0}) (begin F Q) M kept r tt ([], sym (append-nil F.clauses)) in
     record {
       values = ap length g.is_values ∙ length-values F.vars g.state.trail;
-      clauses = ap (λ (x : Assignment). are_true (value x) (first_clauses F)) g.is_values
-          ∙ quiet-true F.vars g.state.trail (first_clauses F) g.no_free (IsOver-first_clauses F o) g.none_false;
+      clauses = ap (λ (x : Assignment). are_true (value x) F.clauses) g.is_values
+          ∙ quiet-true F.vars g.state.trail F.clauses g.no_free o g.none_false;
     }
 
 -- No assignment that satisfies the formula and the cube comes before the cube's model.
-pub model-first : (F : Formula) (B : ℕ) (Q : List Literal) (M N : Assignment) → IsCube Q → RunsOrdered F B Q (model M) → Satisfies (searched F) N → AreTrue (value N) Q → ¬ (IsTrue (comes_before N M))
+pub model-first : (F : Formula) (B : ℕ) (Q : List Literal) (M N : Assignment) → IsCube Q → RunsOrdered F B Q (model M) → Satisfies F N → AreTrue (value N) Q → ¬ (IsTrue (comes_before N M))
 model-first F B Q M N c r n q h =
-    let g = run-ended F.vars (budget_of B Q) (first_clauses F) (StateOk F.vars (value N)) (begin F Q) M (ok-kept F.vars (budget_of B Q) (value N)) r (begin-ok F.vars (value N) F Q n.clauses c q)
-    ([], sym (append-nil (first_clauses F))) in
-    ended-first F.vars (first_clauses F) N M n.values g h
+    let g = run-ended F.vars (budget_of B Q) F.clauses (StateOk F.vars (value N)) (begin F Q) M (ok-kept F.vars (budget_of B Q) (value N)) r (begin-ok F.vars (value N) F Q n.clauses c q)
+    ([], sym (append-nil F.clauses)) in
+    ended-first F.vars F.clauses N M n.values g h

@@ -3,7 +3,6 @@ use Rattle.std.proofs.Common.{◌≡◌, ℕ, zero, suc, Bool, true, false, not,
 use Rattle.std.proofs.lemmas.List.Elements.{All-append}
 use Rattle.theory.specs.Literals.{Literal, positive, negative, IsVariable}
 use Rattle.theory.specs.Truth.{Formula, Assignment, IsOver, AreTrue, are_true}
-use Rattle.theory.specs.Search.{first_clauses}
 use Rattle.theory.specs.Trees.{Tree, satisfied, refutation, split, false_half, true_half, first_model, or_else}
 use Rattle.theory.specs.Checked.{IsCheckedTree}
 use Rattle.theory.proofs.literals.TrueClauses.{AreTrue-append}
@@ -16,9 +15,9 @@ push-over V Q l o v = All-append (λ k. IsVariable V k.var) Q (l ∷ []) o only
     only zero e i = v
     only (suc k) e i = absurd (omega arith)
 
-pub checked-unsatisfiable : (m : ℕ → Bool) (F : Formula) (Q : List Literal) (t : Tree) → IsCheckedTree F Q t → first_model t ≡ None → are_true m (first_clauses F) ≡ true → AreTrue m Q → ⊥
+pub checked-unsatisfiable : (m : ℕ → Bool) (F : Formula) (Q : List Literal) (t : Tree) → IsCheckedTree F Q t → first_model t ≡ None → are_true m F.clauses ≡ true → AreTrue m Q → ⊥
 checked-unsatisfiable m F Q (satisfied M) h e a q = cc
-checked-unsatisfiable m F Q (refutation lines) h e a q = AreRefutation-refutes m F.vars (length (first_clauses F)) Q (first_clauses F) lines h a q
+checked-unsatisfiable m F Q (refutation lines) h e a q = AreRefutation-refutes m F.vars (length F.clauses) Q F.clauses lines h a q
 checked-unsatisfiable m F Q (split x l r) h e a q =
     go (m x) refl (checked-unsatisfiable m F (false_half Q x) l h.1 (parts (first_model l) (first_model r) e).0 a)
     (checked-unsatisfiable m F (true_half Q x) r h.2 (parts (first_model l) (first_model r) e).1 a)

@@ -4,6 +4,7 @@ use Rattle.cubes.specs.declared.hands.Worker.{Worker}
 use Rattle.cubes.specs.Solved.{results_by}
 use Rattle.theory.specs.Round.{HasWorked}
 use Rattle.theory.specs.Ledger.{halt}
+use Rattle.theory.specs.Beginnings.{begun_by}
 use Rattle.cubes.specs.Hands.{GoesHome}
 use Rattle.cubes.proofs.GoingOn.{GoesOn-itself, GoesOn-then, GoesOn-same, GoesOn-got, GoesOn-halted, GoesOn-open, GoesHome-at, GoesHome-halted, GoesHome-open, home-as}
 use Rattle.cubes.proofs.SameHands.{SameHand-itself, SameHand-then, worked-as}
@@ -14,16 +15,16 @@ use Rattle.cubes.proofs.hands.work_in.Goals as goal
 pub turns-init : goal.turns-init
 turns-init g c = record {
   same = SameHand-itself c.args.hand;
-  worker = (c.none.ensures c.args.formula.now c.args.plan c.requires.root, c.requires.vars);
-  underway = loop-begins c.args.formula.now c.args.plan c.args.hand.ledger (results_by g.L.KeepsLines.lines c.new.result.items) (ap (results_by g.L.KeepsLines.lines) c.new.ensures.items);
+  worker = (c.none.ensures (begun_by c.args.plan.search c.args.formula.now) c.args.plan c.requires.root, c.requires.vars);
+  underway = loop-begins (begun_by c.args.plan.search c.args.formula.now) c.args.plan c.args.hand.ledger (results_by g.L.KeepsLines.lines c.new.result.items) (ap (results_by g.L.KeepsLines.lines) c.new.ensures.items);
   onward = GoesOn-itself c.args.hand.ledger;
 }
 
 pub returns-then-is_err-clause-work : goal.returns-then-is_err-clause-work
 returns-then-is_err-clause-work g c =
     let got = (rw c.in-Some-next.is at c.next-in-turns.ensures.got).1 in
-    worked-as c.args.formula.now c.args.plan true c.home.result.short_of_memory c.args.hand.ledger c.halt.new.self c.home.result.hand (results_by g.L.KeepsLines.lines c.round.new.self.solved.items) (results_by g.L.KeepsLines.lines c.home.result.solved.items) c.home.ensures.hand (ap (results_by g.L.KeepsLines.lines) c.home.ensures.solved) c.home.ensures.short
-    (end-short c.args.formula.now c.args.plan c.args.hand.ledger c.turns.worker.hand.ledger c.halted-is_halted.new.self.ledger c.next-in-turns.new.hand.ledger
+    worked-as (begun_by c.args.plan.search c.args.formula.now) c.args.plan true c.home.result.short_of_memory c.args.hand.ledger c.halt.new.self c.home.result.hand (results_by g.L.KeepsLines.lines c.round.new.self.solved.items) (results_by g.L.KeepsLines.lines c.home.result.solved.items) c.home.ensures.hand (ap (results_by g.L.KeepsLines.lines) c.home.ensures.solved) c.home.ensures.short
+    (end-short (begun_by c.args.plan.search c.args.formula.now) c.args.plan c.args.hand.ledger c.turns.worker.hand.ledger c.halted-is_halted.new.self.ledger c.next-in-turns.new.hand.ledger
     c.round.new.self.hand.ledger c.halt.new.self.ledger c.halted-is_halted.result (is_ok c.round.result) c.in-Some-next.cube (results_by g.L.KeepsLines.lines c.turns.worker.solved.items) (results_by g.L.KeepsLines.lines c.round.new.self.solved.items)
     c.turns.invariant.underway (ap (λ (h : HandView). h.ledger) c.halted-is_halted.ensures.noted) got c.round.ensures.part (ap (λ (h : HandView). h.ledger) c.halt.ensures.noted))
 
@@ -34,7 +35,7 @@ turns-preserved-else-is_err g c =
     record {
       same = SameHand-then c.args.hand c.next-in-turns.new.hand c.round.new.self.hand (SameHand-then c.args.hand c.halted-is_halted.new.self c.next-in-turns.new.hand (SameHand-then c.args.hand c.turns.worker.hand c.halted-is_halted.new.self c.turns.invariant.same c.halted-is_halted.ensures.same) c.next-in-turns.ensures.same) c.round.ensures.same;
       worker = search rules;
-      underway = loop-round c.args.formula.now c.args.plan c.args.hand.ledger c.turns.worker.hand.ledger c.halted-is_halted.new.self.ledger c.next-in-turns.new.hand.ledger
+      underway = loop-round (begun_by c.args.plan.search c.args.formula.now) c.args.plan c.args.hand.ledger c.turns.worker.hand.ledger c.halted-is_halted.new.self.ledger c.next-in-turns.new.hand.ledger
           c.round.new.self.hand.ledger c.halted-is_halted.result (is_ok c.round.result) c.in-Some-next.cube (results_by g.L.KeepsLines.lines c.turns.worker.solved.items) (results_by g.L.KeepsLines.lines c.round.new.self.solved.items)
           c.turns.invariant.underway (ap (λ (h : HandView). h.ledger) c.halted-is_halted.ensures.noted) got c.round.ensures.part ok;
       onward =
@@ -48,7 +49,7 @@ pub turns-preserved : goal.turns-preserved
 turns-preserved g c = record {
   same = SameHand-then c.args.hand c.next-in-turns.new.hand c.still_open-open.new.self (SameHand-then c.args.hand c.halted-is_halted.new.self c.next-in-turns.new.hand (SameHand-then c.args.hand c.turns.worker.hand c.halted-is_halted.new.self c.turns.invariant.same c.halted-is_halted.ensures.same) c.next-in-turns.ensures.same) c.still_open-open.ensures.same;
   worker = (c.turns.invariant.worker.0, c.still_open-open.ensures.same.2 ∙ (c.next-in-turns.ensures.same.2 ∙ (c.halted-is_halted.ensures.same.2 ∙ c.turns.invariant.worker.1)));
-  underway = loop-idle c.args.formula.now c.args.plan c.args.hand.ledger c.turns.worker.hand.ledger c.halted-is_halted.new.self.ledger c.next-in-turns.new.hand.ledger
+  underway = loop-idle (begun_by c.args.plan.search c.args.formula.now) c.args.plan c.args.hand.ledger c.turns.worker.hand.ledger c.halted-is_halted.new.self.ledger c.next-in-turns.new.hand.ledger
       c.still_open-open.new.self.ledger c.halted-is_halted.result c.still_open-open.result (results_by g.L.KeepsLines.lines c.turns.worker.solved.items)
       c.turns.invariant.underway (ap (λ (h : HandView). h.ledger) c.halted-is_halted.ensures.noted) (ap (λ (h : HandView). h.ledger) (rw c.in-None-next.is at c.next-in-turns.ensures.got)) (ap (λ (h : HandView). h.ledger) c.still_open-open.ensures.noted);
   onward =
@@ -60,15 +61,15 @@ turns-preserved g c = record {
 
 pub returns-clause-work : goal.returns-clause-work
 returns-clause-work g c =
-    worked-as c.args.formula.now c.args.plan false c.home-2.result.short_of_memory c.args.hand.ledger c.match-next.worker.hand c.home-2.result.hand (results_by g.L.KeepsLines.lines c.match-next.worker.solved.items) (results_by g.L.KeepsLines.lines c.home-2.result.solved.items) c.home-2.ensures.hand (ap (results_by g.L.KeepsLines.lines) c.home-2.ensures.solved)
+    worked-as (begun_by c.args.plan.search c.args.formula.now) c.args.plan false c.home-2.result.short_of_memory c.args.hand.ledger c.match-next.worker.hand c.home-2.result.hand (results_by g.L.KeepsLines.lines c.match-next.worker.solved.items) (results_by g.L.KeepsLines.lines c.home-2.result.solved.items) c.home-2.ensures.hand (ap (results_by g.L.KeepsLines.lines) c.home-2.ensures.solved)
     c.home-2.ensures.short
     (elim c.match-next.branch [
       | in-None w ↦ absurd (search rules)
-      | in-Some+then-is_halted w ↦ subst (λ (v : Worker _). HasWorked c.args.formula.now c.args.plan false c.args.hand.ledger v.hand.ledger (results_by g.L.KeepsLines.lines v.solved.items)) (sym w.worker-is)
-          (end-halted c.args.formula.now c.args.plan c.args.hand.ledger c.turns.worker.hand.ledger w.halted-is_halted.new.self.ledger w.halted-is_halted.result (results_by g.L.KeepsLines.lines c.turns.worker.solved.items)
+      | in-Some+then-is_halted w ↦ subst (λ (v : Worker _). HasWorked (begun_by c.args.plan.search c.args.formula.now) c.args.plan false c.args.hand.ledger v.hand.ledger (results_by g.L.KeepsLines.lines v.solved.items)) (sym w.worker-is)
+          (end-halted (begun_by c.args.plan.search c.args.formula.now) c.args.plan c.args.hand.ledger c.turns.worker.hand.ledger w.halted-is_halted.new.self.ledger w.halted-is_halted.result (results_by g.L.KeepsLines.lines c.turns.worker.solved.items)
           c.turns.invariant.underway (ap (λ (h : HandView). h.ledger) w.halted-is_halted.ensures.noted) w.if-is_halted.true)
-      | in-Some+else-is_halted+in-None-next+then-open-eq0 w ↦ subst (λ (v : Worker _). HasWorked c.args.formula.now c.args.plan false c.args.hand.ledger v.hand.ledger (results_by g.L.KeepsLines.lines v.solved.items)) (sym w.worker-is)
-          (end-open c.args.formula.now c.args.plan c.args.hand.ledger c.turns.worker.hand.ledger w.halted-is_halted.new.self.ledger w.next-in-turns.new.hand.ledger
+      | in-Some+else-is_halted+in-None-next+then-open-eq0 w ↦ subst (λ (v : Worker _). HasWorked (begun_by c.args.plan.search c.args.formula.now) c.args.plan false c.args.hand.ledger v.hand.ledger (results_by g.L.KeepsLines.lines v.solved.items)) (sym w.worker-is)
+          (end-open (begun_by c.args.plan.search c.args.formula.now) c.args.plan c.args.hand.ledger c.turns.worker.hand.ledger w.halted-is_halted.new.self.ledger w.next-in-turns.new.hand.ledger
           w.still_open-open.new.self.ledger w.halted-is_halted.result w.still_open-open.result (results_by g.L.KeepsLines.lines c.turns.worker.solved.items)
           c.turns.invariant.underway (ap (λ (h : HandView). h.ledger) w.halted-is_halted.ensures.noted) (ap (λ (h : HandView). h.ledger) (rw w.in-None-next.is at w.next-in-turns.ensures.got)) (ap (λ (h : HandView). h.ledger) w.still_open-open.ensures.noted)
           w.if-open-eq0.true)

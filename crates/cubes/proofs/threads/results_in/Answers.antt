@@ -1,3 +1,4 @@
+use Rattle.theory.specs.Beginnings.{begun_by}
 use Rattle.cubes.proofs.FreshHands.{new-vars, home-in_order, home-all, home-works}
 use Rattle.cubes.proofs.OkLemmas.{if_ok}
 use Rattle.cubes.proofs.threads.results_in.Goals as goal
@@ -7,13 +8,13 @@ all_work-requires-clause-vars g c = λ κs bounds. new-vars c.args.formula.now.v
 
 pub close_all-requires-clause-pool : goal.close_all-requires-clause-pool
 close_all-requires-clause-pool g c =
-    home-all g.L.KeepsLines.lines c.args.formula.now c.args.plan c.args.pool c.args.hands.items c.in_ok-works.works.items c.requires.hands c.in_ok-works.ensures.len c.in_ok-works.ensures.each
+    home-all g.L.KeepsLines.lines (begun_by c.args.plan.search c.args.formula.now) c.args.plan c.args.pool c.args.hands.items c.in_ok-works.works.items c.requires.hands c.in_ok-works.ensures.len c.in_ok-works.ensures.each
 
 pub close_all-requires-clause-in_order : goal.close_all-requires-clause-in_order
 close_all-requires-clause-in_order g c =
-    home-in_order g.L.KeepsLines.lines c.args.formula.now c.args.plan c.args.pool c.args.hands.items c.in_ok-works.works.items c.requires.hands c.in_ok-works.ensures.len c.in_ok-works.ensures.each
+    home-in_order g.L.KeepsLines.lines (begun_by c.args.plan.search c.args.formula.now) c.args.plan c.args.pool c.args.hands.items c.in_ok-works.works.items c.requires.hands c.in_ok-works.ensures.len c.in_ok-works.ensures.each
 
 pub returns : goal.returns
 returns g c =
-    let worked = home-works g.L.KeepsLines.lines c.args.formula.now c.args.plan c.args.pool c.args.hands.items c.in_ok-works.works.items c.requires.hands c.in_ok-works.ensures.len c.in_ok-works.ensures.each in
+    let worked = home-works g.L.KeepsLines.lines (begun_by c.args.plan.search c.args.formula.now) c.args.plan c.args.pool c.args.hands.items c.in_ok-works.works.items c.requires.hands c.in_ok-works.ensures.len c.in_ok-works.ensures.each in
     if_ok c.close_all.result _ _ (λ r harvested. (harvested c.args.plan worked).whole) c.close_all.ensures.harvested

@@ -1,8 +1,9 @@
-use Rattle.cubes.proofs.GatheringLemmas.{IsCheckedResultBy-IsResultBy}
+use Rattle.std.proofs.Common.{ap, sym}
+use Rattle.theory.specs.Plans.{default_constants, Plan}
+use Rattle.cdcl.specs.declared.plan.Search.TheVariants.{Ordered}
+use Rattle.join.proofs.JoinLemmas.{AreChecked-result}
 use Rattle.join_tests.proofs.joined.proof_of.Goals as goal
 
 pub of-requires : goal.of-requires
-of-requires c = (
-  c.ordered.result.search,
-  IsCheckedResultBy-IsResultBy (λ lines. lines) c.args.formula.now c.ordered.result c.in_ok-tree.tree c.vars-vars.ensures.within.formula c.in_ok-tree.ensures.result,
-)
+of-requires c =
+    AreChecked-result c.args.formula.now c.ordered.result Ordered default_constants c.in_ok-tree.tree (ap (λ (p : Plan). p.search) (sym c.ordered.ensures)) c.vars-vars.ensures.within.formula c.in_ok-tree.ensures.result

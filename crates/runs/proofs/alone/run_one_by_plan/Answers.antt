@@ -3,7 +3,8 @@ use Rattle.theory.specs.Texts.{proof_text}
 use Rattle.join.specs.Walking.{lines_left}
 use Rattle.theory.specs.Reading.{standard}
 use Rattle.strategies.specs.Strategies.{by_plan}
-use Rattle.strategies.proofs.DecidedTrees.{lone-decided}
+use Rattle.cdcl.specs.Plans.{constants_from}
+use Rattle.strategies.proofs.DecidedTrees.{search-is, lone-decided}
 use Rattle.runs.proofs.RightAnswers.{says-right}
 use Rattle.runs.proofs.RunLemmas.{IsRunOf-made, RunSays-unread, RunSays-stopped}
 use Rattle.runs.proofs.alone.run_one_by_plan.Goals as goal
@@ -36,4 +37,5 @@ returns-in_err-write_proof-clause-says g c =
 
 pub output_of-requires-clause-result : goal.output_of-requires-clause-result
 output_of-requires-clause-result g c =
-    rw c.of-strategy.ensures (lone-decided c.in-Ok.formula (by_plan c.args.plan) c.in-Ok-solve_one_by_plan.tree refl refl c.in-Ok-solve_one_by_plan.ensures.result)
+    rw (c.of-strategy.ensures, search-is c.search-search.result (constants_from c.args.plan.search) c.args.plan.search c.search-search.ensures)
+    (lone-decided c.in-Ok.formula (by_plan c.args.plan) c.in-Ok-solve_one_by_plan.tree refl refl c.in-Ok-solve_one_by_plan.ensures.result)

@@ -1,4 +1,8 @@
-use Rattle.std.proofs.Common.{rules, refl}
+use Rattle.std.proofs.Common.{rules, refl, length, ap, subst, ◌∙◌}
+use Rattle.cdcl.specs.Plans.{constants_from, first_units}
+use Rattle.join.specs.Joining.{before_nodes}
+use Rattle.runs.specs.Stored.{IsStreamFor}
+use Rattle.strategies.proofs.DecidedTrees.{search-is}
 use Rattle.strategies.specs.Strategies.{by_plan}
 use Rattle.strategies.specs.Choosing.{alone}
 use Rattle.cnf.specs.Limits.{limits_of}
@@ -69,3 +73,13 @@ returns-clause-says g c = λ are.
       proof_written = written.3;
       answer_written = rw c.deref.ensures.value at c.in_ok-write_text.ensures;
     }
+
+pub write_if_refuted-requires-clause-stream : goal.write_if_refuted-requires-clause-stream
+write_if_refuted-requires-clause-stream g c =
+    let named = search-is c.search.result (constants_from c.args.plan.search) c.args.plan.search c.search.ensures in
+    subst (λ s. IsStreamFor s c.in-Ok.formula c.in-Ok-begin.stream) named c.in-Ok-begin.ensures.stream
+
+pub write_if_refuted-requires-clause-joined : goal.write_if_refuted-requires-clause-joined
+write_if_refuted-requires-clause-joined g c =
+    let named = search-is c.search.result (constants_from c.args.plan.search) c.args.plan.search c.search.ensures in
+    c.in-Ok-begin.ensures.joined ∙ ap (λ s. before_nodes (length c.in-Ok.formula.clauses) (first_units s c.in-Ok.formula)) named

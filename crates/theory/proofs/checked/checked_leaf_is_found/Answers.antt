@@ -8,5 +8,5 @@ pub returns : goal.returns
 returns c = record {
   below = λ F Q x u M N s one below m p n q. least-agree F Q x (value M) (value N) s m.clauses p n.clauses q u one below;
   cube = leaf-found;
-  formula = λ search F M formed h. IsCheckedResult-says search F (model_of M) formed h;
+  formula = λ search F M h. IsCheckedResult-says search F (model_of M) h;
 }

@@ -1,11 +1,11 @@
-use Rattle.theory.specs.Proofs.{proof}
+use Rattle.theory.specs.Beginnings.{proof}
 use Rattle.theory.proofs.checker.Soundness.{accepted-unsatisfiable}
-use Rattle.theory.proofs.checker.AcceptedProofs.{checks-checked, checked-ends_empty}
+use Rattle.theory.proofs.trees.BegunSearches.{checks-begun, begun-ends_empty}
 use Rattle.theory.proofs.checked.checked_proof_is_accepted.Goals as goal
 
 pub returns : goal.returns
 returns c = record {
-  accepted = checks-checked;
-  empty = checked-ends_empty;
-  unsatisfiable = λ F t h none. accepted-unsatisfiable F (proof F t) (checks-checked F t h none);
+  accepted = checks-begun;
+  empty = begun-ends_empty;
+  unsatisfiable = λ search F b t h k none. accepted-unsatisfiable F (proof F b t) (checks-begun search F b t h k none);
 }

@@ -3,7 +3,7 @@ use Rattle.theory.specs.Trails.{literals}
 use Rattle.cdcl.specs.Saving.{AreWaiting, AreKept}
 use Rattle.cdcl.proofs.decisions.Decisions.best_free.Given as goal
 
--- each free variable waits still
+-- each held variable that is free waits still
 abbrev pub invariant-waiting : goal.invariant-waiting
 invariant-waiting l = record {
   waiting : AreWaiting l.kernel.vars (literals l.kernel.trail) l.self;

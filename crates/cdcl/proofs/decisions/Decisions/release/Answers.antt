@@ -19,7 +19,7 @@ loop-count-init c =
       most = let kept = c.requires.kept in omega arith;
       waiting = rw whole c.requires.waiting;
       saved = rw whole (λ v variable free. sym (value-saved_free c.args.kernel.now.vars T c.args.self.now.saved v variable free));
-      same = record { scores = refl; constants = refl };
+      same = record { scores = refl; constants = refl; held = refl };
     }
 
 variable : (c : After-index-trail-count) → IsVariable c.args.kernel.now.vars c.index-trail-count.result.lit.var
@@ -51,11 +51,12 @@ loop-count-preserved c =
       within = omega arith;
       most = omega arith;
       waiting = AreWaiting-free V T n c.loop-count.self c.free.new.self e inside is variable before c.in_ok-free.ensures.scores
-          (ap length c.in_ok-free.ensures.saved ∙ length-set c.loop-count.self.saved (e.lit.var - 1) e.lit.positive);
+          (ap length c.in_ok-free.ensures.saved ∙ length-set c.loop-count.self.saved (e.lit.var - 1) e.lit.positive) c.in_ok-free.ensures.held;
       saved = AgreeOutside-free V c.args.kernel.now.clauses T n c.loop-count.self.saved c.free.new.self.saved c.args.self.now.saved e c.trail-trail.ensures.lawful inside is variable before.saved c.in_ok-free.ensures.saved
           (λ v k free. c.loop-count.invariant.saved v k (subst (λ i. has_var (literals (take i T)) v ≡ false) (sym up) free));
       same = record {
         scores = ap (λ (r : Ranking). r.scores) c.in_ok-free.ensures.scores ∙ c.loop-count.invariant.same.scores;
         constants = ap (λ (r : Ranking). r.constants) c.in_ok-free.ensures.scores ∙ c.loop-count.invariant.same.constants;
+        held = c.in_ok-free.ensures.held ∙ c.loop-count.invariant.same.held;
       };
     }

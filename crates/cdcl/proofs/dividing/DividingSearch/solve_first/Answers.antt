@@ -1,8 +1,12 @@
 use Rattle.std.proofs.Common.{◌≡◌, ◌≢◌, List, subst, arith}
 use Rattle.theory.specs.Literals.{Literal}
+use Rattle.theory.specs.Truth.{Formula}
 use Rattle.theory.specs.Runs.{Runs}
+use Rattle.kernel.specs.declared.order.Order.TheVariants.{ByPlace}
 use Rattle.cdcl.specs.Outcome.{outcome_of}
+use Rattle.cdcl.specs.Focusing.{state_of, RunsTo}
 use Rattle.cdcl.specs.declared.dividing.First.TheVariants.{Ended, FewDecisions, ManyDecisions}
+use Rattle.cdcl.proofs.SearchedFormulas.{formula-ready}
 use Rattle.cdcl.proofs.FocusedSteps.{if_ok-map}
 use Rattle.cdcl.proofs.DividingLemmas.{first-whole}
 use Rattle.cdcl.proofs.SearcherLemmas.{first-runs, first-goes-on, kept-then, dividing-kept}
@@ -37,7 +41,8 @@ returns-in-ManyDecisions-clause-runs g c =
     let says = rw c.in-ManyDecisions.is at (c.in_ok-outcome.ensures.says F d.ready) in
     let other : ManyDecisions ≢ FewDecisions = λ e. cc in
     first-goes-on F plan s.search.constants s.asked c.args.budget c.run.new.self.decided t.search (outcome_of o) d.search d.asked is d.within.0
-    (first-whole s.search.constants F plan s.asked ManyDecisions t.search d.search d.asked says other) says.0 (λ saved h. rw (same, e.ready.vars) at (runs saved h))) c.run.ensures.runs
+    (first-whole s.search.constants F plan s.asked ManyDecisions t.search d.search d.asked says other) says.0
+    (λ saved h. subst (λ (G : Formula). RunsTo s.search.constants G c.args.budget (state_of t.search saved) (outcome_of o) c.run.new.self.decided) (formula-ready ByPlace F t.search.kernel e.ready) (rw same at (runs saved h)))) c.run.ensures.runs
 
 pub returns-in-ManyDecisions-clause-kept : goal.returns-in-ManyDecisions-clause-kept
 returns-in-ManyDecisions-clause-kept g c = dividing-kept c.run.result c.args.self.now c.ask.new.self c.run.new.self c.in_ok-outcome.ensures.kept (search Rattle.std.proofs.Common.rules)

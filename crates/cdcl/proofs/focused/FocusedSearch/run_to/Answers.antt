@@ -1,6 +1,7 @@
 use Rattle.std.proofs.Common.{◌∙◌, Some, None, refl}
 use Rattle.theory.specs.Truth.{Assignment}
 use Rattle.cdcl.specs.Focusing.{HasSaved, IsFocusedSearchStep, GoesOnward}
+use Rattle.cdcl.proofs.SearchedFormulas.{formula-stays}
 use Rattle.cdcl.proofs.Steps.{GoesOn-trans}
 use Rattle.cdcl.proofs.FocusedSteps.{GoesTo-first, GoesTo-step, GoesTo-stops, stops-spent, GoesOnward-less}
 use Rattle.cdcl.proofs.focused.FocusedSearch.run_to.Given.{Over}
@@ -22,7 +23,8 @@ stopped g c = rw c.in-Some.is at c.in_ok-stop.ensures.step
 
 pub returns-in-Some-clause-stops : goal.returns-in-Some-clause-stops
 returns-in-Some-clause-stops g c =
-    GoesTo-stops c.args.last c.args.self.now c.steps.self c.step.new.self c.in-Some.stop c.steps.invariant.constants c.steps.invariant.goes_on.0 c.in_ok-stop.ensures.kept.goes_on.0 c.steps.invariant.leads (stopped g c)
+    GoesTo-stops c.args.last c.args.self.now c.steps.self c.step.new.self c.in-Some.stop c.steps.invariant.constants (formula-stays c.args.self.now.kernel c.steps.self.kernel c.steps.invariant.goes_on)
+    (formula-stays c.steps.self.kernel c.step.new.self.kernel c.in_ok-stop.ensures.kept.goes_on) c.steps.invariant.leads (stopped g c)
 
 pub returns-in-Some-clause-spent : goal.returns-in-Some-clause-spent
 returns-in-Some-clause-spent g c is = stops-spent c.args.last c.steps.self c.step.new.self c.steps.self.decisions.saved c.in-Some.stop (stopped g c c.steps.self.decisions.saved (λ v k f. refl)) is
@@ -49,5 +51,5 @@ steps-preserved g c = record {
   counted = (onward g c).counted;
   goes_on = GoesOn-trans c.args.self.now.kernel c.steps.self.kernel c.step.new.self.kernel c.steps.invariant.goes_on c.in_ok-stop.ensures.kept.goes_on;
   constants = c.in_ok-stop.ensures.kept.constants ∙ c.steps.invariant.constants;
-  leads = GoesTo-step c.args.last c.args.self.now c.steps.self c.step.new.self c.steps.invariant.constants c.steps.invariant.goes_on.0 c.steps.invariant.leads (went_on g c);
+  leads = GoesTo-step c.args.last c.args.self.now c.steps.self c.step.new.self c.steps.invariant.constants (formula-stays c.args.self.now.kernel c.steps.self.kernel c.steps.invariant.goes_on) c.steps.invariant.leads (went_on g c);
 }

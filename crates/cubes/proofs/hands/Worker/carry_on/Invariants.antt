@@ -1,4 +1,5 @@
 use Rattle.std.proofs.Common.{◌≡◌, ◌+◌}
+use Rattle.theory.specs.Beginnings.{begun_by}
 use Rattle.cubes.specs.Solved.{results_by}
 use Rattle.cubes.specs.Hands.{IsWorker}
 use Rattle.cubes.proofs.CarryingSteps.{IsCarrying}
@@ -9,8 +10,8 @@ use Rattle.cubes.proofs.hands.Worker.carry_on.Given as goal
 abbrev pub invariant-cubes : goal.invariant-cubes
 invariant-cubes g l = record {
   hand : l.self.hand ≡ l.initial.self.hand;
-  worker : IsWorker l.formula l.plan l.self;
-  carrying : IsCarrying l.formula l.plan l.fn.half l.at (results_by g.L.KeepsLines.lines l.initial.self.solved.items) (results_by g.L.KeepsLines.lines l.self.solved.items);
+  worker : IsWorker (begun_by l.plan.search l.formula) l.plan l.self;
+  carrying : IsCarrying (begun_by l.plan.search l.formula) l.plan l.fn.half l.at (results_by g.L.KeepsLines.lines l.initial.self.solved.items) (results_by g.L.KeepsLines.lines l.self.solved.items);
 }
 
 abbrev pub decreases-cubes : goal.decreases-cubes

@@ -3,6 +3,7 @@ use Rattle.std.proofs.lemmas.List.{map-append}
 use Rattle.theory.specs.Ledger.{joined, calling, offer, look, less}
 use Rattle.theory.specs.Places.{place_of}
 use Rattle.theory.specs.Work.{IsNotBelow}
+use Rattle.theory.specs.Beginnings.{begun_by}
 use Rattle.pool.specs.Hands.{HandView}
 use Rattle.cubes.specs.declared.solved.What.TheVariants.{Skipped}
 use Rattle.cubes.specs.declared.hands.Worker.{Worker}
@@ -16,41 +17,41 @@ use Rattle.cubes.proofs.hands.Worker.round.Goals as goal
 
 pub returns-in_err-push-clause-part : goal.returns-in_err-push-clause-part
 returns-in_err-push-clause-part g c =
-    look-part c.args.formula.now c.args.plan c.args.cube c.args.self.now.hand.ledger c.look-seen.new.self.ledger (results_by g.L.KeepsLines.lines c.args.self.now.solved.items) (results_by g.L.KeepsLines.lines c.push.new.self.items) c.look-seen.result
+    look-part (begun_by c.args.plan.search c.args.formula.now) c.args.plan c.args.cube c.args.self.now.hand.ledger c.look-seen.new.self.ledger (results_by g.L.KeepsLines.lines c.args.self.now.solved.items) (results_by g.L.KeepsLines.lines c.push.new.self.items) c.look-seen.result
     (is_ok c.from_residual.result) (search rules) (ap (λ (h : HandView). h.ledger) c.look-seen.ensures.noted) (ap (results_by g.L.KeepsLines.lines) (search rules))
 
 pub returns-then-least-place-clause-part : goal.returns-then-least-place-clause-part
 returns-then-least-place-clause-part g c =
     let items : c.push.new.self.items ≡ c.args.self.now.solved.items ++ record { cube = c.args.cube; what = Skipped c.in-Some.least } ∷ [] = search rules in
-    skip-part c.args.formula.now c.args.plan c.args.cube c.args.self.now.hand.ledger c.look-seen.new.self.ledger c.less.new.self.ledger (results_by g.L.KeepsLines.lines c.args.self.now.solved.items)
+    skip-part (begun_by c.args.plan.search c.args.formula.now) c.args.plan c.args.cube c.args.self.now.hand.ledger c.look-seen.new.self.ledger c.less.new.self.ledger (results_by g.L.KeepsLines.lines c.args.self.now.solved.items)
     (results_by g.L.KeepsLines.lines c.push.new.self.items) c.look-seen.result c.in-Some.least (ap (λ (h : HandView). h.ledger) c.look-seen.ensures.noted) c.in-Some.is (let p = c.place_of-place.ensures.place in let l = c.if-least-place.true in omega arith)
     (ap (λ (h : HandView). h.ledger) c.less.ensures.noted) (ap (results_by g.L.KeepsLines.lines) items ∙ map-append (solved_by g.L.KeepsLines.lines) c.args.self.now.solved.items _)
 
 pub returns-in_err-ending-clause-part : goal.returns-in_err-ending-clause-part
 returns-in_err-ending-clause-part g c =
     rw c.settle-ending.ensures.hand
-    (look-part c.args.formula.now c.args.plan c.args.cube c.args.self.now.hand.ledger c.look-seen.new.self.ledger (results_by g.L.KeepsLines.lines c.args.self.now.solved.items) (results_by g.L.KeepsLines.lines c.settle-ending.new.self.solved.items) c.look-seen.result
+    (look-part (begun_by c.args.plan.search c.args.formula.now) c.args.plan c.args.cube c.args.self.now.hand.ledger c.look-seen.new.self.ledger (results_by g.L.KeepsLines.lines c.args.self.now.solved.items) (results_by g.L.KeepsLines.lines c.settle-ending.new.self.solved.items) c.look-seen.result
     (is_ok c.from_residual-in_err-ending.result) (search rules) (ap (λ (h : HandView). h.ledger) c.look-seen.ensures.noted) (ap (results_by g.L.KeepsLines.lines) c.in_err-ending.ensures.none))
 
 pub returns-in_err-hand_on_halves-in-Exhausted-clause-part : goal.returns-in_err-hand_on_halves-in-Exhausted-clause-part
 returns-in_err-hand_on_halves-in-Exhausted-clause-part g c =
-    ends-short c.args.formula.now c.args.plan c.args.cube c.args.self.now.hand.ledger c.look-seen.new.self.ledger (results_by g.L.KeepsLines.lines c.args.self.now.solved.items) (results_by g.L.KeepsLines.lines c.settle-ending.new.self.solved.items) c.look-seen.result
+    ends-short (begun_by c.args.plan.search c.args.formula.now) c.args.plan c.args.cube c.args.self.now.hand.ledger c.look-seen.new.self.ledger (results_by g.L.KeepsLines.lines c.args.self.now.solved.items) (results_by g.L.KeepsLines.lines c.settle-ending.new.self.solved.items) c.look-seen.result
     (ap (λ (h : HandView). h.ledger) c.look-seen.ensures.noted) c.in-Exhausted.var (rw c.in-Exhausted.is at c.in_ok-ending.ensures.settles) (is_ok c.hand_on_halves.result) c.hand_on_halves.new.self.hand.ledger
     (results_by g.L.KeepsLines.lines c.hand_on_halves.new.self.solved.items) (rw c.settle-ending.ensures.hand at c.hand_on_halves.ensures.part) (is_ok c.from_residual-in_err-hand_on_halves-in-Exhausted.result) (search rules)
 
 pub returns-clause-part : goal.returns-clause-part
 returns-clause-part g c = elim c.match-branch-3.branch [
-  | in-Model w ↦ subst (λ (v : Worker _). AddsRound c.args.formula.now c.args.plan true c.args.cube c.args.self.now.hand.ledger c.less-2.new.self.ledger (results_by g.L.KeepsLines.lines c.args.self.now.solved.items) (results_by g.L.KeepsLines.lines v.solved.items)) (sym w.self-is)
-      (ends-model c.args.formula.now c.args.plan c.args.cube c.args.self.now.hand.ledger c.look-seen.new.self.ledger (results_by g.L.KeepsLines.lines c.args.self.now.solved.items) (results_by g.L.KeepsLines.lines c.settle-ending.new.self.solved.items) c.look-seen.result
+  | in-Model w ↦ subst (λ (v : Worker _). AddsRound (begun_by c.args.plan.search c.args.formula.now) c.args.plan true c.args.cube c.args.self.now.hand.ledger c.less-2.new.self.ledger (results_by g.L.KeepsLines.lines c.args.self.now.solved.items) (results_by g.L.KeepsLines.lines v.solved.items)) (sym w.self-is)
+      (ends-model (begun_by c.args.plan.search c.args.formula.now) c.args.plan c.args.cube c.args.self.now.hand.ledger c.look-seen.new.self.ledger (results_by g.L.KeepsLines.lines c.args.self.now.solved.items) (results_by g.L.KeepsLines.lines c.settle-ending.new.self.solved.items) c.look-seen.result
       (ap (λ (h : HandView). h.ledger) c.look-seen.ensures.noted) w.offer.new.self.ledger c.less-2.new.self.ledger c.place_of-place.result below (rw w.in-Model.is at c.in_ok-ending.ensures.settles) c.place_of-place.ensures.place
       (ap (λ (h : HandView). h.ledger) w.offer.ensures.noted ∙ ap (λ (h : HandView). joined h.ledger (calling (offer c.place_of-place.result))) c.settle-ending.ensures.hand)
       (ap (λ (h : HandView). h.ledger) c.less-2.ensures.noted ∙ ap (λ (v : Worker _). joined v.hand.ledger (calling less)) w.self-is))
-  | in-Refuted w ↦ subst (λ (v : Worker _). AddsRound c.args.formula.now c.args.plan true c.args.cube c.args.self.now.hand.ledger c.less-2.new.self.ledger (results_by g.L.KeepsLines.lines c.args.self.now.solved.items) (results_by g.L.KeepsLines.lines v.solved.items)) (sym w.self-is)
-      (ends-refuted c.args.formula.now c.args.plan c.args.cube c.args.self.now.hand.ledger c.look-seen.new.self.ledger (results_by g.L.KeepsLines.lines c.args.self.now.solved.items) (results_by g.L.KeepsLines.lines c.settle-ending.new.self.solved.items) c.look-seen.result
+  | in-Refuted w ↦ subst (λ (v : Worker _). AddsRound (begun_by c.args.plan.search c.args.formula.now) c.args.plan true c.args.cube c.args.self.now.hand.ledger c.less-2.new.self.ledger (results_by g.L.KeepsLines.lines c.args.self.now.solved.items) (results_by g.L.KeepsLines.lines v.solved.items)) (sym w.self-is)
+      (ends-refuted (begun_by c.args.plan.search c.args.formula.now) c.args.plan c.args.cube c.args.self.now.hand.ledger c.look-seen.new.self.ledger (results_by g.L.KeepsLines.lines c.args.self.now.solved.items) (results_by g.L.KeepsLines.lines c.settle-ending.new.self.solved.items) c.look-seen.result
       (ap (λ (h : HandView). h.ledger) c.look-seen.ensures.noted) c.less-2.new.self.ledger below (rw w.in-Refuted.is at c.in_ok-ending.ensures.settles)
       (ap (λ (h : HandView). h.ledger) c.less-2.ensures.noted ∙ ap (λ (v : Worker _). joined v.hand.ledger (calling less)) w.self-is ∙ ap (λ (h : HandView). joined h.ledger (calling less)) c.settle-ending.ensures.hand))
-  | in-Exhausted+in_ok-hand_on_halves-in-Exhausted w ↦ subst (λ (v : Worker _). AddsRound c.args.formula.now c.args.plan true c.args.cube c.args.self.now.hand.ledger c.less-2.new.self.ledger (results_by g.L.KeepsLines.lines c.args.self.now.solved.items) (results_by g.L.KeepsLines.lines v.solved.items)) (sym w.self-is)
-      (ends-exhausted c.args.formula.now c.args.plan c.args.cube c.args.self.now.hand.ledger c.look-seen.new.self.ledger (results_by g.L.KeepsLines.lines c.args.self.now.solved.items) (results_by g.L.KeepsLines.lines c.settle-ending.new.self.solved.items) c.look-seen.result
+  | in-Exhausted+in_ok-hand_on_halves-in-Exhausted w ↦ subst (λ (v : Worker _). AddsRound (begun_by c.args.plan.search c.args.formula.now) c.args.plan true c.args.cube c.args.self.now.hand.ledger c.less-2.new.self.ledger (results_by g.L.KeepsLines.lines c.args.self.now.solved.items) (results_by g.L.KeepsLines.lines v.solved.items)) (sym w.self-is)
+      (ends-exhausted (begun_by c.args.plan.search c.args.formula.now) c.args.plan c.args.cube c.args.self.now.hand.ledger c.look-seen.new.self.ledger (results_by g.L.KeepsLines.lines c.args.self.now.solved.items) (results_by g.L.KeepsLines.lines c.settle-ending.new.self.solved.items) c.look-seen.result
       (ap (λ (h : HandView). h.ledger) c.look-seen.ensures.noted) w.in-Exhausted.var (rw w.in-Exhausted.is at c.in_ok-ending.ensures.settles) (is_ok w.hand_on_halves.result) w.hand_on_halves.new.self.hand.ledger
       (results_by g.L.KeepsLines.lines w.hand_on_halves.new.self.solved.items) (rw c.settle-ending.ensures.hand at w.hand_on_halves.ensures.part) c.less-2.new.self.ledger below (search rules)
       (ap (λ (h : HandView). h.ledger) c.less-2.ensures.noted ∙ ap (λ (v : Worker _). joined v.hand.ledger (calling less)) w.self-is))

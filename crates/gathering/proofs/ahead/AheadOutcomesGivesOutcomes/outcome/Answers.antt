@@ -1,3 +1,4 @@
+use Rattle.theory.specs.Beginnings.{begun_by}
 use Rattle.std.proofs.lemmas.Result.{on_ok_weaker}
 use Rattle.gathering.proofs.ahead.AheadOutcomesGivesOutcomes.outcome.Goals as goal
 
@@ -6,7 +7,7 @@ come_to-requires-sync-R g c κs within = c.requires.gives.0
 
 pub returns-clause-still : goal.returns-clause-still
 returns-clause-still g c =
-    let F = c.args.formula.now in
+    let F = begun_by c.args.plan.search c.args.formula.now in
     let search = c.args.plan.search in
     let before = c.in_ok-come_to.ensures.gives in
     on_ok_weaker c.outcome.result
@@ -17,5 +18,5 @@ pub returns-clause-still_own : goal.returns-clause-still_own
 returns-clause-still_own g c = λ own.
     let before = c.in_ok-come_to.ensures.own own in
     on_ok_weaker c.outcome.result
-    (λ stored. record { stored = stored; ahead = (c.take_of.ensures.own c.args.formula.now c.args.plan before.ahead).1 })
+    (λ stored. record { stored = stored; ahead = (c.take_of.ensures.own (begun_by c.args.plan.search c.args.formula.now) c.args.plan before.ahead).1 })
     (c.outcome.ensures.still_own before.stored)

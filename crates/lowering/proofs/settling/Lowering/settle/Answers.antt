@@ -6,6 +6,7 @@ pub returns-then-settles : goal.returns-then-settles
 returns-then-settles g c = record {
   first = IsFirstBelow-there c.args.formula.now c.args.var c.args.self.now.model.items c.args.self.now.prefix c.requires.lowering.first c.requires.lowering.prefix (sym c.settles.ensures ∙ c.if-settles.true);
   prefix = IsPrefix-there c.args.formula.now c.args.var c.args.self.now.model.items c.args.self.now.prefix c.requires.lowering.prefix (sym c.settles.ensures ∙ c.if-settles.true);
+  units = c.requires.lowering.units;
   solver = c.requires.lowering.solver;
 }
 

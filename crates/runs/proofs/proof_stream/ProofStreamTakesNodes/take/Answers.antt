@@ -6,7 +6,7 @@ use Rattle.runs.proofs.proof_stream.ProofStreamTakesNodes.take.Goals as goal
 
 pub take-requires-clause-node : goal.take-requires-clause-node
 take-requires-clause-node g c =
-    checked-node c.args._formula.now c.requires.node.0 c.requires.node.1 c.drain.new.self.joiner.clauses (node_of c.args.node) c.requires.is_for.within (c.in_ok-drain.ensures.drained.clauses ∙ c.requires.is_for.clauses) c.requires.node.2
+    checked-node c.args._formula.now c.requires.node.0 c.requires.node.1 c.drain.new.self.joiner.clauses (node_of c.args.node) c.requires.node.2.within (c.in_ok-drain.ensures.drained.clauses ∙ c.requires.node.2.clauses) c.requires.node.3
 
 pub returns-clause-takes : goal.returns-clause-takes
 returns-clause-takes g c = λ first begun nodes streamed.

@@ -1,0 +1,56 @@
+-- How a search of a formula begins: with which clauses, behind which lines of the proof, and how a
+-- model of these clauses becomes one of the formula. Source: this project's own.
+use Rattle.std.specs.Prelude.{◌≡◌, List, [], ◌++◌}
+use Rattle.theory.specs.Truth.{Formula, Assignment}
+use Rattle.theory.specs.Plans.{Search, ordered, focused, Plan}
+use Rattle.theory.specs.Pure.{searched}
+use Rattle.theory.specs.Trees.{Tree, Result, model_of, tree_of}
+use Rattle.theory.specs.Steps.{Step}
+use Rattle.theory.specs.Proofs.{prelude, lines_of}
+
+pub data Beginning : Type 0 where
+  -- with the formula's clauses
+  as_it_is : Beginning
+  -- the unit clauses of the pure variables are added
+  by_pure_units : Beginning
+
+-- the formula of the clauses that the search begins with
+abbrev pub begun : Formula → Beginning → Formula
+begun F as_it_is = F
+begun F by_pure_units = searched F
+
+-- the lines before all others
+abbrev pub lines_before : Formula → Beginning → List Step
+lines_before F as_it_is = []
+lines_before F by_pure_units = prelude F
+
+-- of a model of those clauses the formula's
+abbrev pub model_back : Formula → Beginning → Assignment → Assignment
+model_back F as_it_is M = M
+model_back F by_pure_units M = M
+
+abbrev pub result_back : Formula → Beginning → Result → Result
+result_back F b (model_of M) = model_of (model_back F b M)
+result_back F b (tree_of t) = tree_of t
+
+-- whether the search may begin so
+abbrev pub IsBeginning : Search → Formula → Beginning → Type 0
+IsBeginning search F as_it_is = Unit {0}
+IsBeginning search F by_pure_units = Unit {0}
+
+-- the proof of a tree without a satisfied leaf
+abbrev pub proof : Formula → Beginning → Tree → List Step
+proof F b t = lines_before F b ++ lines_of (begun F b).clauses t
+
+-- how each search begins: the ordered one alone adds the clauses of pure variables
+abbrev pub beginning_by : Search → Beginning
+beginning_by ordered = by_pure_units
+beginning_by (focused c) = as_it_is
+
+-- the formula that it begins with, of the same variables
+abbrev pub begun_by : Search → Formula → Formula
+begun_by search F = record F { clauses = (begun F (beginning_by search)).clauses }
+
+-- and so how a plan's search begins
+abbrev pub Begins : Plan → Formula → Beginning → Type 0
+Begins plan F b = b ≡ beginning_by plan.search

@@ -1,0 +1,22 @@
+//! Laws of how searches begin, whatever comes behind.
+ghost use Rattle.theory.specs.Truth.{Formula, IsFormula};
+ghost use Rattle.theory.specs.Plans.{Search, Plan};
+ghost use Rattle.theory.specs.Trees.{Result, IsResult};
+ghost use Rattle.theory.specs.Results.{ResultSays};
+ghost use Rattle.theory.specs.Checked.{IsCheckedResult};
+ghost use Rattle.theory.specs.Beginnings.{Beginning, begun, result_back, IsBeginning, Begins};
+
+/// However a search begins, its result says of the formula what it says of the clauses that it
+/// begins with, be it checked or true: a model of them becomes one of the formula, by the ordered
+/// search the first one; and a tree without a model shows that the formula has none. And a plan's
+/// search begins as it may.
+pub fn begun_results_say()
+    ensures back { (search : Search) (F : Formula) (b : Beginning) (r : Result) → IsFormula F → IsBeginning search F b →
+        ResultSays search (begun F b) r → ResultSays search F (result_back F b r) }
+    ensures checked { (search : Search) (F : Formula) (b : Beginning) (r : Result) → IsFormula F → IsBeginning search F b →
+        IsCheckedResult search (begun F b) r → ResultSays search F (result_back F b r) }
+    ensures result { (F : Formula) (b : Beginning) (plan : Plan) (r : Result) → IsFormula F → IsBeginning plan.search F b →
+        IsResult (begun F b) plan r → ResultSays plan.search F (result_back F b r) }
+    ensures formula { (search : Search) (F : Formula) (b : Beginning) → IsFormula F → IsBeginning search F b → IsFormula (begun F b) }
+    ensures begins { (F : Formula) (plan : Plan) (b : Beginning) → Begins plan F b → IsBeginning plan.search F b }
+{}
