@@ -147,4 +147,4 @@ lines-accepted F s search t lines checked are = ap (checks F) are ∙ checks-beg
 -- and their numbers are within the limits
 pub lines-within : (F : Formula) (s : declared.Search) (search : Search) (t : Tree) (lines : List Step) → IsWithinLimits large F → IsCheckedResult search (begun F (beginning_of s)) (tree_of t) → lines ≡ proof F (beginning_of s) t
     → length (proof_text lines) ≤ max_proof_bytes large → All IsStep lines
-lines-within F s search t lines within checked are = rw are (proof-within F (beginning_of s) t within checked.0 checked.1)
+lines-within F s search t lines within checked are = rw are (proof-within F s t within checked.0 checked.1)

@@ -10,7 +10,7 @@ use Rattle.theory.specs.Truth.{Formula, IsOver}
 use Rattle.theory.specs.Reading.{large, IsWithinLimits, max_vars}
 use Rattle.theory.specs.Learning.{Line}
 use Rattle.theory.specs.Pure.{searched}
-use Rattle.theory.specs.Beginnings.{Beginning, as_it_is, by_pure_units, begun, proof}
+use Rattle.theory.specs.Beginnings.{begun, proof}
 use Rattle.theory.specs.Deletions.{is_among}
 use Rattle.theory.specs.Steps.{Step, delete}
 use Rattle.std.specs.List.{join_with_byte}
@@ -28,6 +28,9 @@ use Rattle.join.specs.Joining.{split_line, learnt_line}
 use Rattle.join.specs.Numbered.{AreUpTo, AreLines}
 use Rattle.join.proofs.NumberLemmas.{AreOwn-renumbered, AreUpTo-renumbered, IsAddition-line}
 use Rattle.join.proofs.TreeLemmas.{refutation-lines}
+use Rattle.cdcl.specs.Plans.{beginning_of}
+use Rattle.cdcl.specs.declared.plan.Search as declared
+use Rattle.cdcl.specs.declared.plan.Search.TheVariants.{Ordered, Focused}
 
 -- each line of a text has a byte
 pub few-steps : (steps : List Step) → length steps ≤ length (proof_text steps)
@@ -146,9 +149,10 @@ lines-within F G before t within same few_clauses are h none short =
     let vars = within.vars in
     All-append IsStep before (tree_steps N (N + 1) [] t) are (tree-steps G (N + 1) [] t (omega arith) (λ l a. absurd (cc)) h none (omega arith) (omega arith)).0
 
-pub proof-within : (F : Formula) (b : Beginning) (t : Tree) → IsWithinLimits large F → IsCheckedTree (begun F b) [] t → first_model t ≡ None → length (proof_text (proof F b t)) ≤ max_proof_bytes large → All IsStep (proof F b t)
-proof-within F as_it_is t within h none short = lines-within F F [] t within refl (omega arith) (All-nil IsStep) h none short
-proof-within F by_pure_units t within h none short =
+pub proof-within : (F : Formula) (s : declared.Search) (t : Tree) → IsWithinLimits large F → IsCheckedTree (begun F (beginning_of s)) [] t → first_model t ≡ None → length (proof_text (proof F (beginning_of s) t)) ≤ max_proof_bytes large
+    → All IsStep (proof F (beginning_of s) t)
+proof-within F Focused t within h none short = lines-within F F [] t within refl (omega arith) (All-nil IsStep) h none short
+proof-within F Ordered t within h none short =
     let first = length-first_clauses F in
     let units = length-pure_literals F in
     lines-within F (searched F) (prelude F) t within refl (omega arith) (IsStep-prelude F within) h none short

@@ -1,6 +1,7 @@
 -- What the checker accepts, and that it is right.
 pub mod PreludeSteps
 pub mod Hints
+pub mod LeftHints
 pub mod AcceptedSteps
 pub mod AcceptedPrelude
 pub mod FewerClauses
@@ -11,3 +12,4 @@ pub mod AcceptedProofs
 pub mod CheckerRows
 pub mod DeletionRows
 pub mod Soundness
+pub mod OtherClauses

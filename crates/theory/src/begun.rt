@@ -1,10 +1,12 @@
 //! Laws of how searches begin, whatever comes behind.
+ghost use Rattle.std.specs.Prelude.{◌≡◌, [], true, None};
 ghost use Rattle.theory.specs.Truth.{Formula, IsFormula};
-ghost use Rattle.theory.specs.Plans.{Search, Plan};
-ghost use Rattle.theory.specs.Trees.{Result, IsResult};
+ghost use Rattle.theory.specs.Plans.{Search, ordered, Plan};
+ghost use Rattle.theory.specs.Trees.{Tree, first_model, Result, IsResult};
 ghost use Rattle.theory.specs.Results.{ResultSays};
-ghost use Rattle.theory.specs.Checked.{IsCheckedResult};
-ghost use Rattle.theory.specs.Beginnings.{Beginning, begun, result_back, IsBeginning, Begins};
+ghost use Rattle.theory.specs.Checked.{IsCheckedTree, IsCheckedResult};
+ghost use Rattle.theory.specs.Beginnings.{Beginning, by_pure_units, begun, result_back, IsBeginning, proof, Begins};
+ghost use Rattle.theory.specs.Rup.{is_rup};
 
 /// However a search begins, its result says of the formula what it says of the clauses that it
 /// begins with, be it checked or true: a model of them becomes one of the formula, by the ordered
@@ -19,4 +21,12 @@ pub fn begun_results_say()
         IsResult (begun F b) plan r → ResultSays plan.search F (result_back F b r) }
     ensures formula { (search : Search) (F : Formula) (b : Beginning) → IsFormula F → IsBeginning search F b → IsFormula (begun F b) }
     ensures begins { (F : Formula) (plan : Plan) (b : Beginning) → Begins plan F b → IsBeginning plan.search F b }
+{}
+
+/// Each line of a proof passes by its hints alone, where the search didn't begin with the unit
+/// clauses of pure variables, which only the ordered search's does.
+pub fn lines_pass_by_hints()
+    ensures rup { (search : Search) (F : Formula) (b : Beginning) (t : Tree) → IsBeginning search F b → ¬ (b ≡ by_pure_units) →
+        IsCheckedTree (begun F b) [] t → first_model t ≡ None → is_rup F (proof F b t) ≡ true }
+    ensures others { (plan : Plan) (F : Formula) (b : Beginning) → ¬ (plan.search ≡ ordered) → Begins plan F b → ¬ (b ≡ by_pure_units) }
 {}

@@ -8,7 +8,7 @@ use Rattle.theory.specs.Proofs.{deletion}
 use Rattle.theory.proofs.literals.LiteralLemmas.{or-right}
 use Rattle.theory.proofs.literals.LiteralSets.{false_unless}
 use Rattle.theory.proofs.literals.OverVariables.{AreOver}
-use Rattle.theory.proofs.checker.AcceptedSteps.{Leads, Leads-one, Leads-then, Leads-add, addition_fault-none}
+use Rattle.theory.proofs.checker.AcceptedSteps.{Follows, Follows-one, Follows-then, Follows-add, addition_fault-none}
 use Rattle.theory.proofs.checker.FewerClauses.{clause_of-without_numbers, deleted-there}
 
 -- the last of the steps adds the empty clause
@@ -19,7 +19,7 @@ EndsEmpty steps = (before : List Step) × (line : Addition) × (steps ≡ before
 -- last addition is the negations of the cube
 pub record CubeLeads (V n count : ℕ) (Q : List Literal) (s : Checker) (steps : List Step) : Type 0 where
   pub state : Checker
-  pub leads : Leads V s steps state
+  pub leads : Follows V s steps state
   pub last : state.last + 1 ≡ n + count
   pub final : clause_of state.clauses state.last ≡ Some (negations Q)
   pub kept : (m : ℕ) → m < n → clause_of state.clauses m ≡ clause_of s.clauses m
@@ -38,14 +38,14 @@ other-added t m Q hints k h =
     ap (λ b. if b then Some (negations Q) else clause_of t.clauses k) (false_unless (nat_eq m k) (λ t. let q : m ≡ k = eqb-true m k t in omega arith))
 
 -- steps, and then that addition
-CubeLeads-line : (V n m count : ℕ) (Q : List Literal) (s t : Checker) (steps : List Step) (hints : List ℕ) → Leads V s steps t → n ≤ m → m + 1 ≡ n + count → t.last < m
+CubeLeads-line : (V n m count : ℕ) (Q : List Literal) (s t : Checker) (steps : List Step) (hints : List ℕ) → Follows V s steps t → n ≤ m → m + 1 ≡ n + count → t.last < m
     → ((k : ℕ) → k < n → clause_of t.clauses k ≡ clause_of s.clauses k) → AreOver V (negations Q) → has_both_signs (negations Q) ≡ false
     → take_hints t.clauses (negations (negations Q)) hints ≡ conflicts → CubeLeads V n count Q s (steps ++ add (ending m Q hints) ∷ [])
 unfolding ending
 CubeLeads-line V n m count Q s t steps hints leads low e rises kept over sign h = record {
   state = added t (ending m Q hints);
-  leads = Leads-then V s t (added t (ending m Q hints)) steps (add (ending m Q hints) ∷ []) leads
-      (Leads-add V t (ending m Q hints) (addition_fault-none V t.last t.clauses m (negations Q) hints rises over sign h));
+  leads = Follows-then V s t (added t (ending m Q hints)) steps (add (ending m Q hints) ∷ []) leads
+      (Follows-add V t (ending m Q hints) (addition_fault-none V t.last t.clauses m (negations Q) hints rises over sign h) h);
   last = e;
   final = ap (λ b. if b then Some (negations Q) else clause_of t.clauses m) (eq-eqb m m refl);
   kept = λ k l. other-added t m Q hints k (omega arith) ∙ kept k l;
@@ -63,7 +63,7 @@ pub record AreOwn (n m : ℕ) (here : Numbered) (ns : List ℕ) : Type 0 where
   pub there : (k : ℕ) → is_among k ns ≡ true → is_some (clause_of here k) ≡ true
 
 -- steps, then that addition, then the deletion
-pub CubeLeads-end : (V n m count : ℕ) (Q : List Literal) (s t : Checker) (steps : List Step) (hints ns : List ℕ) → Leads V s steps t → n ≤ m → m + 1 ≡ n + count → t.last < m
+pub CubeLeads-end : (V n m count : ℕ) (Q : List Literal) (s t : Checker) (steps : List Step) (hints ns : List ℕ) → Follows V s steps t → n ≤ m → m + 1 ≡ n + count → t.last < m
     → ((k : ℕ) → k < n → clause_of t.clauses k ≡ clause_of s.clauses k) → AreOver V (negations Q) → has_both_signs (negations Q) ≡ false
     → take_hints t.clauses (negations (negations Q)) hints ≡ conflicts → AreOwn n m t.clauses ns → CubeLeads V n count Q s (steps ++ add (ending m Q hints) ∷ deletion Q m ns)
 unfolding ending
@@ -71,7 +71,7 @@ CubeLeads-end V n m count [] s t steps hints ns leads low e rises kept over sign
 CubeLeads-end V n m count (l ∷ Q) s t steps hints [] leads low e rises kept over sign h own = CubeLeads-line V n m count (l ∷ Q) s t steps hints leads low e rises kept over sign h
 CubeLeads-end V n m count (l ∷ Q) s t steps hints (i ∷ ns) leads low e rises kept over sign h own = record {
   state = after;
-  leads = Leads-then V s t after steps (add line ∷ delete gone ∷ []) leads (Leads-then V t between after (add line ∷ []) (delete gone ∷ []) to_line to_end);
+  leads = Follows-then V s t after steps (add line ∷ delete gone ∷ []) leads (Follows-then V t between after (add line ∷ []) (delete gone ∷ []) to_line to_end);
   last = e;
   final = clause_of-without_numbers between.clauses (i ∷ ns) m (false_unless (is_among m (i ∷ ns)) (λ a. let l = own.before m a in omega arith)) ∙ at_line;
   kept = λ k h. clause_of-without_numbers between.clauses (i ∷ ns) k (false_unless (is_among k (i ∷ ns)) (λ a. let f = own.first k a in omega arith))
@@ -93,14 +93,14 @@ CubeLeads-end V n m count (l ∷ Q) s t steps hints (i ∷ ns) leads low e rises
     after : Checker
     after = record between { clauses = without_numbers between.clauses (i ∷ ns) }
 
-    to_line : Leads V t (add line ∷ []) between
-    to_line = Leads-add V t line (addition_fault-none V t.last t.clauses m (negations (l ∷ Q)) hints rises over sign h)
+    to_line : Follows V t (add line ∷ []) between
+    to_line = Follows-add V t line (addition_fault-none V t.last t.clauses m (negations (l ∷ Q)) hints rises over sign h) h
 
     still_there : (k : ℕ) → is_among k (i ∷ ns) ≡ true → is_some (clause_of between.clauses k) ≡ true
     still_there k a = let b = own.before k a in ap is_some (other-added t m (l ∷ Q) hints k (omega arith)) ∙ own.there k a
 
-    to_end : Leads V between (delete gone ∷ []) after
-    to_end = Leads-one V between after (delete gone) (ap (deletion_test between) (deleted-there between.clauses (i ∷ ns) own.distinct still_there))
+    to_end : Follows V between (delete gone ∷ []) after
+    to_end = Follows-one V between after (delete gone) (ap (deletion_test between) (deleted-there between.clauses (i ∷ ns) own.distinct still_there)) refl
 
     at_line : clause_of between.clauses m ≡ Some (negations (l ∷ Q))
     at_line = ap (λ b. if b then Some (negations (l ∷ Q)) else clause_of t.clauses m) (eq-eqb m m refl)

@@ -8,7 +8,9 @@ use Rattle.theory.specs.Learning.{Line}
 use Rattle.theory.specs.Trees.{Tree, satisfied, refutation, split, false_half, true_half, first_model, or_else}
 use Rattle.theory.specs.Steps.{Step, add}
 use Rattle.theory.specs.Checking.{Numbered, clause_of, hint, take_hints, conflicts, Checker, accepted, no_empty_clause, check_from, checks}
+use Rattle.theory.specs.Rup.{are_by_hints, is_rup}
 use Rattle.theory.specs.Replaying.{IsReplayed, AreReplayed, IsForgetting, AreForgetting, AreRefutation}
+use Rattle.theory.specs.Forgetting.{forgotten}
 use Rattle.theory.specs.Checked.{IsCheckedTree}
 use Rattle.theory.specs.Proofs.{additions, renumbered, forget_steps, leaf_steps, forgotten_by, undeleted, tree_steps, lines_of, numbers_from, deletion, refuted_steps}
 use Rattle.theory.proofs.literals.LiteralLemmas.{and-left, and-right, not_true, or-cases}
@@ -19,9 +21,22 @@ use Rattle.theory.proofs.checker.Hints.{hint-false, hint-unit, take_hints-false,
 use Rattle.theory.proofs.literals.OverVariables.{AreOver, AreOver-negations, AreOver-from_IsOver}
 use Rattle.theory.proofs.trees.TreeSoundness.{push-over}
 use Rattle.theory.proofs.checker.AcceptedPrelude.{AreInput, start}
-use Rattle.theory.proofs.checker.AcceptedSteps.{Leads, Leads-then, renumbered-high, AreMoved, Passes-moved, LinesLead, LinesLead-from_AreReplayed}
+use Rattle.theory.proofs.checker.AcceptedSteps.{Leads, Leads-then, ByHints, Follows-then, renumbered-high, AreMoved, Passes-moved, LinesLead, LinesLead-from_AreReplayed}
 use Rattle.theory.proofs.checker.DeletedNumbers.{numbers_from-within, are_different-numbers_from, is_among-filter, are_different-filter, is_among-map}
 use Rattle.theory.proofs.checker.AcceptedCubes.{CubeLeads, EndsEmpty, ending, AreOwn, CubeLeads-end}
+
+-- the clauses stand in the checker under their own numbers, but forgotten ones needn't
+abbrev pub AreLeftIn : List Clause → Numbered → Type 0
+AreLeftIn K here = (n : ℕ) → 1 ≤ n → n ≤ length K → (clause_of here n ≡ Some (clause_at K n)) ⊎ (clause_at K n ≡ forgotten)
+
+pub AreLeftIn-all : (K : List Clause) (here : Numbered) → AreInput K here → AreLeftIn K here
+AreLeftIn-all K here h n one end = inl (h n one end)
+
+AreLeftIn-kept : (K : List Clause) (before behind : Numbered) → ((n : ℕ) → 1 ≤ n → n ≤ length K → clause_of behind n ≡ clause_of before n) → AreLeftIn K before → AreLeftIn K behind
+AreLeftIn-kept K before behind kept h n one end = elim (h n one end) [
+  | inl there ↦ inl (kept n one end ∙ there)
+  | inr lost ↦ inr lost
+]
 
 -- The line of a split cube is accepted, given the last lines of its halves.
 pub take_hints-split : (there : Numbered) (Q : List Literal) (x left right : ℕ) → has_var Q x ≡ false → clause_of there left ≡ Some (negations (false_half Q x))
@@ -116,14 +131,17 @@ forgotten_by-append : (xs : List Line) (y : Line) → forgotten_by (xs ++ y ∷ 
 forgotten_by-append [] y = append-nil y.forgets
 forgotten_by-append (x ∷ xs) y = ap (λ ns. x.forgets ++ ns) (forgotten_by-append xs y) ∙ sym (append_assoc x.forgets (forgotten_by xs) y.forgets)
 
-AreMoved-input : (n : ℕ) (Q : List Literal) (K : List Clause) (here : Numbered) → AreInput K here → AreMoved (length K) (renumbered (length K) n) [] Q K here
+AreMoved-input : (n : ℕ) (Q : List Literal) (K : List Clause) (here : Numbered) → AreLeftIn K here → AreMoved (length K) (renumbered (length K) n) [] Q K here
 AreMoved-input n Q K here h m one end not_gone =
     let low : nat_le m (length K) ≡ true = le-leb m (length K) end in
     let left : clause_of here (renumbered (length K) n m) ≡ clause_of here m = ap (λ b. clause_of here (if b then m else n + (m - length K - 1))) low in
-    left ∙ (h m one end ∙ sym (ap (λ b. Some (if b then clause_at K m else clause_at K m ++ negations Q)) low))
+    elim (h m one end) [
+      | inl there ↦ inl (left ∙ (there ∙ sym (ap (λ b. Some (if b then clause_at K m else clause_at K m ++ negations Q)) low)))
+      | inr lost ↦ inr (end, lost)
+    ]
 
 -- The lines of a refuted cube are accepted, and so is the deletion behind them.
-pub CubeLeads-leaf : (V n : ℕ) (Q : List Literal) (K : List Clause) (s : Checker) (lines : List Line) → length K < n → s.last < n → AreInput K s.clauses → are_distinct Q ≡ true → AreOver V Q
+pub CubeLeads-leaf : (V n : ℕ) (Q : List Literal) (K : List Clause) (s : Checker) (lines : List Line) → length K < n → s.last < n → AreLeftIn K s.clauses → are_distinct Q ≡ true → AreOver V Q
     → AreRefutation V (length K) Q K lines → CubeLeads V n (length lines) Q s (refuted_steps (length K) n Q lines)
 unfolding ending
 CubeLeads-leaf V n Q K s lines low rises input distinct over r =
@@ -149,7 +167,7 @@ CubeLeads-leaf V n Q K s lines low rises input distinct over r =
 
     conflict_last : take_hints first.state.clauses (negations (negations Q)) hints ≡ conflicts
     conflict_last = subst (λ c. take_hints first.state.clauses (negations (c ++ negations Q)) hints ≡ conflicts) r.empty
-        (Passes-moved N (renumbered N n) gone Q (K ++ map (λ (x : Line). x.clause) r.before) first.state.clauses r.last first.moved forgets.1.clear parts.1.passes)
+        (Passes-moved V N (renumbered N n) gone Q (K ++ map (λ (x : Line). x.clause) r.before) first.state.clauses r.last first.moved forgets.1.clear parts.1)
 
     count : length (r.before ++ r.last ∷ []) ≡ length r.before + 1
     count = length-append r.before (r.last ∷ [])
@@ -178,7 +196,10 @@ CubeLeads-leaf V n Q K s lines low rises input distinct over r =
             let same : renumbered N n place ≡ k = number ∙ omega arith in
             let not_gone : is_among place gone ≡ false = false_unless (is_among place gone) (λ t.
             true_false (is_among k (map (renumbered N n) gone)) (subst (λ i. is_among i (map (renumbered N n) gone) ≡ true) same (is_among-map (renumbered N n) place gone t)) (not_true (is_among k (map (renumbered N n) gone)) left)) in
-            ap (λ i. is_some (clause_of first.state.clauses i)) (sym same) ∙ ap is_some (first.moved place (omega arith) (omega arith) not_gone)
+            elim (first.moved place (omega arith) (omega arith) not_gone) [
+              | inl at ↦ ap (λ i. is_some (clause_of first.state.clauses i)) (sym same) ∙ ap is_some at
+              | inr lost ↦ absurd (let low_number = lost.0 in omega arith)
+            ]
 
     parted : refuted_steps N n Q (r.before ++ r.last ∷ []) ≡ leaf_steps N n n Q r.before ++ add (ending (n + length r.before) Q hints) ∷ deletion Q (n + length r.before) learnt
     parted =
@@ -215,7 +236,7 @@ pub CubeLeads-split : (V N n : ℕ) (Q : List Literal) (x : ℕ) (l r : Tree) (s
 unfolding ending
 CubeLeads-split V N n Q x l r s distinct over free left right =
     CubeLeads-end V n last (additions l + additions r + 1) Q s right.state (tree_steps N n (false_half Q x) l ++ tree_steps N middle (true_half Q x) r) ((middle - 1) ∷ (last - 1) ∷ []) ((middle - 1) ∷ (last - 1) ∷ [])
-    (Leads-then V s left.state right.state (tree_steps N n (false_half Q x) l) (tree_steps N middle (true_half Q x) r) left.leads right.leads)
+    (Follows-then V s left.state right.state (tree_steps N n (false_half Q x) l) (tree_steps N middle (true_half Q x) r) left.leads right.leads)
     (omega arith) (omega arith) (let e = right.last in omega arith)
     (λ k h. right.kept k (omega arith) ∙ left.kept k h)
     (AreOver-negations V Q over) (has_both_signs-negations Q distinct)
@@ -263,7 +284,7 @@ or_else-none None p h = (refl, h)
 
 -- The lines of a checked tree without a satisfied leaf are accepted.
 pub CubeLeads-tree : (F : Formula) (n : ℕ) (Q : List Literal) (t : Tree) (s : Checker) → are_distinct Q ≡ true → IsOver F.vars Q → IsCheckedTree F Q t → first_model t ≡ None
-    → length F.clauses < n → s.last < n → AreInput F.clauses s.clauses → CubeLeads F.vars n (additions t) Q s (tree_steps (length F.clauses) n Q t)
+    → length F.clauses < n → s.last < n → AreLeftIn F.clauses s.clauses → CubeLeads F.vars n (additions t) Q s (tree_steps (length F.clauses) n Q t)
 CubeLeads-tree F n Q (satisfied M) s distinct over h none low rises input = absurd (cc)
 CubeLeads-tree F n Q (refutation lines) s distinct over h none low rises input =
     CubeLeads-leaf F.vars n Q F.clauses s lines low rises input distinct (AreOver-from_IsOver F.vars Q over) h
@@ -273,7 +294,7 @@ CubeLeads-tree F n Q (split x l r) s distinct over h none low rises input =
     let left = CubeLeads-tree F n (false_half Q x) l s (are_distinct-push Q (negative x) distinct fit.1) (push-over F.vars Q (negative x) over fit.0) h.1 both.0 low rises input in
     let e = left.last in
     let right = CubeLeads-tree F (n + additions l) (true_half Q x) r left.state (are_distinct-push Q (positive x) distinct fit.1) (push-over F.vars Q (positive x) over fit.0) h.2 both.1
-    (omega arith) (omega arith) (λ m one end. left.kept m (omega arith) ∙ input m one end) in
+    (omega arith) (omega arith) (AreLeftIn-kept F.clauses s.clauses left.state.clauses (λ m one end. left.kept m (omega arith)) input) in
     CubeLeads-split F.vars (length F.clauses) n Q x l r s distinct (AreOver-from_IsOver F.vars Q over) fit.1 left right
 
 -- what stands before the lines of a tree: steps that leave the clauses that its search begins with
@@ -281,7 +302,11 @@ pub record AreBefore (F : Formula) (K : List Clause) (before : List Step) : Type
   pub state : Checker
   pub leads : Leads F.vars (start F) before state
   pub last : state.last ≡ length K
-  pub input : AreInput K state.clauses
+  pub input : AreLeftIn K state.clauses
+
+-- what comes behind them is checked from there
+pub AreBefore-checks : (F : Formula) (K : List Clause) (before rest : List Step) → (begun : AreBefore F K before) → checks F (before ++ rest) ≡ check_from F.vars (1 + length before) begun.state rest
+AreBefore-checks F K before rest begun = begun.leads 1 rest
 
 -- The checker accepts these steps and then the lines of a checked tree without a satisfied leaf.
 tree-leads : (F : Formula) (K : List Clause) (before : List Step) (t : Tree) → (begun : AreBefore F K before) → IsCheckedTree (record F { clauses = K }) [] t → first_model t ≡ None
@@ -294,7 +319,7 @@ pub checks-checked : (F : Formula) (K : List Clause) (before : List Step) (t : T
     → checks F (before ++ lines_of K t) ≡ accepted
 checks-checked F K before t begun h none =
     let tree = tree-leads F K before t begun h none in
-    let whole : Leads F.vars (start F) (before ++ lines_of K t) tree.state = Leads-then F.vars (start F) begun.state tree.state before (lines_of K t) begun.leads tree.leads in
+    let whole : Leads F.vars (start F) (before ++ lines_of K t) tree.state = Leads-then F.vars (start F) begun.state tree.state before (lines_of K t) begun.leads tree.leads.0 in
     ap (check_from F.vars 1 (start F)) (sym (append-nil (before ++ lines_of K t))) ∙ (whole 1 [] ∙ ap (λ b. if b then accepted else no_empty_clause) (tree.empty refl))
 
 -- Its last line is the empty clause.
@@ -303,3 +328,10 @@ pub checked-ends_empty : (F : Formula) (K : List Clause) (before : List Step) (t
 checked-ends_empty F K before t begun h none =
     let e = (tree-leads F K before t begun h none).ends refl in
     (before ++ e.0, e.1, ap (λ steps. before ++ steps) e.2 ∙ sym (append_assoc before e.0 (add e.1 ∷ [])), e.3)
+
+-- Where the steps before pass by their hints alone, so do all.
+pub checked-by_hints : (F : Formula) (K : List Clause) (before : List Step) (t : Tree) → (begun : AreBefore F K before) → ByHints F.vars (start F) before begun.state → IsCheckedTree (record F { clauses = K }) [] t
+    → first_model t ≡ None → is_rup F (before ++ lines_of K t) ≡ true
+checked-by_hints F K before t begun by_hints h none =
+    let tree = tree-leads F K before t begun h none in
+    by_hints (lines_of K t) ∙ (ap (are_by_hints F.vars begun.state) (sym (append-nil (lines_of K t))) ∙ tree.leads.1 [])

@@ -1,21 +1,23 @@
 -- Steps that the checker accepts one after the other.
-use Rattle.std.proofs.Common.{◌≡◌, ℕ, ◌+◌, ◌-◌, ◌<◌, ◌≤◌, Bool, true, false, not, List, [], ◌∷◌, ◌++◌, map, length, refl, ap, sym, ◌∙◌, nat_eq, nat_le, eqb-true, eq-eqb, le-leb, leb-true, leb-false, ◌||◌, inl, inr, subst, Option, Some, None, is_some, get_or, append_assoc, append-nil, length-append, arith, if◌then◌else◌}
+use Rattle.std.proofs.Common.{◌≡◌, ℕ, ◌+◌, ◌-◌, ◌<◌, ◌≤◌, Bool, true, false, not, ◌&&◌, List, [], ◌∷◌, ◌++◌, map, length, refl, ap, sym, ◌∙◌, nat_eq, nat_le, eqb-true, eq-eqb, le-leb, leb-true, leb-false, ◌||◌, ◌⊎◌, inl, inr, subst, Option, Some, None, is_some, get_or, append_assoc, append-nil, length-append, arith, if◌then◌else◌}
 use Rattle.std.specs.List.{list_any}
 use Rattle.std.proofs.lemmas.List.{get_or_at}
 use Rattle.std.proofs.lemmas.Option.{unwrap_or-slice_get}
 use Rattle.theory.specs.Literals.{Literal, Clause, negations, has_both_signs}
 use Rattle.theory.specs.Propagation.{clause_at}
 use Rattle.theory.specs.Learning.{Line}
+use Rattle.theory.specs.Forgetting.{forgotten}
 use Rattle.theory.specs.Steps.{Addition, Step, add, delete}
 use Rattle.theory.specs.Checking.{id_not_rising, literal_out_of_range, both_signs, Numbered, clause_of, take_hints, conflicts, hints_fault, addition_fault, addition_test, deletion_test, Checker, added, Tested, leaves, faulty, test, Checked, refused, check_from}
-use Rattle.theory.specs.Replaying.{carrying_from, Passes, IsReplayed, AreReplayed, AreForgetting}
+use Rattle.theory.specs.Rup.{is_conflict, passes_by_hints, are_by_hints}
+use Rattle.theory.specs.Replaying.{carrying_from, IsReplayed, AreReplayed, AreForgetting}
 use Rattle.theory.specs.Deletions.{is_among, are_different, without_numbers}
 use Rattle.theory.specs.Proofs.{renumbered, forget_steps, leaf_steps, forgotten_by}
 use Rattle.std.proofs.lemmas.List.Folds.{list_any-append}
 use Rattle.theory.proofs.literals.LiteralLemmas.{and-left, and-right, or-cases, or-left, or-right, not_true}
 use Rattle.theory.proofs.literals.LiteralSets.{true_false, false_unless, and-true, or-false_left, or-false_right, list_any-none}
 use Rattle.theory.proofs.trails.LawfulTrails.{clause_at-append}
-use Rattle.theory.proofs.checker.Hints.{take_hints-moved}
+use Rattle.theory.proofs.checker.LeftHints.{take_hints-left, AreConsistent-negations}
 use Rattle.theory.proofs.checker.FewerClauses.{take_hints-without_numbers, clause_of-without_numbers, clause_of-gone, deleted-there}
 use Rattle.theory.proofs.searching.LearntLines.{clause_of-carrying_at}
 use Rattle.theory.proofs.literals.OverVariables.{AreOver, AreOver-from_IsOver}
@@ -72,6 +74,31 @@ addition-rises V last there a h = go (nat_le a.id last) refl h
 pub Leads-add : (V : ℕ) (s : Checker) (a : Addition) → addition_fault V s.last s.clauses a ≡ None → Leads V s (add a ∷ []) (added s a)
 Leads-add V s a h = Leads-one V s (added s a) (add a) (ap (addition_test s a) h)
 
+-- the same steps, each addition by its hints alone
+abbrev pub ByHints : ℕ → Checker → List Step → Checker → Type 0
+ByHints V s steps t = (rest : List Step) → are_by_hints V s (steps ++ rest) ≡ are_by_hints V t rest
+
+-- from the state s on the steps are accepted by their hints alone, and leave the state t
+abbrev pub Follows : ℕ → Checker → List Step → Checker → Type 0
+Follows V s steps t = Leads V s steps t × ByHints V s steps t
+
+pub Follows-none : (V : ℕ) (s : Checker) → Follows V s [] s
+Follows-none V s = (Leads-none V s, λ rest. refl)
+
+by_test : ℕ → List Step → Tested → Bool
+by_test V rest r = elim r [ leaves t ↦ are_by_hints V t rest | faulty f ↦ false ]
+
+pub Follows-one : (V : ℕ) (s t : Checker) (step : Step) → test V s step ≡ leaves t → passes_by_hints s step ≡ true → Follows V s (step ∷ []) t
+unfolding by_test
+Follows-one V s t step h p = (Leads-one V s t step h, λ rest. ap (λ b. b && by_test V rest (test V s step)) p ∙ ap (by_test V rest) h)
+
+pub Follows-then : (V : ℕ) (s t u : Checker) (xs ys : List Step) → Follows V s xs t → Follows V t ys u → Follows V s (xs ++ ys) u
+Follows-then V s t u xs ys h k =
+    (Leads-then V s t u xs ys h.0 k.0, λ rest. ap (are_by_hints V s) (append_assoc xs ys rest) ∙ (h.1 (ys ++ rest) ∙ k.1 rest))
+
+pub Follows-add : (V : ℕ) (s : Checker) (a : Addition) → addition_fault V s.last s.clauses a ≡ None → take_hints s.clauses (negations a.clause) a.hints ≡ conflicts → Follows V s (add a ∷ []) (added s a)
+Follows-add V s a h k = Follows-one V s (added s a) (add a) (ap (addition_test s a) h) (ap is_conflict k)
+
 -- which numbers the clauses have
 pub clause_of-carrying_within : (n N : ℕ) (Q : List Literal) (K : List Clause) (m : ℕ) (d : Clause) → clause_of (carrying_from n N Q K) m ≡ Some d → (n ≤ m) × (m < n + length K)
 clause_of-carrying_within n N Q [] m d h = absurd (cc)
@@ -82,14 +109,16 @@ clause_of-carrying_within n N Q (c ∷ K) m d h = go (nat_eq n m) refl h (clause
     go true e k more = let number : n ≡ m = eqb-true n m e in (omega arith, omega arith)
     go false e k more = let low = (more k).0 in let high = (more k).1 in (omega arith, omega arith)
 
--- each clause of K that isn't gone stands in the checker, under the number that f gives it
+-- each clause of K that isn't gone stands in the checker, under the number that f gives it; but of
+-- those up to N forgotten ones needn't
 abbrev pub AreMoved : ℕ → (ℕ → ℕ) → List ℕ → List Literal → List Clause → Numbered → Type 0
-AreMoved N f gone Q K here = (n : ℕ) → 1 ≤ n → n ≤ length K → is_among n gone ≡ false → clause_of here (f n) ≡ Some (if nat_le n N then clause_at K n else clause_at K n ++ negations Q)
+AreMoved N f gone Q K here = (n : ℕ) → 1 ≤ n → n ≤ length K → is_among n gone ≡ false
+    → (clause_of here (f n) ≡ Some (if nat_le n N then clause_at K n else clause_at K n ++ negations Q)) ⊎ ((n ≤ N) × (clause_at K n ≡ forgotten))
 
-pub Passes-moved : (N : ℕ) (f : ℕ → ℕ) (gone : List ℕ) (Q : List Literal) (K : List Clause) (here : Numbered) (line : Line) → AreMoved N f gone Q K here
-    → ((k : ℕ) → is_among k gone ≡ true → is_among k line.hints ≡ false) → Passes N Q K line → take_hints here (negations (line.clause ++ negations Q)) (map f line.hints) ≡ conflicts
-Passes-moved N f gone Q K here line moved clear h =
-    take_hints-moved (without_numbers all gone) here f P line.hints at (take_hints-without_numbers all gone P line.hints clear ∙ h)
+pub Passes-moved : (V N : ℕ) (f : ℕ → ℕ) (gone : List ℕ) (Q : List Literal) (K : List Clause) (here : Numbered) (line : Line) → AreMoved N f gone Q K here
+    → ((k : ℕ) → is_among k gone ≡ true → is_among k line.hints ≡ false) → IsReplayed V N Q K line → take_hints here (negations (line.clause ++ negations Q)) (map f line.hints) ≡ conflicts
+Passes-moved V N f gone Q K here line moved clear h =
+    take_hints-left (without_numbers all gone) here f P line.hints (AreConsistent-negations (line.clause ++ negations Q) h.one_sign) at (take_hints-without_numbers all gone P line.hints clear ∙ h.passes)
   where
     all : Numbered
     all = carrying_from 1 N Q K
@@ -97,17 +126,31 @@ Passes-moved N f gone Q K here line moved clear h =
     P : List Literal
     P = negations (line.clause ++ negations Q)
 
-    at : (n : ℕ) (d : Clause) → clause_of (without_numbers all gone) n ≡ Some d → clause_of here (f n) ≡ Some d
+    at : (n : ℕ) (d : Clause) → clause_of (without_numbers all gone) n ≡ Some d → (clause_of here (f n) ≡ Some d) ⊎ (d ≡ forgotten)
     at n d e = go (is_among n gone) refl
       where
-        go : (b : Bool) → is_among n gone ≡ b → clause_of here (f n) ≡ Some d
+        go : (b : Bool) → is_among n gone ≡ b → (clause_of here (f n) ≡ Some d) ⊎ (d ≡ forgotten)
         go true a = absurd (let none = clause_of-gone all gone n a in cc)
-        go false a =
-            let there : clause_of all n ≡ Some d = sym (clause_of-without_numbers all gone n a) ∙ e in
-            let low = (clause_of-carrying_within 1 N Q K n d there).0 in
-            let high = (clause_of-carrying_within 1 N Q K n d there).1 in
-            let end : n ≤ length K = omega arith in
-            moved n low end a ∙ (sym (clause_of-carrying_at N Q K n low end) ∙ there)
+        go false a = on (moved n low end a)
+          where
+            there : clause_of all n ≡ Some d
+            there = sym (clause_of-without_numbers all gone n a) ∙ e
+
+            low : 1 ≤ n
+            low = (clause_of-carrying_within 1 N Q K n d there).0
+
+            end : n ≤ length K
+            end = let high = (clause_of-carrying_within 1 N Q K n d there).1 in omega arith
+
+            it : Some (if nat_le n N then clause_at K n else clause_at K n ++ negations Q) ≡ Some d
+            it = sym (clause_of-carrying_at N Q K n low end) ∙ there
+
+            on : (clause_of here (f n) ≡ Some (if nat_le n N then clause_at K n else clause_at K n ++ negations Q)) ⊎ ((n ≤ N) × (clause_at K n ≡ forgotten)) → (clause_of here (f n) ≡ Some d) ⊎ (d ≡ forgotten)
+            on (inl at) = inl (at ∙ it)
+            on (inr lost) = inr (
+                let first : (if nat_le n N then clause_at K n else clause_at K n ++ negations Q) ≡ clause_at K n = ap (λ b. if b then clause_at K n else clause_at K n ++ negations Q) (le-leb n N lost.0) in
+                let same : (if nat_le n N then clause_at K n else clause_at K n ++ negations Q) ≡ d = (let joined = it in cc) in
+                sym same ∙ (first ∙ lost.1))
 
 -- renumbering
 renumbered-low : (N first m : ℕ) → m ≤ N → renumbered N first m ≡ m
@@ -139,15 +182,22 @@ AreMoved-push N first n gone Q K c here long low e moved m one end not_gone = go
     wanted : Clause → Option Clause
     wanted d = Some (if nat_le m N then d else d ++ negations Q)
 
-    old : m ≤ length K → clause_of ((n, c ++ negations Q) ∷ here) (renumbered N first m) ≡ wanted (clause_at (K ++ c ∷ []) m)
+    Claim : Type 0
+    Claim = (clause_of ((n, c ++ negations Q) ∷ here) (renumbered N first m) ≡ wanted (clause_at (K ++ c ∷ []) m)) ⊎ ((m ≤ N) × (clause_at (K ++ c ∷ []) m ≡ forgotten))
+
+    old : m ≤ length K → Claim
     old h =
         let below : renumbered N first m < n = renumbered-below N first m n (length K) h long low e in
         let other : nat_eq n (renumbered N first m) ≡ false = false_unless (nat_eq n (renumbered N first m)) (λ t. let q : n ≡ renumbered N first m = eqb-true n (renumbered N first m) t in omega arith) in
         let here_too : clause_of ((n, c ++ negations Q) ∷ here) (renumbered N first m) ≡ clause_of here (renumbered N first m)
         = ap (λ b. if b then Some (c ++ negations Q) else clause_of here (renumbered N first m)) other in
-        here_too ∙ (moved m one h not_gone ∙ ap wanted (sym (clause_at-append K (c ∷ []) m one h)))
+        let at : clause_at (K ++ c ∷ []) m ≡ clause_at K m = clause_at-append K (c ∷ []) m one h in
+        elim (moved m one h not_gone) [
+          | inl there ↦ inl (here_too ∙ (there ∙ ap wanted (sym at)))
+          | inr lost ↦ inr (lost.0, at ∙ lost.1)
+        ]
 
-    new : length K < m → clause_of ((n, c ++ negations Q) ∷ here) (renumbered N first m) ≡ wanted (clause_at (K ++ c ∷ []) m)
+    new : length K < m → Claim
     new h =
         let number : m ≡ length K + 1 = omega (arith, longer) in
         let r : renumbered N first m ≡ first + (m - N - 1) = renumbered-high N first m (omega arith) in
@@ -157,18 +207,18 @@ AreMoved-push N first n gone Q K c here long low e moved m one end not_gone = go
         = ap (λ b. if b then Some (c ++ negations Q) else clause_of here (renumbered N first m)) it in
         let last : clause_at (K ++ c ∷ []) m ≡ c = ap (clause_at (K ++ c ∷ [])) number ∙ clause_at-push K c in
         let right : wanted (clause_at (K ++ c ∷ []) m) ≡ Some (c ++ negations Q) = ap wanted last ∙ ap (λ b. Some (if b then c else c ++ negations Q)) high in
-        left ∙ sym right
+        inl (left ∙ sym right)
 
-    go : (b : Bool) → nat_le m (length K) ≡ b → clause_of ((n, c ++ negations Q) ∷ here) (renumbered N first m) ≡ wanted (clause_at (K ++ c ∷ []) m)
+    go : (b : Bool) → nat_le m (length K) ≡ b → Claim
     go true t = old (leb-true m (length K) t)
     go false t = new (leb-false m (length K) t)
 
 -- a deletion of clauses that are there, each once
 pub Leads-forget : (V : ℕ) (s : Checker) (n : ℕ) (ns : List ℕ) → are_different ns ≡ true → ((k : ℕ) → is_among k ns ≡ true → is_some (clause_of s.clauses k) ≡ true)
-    → Leads V s (forget_steps n ns) (record s { clauses = without_numbers s.clauses ns })
-Leads-forget V s n [] distinct there = Leads-none V s
+    → Follows V s (forget_steps n ns) (record s { clauses = without_numbers s.clauses ns })
+Leads-forget V s n [] distinct there = Follows-none V s
 Leads-forget V s n (i ∷ ns) distinct there =
-    Leads-one V s (record s { clauses = without_numbers s.clauses (i ∷ ns) }) (delete (record { id = n; ids = i ∷ ns })) (ap (deletion_test s) (deleted-there s.clauses (i ∷ ns) distinct there))
+    Follows-one V s (record s { clauses = without_numbers s.clauses (i ∷ ns) }) (delete (record { id = n; ids = i ∷ ns })) (ap (deletion_test s) (deleted-there s.clauses (i ∷ ns) distinct there)) refl
 
 -- numbers keep apart where they are renumbered
 renumbered-same : (N first k m : ℕ) → N < first → renumbered N first k ≡ renumbered N first m → k ≡ m
@@ -223,7 +273,7 @@ are_different-renumbered N first (n ∷ ns) low h =
 -- what lines leave: all that was there before the cube, and the clauses that aren't gone
 pub record LinesLead (V N first n : ℕ) (gone : List ℕ) (Q : List Literal) (K : List Clause) (s : Checker) (lines : List Line) : Type 0 where
   pub state : Checker
-  pub leads : Leads V s (leaf_steps N first n Q lines) state
+  pub leads : Follows V s (leaf_steps N first n Q lines) state
   pub last : state.last < n + length lines
   pub kept : (m : ℕ) → m < first → clause_of state.clauses m ≡ clause_of s.clauses m
   pub moved : AreMoved N (renumbered N first) (gone ++ forgotten_by lines) Q (K ++ map (λ (x : Line). x.clause) lines) state.clauses
@@ -233,11 +283,12 @@ line_addition N first n Q line = record { id = n; clause = line.clause ++ negati
 
 -- a line that replays is accepted
 Leads-line : (V N first n : ℕ) (gone : List ℕ) (Q : List Literal) (K : List Clause) (s : Checker) (line : Line) → s.last < n → AreMoved N (renumbered N first) gone Q K s.clauses
-    → ((k : ℕ) → is_among k gone ≡ true → is_among k line.hints ≡ false) → IsReplayed V N Q K line → Leads V s (add (line_addition N first n Q line) ∷ []) (added s (line_addition N first n Q line))
+    → ((k : ℕ) → is_among k gone ≡ true → is_among k line.hints ≡ false) → IsReplayed V N Q K line → Follows V s (add (line_addition N first n Q line) ∷ []) (added s (line_addition N first n Q line))
 Leads-line V N first n gone Q K s line rises moved clear h =
-    Leads-add V s (line_addition N first n Q line)
+    let passes = Passes-moved V N (renumbered N first) gone Q K s.clauses line moved clear h in
+    Follows-add V s (line_addition N first n Q line)
     (addition_fault-none V s.last s.clauses n (line.clause ++ negations Q) (map (renumbered N first) line.hints) rises
-    (AreOver-from_IsOver V (line.clause ++ negations Q) h.over) h.one_sign (Passes-moved N (renumbered N first) gone Q K s.clauses line moved clear h.passes))
+    (AreOver-from_IsOver V (line.clause ++ negations Q) h.over) h.one_sign passes) passes
 
 kept-added : (s : Checker) (a : Addition) (n m : ℕ) → a.id ≡ n → m < n → clause_of (added s a).clauses m ≡ clause_of s.clauses m
 kept-added s a n m e h =
@@ -253,7 +304,7 @@ pub LinesLead-from_AreReplayed : (V N first n : ℕ) (gone : List ℕ) (Q : List
     → AreMoved N (renumbered N first) gone Q K s.clauses → AreReplayed V N Q K lines → AreForgetting N (length K + 1) gone lines → LinesLead V N first n gone Q K s lines
 LinesLead-from_AreReplayed V N first n gone Q K s [] long low e rises moved h f = record {
   state = s;
-  leads = Leads-none V s;
+  leads = Follows-none V s;
   last = omega arith;
   kept = λ m l. refl;
   moved = rw (append-nil K, append-nil gone) moved;
@@ -290,14 +341,20 @@ LinesLead-from_AreReplayed V N first n gone Q K s (line ∷ lines) long low e ri
         let own = f.0.own k.0 k.1 in
         let above = own.0 in
         let below = own.1 in
-        ap (λ i. is_some (clause_of between.clauses i)) k.2 ∙ ap is_some (moved_between k.0 (omega (arith, above)) (omega (arith, below, one_more)) own.2)
+        elim (moved_between k.0 (omega (arith, above)) (omega (arith, below, one_more)) own.2) [
+          | inl at ↦ ap (λ i. is_some (clause_of between.clauses i)) k.2 ∙ ap is_some at
+          | inr lost ↦ absurd (let low_number = lost.0 in omega (arith, above, low_number))
+        ]
 
     moved_on : AreMoved N (renumbered N first) (gone ++ line.forgets) Q (K ++ line.clause ∷ []) after.clauses
     moved_on k one end not_gone =
         let parts = is_among-append k gone line.forgets not_gone in
         let out : is_among (renumbered N first k) numbers ≡ false
         = false_unless (is_among (renumbered N first k) numbers) (λ t. true_false (is_among k line.forgets) (is_among-renumbered N first k line.forgets low t) parts.1) in
-        clause_of-without_numbers between.clauses numbers (renumbered N first k) out ∙ moved_between k one end parts.0
+        elim (moved_between k one end parts.0) [
+          | inl at ↦ inl (clause_of-without_numbers between.clauses numbers (renumbered N first k) out ∙ at)
+          | inr lost ↦ inr lost
+        ]
 
     kept_on : (m : ℕ) → m < first → clause_of after.clauses m ≡ clause_of s.clauses m
     kept_on m l =
@@ -309,15 +366,15 @@ LinesLead-from_AreReplayed V N first n gone Q K s (line ∷ lines) long low e ri
         omega (arith, l, own, high, it)) in
         clause_of-without_numbers between.clauses numbers m out ∙ kept-added s (line_addition N first n Q line) n m refl (omega (arith, l, e, long))
 
-    first_leads : Leads V s (add (line_addition N first n Q line) ∷ forget_steps n numbers) after
+    first_leads : Follows V s (add (line_addition N first n Q line) ∷ forget_steps n numbers) after
     first_leads =
-        Leads-then V s between after (add (line_addition N first n Q line) ∷ []) (forget_steps n numbers) (Leads-line V N first n gone Q K s line rises moved f.0.clear h.0)
+        Follows-then V s between after (add (line_addition N first n Q line) ∷ []) (forget_steps n numbers) (Leads-line V N first n gone Q K s line rises moved f.0.clear h.0)
         (Leads-forget V between n numbers (are_different-renumbered N first line.forgets low f.0.distinct) there)
 
     finish : LinesLead V N first (n + 1) (gone ++ line.forgets) Q (K ++ line.clause ∷ []) after lines → LinesLead V N first n gone Q K s (line ∷ lines)
     finish more = record {
       state = more.state;
-      leads = Leads-then V s after more.state (add (line_addition N first n Q line) ∷ forget_steps n numbers) (leaf_steps N first (n + 1) Q lines) first_leads more.leads;
+      leads = Follows-then V s after more.state (add (line_addition N first n Q line) ∷ forget_steps n numbers) (leaf_steps N first (n + 1) Q lines) first_leads more.leads;
       last = let l = more.last in omega arith;
       kept = λ m l. more.kept m l ∙ kept_on m l;
       moved = rw (← append_assoc K (line.clause ∷ []) (map (λ (x : Line). x.clause) lines), ← append_assoc gone line.forgets (forgotten_by lines)) more.moved;

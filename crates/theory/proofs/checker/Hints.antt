@@ -22,7 +22,7 @@ find-only p (k ∷ c) l h t only = go (p k) refl (λ r. find-only p c l r t (λ 
       | inr r ↦ more r
     ]
 
-list_all-from : (p : Literal → Bool) (c : Clause) → ((l : Literal) → has c l ≡ true → p l ≡ true) → list_all p c ≡ true
+pub list_all-from : (p : Literal → Bool) (c : Clause) → ((l : Literal) → has c l ≡ true → p l ≡ true) → list_all p c ≡ true
 list_all-from p [] h = refl
 list_all-from p (k ∷ c) h = and-true (p k) (list_all p c) (h k (has-head k c)) (list_all-from p c (λ l a. h l (has-tail k l c a)))
 

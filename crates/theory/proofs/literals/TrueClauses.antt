@@ -66,7 +66,7 @@ without-absent (k ∷ d) q h = go (same q k) refl h (without-absent d q)
     go false e t more = ap (λ x. k ∷ x) (more t)
 
 -- a clause with a literal of those that are true is true
-has-true : (m : ℕ → Bool) (d : Clause) (l : Literal) → has d l ≡ true → is_true m l ≡ true → is_true_clause m d ≡ true
+pub has-true : (m : ℕ → Bool) (d : Clause) (l : Literal) → has d l ≡ true → is_true m l ≡ true → is_true_clause m d ≡ true
 has-true m [] l h t = h
 has-true m (k ∷ d) l h t = elim (or-cases (same l k) (has d l) h) [
   | inl s ↦ or-left (is_true m k) (is_true_clause m d) (ap (is_true m) (sym (same-eq l k s)) ∙ t)
@@ -94,7 +94,7 @@ held-true m P (l ∷ c) h e = elim (or-cases (has P l) (list_any (has P) c) e) [
 ]
 
 -- m with the literal p made true
-pub flipped : (ℕ → Bool) → Literal → ℕ → Bool
+unfoldable pub flipped : (ℕ → Bool) → Literal → ℕ → Bool
 flipped m p v = cond (nat_eq v p.var) p.positive (m v)
 
 pub flipped-pivot : (m : ℕ → Bool) (p : Literal) → is_true (flipped m p) p ≡ true

@@ -208,7 +208,7 @@ Looks-refuted F Q lines cube h M s q = go h.answer h.propagates h.comes_to
         (current_level-units F.clauses h.trail ∙ level) (IsTrueSearch-units (value M) Q q F.clauses h.trail [] level i)
     go quiet p c = free (least_held F h.trail) c
 
--- a model satisfies the formula, and the clauses of the pure variables
+-- a model satisfies the formula
 pub Looks-satisfies : (F : Formula) (Q : List Literal) (M : Assignment) → IsFormula F → Looks F Q (model M) → Satisfies F M
 Looks-satisfies F Q M formed h = go h.answer h.propagates h.comes_to
   where

@@ -17,6 +17,7 @@ use Rattle.theory.proofs.trees.FirstModel.{model-satisfies, model-first}
 use Rattle.theory.proofs.searching.SearchSoundness.{refuted-unsatisfiable}
 use Rattle.theory.proofs.searching.SplitSoundness.{exhausted-free}
 use Rattle.theory.proofs.searching.FocusedSplits.{RunsFocused-splits, RunsFocused-exhausted}
+use Rattle.theory.proofs.searching.AbsentVariables.{RunsFocused-absent, Looks-absent}
 use Rattle.theory.proofs.searching.HeldVariables.{held-is}
 use Rattle.theory.proofs.searching.OrderedOutcomes.{RunsOrdered-says}
 use Rattle.theory.proofs.searching.LookedCubes.{Looks-says, Looks-refuted, Looks-satisfies, Looks-splits, Looks-exhausted}
@@ -122,3 +123,13 @@ Runs-splits F plan Q x other (by_search n runs) = go plan.search refl runs
     go ordered e r = absurd (other e)
     go (focused c) e r = held-is F x (RunsFocused-splits c F plan.budget Q x r).0
 Runs-splits F plan Q x other (by_look l looks) = held-is F x (Looks-splits F Q x looks).0
+
+-- And a variable that isn't held is false in a cube's model, if it isn't the cube's.
+pub Runs-absent : (F : Formula) (plan : Plan) (Q : List Literal) (M : Assignment) (v : ℕ) → ¬ (plan.search ≡ ordered) → IsCube Q → Runs F plan Q (model M) → IsVariable F.vars v → is_held F.clauses v ≡ false
+    → has_var Q v ≡ false → value M v ≡ false
+Runs-absent F plan Q M v other cube (by_search n runs) r lacks out = go plan.search refl runs
+  where
+    go : (search : Search) → plan.search ≡ search → RunsBy search F plan.budget Q (model M) → value M v ≡ false
+    go ordered e k = absurd (other e)
+    go (focused c) e k = RunsFocused-absent c F plan.budget Q M v cube k r lacks out
+Runs-absent F plan Q M v other cube (by_look l looks) r lacks out = Looks-absent F Q M v cube looks r lacks out
