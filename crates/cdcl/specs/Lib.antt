@@ -12,3 +12,4 @@ pub mod Solving
 pub mod Marks
 pub mod Removing
 pub mod Units
+pub mod Taught

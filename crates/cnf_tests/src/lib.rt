@@ -1,6 +1,8 @@
-//! Worked rows of the reader, and fake readers.
+//! Worked rows of formulas and their reader, and fake readers.
 #![tactic(auto)]
 
+#[cfg(test)]
+mod building;
 #[cfg(test)]
 mod growing;
 #[cfg(test)]

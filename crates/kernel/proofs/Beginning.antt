@@ -66,7 +66,7 @@ over-items f V xs K is all k d h =
     subst (λ (c : Clause). IsOver V c) (ap (λ (cs : List Clause). get_or cs k (f d)) (sym is) ∙ get_or-map f xs k d) (all k (f d) there)
 
 -- a clause of one literal
-single-unit : (c : Clause) (w : Watched) → IsPair c w → same w.first w.second ≡ true → WasUnit [] c
+pub single-unit : (c : Clause) (w : Watched) → IsPair c w → same w.first w.second ≡ true → WasUnit [] c
 single-unit c w pair h = (w.first, pair.first_in, all-more (same w.first) (λ l. same w.first l || has [] (negated l)) c (λ l m. or-left (same w.first l) (has [] (negated l)) m) (pair.single h))
 
 module _ (V : ℕ) (K : List Clause) (k u : WatchLists) (single : List ℕ) (e : Option ℕ) (c : Clause) (w : Watched) (s : IsWatching V (length K) K [] 0 0 k single e) where

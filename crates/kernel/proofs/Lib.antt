@@ -14,6 +14,7 @@ pub mod GivenClauses
 pub mod ForgottenAt
 pub mod InOrder
 pub mod InPlace
+pub mod Keeping
 pub mod KernelSteps
 pub mod LastFalse
 pub mod LastLiterals

@@ -6,6 +6,7 @@ pub mod Cutting
 pub mod EntryLists
 pub mod Forgetting
 pub mod Given
+pub mod Keeping
 pub mod Shown
 pub mod Placing
 pub mod Rules

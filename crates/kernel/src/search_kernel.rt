@@ -1,15 +1,13 @@
 //! The kernel of a search: the clauses and the trail of one cube, or of one cube after the other.
-ghost use Rattle.std.specs.Prelude.{◌≡◌, ◌+◌, ◌<◌, ◌≤◌, true, false, None, [], ◌∷◌, ◌++◌, length, take, All, IfOk, IfSome, IfNone, OnOk, OnErr, IsErr, is_some, Some, slice_get, slice_set, if◌then◌else◌, ◌⊎◌};
+ghost use Rattle.std.specs.Prelude.{◌≡◌, ◌+◌, ◌<◌, ◌≤◌, true, false, None, [], ◌∷◌, ◌++◌, length, take, All, IfOk, IfSome, IfNone, OnOk, OnErr, IsErr, slice_get, if◌then◌else◌, ◌⊎◌};
 ghost use Rattle.std.specs.Option.{option_map};
 ghost use Rattle.std.specs.List.Sorted.{IsPermutation};
 ghost use Rattle.theory.specs.Literals.{IsVariable, IsCube, has_var};
 ghost use Rattle.theory.specs.Truth.{IsOver};
 ghost use Rattle.theory.specs.Pure.{unit_clauses};
 ghost use Rattle.theory.specs.Trails.{literals, current_level, entry_of, cube_trail, up_to, least_free};
-ghost use Rattle.theory.specs.Propagation.{clause_at, Propagates, quiet, least_false};
-ghost use Rattle.theory.specs.Forgetting.{is_reason, forget};
+ghost use Rattle.theory.specs.Propagation.{clause_at, Propagates, quiet};
 ghost use Rattle.theory.specs.Lawful.{IsLawful};
-ghost use Rattle.theory.specs.Learnable.{IsLearnable};
 ghost use Rattle.theory.specs.Reading.{large, max_vars};
 ghost use Rattle.theory.specs.Propagation as closing;
 ghost use Rattle.theory.specs.Trails as trails;
@@ -29,23 +27,23 @@ use trail::{Cube, Entry, Trail};
 
 /// The clauses and the trail of the search in one cube, or in one cube after the other. Each clause
 /// is kept once, with its literals in an order of the kernel's own. Once a call has met want of
-/// memory, `close`, `learn`, `learn_unit`, `forget` and `restart` answer it from then on, `decide`
-/// and `back_to` change nothing, and the other calls answer of the trail as it stands.
+/// memory, `close`, `learn`, `learn_unit`, `keep_learnt`, `forget` and `restart` answer it from then
+/// on, `decide` and `back_to` change nothing, and the other calls answer of the trail as it stands.
 pub struct SearchKernel {
     // the clauses, and their watches
-    propagator: Propagator,
+    pub(crate) propagator: Propagator,
     // which unit clause propagation takes first
     order: Order,
     // those that wait by place, while propagation goes on; empty between two calls
     line: Line,
-    // how many of the clauses were there from the beginning: the formula's, and the units behind
-    // them; the others were learnt
-    first: usize,
+    // how many of the clauses stay when a cube begins: the formula's, the units behind them, and
+    // what was learnt and is kept; the others were learnt
+    pub(crate) first: usize,
     // those of one literal among them, which wait as units when a cube begins
-    singles: Vec<u32>,
+    pub(crate) singles: Vec<u32>,
     // the first empty one among them
     empty: Option<u32>,
-    trail: Trail,
+    pub(crate) trail: Trail,
     // how many entries of the trail were served: the clauses that watch the negation of their
     // literal were visited
     served: usize,
@@ -53,9 +51,9 @@ pub struct SearchKernel {
     // decision was made before all were
     floor: usize,
     // whether a call has met want of memory
-    short: bool,
+    pub(crate) short: bool,
     // what was done; nothing goes by it
-    counts: Counts,
+    pub(crate) counts: Counts,
 }
 
 // written out, so that proofs of its owners stay short (docs/PROVING.md)
@@ -294,110 +292,6 @@ impl SearchKernel {
         self.served = self.floor.min(self.trail.entries().len());
     }
 
-    /// Puts a clause behind the others, and answers its number. Its variables are distinct and of
-    /// the formula; one of its literals is free and the others are false, one of these at the
-    /// current level unless that is 0. It fails where a request for memory is refused, and from
-    /// then on; the clauses and the trail are then as they were.
-    pub fn learn(&mut self, clause: &[Lit]) -> Result<u64, AllocError>
-        requires { self.old.short ≡ false → IsOver self.old.vars clause.now × IsLearnable self.old.trail clause.now }
-        ensures ok { IfOk result (λ n. n ≡ length self.old.clauses + 1) }
-        ensures learnt { OnOk result (self.new ≡ record self.old {
-          clauses = self.old.clauses ++ clause.now ∷ [];
-        }) }
-        ensures refused { OnErr result (self.new ≡ record self.old { short = true }) }
-        ensures stays { self.old.short ≡ true → IsErr result }
-        ensures was { OnOk result (self.old.short ≡ false) }
-    {
-        if self.short {
-            return Err(AllocError);
-        }
-        match self.propagator.attach_learnt(&self.trail, clause) {
-            Ok(()) => {
-                self.counts.add_learnt();
-                Ok(self.propagator.clauses.len() as u64)
-            }
-            Err(error) => {
-                self.short = true;
-                Err(error)
-            }
-        }
-    }
-
-    /// Puts the literal of the entry at a place, counted from 0, behind the clauses as one of its
-    /// own, which becomes the entry's reason, and answers its number. The trail is at level 0, and
-    /// the entry has a reason. Propagation may have come to rest or to a false clause: the new
-    /// clause is true until `restart` cuts it off, so it changes neither. It takes one step. It
-    /// fails where a request for memory is refused, and from then on; the clauses and the trail are
-    /// then as they were.
-    pub fn learn_unit(&mut self, place: usize) -> Result<u64, AllocError>
-        requires level { self.old.short ≡ false → current_level self.old.trail ≡ 0 }
-        requires entry { self.old.short ≡ false →
-            (e : trails.Entry) × (slice_get self.old.trail place ≡ Some e) × (is_some e.reason ≡ true) }
-        ensures ok { IfOk result (λ n. n ≡ length self.old.clauses + 1) }
-        ensures learnt { OnOk result ((e : trails.Entry) → slice_get self.old.trail place ≡ Some e → self.new ≡ record self.old {
-          clauses = self.old.clauses ++ (e.lit ∷ []) ∷ [];
-          trail = slice_set self.old.trail place record e { reason = Some (length self.old.clauses + 1) };
-        }) }
-        ensures refused { OnErr result (self.new ≡ record self.old { short = true }) }
-        ensures stays { self.old.short ≡ true → IsErr result }
-        ensures was { OnOk result (self.old.short ≡ false) }
-    {
-        if self.short {
-            return Err(AllocError);
-        }
-        let entry = self.trail.entries()[place];
-        match self.propagator.attach_true(entry.lit) {
-            Ok(()) => {
-                let number = self.propagator.clauses.len() as u64;
-                self.trail.set_reason(place, number);
-                self.counts.add_learnt();
-                Ok(number)
-            }
-            Err(error) => {
-                self.short = true;
-                Err(error)
-            }
-        }
-    }
-
-    /// Counts as short of memory from here on: something that goes with the kernel was refused.
-    pub(crate) fn give_up(&mut self)
-        ensures { self.new ≡ record self.old { short = true } }
-    {
-        self.short = true;
-    }
-
-    /// Forgets learnt clauses, so that propagation goes by the others alone: each keeps its number
-    /// and becomes `1 -1`, which is never unit and never false. Each number is that of a learnt
-    /// clause and no reason on the trail, and no clause is false. It gives the memory of their
-    /// literals back to the clauses that are learnt next. It takes time by the entries of all lists
-    /// and by the literals of the learnt clauses, and memory of a byte for each of these while it
-    /// goes on. It fails where a request for memory is refused, and from then on; the clauses and
-    /// the trail are then as they were.
-    pub fn forget(&mut self, numbers: &[u64]) -> Result<(), AllocError>
-        requires learnt { self.old.short ≡ false → All (λ n. (self.old.first < n) × (n ≤ length self.old.clauses)) numbers.now }
-        requires no_reasons { self.old.short ≡ false → All (λ n. is_reason self.old.trail n ≡ false) numbers.now }
-        requires open { self.old.short ≡ false → least_false (literals self.old.trail) self.old.clauses ≡ None }
-        ensures forgotten { OnOk result (self.new ≡ record self.old { clauses = forget numbers.now 1 self.old.clauses }) }
-        ensures refused { OnErr result (self.new ≡ record self.old { short = true }) }
-        ensures stays { self.old.short ≡ true → IsErr result }
-        ensures was { OnOk result (self.old.short ≡ false) }
-    {
-        if self.short {
-            return Err(AllocError);
-        }
-        match self.propagator.forget(self.first, numbers) {
-            Ok(()) => {
-                self.counts.add_forgotten(numbers.len());
-                Ok(())
-            }
-            Err(error) => {
-                self.short = true;
-                Err(error)
-            }
-        }
-    }
-
     /// The truth value of a variable, in one step: none while it is free, and none for a number
     /// that is no variable.
     pub fn value(&self, var: u32) -> Option<bool>
@@ -484,7 +378,7 @@ impl SearchKernel {
         self.propagator.clauses.len() as u64
     }
 
-    /// How many of the clauses were there from the beginning; those of greater numbers were learnt.
+    /// How many of the clauses `restart` keeps; those of greater numbers were learnt.
     pub fn first_count(&self) -> u64
         ensures count { result ≡ self.now.first }
         ensures within { self.now.first ≤ length self.now.clauses }

@@ -108,6 +108,8 @@ pub enum Act<'a> {
     LearnPair(u32, i32, i32),
     /// Another cube.
     Restart(&'a [i32]),
+    /// Another cube, and what was learnt stays.
+    KeepAndRestart(&'a [i32]),
     /// Learnt clauses are forgotten.
     Forget(&'a [u64]),
 }
@@ -278,6 +280,11 @@ pub fn acts(alloc: Global, kernel: &mut SearchKernel, act: Act) -> Result<bool, 
         Act::Restart(numbers) => {
             restart(alloc, kernel, numbers)?;
             Ok(true)
+        }
+        Act::KeepAndRestart(numbers) => {
+            kernel.keep_learnt()?;
+            restart(alloc, kernel, numbers)?;
+            Ok(kernel.first_count() == kernel.count())
         }
         Act::Forget(numbers) => forget(kernel, numbers),
     }

@@ -16,8 +16,9 @@ use std::mem;
 const COPIED: usize = 1 << 16;
 
 /// Lines of a refuted cube in the order in which they were learnt, one behind the other as bytes: a
-/// clause by the distances of its literals, hints and forgotten clauses by those of their numbers. It takes about two fifths of what the
-/// lines take as text, and no request for memory a line but where it has to grow.
+/// clause by the distances of its literals, hints and forgotten clauses by those of their numbers.
+/// That is less than half of what the lines take as text, and asks for no memory a line but where it
+/// has to grow.
 #[derive(Drop)]
 pub struct Row {
     bytes: Vec<u8>,
