@@ -17,6 +17,14 @@ pub struct Counts {
     pub learnt: u64,
     /// Learnt clauses that were forgotten.
     pub forgotten: u64,
+    /// Literals that minimisation took out of learnt clauses.
+    pub minimised: u64,
+    /// Lines for literals of level 0.
+    pub units: u64,
+    /// Rounds of the focused search that ended.
+    pub rounds: u64,
+    /// How often the focused search has changed its mode.
+    pub switches: u64,
     /// Cubes that were looked at.
     pub looks: u64,
     /// Failed literals: decisions of looks whose propagation met a conflict.
@@ -33,22 +41,24 @@ impl Counts {
             restarts: 0,
             learnt: 0,
             forgotten: 0,
+            minimised: 0,
+            units: 0,
+            rounds: 0,
+            switches: 0,
             looks: 0,
             failed_literals: 0,
         }
     }
 
-    /// What a kernel has done, and so many restarts.
-    pub(crate) fn of(kernel: kernel::Counts, restarts: u64) -> Counts {
+    /// What a kernel has done.
+    pub(crate) fn of(kernel: kernel::Counts) -> Counts {
         Counts {
             conflicts: kernel.conflicts,
             decisions: kernel.decisions,
             propagations: kernel.propagations,
-            restarts,
             learnt: kernel.learnt,
             forgotten: kernel.forgotten,
-            looks: 0,
-            failed_literals: 0,
+            ..Counts::none()
         }
     }
 
@@ -61,6 +71,10 @@ impl Counts {
             restarts: self.restarts.saturating_add(other.restarts),
             learnt: self.learnt.saturating_add(other.learnt),
             forgotten: self.forgotten.saturating_add(other.forgotten),
+            minimised: self.minimised.saturating_add(other.minimised),
+            units: self.units.saturating_add(other.units),
+            rounds: self.rounds.saturating_add(other.rounds),
+            switches: self.switches.saturating_add(other.switches),
             looks: self.looks.saturating_add(other.looks),
             failed_literals: self.failed_literals.saturating_add(other.failed_literals),
         }

@@ -162,8 +162,11 @@ impl FocusedSearch {
 
     /// How much was done in all cubes so far.
     pub(crate) fn counts(&self) -> Counts {
-        self.tally
-            .counts(self.kernel.counts(), self.averages.restarts())
+        Counts {
+            restarts: self.averages.restarts(),
+            minimised: self.analysis.removing.removed(),
+            ..self.tally.counts(self.kernel.counts())
+        }
     }
 
     /// The outcome of the cube that was begun.

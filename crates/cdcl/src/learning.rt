@@ -211,7 +211,9 @@ impl FocusedSearch {
         mark_none_used(&mut self.marks);
         self.decisions.rephase(self.round.change());
         self.round.advance(self.constants, self.conflicts);
+        let mode = self.pace.mode();
         self.pace.end_round(self.conflicts);
+        self.tally.add_round(mode, self.pace.mode());
         Ok(forgets)
     }
 }

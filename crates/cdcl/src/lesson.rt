@@ -28,7 +28,8 @@ pub(crate) struct Analysis {
     pub(crate) room: Room,
     /// What the last conflict teaches.
     pub(crate) learnt: Learnt,
-    /// How many of the line's hints, the last ones, are clauses that were resolved at the current level.
+    /// How many of the line's hints, the last ones, are clauses that were resolved at the current
+    /// level.
     pub(crate) resolved: usize,
     /// The variables that the last conflict has seen.
     pub(crate) seen: Numbers,
@@ -90,7 +91,9 @@ fn resolve_short(
     let resolved = hints.len();
     see_all(kernel, seen, &marks.seen)?;
     removing.ask_for_all(kernel, marks)?;
+    let before = marks.pending.far_count();
     wait_for_removable(kernel, marks, removing)?;
+    removing.add_removed(marks.pending.far_count().saturating_sub(before));
     walk_below(kernel, marks, hints, conflict)?;
     hints.reverse();
     Ok(resolved)

@@ -84,7 +84,7 @@ impl OrderedSearch {
 
     /// How much was done in all cubes so far.
     pub(crate) fn counts(&self) -> Counts {
-        Counts::of(self.kernel.counts(), 0)
+        Counts::of(self.kernel.counts())
     }
 
     /// The outcome of the cube that was begun.

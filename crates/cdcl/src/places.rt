@@ -89,6 +89,11 @@ impl Places {
         Ok(())
     }
 
+    /// How many places are in that may lie far from the others.
+    pub(crate) fn far_count(&self) -> usize {
+        self.far.len()
+    }
+
     /// Takes the greatest place out.
     pub(crate) fn pop(&mut self) -> Option<usize>
         ensures none { IfNone result ((self.old ≡ []) × (self.new ≡ [])) }

@@ -10,6 +10,7 @@ ghost use Rattle.cdcl.specs.declared.removing.Standing.TheVariants.{Covered, Kep
 
 use crate::marks::Marks;
 use crate::numbers::Numbers;
+use crate::tally::Total;
 use cnf::{Lit, put_last};
 use kernel::SearchKernel;
 use std::alloc::{AllocError, Global};
@@ -29,6 +30,8 @@ pub(crate) struct Removing {
     pub(crate) reached: Numbers,
     /// For each of these the place there of the one whose reason has it.
     pub(crate) parents: Vec<usize>,
+    /// How many literals were removed from learnt clauses.
+    removed: Total,
 }
 
 // written out, so that proofs of its owners stay short (docs/PROVING.md)
@@ -39,6 +42,7 @@ impl Drop for Removing {
             kept: _,
             reached: _,
             parents: _,
+            removed: _,
         } = self;
     }
 }
@@ -103,7 +107,20 @@ impl Removing {
             kept: Numbers::with_room(alloc, bound)?,
             reached: Numbers::with_room(alloc, bound)?,
             parents: Vec::new(alloc),
+            removed: Total::none(),
         })
+    }
+
+    /// So many literals of a set are removed.
+    pub(crate) fn add_removed(&mut self, count: usize)
+        ensures { self.new ≡ self.old }
+    {
+        self.removed.add(count);
+    }
+
+    /// How many literals were removed so far.
+    pub(crate) fn removed(&self) -> u64 {
+        self.removed.count()
     }
 
     /// Forgets what is known, for the next conflict.

@@ -23,10 +23,11 @@ use std::snapshot::Snapshot;
 
 /// Solves cubes of one formula by one plan. The formula's clauses are copied once, for the ordered
 /// search with a unit clause for each of its pure literals, and the room for analysis is made once,
-/// so that a cube costs what its search does and not what the formula holds. A cube's budget is the root's times
-/// one more than the cube's literals, and at most 1,000,000, or with the focused search
-/// 1,000,000,000. Where the plan wants a division, the first cube of few literals is preceded by a search of up to 20,000 conflicts, which says whether
-/// the formula is divided. Once a call has met want of memory, each later one answers it.
+/// so that a cube costs what its search does and not what the formula holds. A cube's budget is the
+/// root's times one more than the cube's literals, and at most 1,000,000, or with the focused
+/// search 1,000,000,000. Where the plan wants a division, the first cube of few literals is
+/// preceded by a search of up to 20,000 conflicts, which says whether the formula is divided. Once
+/// a call has met want of memory, each later one answers it.
 pub struct Solver {
     search: Searcher,
     // which formula it is; it is no data, and takes no room

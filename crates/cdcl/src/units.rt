@@ -22,6 +22,7 @@ impl FocusedSearch {
         self.lines.push(&[entry.lit], &self.unit_hints.hints, &[])?;
         self.kernel.learn_unit(place)?;
         self.marks.push(Mark::fresh(0))?;
+        self.tally.add_unit();
         Ok(())
     }
 

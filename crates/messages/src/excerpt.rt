@@ -1,7 +1,7 @@
 //! The piece of a text around a place.
 ghost use Rattle.std.specs.Prelude.{◌≡◌, ℕ, ◌≤◌, List, [], ◌∷◌, ◌++◌, IsTrue};
 
-use crate::line_feeds::line_feeds;
+use crate::line_counts::line_feeds;
 use arrayvec::ArrayVec;
 use cnf::Place;
 

@@ -7,7 +7,7 @@ mod excerpt;
 mod files;
 mod format;
 mod formula;
-mod line_feeds;
+mod line_counts;
 mod name;
 mod passed;
 mod picture;
@@ -22,6 +22,7 @@ pub use files::{
     say_part_not_created, say_proof_not_written, say_same_file, say_unproved,
 };
 pub use formula::{say_formula_refused, say_repeats};
+pub use line_counts::line_feeds;
 pub use passed::say_passed_over;
 pub use proof::{ProofSource, say_proof_refused};
 pub use refused::Refused;

@@ -8,6 +8,7 @@ use crate::search_counts::SearchCounts;
 use cdcl::{Counts, FirstSearch, Search};
 use cnf::Formula;
 pub use cubes::TreeSize;
+use messages::line_feeds;
 use std::fmt;
 use std::fmt::{Display, Formatter};
 use strategies::{LoweringCounts, Strategy};
@@ -32,19 +33,6 @@ impl FormulaSize {
     }
 }
 
-/// How many bytes are searched for line feeds at a time.
-const BLOCK: usize = 128;
-
-/// How many of a block's bytes end a line. A count that is a byte itself compiles to code that takes
-/// 16 bytes at once.
-fn count_lines(block: &[u8]) -> u8 {
-    let mut count = 0u8;
-    for byte in block {
-        count = count.wrapping_add(u8::from(*byte == b'\n'));
-    }
-    count
-}
-
 /// How much of a text went by.
 #[derive(Clone, Copy)]
 pub struct TextSize {
@@ -59,12 +47,8 @@ impl TextSize {
 
     /// How many bytes a text has, and how many of them end a line.
     pub fn of(text: &[u8]) -> TextSize {
-        let mut lines = 0usize;
-        for block in text.chunks(BLOCK) {
-            lines = lines.saturating_add(usize::from(count_lines(block)));
-        }
         TextSize {
-            lines,
+            lines: line_feeds(text) as usize,
             bytes: text.len(),
         }
     }

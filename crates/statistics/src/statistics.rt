@@ -3,6 +3,7 @@
 use crate::division_lines::print_division;
 use crate::figures::{Figures, StageEnd};
 use crate::search_counts::a_second;
+use cdcl::Search;
 use std::io::Write;
 
 /// Prints the end of a stage, with its time from an earlier end on, and answers when it ended.
@@ -119,6 +120,24 @@ fn print_counts<E: Write>(out: &mut E, figures: &Figures) {
     );
 }
 
+/// Prints what the focused search alone counts, unless the search that was made first decides.
+fn print_rounds<E: Write>(out: &mut E, figures: &Figures) {
+    let is_decided = match figures.first {
+        Some(first) => first.has_decided(),
+        None => false,
+    };
+    if figures.search != Search::Focused || is_decided {
+        return;
+    }
+    let done = figures.searched();
+    let (rounds, switches) = (done.rounds, done.switches);
+    let (removed, units) = (done.minimised, done.units);
+    let _ = writeln!(
+        out,
+        "c focused search: {rounds} rounds, {switches} changes of mode, {removed} literals removed, {units} units"
+    );
+}
+
 /// Prints how many conflicts a second there were while the formula was solved, where that ended and
 /// took time.
 fn print_speed<E: Write>(out: &mut E, figures: &Figures) {
@@ -143,6 +162,7 @@ pub fn print_statistics<E: Write>(out: &mut E, figures: &Figures, hands: usize) 
     );
     print_first(out, figures);
     print_counts(out, figures);
+    print_rounds(out, figures);
     print_division(out, figures);
     print_cubes(out, figures);
     print_hands(out, figures, hands);

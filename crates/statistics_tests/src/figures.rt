@@ -47,6 +47,10 @@ fn some_counts() -> SearchCounts {
                 restarts,
                 learnt,
                 forgotten: 20_000,
+                minimised: 100_000,
+                units: 50,
+                rounds: 9,
+                switches: 3,
                 looks: 10,
                 failed_literals: 2,
             },
@@ -72,11 +76,8 @@ fn some_search(conflicts: u64) -> Counts {
         conflicts,
         decisions: 3000,
         propagations: 40_000,
-        restarts: 0,
         learnt: 800,
-        forgotten: 0,
-        looks: 0,
-        failed_literals: 0,
+        ..Counts::none()
     }
 }
 

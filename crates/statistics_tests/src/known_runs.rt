@@ -63,6 +63,7 @@ static ROWS: [Row; 7] = [
 c hands: 16
 c search: 350000 conflicts, 1600000 decisions, 20000000 propagations, 750 restarts
 c clauses: 338000 learnt, 80000 forgotten
+c focused search: 36 rounds, 12 changes of mode, 400000 literals removed, 200 units
 c cubes: 4 solved, at least 3 split, skipped unknown
 c solved by each hand: 3 1 0 0 0 0 0 0 0 0 0 0 0 0 0 0
 c hands waited: 169.600 s in all, 88.3 % of the hands' time
@@ -85,6 +86,7 @@ c conflicts a second: 29166
 c hands: 2
 c search: 350000 conflicts, 1600000 decisions, 20000000 propagations, 750 restarts
 c clauses: 338000 learnt, 80000 forgotten
+c focused search: 36 rounds, 12 changes of mode, 400000 literals removed, 200 units
 c cubes: 11 solved, 5 split, 0 skipped
 c learnt: 40 lines in refuted cubes, kept in 900 bytes
 c solved by each hand: 3 1
@@ -109,6 +111,7 @@ c conflicts a second: 350000
 c hands: 1
 c search: 350000 conflicts, 1600000 decisions, 20000000 propagations, 750 restarts
 c clauses: 338000 learnt, 80000 forgotten
+c focused search: 36 rounds, 12 changes of mode, 400000 literals removed, 200 units
 c cubes: 4 solved, at least 3 split, skipped unknown
 c solved by each hand: 3
 c proof: 2 lines, 7 bytes
@@ -152,6 +155,7 @@ c hands: 1
 c first search: ordered, 1000 conflicts, undecided
 c search: 351000 conflicts, 1603000 decisions, 20040000 propagations, 750 restarts
 c clauses: 338800 learnt, 80000 forgotten
+c focused search: 36 rounds, 12 changes of mode, 400000 literals removed, 200 units
 c cubes: 4 solved, at least 3 split, skipped unknown
 c solved by each hand: 3
 c proof: 2 lines, 7 bytes
@@ -171,6 +175,7 @@ c hands: 2
 c first search: ordered, 1000 conflicts, undecided
 c search: 351500 conflicts, 1606000 decisions, 20080000 propagations, 750 restarts
 c clauses: 339600 learnt, 80000 forgotten
+c focused search: 36 rounds, 12 changes of mode, 400000 literals removed, 200 units
 c cubes: 4 solved, at least 3 split, skipped unknown
 c solved by each hand: 3 1
 c hands waited: 0.500 s in all, 25.0 % of the hands' time

@@ -21,11 +21,8 @@ fn counts_of(conflicts: u64) -> Counts {
         conflicts,
         decisions: 3,
         propagations: 20,
-        restarts: 0,
         learnt: 2,
-        forgotten: 0,
-        looks: 0,
-        failed_literals: 0,
+        ..Counts::none()
     }
 }
 
@@ -118,6 +115,7 @@ const WAITED: &str = "c formula: 2 variables, 4 clauses, 8 literals
 c hands: 2
 c search: 0 conflicts, 0 decisions, 0 propagations, 0 restarts
 c clauses: 0 learnt, 0 forgotten
+c focused search: 0 rounds, 0 changes of mode, 0 literals removed, 0 units
 c cubes: 3 solved, at least 1 split, skipped unknown
 c solved by each hand: 2 1
 c hands waited: 6.600 s in all, 38.8 % of the hands' time
@@ -167,6 +165,7 @@ c hands: 1
 c first search: ordered, 10 conflicts, undecided
 c search: 17 conflicts, 9 decisions, 60 propagations, 0 restarts
 c clauses: 6 learnt, 0 forgotten
+c focused search: 0 rounds, 0 changes of mode, 0 literals removed, 0 units
 c cubes: 1 solved, at least 0 split, skipped unknown
 c solved by each hand: 1
 c lowering: 1 questions, 1 with a model, 0 without, 2 conflicts

@@ -35,6 +35,7 @@ const DIVIDED: Row = Row {
 c hands: 1
 c search: 1843 conflicts, 2529 decisions, 25009 propagations, 14 restarts
 c clauses: 1844 learnt, 530 forgotten
+c focused search: 3 rounds, 1 changes of mode, 2521 literals removed, 5 units
 c divided: 43 decisions in 40 conflicts of stable mode, into at most 2 cubes
 c looked at: 1 cubes, 1 failed literals, 0.150 s
 c searched: 2 cubes
@@ -65,6 +66,7 @@ static ROWS: [Row; 5] = [
 c hands: 1
 c search: 1846 conflicts, 2594 decisions, 25085 propagations, 14 restarts
 c clauses: 1846 learnt, 530 forgotten
+c focused search: 3 rounds, 1 changes of mode, 2521 literals removed, 7 units
 c divided: 43 decisions in 40 conflicts of stable mode, into at most 4 cubes
 c looked at: 3 cubes, 2 failed literals, 0.450 s
 c searched: 4 cubes
@@ -92,6 +94,7 @@ c conflicts a second: 900
 c hands: 1
 c search: 1846 conflicts, 2594 decisions, 25085 propagations, 14 restarts
 c clauses: 1846 learnt, 530 forgotten
+c focused search: 3 rounds, 1 changes of mode, 2521 literals removed, 7 units
 c divided: 43 decisions in 40 conflicts of stable mode, into at most 64 cubes
 c looked at: 7 cubes, 2 failed literals, 1.450 s
 c searched: 0 cubes
@@ -115,6 +118,7 @@ c conflicts a second: 900
 c hands: 1
 c search: 5 conflicts, 4 decisions, 13 propagations, 0 restarts
 c clauses: 4 learnt, 0 forgotten
+c focused search: 0 rounds, 0 changes of mode, 0 literals removed, 2 units
 c not divided: 0 decisions in 0 conflicts of stable mode
 c cubes: 3 solved, at least 1 split, skipped unknown
 c solved by each hand: 3
@@ -134,6 +138,7 @@ c conflicts a second: 2
 c hands: 1
 c search: 2 conflicts, 1 decisions, 4 propagations, 0 restarts
 c clauses: 2 learnt, 0 forgotten
+c focused search: 0 rounds, 0 changes of mode, 0 literals removed, 1 units
 c not divided: the focused search ended after 2 conflicts
 c cubes: 1 solved, at least 0 split, skipped unknown
 c solved by each hand: 1

@@ -37,6 +37,7 @@ c hands: 1
 c first search: ordered, 1 conflicts, undecided
 c search: 2 conflicts, 6 decisions, 15 propagations, 0 restarts
 c clauses: 1 learnt, 0 forgotten
+c focused search: 0 rounds, 0 changes of mode, 0 literals removed, 0 units
 c not divided: the focused search ended after 0 conflicts
 c cubes: 1 solved, at least 0 split, skipped unknown
 c solved by each hand: 1
@@ -67,6 +68,7 @@ c hands: 1
 c first search: ordered, 1 conflicts, undecided
 c search: 1 conflicts, 5 decisions, 6 propagations, 0 restarts
 c clauses: 0 learnt, 0 forgotten
+c focused search: 0 rounds, 0 changes of mode, 0 literals removed, 0 units
 c not divided: the focused search ended after 0 conflicts
 c cubes: 1 solved, at least 0 split, skipped unknown
 c solved by each hand: 1
@@ -117,6 +119,7 @@ c hands: 1
 c first search: ordered, 1 conflicts, undecided
 c search: 1 conflicts, 6 decisions, 9 propagations, 0 restarts
 c clauses: 0 learnt, 0 forgotten
+c focused search: 0 rounds, 0 changes of mode, 0 literals removed, 0 units
 c not divided: the focused search ended after 0 conflicts
 c cubes: 1 solved, at least 0 split, skipped unknown
 c solved by each hand: 1

@@ -149,6 +149,7 @@ const ROWS: [Row; 14] = [
 c hands: 1
 c search: 2 conflicts, 1 decisions, 4 propagations, 0 restarts
 c clauses: 2 learnt, 0 forgotten
+c focused search: 0 rounds, 0 changes of mode, 0 literals removed, 1 units
 c cubes: 1 solved, 0 split, 0 skipped
 c learnt: 3 lines in refuted cubes, kept in 18 bytes
 c solved by each hand: 1
