@@ -1,0 +1,4 @@
+pub mod TrailTruths
+pub mod NeededLemmas
+pub mod AskedLemmas
+pub mod LoadedLemmas

@@ -1,0 +1,7 @@
+-- What a session keeps, and what its answers mean.
+pub mod Answers
+pub mod State
+pub mod Choosing
+pub mod Loading
+pub mod Needing
+pub mod Asking

@@ -1,0 +1,135 @@
+//! Sessions: many questions of one growing formula.
+ghost use Rattle.std.specs.Prelude.{◌≡◌, ◌≤◌, ◌++◌, ◌∷◌, ◌⊎◌, ◌-◌, ◌^◌, [], true, false, length, IfOk, OnOk, OnErr, IsErr};
+ghost use Rattle.theory.specs.Truth.{IsOver};
+ghost use Rattle.session.specs.Answers.{Says};
+
+use crate::answer::Answer;
+use crate::growing::GrowingFormula;
+use crate::interrupt::Interrupt;
+use crate::search::Search;
+use cnf::Lit;
+use std::alloc::{AllocError, Global};
+use std::marker::Model;
+
+/// Clauses that are added one after the other, and questions of them under assumptions. What a
+/// question learns, the scores of variables and their last values stay for the next ones. Once a
+/// call has failed, each of them fails.
+pub struct Session {
+    // the clauses added
+    formula: GrowingFormula,
+    search: Search,
+    // how many of the clauses the search has, the first ones
+    loaded: usize,
+    // how many steps were made in all questions
+    steps: u64,
+    // whether a call has failed
+    short: bool,
+}
+
+// written out, so that proofs of its owners stay short (docs/PROVING.md)
+impl Drop for Session {
+    fn drop(self) {
+        let Session {
+            formula: _,
+            search: _,
+            loaded: _,
+            steps: _,
+            short: _,
+        } = self;
+    }
+}
+
+impl Model for Session {
+    ghost use Rattle.std.specs.Prelude.{◌≡◌, ◌≤◌, false, take, length};
+    ghost use Rattle.session.specs.State.{State};
+    ghost use Rattle.session.specs.Loading.{IsLoaded};
+
+    ghost Value = { State };
+
+    ghost view = { λ a. record { formula = a.formula; steps = a.steps; short = a.short } };
+
+    ghost invariant = { λ a. a.short ≡ false →
+        IsLoaded a.formula.clauses (take a.loaded a.formula.clauses) a.search × (a.loaded ≤ length a.formula.clauses) };
+}
+
+impl Session {
+    /// No clauses over no variables. It fails where a request for memory is refused.
+    pub fn open(alloc: Global) -> Result<Session, AllocError>
+        ensures { IfOk result (λ s. s ≡ record { formula = record { vars = 0; clauses = [] }; steps = 0; short = false }) }
+    {
+        Ok(Session {
+            formula: GrowingFormula::new(alloc),
+            search: Search::open(alloc)?,
+            loaded: 0,
+            steps: 0,
+            short: false,
+        })
+    }
+
+    /// Adds a clause. Its variables become variables of the formula; literals may stand in it more
+    /// than once, or with both signs, and the empty clause is one too. It takes time by its literals.
+    /// It fails where a request for memory is refused, or a variable is above 100,000,000.
+    pub fn add_clause(&mut self, clause: &[Lit]) -> Result<(), AllocError>
+        ensures added { OnOk result (self.new.formula.clauses ≡ self.old.formula.clauses ++ clause.now ∷ []) }
+        ensures over { OnOk result (IsOver self.new.formula.vars clause.now) }
+        ensures vars { self.old.formula.vars ≤ self.new.formula.vars }
+        ensures refused { OnErr result ((self.new.short ≡ true) × (self.new.formula.clauses ≡ self.old.formula.clauses)) }
+        ensures stays { self.old.short ≡ true → IsErr result }
+        ensures steps { self.new.steps ≡ self.old.steps }
+    {
+        if self.short {
+            return Err(AllocError);
+        }
+        self.short = true; // until nothing was refused
+        self.formula.widen(clause)?;
+        self.formula.push(clause)?;
+        self.short = false;
+        Ok(())
+    }
+
+    /// Asks whether the clauses have a model that makes the assumptions true, and gives one, or a
+    /// core. The assumptions may repeat or contradict one another, and their variables become
+    /// variables of the formula. There is no answer only where the question is interrupted, or where
+    /// 2 ^ 64 - 1 steps were made in all questions. It fails where a request for memory is refused,
+    /// or a variable is above 100,000,000.
+    pub fn solve<I: Interrupt>(
+        &mut self,
+        assumptions: &[Lit],
+        interrupt: &I,
+    ) -> Result<Answer, AllocError>
+        ensures says { IfOk result (Says self.new.formula assumptions.now ((I.may_interrupt interrupt.now ≡ true) ⊎ (2 ^ 64 - 1 ≤ self.new.steps))) }
+        ensures clauses { self.new.formula.clauses ≡ self.old.formula.clauses }
+        ensures vars { self.old.formula.vars ≤ self.new.formula.vars }
+        ensures refused { OnErr result (self.new.short ≡ true) }
+        ensures stays { self.old.short ≡ true → IsErr result }
+    {
+        if self.short {
+            return Err(AllocError);
+        }
+        self.short = true; // until nothing was refused
+        self.formula.widen(assumptions)?;
+        let answer = self.search.answer(
+            &self.formula,
+            &mut self.loaded,
+            assumptions,
+            interrupt,
+            &mut self.steps,
+        )?;
+        self.short = false;
+        Ok(answer)
+    }
+
+    /// The number of variables: those of the clauses and of the assumptions so far are 1 up to it.
+    pub fn vars(&self) -> u32
+        ensures { result ≡ self.now.formula.vars }
+    {
+        self.formula.vars()
+    }
+
+    /// How many clauses were added.
+    pub fn clause_count(&self) -> usize
+        ensures { result ≡ length self.now.formula.clauses }
+    {
+        self.formula.clause_count()
+    }
+}
