@@ -220,6 +220,116 @@ class Refusals(InFolder):
         self.assertEqual(caught.exception.line, "ended with status -9")
 
 
+# Calls of one solver in turn: clauses that are added, then assumptions, and the literals that the answer has: a model's, or those of the core.
+QUESTIONS = [
+    ("no clauses", [], [], "model", []),
+    ("a variable that only an assumption has", [], [-3], "model", [-3]),
+    ("a clause", [[1, 2]], [-1], "model", [-1, 2]),
+    ("a core of one", [[-2, 4]], [3, -4, -1], "core", [-4, -1]),
+    ("the same without it", [], [3, -4], "model", [3, -4, -2, 1]),
+    ("assumptions that contradict one another", [], [5, 3, -5], "core", [5, -5]),
+    ("literals that repeat, and a clause that is always true", [[6, 6], [7, -7]], [6, 6], "model", [6]),
+    ("an empty core", [[-6]], [1], "core", []),
+    ("one for good", [[8]], [], "core", []),
+]
+BAD_CALLS = [
+    ("zero", lambda solver: solver.add_clause([1, 0])),
+    ("a number", lambda solver: solver.append_formula([1])),
+    ("a truth value", lambda solver: solver.add_clause([True])),
+    ("a variable over the limit", lambda solver: solver.add_clause([100_000_001])),
+    ("an assumption that is none", lambda solver: solver.solve([0])),
+    ("a text", lambda solver: solver.solve("1")),
+    ("no number of seconds", lambda solver: solver.solve_limited(seconds=float("nan"))),
+]
+
+
+class Whole:
+    """An integer of another kind."""
+
+    def __init__(self, number):
+        self.number = number
+
+    def __index__(self):
+        return self.number
+
+
+class Questions(InFolder):
+    def test_questions_in_turn(self):
+        with cubesat.Solver() as solver:
+            for name, clauses, assumptions, what, literals in QUESTIONS:
+                with self.subTest(name):
+                    solver.append_formula(clauses)
+                    self.assertIs(solver.solve(assumptions), what == "model")
+                    model, core = solver.get_model(), solver.get_core()
+                    if what == "core":
+                        self.assertIsNone(model)
+                        self.assertEqual(sorted(core), sorted(literals))
+                    else:
+                        self.assertIsNone(core)
+                        self.assertEqual([*map(abs, model)], [*range(1, solver.nof_vars() + 1)])
+                        self.assertLessEqual({*literals}, {*model})
+
+    def test_all_models(self):
+        with cubesat.Solver(ALTERNATING) as solver:
+            self.assertEqual(sorted(solver.enum_models()), [[-1, 2, -3], [1, -2, 3]])
+            self.assertEqual((solver.get_core(), solver.nof_clauses()), ([], len(ALTERNATING) + 2))
+        with cubesat.Solver(bootstrap_with=[[1, 2, 3]]) as solver:
+            self.assertEqual(len([*solver.enum_models(limit=2)]), 2)
+            self.assertEqual(solver.nof_clauses(), 3)
+        with cubesat.Solver([[1, 2]]) as solver:
+            self.assertEqual(sorted(solver.enum_models([-1])), [[-1, 2]])
+            self.assertTrue(solver.solve([1]))
+
+    def test_integers_of_any_kind(self):
+        with cubesat.Solver([[Whole(1), Whole(-2)]]) as solver:
+            self.assertTrue(solver.solve([Whole(2)]))
+            self.assertEqual(solver.get_model(), [1, 2])
+        self.assertEqual(cubesat.dimacs([[Whole(-1)]]), "p cnf 1 1\n-1 0\n")
+
+    def test_bad_calls_change_nothing(self):
+        with cubesat.Solver([[1]]) as solver:
+            for name, call in BAD_CALLS:
+                with self.subTest(name), self.assertRaises(ValueError):
+                    call(solver)
+            self.assertEqual((solver.solve(), solver.get_model(), solver.nof_vars(), solver.nof_clauses()), (True, [1], 1, 1))
+        with self.assertRaises(cubesat.BadClauses):
+            cubesat.Solver([[1], [0]])
+
+    def test_out_of_time(self):
+        """The solver is asked again, for less."""
+        with cubesat.Solver(pigeons(13)) as solver:
+            self.assertIsNone(solver.solve_limited(seconds=0.1))
+            self.assertEqual((solver.get_model(), solver.get_core()), (None, None))
+            self.assertIs(solver.solve_limited([1000, -1000], seconds=1000), False)
+            self.assertEqual(sorted(solver.get_core()), [-1000, 1000])
+
+    def test_a_limit_that_isnt_reached_changes_nothing(self):
+        with cubesat.Solver(ALTERNATING) as solver:
+            for seconds in (1000, 2.5, float("inf")):
+                self.assertIs(solver.solve_limited([1], seconds=seconds), True)
+                self.assertEqual(solver.get_model(), [1, -2, 3])
+
+    def test_program_that_ends_is_a_fault(self):
+        for name, text, line in (
+            ("it says nothing", "exit 3", "ended with status 3"),
+            ("it says a fault", "echo fault 52 >&2; exit 1", "fault 52"),
+            ("it is killed", "kill -9 $$", "ended with status -9"),
+            ("it breaks off", "read line; echo s SATISFIABLE; echo v 1; exit 10", "ended with status 10"),
+        ):
+            with self.subTest(name), cubesat.Solver(program=program_of(self.folder, text)) as solver:
+                for _ in range(2):
+                    with self.assertRaises(cubesat.Fault) as caught:
+                        solver.solve()
+                    self.assertEqual(caught.exception.line, line)
+
+    def test_deletion(self):
+        solver = cubesat.Solver(pigeons(8))
+        solver.delete()
+        solver.delete()
+        self.assertIsNotNone(solver._ran.returncode)
+        self.assertRaises(ValueError, solver.solve)
+
+
 class Programs(InFolder):
     def test_missing_program(self):
         absent = os.path.join(self.folder, "absent")

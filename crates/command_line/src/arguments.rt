@@ -24,6 +24,9 @@ pub const MAX_DIVIDE: u32 = 65_536;
 /// The most hands.
 const MAX_HANDS: u32 = 16;
 
+/// Whether something is wanted.
+static WHETHER: [&str; 2] = ["yes", "no"];
+
 /// The names of the searches.
 static SEARCHES: [&str; 3] = ["automatic", "ordered", "focused"];
 
@@ -197,6 +200,30 @@ fn tidy_command<'a>(alloc: Global) -> Result<Command<'a>, AllocError> {
         .arg(word(alloc, "FILE", FORMULA_FILE))
 }
 
+fn model_option<'a>(alloc: Global) -> Arg<'a> {
+    Arg::new(alloc, "model")
+        .long("model")
+        .value_name("WHETHER")
+        .value_parser(WHETHER.as_slice())
+        .default_value("yes")
+        .help("Whether `v` lines with a model follow `s SATISFIABLE`")
+}
+
+fn questions_word<'a>(alloc: Global) -> Arg<'a> {
+    Arg::new(alloc, "FILE")
+        .default_value(STANDARD_INPUT)
+        .help("Clauses and questions, in iCNF; - is standard input")
+}
+
+fn session_command<'a>(alloc: Global) -> Result<Command<'a>, AllocError> {
+    Command::new(alloc, "session")
+        .about(
+            "Answer questions of a growing formula, each as soon as it is read: `p inccnf`, clauses, and `a LITERALS 0` for a question under assumptions",
+        )
+        .arg(model_option(alloc))?
+        .arg(questions_word(alloc))
+}
+
 fn number_word<'a>(alloc: Global) -> Arg<'a> {
     word(alloc, "NUMBER", "The number behind `fault` or `refused`").value_parser(
         clap::value_parser!(u32),
@@ -228,6 +255,7 @@ const EXAMPLES: &str = "Examples:
   xz -dc f.cnf.xz | cubesat solve -                      standard input, and no proof
   cubesat check f.cnf f.lrat                             check the proof
   cubesat tidy f.cnf                                     write the formula without what repeats
+  cubesat session < questions                            answer questions of a growing formula
   cubesat divide --into RUN f.cnf                        begin a run on many machines
   cubesat explain 51 5                                   what `fault 51: refusal 5` means";
 
@@ -249,6 +277,7 @@ fn whole_command<'a>(alloc: Global) -> Result<Command<'a>, AllocError> {
     let command = with_subcommand(command, solve_command(alloc))?;
     let command = with_subcommand(command, check_command(alloc))?;
     let command = with_subcommand(command, tidy_command(alloc))?;
+    let command = with_subcommand(command, session_command(alloc))?;
     let command = with_subcommand(command, divide_command(alloc))?;
     let command = with_subcommand(command, conquer_command(alloc))?;
     let command = with_subcommand(command, gather_command(alloc))?;
@@ -366,6 +395,13 @@ fn tidy_request<'a>(matches: &ArgMatches<'a>) -> Option<Request<'a>> {
     })
 }
 
+fn session_request<'a>(matches: &ArgMatches<'a>) -> Option<Request<'a>> {
+    Some(Request::Session {
+        file: matches.get_str("FILE")?,
+        shows_models: matches.get_str("model")? == "yes",
+    })
+}
+
 fn explain_request<'a>(matches: &ArgMatches<'a>) -> Option<Request<'a>> {
     let number = matches.get_one::<u32>("NUMBER")?;
     let behind = matches.get_one::<u32>("REFUSAL");
@@ -378,6 +414,7 @@ fn request_in<'a>(matches: &ArgMatches<'a>) -> Option<Request<'a>> {
     match name {
         "check" => check_request(matches),
         "tidy" => tidy_request(matches),
+        "session" => session_request(matches),
         "explain" => explain_request(matches),
         "divide" => Some(Request::Spread(divide_request(matches)?)),
         "conquer" => Some(Request::Spread(conquer_request(matches)?)),

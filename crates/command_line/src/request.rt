@@ -45,6 +45,12 @@ pub enum Request<'a> {
         formula: FormulaFile<'a>,
         limits: Limits,
     },
+    /// Answer the questions of a text in iCNF.
+    Session {
+        file: &'a str,
+        /// Whether the answer to a question has its model.
+        shows_models: bool,
+    },
     /// Say what a number that the program printed means, and the one behind it.
     Explain {
         number: u32,

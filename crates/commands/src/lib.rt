@@ -1,4 +1,5 @@
-//! The commands that decide a formula, check a proof and tidy a formula: their files, statuses, words and figures.
+//! The commands that decide a formula, check a proof and tidy a formula: their files, statuses,
+//! words and figures.
 #![tactic(auto)]
 
 mod anew;

@@ -1,6 +1,7 @@
 //! The program: a command line, and what is done for it.
 
 use crate::spreading::work_on;
+use asking::session;
 use clap::Error;
 use clap::error::ErrorKind;
 use cnf::Limits;
@@ -125,6 +126,9 @@ fn serve<
         Request::Tidy { formula, limits } => {
             tidy(rt, alloc, formula, limits, input, answer, faults)
         }
+        Request::Session { file, shows_models } => {
+            session(rt, alloc, file, shows_models, input, answer, faults)
+        }
         Request::Explain { number, behind } => explain(number, behind, answer, faults),
         Request::Spread(_) => {
             let _ = writeln!(
@@ -140,9 +144,9 @@ fn serve<
 /// name: reads and writes its files, reads `input` where the line has `-` for one, writes the
 /// answer to `answer`, faults and what is shown of the run to `faults`, and answers the exit
 /// status: 10 satisfiable, 20 unsatisfiable, 0 for a formula that isn't decided in time, or that is
-/// written, for a proof that is accepted, for help and for an explanation, 1 for a proof that is refused, on a
-/// fault or a wrong command line. A failed write to `faults` changes nothing else. `screen` says
-/// where `faults` leads. Of two runs for one proof at once the earlier fails.
+/// written, for a proof that is accepted, for help and for an explanation, 1 for a proof that is
+/// refused, on a fault or a wrong command line. A failed write to `faults` changes nothing else.
+/// `screen` says where `faults` leads. Of two runs for one proof the later is refused.
 pub fn command_with_input<
     R: Files + Threads + Wait + Clock + Sync,
     I: Read + Drop,

@@ -21,6 +21,8 @@ mod program;
 #[cfg(test)]
 mod same_file;
 #[cfg(test)]
+mod sessions_told;
+#[cfg(test)]
 mod shown;
 #[cfg(test)]
 mod shown_faults;

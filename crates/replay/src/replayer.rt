@@ -54,10 +54,11 @@ impl Replayer {
 
     /// Whether the lines of a row replay as a refutation of a cube, over the clauses that a search
     /// of the formula begins with: each line's clause with the negations of the cube's literals
-    /// passes by its hints, and the last one's is empty; no hint names a line that is forgotten, and
-    /// only lines before are, each once, behind the last one none. The row and the cube may be any. It takes
-    /// time by the literals of the cube, of the lines and of the clauses that hints name, and none
-    /// by the formula. It fails where a request for memory is refused, and can be asked again.
+    /// passes by its hints, and the last one's is empty; no hint names a line that is forgotten,
+    /// and only lines before are, each once, behind the last one none. The row and the cube may be
+    /// any. It takes time by the literals of the cube, of the lines and of the clauses that hints
+    /// name, and none by the formula. It fails where a request for memory is refused, and can be
+    /// asked again.
     pub fn replays(&mut self, formula: &Formula, cube: &Cube, row: &Row) -> Result<bool, AllocError>
         requires { self.old.vars ≡ formula.now.vars }
         ensures replays { IfOk result (λ b. IsTrue b ↔ AreCheckedLines (with_units formula.now self.old.units) cube.now row.now) }

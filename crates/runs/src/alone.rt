@@ -71,8 +71,8 @@ pub(crate) fn answer_of<L>(
     }
 }
 
-/// What is to be written for a formula, which came to the tree by the strategy. From here on the run takes no
-/// more memory, but for the parts of several hands.
+/// What is to be written for a formula, which came to the tree by the strategy. From here on the
+/// run takes no more memory, but for the parts of several hands.
 pub(crate) fn output_of(
     alloc: Global,
     formula: &Formula,

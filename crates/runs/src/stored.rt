@@ -129,15 +129,15 @@ fn gather_stored_by<R: Read + Drop, S: KeepsFacts + Drop, H: OpensOutcomes<S>, W
 }
 
 /// What `run_one_by_plan` does within these limits, where facts of the formula's cubes are kept
-/// elsewhere: it goes through the formula's tree twice, once to come to the verdict and once to write
-/// the proof, and asks for each cube's facts when it comes there. Nobody vouches for these: of the
-/// cubes that it needs, it takes what a check bears out, each time, and solves the others. So its
-/// answer is right whatever the store gives, and also where that changes in between; where the store
-/// tells what it gives, and all of that is true of the formula by the plan, the very bytes of
-/// `run_within` are written. The strategy has no search before its plan: whoever began the run has
-/// chosen that; its model may be lowered to the first one. It takes memory by the formula, a few
-/// bytes for each node of the tree, and the longest fact. `RunFault` says when each fault comes; in the second way through the
-/// tree want of memory is a proof that can't be written.
+/// elsewhere: it goes through the formula's tree twice, once to come to the verdict and once to
+/// write the proof, and asks for each cube's facts when it comes there. Nobody vouches for these:
+/// of the cubes that it needs, it takes what a check bears out, each time, and solves the others.
+/// So its answer is right whatever the store gives, and also where that changes in between; where
+/// the store tells what it gives, and all of that is true of the formula by the plan, the very
+/// bytes of `run_within` are written. The strategy has no search before its plan: whoever began the
+/// run has chosen that; its model may be lowered to the first one. It takes memory by the formula,
+/// a few bytes for each node of the tree, and the longest fact. `RunFault` says when each fault
+/// comes; in the second way through the tree want of memory is a proof that can't be written.
 pub fn gather_stored<R: Read + Drop, S: KeepsFacts + Drop, W: Write, P: Write>(
     alloc: Global,
     input: R,

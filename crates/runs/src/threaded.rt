@@ -73,9 +73,9 @@ pub(crate) fn run_observed<
     Ok(output.verdict)
 }
 
-/// What `run_one_by_plan` does within these limits and by a strategy, by 1 to 16 hands, each in a thread of its own
-/// where one can be started. Whatever the hands, the gate and the schedule, the same bytes are
-/// written. `RunFault` says when each fault comes and what is written then.
+/// What `run_one_by_plan` does within these limits and by a strategy, by 1 to 16 hands, each in a
+/// thread of its own where one can be started. Whatever the hands, the gate and the schedule, the
+/// same bytes are written. `RunFault` says when each fault comes and what is written then.
 pub fn run_within<
     T: Threads + Wait + Clock + Sync,
     R: Read + Drop,

@@ -37,7 +37,7 @@ c hands: 1
 c first search: ordered, 1 conflicts, undecided
 c search: 2 conflicts, 6 decisions, 15 propagations, 0 restarts
 c clauses: 1 learnt, 0 forgotten
-c focused search: 0 rounds, 0 changes of mode, 0 literals removed, 0 units
+c focused search: 0 rounds, 0 changes of mode, 0 literals removed, 1 units
 c not divided: the focused search ended after 0 conflicts
 c cubes: 1 solved, at least 0 split, skipped unknown
 c solved by each hand: 1
