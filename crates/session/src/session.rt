@@ -12,8 +12,9 @@ use std::alloc::{AllocError, Global};
 use std::marker::Model;
 
 /// Clauses that are added one after the other, and questions of them under assumptions. What a
-/// question learns, the scores of variables and their last values stay for the next ones. Once a
-/// call has failed, each of them fails.
+/// question learns and the last values of variables stay for the next ones; so do the variables'
+/// scores, until more variables come than there is room for. With new clauses a question opens the
+/// kernel anew, in time by all clauses. Once a call has failed, each of them fails.
 pub struct Session {
     // the clauses added
     formula: GrowingFormula,
