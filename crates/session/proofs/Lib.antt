@@ -2,3 +2,4 @@ pub mod TrailTruths
 pub mod NeededLemmas
 pub mod AskedLemmas
 pub mod LoadedLemmas
+pub mod GatheredLemmas

@@ -68,11 +68,11 @@ cube-true m (e ∷ T) h = go (is_given (Some e)) (cube-true m T h.1)
     go false more = more
 
 -- the last of some clauses
-are_true-last : (m : ℕ → Bool) (K : List Clause) (c : Clause) → are_true m (K ++ c ∷ []) ≡ true → is_true_clause m c ≡ true
+pub are_true-last : (m : ℕ → Bool) (K : List Clause) (c : Clause) → are_true m (K ++ c ∷ []) ≡ true → is_true_clause m c ≡ true
 are_true-last m [] c h = and-left (is_true_clause m c) true h
 are_true-last m (d ∷ K) c h = are_true-last m K c (and-right (is_true_clause m d) (are_true m (K ++ c ∷ [])) h)
 
-take-next : (K : List Clause) (i : ℕ) (c : Clause) → slice_get K i ≡ Some c → take (i + 1) K ≡ take i K ++ c ∷ []
+pub take-next : (K : List Clause) (i : ℕ) (c : Clause) → slice_get K i ≡ Some c → take (i + 1) K ≡ take i K ++ c ∷ []
 take-next [] i c h = absurd (cc)
 take-next (d ∷ K) zero c h = let one : d ≡ c = cc in ap (λ x. x ∷ []) one
 take-next (d ∷ K) (suc i) c h = let on : suc i + 1 ≡ suc (i + 1) = omega arith in ap (λ n. take n (d ∷ K)) on ∙ ap (λ (x : List Clause). d ∷ x) (take-next K i c h)

@@ -1,9 +1,11 @@
 -- What the kernel of a session has of the clauses added.
 use Rattle.std.specs.Prelude.{◌≡◌, ℕ, ◌+◌, ◌≤◌, Bool, true, false, List, length, take}
-use Rattle.theory.specs.Literals.{Literal, Clause}
+use Rattle.theory.specs.Literals.{Literal, Clause, has}
 use Rattle.theory.specs.Truth.{AreTrue, IsOver, are_true}
+use Rattle.theory.specs.Trails.{Trail, cube_trail}
 use Rattle.theory.specs.Reading.{large, max_vars}
 use Rattle.kernel.specs.declared.order.Order.TheVariants.{ByPlace}
+use Rattle.kernel.specs.State.{State}
 use Rattle.session.specs.declared.search.Search.{Search}
 use Rattle.session.specs.Choosing.{HasChoice}
 
@@ -38,3 +40,21 @@ pub record IsPut (K D : List Clause) (place : ℕ) (P : List Literal) : Type 0 w
 pub record IsPutBehind (K old new : List Clause) : Type 0 where
   pub follows : (m : ℕ → Bool) → are_true m K ≡ true → are_true m old ≡ true → are_true m new ≡ true
   pub covers : (m : ℕ → Bool) → are_true m new ≡ true → are_true m old ≡ true
+
+-- the literals of the clause p, each once, which are on the trail at level 0
+pub record IsGathered (p lits : Clause) (T : Trail) : Type 0 where
+  pub held : T ≡ cube_trail lits
+  pub within : (k : Literal) → has lits k ≡ true → has p k ≡ true
+  pub covers : (k : Literal) → has p k ≡ true → has lits k ≡ true
+
+-- the clauses of K between two places were put behind others
+pub record IsAttached (K : List Clause) (from place : ℕ) (old new : List Clause) : Type 0 where
+  pub follows : (m : ℕ → Bool) → are_true m K ≡ true → are_true m old ≡ true → are_true m new ≡ true
+  pub before : (m : ℕ → Bool) → are_true m new ≡ true → are_true m old ≡ true
+  pub covers : (m : ℕ → Bool) → are_true m new ≡ true → are_true m (take from K) ≡ true → are_true m (take place K) ≡ true
+
+-- a kernel of the same kind, with memory
+pub record IsSameKernel (old new : State) : Type 0 where
+  pub vars : new.vars ≡ old.vars
+  pub order : new.order ≡ old.order
+  pub memory : new.short ≡ false

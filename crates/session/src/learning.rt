@@ -9,6 +9,11 @@ use crate::search::Search;
 use cnf::Lit;
 use std::alloc::AllocError;
 
+/// 1 for a clause of one literal.
+fn if_unit(clause: &[Lit]) -> usize {
+    if clause.len() == 1 { 1 } else { 0 }
+}
+
 impl Search {
     /// Learns the clause that a conflict above level 0 teaches, at the level where it is a unit
     /// clause, and restarts where that is due. What is learnt follows from the clauses alone, since
@@ -30,6 +35,7 @@ impl Search {
         self.go_back(formula, assumptions, level);
         self.kernel.learn(self.lessons.clause())?;
         self.glues.push(glue.max(1))?;
+        self.units = self.units.saturating_add(if_unit(self.lessons.clause()));
         if self.restarts.count_conflict() {
             self.go_back(formula, assumptions, 0);
         }

@@ -8,6 +8,7 @@ mod core_walk;
 mod growing;
 mod interrupt;
 mod learning;
+mod loading;
 mod question;
 mod renewing;
 mod restarts;

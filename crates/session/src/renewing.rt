@@ -1,5 +1,5 @@
-//! How the kernel is opened anew: with the clauses that were added since, with room for more
-//! variables, and without learnt clauses that are of little use.
+//! How the kernel gets the clauses that were added since: one by one, or opened anew, with room for
+//! more variables and without learnt clauses that are of little use.
 ghost use Rattle.std.specs.Prelude.{◌≡◌, ◌≤◌, ◌<◌, ◌+◌, ℕ, Bool, List, [], take, length, true, false, IfOk, OnOk};
 ghost use Rattle.theory.specs.Literals.{Clause};
 ghost use Rattle.theory.specs.Truth.{AreTrue, is_true_clause};
@@ -10,6 +10,7 @@ ghost use Rattle.session.specs.Loading.{IsFit, IsLoaded, IsPut, IsPutBehind};
 
 use crate::choice::Choice;
 use crate::growing::GrowingFormula;
+use crate::loading::put_from;
 use crate::search::{Search, open_kernel};
 use crate::values::is_true;
 use cdcl::Lessons;
@@ -122,6 +123,36 @@ fn put_learnt(
     Ok(())
 }
 
+/// Notes of the clauses behind those noted, up to so many in all, that they were added.
+fn note_added(glues: &mut Vec<u32>, count: usize) -> Result<(), AllocError> {
+    for _ in glues.len()..count {
+        glues.push(0)?;
+    }
+    Ok(())
+}
+
+/// How many clauses of a formula have one literal.
+fn units_in(clauses: &Formula) -> usize {
+    let mut units = 0usize;
+    for place in 0..clauses.clause_count() {
+        if clauses.clause(place).len() == 1 {
+            units = units.saturating_add(1);
+        }
+    }
+    units
+}
+
+/// How many of the clauses from one on have one literal.
+fn units_from(formula: &GrowingFormula, from: usize) -> usize {
+    let mut units = 0usize;
+    for place in from..formula.clause_count() {
+        if formula.clause(place).len() == 1 {
+            units = units.saturating_add(1);
+        }
+    }
+    units
+}
+
 impl Search {
     /// Whether so many clauses were learnt that the kernel is to be opened anew.
     pub(crate) fn is_full(&self) -> bool {
@@ -139,18 +170,53 @@ impl Search {
         Ok(())
     }
 
-    /// Opens the kernel anew where it lacks clauses or variables, or has too many clauses.
+    /// Puts the clauses that the kernel lacks into it, or opens it anew.
     fn renew_where_due(&mut self, formula: &GrowingFormula, loaded: usize) -> Result<(), AllocError>
         requires { IsLoaded formula.now.clauses (take loaded formula.now.clauses) self.old }
         ensures loaded { OnOk result (IsLoaded formula.now.clauses formula.now.clauses self.new) }
         ensures vars { OnOk result (formula.now.vars ≤ self.new.kernel.vars) }
     {
-        let is_current = loaded >= formula.clause_count() && formula.vars() <= self.kernel.vars();
-        if is_current && !self.is_full() {
+        if self.is_due(formula, loaded) {
+            self.renew(formula)?;
+            return Ok(());
+        }
+        if self.put_rest(formula, loaded)? {
             return Ok(());
         }
         self.renew(formula)?;
         Ok(())
+    }
+
+    /// Whether the kernel has to be opened anew: for want of variables, or since it has too many
+    /// clauses; or whether that takes less time than to put in what it lacks, one clause after the
+    /// other: each takes a step for each clause of one literal, and opening one for each literal.
+    fn is_due(&self, formula: &GrowingFormula, loaded: usize) -> bool
+        ensures { result ≡ false → formula.now.vars ≤ self.now.kernel.vars }
+    {
+        if formula.vars() > self.kernel.vars() || self.is_full() {
+            return true;
+        }
+        let pending = formula.clause_count().saturating_sub(loaded);
+        pending > loaded / 4 || pending.saturating_mul(self.units) > formula.literal_count()
+    }
+
+    /// Puts in the clauses behind the first so many, as far as the first empty one. Whether all are
+    /// put.
+    fn put_rest(&mut self, formula: &GrowingFormula, loaded: usize) -> Result<bool, AllocError>
+        requires loaded { IsLoaded formula.now.clauses (take loaded formula.now.clauses) self.old }
+        requires vars { formula.now.vars ≤ self.old.kernel.vars }
+        ensures all { IfOk result (λ all. all ≡ true → IsLoaded formula.now.clauses formula.now.clauses self.new) }
+        ensures part { IfOk result (λ all. all ≡ false → IsLoaded formula.now.clauses (take loaded formula.now.clauses) self.new) }
+        ensures vars { OnOk result (self.new.kernel.vars ≡ self.old.kernel.vars) }
+    {
+        if loaded >= formula.clause_count() {
+            return Ok(true);
+        }
+        let alloc = *self.marked.allocator();
+        let all = put_from(alloc, &mut self.kernel, formula, loaded)?;
+        note_added(&mut self.glues, self.kernel.count() as usize)?;
+        self.units = self.units.saturating_add(units_from(formula, loaded));
+        Ok(all)
     }
 
     /// The greatest glue of the learnt clauses that are kept.
@@ -183,6 +249,7 @@ impl Search {
         self.glues = glues;
         let count = clauses.clause_count();
         self.limit = count.saturating_add(count / 3).saturating_add(LEARNT);
+        self.units = units_in(&clauses);
         Ok(())
     }
 

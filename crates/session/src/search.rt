@@ -28,6 +28,8 @@ pub(crate) struct Search {
     pub(crate) marked: Vec<bool>,
     /// The glues of the kernel's clauses, 0 of those that were added.
     pub(crate) glues: Vec<u32>,
+    /// How many of the kernel's clauses have one literal, at least.
+    pub(crate) units: usize,
     /// When it restarts.
     pub(crate) restarts: Restarts,
     /// With more clauses than these the kernel is opened anew.
@@ -48,6 +50,7 @@ impl Drop for Search {
             choice: _,
             marked: _,
             glues: _,
+            units: _,
             restarts: _,
             limit: _,
             assumed: _,
@@ -117,6 +120,7 @@ impl Search {
             choice: Choice::open(alloc, 0)?,
             marked: vec![in alloc; false; 1]?,
             glues: Vec::new(alloc),
+            units: 0,
             restarts: Restarts::first(),
             limit: 0,
             assumed: 0,

@@ -13,8 +13,9 @@ use std::marker::Model;
 
 /// Clauses that are added one after the other, and questions of them under assumptions. What a
 /// question learns and the last values of variables stay for the next ones; so do the variables'
-/// scores, until more variables come than there is room for. With new clauses a question opens the
-/// kernel anew, in time by all clauses. Once a call has failed, each of them fails.
+/// scores, until more variables come than there is room for. New clauses go into the kernel one by
+/// one when the next question is asked; where that would take longer, it is opened anew, in time by
+/// all clauses. Once a call has failed, each of them fails.
 pub struct Session {
     // the clauses added
     formula: GrowingFormula,
