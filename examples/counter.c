@@ -1,8 +1,9 @@
-/* A counter of four bits may count up by one at each step. After how many steps can it hold fifteen? */
+/* A counter counts up by one at each step, or stands still. After how many steps can it hold a number, 15 or the given one? */
 #include <ipasir.h>
 #include <stdio.h>
+#include <stdlib.h>
 
-enum { BITS = 4 };
+enum { BITS = 8 };
 #define CLAUSE(...) add(solver, (int[]){__VA_ARGS__, 0})
 
 static void add(void *solver, const int *lits) {
@@ -21,13 +22,13 @@ static void add_step(void *solver, int step) {
     }
 }
 
-int main(void) {
+int main(int count, char **words) {
     void *solver = ipasir_init();
-    int steps = 0;
-    if (!solver) return 1;
+    int steps = 0, number = count > 1 ? atoi(words[1]) : 15;
+    if (!solver || number < 0 || number >> BITS) return 1;
     for (int place = 0; place < BITS; place++) CLAUSE(-bit(0, place));
     for (;; add_step(solver, steps++)) {
-        for (int place = 0; place < BITS; place++) ipasir_assume(solver, bit(steps, place));
+        for (int place = 0; place < BITS; place++) ipasir_assume(solver, number >> place & 1 ? bit(steps, place) : -bit(steps, place));
         int status = ipasir_solve(solver);
         if (status != 20) {
             printf(status == 10 ? "after %d steps\n" : "no answer after %d\n", steps);
