@@ -110,7 +110,7 @@ module _ (F : Formula) (cs : List Change) (t : Trial) (a : State) (x : ℕ) (var
       (λ y c. ap₂ (λ (w b : Bool). not (nat_eq x y) && (w || b)) (ap (λ M. value M y) h.waits) (touched-same y))
 
   work-same : a.work + literals_of_pairs a.entries (left_in x a.entries) (right_in x a.entries) ≡ t.work + looked_at x t.state
-  work-same = ap₂ (λ (k l : ℕ). k + l) h.work (ap (λ K. literals_of_pairs K (left_in x K) (right_in x K)) h.entries ∙ work-stored t.state x)
+  work-same = ap₂ (λ (k l : ℕ). k + l) h.work (ap (λ K. literals_of_pairs K (left_in x K) (right_in x K)) h.entries ∙ work-stored F.vars t.state x h.tidy)
 
   kept-same : (m : ℕ → Bool) (v : ℕ) → extended m (eliminated_in x a).eliminated v ≡ extended m (changed_by t.state (elimination x t.state)).eliminated v
   kept-same m v =

@@ -36,4 +36,5 @@ mod Merging
 mod PairLines
 mod PairSums
 mod Sizes
+mod DistinctLiterals
 mod SortedLiterals

@@ -8,7 +8,6 @@ use Rattle.theory.specs.Learning.{IsRising}
 use Rattle.theory.specs.Checking.{is_empty}
 use Rattle.theory.specs.Eliminating.{is_alone}
 use Rattle.theory.specs.Simplifying.{resolvent}
-use Rattle.theory.specs.Trying.{size}
 use Rattle.theory.proofs.literals.LiteralLemmas.{or-left, or-right}
 use Rattle.theory.proofs.literals.LiteralSets.{true_false, false_unless, has-head, has-tail, has-cases, has-append_left, has-append_right, has-append_cases, has-without, has-from_without, has-from_negations, has-with_literals, has-from_with_literals, has_var-has, literal_of_var, list_all-has, Refutes-negations, has_both_signs-none, same_variable, negated-other}
 use Rattle.theory.proofs.literals.OverVariables.{AreOver-from_IsOver, IsOver-from_AreOver}
@@ -102,9 +101,6 @@ is_alone-set l c = is_alone-same l (set c) c (has-set c)
 
 pub is_empty-set : (c : Clause) → is_empty (set c) ≡ is_empty c
 is_empty-set c = is_empty-same (set c) c (has-set c)
-
-pub length-set_of : (c : Clause) → length (set c) ≡ size c
-length-set_of c = refl
 
 pub IsOver-set : (V : ℕ) (c : Clause) → IsOver V c → IsOver V (set c)
 IsOver-set V c o = IsOver-same V c (set c) (HaveSame-sym (set c) c (has-set c)) o

@@ -1,20 +1,24 @@
 -- Which clauses are resolved, and what their resolvents are, by the entries and by the definitions.
-use Rattle.std.proofs.Common.{◌≡◌, ℕ, ◌+◌, ◌≤◌, nat_le, Bool, true, false, not, ◌&&◌, ◌||◌, List, [], ◌∷◌, ◌++◌, map, filter, length, refl, ap, ap₂, sym, subst, ◌∙◌, inl, inr, Contains, if◌then◌else◌}
+use Rattle.std.proofs.Common.{◌≡◌, ℕ, ◌+◌, ◌≤◌, nat_le, Bool, true, false, not, ◌&&◌, ◌||◌, List, [], ◌∷◌, ◌++◌, map, filter, length, refl, ap, ap₂, sym, subst, ◌∙◌, inl, inr, Contains, Option, None, Some, if◌then◌else◌}
 use Rattle.std.specs.List.{list_all, sum_by, flat_map, fold}
+use Rattle.std.specs.Option.{unwrap_or}
 use Rattle.std.proofs.lemmas.List.Elements.{filter-append}
 use Rattle.theory.specs.Literals.{Literal, Clause, positive, negative, same, has, has_both_signs}
 use Rattle.theory.specs.Learning.{Line}
+use Rattle.theory.specs.Checking.{clause_of}
 use Rattle.theory.specs.Simplifying.{Simplified, AreNumbered, resolvent}
-use Rattle.theory.specs.Eliminating.{clause_there, numbers_of, holders, units_of, is_alone, first_or, left_sides, right_sides, resolvent_line, resolvent_lines}
+use Rattle.theory.specs.Eliminating.{IsTidy, clause_there, numbers_of, holders, units_of, is_alone, first_or, left_sides, right_sides, resolvent_line, resolvent_lines}
 use Rattle.theory.specs.Trying.{size, has_unit, is_worth, looked_at, most_literals}
 use Rattle.theory.proofs.literals.Membership.{Contains-here, Contains-there, Contains-cases, Contains-none}
 use Rattle.theory.proofs.literals.LiteralLemmas.{and-left}
 use Rattle.theory.proofs.simplifying.NumberedClauses.{has-numbers_of}
+use Rattle.theory.proofs.simplifying.Simplifications.{clause_of-there}
 use Rattle.simplify.specs.Entries.{set, there, holding, units_in}
 use Rattle.simplify.specs.Stored.{stored}
 use Rattle.simplify.specs.Resolving.{line_of, lines_of_pairs, literals_of_pairs}
 use Rattle.simplify.specs.Tried.{left_in, right_in, lines_in, is_worth_in}
-use Rattle.simplify.proofs.LiteralSets.{has_both_signs-set, has_both_signs-resolvent, set-resolvent, length-set_of}
+use Rattle.simplify.proofs.LiteralSets.{has_both_signs-set, has_both_signs-resolvent, set-resolvent}
+use Rattle.simplify.proofs.DistinctLiterals.{length-set_of}
 use Rattle.simplify.proofs.EntryNumbers.{there-stored}
 use Rattle.simplify.proofs.EntryViews.{holding-stored, units-stored, unit-stored}
 
@@ -131,8 +135,15 @@ fold-alike f g (i ∷ is) a h =
 sum_by-alike : (f g : ℕ → ℕ) (is : List ℕ) → ((i : ℕ) → Contains is i → f i ≡ g i) → sum_by f is ≡ sum_by g is
 sum_by-alike f g is h = fold-alike f g is 0 h
 
-pub work-stored : (s : Simplified) (x : ℕ) → literals_of_pairs (stored s) (left_in x (stored s)) (right_in x (stored s)) ≡ looked_at x s
-work-stored s x =
+one_sign-there : (V : ℕ) (s : Simplified) (n : ℕ) → IsTidy V s → has_both_signs (clause_there s n) ≡ false
+one_sign-there V s n tidy = go (clause_of s.clauses n) refl
+  where
+    go : (o : Option Clause) → clause_of s.clauses n ≡ o → has_both_signs (unwrap_or o []) ≡ false
+    go None e = refl
+    go (Some c) e = tidy.one_sign (n, c) (clause_of-there s.clauses n c e)
+
+pub work-stored : (V : ℕ) (s : Simplified) (x : ℕ) → IsTidy V s → literals_of_pairs (stored s) (left_in x (stored s)) (right_in x (stored s)) ≡ looked_at x s
+work-stored V s x tidy =
     ap₂ (λ (is js : List ℕ). literals_of_pairs (stored s) is js) (left-stored s x) (right-stored s x)
     ∙ sum_by-alike (λ i. sum_by (λ j. length (there (stored s) i) + length (there (stored s) j)) (right_sides x s))
     (λ i. sum_by (λ j. size (clause_there s i) + size (clause_there s j)) (right_sides x s)) (left_sides x s)
@@ -140,7 +151,7 @@ work-stored s x =
     (λ j d. ap₂ (λ a b. a + b) (long i (left-given s x i c)) (long j (right-given s x j d))))
   where
     long : (n : ℕ) → IsGiven s n → length (there (stored s) n) ≡ size (clause_there s n)
-    long n w = ap (λ (c : Clause). length c) (there-stored s n w.0 w.1) ∙ length-set_of (clause_there s n)
+    long n w = ap (λ (c : Clause). length c) (there-stored s n w.0 w.1) ∙ length-set_of (clause_there s n) (one_sign-there V s n tidy)
 
 pub worth-stored : (s : Simplified) (x : ℕ) → AreNumbered s.last s.clauses → is_worth_in x (stored s) ≡ is_worth x s
 worth-stored s x numbered =

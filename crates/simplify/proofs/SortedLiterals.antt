@@ -77,12 +77,12 @@ NeverFalls [] = Unit {0}
 NeverFalls (k ∷ S) = ((l : Literal) → has S l ≡ true → k.var ≤ l.var) × NeverFalls S
 
 -- a literal in front, unless it stands there
-abbrev in_front : Literal → Clause → Clause
+abbrev pub in_front : Literal → Clause → Clause
 in_front l [] = l ∷ []
 in_front l (k ∷ S) = if same l k then k ∷ S else l ∷ k ∷ S
 
 -- the list without what repeats side by side
-abbrev once_each : Clause → Clause
+abbrev pub once_each : Clause → Clause
 once_each [] = []
 once_each (l ∷ c) = in_front l (once_each c)
 
@@ -249,7 +249,7 @@ dedup-front k (x ∷ xs) = go (same_code x k) refl (dedup-front k xs) (dedup-fro
     go true e f g = f ∙ subst (λ y. in_front k (once_each xs) ≡ in_front k (in_front y (once_each xs))) (sym (code-one x k (eqb-true (code x) (code k) e))) (sym (front-twice k (once_each xs)))
     go false e f g = ap (λ c. k ∷ c) g ∙ sym (front-other k x (once_each xs) (same-other k x (λ i. true_false (same_code x k) (eq-eqb (code x) (code k) (ap code (sym i))) e)))
 
-dedup-once : (ys : Clause) → dedup same_code ys ≡ once_each ys
+pub dedup-once : (ys : Clause) → dedup same_code ys ≡ once_each ys
 dedup-once [] = refl
 dedup-once (x ∷ ys) = dedup-front x ys
 

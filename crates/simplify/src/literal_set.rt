@@ -1,7 +1,8 @@
 //! A clause's literals by rising variable, each once.
-ghost use Rattle.std.specs.Prelude.{◌≡◌, ◌↔◌, IsTrue, not, IfOk, OnOk};
+ghost use Rattle.std.specs.Prelude.{◌≡◌, ◌↔◌, IsTrue, not, length, IfOk, OnOk};
 ghost use Rattle.theory.specs.Literals.{has_both_signs};
 ghost use Rattle.theory.specs.Learning.{IsRising};
+ghost use Rattle.theory.specs.Trying.{size};
 ghost use Rattle.simplify.specs.Entries.{set};
 
 use cnf::{Lit, put_literals};
@@ -47,4 +48,26 @@ pub(crate) fn put_set(out: &mut Vec<Lit>, clause: &[Lit]) -> Result<bool, AllocE
     }
     sort(out)?;
     Ok(is_rising(out))
+}
+
+/// Sorts literals by their codes, and leaves out what repeats.
+fn sort_by_code(lits: &mut Vec<Lit>) -> Result<(), AllocError>
+    ensures { OnOk result (length lits.new.items ≡ size lits.old.items) }
+{
+    lits.sort_by_key(|lit| lit.code())?;
+    lits.dedup();
+    Ok(())
+}
+
+/// How many literals a clause has, each counted once. The list is what it works in. It fails where a
+/// request for memory is refused.
+// The set has as many, but where a variable is in both signs: there x, -x and x once more stand apart.
+pub(crate) fn distinct_count(list: &mut Vec<Lit>, clause: &[Lit]) -> Result<u64, AllocError>
+    ensures { IfOk result (λ n. n ≡ size clause.now) }
+{
+    if put_set(list, clause)? {
+        return Ok(list.len() as u64);
+    }
+    sort_by_code(list)?;
+    Ok(list.len() as u64)
 }

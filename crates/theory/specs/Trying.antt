@@ -3,10 +3,9 @@
 -- measured.
 use Rattle.std.specs.Prelude.{◌≡◌, ℕ, ◌+◌, ◌*◌, nat_eq, nat_le, Bool, true, not, ◌&&◌, ◌||◌, List, [], ◌∷◌, ◌++◌, map, filter, length, Option, Some, None, if◌then◌else◌}
 use Rattle.std.specs.List.{list_any, list_all, sum_by}
-use Rattle.theory.specs.Literals.{Clause, positive, negative, has_var}
+use Rattle.theory.specs.Literals.{Clause, positive, negative, has, has_var}
 use Rattle.theory.specs.Truth.{Formula, Assignment, value}
 use Rattle.theory.specs.Trails.{variables}
-use Rattle.theory.specs.Learning.{with_literals}
 use Rattle.theory.specs.Checking.{is_empty}
 use Rattle.theory.specs.Simplifying.{Simplified, unsimplified, Change, changed_by, clauses_in}
 use Rattle.theory.specs.Eliminating.{clause_there, holders, is_alone, left_sides, right_sides, resolvent_lines, gone_with, elimination, tidying}
@@ -24,7 +23,8 @@ effort = 100
 
 -- how many literals the clause has, each counted once
 abbrev pub size : Clause → ℕ
-size c = length (with_literals c [])
+size [] = 0
+size (l ∷ c) = if has c l then size c else size c + 1
 
 -- the state of the tries: the clauses, the variables that wait to be tried as those that are true,
 -- and how many literals were looked at

@@ -10,7 +10,7 @@ overflow_add-count c =
     let end = c.clause_count-place-end.ensures.count in
     let within : c.loop-place.place < length K = omega arith in
     let next = next-size K c.loop-place.place c.clause.result.now within c.clause.ensures.clause in
-    let len : c.len.result ≡ size c.clause.result.now = c.len.ensures ∙ (c.put_set.new.out.ok.0 ∙ ap (λ (d : Clause). length d) c.in_ok-put_set.ensures.set) in
+    let len : c.in_ok-count.field-0 ≡ size c.clause.result.now = c.in_ok-count.ensures in
     let most = sizes-most K in
     let few = c.literal_count-most.ensures.few in
     let all = c.literal_count-most.ensures.count in
@@ -23,7 +23,7 @@ loop-place-preserved c =
     let end = c.clause_count-place-end.ensures.count in
     let within : c.loop-place.place < length K = omega arith in
     let next = next-size K c.loop-place.place c.clause.result.now within c.clause.ensures.clause in
-    let len : c.len.result ≡ size c.clause.result.now = c.len.ensures ∙ (c.put_set.new.out.ok.0 ∙ ap (λ (d : Clause). length d) c.in_ok-put_set.ensures.set) in
+    let len : c.in_ok-count.field-0 ≡ size c.clause.result.now = c.in_ok-count.ensures in
     let before = c.loop-place.invariant in
     omega arith
 
