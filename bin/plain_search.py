@@ -4,6 +4,8 @@ compares what the program writes with it, byte for byte; docs/DEFINITIONS.md has
 Literals are whole numbers, as in DIMACS."""
 import collections
 
+import plain_simplify
+
 # the greatest budget of a cube
 MAX_BUDGETS = {"ordered": 1_000_000, "focused": 1_000_000_000}
 
@@ -19,6 +21,8 @@ ORDERED_BUDGET, FOCUSED_BUDGET = 1000, 100_000_000
 DEFAULT_DIVIDE = 64
 # at this conflict the first search is asked whether the formula is divisible
 FIRST_CONFLICTS = 20_000
+# so many conflicts may decide a formula before it is simplified
+FIRST_TRIED = 1000
 # so many variables of a cube are looked at
 CANDIDATES = 32
 
@@ -466,24 +470,46 @@ def values_of(variables, literals):
     return tuple(it in true for it in range(1, variables + 1))
 
 
+def first_tried(variables, clauses, budget):
+    """The focused search, undivided, that says by a few conflicts whether the formula is simplified."""
+    first = min(FIRST_TRIED, budget)
+    return Focused(variables, clauses, [], budget_of(first, "focused", []))
+
+
 class Tree:
     """The tree of cubes and its proof, up to the first cube from the left that has a model. `model` is
     the values of the variables, or None; `proof` is empty where there is a model; `is_divided` says
-    whether cubes were looked at. The ordered search divides no formula."""
+    whether cubes were looked at; `simplification` is that of the formula, or None where it isn't
+    simplified. The ordered search divides no formula, and simplifies none."""
 
-    def __init__(self, variables, clauses, budget, search, divide):
+    def __init__(self, variables, clauses, budget, search, divide, simplify=True):
         self.variables, self.budget, self.search = variables, budget, search
         self.divide = divide if search == "focused" else 0
         self.is_divided = False
-        self.clauses = first_clauses(variables, clauses, search)
-        self.text = [f"{at} {unit[0]} 0 0\n" for at, unit in enumerate(self.clauses, 1) if at > len(clauses)]
+        self.simplification, self.searched = None, []
+        if simplify and search == "focused":
+            tried = first_tried(variables, clauses, budget)
+            if tried.outcome[0] == "exhausted":
+                self.simplification = plain_simplify.Simplification(variables, clauses)
+                self.searched = [tried]
+        self.begin(clauses)
         self.last = len(self.clauses)
-        self.searched = []
         try:
             self.cube([])
             self.model, self.proof = None, "".join(self.text)
         except Satisfied as satisfied:
-            self.model, self.proof = values_of(variables, satisfied.args[0]), ""
+            self.model, self.proof = self.extended(values_of(variables, satisfied.args[0])), ""
+
+    def begin(self, clauses):
+        """What the search begins with, and the proof's first lines."""
+        if self.simplification:
+            self.clauses, self.text = self.simplification.clauses, [*self.simplification.text]
+            return
+        self.clauses = first_clauses(self.variables, clauses, self.search)
+        self.text = [f"{at} {unit[0]} 0 0\n" for at, unit in enumerate(self.clauses, 1) if at > len(clauses)]
+
+    def extended(self, model):
+        return self.simplification.extended(model) if self.simplification else model
 
     def add(self, literals, hints):
         self.last += 1
@@ -577,13 +603,14 @@ class Automatic:
     and where they are used up the focused search by this plan. `tree` is that of the plan that
     decides, `lowering` that of its model, or None where there is no lowering."""
 
-    def __init__(self, variables, clauses, first, divide, is_any_model, budget=FOCUSED_BUDGET):
+    def __init__(self, variables, clauses, first, divide, is_any_model, budget=FOCUSED_BUDGET, simplify=True):
         self.first = Ordered(variables, first_clauses(variables, clauses, "ordered"), [], first)
         self.is_decided = self.first.outcome[0] != "exhausted"
         plan = (first, "ordered", 0) if self.is_decided else (budget, "focused", divide)
-        self.tree = Tree(variables, clauses, *plan)
+        self.tree = Tree(variables, clauses, *plan, simplify)
         self.model, self.proof = self.tree.model, self.tree.proof
         self.is_divided, self.searched, self.lowering = self.tree.is_divided, self.tree.searched, None
+        self.simplification = self.tree.simplification
         if not (self.is_decided or self.model is None or is_any_model):
             self.lowering = Lowering(variables, clauses, budget, self.model)
             self.model = self.lowering.model

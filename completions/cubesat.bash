@@ -13,11 +13,11 @@ _cubesat() {
         takes='solve check tidy session divide conquer gather status explain help'
     else
         case "${COMP_WORDS[1]}" in
-            solve) options='--search --budget --divide --any-model --hands --seconds --proof --lenient --large --stats --progress --verbose -h --help' takes='FILES' ;;
+            solve) options='--search --budget --divide --simplify --any-model --hands --seconds --proof --lenient --large --stats --progress --verbose -h --help' takes='FILES' ;;
             check) options='--extended --distinct-status --lenient --large --stats --progress --verbose -h --help' takes='FILES' ;;
             tidy) options='--lenient --large -h --help' takes='FILES' ;;
             session) options='--model -h --help' takes='FILES' ;;
-            divide) options='--into --search --budget --divide --any-model --large --progress -h --help' takes='FILES' ;;
+            divide) options='--into --search --budget --divide --simplify --any-model --large --progress -h --help' takes='FILES' ;;
             conquer) options='--round --part --minutes --hands --progress -h --help' takes='FOLDERS' ;;
             gather) options='--proof --hands --solve --stats --progress -h --help' takes='FOLDERS' ;;
             status) options='-h --help' takes='FOLDERS' ;;
@@ -28,8 +28,8 @@ _cubesat() {
     case "$before" in
         --search) takes='automatic ordered focused' ;;
         --budget | --divide | --hands | --seconds | --round | --part | --minutes) takes='' ;;
+        --simplify | --model) takes='yes no' ;;
         --proof) takes='FILES' ;;
-        --model) takes='yes no' ;;
         --into) takes='FOLDERS' ;;
         *) [[ "$word" != -* ]] || takes="$options" ;;
     esac

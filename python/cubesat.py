@@ -78,6 +78,7 @@ def solve(
     search: str | None = None,
     budget: int | None = None,
     divide: int | None = None,
+    simplify: bool = True,
     any_model: bool = False,
     hands: int = 1,
     seconds: int | None = None,
@@ -103,6 +104,9 @@ def solve(
     divide:    cubes into which the focused search divides a formula first, if its first conflicts
                tell that this helps, 0 to 65,536; without it 64, and 0 and 1 divide none. Another
                number may give another proof and another model. "ordered" takes none
+    simplify:  whether the focused search simplifies a formula that its first 1000 conflicts don't
+               decide, before it goes on; without it another proof and maybe another model. "ordered"
+               never does
     any_model: whether "automatic" may answer the model that the focused search finds, which spares the
                time of lowering it
     hands:     threads, 1 to 16; they change neither the answer nor the proof
@@ -127,6 +131,7 @@ def solve(
         options = ["--hands", str(hands)] + ([] if search is None else ["--search", search])
         options += [] if budget is None else ["--budget", str(budget)]
         options += [] if divide is None else ["--divide", str(divide)]
+        options += [] if simplify else ["--simplify", "no"]
         options += ["--any-model"] if any_model else []
         options += [] if seconds is None else ["--seconds", str(seconds)]
         options += ["--large"] if large else []

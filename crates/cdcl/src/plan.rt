@@ -1,5 +1,5 @@
 //! How a formula is searched.
-ghost use Rattle.std.specs.Prelude.{◌≡◌, ◌≤◌};
+ghost use Rattle.std.specs.Prelude.{◌≡◌, ◌≤◌, ◌↔◌, IsTrue, true};
 ghost use Rattle.theory.specs.Plans.{ordered_within, focused, default_constants};
 ghost use Rattle.theory.specs.Search.{max_focused};
 ghost use Rattle.heuristics.specs.Ranges.{AreInRange};
@@ -19,9 +19,9 @@ pub enum Search {
     Focused,
 }
 
-/// A search, the budget of the root, which is 1 to 1,000,000,000 conflicts, and into how many cubes
-/// a formula is divided by lookahead before they are searched. Formula and plan fix the answer and
-/// the proof, byte for byte.
+/// A search, the budget of the root, which is 1 to 1,000,000,000 conflicts, into how many cubes a
+/// formula is divided by lookahead before they are searched, and whether a formula that isn't solved
+/// soon is simplified first. Formula and plan fix the answer and the proof, byte for byte.
 #[derive(Clone, Copy, Debug, PartialEq, Eq)]
 pub struct Plan {
     search: Search,
@@ -30,6 +30,8 @@ pub struct Plan {
     constants: Constants,
     // into how many cubes a formula is divided before they are searched
     divide: u32,
+    // whether a formula that isn't solved soon is simplified; no search of a cube looks at it
+    simplify: bool,
 }
 
 impl Model for Plan {
@@ -41,12 +43,12 @@ impl Model for Plan {
 
     ghost Value = { plans.Plan };
 
-    ghost view = { λ p. record { search = search_of p.search p.constants; budget = p.budget; divide = p.divide } };
+    ghost view = { λ p. record { search = search_of p.search p.constants; budget = p.budget; divide = p.divide; simplify = p.simplify } };
 
     ghost invariant = { λ p. (1 ≤ p.budget) × (p.budget ≤ max_focused) × (p.divide ≤ 65536) × AreInRange p.constants
         × (constants_from (search_of p.search p.constants) ≡ p.constants) };
 
-    ghost inverse = { λ p. record { search = search_from p.search; budget = p.budget; constants = constants_from p.search; divide = p.divide } };
+    ghost inverse = { λ p. record { search = search_from p.search; budget = p.budget; constants = constants_from p.search; divide = p.divide; simplify = p.simplify } };
 }
 
 impl Plan {
@@ -62,14 +64,15 @@ impl Plan {
             budget,
             constants,
             divide: 0,
+            simplify: false,
         }
     }
 
     /// The focused search with the usual numbers, and a budget of 1 to 1,000,000,000 conflicts for
-    /// the root.
+    /// the root. A formula that isn't solved soon is simplified.
     pub fn focused(budget: u32) -> Plan
         requires { (1 ≤ budget) × (budget ≤ max_focused) }
-        ensures { result ≡ record { search = focused default_constants; budget = budget; divide = 0 } }
+        ensures { result ≡ record { search = focused default_constants; budget = budget; divide = 0; simplify = true } }
     {
         Plan::focused_by(budget, Constants::default())
     }
@@ -77,7 +80,7 @@ impl Plan {
     /// The focused search with other numbers.
     pub fn focused_by(budget: u32, constants: Constants) -> Plan
         requires { (1 ≤ budget) × (budget ≤ max_focused) }
-        ensures { result ≡ record { search = focused constants; budget = budget; divide = 0 } }
+        ensures { result ≡ record { search = focused constants; budget = budget; divide = 0; simplify = true } }
     {
         constants.are_in_range();
         Plan {
@@ -85,6 +88,7 @@ impl Plan {
             budget,
             constants,
             divide: 0,
+            simplify: true,
         }
     }
 
@@ -98,6 +102,28 @@ impl Plan {
             divide: cubes,
             ..self
         }
+    }
+
+    /// The same plan, which simplifies a formula that isn't solved soon, or doesn't. The ordered
+    /// search simplifies none.
+    pub fn simplifying(self, simplify: bool) -> Plan
+        ensures { result ≡ record self { simplify = simplify } }
+    {
+        Plan { simplify, ..self }
+    }
+
+    /// Whether it simplifies some formulas.
+    pub fn may_simplify(&self) -> bool
+        ensures { IsTrue result ↔ (self.now.simplify ≡ true) × (self.now.search ≡ focused (constants_from self.now.search)) }
+    {
+        self.search == Search::Focused && self.simplify
+    }
+
+    /// Whether it was made to simplify formulas.
+    pub fn simplify(&self) -> bool
+        ensures { result ≡ self.now.simplify }
+    {
+        self.simplify
     }
 
     /// Into how many cubes it wants a formula to be divided.

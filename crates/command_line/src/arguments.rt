@@ -30,6 +30,8 @@ static WHETHER: [&str; 2] = ["yes", "no"];
 /// The names of the searches.
 static SEARCHES: [&str; 3] = ["automatic", "ordered", "focused"];
 
+static YES_OR_NO: [&str; 2] = ["yes", "no"];
+
 const ANY_MODEL: &str =
     "Answer the model that is found, where the automatic search would go on to the first one";
 
@@ -106,6 +108,25 @@ fn divide_option<'a>(alloc: Global) -> Arg<'a> {
         )
 }
 
+/// The option says yes or no; each is a name that is tested once more.
+pub(crate) fn simplify_option<'a>(alloc: Global) -> Arg<'a> {
+    Arg::new(alloc, "simplify")
+        .long("simplify")
+        .value_name("YES/NO")
+        .value_parser(YES_OR_NO.as_slice())
+        .help(
+            "Whether the focused search simplifies a formula that its first 1000 conflicts don't decide, before it goes on; not with the ordered search [default: yes]",
+        )
+}
+
+/// Whether the formula is to be simplified, if that is said.
+pub(crate) fn simplify_in(matches: &ArgMatches<'_>) -> Option<bool> {
+    match matches.get_str("simplify")? {
+        "yes" => Some(true),
+        _ => Some(false),
+    }
+}
+
 pub(crate) fn any_model_flag<'a>(alloc: Global) -> Arg<'a> {
     flag(alloc, "any-model", ANY_MODEL)
 }
@@ -149,6 +170,7 @@ fn with_search<'a>(alloc: Global, command: Command<'a>) -> Result<Command<'a>, A
         .arg(search_option(alloc))?
         .arg(budget_option(alloc, SOLVE_BUDGET))?
         .arg(divide_option(alloc))?
+        .arg(simplify_option(alloc))?
         .arg(any_model_flag(alloc))?
         .arg(hands_option(alloc))?
         .arg(seconds_option(alloc))?
@@ -349,6 +371,7 @@ fn asked_in(matches: &ArgMatches<'_>) -> Option<Asked> {
         choice,
         budget,
         divide,
+        simplify: simplify_in(matches),
         any_model: matches.get_flag("any-model"),
         hands: hands as usize,
         seconds: matches.get_one::<u32>("seconds"),

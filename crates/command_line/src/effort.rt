@@ -37,6 +37,8 @@ pub struct Asked {
     pub budget: u32,
     /// Into how many cubes the formula is to be divided, 0 to 65,536, if that is asked for.
     pub divide: Option<u32>,
+    /// Whether the focused search simplifies a formula that isn't solved soon, if that is asked for.
+    pub simplify: Option<bool>,
     /// Whether any model will do where the automatic choice would give the first one.
     pub any_model: bool,
     /// How many hands solve it, 1 to 16.
@@ -69,22 +71,29 @@ pub fn greatest_budget(choice: Choice) -> u32
     }
 }
 
-/// The focused search with this budget for the root, and into how many cubes a formula is divided, if
-/// a number is given.
-fn focused(budget: u32, divide: Option<u32>) -> Plan
+/// The focused search with this budget for the root, into how many cubes a formula is divided, if a
+/// number is given, and whether it simplifies, if that is said.
+fn focused(budget: u32, divide: Option<u32>, simplify: Option<bool>) -> Plan
     requires { (1 ≤ budget) × (budget ≤ 1000000000) × IfSome divide (λ cubes. cubes ≤ 65536) }
-    ensures { result ≡ plan_asked search.Focused budget divide }
+    ensures { result ≡ plan_asked search.Focused budget divide simplify }
 {
-    Plan::focused(budget).divided(divide.unwrap_or(FOCUSED_DIVIDE))
+    let plan = Plan::focused(budget).divided(divide.unwrap_or(FOCUSED_DIVIDE));
+    plan.simplifying(simplify.unwrap_or(true))
 }
 
 /// The ordered search with this budget, and behind it the focused one with another.
-fn automatic(budget: u32, behind: u32, divide: Option<u32>, any_model: bool) -> Strategy
+fn automatic(
+    budget: u32,
+    behind: u32,
+    divide: Option<u32>,
+    simplify: Option<bool>,
+    any_model: bool,
+) -> Strategy
     requires asked { (1 ≤ budget) × (budget ≤ 100000) × IfSome divide (λ cubes. cubes ≤ 65536) }
     requires behind { (1 ≤ behind) × (behind ≤ 1000000000) }
-    ensures { result ≡ strategy_asked Choice.Automatic budget behind divide any_model }
+    ensures { result ≡ strategy_asked Choice.Automatic budget behind divide simplify any_model }
 {
-    let strategy = Strategy::automatic(budget, focused(behind, divide));
+    let strategy = Strategy::automatic(budget, focused(behind, divide, simplify));
     if any_model {
         strategy.with_any_model()
     } else {
@@ -99,23 +108,24 @@ pub fn strategy_of(
     budget: u32,
     behind: u32,
     divide: Option<u32>,
+    simplify: Option<bool>,
     any_model: bool,
 ) -> Strategy
     requires asked { (1 ≤ budget) × (budget ≤ most_asked choice) × IfSome divide (λ cubes. cubes ≤ 65536) }
     requires behind { (1 ≤ behind) × (behind ≤ 1000000000) }
-    ensures { result ≡ strategy_asked choice budget behind divide any_model }
+    ensures { result ≡ strategy_asked choice budget behind divide simplify any_model }
 {
     match choice {
-        Choice::Automatic => automatic(budget, behind, divide, any_model),
+        Choice::Automatic => automatic(budget, behind, divide, simplify, any_model),
         Choice::Ordered => Strategy::of(Plan::ordered(budget)),
-        Choice::Focused => Strategy::of(focused(budget, divide)),
+        Choice::Focused => Strategy::of(focused(budget, divide, simplify)),
     }
 }
 
 impl Asked {
     /// What a run takes that does what is asked for.
     pub fn effort(self) -> Effort
-        ensures strategy { result.strategy ≡ strategy_asked self.choice self.budget 100000000 self.divide self.any_model }
+        ensures strategy { result.strategy ≡ strategy_asked self.choice self.budget 100000000 self.divide self.simplify self.any_model }
         ensures hands { result.hands ≡ self.hands }
         ensures seconds { result.seconds ≡ self.seconds }
         ensures limits { result.limits ≡ self.limits }
@@ -127,6 +137,7 @@ impl Asked {
                 self.budget,
                 FOCUSED_BUDGET,
                 self.divide,
+                self.simplify,
                 self.any_model,
             ),
             hands: self.hands,

@@ -19,6 +19,25 @@ pub(crate) fn refusal_of(request: &Request) -> Option<&'static str> {
             "only the focused search divides formulas; give --search focused too, or leave --divide out",
         ),
         Request::Solve {
+            asked: Asked {
+                choice: Choice::Ordered,
+                simplify: Some(_),
+                ..
+            },
+            ..
+        } => Some(
+            "only the focused search simplifies formulas; give --search focused too, or leave --simplify out",
+        ),
+        Request::Spread(
+            Spread::Begin {
+                choice: Choice::Ordered,
+                simplify: Some(_),
+                ..
+            },
+        ) => Some(
+            "only the focused search simplifies formulas; give --search focused too, or leave --simplify out",
+        ),
+        Request::Solve {
             proof: Some(path),
             ..
         } if *path == STANDARD_INPUT => Some(

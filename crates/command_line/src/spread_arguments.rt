@@ -1,7 +1,8 @@
 //! The command lines of runs that are spread over machines.
 
 use crate::arguments::{
-    any_model_flag, budget_option, choice_in, flag, limits_of, search_option, word,
+    any_model_flag, budget_option, choice_in, flag, limits_of, search_option, simplify_in,
+    simplify_option, word,
 };
 use crate::effort::{Choice, SPREAD_BUDGET};
 use clap::{Arg, ArgMatches, Command};
@@ -32,6 +33,8 @@ pub enum Spread<'a> {
         /// The budget of the root, in conflicts; with the automatic choice that of the ordered search
         /// which is tried first.
         budget: u32,
+        /// Whether the focused search simplifies a formula that isn't solved soon, if that is said.
+        simplify: Option<bool>,
         /// Whether any model will do where the automatic choice would give the first one.
         any_model: bool,
         limits: Limits,
@@ -144,6 +147,7 @@ pub(crate) fn divide_command<'a>(alloc: Global) -> Result<Command<'a>, AllocErro
         .arg(search_option(alloc))?
         .arg(budget_option(alloc, DIVIDE_BUDGET))?
         .arg(wanted_option(alloc))?
+        .arg(simplify_option(alloc))?
         .arg(any_model_flag(alloc))?
         .arg(flag(alloc, "large", LARGE))?
         .arg(flag(alloc, "progress", PROGRESS))?
@@ -197,6 +201,7 @@ pub(crate) fn divide_request<'a>(matches: &ArgMatches<'a>) -> Option<Spread<'a>>
         formula,
         choice,
         budget,
+        simplify: simplify_in(matches),
         any_model: matches.get_flag("any-model"),
         limits: limits_of(matches),
         wanted: matches.get_one::<u32>("divide")?,

@@ -30,11 +30,24 @@ fn status_of(ended: Result<Ended, Said>) -> u8 {
 
 /// How a run's formula is decided, if the numbers are in their ranges, as those of a command line
 /// are. The focused search wants as many cubes as are to be open.
-fn strategy_asked(choice: Choice, budget: u32, wanted: u32, any_model: bool) -> Option<Strategy> {
+fn strategy_asked(
+    choice: Choice,
+    budget: u32,
+    wanted: u32,
+    simplify: Option<bool>,
+    any_model: bool,
+) -> Option<Strategy> {
     if budget < 1 || budget > greatest_budget(choice) || wanted > MAX_DIVIDE {
         return None;
     }
-    Some(strategy_of(choice, budget, SPREAD_BUDGET, Some(wanted), any_model))
+    Some(strategy_of(
+        choice,
+        budget,
+        SPREAD_BUDGET,
+        Some(wanted),
+        simplify,
+        any_model,
+    ))
 }
 
 /// `divide`, counted on a board; then no more progress is shown.
@@ -225,12 +238,13 @@ where
             formula,
             choice,
             budget,
+            simplify,
             any_model,
             limits,
             wanted,
             progress,
         } => {
-            let strategy = strategy_asked(choice, budget, wanted, any_model);
+            let strategy = strategy_asked(choice, budget, wanted, simplify, any_model);
             begin(
                 rt, alloc, into, formula, strategy, limits, wanted, progress, answer, faults,
             )

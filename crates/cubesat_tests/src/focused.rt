@@ -143,8 +143,21 @@ fn decide<R: Files + AllocGlobal + Threads + Wait + Clock + Sync>(
 ) -> Result<bool, Fail> {
     let (formula, budget, answer, proof) = *decided;
     let words = [
-        "cubesat", "solve", "--search", "focused", "--budget", budget, "--divide", "0", "--hands",
-        hands, "--proof", "PROOF", "FORMULA",
+        "cubesat",
+        "solve",
+        "--search",
+        "focused",
+        "--simplify",
+        "no",
+        "--budget",
+        budget,
+        "--divide",
+        "0",
+        "--hands",
+        hands,
+        "--proof",
+        "PROOF",
+        "FORMULA",
     ];
     let row = row_of(&words, formula, answer, proof);
     holds(rt, paths, &row)

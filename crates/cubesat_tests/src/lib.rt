@@ -27,6 +27,8 @@ mod shown;
 #[cfg(test)]
 mod shown_faults;
 #[cfg(test)]
+mod simplified;
+#[cfg(test)]
 mod standard_input;
 #[cfg(test)]
 mod tidied;

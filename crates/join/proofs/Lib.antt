@@ -1,4 +1,5 @@
 pub mod TreeSteps
+pub mod BeforeLemmas
 pub mod CubeLemmas
 pub mod NumberLemmas
 pub mod TreeLemmas

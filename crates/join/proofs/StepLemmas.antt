@@ -10,7 +10,9 @@ use Rattle.theory.specs.Truth.{Formula, IsOver}
 use Rattle.theory.specs.Reading.{large, IsWithinLimits, max_vars}
 use Rattle.theory.specs.Learning.{Line}
 use Rattle.theory.specs.Pure.{searched}
-use Rattle.theory.specs.Beginnings.{begun, proof}
+use Rattle.theory.specs.Plans.{Search}
+use Rattle.theory.specs.Simplifying.{simplified, unsimplified}
+use Rattle.theory.specs.Beginnings.{Beginning, as_it_is, by_pure_units, by_changes, begun, lines_before, IsBeginning, proof}
 use Rattle.theory.specs.Deletions.{is_among}
 use Rattle.theory.specs.Steps.{Step, delete}
 use Rattle.std.specs.List.{join_with_byte}
@@ -22,6 +24,8 @@ use Rattle.theory.proofs.checker.PreludeSteps.{IsStep-prelude}
 use Rattle.theory.proofs.searching.PureVariables.{length-first_clauses, length-pure_literals}
 use Rattle.theory.proofs.checker.DeletedNumbers.{numbers_from-All}
 use Rattle.theory.specs.ProofReading.{IsStep, IsNumber, max_number, max_proof_bytes}
+use Rattle.theory.proofs.simplifying.AcceptedSimplifications.{length-kept_clauses}
+use Rattle.theory.proofs.simplifying.WithinLimits.{last-bounded, lines_before-within}
 use Rattle.theory.proofs.checker.AcceptedProofs.{or_else-none}
 use Rattle.theory.proofs.literals.OverVariables.{AreOver, IsOver-from_AreOver, AreOver-snoc}
 use Rattle.join.specs.Joining.{split_line, learnt_line}
@@ -138,7 +142,7 @@ tree-steps F n Q (split x l r) within over h none low fits =
     )
 
 -- behind lines that are within their limits, so are those of a tree of these clauses
-lines-within : (F G : Formula) (before : List Step) (t : Tree) → IsWithinLimits large F → G.vars ≡ F.vars → length G.clauses ≤ length F.clauses + F.vars → All IsStep before → IsCheckedTree G [] t → first_model t ≡ None
+lines-within : (F G : Formula) (before : List Step) (t : Tree) → IsWithinLimits large F → G.vars ≡ F.vars → length G.clauses ≤ length F.clauses + F.vars + length before → All IsStep before → IsCheckedTree G [] t → first_model t ≡ None
     → length (proof_text (before ++ lines_of G.clauses t)) ≤ max_proof_bytes large → All IsStep (before ++ lines_of G.clauses t)
 lines-within F G before t within same few_clauses are h none short =
     let N = length G.clauses in
@@ -156,6 +160,29 @@ proof-within F Ordered t within h none short =
     let first = length-first_clauses F in
     let units = length-pure_literals F in
     lines-within F (searched F) (prelude F) t within refl (omega arith) (IsStep-prelude F within) h none short
+
+-- however a search begins, it begins with no more clauses than it has lines before
+few-begun : (F : Formula) (b : Beginning) → length (begun F b).clauses ≤ length F.clauses + F.vars + length (lines_before F b)
+few-begun F as_it_is = omega arith
+few-begun F by_pure_units =
+    let first = length-first_clauses F in
+    let units = length-pure_literals F in
+    omega arith
+few-begun F (by_changes cs) =
+    let all = length-kept_clauses (simplified F cs) in
+    let few = last-bounded (unsimplified F) cs in
+    omega arith
+
+same-vars : (F : Formula) (b : Beginning) → (begun F b).vars ≡ F.vars
+same-vars F as_it_is = refl
+same-vars F by_pure_units = refl
+same-vars F (by_changes cs) = refl
+
+pub begun-within : (search : Search) (F : Formula) (b : Beginning) (t : Tree) → IsWithinLimits large F → IsBeginning search F b → IsCheckedTree (begun F b) [] t → first_model t ≡ None → length (proof_text (proof F b t)) ≤ max_proof_bytes large → All IsStep (proof F b t)
+begun-within search F b t within begins h none short =
+    let few = few-steps (proof F b t) in
+    let whole = length-append (lines_before F b) (lines_of (begun F b).clauses t) in
+    lines-within F (begun F b) (lines_before F b) t within (same-vars F b) (few-begun F b) (lines_before-within search F b within begins (omega arith)) h none short
 
 -- a line more in the list of steps
 pub steps-more : (old new : List steps.Step) (step : steps.Step) (line : Step) (before after whole : List Step) → All IsStep (map step_of old) → map step_of old ++ before ≡ whole → before ≡ line ∷ after → IsStep line

@@ -4,5 +4,6 @@ pub mod Deleted
 pub mod Joining
 pub mod Numbered
 pub mod Walking
+pub mod Before
 pub mod Lines
 pub mod Rooms

@@ -171,9 +171,7 @@ impl Joiner {
     pub fn line_size(&self) -> usize
         ensures { result ≡ longest_text self.now.line }
     {
-        let literals = self.line.clause.capacity().saturating_mul(12);
-        let numbers = self.line.numbers.capacity().saturating_mul(21);
-        literals.saturating_add(numbers).saturating_add(25)
+        self.line.size()
     }
 
     /// Takes the tree's next node, once there are no more lines of those before. It fails only as

@@ -2,6 +2,7 @@
 #![tactic(auto)]
 
 mod answer;
+mod before;
 mod deleted;
 mod joiner;
 mod line;
@@ -11,6 +12,7 @@ mod room;
 mod steps;
 
 pub use answer::answer_bytes;
+pub use before::LinesBefore;
 pub use joiner::Joiner;
 pub use line::{Kind, ProofLine};
 pub use proof_lines::Lines;

@@ -12,6 +12,7 @@ ghost use Rattle.lrat_text.specs.Steps.{step_of};
 ghost use Rattle.cubes.specs.Traversal.{path};
 ghost use Rattle.join.specs.Joining.{unit_line, learnt_line, split_line};
 ghost use Rattle.join.specs.Numbered.{AreUpTo};
+ghost use Rattle.join.specs.Rooms.{longest_text};
 ghost use Rattle.join.specs.Walking.{line_of, learnt_in};
 
 use cnf::Lit;
@@ -97,6 +98,17 @@ impl ProofLine {
             clause: Vec::with_capacity(alloc, literals)?,
             numbers: Vec::with_capacity(alloc, numbers)?,
         })
+    }
+
+    /// The most bytes that the text of a line has while none takes more memory: 12 a literal, 21 a
+    /// hint or a number to be deleted, 25 for the line's own number and the marks. A size stops at
+    /// the greatest one.
+    pub(crate) fn size(&self) -> usize
+        ensures { result ≡ longest_text self.now }
+    {
+        let literals = self.clause.capacity().saturating_mul(12);
+        let numbers = self.numbers.capacity().saturating_mul(21);
+        literals.saturating_add(numbers).saturating_add(25)
     }
 
     /// Becomes the line of a pure variable's negation. It has no hints: no clause there has the

@@ -1,4 +1,6 @@
 pub mod WrittenLemmas
+pub mod LineTexts
+pub mod BegunTexts
 pub mod TextLemmas
 pub mod RunLemmas
 pub mod OneRun
@@ -11,5 +13,6 @@ pub mod StoredLemmas
 pub mod AtOnceLemmas
 pub mod StreamedLemmas
 pub mod ProofLemmas
+pub mod OutputLemmas
 pub mod PartLemmas
 pub mod TidyRuns

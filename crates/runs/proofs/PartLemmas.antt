@@ -10,7 +10,7 @@ use Rattle.runs.specs.declared.by_hands.Part.{Part}
 use Rattle.runs.specs.Parts.{text_of, whole, AreMade, IsMade}
 use Rattle.runs.specs.Written.{IsOnItsWay}
 use Rattle.runs.proofs.ProofLemmas.{ended, written-on, stopped}
-use Rattle.runs.proofs.StoredLemmas.{proof_text-append}
+use Rattle.runs.proofs.LineTexts.{proof_text-append}
 
 -- the parts from one on
 pub part-first : (ps : List Part) (i : ℕ) (d : Part) → i < length ps → drop i ps ≡ get_or ps i d ∷ drop (i + 1) ps

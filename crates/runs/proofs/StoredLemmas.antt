@@ -1,9 +1,9 @@
 -- The text of a proof whose nodes come one after the other: what went through the buffer; and what a
 -- run over stored facts says.
-use Rattle.std.proofs.Common.{◌≡◌, ℕ, ◌+◌, Bool, true, false, List, [], ◌∷◌, ◌++◌, length, map, take, Option, None, Result, Ok, Err, IfErr, ◌⊎◌, inl, inr, refl, sym, ap, subst, ◌∙◌, append-nil, append_assoc}
+use Rattle.std.proofs.Common.{◌≡◌, ℕ, ◌+◌, Bool, true, false, List, [], ◌∷◌, ◌++◌, length, map, take, Option, None, Result, Ok, Err, IfErr, ◌⊎◌, inl, inr, refl, sym, ap, ap₂, subst, ◌∙◌, append-nil, append_assoc}
 use Rattle.std.specs.Io.KnownBytes.{Appends}
 use Rattle.theory.specs.Literals.{Literal}
-use Rattle.theory.specs.Truth.{Formula, Satisfiable}
+use Rattle.theory.specs.Truth.{Formula, IsFormula, Satisfiable}
 use Rattle.theory.specs.Plans.{Search, ordered, focused, Plan}
 use Rattle.theory.specs.Beginnings.{begun, begun_by, beginning_by, proof}
 use Rattle.theory.specs.Reading.{Limits, large, IsWithinLimits}
@@ -15,15 +15,16 @@ use Rattle.theory.specs.Written.{IsUnsatisfiableText}
 use Rattle.cnf.specs.declared.fault.ReadFault.{ReadFault}
 use Rattle.cnf.specs.declared.fault.ReadFault.TheVariants as reading
 use Rattle.cnf.specs.Faults.{IsReadOf}
-use Rattle.lrat_text.proofs.WrittenTexts.{proof_text-ProofReads}
 use Rattle.cdcl.specs.Plans.{search_from, beginning_of, first_units}
 use Rattle.cdcl.specs.declared.plan.Search as declared
-use Rattle.cdcl.proofs.SearchedFormulas.{begun_by-is}
 use Rattle.packs.specs.declared.fact.Fact.{Fact}
 use Rattle.gathering.specs.Stored.{AreTrueFacts}
 use Rattle.cubes.specs.declared.tree.Tree.{Tree}
 use Rattle.cubes.specs.declared.tree.Tree.TheVariants.{Model, Refuted}
 use Rattle.cubes.specs.Result.{LinesNode, LinesTree, node_of, Says}
+use Rattle.beginnings.specs.declared.begun_formula.Begun.{Begun}
+use Rattle.beginnings.specs.Begun.{formula_in, lines_in, IsBegunBy}
+use Rattle.beginnings.proofs.SatisfiedFormulas.{satisfiable-back}
 use Rattle.strategies.specs.Strategies.{Strategy, search_by}
 use Rattle.strategies.specs.Choosing.{IsChosen, alone}
 use Rattle.strategies.specs.Deciding.{IsDecidedAs}
@@ -32,23 +33,21 @@ use Rattle.cubes.specs.Streaming.{IsCheckedNode}
 use Rattle.join.specs.Joining.{Joined, behind, before_nodes, after_nodes, on_node, on_nodes}
 use Rattle.join.specs.Walking.{joined}
 use Rattle.join.specs.Numbered.{IsNode}
-use Rattle.join.proofs.FedLemmas.{on_nodes-last, on_node-behind, behind-append, IsNode-split, IsNode-refuted, after-tree, lines-accepted, lines-within}
+use Rattle.join.proofs.FedLemmas.{on_nodes-last, on_node-behind, behind-append, IsNode-split, IsNode-refuted, after-tree}
 use Rattle.runs.specs.Answer.{IsAccepted, IsRight}
 use Rattle.runs.specs.Run.{AreTexts, RunSays}
 use Rattle.runs.specs.Written.{IsAnswer}
-use Rattle.runs.specs.Stored.{PutsFirst, PutsNext, IsPassedOn, IsMaking, IsDrained, IsStreamFor, IsStreamed, IsProofText, IsProofOf, AreTrueStored, AreRightTexts, StopsInRightAnswer, LeavesStored}
+use Rattle.runs.specs.Stored.{PutsFirst, PutsNext, IsPassedOn, IsMaking, IsDrained, IsStreamFor, IsStreamed, IsProofText, IsProofOf, IsRefutedTree, AreTrueStored, AreRightTexts, StopsInRightAnswer, LeavesStored}
 use Rattle.runs.specs.declared.fault.RunFault.{RunFault}
 use Rattle.runs.specs.declared.fault.RunFault.TheVariants.{Read, NoMemory, ProofWriteFailed, AnswerWriteFailed, ProofReadFailed}
 use Rattle.runs.specs.declared.verdict.Verdict.{Verdict}
 use Rattle.runs.specs.declared.verdict.Verdict.TheVariants.{Unsatisfiable}
 use Rattle.runs.specs.declared.proof_stream.ProofStream.{ProofStream}
 use Rattle.runs.proofs.RightAnswers.{texts-right}
-use Rattle.runs.proofs.TextLemmas.{short-large, named-beginning}
+use Rattle.runs.proofs.TextLemmas.{named-beginning}
+use Rattle.runs.proofs.LineTexts.{proof_text-append}
+use Rattle.runs.proofs.BegunTexts.{begun-lines, begun-accepted}
 use Rattle.runs.proofs.WrittenLemmas.{Appends-then}
-
-pub proof_text-append : (ls ms : List Step) → proof_text (ls ++ ms) ≡ proof_text ls ++ proof_text ms
-proof_text-append [] ms = refl
-proof_text-append (l ∷ ls) ms = ap (λ t. step_text l ++ t) (proof_text-append ls ms) ∙ sym (append_assoc (step_text l) (proof_text ls) (proof_text ms))
 
 -- a line more in the buffer
 pub passed-line : (a b : Option (List ℕ)) (before middle after : List ℕ) (lines : List Step) (step : Step) → IsPassedOn a b before middle lines → after ≡ middle ++ step_text step → IsPassedOn a b before after (lines ++ step ∷ [])
@@ -197,51 +196,61 @@ refutation-written F plan are_true a b c first last nodes stream begun empty che
       streamed-ended a b c whole last (subst (λ before. IsMaking a b whole before last) empty streamed.making) ended,
     )
 
--- the proof of a checked tree is accepted
-accepted-in : (L : Limits) (F : Formula) (s : declared.Search) (search : Search) (t : trees.Tree) (text : List ℕ) → IsWithinLimits large F → IsCheckedResult search (begun F (beginning_of s)) (trees.tree_of t) → text ≡ proof_text (proof F (beginning_of s) t)
-    → IsAccepted L F text
-accepted-in L F s search t text within checked same =
-    let steps = proof F (beginning_of s) t in
-    subst (IsAccepted L F) (sym same)
-    (λ short. (steps, proof_text-ProofReads L steps (lines-within F s search t steps within checked refl (short-large L (length (proof_text steps)) short)) short, lines-accepted F s search t steps checked refl))
+-- behind the lines before it is the formula's
+whole-text : (F : Formula) (plan : Plan) (x : Begun) (t : trees.Tree) (before : List Step) (rest : List ℕ) (h : IsBegunBy F plan x) → before ≡ lines_in x F → rest ≡ proof_text (proof (formula_in x F) (beginning_by plan.search) t) → proof_text before ++ rest ≡ proof_text (proof F h.0 t)
+whole-text F plan x t before rest h e is =
+    let own = proof (formula_in x F) (beginning_by plan.search) t in
+    ap₂ (λ (b : List Step) (r : List ℕ). proof_text b ++ r) e is ∙ sym (proof_text-append (lines_in x F) own) ∙ ap proof_text (begun-lines F plan x t own h refl)
 
-accepted-proof : (L : Limits) (F : Formula) (search : Search) (t : trees.Tree) (text : List ℕ) → IsWithinLimits large F → IsCheckedResult search (begun_by search F) (trees.tree_of t) → text ≡ proof_text (proof F (beginning_by search) t) → IsAccepted L F text
-accepted-proof L F search t text within checked same =
-    accepted-in L F (search_from search) search t text within (subst (λ (G : Formula). IsCheckedResult search G (trees.tree_of t)) (begun-named F search) checked) (same ∙ ap (λ b. proof_text (proof F b t)) (sym (named-beginning search)))
+-- so it is accepted
+whole-accepted : (L : Limits) (F : Formula) (plan : Plan) (x : Begun) (t : trees.Tree) (before : List Step) (rest : List ℕ) → IsWithinLimits large F → IsBegunBy F plan x → before ≡ lines_in x F → IsCheckedResult plan.search (begun_by plan.search (formula_in x F)) (trees.tree_of t)
+    → rest ≡ proof_text (proof (formula_in x F) (beginning_by plan.search) t) → IsAccepted L F (proof_text before ++ rest)
+whole-accepted L F plan x t before rest within h e checked is =
+    let own = proof (formula_in x F) (beginning_by plan.search) t in
+    subst (IsAccepted L F) (ap proof_text (begun-lines F plan x t own h refl) ∙ sym (whole-text F plan x t before rest h e is)) (begun-accepted L F plan x t own within h checked refl)
 
 -- with it the verdict is right
-pub refuted-right : (L : Limits) (F : Formula) (plan : Plan) (search : Search) (are_true : Type 0) (text answer : List ℕ) → IsWithinLimits large F → ¬ (Satisfiable F) → answer ≡ answer_text None → IsProofText F plan are_true text → IsRight L search F Unsatisfiable text answer
-refuted-right L F plan search are_true text answer within says is of = (says, accepted-proof L F plan.search of.tree text within of.checked of.text_is, is)
+pub refuted-right : (L : Limits) (F : Formula) (plan : Plan) (x : Begun) (search : Search) (are_true : Type 0) (before : List Step) (rest answer : List ℕ) → IsWithinLimits large F → IsBegunBy F plan x → before ≡ lines_in x F → ¬ (Satisfiable F) → answer ≡ answer_text None
+    → IsProofText (formula_in x F) plan are_true rest → IsRight L search F Unsatisfiable (proof_text before ++ rest) answer
+refuted-right L F plan x search are_true before rest answer within h e says is of = (says, whole-accepted L F plan x of.tree before rest within h e of.checked of.text_is, is)
 
 -- and where the facts are true, the texts are those of a strategy that has chosen the plan
-pub refuted-texts : (L : Limits) (F : Formula) (plan : Plan) (s : Strategy) (are_true : Type 0) (text answer : List ℕ) → IsWithinLimits large F → IsChosen F s plan → are_true → ¬ (Satisfiable F) → answer ≡ answer_text None → IsProofText F plan are_true text
-    → AreTexts L F s Unsatisfiable text answer
-refuted-texts L F plan s are_true text answer within chosen are says is of =
+pub refuted-texts : (L : Limits) (F : Formula) (plan : Plan) (x : Begun) (s : Strategy) (are_true : Type 0) (before : List Step) (rest answer : List ℕ) → IsWithinLimits large F → IsBegunBy F plan x → before ≡ lines_in x F → IsChosen F s plan → are_true → ¬ (Satisfiable F)
+    → answer ≡ answer_text None → IsProofText (formula_in x F) plan are_true rest → AreTexts L F s Unsatisfiable (proof_text before ++ rest) answer
+refuted-texts L F plan x s are_true before rest answer within h e chosen are says is of =
     let own = of.own are in
+    let text = proof_text before ++ rest in
     let written : IsUnsatisfiableText F plan text answer = record {
       unsatisfiable = says;
-      beginning = beginning_by plan.search;
-      begins = refl;
+      beginning = h.0;
+      begins = h.1.begins;
       tree = own.0;
-      is_tree = subst (λ (G : Formula). trees.IsTree G plan [] own.0) (begun_by-is F plan) own.1.0;
-      proof_is = own.2;
+      is_tree = subst (λ (G : Formula). trees.IsTree G plan [] own.0) h.1.formula own.1.0;
+      proof_is = whole-text F plan x own.0 before rest h e own.2;
       answer_is = is;
     } in
     let refutation : IsRefutationText F s text answer = record { plan = plan; chosen = chosen; text = written } in
-    (refutation, accepted-proof L F plan.search of.tree text within of.checked of.text_is)
+    (refutation, whole-accepted L F plan x of.tree before rest within h e of.checked of.text_is)
 
 -- a checked result is enough for the answer to be right
-pub stored-right : {K : Type 0} (L : Limits) (F : Formula) (plan : Plan) (search : Search) (are_true : Type 0) (tree : Tree K) (verdict : Verdict) (text answer : List ℕ) → IsWithinLimits large F → Says search F tree → IsAnswer tree verdict answer
-    → IsProofOf F plan are_true tree text → IsRight L search F verdict text answer
-stored-right L F plan search are_true (Model values) verdict text answer within says is of = rw is.0 (values.items, says, is.1)
-stored-right L F plan search are_true (Refuted nodes) verdict text answer within says is of = rw is.0 (refuted-right L F plan search are_true text answer within says is.1 of)
+pub stored-right : {K : Type 0} (L : Limits) (F : Formula) (plan : Plan) (x : Begun) (search : Search) (are_true : Type 0) (tree : Tree K) (verdict : Verdict) (before : List Step) (text answer : List ℕ) → IsWithinLimits large F → IsBegunBy F plan x → before ≡ lines_in x F → Says search F tree
+    → IsAnswer tree verdict answer → IsProofOf (formula_in x F) plan are_true before tree text → IsRight L search F verdict text answer
+stored-right L F plan x search are_true (Model values) verdict before text answer within h e says is of = rw is.0 (values.items, says, is.1)
+stored-right L F plan x search are_true (Refuted nodes) verdict before text answer within h e says is of =
+    rw (is.0, of.2) (refuted-right L F plan x search are_true before of.0 answer within h e says is.1 of.1)
 
 -- and of true facts, for the strategy's own texts
-pub stored-texts : (L : Limits) (F : Formula) (s : Strategy) (plan : Plan) (are_true : Type 0) (tree : LinesTree) (verdict : Verdict) (text answer : List ℕ) → IsWithinLimits large F → s.first ≡ None → plan ≡ s.plan → are_true → IsDecidedAs F s (search_from s.plan.search) tree → Says (search_by s) F tree
-    → IsAnswer tree verdict answer → IsProofOf F plan are_true tree text → AreTexts L F s verdict text answer
-stored-texts L F s plan are_true (Model values) verdict text answer within lone e are result says is of =
+pub stored-texts : (L : Limits) (F : Formula) (s : Strategy) (plan : Plan) (x : Begun) (are_true : Type 0) (tree : LinesTree) (verdict : Verdict) (before : List Step) (text answer : List ℕ) → IsWithinLimits large F → IsBegunBy F plan x → before ≡ lines_in x F → s.first ≡ None → plan ≡ s.plan
+    → are_true → IsDecidedAs F s (search_from s.plan.search) x tree → Says (search_by s) F tree → IsAnswer tree verdict answer → IsProofOf (formula_in x F) plan are_true before tree text → AreTexts L F s verdict text answer
+stored-texts L F s plan x are_true (Model values) verdict before text answer within h e lone same are result says is of =
     rw is.0 (record { model = values.items; found = says; is_answer = result; proof_is = of; answer_is = is.1 })
-stored-texts L F s plan are_true (Refuted nodes) verdict text answer within lone e are result says is of = rw is.0 (refuted-texts L F plan s are_true text answer within (subst (IsChosen F s) (sym e) (alone lone)) are says is.1 of)
+stored-texts L F s plan x are_true (Refuted nodes) verdict before text answer within h e lone same are result says is of =
+    rw (is.0, of.2) (refuted-texts L F plan x s are_true before of.0 answer within h e (subst (IsChosen F s) (sym same) (alone lone)) are says is.1 of.1)
+
+-- where the answer is a refuted tree, what is searched isn't satisfiable
+pub refuted-searched : {K : Type 0} (search : Search) (F : Formula) (plan : Plan) (x : Begun) (tree : Tree K) → IsFormula F → IsFormula (formula_in x F) → IsBegunBy F plan x → Says search F tree → IsRefutedTree tree → ¬ (Satisfiable (formula_in x F))
+refuted-searched search F plan x (Model values) formed inside h says is = absurd is
+refuted-searched search F plan x (Refuted nodes) formed inside h says is = λ s. says (satisfiable-back F plan x formed inside h s)
 
 -- right texts for a formula that was read
 pub AreRightTexts-made : (L : Limits) (search : Search) (known : Option (List ℕ)) (F : Formula) (verdict : Verdict) (proof answer : List ℕ)
@@ -271,8 +280,8 @@ pub unanswered-Stored : {X : Type 0} (L : Limits) (search : Search) (known p q a
 unanswered-Stored L search known p q a b r e proof answer f right pw h =
     rw (f, h.0) (let stops : StopsInRightAnswer L search known p q a b = record { proof = proof; answer = answer; right = right; count = h.1; proof_written = pw; answer_written = h.2 } in stops)
 
--- a formula that was read: what a store tells is true of it
-pub stored-truths : {S : Type 0} (facts : S → Option (List Fact)) (L : Limits) (known : Option (List ℕ)) (plan : Plan) (s t : S) (F : Formula) → ◌≡◌ {A = Result Formula ReadFault} (Ok F) (Err reading.ReadFailed) ⊎ IsReadOf L known (Ok F)
-    → facts t ≡ facts s → AreTrueStored facts L known plan s → AreTrueFacts facts F plan t
-stored-truths facts L known plan s t F (inl e) same are = absurd (cc)
-stored-truths facts L known plan s t F (inr r) same are = let true_facts = are r.bytes F r.are r.is_read in (true_facts.0, same ∙ true_facts.1, true_facts.2)
+-- a formula that was read: what a store tells is true of what is searched
+pub stored-truths : {S : Type 0} (facts : S → Option (List Fact)) (L : Limits) (known : Option (List ℕ)) (plan : Plan) (s t : S) (F : Formula) (x : Begun) → ◌≡◌ {A = Result Formula ReadFault} (Ok F) (Err reading.ReadFailed) ⊎ IsReadOf L known (Ok F) → IsBegunBy F plan x
+    → facts t ≡ facts s → AreTrueStored facts L known plan s → AreTrueFacts facts (formula_in x F) plan t
+stored-truths facts L known plan s t F x (inl e) h same are = absurd (cc)
+stored-truths facts L known plan s t F x (inr r) h same are = let true_facts = are r.bytes F r.are r.is_read x h in (true_facts.0, same ∙ true_facts.1, true_facts.2)

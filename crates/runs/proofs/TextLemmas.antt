@@ -1,33 +1,31 @@
 -- The texts that a formula's result gives.
-use Rattle.std.proofs.Common.{◌≡◌, ℕ, ◌≤◌, List, [], length, refl, ap, sym, subst, ◌∙◌, arith}
-use Rattle.theory.specs.Reading.{Limits, large}
-use Rattle.theory.specs.Truth.{Formula, IsFormula}
+use Rattle.std.proofs.Common.{◌≡◌, ℕ, List, [], ◌++◌, None, refl, ap, ap₂, sym, subst, ◌∙◌}
+use Rattle.theory.specs.Reading.{Limits, large, IsWithinLimits}
+use Rattle.theory.specs.Truth.{Formula, IsFormula, Satisfiable}
 use Rattle.theory.specs.Plans.{Search, ordered, focused, Plan}
 use Rattle.theory.specs.Beginnings.{begun_by, beginning_by, proof}
-use Rattle.theory.specs.Trees.{IsTree}
+use Rattle.theory.specs.Trees.{Tree, IsTree, tree_of, IsResult}
 use Rattle.theory.specs.Steps.{Step}
-use Rattle.theory.specs.Texts.{proof_text}
-use Rattle.theory.specs.ProofReading.{max_proof_bytes}
-use Rattle.theory.proofs.reading.LimitLemmas.{few-proof_bytes}
+use Rattle.theory.specs.Texts.{proof_text, answer_text}
 use Rattle.theory.specs.Written.{IsUnsatisfiableText}
 use Rattle.cdcl.specs.Plans.{search_of, search_from, constants_from, beginning_of}
 use Rattle.cdcl.specs.declared.plan.Search as declared
-use Rattle.cdcl.proofs.SearchedFormulas.{begun_by-is}
+use Rattle.beginnings.specs.declared.begun_formula.Begun.{Begun}
+use Rattle.beginnings.specs.Begun.{formula_in, lines_in, IsBegunBy}
 use Rattle.cubes.specs.declared.tree.Tree.TheVariants.{Model, Refuted}
 use Rattle.cubes.specs.Result.{LinesTree, Says}
 use Rattle.strategies.specs.Strategies.{Strategy, search_by}
+use Rattle.strategies.specs.Choosing.{IsChosen}
 use Rattle.strategies.specs.Deciding.{IsDecidedAs}
+use Rattle.strategies.proofs.FoundModels.{result-checked}
 use Rattle.strategies.specs.Texts.{IsRefutationText}
-use Rattle.join.specs.Numbered.{AreChecked, AreStepsOf, AreAccepted, AreWithin}
+use Rattle.join.specs.Numbered.{AreChecked, AreStepsOf}
 use Rattle.join.proofs.JoinLemmas.{AreChecked-result}
-use Rattle.lrat_text.proofs.WrittenTexts.{proof_text-ProofReads}
 use Rattle.runs.specs.declared.verdict.Verdict.{Verdict}
+use Rattle.runs.specs.declared.verdict.Verdict.TheVariants.{Satisfiable as Found, Unsatisfiable}
+use Rattle.runs.proofs.BegunTexts.{begun-lines, begun-accepted}
 use Rattle.runs.specs.Run.{AreTexts}
 use Rattle.runs.specs.Written.{IsAnswer}
-
--- a proof within limits is within the large ones
-pub short-large : (L : Limits) (n : ℕ) → n ≤ max_proof_bytes L → n ≤ max_proof_bytes large
-short-large L n short = let few = few-proof_bytes L in omega arith
 
 -- a search begins as its name says
 pub named-beginning : (p : Search) → beginning_of (search_from p) ≡ beginning_by p
@@ -38,29 +36,38 @@ named-search : (p : Search) → search_of (search_from p) (constants_from p) ≡
 named-search ordered = refl
 named-search (focused c) = refl
 
--- the nodes that a strategy came to are those of a checked tree
-pub decided-checked : (F : Formula) (s : Strategy) (search : declared.Search) (tree : LinesTree) → IsFormula F → IsDecidedAs F s search tree → AreChecked F search tree
-decided-checked F s search (Model values) formed result = tt
-decided-checked F s search (Refuted nodes) formed result =
+-- the nodes that a strategy came to are those of a checked tree of what is searched
+pub decided-checked : (F : Formula) (s : Strategy) (search : declared.Search) (x : Begun) (tree : LinesTree) → IsFormula (formula_in x F) → IsDecidedAs F s search x tree → AreChecked (formula_in x F) search tree
+decided-checked F s search x (Model values) formed result = tt
+decided-checked F s search x (Refuted nodes) formed result =
     let plan = result.0 in
-    AreChecked-result F plan search (constants_from plan.search) (Refuted nodes) (ap (λ n. search_of n (constants_from plan.search)) result.2 ∙ named-search plan.search) formed result.3
+    AreChecked-result (formula_in x F) plan search (constants_from plan.search) (Refuted nodes) (ap (λ n. search_of n (constants_from plan.search)) result.2 ∙ named-search plan.search) formed result.3.1
 
-pub result-texts : (L : Limits) (F : Formula) (s : Strategy) (search : declared.Search) (tree : LinesTree) (verdict : Verdict) (steps : List Step) (answer : List ℕ) → IsDecidedAs F s search tree → Says (search_by s) F tree → IsAnswer tree verdict answer
-    → AreStepsOf F (beginning_of search) tree steps → AreWithin steps → AreAccepted F tree steps → AreTexts L F s verdict (proof_text steps) answer
-result-texts L F s search (Model values) verdict steps answer result says is are within accepts =
-    rw is.0 (record { model = values.items; found = says; is_answer = result; proof_is = ap proof_text are; answer_is = is.1 })
-result-texts L F s search (Refuted nodes) verdict steps answer result says is are within accepts =
-    let plan = result.0 in
-    let tree = result.3 in
-    let begins : beginning_of search ≡ beginning_by plan.search = ap beginning_of result.2 ∙ named-beginning plan.search in
-    let text : IsUnsatisfiableText F plan (proof_text steps) answer = record {
+-- the texts of a refuted tree of what is searched, behind the lines before
+refuted-texts : (L : Limits) (F : Formula) (s : Strategy) (plan : Plan) (x : Begun) (t : Tree) (steps : List Step) (answer : List ℕ) → IsWithinLimits large F → IsChosen F s plan → IsBegunBy F plan x → ¬ (Satisfiable F)
+    → IsResult (begun_by plan.search (formula_in x F)) plan (tree_of t) → answer ≡ answer_text None → steps ≡ proof (formula_in x F) (beginning_by plan.search) t → AreTexts L F s Unsatisfiable (proof_text (lines_in x F ++ steps)) answer
+refuted-texts L F s plan x t steps answer limits chosen h says result is same =
+    let text : IsUnsatisfiableText F plan (proof_text (lines_in x F ++ steps)) answer = record {
       unsatisfiable = says;
-      beginning = beginning_by plan.search;
-      begins = refl;
-      tree = tree.0;
-      is_tree = subst (λ (G : Formula). IsTree G plan [] tree.0) (begun_by-is F plan) tree.1.0;
-      proof_is = ap proof_text (are tree.0 tree.1.1 (sym tree.2) ∙ ap (λ b. proof F b tree.0) begins);
-      answer_is = is.1;
+      beginning = h.0;
+      begins = h.1.begins;
+      tree = t;
+      is_tree = subst (λ (G : Formula). IsTree G plan [] t) h.1.formula result.0;
+      proof_is = ap proof_text (begun-lines F plan x t steps h same);
+      answer_is = is;
     } in
-    let chosen : IsRefutationText F s (proof_text steps) answer = record { plan = plan; chosen = result.1; text = text } in
-    rw is.0 (chosen, λ short. (steps, proof_text-ProofReads L steps (within (short-large L (length (proof_text steps)) short)) short, accepts))
+    (record { plan = plan; chosen = chosen; text = text }, begun-accepted L F plan x t steps limits h (result-checked F plan x (tree_of t) limits.formula h result) same)
+
+pub result-texts : (L : Limits) (F : Formula) (s : Strategy) (search : declared.Search) (x : Begun) (tree : LinesTree) (verdict : Verdict) (before steps : List Step) (answer : List ℕ) → IsWithinLimits large F → IsDecidedAs F s search x tree → Says (search_by s) F tree
+    → IsAnswer tree verdict answer → (verdict ≡ Found → before ≡ []) → (verdict ≡ Unsatisfiable → before ≡ lines_in x F) → AreStepsOf (formula_in x F) (beginning_of search) tree steps → AreTexts L F s verdict (proof_text (before ++ steps)) answer
+result-texts L F s search x (Model values) verdict before steps answer limits result says is none whole are =
+    let first = none is.0 in
+    rw is.0 (record { model = values.items; found = says; is_answer = result; proof_is = ap proof_text (ap₂ (λ (b : List Step) (ss : List Step). b ++ ss) first are); answer_is = is.1 })
+result-texts L F s search x (Refuted nodes) verdict before steps answer limits result says is none whole are =
+    let plan = result.0 in
+    let h = result.3.0 in
+    let tree = result.3.1 in
+    let begins : beginning_of search ≡ beginning_by plan.search = ap beginning_of result.2 ∙ named-beginning plan.search in
+    let same = are tree.0 tree.1.1 (sym tree.2) ∙ ap (λ b. proof (formula_in x F) b tree.0) begins in
+    subst (λ (b : List Step). AreTexts L F s verdict (proof_text (b ++ steps)) answer) (sym (whole is.0))
+    (rw is.0 (refuted-texts L F s plan x tree.0 steps answer limits result.1 h says tree.1 is.1 same))

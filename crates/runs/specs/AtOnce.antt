@@ -1,9 +1,11 @@
 -- What a run over stored facts has written that goes through the tree once, and writes the proof on
 -- the way.
-use Rattle.std.specs.Prelude.{◌≡◌, ℕ, ◌+◌, Bool, true, false, List, Option, take, IfSome}
+use Rattle.std.specs.Prelude.{◌≡◌, ℕ, ◌+◌, Bool, true, false, List, ◌++◌, Option, take, IfSome}
 use Rattle.std.specs.Io.KnownBytes.{Appends, Keeps}
 use Rattle.theory.specs.Truth.{Formula, Satisfiable}
 use Rattle.theory.specs.Plans.{Search, Plan}
+use Rattle.theory.specs.Steps.{Step}
+use Rattle.theory.specs.Texts.{proof_text}
 use Rattle.theory.specs.Reading.{Limits, ReadsWithin, formula, max_bytes}
 use Rattle.runs.specs.Run.{IsUnreadable}
 use Rattle.runs.specs.Stored.{IsProofText, StopsInRightAnswer}
@@ -14,6 +16,11 @@ use Rattle.runs.specs.declared.fault.RunFault.TheVariants.{Read, NoMemory, Proof
 abbrev pub WritesIfRefuted : Formula → Plan → Type 0 → Option (List ℕ) → Option (List ℕ) → Bool → Type 0
 WritesIfRefuted F plan are_true a b true = ¬ (Satisfiable F) × (text : List ℕ) × IsProofText F plan are_true text × Appends a b text
 WritesIfRefuted F plan are_true a b false = Satisfiable F
+
+-- the same behind the lines before
+abbrev pub WritesAllIfRefuted : Formula → Plan → Type 0 → List Step → Option (List ℕ) → Option (List ℕ) → Bool → Type 0
+WritesAllIfRefuted F plan are_true before a b true = ¬ (Satisfiable F) × (text : List ℕ) × IsProofText F plan are_true text × Appends a b (proof_text before ++ text)
+WritesAllIfRefuted F plan are_true before a b false = Satisfiable F
 
 -- the formula of the bytes that a reader gave, where it tells them, is satisfiable, so that it has
 -- no proof; and no answer is written

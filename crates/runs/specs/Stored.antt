@@ -11,6 +11,8 @@ use Rattle.theory.specs.Beginnings.{begun_by, beginning_by, proof}
 use Rattle.theory.specs.Checked.{IsCheckedResult}
 use Rattle.packs.specs.declared.fact.Fact.{Fact}
 use Rattle.gathering.specs.Stored.{AreTrueFacts}
+use Rattle.beginnings.specs.declared.begun_formula.Begun.{Begun}
+use Rattle.beginnings.specs.Begun.{formula_in, IsBegunBy}
 use Rattle.cdcl.specs.Plans.{first_units}
 use Rattle.cdcl.specs.declared.plan.Search as declared
 use Rattle.cubes.specs.declared.tree.Tree.{Tree}
@@ -65,25 +67,31 @@ pub record IsStreamed (a b : Option (List ℕ)) (first : ProofStream) (nodes : L
   pub making : IsMaking a b (on_nodes first.joiner.clauses (joined first.joiner) nodes) first.buffer.items last
   pub clauses : last.joiner.clauses ≡ first.joiner.clauses
 
--- the text of a checked tree's proof, and where the facts are true that of the plan's own
+-- the text of the proof of a checked tree of what is searched, behind the lines before, and where
+-- the facts are true that of the plan's own
 pub record IsProofText (F : truth.Formula) (plan : Plan) (are_true : Type 0) (text : List ℕ) : Type 0 where
   pub tree : trees.Tree
   pub checked : IsCheckedResult plan.search (begun_by plan.search F) (trees.tree_of tree)
   pub text_is : text ≡ proof_text (proof F (beginning_by plan.search) tree)
   pub own : are_true → (t : trees.Tree) × trees.IsResult (begun_by plan.search F) plan (trees.tree_of t) × (text ≡ proof_text (proof F (beginning_by plan.search) t))
 
--- and for any result: that of a model has none
-abbrev pub IsProofOf : {L : Type 0} → truth.Formula → Plan → Type 0 → Tree L → List ℕ → Type 0
-IsProofOf F plan are_true (Model values) text = text ≡ []
-IsProofOf F plan are_true (Refuted nodes) text = IsProofText F plan are_true text
+-- and for any result, with the lines before: that of a model has none
+abbrev pub IsProofOf : {L : Type 0} → truth.Formula → Plan → Type 0 → List Step → Tree L → List ℕ → Type 0
+IsProofOf F plan are_true before (Model values) text = text ≡ []
+IsProofOf F plan are_true before (Refuted nodes) text = (rest : List ℕ) × IsProofText F plan are_true rest × (text ≡ proof_text before ++ rest)
+
+abbrev pub IsRefutedTree : {L : Type 0} → Tree L → Type 0
+IsRefutedTree (Model values) = ⊥
+IsRefutedTree (Refuted nodes) = Unit {0}
 
 -- a proof that isn't written whole: nothing is written, for want of memory, or some of it may be
 abbrev pub IsUnwritten : Option (List ℕ) → Option (List ℕ) → RunFault → Type 0
 IsUnwritten a b e = ((e ≡ NoMemory) × Keeps a b) ⊎ (e ≡ ProofWriteFailed)
 
--- what a store gives is true for the formula of the bytes that a reader gives, where it tells them
+-- what a store gives is true for what the plan's search begins with, of the formula of the bytes
+-- that a reader gives, where it tells them
 abbrev pub AreTrueStored : {S : Type 0} → (S → Option (List Fact)) → Limits → Option (List ℕ) → Plan → S → Type 0
-AreTrueStored facts L known plan s = (bytes : List ℕ) (F : truth.Formula) → IfSome known (λ xs. bytes ≡ take (max_bytes L + 1) xs) → ReadsWithin L bytes (formula F) → AreTrueFacts facts F plan s
+AreTrueStored facts L known plan s = (bytes : List ℕ) (F : truth.Formula) → IfSome known (λ xs. bytes ≡ take (max_bytes L + 1) xs) → ReadsWithin L bytes (formula F) → (x : Begun) → IsBegunBy F plan x → AreTrueFacts facts (formula_in x F) plan s
 
 -- the texts are right for the formula of the bytes that a reader gave, where it tells them
 pub record AreRightTexts (L : Limits) (search : Search) (known : Option (List ℕ)) (proof answer : List ℕ) : Type 0 where

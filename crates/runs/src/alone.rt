@@ -1,5 +1,6 @@
 //! A run without threads.
-ghost use Rattle.std.specs.Prelude.{◌≡◌, ◌≤◌, [], IfOk};
+ghost use Rattle.std.specs.Prelude.{◌≡◌, ◌≤◌, ℕ, [], ◌++◌, take, IfOk, OnOk, MatchResult};
+ghost use Rattle.std.specs.Io.KnownBytes.{Appends};
 ghost use Rattle.theory.specs.Plans as plans;
 ghost use Rattle.theory.specs.Plans.{ordered, ordered_within};
 ghost use Rattle.strategies.specs.Strategies.{by_plan, search_by};
@@ -7,30 +8,38 @@ ghost use Rattle.strategies.specs.Deciding.{IsDecidedBy};
 ghost use Rattle.theory.specs.Reading.{standard};
 ghost use Rattle.theory.specs.Texts.{proof_text};
 ghost use Rattle.cnf.specs.Limits.{limits_of};
+ghost use Rattle.join.specs.Before.{before_left, IsBefore};
 ghost use Rattle.join.specs.Walking.{lines_left, IsBetweenNodes};
+ghost use Rattle.beginnings.specs.Begun.{formula_in, lines_in};
+ghost use Rattle.runs.specs.declared.verdict.Verdict.TheVariants as Verdict;
 ghost use Rattle.cubes.specs.Result.{Says};
 ghost use Rattle.runs.specs.Answer.{IsRightAnswer};
 ghost use Rattle.runs.specs.Run.{AreTexts, RunSays};
 ghost use Rattle.runs.specs.Written.{IsAnswer};
 
+use crate::before_output::{lines_before, write_before};
 use crate::fault::RunFault;
 use crate::output::write_text;
 use crate::proof_output::{room, write_proof};
 use crate::verdict::Verdict;
+use beginnings::Begun;
 use cdcl::Plan;
 use cnf::{Formula, Limits, read_from};
-use cubes::{Tree, solve_one_by_plan};
-use join::{Lines, answer_bytes};
+use cubes::Tree;
+use join::{Lines, LinesBefore, answer_bytes};
 use lines::Row;
 use std::alloc::{AllocError, Global};
 use std::io::{Read, Write};
-use strategies::{Decided, Strategy};
+use strategies::{Decided, Strategy, solve_one};
 
 /// What a run is to write.
 pub(crate) struct Output {
     pub(crate) verdict: Verdict,
 
-    /// The proof's lines, which are made as they are written.
+    /// The proof's first lines, before those of its tree.
+    pub(crate) before: LinesBefore,
+
+    /// The tree's lines, which are made as they are written.
     pub(crate) lines: Lines,
 
     /// Room for them on their way.
@@ -43,6 +52,7 @@ impl Drop for Output {
     fn drop(self) {
         let Output {
             verdict: _,
+            before: _,
             lines: _,
             buffer: _,
             answer: _,
@@ -71,6 +81,30 @@ pub(crate) fn answer_of<L>(
     }
 }
 
+/// The lines before those of a result's tree; that of a model has none.
+fn before_of(
+    alloc: Global,
+    formula: &Formula,
+    begun: &mut Begun,
+    verdict: Verdict,
+) -> Result<LinesBefore, AllocError>
+    ensures satisfiable { verdict ≡ Verdict.Satisfiable → IfOk result (λ l. before_left l ≡ []) }
+    ensures unsatisfiable { verdict ≡ Verdict.Unsatisfiable → IfOk result (λ l. before_left l ≡ lines_in begun.old formula.now) }
+    ensures lawful { IfOk result IsBefore }
+    ensures formula { OnOk result (formula_in begun.new formula.now ≡ formula_in begun.old formula.now) }
+{
+    match verdict {
+        Verdict::Satisfiable => {
+            let none = LinesBefore::of(alloc, 0, Row::new(alloc))?;
+            Ok(none)
+        }
+        Verdict::Unsatisfiable => {
+            let lines = lines_before(alloc, formula, begun)?;
+            Ok(lines)
+        }
+    }
+}
+
 /// What is to be written for a formula, which came to the tree by the strategy. From here on the
 /// run takes no more memory, but for the parts of several hands.
 pub(crate) fn output_of(
@@ -82,22 +116,46 @@ pub(crate) fn output_of(
 ) -> Result<Output, AllocError>
     requires result { IsDecidedBy formula.now strategy decided }
     requires says { Says (search_by strategy) formula.now decided.tree }
-    ensures texts { IfOk result (λ o. AreTexts (limits_of limits) formula.now strategy o.verdict (proof_text (lines_left o.lines)) o.answer.items) }
+    ensures texts { IfOk result (λ o. AreTexts (limits_of limits) formula.now strategy o.verdict (proof_text (before_left o.before ++ lines_left o.lines)) o.answer.items) }
+    ensures before { IfOk result (λ o. IsBefore o.before) }
     ensures lines { IfOk result (λ o. IsBetweenNodes o.lines) }
     ensures buffer { IfOk result (λ o. o.buffer.items ≡ []) }
 {
     let (_limits, _strategy) = (limits, strategy); // they are there for the contract alone
     let _vars = formula.vars(); // it ensures what the proof needs of the formula
-    let Decided { search, tree } = decided;
+    let Decided {
+        search,
+        mut begun,
+        tree,
+    } = decided;
     let (verdict, answer) = answer_of(alloc, formula, &tree)?;
-    let lines = Lines::of(alloc, formula, search, tree)?;
-    let buffer = room(alloc, &lines)?;
+    let before = before_of(alloc, formula, &mut begun, verdict)?;
+    let searched = begun.formula(formula);
+    let _searched_vars = searched.vars(); // and this of what is searched
+    let lines = Lines::of(alloc, searched, search, tree)?;
+    let buffer = room(alloc, &before, &lines)?;
     Ok(Output {
         verdict,
+        before,
         lines,
         buffer,
         answer,
     })
+}
+
+/// Writes the proof of what is to be written, and flushes the writer. A write or a flush fails as in
+/// `write_text`; then a beginning of the text is written.
+fn write_output<W: Write>(writer: &mut W, output: &mut Output) -> Result<(), RunFault>
+    requires before { IsBefore output.old.before }
+    requires lines { IsBetweenNodes output.old.lines }
+    requires buffer { output.old.buffer.items ≡ [] }
+    ensures written { MatchResult result (λ _. Appends (W.contents writer.old) (W.contents writer.new) (proof_text (before_left output.old.before ++ lines_left output.old.lines)))
+        (λ e. (e ≡ RunFault.ProofWriteFailed) × (count : ℕ) × Appends (W.contents writer.old) (W.contents writer.new) (take count (proof_text (before_left output.old.before ++ lines_left output.old.lines)))) }
+    ensures kept { (output.new.verdict ≡ output.old.verdict) × (output.new.answer ≡ output.old.answer) }
+{
+    write_before(writer, &mut output.before, &mut output.buffer)?;
+    write_proof(writer, &mut output.lines, &mut output.buffer)?;
+    Ok(())
 }
 
 /// Decides the formula of a DIMACS text by the plan: writes the proof, flushes it, and then writes
@@ -118,17 +176,15 @@ pub fn run_one_by_plan<R: Read + Drop, W: Write, P: Write>(
         Ok(formula) => formula,
         Err(fault) => return Err(RunFault::of_read(fault)),
     };
-    let Ok(tree) = solve_one_by_plan(alloc, &formula, plan) else {
+    let Ok(decided) = solve_one(alloc, &formula, plan) else {
         return Err(RunFault::NoMemory);
     };
     let strategy = Strategy::of(plan);
-    let search = plan.search();
-    let decided = Decided { search, tree };
     let mut output = match output_of(alloc, &formula, Limits::Standard, strategy, decided) {
         Ok(output) => output,
         Err(_) => return Err(RunFault::NoMemory),
     };
-    write_proof(proof, &mut output.lines, &mut output.buffer)?;
+    write_output(proof, &mut output)?;
     write_text(answer, &output.answer, RunFault::AnswerWriteFailed)?;
     Ok(output.verdict)
 }

@@ -5,22 +5,25 @@ ghost use Rattle.cdcl.specs.Plans.{search_from, first_units};
 ghost use Rattle.strategies.specs.Strategies.{by_plan};
 ghost use Rattle.cnf.specs.Limits.{limits_of};
 ghost use Rattle.join.specs.Joining.{before_nodes};
+ghost use Rattle.join.specs.Before.{before_left, IsBefore};
 ghost use Rattle.join.specs.Walking.{joined};
 ghost use Rattle.runs.specs.Answer.{IsRightAnswer};
 ghost use Rattle.runs.specs.Run.{WritesBoth};
 ghost use Rattle.runs.specs.Stored.{AreTrueStored, IsStreamFor};
-ghost use Rattle.runs.specs.AtOnce.{HasNoProof, LeavesAtOnce, WritesIfRefuted};
+ghost use Rattle.runs.specs.AtOnce.{HasNoProof, LeavesAtOnce, WritesAllIfRefuted, WritesIfRefuted};
 
+use crate::before_output::{lines_before, write_before};
 use crate::fault::RunFault;
 use crate::output::write_text;
 use crate::proof_stream::ProofStream;
 use crate::stored::GatheredFrom;
 use crate::verdict::Verdict;
+use beginnings::{Unwatched, begun};
 use cdcl::Plan;
 use cnf::{Formula, Limits, read_from_within};
 use cubes::{GivesOutcomes, Tree, go_through};
 use gathering::{CountsOutcomes, KeepsFacts, ManyHands, OneHand, OpensOutcomes};
-use join::answer_bytes;
+use join::{LinesBefore, answer_bytes};
 use std::alloc::Global;
 use std::io::{Read, Write};
 use std::thread::Threads;
@@ -53,6 +56,29 @@ pub(crate) fn write_if_refuted<O: GivesOutcomes, P: Write>(
     }
 }
 
+/// What `write_if_refuted` does, behind the lines before.
+pub(crate) fn write_all_if_refuted<O: GivesOutcomes, P: Write>(
+    alloc: Global,
+    searched: &Formula,
+    plan: Plan,
+    outcomes: &mut O,
+    before: &mut LinesBefore,
+    stream: &mut ProofStream,
+    proof: &mut P,
+) -> Result<bool, RunFault>
+    requires gives { O.gives outcomes.old searched.now plan }
+    requires before { IsBefore before.old }
+    requires stream { IsStreamFor (search_from plan.search) searched.now stream.old }
+    requires joined { joined stream.old.joiner ≡ before_nodes (length searched.now.clauses) (first_units (search_from plan.search) searched.now) }
+    requires buffer { stream.old.buffer.items ≡ [] }
+    ensures { MatchResult result
+        (WritesAllIfRefuted searched.now plan (O.gives_own outcomes.old searched.now plan) (before_left before.old) (P.contents proof.old) (P.contents proof.new))
+        (λ e. (e ≡ RunFault.NoMemory) ⊎ (e ≡ RunFault.ProofWriteFailed)) }
+{
+    write_before(proof, before, &mut stream.buffer)?;
+    write_if_refuted(alloc, searched, plan, outcomes, stream, proof)
+}
+
 /// What `gather_at_once` does, by these hands.
 fn gather_at_once_by<R: Read + Drop, S: KeepsFacts + Drop, H: OpensOutcomes<S>, W: Write, P: Write>(
     alloc: Global,
@@ -76,16 +102,32 @@ fn gather_at_once_by<R: Read + Drop, S: KeepsFacts + Drop, H: OpensOutcomes<S>, 
         Err(fault) => return Err(RunFault::of_read(fault)),
     };
     let _vars = formula.vars(); // it ensures what the proof needs of the formula
-    let Ok(mut outcomes) = hands.open(alloc, &formula, plan, store) else {
+    let Ok(mut begun) = begun(alloc, &formula, plan, &Unwatched) else {
+        return Err(RunFault::NoMemory);
+    };
+    let Ok(mut before) = lines_before(alloc, &formula, &mut begun) else {
+        return Err(RunFault::NoMemory);
+    };
+    let searched = begun.formula(&formula);
+    let _searched_vars = searched.vars(); // and this of what is searched
+    let Ok(mut outcomes) = hands.open(alloc, searched, plan, store) else {
         return Err(RunFault::NoMemory);
     };
     let Ok(text) = answer_bytes(alloc, &formula, None) else {
         return Err(RunFault::NoMemory);
     };
-    let Ok(mut stream) = ProofStream::begin(alloc, &formula, plan.search()) else {
+    let Ok(mut stream) = ProofStream::begin(alloc, searched, plan.search()) else {
         return Err(RunFault::NoMemory);
     };
-    if !write_if_refuted(alloc, &formula, plan, &mut outcomes, &mut stream, proof)? {
+    if !write_all_if_refuted(
+        alloc,
+        searched,
+        plan,
+        &mut outcomes,
+        &mut before,
+        &mut stream,
+        proof,
+    )? {
         return Ok(None);
     }
     write_text(answer, &text, RunFault::AnswerWriteFailed)?;

@@ -3,10 +3,13 @@
 ghost use Rattle.std.specs.Prelude.{◌≡◌, ℕ, ◌-◌, ◌<◌, ◌≤◌, List, [], ◌++◌, All, map, length, take, IfOk, OnOk, MatchResult};
 ghost use Rattle.std.specs.Io.KnownBytes.{Appends};
 ghost use Rattle.theory.specs.Texts.{proof_text};
+ghost use Rattle.join.specs.Before.{before_left, IsBefore};
 ghost use Rattle.join.specs.Walking.{lines_left, IsBetweenLines, IsBetweenNodes};
 ghost use Rattle.runs.specs.Parts.{text_of, whole, AreMade, IsGiven, IsIdle, IsMade};
 ghost use Rattle.runs.specs.Written.{IsOnItsWay};
 
+use crate::alone::Output;
+use crate::before_output::write_before;
 use crate::fault::RunFault;
 use crate::proof_output::{fill, write_lines, write_proof};
 use join::Lines;
@@ -182,7 +185,7 @@ fn write_round<T: Threads + Sync, W: Write>(
 }
 
 /// What `write_proof` does, with the parts of `parts_for`: the same bytes, whatever the schedule.
-pub(crate) fn write_by_hands<T: Threads + Sync, W: Write>(
+fn write_by_hands<T: Threads + Sync, W: Write>(
     rt: &T,
     writer: &mut W,
     lines: &mut Lines,
@@ -205,5 +208,26 @@ pub(crate) fn write_by_hands<T: Threads + Sync, W: Write>(
     let Ok(()) = write_proof(writer, lines, buffer) else {
         return Err(RunFault::ProofWriteFailed);
     };
+    Ok(())
+}
+
+/// What `write_output` does, by several hands: one writes the lines before, and all those of the
+/// tree.
+pub(crate) fn write_output_by_hands<T: Threads + Sync, W: Write>(
+    rt: &T,
+    writer: &mut W,
+    output: &mut Output,
+    parts: &mut [Part],
+) -> Result<(), RunFault>
+    requires before { IsBefore output.old.before }
+    requires lines { IsBetweenNodes output.old.lines }
+    requires buffer { output.old.buffer.items ≡ [] }
+    requires parts { All IsIdle parts.old }
+    ensures written { MatchResult result (λ _. Appends (W.contents writer.old) (W.contents writer.new) (proof_text (before_left output.old.before ++ lines_left output.old.lines)))
+        (λ e. (e ≡ RunFault.ProofWriteFailed) × (count : ℕ) × Appends (W.contents writer.old) (W.contents writer.new) (take count (proof_text (before_left output.old.before ++ lines_left output.old.lines)))) }
+    ensures kept { (output.new.verdict ≡ output.old.verdict) × (output.new.answer ≡ output.old.answer) }
+{
+    write_before(writer, &mut output.before, &mut output.buffer)?;
+    write_by_hands(rt, writer, &mut output.lines, &mut output.buffer, parts)?;
     Ok(())
 }

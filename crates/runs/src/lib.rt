@@ -5,6 +5,7 @@
 mod alone;
 mod answered;
 mod at_once;
+mod before_output;
 mod by_hands;
 mod check;
 mod checked_line;

@@ -8,7 +8,7 @@ ghost use Rattle.runs.specs.Written.{Puts};
 
 use crate::fault::RunFault;
 use crate::output::write_bytes;
-use join::{Kind, Lines, ProofLine};
+use join::{Kind, Lines, LinesBefore, ProofLine};
 use lrat::{write_clause, write_deletion};
 use std::alloc::{AllocError, Global};
 use std::io::Write;
@@ -17,10 +17,15 @@ use std::io::Write;
 pub(crate) const ENOUGH: usize = 65_536;
 
 /// Room for lines on their way to a writer. No more is asked for while they are written.
-pub(crate) fn room(alloc: Global, lines: &Lines) -> Result<Vec<u8>, AllocError>
+pub(crate) fn room(
+    alloc: Global,
+    before: &LinesBefore,
+    lines: &Lines,
+) -> Result<Vec<u8>, AllocError>
     ensures { IfOk result (λ buffer. buffer.items ≡ []) }
 {
-    Vec::with_capacity(alloc, lines.line_size().saturating_add(ENOUGH))
+    let longest = before.line_size().max(lines.line_size());
+    Vec::with_capacity(alloc, longest.saturating_add(ENOUGH))
 }
 
 /// Puts a line behind the buffer's text.

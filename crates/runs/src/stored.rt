@@ -1,26 +1,29 @@
 //! A run without threads, over facts that are kept elsewhere and that nobody vouches for. Its proof
 //! is written while they are read again, so that no more than one of them is in memory.
-ghost use Rattle.std.specs.Prelude.{◌≡◌, List, None, IfOk, IfErr, MatchResult, ℕ};
+ghost use Rattle.std.specs.Prelude.{◌≡◌, List, ◌++◌, None, IfOk, IfErr, MatchResult, ℕ};
 ghost use Rattle.std.specs.Io.KnownBytes.{Appends};
 ghost use Rattle.theory.specs.Truth.{Satisfiable};
-ghost use Rattle.theory.specs.Plans as plans;
+ghost use Rattle.theory.specs.Texts.{proof_text};
 ghost use Rattle.cnf.specs.Limits.{limits_of};
-ghost use Rattle.cubes.specs.Result.{Says};
+ghost use Rattle.join.specs.Before.{before_left, IsBefore};
 ghost use Rattle.strategies.specs.Strategies.{search_by};
 ghost use Rattle.runs.specs.Answer.{IsRightAnswer};
 ghost use Rattle.runs.specs.Run.{WritesBoth};
-ghost use Rattle.runs.specs.Stored.{AreTrueStored, IsProofOf, IsProofText, IsUnwritten, LeavesStored};
+ghost use Rattle.runs.specs.Stored.{AreTrueStored, IsProofOf, IsProofText, IsRefutedTree, IsUnwritten, LeavesStored};
 
 use crate::alone::answer_of;
-use crate::at_once::write_if_refuted;
+use crate::at_once::write_all_if_refuted;
+use crate::before_output::lines_before;
 use crate::fault::RunFault;
 use crate::output::write_text;
 use crate::proof_stream::ProofStream;
 use crate::verdict::Verdict;
+use beginnings::{Unwatched, begun};
 use cdcl::{Plan, Unkept};
 use cnf::{Formula, Limits, read_from_within};
 use cubes::{GivesOutcomes, OpenGate, Tree, Untaken, go_through};
 use gathering::{CountsOutcomes, KeepsFacts, ManyHands, OneHand, OpensOutcomes};
+use join::LinesBefore;
 use std::alloc::Global;
 use std::io::{Read, Write};
 use std::thread::Threads;
@@ -36,24 +39,28 @@ pub struct GatheredFrom {
     pub solved: u64,
 }
 
-/// Writes the proof of a formula that isn't satisfiable, from the outcomes of its cubes.
+/// Writes the proof of what is searched, which isn't satisfiable, from the outcomes of its cubes,
+/// behind the lines before.
 fn write_refutation<O: GivesOutcomes, P: Write>(
     alloc: Global,
-    formula: &Formula,
+    searched: &Formula,
     plan: Plan,
     outcomes: &mut O,
+    before: &mut LinesBefore,
     proof: &mut P,
 ) -> Result<(), RunFault>
-    requires gives { O.gives outcomes.old formula.now plan }
-    requires refuted { ¬ (Satisfiable formula.now) }
+    requires gives { O.gives outcomes.old searched.now plan }
+    requires before { IsBefore before.old }
+    requires refuted { ¬ (Satisfiable searched.now) }
     ensures { MatchResult result
-        (λ _. (text : List ℕ) × IsProofText formula.now plan (O.gives_own outcomes.old formula.now plan) text × Appends (P.contents proof.old) (P.contents proof.new) text)
+        (λ _. (text : List ℕ) × IsProofText searched.now plan (O.gives_own outcomes.old searched.now plan) text
+        × Appends (P.contents proof.old) (P.contents proof.new) (proof_text (before_left before.old) ++ text))
         (IsUnwritten (P.contents proof.old) (P.contents proof.new)) }
 {
-    let Ok(mut stream) = ProofStream::begin(alloc, formula, plan.search()) else {
+    let Ok(mut stream) = ProofStream::begin(alloc, searched, plan.search()) else {
         return Err(RunFault::NoMemory);
     };
-    match write_if_refuted(alloc, formula, plan, outcomes, &mut stream, proof) {
+    match write_all_if_refuted(alloc, searched, plan, outcomes, before, &mut stream, proof) {
         Ok(true) => Ok(()),
         Ok(false) => unreachable!(),
         Err(_) => Err(RunFault::ProofWriteFailed),
@@ -63,21 +70,23 @@ fn write_refutation<O: GivesOutcomes, P: Write>(
 /// Writes the proof for a result; that of a model is empty.
 fn write_proof_of<O: GivesOutcomes, P: Write>(
     alloc: Global,
-    formula: &Formula,
+    searched: &Formula,
     plan: Plan,
     tree: &Tree<Unkept>,
     outcomes: &mut O,
+    before: &mut LinesBefore,
     proof: &mut P,
 ) -> Result<(), RunFault>
-    requires gives { O.gives outcomes.old formula.now plan }
-    requires says { (search : plans.Search) × Says search formula.now tree.now }
+    requires gives { O.gives outcomes.old searched.now plan }
+    requires before { IsBefore before.old }
+    requires refuted { IsRefutedTree tree.now → ¬ (Satisfiable searched.now) }
     ensures { MatchResult result
-        (λ _. (text : List ℕ) × IsProofOf formula.now plan (O.gives_own outcomes.old formula.now plan) tree.now text × Appends (P.contents proof.old) (P.contents proof.new) text)
+        (λ _. (text : List ℕ) × IsProofOf searched.now plan (O.gives_own outcomes.old searched.now plan) (before_left before.old) tree.now text × Appends (P.contents proof.old) (P.contents proof.new) text)
         (IsUnwritten (P.contents proof.old) (P.contents proof.new)) }
 {
     match tree {
         Tree::Model(_) => write_text(proof, &[], RunFault::ProofWriteFailed),
-        Tree::Refuted(_) => write_refutation(alloc, formula, plan, outcomes, proof),
+        Tree::Refuted(_) => write_refutation(alloc, searched, plan, outcomes, before, proof),
     }
 }
 
@@ -105,21 +114,40 @@ fn gather_stored_by<R: Read + Drop, S: KeepsFacts + Drop, H: OpensOutcomes<S>, W
     };
     let _vars = formula.vars(); // it ensures what the proof needs of the formula
     let plan = strategy.plan();
-    let Ok(mut outcomes) = hands.open(alloc, &formula, plan, store) else {
+    let Ok(mut begun) = begun(alloc, &formula, plan, &Unwatched) else {
         return Err(RunFault::NoMemory);
     };
-    let Ok(tree) = go_through(alloc, &formula, plan, &mut outcomes, &mut Untaken, &mut ()) else {
+    let searched = begun.formula(&formula);
+    let _searched_vars = searched.vars(); // and this of what is searched
+    let Ok(mut outcomes) = hands.open(alloc, searched, plan, store) else {
+        return Err(RunFault::NoMemory);
+    };
+    let Ok(tree) = go_through(alloc, searched, plan, &mut outcomes, &mut Untaken, &mut ()) else {
         return Err(RunFault::NoMemory);
     };
     let (taken, solved) = (outcomes.taken(), outcomes.solved());
-    let Ok(tree) = answered(alloc, &formula, strategy, tree, &OpenGate, &Unstaged) else {
+    let Ok(tree) = answered(
+        alloc, &formula, &begun, strategy, tree, &OpenGate, &Unstaged,
+    ) else {
+        return Err(RunFault::NoMemory);
+    };
+    let Ok(mut before) = lines_before(alloc, &formula, &mut begun) else {
         return Err(RunFault::NoMemory);
     };
     let (verdict, text) = match answer_of(alloc, &formula, &tree) {
         Ok(pair) => pair,
         Err(_) => return Err(RunFault::NoMemory),
     };
-    write_proof_of(alloc, &formula, plan, &tree, &mut outcomes, proof)?;
+    let searched = begun.formula(&formula);
+    write_proof_of(
+        alloc,
+        searched,
+        plan,
+        &tree,
+        &mut outcomes,
+        &mut before,
+        proof,
+    )?;
     write_text(answer, &text, RunFault::AnswerWriteFailed)?;
     Ok(GatheredFrom {
         verdict,

@@ -8,7 +8,7 @@ ghost use Rattle.runs.specs.Answer.{IsRightAnswer};
 ghost use Rattle.runs.specs.Run.{RunSays};
 
 use crate::alone::output_of;
-use crate::by_hands::{parts_for, write_by_hands};
+use crate::by_hands::{parts_for, write_output_by_hands};
 use crate::fault::RunFault;
 use crate::output::write_text;
 use crate::verdict::Verdict;
@@ -66,7 +66,7 @@ pub(crate) fn run_observed<
         return Err(RunFault::NoMemory);
     };
     observer.joined();
-    write_by_hands(rt, proof, &mut output.lines, &mut output.buffer, &mut parts)?;
+    write_output_by_hands(rt, proof, &mut output, &mut parts)?;
     observer.written();
     observer.answers();
     write_text(answer, &output.answer, RunFault::AnswerWriteFailed)?;

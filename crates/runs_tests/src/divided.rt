@@ -71,7 +71,8 @@ fn plan_of(row: &Row) -> Option<Plan> {
     if row.budget < 1 || row.budget > 100_000 || row.divide > 65_536 {
         return None;
     }
-    Some(Plan::focused_by(row.budget, soon_stable()).divided(row.divide))
+    let plan = Plan::focused_by(row.budget, soon_stable());
+    Some(plan.divided(row.divide).simplifying(false))
 }
 
 /// Whether the answer and the proof are the row's.

@@ -79,7 +79,7 @@ fn plan_of(search: Search, budget: u32) -> Plan
 {
     match search {
         Search::Ordered => Plan::ordered(budget),
-        Search::Focused => Plan::focused(budget),
+        Search::Focused => Plan::focused(budget).simplifying(false),
     }
 }
 

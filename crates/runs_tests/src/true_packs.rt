@@ -146,7 +146,7 @@ static ROWS: [Row; 4] = [
 pub(crate) fn plan_of(search: Search) -> Plan {
     match search {
         Search::Ordered => Plan::ordered(1),
-        Search::Focused => Plan::focused(1),
+        Search::Focused => Plan::focused(1).simplifying(false),
     }
 }
 

@@ -10,7 +10,7 @@ use Rattle.theory.specs.Propagation.{clause_at}
 use Rattle.theory.specs.Forgetting.{forgotten}
 use Rattle.theory.specs.Checking.{clause_of}
 use Rattle.theory.specs.Proofs.{numbers_from}
-use Rattle.theory.specs.Steps.{add}
+use Rattle.theory.specs.Steps.{add, delete}
 use Rattle.theory.specs.Simplifying.{Simplified, Change, adds, drops, eliminates, unsimplified, simplified, kept_clauses, change_steps, dropping, extended}
 use Rattle.theory.specs.Eliminating.{tidying}
 use Rattle.theory.specs.Trying.{Trial, Tries, IsSimplification, effort, size, first_trial}
@@ -32,7 +32,7 @@ steps-of last (adds line ∷ cs) h = go line.hints refl h.0 (steps-of (last + 1)
   where
     go : (hints : List ℕ) → line.hints ≡ hints → (n : ℕ) × (ns : List ℕ) × (line.hints ≡ n ∷ ns) → steps_from (last + 1) (lines_of cs) ≡ change_steps (last + 1) cs
         → (elim hints [
-          | [] ↦ dropping last line.forgets ++ steps_from last (lines_of cs)
+          | [] ↦ delete (record { id = last; ids = line.forgets }) ∷ steps_from last (lines_of cs)
           | n ∷ ns ↦ add (record { id = last + 1; clause = line.clause; hints = line.hints; groups = [] }) ∷ steps_from (last + 1) (lines_of cs)
         ]) ≡ add (record { id = last + 1; clause = line.clause; hints = line.hints; groups = [] }) ∷ change_steps (last + 1) cs
     go [] e some more = absurd (let both = sym e ∙ some.2 in cc)

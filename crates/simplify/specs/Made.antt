@@ -1,9 +1,9 @@
 -- What a simplification makes of a formula.
-use Rattle.std.specs.Prelude.{◌≡◌, ℕ, ◌+◌, List, [], ◌∷◌, ◌++◌, length}
+use Rattle.std.specs.Prelude.{◌≡◌, ℕ, ◌+◌, List, [], ◌∷◌, length}
 use Rattle.theory.specs.Truth.{Formula, Assignment}
 use Rattle.theory.specs.Learning.{Line}
-use Rattle.theory.specs.Steps.{Step, add}
-use Rattle.theory.specs.Simplifying.{Eliminated, Change, simplified, simplified_formula, simplification, extended_model, dropping}
+use Rattle.theory.specs.Steps.{Step, add, delete}
+use Rattle.theory.specs.Simplifying.{Eliminated, Change, simplified, simplified_formula, simplification, extended_model}
 
 -- the formula that is searched, the lines before those of the search, and the eliminated variables
 pub record Made : Type 0 where
@@ -15,7 +15,7 @@ pub record Made : Type 0 where
 abbrev pub steps_from : ℕ → List Line → List Step
 steps_from last [] = []
 steps_from last (line ∷ lines) = elim line.hints [
-  | [] ↦ dropping last line.forgets ++ steps_from last lines
+  | [] ↦ delete (record { id = last; ids = line.forgets }) ∷ steps_from last lines
   | h ∷ hs ↦ add (record { id = last + 1; clause = line.clause; hints = line.hints; groups = [] }) ∷ steps_from (last + 1) lines
 ]
 

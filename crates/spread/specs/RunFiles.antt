@@ -1,5 +1,5 @@
 -- What the file of a run says.
-use Rattle.std.specs.Prelude.{◌≡◌, ℕ, List, None, string_bytes}
+use Rattle.std.specs.Prelude.{◌≡◌, ℕ, Bool, List, None, string_bytes}
 use Rattle.theory.specs.Truth as truth
 use Rattle.theory.specs.Plans.{Plan, ordered_within, focused, default_constants}
 use Rattle.theory.specs.Reading.{ReadsWithin, formula}
@@ -16,10 +16,11 @@ abbrev pub most_at_root : Search → ℕ
 most_at_root Ordered = 100000
 most_at_root Focused = 1000000000
 
--- the plan of these numbers; the ordered search divides nothing
-abbrev pub plan_by : Search → (budget divide : ℕ) → Plan
-plan_by Ordered budget divide = ordered_within budget
-plan_by Focused budget divide = record { search = focused default_constants; budget = budget; divide = divide }
+-- the plan of these numbers, and whether it simplifies; the ordered search divides nothing, and
+-- simplifies nothing
+abbrev pub plan_by : Search → (budget divide : ℕ) → Bool → Plan
+plan_by Ordered budget divide simplify = ordered_within budget
+plan_by Focused budget divide simplify = record { search = focused default_constants; budget = budget; divide = divide; simplify = simplify }
 
 -- the strategy decides the formula by its plan alone, the one that was chosen by another
 abbrev pub IsSettled : truth.Formula → Strategy → Strategy → Type 0

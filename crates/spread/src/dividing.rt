@@ -4,6 +4,7 @@ ghost use Rattle.gathering.specs.Facts.{IsTrueFact};
 ghost use Rattle.spread.specs.Progress.{progress_by};
 ghost use Rattle.spread.specs.RunFiles.{IsSettled};
 
+use crate::begun::begun_for;
 use crate::breadth::{Division, by_breadth};
 use crate::files::{read_file, write_file};
 use crate::folder::Folder;
@@ -143,8 +144,8 @@ fn check_free<R: Files, E: Write>(
     }
 }
 
-/// Solves the cubes of a run's formula by breadth until at least `wanted` are open, and writes what
-/// that came to. The formula is the one at this path.
+/// Solves the cubes of what a run's search begins with by breadth until at least `wanted` are open,
+/// and writes what that came to. The run's formula is the one at this path.
 fn write_division<R: Files, E: Write, G: Gate>(
     rt: &R,
     alloc: Global,
@@ -200,9 +201,11 @@ pub fn divide<R: Files, E: Write, G: Gate>(
     let Ok(Some((run, text))) = new_run(alloc, strategy, limits, &bytes) else {
         return Err(say_no_memory(faults, folder.path));
     };
+    let begun = begun_for(alloc, path, &formula, run.plan, gate, faults)?;
+    let searched = begun.formula(&formula);
     let text = text.as_str();
     write_division(
-        rt, alloc, folder, path, &run, text, &formula, wanted, gate, faults,
+        rt, alloc, folder, path, &run, text, searched, wanted, gate, faults,
     )
 }
 

@@ -1,6 +1,7 @@
 //! Runs that are spread over machines: the folder of a run, and the cubes that are solved there.
 #![tactic(auto)]
 
+mod begun;
 mod breadth;
 mod conquering;
 mod cube_text;

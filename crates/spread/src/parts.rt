@@ -2,6 +2,7 @@
 ghost use Rattle.std.specs.Prelude.{◌≡◌, ℕ, ◌+◌, ◌-◌, ◌*◌, ◌^◌, ◌≤◌, [], ◌∷◌, ◌++◌, if◌then◌else◌, IfOk, OnOk, MatchOption, reverse};
 ghost use Rattle.spread.specs.Parts.{part_at, of_part};
 
+use crate::begun::begun_for;
 use crate::conquering::Ended;
 use crate::folder::Folder;
 use crate::hand_count::HandCount;
@@ -106,10 +107,12 @@ where
     let run = run_in(rt, alloc, folder, faults)?;
     let formula = formula_in(rt, alloc, folder, &run, faults)?;
     let cubes = left_of_part(rt, alloc, folder, &run, &formula, round, slice, faults)?;
+    let begun = begun_for(alloc, folder.path, &formula, run.plan, gate, faults)?;
+    let searched = begun.formula(&formula);
     let waiting = Waiting::of(cubes);
     let seconds = seconds_of(minutes);
     solve_by_hands(
-        rt, alloc, folder, &run, &formula, &waiting, seconds, hands, gate, faults,
+        rt, alloc, folder, &run, searched, &waiting, seconds, hands, gate, faults,
     )
 }
 

@@ -32,8 +32,8 @@ fn greatest_budget(search: Search) -> u32
 const MAX_DIVIDE: u32 = 65_536;
 
 /// The plan of these numbers, if they are in their ranges.
-fn plan_of(search: Search, budget: u32, divide: u32) -> Option<Plan>
-    ensures plan { IfSome result (λ plan. plan ≡ plan_by search budget divide) }
+fn plan_of(search: Search, budget: u32, divide: u32, simplify: bool) -> Option<Plan>
+    ensures plan { IfSome result (λ plan. plan ≡ plan_by search budget divide simplify) }
     ensures some { IsSome result ↔ ((1 ≤ budget) × (budget ≤ most_at_root search) × (divide ≤ 65536)) }
 {
     if budget < 1 || budget > greatest_budget(search) || divide > MAX_DIVIDE {
@@ -41,7 +41,7 @@ fn plan_of(search: Search, budget: u32, divide: u32) -> Option<Plan>
     }
     Some(match search {
         Search::Ordered => Plan::ordered(budget),
-        Search::Focused => Plan::focused(budget).divided(divide),
+        Search::Focused => Plan::focused(budget).divided(divide).simplifying(simplify),
     })
 }
 
@@ -100,6 +100,18 @@ fn search_named(name: &str) -> Option<Search> {
     }
 }
 
+fn yes_or_no(yes: bool) -> &'static str {
+    if yes { "yes" } else { "no" }
+}
+
+fn yes_named(name: &str) -> Option<bool> {
+    match name {
+        "yes" => Some(true),
+        "no" => Some(false),
+        _ => None,
+    }
+}
+
 fn limits_named(name: &str) -> Option<Limits> {
     match name {
         "standard" => Some(Limits::Standard),
@@ -129,6 +141,7 @@ pub(crate) fn run_text(
 ) -> Result<String, AllocError> {
     let search = name_of(plan.search());
     let (budget, divide) = (plan.budget(), plan.divide());
+    let simplify = yes_or_no(plan.simplify());
     let (model, end) = if lowers {
         (FIRST_MODEL, "\n")
     } else {
@@ -136,7 +149,7 @@ pub(crate) fn run_text(
     };
     let limits = limits_name(limits);
     format!(in alloc;
-        "cubesat run 2\nsearch {search}\nbudget {budget}\ndivide {divide}\n{model}{end}limits {limits}\nformula {formula_sum}\n"
+        "cubesat run 3\nsearch {search}\nbudget {budget}\ndivide {divide}\nsimplify {simplify}\n{model}{end}limits {limits}\nformula {formula_sum}\n"
     )
 }
 
@@ -150,7 +163,8 @@ fn plan_in(lines: &mut Lines<'_>) -> Option<Plan> {
     let search = search_named(value_of(lines, "search ")?)?;
     let budget = value_of(lines, "budget ")?.parse::<u32>().ok()?;
     let divide = value_of(lines, "divide ")?.parse::<u32>().ok()?;
-    plan_of(search, budget, divide)
+    let simplify = yes_named(value_of(lines, "simplify ")?)?;
+    plan_of(search, budget, divide, simplify)
 }
 
 /// Whether the next lines say that the answer is the first model, and the limits behind that.
@@ -173,7 +187,7 @@ struct Parts<'a> {
 
 /// What they say, if they are those of a run.
 fn parts_of<'a>(lines: &mut Lines<'a>) -> Option<Parts<'a>> {
-    if lines.next() != Some("cubesat run 2") {
+    if lines.next() != Some("cubesat run 3") {
         return None;
     }
     let plan = plan_in(lines)?;

@@ -15,7 +15,7 @@ const FORMULA: &str = "spread_changed.cnf";
 
 /// The pack of the division: the cube without literals is split on 1.
 const PACK: &str =
-    "spread_changed/packs/9882258f53fb6186e891a63339c3d1cc9bc0c0c3243451bd701ab8df6dea0a21.pack";
+    "spread_changed/packs/0c31f731dc9eef1a6080d87040c9d7445b22035ba405482a38e0a7ea80d610b7.pack";
 
 static MADE: [Step; 1] = [Step::Ends(Row {
     words: &[
@@ -37,7 +37,7 @@ static CHANGES: [Change; 6] = [
     Change {
         name: "none",
         text: Some(
-            "cubesat pack 2 b5e6728ad904468848b5c3a5d3964c51fa3852466d021153982a05f906a37e55\n\x05\x00\x00\x00\x00\x00\x00\x00\x00\x02\x01\x00\x00",
+            "cubesat pack 2 8da2c54d0827cc71b8f590a38e945199383fe5822184a861e095ce4186cf999d\n\x05\x00\x00\x00\x00\x00\x00\x00\x00\x02\x01\x00\x00",
         ),
         taken: 1,
     },
@@ -54,7 +54,7 @@ static CHANGES: [Change; 6] = [
     Change {
         name: "cut inside the fact",
         text: Some(
-            "cubesat pack 2 b5e6728ad904468848b5c3a5d3964c51fa3852466d021153982a05f906a37e55\n\x05\x00\x00\x00\x00\x00\x00\x00\x00\x02\x01\x00",
+            "cubesat pack 2 8da2c54d0827cc71b8f590a38e945199383fe5822184a861e095ce4186cf999d\n\x05\x00\x00\x00\x00\x00\x00\x00\x00\x02\x01\x00",
         ),
         taken: 0,
     },
@@ -62,7 +62,7 @@ static CHANGES: [Change; 6] = [
     Change {
         name: "a split on 3",
         text: Some(
-            "cubesat pack 2 b5e6728ad904468848b5c3a5d3964c51fa3852466d021153982a05f906a37e55\n\x05\x00\x00\x00\x00\x00\x00\x00\x00\x02\x04\x00\x00",
+            "cubesat pack 2 8da2c54d0827cc71b8f590a38e945199383fe5822184a861e095ce4186cf999d\n\x05\x00\x00\x00\x00\x00\x00\x00\x00\x02\x04\x00\x00",
         ),
         taken: 0,
     },
@@ -70,7 +70,7 @@ static CHANGES: [Change; 6] = [
     Change {
         name: "another cube",
         text: Some(
-            "cubesat pack 2 b5e6728ad904468848b5c3a5d3964c51fa3852466d021153982a05f906a37e55\n\x05\x00\x00\x00\x00\x00\x00\x00\x02\x00\x06\x00\x00",
+            "cubesat pack 2 8da2c54d0827cc71b8f590a38e945199383fe5822184a861e095ce4186cf999d\n\x05\x00\x00\x00\x00\x00\x00\x00\x02\x00\x06\x00\x00",
         ),
         taken: 0,
     },

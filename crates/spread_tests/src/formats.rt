@@ -25,17 +25,17 @@ static WRITTEN: [Step; 17] = [
     }),
     Step::Holds(
         "spread_files/run",
-        "cubesat run 2\nsearch ordered\nbudget 1\ndivide 0\nlimits standard\nformula bdcfed14408fb3f368fe82437336d283a9dedc953677460e9c7317724c5e1e58\n",
+        "cubesat run 3\nsearch ordered\nbudget 1\ndivide 0\nsimplify no\nlimits standard\nformula bdcfed14408fb3f368fe82437336d283a9dedc953677460e9c7317724c5e1e58\n",
     ),
     Step::Holds("spread_files/formula.cnf", FOUR),
     Step::Holds("spread_files/rounds/0001", "-1 0\n1 0\n"),
     Step::Holds(
-        "spread_files/packs/9882258f53fb6186e891a63339c3d1cc9bc0c0c3243451bd701ab8df6dea0a21.pack",
-        "cubesat pack 2 b5e6728ad904468848b5c3a5d3964c51fa3852466d021153982a05f906a37e55\n\x05\x00\x00\x00\x00\x00\x00\x00\x00\x02\x01\x00\x00",
+        "spread_files/packs/0c31f731dc9eef1a6080d87040c9d7445b22035ba405482a38e0a7ea80d610b7.pack",
+        "cubesat pack 2 8da2c54d0827cc71b8f590a38e945199383fe5822184a861e095ce4186cf999d\n\x05\x00\x00\x00\x00\x00\x00\x00\x00\x02\x01\x00\x00",
     ),
     Step::Put(
         "spread_files/packs/0.pack.part",
-        "cubesat pack 2 b5e6728ad904468848b5c3a5d3964c51fa3852466d021153982a05f906a37e55\n\x05\x00\x00\x00\x00\x00\x00\x00\x00\x02\x01\x00\x00",
+        "cubesat pack 2 8da2c54d0827cc71b8f590a38e945199383fe5822184a861e095ce4186cf999d\n\x05\x00\x00\x00\x00\x00\x00\x00\x00\x02\x01\x00\x00",
     ),
     Step::Ends(Row {
         words: &["cubesat", "divide", "--into", "spread_files"],
@@ -46,7 +46,7 @@ static WRITTEN: [Step; 17] = [
     Step::Holds("spread_files/rounds/0002", "-1 0\n1 0\n"),
     Step::Put(
         "spread_files/packs/0000000000000000000000000000000000000000000000000000000000000000.pack",
-        "cubesat pack 2 b5e6728ad904468848b5c3a5d3964c51fa3852466d021153982a05f906a37e55\n\x05\x00\x00\x00\x00\x00\x00\x00\x00\x02\x01\x00\x00",
+        "cubesat pack 2 8da2c54d0827cc71b8f590a38e945199383fe5822184a861e095ce4186cf999d\n\x05\x00\x00\x00\x00\x00\x00\x00\x00\x02\x01\x00\x00",
     ),
     Step::Ends(Row {
         words: &["cubesat", "divide", "--into", "spread_files"],
@@ -70,7 +70,7 @@ static WRITTEN: [Step; 17] = [
         "spread_files/packs/0000000000000000000000000000000000000000000000000000000000000000.pack",
     ),
     Step::Remove(
-        "spread_files/packs/9882258f53fb6186e891a63339c3d1cc9bc0c0c3243451bd701ab8df6dea0a21.pack",
+        "spread_files/packs/0c31f731dc9eef1a6080d87040c9d7445b22035ba405482a38e0a7ea80d610b7.pack",
     ),
     Step::Ends(Row {
         words: &["cubesat", "divide", "--into", "spread_files"],
@@ -116,8 +116,8 @@ fn cubes_stand_from_left_to_right(rt: HostRuntime) -> Result<(), Fail> {
     Ok(())
 }
 
-/// Of the left cube it is said, by the name, first that it is refuted and then that it is split; of the
-/// right one the other way round.
+/// Of the left cube it is said, by the name, first that it is refuted and then that it is split, twice,
+/// which makes that name the later one; of the right one the other way round.
 static ORDERED: [Step; 7] = [
     Step::Ends(Row {
         words: &[
@@ -136,20 +136,20 @@ static ORDERED: [Step; 7] = [
         faults: "",
     }),
     Step::Put(
-        "spread_order/packs/dfc9114d9ec350a92ba32343ab4a3b3b8d48a71529d94250073bbfa5162a8b8d.pack",
-        "cubesat pack 2 b5e6728ad904468848b5c3a5d3964c51fa3852466d021153982a05f906a37e55\n\x06\x00\x00\x00\x00\x00\x00\x00\x02\x00\x02\x02\x00\x00",
+        "spread_order/packs/bb9942fed08d6e833a173273676a17b725c2935ad440045412a4f154c497da9b.pack",
+        "cubesat pack 2 8da2c54d0827cc71b8f590a38e945199383fe5822184a861e095ce4186cf999d\n\x06\x00\x00\x00\x00\x00\x00\x00\x02\x00\x02\x02\x00\x00\x06\x00\x00\x00\x00\x00\x00\x00\x02\x00\x02\x02\x00\x00",
     ),
     Step::Put(
-        "spread_order/packs/59ae4811a2706335477cc1098af0d1f25044fba30842d9b73e1ba30a6323ced6.pack",
-        "cubesat pack 2 b5e6728ad904468848b5c3a5d3964c51fa3852466d021153982a05f906a37e55\n\x05\x00\x00\x00\x00\x00\x00\x00\x02\x00\x04\x00\x00",
+        "spread_order/packs/879f415a5c9e267ea46503714a335a243039d0476af98a0b3e5d23a4f5a8b9d8.pack",
+        "cubesat pack 2 8da2c54d0827cc71b8f590a38e945199383fe5822184a861e095ce4186cf999d\n\x05\x00\x00\x00\x00\x00\x00\x00\x02\x00\x04\x00\x00",
     ),
     Step::Put(
-        "spread_order/packs/b53be8d47bae4dbc2385030d97c4d1c3313e5982b3078e2025a369f7306fcd5f.pack",
-        "cubesat pack 2 b5e6728ad904468848b5c3a5d3964c51fa3852466d021153982a05f906a37e55\n\x06\x00\x00\x00\x00\x00\x00\x00\x03\x00\x02\x02\x00\x00",
+        "spread_order/packs/2f5bfa229d2e7caad2f9f51b47bef92b759fe6310454d83b5bf2060b4fb43259.pack",
+        "cubesat pack 2 8da2c54d0827cc71b8f590a38e945199383fe5822184a861e095ce4186cf999d\n\x06\x00\x00\x00\x00\x00\x00\x00\x03\x00\x02\x02\x00\x00",
     ),
     Step::Put(
-        "spread_order/packs/c567dea384fe30b5907a83678b6958404e0eb1260140ae731308fb9a9f313ec0.pack",
-        "cubesat pack 2 b5e6728ad904468848b5c3a5d3964c51fa3852466d021153982a05f906a37e55\n\x05\x00\x00\x00\x00\x00\x00\x00\x03\x00\x04\x00\x00",
+        "spread_order/packs/e9d6355e3bf2a13706c6b5b542ccbcd4edb75de316d6dcfb98d994917ade8bda.pack",
+        "cubesat pack 2 8da2c54d0827cc71b8f590a38e945199383fe5822184a861e095ce4186cf999d\n\x05\x00\x00\x00\x00\x00\x00\x00\x03\x00\x04\x00\x00",
     ),
     Step::Ends(Row {
         words: &["cubesat", "divide", "--into", "spread_order"],
@@ -187,8 +187,8 @@ static COUNTED: [Step; 4] = [
         faults: "",
     }),
     Step::Put(
-        "spread_counts/packs/0a9c7435e4a993f8233c81d5cdb11fdf7e4a3cfaf4d4748d5de3c8ceb66f55d0.pack",
-        "cubesat pack 2 b5e6728ad904468848b5c3a5d3964c51fa3852466d021153982a05f906a37e55\n\x05\x00\x00\x00\x00\x00\x00\x00\x00\x02\x01\x00\x00\x05\x00\x00\x00\x00\x00\x00\x00\x03\x00\x06\x00\x00\x05\x00\x00\x00\x00\x00\x00\x00\x02\x00\x06\x00\x00\x05\x00\x00\x00\x00\x00\x00\x00\x13\x00\x04\x00\x00\x06\x00\x00\x00\x00\x00\x00\x00\x03\x00\x02\x10\x00\x00\x06\x00\x00\x00\x00\x00\x00\x00\x03\x00\x00\x00\x04\x00\x06\x00\x00\x00\x00\x00\x00\x00\x00\x02",
+        "spread_counts/packs/971900806fb5f0b9b2f7dfd0bf128ee4f872e872c5e3ca5db8c7875fc0aa25df.pack",
+        "cubesat pack 2 8da2c54d0827cc71b8f590a38e945199383fe5822184a861e095ce4186cf999d\n\x05\x00\x00\x00\x00\x00\x00\x00\x00\x02\x01\x00\x00\x05\x00\x00\x00\x00\x00\x00\x00\x03\x00\x06\x00\x00\x05\x00\x00\x00\x00\x00\x00\x00\x02\x00\x06\x00\x00\x05\x00\x00\x00\x00\x00\x00\x00\x13\x00\x04\x00\x00\x06\x00\x00\x00\x00\x00\x00\x00\x03\x00\x02\x10\x00\x00\x06\x00\x00\x00\x00\x00\x00\x00\x03\x00\x00\x00\x04\x00\x06\x00\x00\x00\x00\x00\x00\x00\x00\x02",
     ),
     Step::Ends(Row {
         words: &[

@@ -137,17 +137,17 @@ const BY_TWO: Row = Row {
 
 /// A pack that says that the cube of -2 alone is refuted, which isn't in the tree.
 const REFUTED: &str =
-    "spread_ahead/packs/4fe24ae1011b821e03c529d91c3860a85fb4863e4e02015989739aec0d67a4a7.pack";
+    "spread_ahead/packs/d9a01ce7ccd16bd2d8d9a627cd2533609eea021481a0087018ad7fed9cfaa89e.pack";
 
 const REFUTED_TEXT: &str =
-    "cubesat pack 2 b5e6728ad904468848b5c3a5d3964c51fa3852466d021153982a05f906a37e55\n\x0a\x00\x00\x00\x00\x00\x00\x00\x04\x00\x04\x00\x00\x00\x02\x02\x00\x00";
+    "cubesat pack 2 8da2c54d0827cc71b8f590a38e945199383fe5822184a861e095ce4186cf999d\n\x0a\x00\x00\x00\x00\x00\x00\x00\x04\x00\x04\x00\x00\x00\x02\x02\x00\x00";
 
 /// One that says that it has a model: then the tree is gone through twice.
 const MODEL: &str =
-    "spread_ahead/packs/d3df69cb385e83d233f054e4c189ada05f772bafaeba07d8e1ef1d1fb7fd0a4c.pack";
+    "spread_ahead/packs/5ae38e19830c523a539c5d63d636421b6db8ddbe4bdad53c8371c0c3ab33ea0a.pack";
 
 const MODEL_TEXT: &str =
-    "cubesat pack 2 b5e6728ad904468848b5c3a5d3964c51fa3852466d021153982a05f906a37e55\n\x05\x00\x00\x00\x00\x00\x00\x00\x04\x00\x06\x00\x00";
+    "cubesat pack 2 8da2c54d0827cc71b8f590a38e945199383fe5822184a861e095ce4186cf999d\n\x05\x00\x00\x00\x00\x00\x00\x00\x04\x00\x06\x00\x00";
 
 /// A pack, a command line, and whether the pack is read again once it is gone through: one hand reads
 /// the facts of cubes that it comes to, and several those that come next.

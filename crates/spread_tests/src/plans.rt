@@ -20,7 +20,7 @@ static PLANS: [Step; 8] = [
     }),
     Step::Holds(
         "spread_plans1/run",
-        "cubesat run 2\nsearch ordered\nbudget 1000\ndivide 0\nmodel first\nlimits standard\nformula bdcfed14408fb3f368fe82437336d283a9dedc953677460e9c7317724c5e1e58\n",
+        "cubesat run 3\nsearch ordered\nbudget 1000\ndivide 0\nsimplify no\nmodel first\nlimits standard\nformula bdcfed14408fb3f368fe82437336d283a9dedc953677460e9c7317724c5e1e58\n",
     ),
     Step::Ends(Row {
         words: &[
@@ -38,7 +38,7 @@ static PLANS: [Step; 8] = [
     }),
     Step::Holds(
         "spread_plans2/run",
-        "cubesat run 2\nsearch focused\nbudget 100000\ndivide 1024\nlimits standard\nformula bdcfed14408fb3f368fe82437336d283a9dedc953677460e9c7317724c5e1e58\n",
+        "cubesat run 3\nsearch focused\nbudget 100000\ndivide 1024\nsimplify yes\nlimits standard\nformula bdcfed14408fb3f368fe82437336d283a9dedc953677460e9c7317724c5e1e58\n",
     ),
     Step::Ends(Row {
         words: &[
@@ -61,7 +61,7 @@ static PLANS: [Step; 8] = [
     }),
     Step::Holds(
         "spread_plans3/run",
-        "cubesat run 2\nsearch focused\nbudget 1000000000\ndivide 65536\nlimits large\nformula bdcfed14408fb3f368fe82437336d283a9dedc953677460e9c7317724c5e1e58\n",
+        "cubesat run 3\nsearch focused\nbudget 1000000000\ndivide 65536\nsimplify yes\nlimits large\nformula bdcfed14408fb3f368fe82437336d283a9dedc953677460e9c7317724c5e1e58\n",
     ),
     Step::Ends(Row {
         words: &[
@@ -83,7 +83,7 @@ static PLANS: [Step; 8] = [
     }),
     Step::Holds(
         "spread_plans4/run",
-        "cubesat run 2\nsearch ordered\nbudget 100000\ndivide 0\nlimits standard\nformula bdcfed14408fb3f368fe82437336d283a9dedc953677460e9c7317724c5e1e58\n",
+        "cubesat run 3\nsearch ordered\nbudget 100000\ndivide 0\nsimplify no\nlimits standard\nformula bdcfed14408fb3f368fe82437336d283a9dedc953677460e9c7317724c5e1e58\n",
     ),
 ];
 
@@ -109,7 +109,7 @@ static CHOSEN: [Step; 6] = [
     }),
     Step::Holds(
         "spread_plans5/run",
-        "cubesat run 2\nsearch focused\nbudget 100000\ndivide 1\nmodel first\nlimits standard\nformula bdcfed14408fb3f368fe82437336d283a9dedc953677460e9c7317724c5e1e58\n",
+        "cubesat run 3\nsearch focused\nbudget 100000\ndivide 1\nsimplify yes\nmodel first\nlimits standard\nformula bdcfed14408fb3f368fe82437336d283a9dedc953677460e9c7317724c5e1e58\n",
     ),
     Step::Ends(Row {
         words: &[
@@ -130,7 +130,7 @@ static CHOSEN: [Step; 6] = [
     }),
     Step::Holds(
         "spread_plans6/run",
-        "cubesat run 2\nsearch focused\nbudget 100000\ndivide 1024\nlimits standard\nformula bdcfed14408fb3f368fe82437336d283a9dedc953677460e9c7317724c5e1e58\n",
+        "cubesat run 3\nsearch focused\nbudget 100000\ndivide 1024\nsimplify yes\nlimits standard\nformula bdcfed14408fb3f368fe82437336d283a9dedc953677460e9c7317724c5e1e58\n",
     ),
     Step::Ends(Row {
         words: &[
@@ -151,7 +151,7 @@ static CHOSEN: [Step; 6] = [
     }),
     Step::Holds(
         "spread_plans7/run",
-        "cubesat run 2\nsearch ordered\nbudget 2\ndivide 0\nmodel first\nlimits large\nformula bdcfed14408fb3f368fe82437336d283a9dedc953677460e9c7317724c5e1e58\n",
+        "cubesat run 3\nsearch ordered\nbudget 2\ndivide 0\nsimplify no\nmodel first\nlimits large\nformula bdcfed14408fb3f368fe82437336d283a9dedc953677460e9c7317724c5e1e58\n",
     ),
 ];
 

@@ -12,19 +12,21 @@ const RUN: &str = "spread_bad/run";
 const ROUND: &str = "spread_bad/rounds/0001";
 
 /// A run's files that say no run.
-static NO_RUNS: [&str; 12] = [
+static NO_RUNS: [&str; 14] = [
     "cubesat run 1\nsearch ordered\nbudget 1\ndivide 0\nlimits standard\nformula bdcfed14408fb3f368fe82437336d283a9dedc953677460e9c7317724c5e1e58\n",
-    "cubesat run 2\nsearch other\nbudget 1\ndivide 0\nlimits standard\nformula bdcfed14408fb3f368fe82437336d283a9dedc953677460e9c7317724c5e1e58\n",
-    "cubesat run 2\nsearch ordered\nbudget 0\ndivide 0\nlimits standard\nformula bdcfed14408fb3f368fe82437336d283a9dedc953677460e9c7317724c5e1e58\n",
-    "cubesat run 2\nsearch ordered\nbudget 100001\ndivide 0\nlimits standard\nformula bdcfed14408fb3f368fe82437336d283a9dedc953677460e9c7317724c5e1e58\n",
-    "cubesat run 2\nsearch focused\nbudget 1000000001\ndivide 0\nlimits standard\nformula bdcfed14408fb3f368fe82437336d283a9dedc953677460e9c7317724c5e1e58\n",
-    "cubesat run 2\nsearch ordered\nbudget 1\ndivide 65537\nlimits standard\nformula bdcfed14408fb3f368fe82437336d283a9dedc953677460e9c7317724c5e1e58\n",
-    "cubesat run 2\nsearch ordered\nbudget 1\ndivide 0\nlimits none\nformula bdcfed14408fb3f368fe82437336d283a9dedc953677460e9c7317724c5e1e58\n",
-    "cubesat run 2\nsearch ordered\ndivide 0\nlimits standard\nformula bdcfed14408fb3f368fe82437336d283a9dedc953677460e9c7317724c5e1e58\n",
-    "cubesat run 2\nsearch ordered\nbudget 1\ndivide 0\nlimits standard\n",
-    "cubesat run 2\nsearch ordered\nbudget 1\ndivide 0\nmodel last\nlimits standard\nformula bdcfed14408fb3f368fe82437336d283a9dedc953677460e9c7317724c5e1e58\n",
-    "cubesat run 2\nsearch ordered\nbudget 1\ndivide 0\nmodel first\nmodel first\nlimits standard\nformula bdcfed14408fb3f368fe82437336d283a9dedc953677460e9c7317724c5e1e58\n",
-    "cubesat run 2\nsearch automatic\nbudget 1\ndivide 0\nlimits standard\nformula bdcfed14408fb3f368fe82437336d283a9dedc953677460e9c7317724c5e1e58\n",
+    "cubesat run 3\nsearch other\nbudget 1\ndivide 0\nsimplify no\nlimits standard\nformula bdcfed14408fb3f368fe82437336d283a9dedc953677460e9c7317724c5e1e58\n",
+    "cubesat run 3\nsearch ordered\nbudget 0\ndivide 0\nsimplify no\nlimits standard\nformula bdcfed14408fb3f368fe82437336d283a9dedc953677460e9c7317724c5e1e58\n",
+    "cubesat run 3\nsearch ordered\nbudget 100001\ndivide 0\nsimplify no\nlimits standard\nformula bdcfed14408fb3f368fe82437336d283a9dedc953677460e9c7317724c5e1e58\n",
+    "cubesat run 3\nsearch focused\nbudget 1000000001\ndivide 0\nsimplify yes\nlimits standard\nformula bdcfed14408fb3f368fe82437336d283a9dedc953677460e9c7317724c5e1e58\n",
+    "cubesat run 3\nsearch ordered\nbudget 1\ndivide 65537\nsimplify no\nlimits standard\nformula bdcfed14408fb3f368fe82437336d283a9dedc953677460e9c7317724c5e1e58\n",
+    "cubesat run 3\nsearch ordered\nbudget 1\ndivide 0\nsimplify no\nlimits none\nformula bdcfed14408fb3f368fe82437336d283a9dedc953677460e9c7317724c5e1e58\n",
+    "cubesat run 3\nsearch ordered\ndivide 0\nsimplify no\nlimits standard\nformula bdcfed14408fb3f368fe82437336d283a9dedc953677460e9c7317724c5e1e58\n",
+    "cubesat run 3\nsearch ordered\nbudget 1\ndivide 0\nsimplify no\nlimits standard\n",
+    "cubesat run 3\nsearch ordered\nbudget 1\ndivide 0\nsimplify no\nmodel last\nlimits standard\nformula bdcfed14408fb3f368fe82437336d283a9dedc953677460e9c7317724c5e1e58\n",
+    "cubesat run 3\nsearch ordered\nbudget 1\ndivide 0\nsimplify no\nmodel first\nmodel first\nlimits standard\nformula bdcfed14408fb3f368fe82437336d283a9dedc953677460e9c7317724c5e1e58\n",
+    "cubesat run 3\nsearch focused\nbudget 1\ndivide 0\nlimits standard\nformula bdcfed14408fb3f368fe82437336d283a9dedc953677460e9c7317724c5e1e58\n",
+    "cubesat run 3\nsearch focused\nbudget 1\ndivide 0\nsimplify maybe\nlimits standard\nformula bdcfed14408fb3f368fe82437336d283a9dedc953677460e9c7317724c5e1e58\n",
+    "cubesat run 3\nsearch automatic\nbudget 1\ndivide 0\nsimplify no\nlimits standard\nformula bdcfed14408fb3f368fe82437336d283a9dedc953677460e9c7317724c5e1e58\n",
 ];
 
 /// Rounds that hold other than cubes over the two variables.

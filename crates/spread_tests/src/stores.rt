@@ -40,38 +40,38 @@ const GATHERED_BY_THREE: Row = Row {
 
 /// The left cube is refuted; behind it stands a length of some quintillions, and two bytes.
 const HOSTILE: Step = Step::Put(
-    "spread_stores/packs/f37a6314eed81a0d3e8291ce469b94dbc21828930b6a2a2668a00771d62884f6.pack",
-    "cubesat pack 2 b5e6728ad904468848b5c3a5d3964c51fa3852466d021153982a05f906a37e55\n\x0a\x00\x00\x00\x00\x00\x00\x00\x02\x00\x04\x00\x00\x00\x02\x02\x00\x00\x7f\x7f\x7f\x7f\x7f\x7f\x7f\x7f\x00\x02",
+    "spread_stores/packs/83cc1c5315cd08670a7f0ca84dffcf79ba9fa0236576220d6a32a63f057fe713.pack",
+    "cubesat pack 2 8da2c54d0827cc71b8f590a38e945199383fe5822184a861e095ce4186cf999d\n\x0a\x00\x00\x00\x00\x00\x00\x00\x02\x00\x04\x00\x00\x00\x02\x02\x00\x00\x7f\x7f\x7f\x7f\x7f\x7f\x7f\x7f\x00\x02",
 );
 
 /// The right cube is refuted; three bytes of a length stand behind it.
 const CUT_IN_LENGTH: Step = Step::Put(
-    "spread_stores/packs/8fb3e5374d14054ada4c237e51f09559f3073d6643d938f5c8036313897c7c77.pack",
-    "cubesat pack 2 b5e6728ad904468848b5c3a5d3964c51fa3852466d021153982a05f906a37e55\n\x0a\x00\x00\x00\x00\x00\x00\x00\x03\x00\x04\x00\x00\x00\x06\x02\x00\x00\x08\x00\x00",
+    "spread_stores/packs/69042eb800ef99047d2cd4fa6ebf0221b5136bd4c481cc2723c0801bfb0806c6.pack",
+    "cubesat pack 2 8da2c54d0827cc71b8f590a38e945199383fe5822184a861e095ce4186cf999d\n\x0a\x00\x00\x00\x00\x00\x00\x00\x03\x00\x04\x00\x00\x00\x06\x02\x00\x00\x08\x00\x00",
 );
 
 /// The same, and behind it a fact of the left cube without its last byte.
 const CUT_IN_BODY: Step = Step::Put(
-    "spread_stores/packs/3181bc649a04aad3e751eaabd8e0a79d3cb1f602754db099902ab3c1b99de56e.pack",
-    "cubesat pack 2 b5e6728ad904468848b5c3a5d3964c51fa3852466d021153982a05f906a37e55\n\x0a\x00\x00\x00\x00\x00\x00\x00\x03\x00\x04\x00\x00\x00\x06\x02\x00\x00\x0a\x00\x00\x00\x00\x00\x00\x00\x02\x00\x04\x00\x00\x00\x02\x02\x00",
+    "spread_stores/packs/945554008aec05221fee93722de157f84a239543094e6117bbaec11cb430c555.pack",
+    "cubesat pack 2 8da2c54d0827cc71b8f590a38e945199383fe5822184a861e095ce4186cf999d\n\x0a\x00\x00\x00\x00\x00\x00\x00\x03\x00\x04\x00\x00\x00\x06\x02\x00\x00\x0a\x00\x00\x00\x00\x00\x00\x00\x02\x00\x04\x00\x00\x00\x02\x02\x00",
 );
 
 /// Both cubes are refuted, the right one first.
 const RIGHT_AND_LEFT: Step = Step::Put(
-    "spread_stores/packs/74c6f70d36213ea0e2276c9e9d46125929b2fcf119d616aec8ddaa2686b577ef.pack",
-    "cubesat pack 2 b5e6728ad904468848b5c3a5d3964c51fa3852466d021153982a05f906a37e55\n\x0a\x00\x00\x00\x00\x00\x00\x00\x03\x00\x04\x00\x00\x00\x06\x02\x00\x00\x0a\x00\x00\x00\x00\x00\x00\x00\x02\x00\x04\x00\x00\x00\x02\x02\x00\x00",
+    "spread_stores/packs/ad8bd98fc371ba269912b61d9c9d4d12822475d75c769bdacff652e557fce7e6.pack",
+    "cubesat pack 2 8da2c54d0827cc71b8f590a38e945199383fe5822184a861e095ce4186cf999d\n\x0a\x00\x00\x00\x00\x00\x00\x00\x03\x00\x04\x00\x00\x00\x06\x02\x00\x00\x0a\x00\x00\x00\x00\x00\x00\x00\x02\x00\x04\x00\x00\x00\x02\x02\x00\x00",
 );
 
 /// The left one first.
 const LEFT_AND_RIGHT: Step = Step::Put(
-    "spread_stores/packs/146f61aa98b6bd7c5832a44a8f94bfbf64c50488cdb12109291a7de192cbced0.pack",
-    "cubesat pack 2 b5e6728ad904468848b5c3a5d3964c51fa3852466d021153982a05f906a37e55\n\x0a\x00\x00\x00\x00\x00\x00\x00\x02\x00\x04\x00\x00\x00\x02\x02\x00\x00\x0a\x00\x00\x00\x00\x00\x00\x00\x03\x00\x04\x00\x00\x00\x06\x02\x00\x00",
+    "spread_stores/packs/d1c0e2bbd50e5ea6f29f7538ca43870faa727e2b25908855bb545511176f28a6.pack",
+    "cubesat pack 2 8da2c54d0827cc71b8f590a38e945199383fe5822184a861e095ce4186cf999d\n\x0a\x00\x00\x00\x00\x00\x00\x00\x02\x00\x04\x00\x00\x00\x02\x02\x00\x00\x0a\x00\x00\x00\x00\x00\x00\x00\x03\x00\x04\x00\x00\x00\x06\x02\x00\x00",
 );
 
 /// The left cube is refuted by the hints of the right one, which isn't so.
 const WRONG_LEFT: Step = Step::Put(
-    "spread_stores/packs/d08df7e7064875d7cc5547254220c114359fa266dd513bc4afd4ed6e05ba5744.pack",
-    "cubesat pack 2 b5e6728ad904468848b5c3a5d3964c51fa3852466d021153982a05f906a37e55\n\x0a\x00\x00\x00\x00\x00\x00\x00\x02\x00\x04\x00\x00\x00\x06\x02\x00\x00",
+    "spread_stores/packs/18c71143cce50f9458b242c0e9254d1de3568b9c0753124934060f6dfba8bc77.pack",
+    "cubesat pack 2 8da2c54d0827cc71b8f590a38e945199383fe5822184a861e095ce4186cf999d\n\x0a\x00\x00\x00\x00\x00\x00\x00\x02\x00\x04\x00\x00\x00\x06\x02\x00\x00",
 );
 
 /// Packs beside that of the division, and what is printed of them all.
@@ -203,8 +203,8 @@ static LIE: [Step; 6] = [
         faults: "",
     }),
     Step::Put(
-        "spread_lie/packs/dc6bf4813de5679a71c10d1f74659a296fa2da59a7ce46de83942864ed616781.pack",
-        "cubesat pack 2 cf5a036be76f65f14a1dffe58b736c15a1170feb27a53eb5305f2c468d731c8c\n\x0a\x00\x00\x00\x00\x00\x00\x00\x02\x00\x04\x00\x00\x00\x02\x02\x00\x00",
+        "spread_lie/packs/057f3c40333b90ad990e95df1ec6e57fd239143a9c298d28596e77732089c8aa.pack",
+        "cubesat pack 2 5a76a66d17382c8f6631c5e9e79e45262156c879933c04eb941caf68ff36c96b\n\x0a\x00\x00\x00\x00\x00\x00\x00\x02\x00\x04\x00\x00\x00\x02\x02\x00\x00",
     ),
     Step::Put("spread_lie.lrat", "an old proof"),
     Step::Ends(Row {

@@ -1,11 +1,12 @@
 //! What is counted in a run, as plain numbers; a number that can't grow stays as it is.
 
+use crate::beginning_counts::BeginningCounts;
 use crate::cube_counts::CubeCounts;
 use crate::division::DivisionCounts;
 use crate::first_counts::FirstCounts;
 use crate::hand_times::HandTimes;
 use crate::search_counts::SearchCounts;
-use cdcl::{Counts, FirstSearch, Search};
+use cdcl::{Counts, FirstAnswer, FirstSearch, Search};
 use cnf::Formula;
 pub use cubes::TreeSize;
 use messages::line_feeds;
@@ -101,6 +102,10 @@ pub struct Figures {
     pub search: Search,
     /// The search that is made before that, if there is one.
     pub first: Option<FirstCounts>,
+    /// Whether the plan divides some formulas.
+    pub(crate) may_divide: bool,
+    /// How far the beginning of the plan's search is, once it has begun.
+    pub beginning: Option<BeginningCounts>,
     /// Whether no more progress is to be shown.
     pub(crate) is_ended: bool,
     /// Whether a line of progress stands on the terminal.
@@ -150,6 +155,8 @@ impl Figures {
             stage,
             search: Search::Ordered,
             first: None,
+            may_divide: false,
+            beginning: None,
             is_ended: false,
             is_drawn: false,
             formula: None,
@@ -176,6 +183,7 @@ impl Figures {
     /// The run goes by this strategy.
     pub fn set_strategy(&mut self, strategy: Strategy) {
         self.search = strategy.plan().search();
+        self.may_divide = strategy.plan().may_divide();
         self.first = match strategy.first() {
             Some(_) => Some(FirstCounts::none()),
             None => None,
@@ -194,6 +202,28 @@ impl Figures {
         if let Some(first) = &mut self.first {
             first.end(is_decided);
         }
+    }
+
+    /// The short search of the beginning has ended, and decided the formula or not. Where it has,
+    /// nothing is asked of a division.
+    pub(crate) fn end_try(&mut self, is_decided: bool, now: u64) {
+        let beginning = self.begun();
+        beginning.end_try(is_decided, now);
+        let conflicts = beginning.search().conflicts;
+        if is_decided && self.may_divide {
+            let first = FirstSearch {
+                decisions: 0,
+                conflicts,
+                stable_conflicts: 0,
+                answer: FirstAnswer::Ended,
+            };
+            self.set_first(first, now);
+        }
+    }
+
+    /// The beginning of the plan's search, which has begun by now.
+    pub(crate) fn begun(&mut self) -> &mut BeginningCounts {
+        self.beginning.get_or_insert(BeginningCounts::none())
     }
 
     /// The lowering is so far.
@@ -216,12 +246,15 @@ impl Figures {
         Some(first.counts().conflicts)
     }
 
-    /// What all searches have done together: the one that is made first, those of hands, and those
-    /// of the lowering.
+    /// What all searches have done together: the one that is made first, the one that says whether
+    /// the formula is simplified, those of hands, and those of the lowering.
     pub(crate) fn searched(&self) -> Counts {
         let mut sum = self.counts.sum();
         if let Some(first) = self.first {
             sum = sum.with(first.counts());
+        }
+        if let Some(beginning) = self.beginning {
+            sum = sum.with(beginning.search());
         }
         if let Some(lowering) = self.lowering {
             sum = sum.with(lowering.search);

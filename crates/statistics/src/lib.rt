@@ -1,6 +1,7 @@
 //! What is counted in a run, and how it is shown: the figures of `--stats` and `--progress`.
 #![tactic(auto)]
 
+mod beginning_counts;
 mod board;
 mod counted;
 mod cube_counts;
@@ -17,6 +18,7 @@ mod search_line;
 mod statistics;
 mod watch;
 
+pub use beginning_counts::{BeginningCounts, Simplified};
 pub use board::Board;
 pub use counted::{CountedReader, CountedWriter, Counter};
 pub use cube_counts::CubeCounts;

@@ -66,6 +66,8 @@ pub(crate) struct LoweringLine {
 pub(crate) enum SearchLine {
     /// The search that is made first has had so many conflicts, and hands haven't begun.
     First(u64),
+    /// The formula is simplified; so many literals were looked at.
+    Simplifies(u64),
     Hands(HandsLine),
     Lowering(LoweringLine),
 }
@@ -84,10 +86,18 @@ impl SearchLine {
                 questions: lowering.questions,
             });
         }
-        match figures.first_conflicts() {
-            Some(conflicts) => SearchLine::First(conflicts),
-            None => SearchLine::Hands(HandsLine::of(figures, now)),
+        if let Some(conflicts) = figures.first_conflicts() {
+            return SearchLine::First(conflicts);
         }
+        if let Some(beginning) = figures.beginning {
+            if let Some(conflicts) = beginning.tries() {
+                return SearchLine::First(conflicts);
+            }
+            if let Some(literals) = beginning.literals() {
+                return SearchLine::Simplifies(literals);
+            }
+        }
+        SearchLine::Hands(HandsLine::of(figures, now))
     }
 }
 
@@ -95,6 +105,9 @@ impl Display for SearchLine {
     fn fmt<W: fmt::Write>(&self, f: &mut Formatter<W>) -> fmt::Result {
         match self {
             SearchLine::First(conflicts) => write!(f, "first search, {conflicts} conflicts"),
+            SearchLine::Simplifies(literals) => {
+                write!(f, "simplifying, {literals} literals looked at")
+            }
             SearchLine::Hands(line) => write!(f, "{line}"),
             SearchLine::Lowering(line) => {
                 let LoweringLine {

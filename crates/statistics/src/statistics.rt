@@ -3,6 +3,7 @@
 use crate::division_lines::print_division;
 use crate::figures::{Figures, StageEnd};
 use crate::search_counts::a_second;
+use beginnings::SimplifiedCounts;
 use cdcl::Search;
 use std::io::Write;
 
@@ -95,6 +96,28 @@ fn print_first<E: Write>(out: &mut E, figures: &Figures) {
     let _ = writeln!(out, "c first search: ordered, {conflicts} conflicts, {end}");
 }
 
+/// Prints what the simplification came to, where the formula is simplified.
+fn print_simplified<E: Write>(out: &mut E, figures: &Figures) {
+    let Some(beginning) = figures.beginning else {
+        return;
+    };
+    let Some(simplified) = beginning.simplified() else {
+        return;
+    };
+    let SimplifiedCounts {
+        vars,
+        vars_left,
+        clauses,
+        clauses_left,
+        literals,
+    } = simplified.counts;
+    let (seconds, milliseconds) = (simplified.time / 1000, simplified.time % 1000);
+    let _ = writeln!(
+        out,
+        "c simplified: {vars} variables and {clauses} clauses become {vars_left} and {clauses_left}, {literals} literals looked at, {seconds}.{milliseconds:03} s"
+    );
+}
+
 /// Prints how far a lowering came, where one was begun.
 fn print_lowering<E: Write>(out: &mut E, figures: &Figures) {
     let Some(lowering) = figures.lowering else {
@@ -161,6 +184,7 @@ pub fn print_statistics<E: Write>(out: &mut E, figures: &Figures, hands: usize) 
         "c formula: {vars} variables, {clauses} clauses, {literals} literals\nc hands: {hands}"
     );
     print_first(out, figures);
+    print_simplified(out, figures);
     print_counts(out, figures);
     print_rounds(out, figures);
     print_division(out, figures);

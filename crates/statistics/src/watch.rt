@@ -6,6 +6,7 @@ use crate::counted::Counter;
 use crate::figures::{FormulaSize, StageEnd, TextSize, TreeSize};
 use crate::observer::Observer;
 use crate::peak::peak_memory;
+use beginnings::SimplifiedCounts;
 use cdcl::{Counts, FirstAnswer, FirstSearch};
 use cnf::Formula;
 use cubes::{Gate, Tree};
@@ -157,6 +158,28 @@ impl<R: Wait + Clock> Stages for Watch<'_, R> {
 
     fn ended_first(&self, is_decided: bool) {
         self.board.figures().lock(self.rt).end_first(is_decided);
+    }
+
+    fn tried(&self, counts: Counts) {
+        self.board.figures().lock(self.rt).begun().count_try(counts);
+    }
+
+    fn ended_try(&self, is_decided: bool) {
+        let now = self.board.now(self.rt);
+        self.board.figures().lock(self.rt).end_try(is_decided, now);
+    }
+
+    fn simplifying(&self, literals: u64) {
+        self.board
+            .figures()
+            .lock(self.rt)
+            .begun()
+            .count_literals(literals);
+    }
+
+    fn simplified(&self, counts: SimplifiedCounts) {
+        let now = self.board.now(self.rt);
+        self.board.figures().lock(self.rt).begun().end(counts, now);
     }
 
     fn lowering(&self, counts: LoweringCounts) {

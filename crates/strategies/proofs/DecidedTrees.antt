@@ -1,55 +1,54 @@
 -- The trees that a strategy comes to.
-use Rattle.std.proofs.Common.{◌⊎◌, inl, inr, refl, ◌≡◌, Bool, true, false, None, Vec, Global, sym, ap, subst, if◌then◌else◌}
-use Rattle.theory.specs.Truth.{Formula, IsFormula, Satisfiable}
+use Rattle.std.proofs.Common.{◌⊎◌, inl, inr, refl, ◌≡◌, Bool, true, false, None, Vec, Global, sym, ap, subst}
+use Rattle.theory.specs.Truth.{Formula, Assignment, IsFormula, Satisfiable}
+use Rattle.theory.specs.FirstModel.{IsFirst, IsFound}
 use Rattle.theory.specs.Plans.{Constants, Search, ordered, Plan}
 use Rattle.theory.specs.Beginnings.{begun_by}
+use Rattle.theory.specs.Checked.{IsCheckedResult}
+use Rattle.theory.specs.Trees as trees
 use Rattle.cdcl.specs.Plans.{search_of, search_from}
 use Rattle.cdcl.specs.declared.plan.Search as code
 use Rattle.cdcl.specs.declared.plan.Search.TheVariants.{Ordered, Focused}
 use Rattle.cubes.specs.declared.tree.Tree.TheVariants.{Model, Refuted}
 use Rattle.cubes.specs.Result.{LinesNode, LinesTree, IsResultOf, IsCheckedResultOf, Says}
-use Rattle.cubes.proofs.GatheringLemmas.{says, says-begun}
-use Rattle.strategies.specs.Strategies.{Strategy, search_by}
-use Rattle.strategies.specs.Choosing.{alone, IsModelBy}
-use Rattle.strategies.proofs.FoundModels.{kept-model}
-use Rattle.strategies.specs.Deciding.{IsTreeBy, IsDecidedAs}
+use Rattle.beginnings.specs.declared.begun_formula.Begun.{Begun}
+use Rattle.beginnings.specs.Begun.{formula_in, model_in, IsBegunBy}
+use Rattle.strategies.specs.Strategies.{Strategy, by_plan, search_by}
+use Rattle.strategies.specs.Choosing.{IsChosen, alone, IsModelBy}
+use Rattle.strategies.proofs.FoundModels.{model-begun, checked-found, checked-says, result-says, kept-kind, kept-answer}
+use Rattle.strategies.specs.Deciding.{IsResultFor, IsTreeBy, IsDecidedAs, IsFoundBy, IsModelOf}
 
 -- which search it is, of one with its numbers
 pub search-is : (search : code.Search) (c : Constants) (s : Search) → search_of search c ≡ s → search ≡ search_from s
 search-is Ordered c s is = ap search_from is
 search-is Focused c s is = ap search_from is
 
--- by a plan alone that lowers nothing, its result is what the strategy comes to
-pub lone-decided : (F : Formula) (s : Strategy) (t : LinesTree) → s.first ≡ None → s.lowers ≡ false → IsResultOf (begun_by s.plan.search F) s.plan t → IsDecidedAs F s (search_from s.plan.search) t
-lone-decided F s (Model values) lone as_found r = subst (λ b. IsModelBy b F s values.items) (sym as_found) (s.plan, alone lone, r)
-lone-decided F s (Refuted nodes) lone as_found r = (s.plan, alone lone, refl, r)
-
--- and a checked one says what the strategy's do
-as_found-says : (F : Formula) (s : Strategy) (t : LinesTree) → IsFormula F → s.lowers ≡ false → IsCheckedResultOf s.plan.search (begun_by s.plan.search F) t → Says (search_by s) F t
-as_found-says F s t formed as_found h =
-    let kind : search_by s ≡ s.plan.search = ap (λ b. if b then ordered else s.plan.search) as_found in
-    subst (λ search. Says search F t) (sym kind) (says-begun (λ lines. lines) F s.plan t formed h)
-
--- so either does, as it is
-kind-ordered : (b : Bool) (search : Search) → search ≡ ordered → (if b then ordered else search) ≡ search
-kind-ordered true search it = sym it
-kind-ordered false search it = refl
-
-pub kept-says : (F : Formula) (s : Strategy) (t : LinesTree) → IsFormula F → (s.lowers ≡ false) ⊎ (s.plan.search ≡ ordered) → IsCheckedResultOf s.plan.search (begun_by s.plan.search F) t → Says (search_by s) F t
-kept-says F s t formed (inl as_found) h = as_found-says F s t formed as_found h
-kept-says F s t formed (inr it) h = subst (λ search. Says search F t) (sym (kind-ordered s.lowers s.plan.search it)) (says-begun (λ lines. lines) F s.plan t formed h)
-
-pub kept-decided : (F : Formula) (s : Strategy) (t : LinesTree) → IsFormula F → s.first ≡ None → (s.lowers ≡ false) ⊎ (s.plan.search ≡ ordered) → IsResultOf (begun_by s.plan.search F) s.plan t
-    → IsDecidedAs F s (search_from s.plan.search) t
-kept-decided F s t formed lone (inl as_found) r = lone-decided F s t lone as_found r
-kept-decided F s (Model values) formed lone (inr it) r = kept-model s.lowers F s values.items formed lone it r
-kept-decided F s (Refuted nodes) formed lone (inr it) r = (s.plan, alone lone, refl, r)
+-- what is searched has a model that the plan finds, which is made one of the formula
+pub found-begun : (F : Formula) (s : Strategy) (p : Plan) (x : Begun) (values : Vec Bool Global) → IsFormula F → IsTreeBy F s p x (Model values) → IsFoundBy F s p (model_in x values.items)
+found-begun F s p x values formed h = (h.0, model-begun F p x values.items formed h.1.0 h.1.1)
 
 -- a refuted tree of the chosen plan is what the strategy comes to
-pub refuted-decided : (F : Formula) (s : Strategy) (p : Plan) (search : code.Search) (c : Constants) (nodes : Vec LinesNode Global) → search_of search c ≡ p.search → IsTreeBy F s p (Refuted nodes)
-    → IsDecidedAs F s search (Refuted nodes)
-refuted-decided F s p search c nodes it h = (p, h.0, search-is search c p.search it, h.1)
+pub refuted-decided : (F : Formula) (s : Strategy) (p : Plan) (x : Begun) (search : code.Search) (c : Constants) (nodes : Vec LinesNode Global) → search_of search c ≡ p.search → IsTreeBy F s p x (Refuted nodes)
+    → IsDecidedAs F s search x (Refuted nodes)
+refuted-decided F s p x search c nodes it h = (p, h.0, search-is search c p.search it, h.1)
 
 -- and leaves no model
-pub refuted-says : (F : Formula) (s : Strategy) (p : Plan) (nodes : Vec LinesNode Global) → IsFormula F → IsTreeBy F s p (Refuted nodes) → ¬ (Satisfiable F)
-refuted-says F s p nodes formed h = says (λ lines. lines) F p (Refuted nodes) formed h.1
+pub refuted-says : (F : Formula) (s : Strategy) (p : Plan) (x : Begun) (nodes : Vec LinesNode Global) → IsFormula F → IsTreeBy F s p x (Refuted nodes) → ¬ (Satisfiable F)
+refuted-says F s p x nodes formed h =
+    let begun = h.1.0 in
+    result-says F p begun.0 (trees.tree_of h.1.1.0) formed begun.1.begins (subst (λ (G : Formula). trees.IsResult G p (trees.tree_of h.1.1.0)) begun.1.formula h.1.1.1)
+
+-- so it is of a checked one
+pub checked-refuted : (F : Formula) (p : Plan) (x : Begun) (nodes : Vec LinesNode Global) → IsFormula F → IsBegunBy F p x → IsCheckedResultOf p.search (begun_by p.search (formula_in x F)) (Refuted nodes) → ¬ (Satisfiable F)
+checked-refuted F p x nodes formed h r =
+    checked-says F p h.0 (trees.tree_of r.0) formed h.1.begins (subst (λ (G : Formula). IsCheckedResult p.search G (trees.tree_of r.0)) h.1.formula r.1)
+
+-- a checked model that is kept is found as the strategy's are
+pub kept-found : (F : Formula) (s : Strategy) (x : Begun) (M : Assignment) → IsFormula F → (s.lowers ≡ false) ⊎ (s.plan.search ≡ ordered) → IsBegunBy F s.plan x
+    → IsCheckedResult s.plan.search (begun_by s.plan.search (formula_in x F)) (trees.model_of M) → IsFound (search_by s) F (model_in x M)
+kept-found F s x M formed kept h r = subst (λ search. IsFound search F (model_in x M)) (sym (kept-kind s.lowers s.plan.search kept)) (checked-found F s.plan x M formed h r)
+
+-- and where the plan finds it, it is the answer
+pub kept-decided : (F : Formula) (s : Strategy) (x : Begun) (M : Assignment) → IsFormula F → s.first ≡ None → (s.lowers ≡ false) ⊎ (s.plan.search ≡ ordered) → IsBegunBy F s.plan x
+    → trees.IsResult (begun_by s.plan.search (formula_in x F)) s.plan (trees.model_of M) → IsModelBy s.lowers F s (model_in x M)
+kept-decided F s x M formed lone kept h r = (kept-answer F s s.plan (model_in x M) formed kept (alone lone, model-begun F s.plan x M formed h r)).0

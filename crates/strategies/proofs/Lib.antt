@@ -3,3 +3,4 @@ pub mod DecidedTrees
 pub mod OneStrategy
 pub mod StrategyTexts
 pub mod FirstSearches
+pub mod BegunResults

@@ -3,18 +3,16 @@ use Rattle.std.proofs.Common.{◌≡◌, ℕ, Bool, true, false, List, [], Some,
 use Rattle.theory.specs.Truth.{Formula, Assignment}
 use Rattle.theory.specs.Plans.{Plan, ordered_within}
 use Rattle.theory.specs.Pure.{searched}
-use Rattle.theory.specs.Beginnings.{begun_by}
 use Rattle.theory.specs.Search.{Outcome, exhausted}
 use Rattle.theory.specs.Runs.{Runs}
-use Rattle.theory.specs.Trees.{model_of, IsResult}
 use Rattle.theory.specs.Texts.{answer_text}
 use Rattle.theory.specs.Written.{IsUnsatisfiableText}
 use Rattle.theory.proofs.trees.FirstModelLemmas.{IsFirst-unique}
-use Rattle.theory.proofs.trees.OneResult.{IsFirstLeaf-unique}
 use Rattle.theory.proofs.trees.OneText.{Same, unsatisfiable-same}
 use Rattle.theory.proofs.trees.SearchLemmas.{Runs-unique}
 use Rattle.strategies.specs.Strategies.{Strategy}
-use Rattle.strategies.specs.Choosing.{IsDecision, IsChosen, alone, decides, goes_on, IsModelBy}
+use Rattle.strategies.specs.Choosing.{IsDecision, IsChosen, alone, decides, goes_on, IsModelByPlan, IsModelBy}
+use Rattle.strategies.proofs.FoundModels.{plan-models-same}
 use Rattle.strategies.specs.Texts.{IsModelText, IsRefutationText}
 
 -- an outcome that decides isn't an exhaustion
@@ -38,7 +36,7 @@ IsChosen-unique F s p q (goes_on f r) (goes_on g k) = refl
 pub models-same : (b : Bool) (F : Formula) (s : Strategy) (M N : Assignment) → IsModelBy b F s M → IsModelBy b F s N → M ≡ N
 models-same true F s M N h k = IsFirst-unique F M N h k
 models-same false F s M N h k =
-    IsFirstLeaf-unique (begun_by k.0.search F) k.0 [] M N (subst (λ (p : Plan). IsResult (begun_by p.search F) p (model_of M)) (IsChosen-unique F s h.0 k.0 h.1 k.1) h.2) k.2
+    plan-models-same F k.0 M N (subst (λ (p : Plan). IsModelByPlan F p M) (IsChosen-unique F s h.0 k.0 h.1 k.1) h.2) k.2
 
 pub model-texts-same : (F : Formula) (s : Strategy) (p a q b : List ℕ) → IsModelText F s p a → IsModelText F s q b → Same p a q b
 model-texts-same F s p a q b t u =

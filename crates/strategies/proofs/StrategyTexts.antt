@@ -4,11 +4,11 @@ use Rattle.std.proofs.Common.{◌≡◌, ℕ, Bool, true, false, List, [], ◌�
 use Rattle.theory.specs.Truth.{Formula, Assignment, IsFormula}
 use Rattle.theory.specs.Plans.{Search, ordered, focused, Plan, ordered_within}
 use Rattle.theory.specs.Pure.{searched}
-use Rattle.theory.specs.Beginnings.{begun, model_back, beginning_by, begun_by}
+use Rattle.theory.specs.Beginnings.{model_back}
 use Rattle.theory.specs.FirstModel.{IsFirst, IsFound}
 use Rattle.theory.specs.Search.{Outcome, model, refuted, exhausted}
 use Rattle.theory.specs.Runs.{Runs}
-use Rattle.theory.specs.Trees.{here, model_of, IsResult}
+use Rattle.theory.specs.Trees.{here}
 use Rattle.theory.specs.Texts.{answer_text}
 use Rattle.theory.specs.Reading.{Limits, ReadsWithin, formula}
 use Rattle.theory.specs.Written.{IsSatisfiableText, IsUnsatisfiableText, IsWrittenWithin}
@@ -17,40 +17,33 @@ use Rattle.theory.proofs.searching.OutcomeLemmas.{Runs-refuted}
 use Rattle.theory.proofs.searching.PureModels.{Satisfiable-searched}
 use Rattle.theory.proofs.trees.FirstModelLemmas.{IsFirst-unique}
 use Rattle.theory.proofs.trees.OneText.{Same, Reads-one_formula}
-use Rattle.cdcl.proofs.SearchedFormulas.{begun_by-is}
 use Rattle.strategies.specs.Strategies.{Strategy, by_plan, search_by}
-use Rattle.strategies.specs.Choosing.{IsDecision, IsChosen, alone, decides, IsModelBy}
+use Rattle.strategies.specs.Choosing.{IsDecision, IsChosen, alone, decides, IsModelByPlan, IsModelBy}
 use Rattle.strategies.specs.Texts.{IsModelText, IsRefutationText, IsWrittenBy}
-use Rattle.strategies.proofs.FoundModels.{result-says, chosen-found}
+use Rattle.strategies.proofs.FoundModels.{model-found, ordered-model, chosen-found}
 use Rattle.strategies.proofs.OneStrategy.{IsChosen-unique, model-texts-same, refutation-texts-same}
 
--- a model of what the search begins with is the formula's as it is
-model_back-same : (s : Search) (F : Formula) (M : Assignment) → model_back F (beginning_by s) M ≡ M
-model_back-same ordered F M = refl
-model_back-same (focused c) F M = refl
-
--- the texts of a plan with a model, without the beginning that is its search's
-satisfiable-text : (F : Formula) (plan : Plan) (M : Assignment) (p a : List ℕ) → IsFound plan.search F M → IsResult (begun_by plan.search F) plan (model_of M) → p ≡ [] → a ≡ answer_text (Some M) → IsSatisfiableText F plan p a
-satisfiable-text F plan M p a found result proof_is answer_is = record {
-  beginning = beginning_by plan.search;
-  begins = refl;
-  model = M;
-  found = subst (IsFound plan.search F) (sym (model_back-same plan.search F M)) found;
-  is_result = subst (λ (G : Formula). IsResult G plan (model_of M)) (begun_by-is F plan) result;
+-- the texts of a plan with a model
+satisfiable-text : (F : Formula) (plan : Plan) (M : Assignment) (p a : List ℕ) → IsFound plan.search F M → IsModelByPlan F plan M → p ≡ [] → a ≡ answer_text (Some M) → IsSatisfiableText F plan p a
+satisfiable-text F plan M p a found h proof_is answer_is = record {
+  beginning = h.beginning;
+  begins = h.begins;
+  model = h.model;
+  found = subst (IsFound plan.search F) h.is found;
+  is_result = h.is_result;
   proof_is = proof_is;
-  answer_is = answer_is ∙ ap (λ N. answer_text (Some N)) (sym (model_back-same plan.search F M));
+  answer_is = answer_is ∙ ap (λ N. answer_text (Some N)) h.is;
 }
 
 satisfiable-model : (F : Formula) (plan : Plan) (p a : List ℕ) → IsSatisfiableText F plan p a
-    → (M : Assignment) × IsFound plan.search F M × IsResult (begun_by plan.search F) plan (model_of M) × (p ≡ []) × (a ≡ answer_text (Some M))
-satisfiable-model F plan p a t =
-    let same : model_back F t.beginning t.model ≡ t.model = ap (λ b. model_back F b t.model) t.begins ∙ model_back-same plan.search F t.model in (
-      t.model,
-      subst (IsFound plan.search F) same t.found,
-      subst (λ (G : Formula). IsResult G plan (model_of t.model)) (ap (begun F) t.begins ∙ sym (begun_by-is F plan)) t.is_result,
-      t.proof_is,
-      t.answer_is ∙ ap (λ N. answer_text (Some N)) same,
-    )
+    → (M : Assignment) × IsFound plan.search F M × IsModelByPlan F plan M × (p ≡ []) × (a ≡ answer_text (Some M))
+satisfiable-model F plan p a t = (
+  model_back F t.beginning t.model,
+  t.found,
+  record { beginning = t.beginning; begins = t.begins; model = t.model; is_result = t.is_result; is = refl },
+  t.proof_is,
+  t.answer_is,
+)
 
 -- the texts for a formula
 abbrev AreFor : Formula → Strategy → List ℕ → List ℕ → Type 0
@@ -72,7 +65,7 @@ IsWrittenBy-one L bytes s p a q b t u = texts-same u.value s p a q b (for-this L
 -- a plan alone
 alone-plan : (F : Formula) (plan : Plan) (p a : List ℕ) → AreFor F (by_plan plan) p a → IsSatisfiableText F plan p a ⊎ IsUnsatisfiableText F plan p a
 alone-plan F plan p a (inl t) = inl (satisfiable-text F plan t.model p a t.found
-    (subst (λ (q : Plan). IsResult (begun_by q.search F) q (model_of t.model)) (IsChosen-unique F (by_plan plan) t.is_answer.0 plan t.is_answer.1 (alone refl)) t.is_answer.2) t.proof_is t.answer_is)
+    (subst (λ (q : Plan). IsModelByPlan F q t.model) (IsChosen-unique F (by_plan plan) t.is_answer.0 plan t.is_answer.1 (alone refl)) t.is_answer.2) t.proof_is t.answer_is)
 alone-plan F plan p a (inr t) = inr (subst (λ q. IsUnsatisfiableText F q p a) (IsChosen-unique F (by_plan plan) t.plan plan t.chosen (alone refl)) t.text)
 
 plan-alone : (F : Formula) (plan : Plan) (p a : List ℕ) → IsSatisfiableText F plan p a ⊎ IsUnsatisfiableText F plan p a → AreFor F (by_plan plan) p a
@@ -106,24 +99,25 @@ pub answer-first : (L : Limits) (bytes : List ℕ) (s : Strategy) (plan : Plan) 
 answer-first L bytes s plan p a q b low it t u = answers-same u.value s plan p a q b low it (for-this L bytes s u.value p a u.reads t) u.texts
 
 -- the model of a formula that the ordered search decides is its result
-decided-model : (F : Formula) (B : ℕ) (o : Outcome) (M : Assignment) → IsFormula F → Runs (searched F) (ordered_within B) [] o → IsDecision o → IsFirst F M → IsResult (searched F) (ordered_within B) (model_of M)
+decided-model : (F : Formula) (B : ℕ) (o : Outcome) (M : Assignment) → IsFormula F → Runs (searched F) (ordered_within B) [] o → IsDecision o → IsFirst F M → IsModelByPlan F (ordered_within B) M
 decided-model F B (model N) M formed r d first =
-    let same : N ≡ M = IsFirst-unique F N M (result-says F (ordered_within B) (model_of N) formed (here r)) first in
-    subst (λ N. IsResult (searched F) (ordered_within B) (model_of N)) same (here r)
+    let found = ordered-model F B N (here r) in
+    let same : N ≡ M = IsFirst-unique F N M (model-found F (ordered_within B) N formed found) first in
+    subst (IsModelByPlan F (ordered_within B)) same found
 decided-model F B (refuted lines) M formed r d first =
     let some = Satisfiable-searched F formed (M, first.satisfies) in
     absurd (Runs-refuted (searched F) (ordered_within B) [] lines refl r some.0 some.1 tt)
 decided-model F B (exhausted x) M formed r d first = absurd d
 
-decided-result : (b : Bool) (F : Formula) (s : Strategy) (B : ℕ) (o : Outcome) (M : Assignment) → IsFormula F → s.first ≡ Some B → Runs (searched F) (ordered_within B) [] o → IsDecision o → IsModelBy b F s M → IsResult (searched F) (ordered_within B) (model_of M)
+decided-result : (b : Bool) (F : Formula) (s : Strategy) (B : ℕ) (o : Outcome) (M : Assignment) → IsFormula F → s.first ≡ Some B → Runs (searched F) (ordered_within B) [] o → IsDecision o → IsModelBy b F s M → IsModelByPlan F (ordered_within B) M
 decided-result true F s B o M formed f r d h = decided-model F B o M formed r d h
-decided-result false F s B o M formed f r d h = subst (λ (p : Plan). IsResult (begun_by p.search F) p (model_of M)) (IsChosen-unique F s h.0 (ordered_within B) h.1 (decides f r d)) h.2
+decided-result false F s B o M formed f r d h = subst (λ (p : Plan). IsModelByPlan F p M) (IsChosen-unique F s h.0 (ordered_within B) h.1 (decides f r d)) h.2
 
 decided-texts : (F : Formula) (s : Strategy) (B : ℕ) (o : Outcome) (p a : List ℕ) → IsFormula F → s.first ≡ Some B → Runs (searched F) (ordered_within B) [] o → IsDecision o → AreFor F s p a
     → IsSatisfiableText F (ordered_within B) p a ⊎ IsUnsatisfiableText F (ordered_within B) p a
 decided-texts F s B o p a formed f r d (inl t) =
     let result = decided-result s.lowers F s B o t.model formed f r d t.is_answer in
-    inl (satisfiable-text F (ordered_within B) t.model p a (result-says F (ordered_within B) (model_of t.model) formed result) result t.proof_is t.answer_is)
+    inl (satisfiable-text F (ordered_within B) t.model p a (model-found F (ordered_within B) t.model formed result) result t.proof_is t.answer_is)
 decided-texts F s B o p a formed f r d (inr t) = inr (subst (λ q. IsUnsatisfiableText F q p a) (IsChosen-unique F s t.plan (ordered_within B) t.chosen (decides f r d)) t.text)
 
 pub decided-written : (L : Limits) (bytes : List ℕ) (s : Strategy) (B : ℕ) (F : Formula) (o : Outcome) (p a : List ℕ) → s.first ≡ Some B → ReadsWithin L bytes (formula F) → Runs (searched F) (ordered_within B) [] o → IsDecision o → IsWrittenBy L bytes s p a
@@ -139,14 +133,14 @@ model-by-chosen : (b : Bool) (F : Formula) (s : Strategy) (plan : Plan) (M : Ass
     → IsFound (if b then ordered else plan.search) F M × IsModelBy b F (chosen_of s plan) M
 model-by-chosen true F s plan M formed chosen h = (h, h)
 model-by-chosen false F s plan M formed chosen h =
-    let result = subst (λ (p : Plan). IsResult (begun_by p.search F) p (model_of M)) (IsChosen-unique F s h.0 plan h.1 chosen) h.2 in
-    (result-says F plan (model_of M) formed result, (plan, alone refl, result))
+    let result = subst (λ (p : Plan). IsModelByPlan F p M) (IsChosen-unique F s h.0 plan h.1 chosen) h.2 in
+    (model-found F plan M formed result, (plan, alone refl, result))
 
 model-by-strategy : (b : Bool) (F : Formula) (s : Strategy) (plan : Plan) (M : Assignment) → IsFormula F → IsChosen F s plan → IsModelBy b F (chosen_of s plan) M
     → IsFound (if b then ordered else s.plan.search) F M × IsModelBy b F s M
 model-by-strategy true F s plan M formed chosen h = (h, h)
 model-by-strategy false F s plan M formed chosen h =
-    let result = subst (λ (p : Plan). IsResult (begun_by p.search F) p (model_of M)) (IsChosen-unique F (chosen_of s plan) h.0 plan h.1 (alone refl)) h.2 in
+    let result = subst (λ (p : Plan). IsModelByPlan F p M) (IsChosen-unique F (chosen_of s plan) h.0 plan h.1 (alone refl)) h.2 in
     (chosen-found F s plan M formed chosen result, (plan, chosen, result))
 
 to-chosen : (F : Formula) (s : Strategy) (plan : Plan) (p a : List ℕ) → IsFormula F → IsChosen F s plan → AreFor F s p a → AreFor F (chosen_of s plan) p a

@@ -32,7 +32,7 @@ impl<G: Gate, S: Stages> Watcher for FirstWatcher<'_, G, S> {
 }
 
 /// Whether the outcome of the cube without literals decides the formula.
-fn decides(outcome: &Outcome<Row>) -> bool
+pub(crate) fn decides(outcome: &Outcome<Row>) -> bool
     ensures { Decides (outcome_of outcome.now) result }
 {
     match outcome {
@@ -43,7 +43,7 @@ fn decides(outcome: &Outcome<Row>) -> bool
 
 /// Where the formula is decided, no hand gets the cube without literals: so the gate is told of it
 /// here.
-fn tell<G: Gate>(alloc: Global, gate: &G, outcome: &Outcome<Row>) {
+pub(crate) fn tell<G: Gate>(alloc: Global, gate: &G, outcome: &Outcome<Row>) {
     if !decides(outcome) {
         return;
     }

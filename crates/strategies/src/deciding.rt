@@ -4,15 +4,18 @@ ghost use Rattle.theory.specs.Plans.{ordered};
 ghost use Rattle.theory.specs.Beginnings.{begun_by};
 ghost use Rattle.cdcl.specs.Plans.{search_from};
 ghost use Rattle.cubes.specs.Result.{IsResultOf, IsCheckedResultOf, Says};
-ghost use Rattle.strategies.specs.Strategies.{search_by};
+ghost use Rattle.beginnings.specs.Begun.{formula_in, IsBegunBy};
+ghost use Rattle.strategies.specs.Strategies.{by_plan, search_by};
 ghost use Rattle.strategies.specs.Deciding.{IsDecidedAs, IsDecidedBy, IsFoundBy, IsModelOf, IsRefuted, IsTreeBy};
 
-use crate::choosing::first_outcome;
+use crate::begun::{decide_begun, extended, solve_begun, solve_one_begun, tree_of_root};
+use crate::choosing::{decides, first_outcome};
 use crate::lowest::first_model;
 use crate::strategy::{Stages, Strategy};
+use beginnings::Begun;
 use cdcl::{Outcome, Plan, Search, Unkept};
 use cnf::Formula;
-use cubes::{Gate, Node, Tree, decide_by_plan, solve_by_plan};
+use cubes::{Gate, Tree};
 use lines::Row;
 use std::alloc::{AllocError, Global};
 use std::sync::Wait;
@@ -23,6 +26,9 @@ use std::time::Clock;
 #[derive(Drop)]
 pub struct Decided {
     pub search: Search,
+    /// What the search began with.
+    pub begun: Begun,
+    /// The answer's model, or the refuted tree of what the search began with.
     pub tree: Tree<Row>,
 }
 
@@ -60,7 +66,15 @@ fn answer_of<G: Gate, S: Stages>(
     first_model(alloc, formula, plan, model, gate, stages)
 }
 
-/// The chosen plan, and the formula's result by it.
+/// A plan's result for what its search begins with.
+#[derive(Drop)]
+struct Planned {
+    plan: Plan,
+    begun: Begun,
+    tree: Tree<Row>,
+}
+
+/// The chosen plan's result.
 fn tree_of<R: Threads + Wait + Clock + Sync, G: Gate + Sync, S: Stages>(
     rt: &R,
     alloc: Global,
@@ -69,24 +83,27 @@ fn tree_of<R: Threads + Wait + Clock + Sync, G: Gate + Sync, S: Stages>(
     hands: usize,
     gate: &G,
     stages: &S,
-) -> Result<(Plan, Tree<Row>), AllocError>
+) -> Result<Planned, AllocError>
     requires { (1 ≤ hands) × (hands ≤ 16) }
-    ensures { IfOk result (λ p. IsTreeBy formula.now strategy p.0 p.1) }
+    ensures { IfOk result (λ p. IsTreeBy formula.now strategy p.plan p.begun p.tree) }
 {
     let plan = strategy.plan();
     let Some(budget) = strategy.first() else {
-        return Ok((plan, solve_by_plan(rt, alloc, formula, plan, hands, gate)?));
+        let (begun, tree) = solve_begun(rt, alloc, formula, plan, hands, gate, stages)?;
+        return Ok(Planned { plan, begun, tree });
     };
-    let first = Plan::ordered(budget);
-    match first_outcome(alloc, formula, budget, gate, stages)? {
-        Outcome::Model(values) => Ok((first, Tree::Model(values))),
-        Outcome::Refuted(row) => {
-            let mut nodes = Vec::new(alloc);
-            nodes.push(Node::Leaf(row))?;
-            Ok((first, Tree::Refuted(nodes)))
-        }
-        Outcome::Exhausted(_) => Ok((plan, solve_by_plan(rt, alloc, formula, plan, hands, gate)?)),
+    let outcome = first_outcome(alloc, formula, budget, gate, stages)?;
+    if decides(&outcome) {
+        let first = Plan::ordered(budget);
+        let tree = tree_of_root(alloc, outcome)?;
+        return Ok(Planned {
+            plan: first,
+            begun: Begun::Given,
+            tree,
+        });
     }
+    let (begun, tree) = solve_begun(rt, alloc, formula, plan, hands, gate, stages)?;
+    Ok(Planned { plan, begun, tree })
 }
 
 /// The chosen plan, and the model of the formula's result by it, or none where that is a refuted
@@ -106,13 +123,17 @@ fn model_of<R: Threads + Wait + Clock + Sync, G: Gate + Sync, S: Stages>(
     let _vars = formula.vars(); // it ensures what the proof needs of the formula
     let plan = strategy.plan();
     let Some(budget) = strategy.first() else {
-        return Ok((plan, decide_by_plan(rt, alloc, formula, plan, hands, gate)?));
+        let found = decide_begun(rt, alloc, formula, plan, hands, gate, stages)?;
+        return Ok((plan, found));
     };
     let first = Plan::ordered(budget);
     match first_outcome(alloc, formula, budget, gate, stages)? {
         Outcome::Model(values) => Ok((first, Some(values))),
         Outcome::Refuted(_) => Ok((first, None)),
-        Outcome::Exhausted(_) => Ok((plan, decide_by_plan(rt, alloc, formula, plan, hands, gate)?)),
+        Outcome::Exhausted(_) => {
+            let found = decide_begun(rt, alloc, formula, plan, hands, gate, stages)?;
+            Ok((plan, found))
+        }
     }
 }
 
@@ -133,17 +154,56 @@ pub fn solve_by_strategy<R: Threads + Wait + Clock + Sync, G: Gate + Sync, S: St
     ensures says { IfOk result (λ d. Says (search_by strategy) formula.now d.tree) }
 {
     let _vars = formula.vars(); // it ensures what the proof needs of the formula
-    let (plan, tree) = tree_of(rt, alloc, formula, strategy, hands, gate, stages)?;
+    let planned = tree_of(rt, alloc, formula, strategy, hands, gate, stages)?;
+    let Planned { plan, begun, tree } = planned;
     let search = plan.search();
     match tree {
         Tree::Model(values) => {
-            let answer = answer_of(alloc, formula, strategy, plan, values, gate, stages)?;
+            let model = extended(&begun, values);
+            let answer = answer_of(alloc, formula, strategy, plan, model, gate, stages)?;
             let tree = Tree::Model(answer);
-            Ok(Decided { search, tree })
+            Ok(Decided {
+                search,
+                begun,
+                tree,
+            })
         }
         Tree::Refuted(nodes) => {
             let tree = Tree::Refuted(nodes);
-            Ok(Decided { search, tree })
+            Ok(Decided {
+                search,
+                begun,
+                tree,
+            })
+        }
+    }
+}
+
+/// What the formula comes to by a plan alone, without threads. It fails only where a request for
+/// memory is refused.
+pub fn solve_one(alloc: Global, formula: &Formula, plan: Plan) -> Result<Decided, AllocError>
+    ensures result { IfOk result (IsDecidedBy formula.now (by_plan plan)) }
+    ensures says { IfOk result (λ d. Says plan.search formula.now d.tree) }
+{
+    let _vars = formula.vars(); // it ensures what the proof needs of the formula
+    let (begun, tree) = solve_one_begun(alloc, formula, plan)?;
+    let search = plan.search();
+    match tree {
+        Tree::Model(values) => {
+            let tree = Tree::Model(extended(&begun, values));
+            Ok(Decided {
+                search,
+                begun,
+                tree,
+            })
+        }
+        Tree::Refuted(nodes) => {
+            let tree = Tree::Refuted(nodes);
+            Ok(Decided {
+                search,
+                begun,
+                tree,
+            })
         }
     }
 }
@@ -172,30 +232,33 @@ pub fn decide_by_strategy<R: Threads + Wait + Clock + Sync, G: Gate + Sync, S: S
     }
 }
 
-/// A checked result of the strategy's plan, with the model that is the answer in the place of the
-/// one that was found. There is no search before the plan. It fails only where a request for memory
-/// is refused or the gate stops it.
+/// A checked result of what the strategy's plan begins with, with the model that is the answer in
+/// the place of the one that was found. There is no search before the plan. It fails only where a
+/// request for memory is refused or the gate stops it.
 pub fn answered<G: Gate, S: Stages>(
     alloc: Global,
     formula: &Formula,
+    begun: &Begun,
     strategy: Strategy,
     tree: Tree<Unkept>,
     gate: &G,
     stages: &S,
 ) -> Result<Tree<Unkept>, AllocError>
     requires alone { strategy.first ≡ None }
-    requires checked { IsCheckedResultOf strategy.plan.search (begun_by strategy.plan.search formula.now) tree }
+    requires begun { IsBegunBy formula.now strategy.plan begun.now }
+    requires checked { IsCheckedResultOf strategy.plan.search (begun_by strategy.plan.search (formula_in begun.now formula.now)) tree }
     ensures says { IfOk result (λ t. Says (search_by strategy) formula.now t) }
-    ensures own { IsResultOf (begun_by strategy.plan.search formula.now) strategy.plan tree → IfOk result (IsDecidedAs formula.now strategy (search_from strategy.plan.search)) }
+    ensures own { IsResultOf (begun_by strategy.plan.search (formula_in begun.now formula.now)) strategy.plan tree → IfOk result (IsDecidedAs formula.now strategy (search_from strategy.plan.search) begun.now) }
 {
     let _vars = formula.vars(); // it ensures what the proof needs of the formula
     let plan = strategy.plan();
-    if !is_lowered(strategy, plan) {
-        return Ok(tree);
-    }
     match tree {
         Tree::Model(values) => {
-            let answer = first_model(alloc, formula, plan, values, gate, stages)?;
+            let model = extended(begun, values);
+            if !is_lowered(strategy, plan) {
+                return Ok(Tree::Model(model));
+            }
+            let answer = first_model(alloc, formula, plan, model, gate, stages)?;
             Ok(Tree::Model(answer))
         }
         Tree::Refuted(nodes) => Ok(Tree::Refuted(nodes)),

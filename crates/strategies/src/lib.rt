@@ -2,6 +2,7 @@
 //! few conflicts, then another plan; and the first model from whatever model was found.
 #![tactic(auto)]
 
+mod begun;
 mod choosing;
 mod deciding;
 mod laws;
@@ -9,7 +10,7 @@ mod lowest;
 mod strategy;
 
 pub use choosing::chosen;
-pub use deciding::{Decided, answered, decide_by_strategy, solve_by_strategy};
+pub use deciding::{Decided, answered, decide_by_strategy, solve_by_strategy, solve_one};
 pub use laws::{answers_are_the_first, chosen_plans_write_the_same, strategies_write_the_same};
 pub use lowering::LoweringCounts;
 pub use strategy::{Stages, Strategy, Unstaged};

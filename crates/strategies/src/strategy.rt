@@ -2,6 +2,7 @@
 ghost use Rattle.std.specs.Prelude.{◌≡◌, ◌≤◌, true, false, Some, None, IfSome};
 ghost use Rattle.strategies.specs.Strategies.{by_plan};
 
+use beginnings::SimplifiedCounts;
 use cdcl::{Counts, Plan};
 use lowering::LoweringCounts;
 use std::marker::Model;
@@ -117,6 +118,18 @@ pub trait Stages {
 
     /// That search has ended, and decided the formula or not.
     fn ended_first(&self, _is_decided: bool) {}
+
+    /// The search that says whether the formula is simplified has done so much.
+    fn tried(&self, _counts: Counts) {}
+
+    /// That search has ended, and decided the formula or not.
+    fn ended_try(&self, _is_decided: bool) {}
+
+    /// The simplification has looked at so many literals.
+    fn simplifying(&self, _literals: u64) {}
+
+    /// The formula is simplified.
+    fn simplified(&self, _counts: SimplifiedCounts) {}
 
     /// The lowering is so far.
     fn lowering(&self, _counts: LoweringCounts) {}

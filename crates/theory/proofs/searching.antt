@@ -39,6 +39,7 @@ pub mod FirstClauses
 pub mod FocusedRuns
 pub mod FocusedOutcomes
 pub mod FocusedSplits
+pub mod MoreConflicts
 pub mod AbsentVariables
 pub mod Evaluation
 pub mod Rows

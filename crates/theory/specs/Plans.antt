@@ -1,6 +1,6 @@
 -- How a formula is searched: by which search, and with how many conflicts for a cube.
 -- Source: the constants of the focused search are this project's own, as measured.
-use Rattle.std.specs.Prelude.{ℕ, ◌^◌}
+use Rattle.std.specs.Prelude.{ℕ, ◌^◌, Bool, false}
 
 -- the numbers of the focused search
 pub record Constants : Type 0 where
@@ -44,16 +44,22 @@ pub data Search : Type 0 where
   ordered : Search
   focused : Constants → Search
 
--- the search, the budget of the root, and into how many cubes a formula is divided before they are
--- searched; 0 and 1 divide none
+-- the search, the budget of the root, into how many cubes a formula is divided before they are
+-- searched, where 0 and 1 divide none, and whether a formula that isn't solved soon is simplified
+-- first
 pub record Plan : Type 0 where
   pub search : Search
   pub budget : ℕ
   pub divide : ℕ
+  pub simplify : Bool
 
--- the ordered search, with this budget
+-- the ordered search, with this budget; it never simplifies
 abbrev pub ordered_within : ℕ → Plan
-ordered_within B = record { search = ordered; budget = B; divide = 0 }
+ordered_within B = record { search = ordered; budget = B; divide = 0; simplify = false }
+
+-- the same plan, which simplifies no formula
+abbrev pub unsimplifying : Plan → Plan
+unsimplifying plan = record plan { simplify = false }
 
 -- the same plan, which divides no formula
 abbrev pub undivided : Plan → Plan

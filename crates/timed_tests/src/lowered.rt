@@ -1,13 +1,16 @@
 //! `solve --stats` of runs that lower a model, by a clock that a test sets.
-use crate::timed::{Row, SPLIT, holds};
+use crate::timed::{FOCUSED_TIMES, Row, SPLIT, holds};
 use sessions::Paths;
 use sessions::clocks::Readings;
 use sessions::fake::Fake;
 use std::test::Fail;
 
 /// At a run's beginning, when its limit of ten seconds begins, at the end of reading, before the search
-/// that is made first, that of hands, the first question and the second.
+/// that is made first, the focused one, the first question and the second.
 const LOWERED_SO_FAR: [u64; 7] = [5_000, 5_000, 6_234, 6_300, 6_400, 14_999, 15_000];
+
+/// The same, and when the search has ended that says whether the formula is simplified.
+const SHOWN_SO_FAR: [u64; 8] = [5_000, 5_000, 6_234, 6_300, 6_400, 6_500, 14_999, 15_000];
 
 const CUT_OFF_LOWERING: &str =
     "c the time was over while a model was lowered to the first one; --any-model answers without that\n";
@@ -30,6 +33,7 @@ const LOWERED: Row = Row {
         "1",
         "FORMULA",
     ],
+    times: &FOCUSED_TIMES,
     tells: false,
     status: 10,
     lines: "c formula: 3 variables, 4 clauses, 12 literals
@@ -112,7 +116,7 @@ c conflicts a second: 0
             "PROOF",
             "FORMULA",
         ],
-        times: &LOWERED_SO_FAR,
+        times: &SHOWN_SO_FAR,
         status: 0,
         lines: "c formula: 3 variables, 4 clauses, 12 literals
 c hands: 1

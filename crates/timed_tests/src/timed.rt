@@ -17,6 +17,9 @@ use std::time::Clock;
 /// What the clock shows at a run's beginning and at the end of each stage, in milliseconds.
 pub(crate) const TIMES: [u64; 6] = [5_000, 6_234, 8_284, 8_291, 69_291, UNREAD];
 
+/// The same, and behind reading when the search has ended that says whether the formula is simplified.
+pub(crate) const FOCUSED_TIMES: [u64; 7] = [5_000, 6_234, 7_000, 8_284, 8_291, 69_291, UNREAD];
+
 /// At a run's beginning, when its limit of ten seconds begins, at the end of reading, before the
 /// first cube and before the second.
 const LIMITED: [u64; 5] = [5_000, 5_000, 6_234, 8_284, 15_000];
@@ -145,6 +148,7 @@ const ROWS: [Row; 14] = [
             "cubesat", "solve", "--stats", "--search", "focused", "--divide", "0", "--proof",
             "PROOF", "FORMULA",
         ],
+        times: &FOCUSED_TIMES,
         lines: "c formula: 2 variables, 4 clauses, 8 literals
 c hands: 1
 c search: 2 conflicts, 1 decisions, 4 propagations, 0 restarts

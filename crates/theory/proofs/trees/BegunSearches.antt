@@ -1,6 +1,6 @@
 -- However a search begins, the proof of its tree is accepted, and its result says of the formula
 -- what it says of the clauses that it begins with.
-use Rattle.std.proofs.Common.{true, ◌≡◌, List, [], refl, sym, subst, ◌∙◌, None, arith}
+use Rattle.std.proofs.Common.{true, ◌≡◌, List, [], refl, ap, sym, subst, ◌∙◌, None, min, arith}
 use Rattle.theory.specs.Truth.{Formula, IsFormula}
 use Rattle.theory.specs.Plans.{Search, ordered, focused, Plan}
 use Rattle.theory.specs.Trees.{Tree, IsTree, first_model, Result, model_of, tree_of, IsResult}
@@ -9,7 +9,7 @@ use Rattle.theory.specs.Rup.{is_rup}
 use Rattle.theory.specs.Checked.{IsCheckedTree, IsCheckedResult}
 use Rattle.theory.specs.Results.{ResultSays}
 use Rattle.theory.specs.Simplifying.{Change, unsimplified, AreSimplifying, simplified, IsSimplificationOf}
-use Rattle.theory.specs.Beginnings.{Beginning, as_it_is, by_pure_units, by_changes, begun, lines_before, result_back, IsBeginning, proof, beginning_by, Begins}
+use Rattle.theory.specs.Beginnings.{Beginning, as_it_is, by_pure_units, by_changes, begun, lines_before, result_back, IsBeginning, proof, beginning_by, IsHard, first_tried, Begins, directly, simpler}
 use Rattle.theory.proofs.searching.PureVariables.{IsOver-first_clauses}
 use Rattle.theory.proofs.searching.PureModels.{IsFirst-searched, Satisfies-searched, Satisfiable-searched}
 use Rattle.theory.proofs.checker.AcceptedPrelude.{prelude-leads, start, AreInput-numbered_from}
@@ -20,6 +20,8 @@ use Rattle.theory.proofs.trees.CheckedTrees.{IsCheckedTree-IsTree}
 use Rattle.theory.proofs.trees.ResultLemmas.{IsCheckedResult-says, IsCheckedResult-IsResult}
 use Rattle.theory.proofs.simplifying.Simplifications.{simplification-begins, simplification-all}
 use Rattle.theory.proofs.simplifying.AcceptedSimplifications.{simplification-leads, length-kept_clauses, AreLeftIn-kept_clauses, checker_of}
+use Rattle.theory.proofs.simplifying.Trials.{IsSimplification-fit, IsSimplification-unique}
+use Rattle.theory.proofs.searching.FocusedSplits.{RunsFocused-exhausted}
 use Rattle.theory.proofs.simplifying.SimplifiedModels.{IsFormula-simplified, Satisfies-extended_model, Satisfies-simplified}
 
 simplified-says : (F : Formula) (cs : List Change) → IsFormula F → AreSimplifying F cs → IsSimplificationOf F (simplified F cs)
@@ -119,13 +121,31 @@ IsBeginning-by : (search : Search) (F : Formula) → IsBeginning search F (begin
 IsBeginning-by ordered F = tt
 IsBeginning-by (focused c) F = tt
 
-pub Begins-beginning : (F : Formula) (plan : Plan) (b : Beginning) → Begins plan F b → IsBeginning plan.search F b
-Begins-beginning F plan b h = subst (IsBeginning plan.search F) (sym h) (IsBeginning-by plan.search F)
+-- Where it simplifies the formula, that has a variable, since the first search was exhausted in one.
+pub Begins-beginning : (F : Formula) (plan : Plan) (b : Beginning) → IsFormula F → Begins plan F b → IsBeginning plan.search F b
+Begins-beginning F plan b formed (directly n e) = subst (IsBeginning plan.search F) (sym e) (IsBeginning-by plan.search F)
+Begins-beginning F plan b formed (simpler {cs = cs} y s) = go plan.search y.hard
+  where
+    go : (search : Search) → IsHard search F (min first_tried plan.budget) → IsBeginning search F (by_changes cs)
+    go ordered h = absurd h
+    go (focused c) h =
+        let x = (RunsFocused-exhausted c F (min first_tried plan.budget) [] h.0 h.1).0 in
+        let low = x.0 in
+        let high = x.1 in
+        (omega arith, IsSimplification-fit F cs formed s)
+
+-- It begins in one way.
+pub Begins-unique : (plan : Plan) (F : Formula) (b c : Beginning) → Begins plan F b → Begins plan F c → b ≡ c
+Begins-unique plan F b c (directly n e) (directly m f) = e ∙ sym f
+Begins-unique plan F b c (directly n e) (simpler y k) = absurd (n y)
+Begins-unique plan F b c (simpler y h) (directly n e) = absurd (n y)
+Begins-unique plan F b c (simpler {cs = cs} y h) (simpler {cs = ds} z k) = ap by_changes (IsSimplification-unique F cs ds h k)
 
 -- By any search but the ordered one no unit clauses of pure variables are added.
 pub Begins-without_units : (plan : Plan) (F : Formula) (b : Beginning) → ¬ (plan.search ≡ ordered) → Begins plan F b → ¬ (b ≡ by_pure_units)
-Begins-without_units plan F b other e = λ u. go plan.search refl (sym e ∙ u)
+Begins-without_units plan F b other (directly n e) = λ u. go plan.search refl (sym e ∙ u)
   where
     go : (search : Search) → plan.search ≡ search → beginning_by search ≡ by_pure_units → ⊥
     go ordered is u = other is
     go (focused c) is u = cc
+Begins-without_units plan F b other (simpler y s) = λ u. absurd (cc)

@@ -1,16 +1,17 @@
 -- A plan that divides no formula, and how many cubes a division gives.
-use Rattle.std.proofs.Common.{◌≡◌, ℕ, zero, suc, ◌+◌, ◌*◌, ◌^◌, ◌≤◌, ◌<◌, ◌↔◌, Bool, true, false, nat_lt, ltb-true, ltb-false, List, [], ◌∷◌, ◌++◌, length, refl, inl, inr, length-append, arith}
+use Rattle.std.proofs.Common.{◌≡◌, ℕ, zero, suc, ◌+◌, ◌*◌, ◌^◌, ◌≤◌, ◌<◌, ◌↔◌, Bool, true, false, nat_lt, ltb-true, ltb-false, List, [], ◌∷◌, ◌++◌, length, refl, subst, inl, inr, length-append, arith}
 use Rattle.std.proofs.Math.Nat.{pow-succ'}
 use Rattle.std.proofs.Math.Pow.{pow_mono}
 use Rattle.theory.specs.Literals.{Literal}
 use Rattle.theory.specs.Truth.{Formula, Assignment}
-use Rattle.theory.specs.Plans.{Plan, undivided}
+use Rattle.theory.specs.Plans.{Plan, undivided, unsimplifying}
 use Rattle.theory.specs.Search.{Outcome}
 use Rattle.theory.specs.Dividing.{IsDivisible, IsLookedAt}
 use Rattle.theory.specs.Runs.{RunsBy, Runs, by_search, by_look}
 use Rattle.theory.specs.Trees.{Tree, satisfied, refutation, split, IsTree, false_half, true_half, cubes_at, IsFirstLeaf, here, on_left, on_right}
 use Rattle.theory.specs.Reading.{Limits, ReadsWithin, formula}
-use Rattle.theory.specs.Beginnings.{Beginning, begun, Begins}
+use Rattle.theory.specs.Beginnings.{Beginning, begun, model_back, IsToSimplify, Begins, directly, simpler}
+use Rattle.theory.specs.FirstModel.{IsFound}
 use Rattle.theory.specs.Written.{IsWrittenWithin}
 
 -- the second plan gives each cube the outcome that the first one does
@@ -51,37 +52,68 @@ Runs-by_search F plan Q o none runs = by_search (λ l. let few = l.few in omega 
 pub Runs-searched : (F : Formula) (plan : Plan) (Q : List Literal) (o : Outcome) → (Runs F (undivided plan) Q o ↔ RunsBy plan.search F plan.budget Q o)
 Runs-searched F plan Q o = (search-of F plan Q o, Runs-by_search F (undivided plan) Q o refl)
 
--- so the texts are those of the same plan without a division
-pub IsWritten-undivided : (L : Limits) (bytes : List ℕ) (plan : Plan) (proof answer : List ℕ)
-    → ((F : Formula) (b : Beginning) → ReadsWithin L bytes (formula F) → Begins plan F b → ¬ (IsDivisible (begun F b) plan))
-    → IsWrittenWithin L bytes plan proof answer → IsWrittenWithin L bytes (undivided plan) proof answer
-IsWritten-undivided L bytes plan proof answer whole w = record {
+-- a division changes nothing of how a search begins
+Begins-undivided : (F : Formula) (plan : Plan) (b : Beginning) → Begins plan F b → Begins (undivided plan) F b
+Begins-undivided F plan b (directly n e) = directly (λ y. n (record { wanted = y.wanted; hard = y.hard })) e
+Begins-undivided F plan b (simpler y s) = simpler (record { wanted = y.wanted; hard = y.hard }) s
+
+-- The texts are the other plan's too, where its searches begin in the same way and agree.
+IsWritten-agree : (L : Limits) (bytes : List ℕ) (plan other : Plan) (proof answer : List ℕ) → plan.search ≡ other.search
+    → ((F : Formula) (b : Beginning) → ReadsWithin L bytes (formula F) → Begins plan F b → Begins other F b × Agree (begun F b) plan other)
+    → IsWrittenWithin L bytes plan proof answer → IsWrittenWithin L bytes other proof answer
+IsWritten-agree L bytes plan other proof answer same both w = record {
   value = w.value;
   reads = w.reads;
   texts = elim w.texts [
     | inl s ↦ inl (record {
       beginning = s.beginning;
-      begins = s.begins;
+      begins = (both w.value s.beginning w.reads s.begins).0;
       model = s.model;
-      found = s.found;
-      is_result = IsFirstLeaf-agree (begun w.value s.beginning) plan (undivided plan) [] s.model (agree s.beginning s.begins) s.is_result;
+      found = subst (λ search. IsFound search w.value (model_back w.value s.beginning s.model)) same s.found;
+      is_result = IsFirstLeaf-agree (begun w.value s.beginning) plan other [] s.model (both w.value s.beginning w.reads s.begins).1 s.is_result;
       proof_is = s.proof_is;
       answer_is = s.answer_is;
     })
     | inr u ↦ inr (record {
       unsatisfiable = u.unsatisfiable;
       beginning = u.beginning;
-      begins = u.begins;
+      begins = (both w.value u.beginning w.reads u.begins).0;
       tree = u.tree;
-      is_tree = IsTree-agree (begun w.value u.beginning) plan (undivided plan) [] u.tree (agree u.beginning u.begins) u.is_tree;
+      is_tree = IsTree-agree (begun w.value u.beginning) plan other [] u.tree (both w.value u.beginning w.reads u.begins).1 u.is_tree;
       proof_is = u.proof_is;
       answer_is = u.answer_is;
     })
   ];
 }
-  where
-    agree : (b : Beginning) → Begins plan w.value b → Agree (begun w.value b) plan (undivided plan)
-    agree b begins Q o runs = Runs-undivided (begun w.value b) plan Q o (whole w.value b w.reads begins) runs
+
+-- so they are those of the same plan without a division
+pub IsWritten-undivided : (L : Limits) (bytes : List ℕ) (plan : Plan) (proof answer : List ℕ)
+    → ((F : Formula) (b : Beginning) → ReadsWithin L bytes (formula F) → Begins plan F b → ¬ (IsDivisible (begun F b) plan))
+    → IsWrittenWithin L bytes plan proof answer → IsWrittenWithin L bytes (undivided plan) proof answer
+IsWritten-undivided L bytes plan proof answer whole w =
+    IsWritten-agree L bytes plan (undivided plan) proof answer refl
+    (λ F b reads begins. (Begins-undivided F plan b begins, λ Q o runs. Runs-undivided (begun F b) plan Q o (whole F b reads begins) runs)) w
+
+-- A plan that simplifies no formula gives each cube the same outcome,
+pub Runs-unsimplifying : (F : Formula) (plan : Plan) (Q : List Literal) (o : Outcome) → Runs F plan Q o → Runs F (unsimplifying plan) Q o
+Runs-unsimplifying F plan Q o (by_search n runs) = by_search (λ l. n (record { few = l.few; divisible = record { wanted = l.divisible.wanted; by = l.divisible.by } })) runs
+Runs-unsimplifying F plan Q o (by_look l looks) = by_look (record { few = l.few; divisible = record { wanted = l.divisible.wanted; by = l.divisible.by } }) looks
+
+pub Runs-simplifying : (F : Formula) (plan : Plan) (Q : List Literal) (o : Outcome) → Runs F (unsimplifying plan) Q o → Runs F plan Q o
+Runs-simplifying F plan Q o (by_search n runs) = by_search (λ l. n (record { few = l.few; divisible = record { wanted = l.divisible.wanted; by = l.divisible.by } })) runs
+Runs-simplifying F plan Q o (by_look l looks) = by_look (record { few = l.few; divisible = record { wanted = l.divisible.wanted; by = l.divisible.by } }) looks
+
+-- and begins in the same way with a formula that isn't simplified,
+pub Begins-unsimplifying : (F : Formula) (plan : Plan) (b : Beginning) → ¬ (IsToSimplify F plan) → Begins plan F b → Begins (unsimplifying plan) F b
+Begins-unsimplifying F plan b soon (directly n e) = directly (λ y. (let w = y.wanted in absurd (cc))) e
+Begins-unsimplifying F plan b soon (simpler y s) = absurd (soon y)
+
+-- so the texts are the same.
+pub IsWritten-unsimplifying : (L : Limits) (bytes : List ℕ) (plan : Plan) (proof answer : List ℕ) → ((F : Formula) → ReadsWithin L bytes (formula F) → ¬ (IsToSimplify F plan))
+    → IsWrittenWithin L bytes plan proof answer → IsWrittenWithin L bytes (unsimplifying plan) proof answer
+IsWritten-unsimplifying L bytes plan proof answer soon w =
+    IsWritten-agree L bytes plan (unsimplifying plan) proof answer refl
+    (λ F b reads begins. (Begins-unsimplifying F plan b (soon F reads) begins, λ Q o runs. Runs-unsimplifying (begun F b) plan Q o runs)) w
 
 -- a tree has few cubes of a size
 pub cubes_at-few : (n : ℕ) (t : Tree) → cubes_at n t ≤ 2 ^ n

@@ -2,8 +2,9 @@
 use Rattle.std.proofs.Common.{◌≡◌, ℕ, List, [], ◌⊎◌, inl, inr, sym, ap, ◌∙◌, subst, Option, Some}
 use Rattle.theory.specs.Truth.{Formula}
 use Rattle.theory.specs.Plans.{Plan}
-use Rattle.theory.specs.Beginnings.{Beginning, begun, model_back, Begins, proof}
+use Rattle.theory.specs.Beginnings.{begun, model_back, proof}
 use Rattle.theory.specs.Trees.{IsTree, IsFirstLeaf}
+use Rattle.theory.proofs.trees.BegunSearches.{Begins-unique}
 use Rattle.theory.specs.Texts.{proof_text, answer_text}
 use Rattle.theory.specs.Reading.{Limits, Token, IsReadable, ReadsWithin, formula, tokens_in, tokens_of}
 use Rattle.theory.specs.Written.{IsSatisfiableText, IsUnsatisfiableText, IsWrittenWithin}
@@ -27,10 +28,6 @@ Reads-one_formula L bytes F G f g = IsReadable-unique L (tokens_in (tokens_of by
 -- two proofs and two answers are the same
 abbrev pub Same : (p a q b : List ℕ) → Type 0
 Same p a q b = (p ≡ q) × (a ≡ b)
-
--- a plan's search begins in one way
-Begins-unique : (plan : Plan) (F : Formula) (b c : Beginning) → Begins plan F b → Begins plan F c → b ≡ c
-Begins-unique plan F b c h k = h ∙ sym k
 
 pub satisfiable-same : (F : Formula) (plan : Plan) (p a q b : List ℕ) → IsSatisfiableText F plan p a → IsSatisfiableText F plan q b → Same p a q b
 satisfiable-same F plan p a q b s t =

@@ -1,13 +1,19 @@
+use Rattle.std.proofs.Common.{sym, subst}
 use Rattle.cnf.specs.Limits.{limits_of}
+use Rattle.join.specs.Before.{before_left}
 use Rattle.join.specs.Walking.{lines_left}
+use Rattle.join.specs.Numbered.{AreChecked, AreStepsOf}
+use Rattle.cdcl.specs.Plans.{beginning_of}
 use Rattle.runs.proofs.TextLemmas.{decided-checked, result-texts}
 use Rattle.runs.proofs.alone.output_of.Goals as goal
 
--- what the strategy came to is a checked result
+-- what the strategy came to is a checked result of what is searched
 pub of-requires : goal.of-requires
-of-requires c = decided-checked c.args.formula.now c.args.strategy c.args.decided.search c.args.decided.tree c.vars-vars.ensures.within.formula c.requires.result
+of-requires c =
+    let same = c.formula-searched.ensures in
+    rw same (rw c.in_ok-before.ensures.formula (decided-checked c.args.formula.now c.args.strategy c.args.decided.search c.args.decided.begun c.args.decided.tree (rw (same, c.in_ok-before.ensures.formula) at c.vars-searched_vars.ensures.within.formula) c.requires.result))
 
 pub returns-clause-texts : goal.returns-clause-texts
 returns-clause-texts c =
-    result-texts (limits_of c.args.limits) c.args.formula.now c.args.strategy c.args.decided.search c.args.decided.tree _ (lines_left c.in_ok-lines.lines) _ c.requires.result c.requires.says c.in_ok-verdict.ensures c.in_ok-lines.ensures.steps
-    c.in_ok-lines.ensures.within c.in_ok-lines.ensures.accepted
+    result-texts (limits_of c.args.limits) c.args.formula.now c.args.strategy c.args.decided.search c.args.decided.begun c.args.decided.tree _ (before_left c.in_ok-before.before) (lines_left c.in_ok-lines.lines) _ c.vars-vars.ensures.within c.requires.result c.requires.says c.in_ok-verdict.ensures
+    c.in_ok-before.ensures.satisfiable c.in_ok-before.ensures.unsatisfiable (rw (c.formula-searched.ensures, c.in_ok-before.ensures.formula) at c.in_ok-lines.ensures.steps)

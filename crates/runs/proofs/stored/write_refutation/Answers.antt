@@ -5,12 +5,12 @@ use Rattle.runs.specs.Stored.{IsStreamFor}
 use Rattle.strategies.proofs.DecidedTrees.{search-is}
 use Rattle.runs.proofs.stored.write_refutation.Goals as goal
 
-pub write_if_refuted-requires-clause-stream : goal.write_if_refuted-requires-clause-stream
-write_if_refuted-requires-clause-stream g c =
+pub write_all_if_refuted-requires-clause-stream : goal.write_all_if_refuted-requires-clause-stream
+write_all_if_refuted-requires-clause-stream g c =
     let named = search-is c.search.result (constants_from c.args.plan.search) c.args.plan.search c.search.ensures in
-    subst (λ s. IsStreamFor s c.args.formula.now c.in-Ok.stream) named c.in-Ok.ensures.stream
+    subst (λ s. IsStreamFor s c.args.searched.now c.in-Ok.stream) named c.in-Ok.ensures.stream
 
-pub write_if_refuted-requires-clause-joined : goal.write_if_refuted-requires-clause-joined
-write_if_refuted-requires-clause-joined g c =
+pub write_all_if_refuted-requires-clause-joined : goal.write_all_if_refuted-requires-clause-joined
+write_all_if_refuted-requires-clause-joined g c =
     let named = search-is c.search.result (constants_from c.args.plan.search) c.args.plan.search c.search.ensures in
-    c.in-Ok.ensures.joined ∙ ap (λ s. before_nodes (length c.args.formula.now.clauses) (first_units s c.args.formula.now)) named
+    c.in-Ok.ensures.joined ∙ ap (λ s. before_nodes (length c.args.searched.now.clauses) (first_units s c.args.searched.now)) named

@@ -1,25 +1,27 @@
-use Rattle.std.proofs.Common.{sym, ◌∙◌, refl, subst}
+use Rattle.std.proofs.Common.{sym, ◌∙◌, subst}
+use Rattle.theory.specs.Plans.{ordered_within}
+use Rattle.theory.specs.Pure.{searched}
+use Rattle.cdcl.specs.Outcome.{outcome_of}
 use Rattle.strategies.specs.Choosing.{IsChosen, alone}
-use Rattle.strategies.proofs.FirstSearches.{first-model, first-refuted, exhausted-goes_on}
+use Rattle.strategies.proofs.FirstSearches.{final, first-tree, exhausted-chosen}
 use Rattle.strategies.proofs.deciding.tree_of.Goals as goal
 
 pub returns-in_default : goal.returns-in_default
 returns-in_default g c =
-    (subst (IsChosen c.args.formula.now c.args.strategy) (sym c.plan-plan.ensures) (alone (sym c.first.ensures.same ∙ c.in_default.is)), c.in_ok-solve_by_plan.ensures.result)
+    (subst (IsChosen c.args.formula.now c.args.strategy) (sym c.plan-plan.ensures) (alone (sym c.first.ensures.same ∙ c.in_default.is)), c.in_ok-begun.ensures)
 
-pub returns-in-Model : goal.returns-in-Model
-returns-in-Model g c =
-    rw c.ordered-first.ensures (first-model c.args.formula.now c.args.strategy c.in-Some.budget c.in-Model.values (sym c.first.ensures.same ∙ c.in-Some.is) (rw c.in-Model.is at c.in_ok-values.ensures))
+pub tree_of_root-requires : goal.tree_of_root-requires
+tree_of_root-requires g c = final (outcome_of c.in_ok-outcome.outcome) (rw c.if-decides.true at c.decides.ensures)
 
-pub returns-in_ok-push-in-Refuted : goal.returns-in_ok-push-in-Refuted
-returns-in_ok-push-in-Refuted g c =
+pub returns-then-decides : goal.returns-then-decides
+returns-then-decides g c =
     rw c.ordered-first.ensures
-    (first-refuted c.args.formula.now c.args.strategy c.in-Some.budget c.in-Refuted.row c.push.new.self (sym c.first.ensures.same ∙ c.in-Some.is) (rw c.in-Refuted.is at c.in_ok-values.ensures)
-    (rw (c.in_ok-push-in-Refuted.ensures.items, c.new-nodes.ensures.items) refl))
+    (first-tree c.args.formula.now c.args.strategy c.in-Some.budget (outcome_of c.in_ok-outcome.outcome) c.in_ok-tree.tree (sym c.first.ensures.same ∙ c.in-Some.is) c.in_ok-outcome.ensures (rw c.if-decides.true at c.decides.ensures)
+    (c.in_ok-tree.ensures (searched c.args.formula.now) (ordered_within c.in-Some.budget) c.in_ok-outcome.ensures))
 
-pub returns-in_ok-solve_by_plan-in-Exhausted : goal.returns-in_ok-solve_by_plan-in-Exhausted
-returns-in_ok-solve_by_plan-in-Exhausted g c = (
+pub returns : goal.returns
+returns g c = (
   subst (IsChosen c.args.formula.now c.args.strategy) (sym c.plan-plan.ensures)
-      (exhausted-goes_on c.args.formula.now c.args.strategy c.in-Some.budget c.in-Exhausted.field-0 (sym c.first.ensures.same ∙ c.in-Some.is) (rw c.in-Exhausted.is at c.in_ok-values.ensures)),
-  c.in_ok-solve_by_plan-in-Exhausted.ensures.result,
+      (exhausted-chosen c.args.formula.now c.args.strategy c.in-Some.budget (outcome_of c.in_ok-outcome.outcome) (sym c.first.ensures.same ∙ c.in-Some.is) c.in_ok-outcome.ensures (rw c.if-decides.false at c.decides.ensures)),
+  c.in_ok-begun-2.ensures,
 )

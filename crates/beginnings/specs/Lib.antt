@@ -1,0 +1,2 @@
+-- How a plan's search of a formula begins.
+pub mod Begun
