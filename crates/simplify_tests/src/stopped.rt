@@ -2,8 +2,8 @@
 
 use crate::shown::Patient;
 use cnf::read_formula;
-use simplify::{Watcher, simplify};
-use std::alloc::Global;
+use simplify::{Simplification, Watcher, simplify};
+use std::alloc::{AllocError, Global};
 use std::process::Abort;
 use std::test::Fail;
 
@@ -18,18 +18,21 @@ impl Watcher for Impatient {
     }
 }
 
-/// Whether the simplification comes to its end.
-fn ends<W: Watcher>(alloc: Global, watcher: &W) -> Result<bool, Fail> {
+/// What a simplification under this watcher comes to.
+fn simplified<W: Watcher>(
+    alloc: Global,
+    watcher: &W,
+) -> Result<Result<Simplification, AllocError>, Fail> {
     let formula = read_formula(alloc, "p cnf 2 2\n1 2 0\n-1 -2 0\n".as_bytes())?;
     if formula.vars() < 1 {
         return Err("a formula without variables".into());
     }
-    Ok(simplify(alloc, &formula, watcher).is_ok())
+    Ok(simplify(alloc, &formula, watcher))
 }
 
 #[test]
 fn stopped_simplification(rt: HostRuntime) -> Result<(), Fail> {
-    assert!(rt; !ends(rt.alloc(), &Impatient)?);
-    assert!(rt; ends(rt.alloc(), &Patient)?);
+    assert!(rt; simplified(rt.alloc(), &Impatient)?.is_err());
+    let _ = simplified(rt.alloc(), &Patient)??;
     Ok(())
 }
