@@ -20,6 +20,9 @@ pub(crate) const TIMES: [u64; 6] = [5_000, 6_234, 8_284, 8_291, 69_291, UNREAD];
 /// The same, and behind reading when the search has ended that says whether the formula is simplified.
 pub(crate) const FOCUSED_TIMES: [u64; 7] = [5_000, 6_234, 7_000, 8_284, 8_291, 69_291, UNREAD];
 
+/// The same, and when the formula is simplified.
+const SIMPLIFIED_TIMES: [u64; 8] = [5_000, 6_234, 7_000, 7_500, 8_284, 8_291, 69_291, UNREAD];
+
 /// At a run's beginning, when its limit of ten seconds begins, at the end of reading, before the
 /// first cube and before the second.
 const LIMITED: [u64; 5] = [5_000, 5_000, 6_234, 8_284, 15_000];
@@ -139,7 +142,7 @@ c conflicts a second: 2
     ..SPLIT
 };
 
-const ROWS: [Row; 14] = [
+const ROWS: [Row; 15] = [
     SPLIT,
     WHOLE,
     Row {
@@ -158,6 +161,32 @@ c cubes: 1 solved, 0 split, 0 skipped
 c learnt: 3 lines in refuted cubes, kept in 18 bytes
 c solved by each hand: 1
 c proof: 3 lines, 37 bytes
+c reading: 1.234 s, peak memory 4321 KiB
+c solving: 2.050 s, peak memory 4321 KiB
+c joining: 0.007 s, peak memory 4321 KiB
+c writing: 61.000 s, peak memory 4321 KiB
+c conflicts a second: 0
+",
+        ..SPLIT
+    },
+    // the resolvents of variable 1 are 2 and -2, of which the empty clause follows
+    Row {
+        formula: FOUR,
+        words: &[
+            "cubesat", "solve", "--stats", "--search", "focused", "--budget", "1", "--divide", "0",
+            "--proof", "PROOF", "FORMULA",
+        ],
+        times: &SIMPLIFIED_TIMES,
+        lines: "c formula: 2 variables, 4 clauses, 8 literals
+c hands: 1
+c simplified: 2 variables and 4 clauses become 0 and 1, 18 literals looked at, 0.500 s
+c search: 2 conflicts, 1 decisions, 2 propagations, 0 restarts
+c clauses: 0 learnt, 0 forgotten
+c focused search: 0 rounds, 0 changes of mode, 0 literals removed, 0 units
+c cubes: 1 solved, 0 split, 0 skipped
+c learnt: 1 lines in refuted cubes, kept in 4 bytes
+c solved by each hand: 1
+c proof: 6 lines, 67 bytes
 c reading: 1.234 s, peak memory 4321 KiB
 c solving: 2.050 s, peak memory 4321 KiB
 c joining: 0.007 s, peak memory 4321 KiB
