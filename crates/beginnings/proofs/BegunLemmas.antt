@@ -69,7 +69,7 @@ unwanted F plan never y = never (y.wanted, go plan.search y.hard)
 
 -- the first search is the focused one of the formula itself, undivided
 pub first-runs : (F : Formula) (plan first : Plan) (n : ℕ) (s : Solving) (o : search.Outcome) → first ≡ record { search = focused (constants_from plan.search); budget = n; divide = 0; simplify = true } → n ≡ min first_tried plan.budget
-    → s ≡ record { formula = begun_by first.search F; plan = first; short = false } → Runs s.formula s.plan [] o → RunsFocused (constants_from plan.search) F (min first_tried plan.budget) [] o
+    → s ≡ record { formula = begun_by first.search F; plan = first; out_of_memory = false } → Runs s.formula s.plan [] o → RunsFocused (constants_from plan.search) F (min first_tried plan.budget) [] o
 first-runs F plan first n s o is few whole runs =
     let c = constants_from plan.search in
     let by_first = subst (λ (t : Solving). Runs t.formula t.plan [] o) whole runs in

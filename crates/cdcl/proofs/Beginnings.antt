@@ -35,7 +35,7 @@ pub IsBegun-restart : (order : Order) (F : Formula) (Q : List Literal) (old k : 
     → IsLawful k.clauses k.trail → IsOver k.vars (literals k.trail) → All (IsOver k.vars) k.clauses → IsBegun order F Q k
 IsBegun-restart order F Q old k ready went lawful over clauses_over = record {
   ready = record {
-    has_memory = short;
+    has_memory = memory;
     in_order = in_order;
     vars = vars;
     few = ready.few;
@@ -43,7 +43,7 @@ IsBegun-restart order F Q old k ready went lawful over clauses_over = record {
     clauses = take-whole k.first k.clauses (first ∙ sym (ap length clauses)) ∙ clauses;
   };
   searching = record {
-    has_memory = short;
+    has_memory = memory;
     in_order = in_order;
     few = let few = ready.few in let same = vars in omega arith;
     within = let long = ap length clauses in let same = first in omega arith;
@@ -56,8 +56,8 @@ IsBegun-restart order F Q old k ready went lawful over clauses_over = record {
   trail = trail;
 }
   where
-    short : k.short ≡ false
-    short = ap (λ (k : State). k.short) went ∙ ready.has_memory
+    memory : k.out_of_memory ≡ false
+    memory = ap (λ (k : State). k.out_of_memory) went ∙ ready.has_memory
 
     in_order : k.order ≡ order
     in_order = ap (λ (k : State). k.order) went ∙ ready.in_order

@@ -57,7 +57,7 @@ units-above s k a units clauses closes above =
     rw clauses (subst (AreUnits s.kernel.clauses) (sym (up_to-Propagates by_place s.kernel.clauses s.kernel.trail k.trail a 0 closes (omega (arith, same, above)))) units)
 
 -- propagation left the kernel k, and behind the units the search is n
-pub Closes-settled : (s n : FocusedSearch) (k : State) (a : Closed) → k.vars ≡ s.kernel.vars → k.clauses ≡ s.kernel.clauses → k.first ≡ s.kernel.first → k.order ≡ s.kernel.order → k.short ≡ false
+pub Closes-settled : (s n : FocusedSearch) (k : State) (a : Closed) → k.vars ≡ s.kernel.vars → k.clauses ≡ s.kernel.clauses → k.first ≡ s.kernel.first → k.order ≡ s.kernel.order → k.out_of_memory ≡ false
     → Propagates by_place s.kernel.clauses s.kernel.trail a k.trail
     → ((b : Closed) (U : Trail) → Propagates by_place s.kernel.clauses k.trail b U → Propagates by_place s.kernel.clauses s.kernel.trail b U)
     → IsSettled (record s { kernel = k }) n → Closes s a n

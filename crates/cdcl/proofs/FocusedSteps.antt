@@ -44,7 +44,7 @@ pub AreWaiting-longer : (V : ℕ) (T R : Trail) (d : Decisions) → AreWaiting V
 AreWaiting-longer V T R d h = record { vars = h.vars; long = h.long; saved = h.saved; flags = h.flags; waits = λ v k t free. h.waits v k t (free-before T R v free) }
 
 -- the kernel has propagated
-pub IsFocusing-Propagates : (s : FocusedSearch) (k : State) (a : Closed) → IsFocusing s → k.vars ≡ s.kernel.vars → k.clauses ≡ s.kernel.clauses → k.first ≡ s.kernel.first → k.order ≡ s.kernel.order → k.short ≡ false
+pub IsFocusing-Propagates : (s : FocusedSearch) (k : State) (a : Closed) → IsFocusing s → k.vars ≡ s.kernel.vars → k.clauses ≡ s.kernel.clauses → k.first ≡ s.kernel.first → k.order ≡ s.kernel.order → k.out_of_memory ≡ false
     → Propagates by_place s.kernel.clauses s.kernel.trail a k.trail → IsFocusing (record s { kernel = k })
 IsFocusing-Propagates s k a f vars clauses first order memory closes =
     let more = Propagates-more by_place s.kernel.clauses s.kernel.trail k.trail a closes in record {
@@ -136,7 +136,7 @@ Follows-decided budget s t saved x f counted calm best has went lawful over clau
     focusing : IsFocusing t
     focusing = record {
       searching = record {
-        has_memory = ap (λ (k : State). k.short) went ∙ f.searching.has_memory;
+        has_memory = ap (λ (k : State). k.out_of_memory) went ∙ f.searching.has_memory;
         in_order = ap (λ (k : State). k.order) went ∙ f.searching.in_order;
         few = rw vars f.searching.few;
         within = let a = ap length clauses in let b = ap (λ (k : State). k.first) went in let c = f.searching.within in omega arith;

@@ -75,8 +75,8 @@ module _ (s : FocusedSearch) (n : ℕ) (t : FocusedSearch) (f : IsFocusing s) (l
   first-is : t.kernel.first ≡ s.kernel.first
   first-is = ap (λ (k : State). k.first) next.kernel
 
-  short-is : t.kernel.short ≡ false
-  short-is = ap (λ (k : State). k.short) next.kernel ∙ f.searching.has_memory
+  memory-is : t.kernel.out_of_memory ≡ false
+  memory-is = ap (λ (k : State). k.out_of_memory) next.kernel ∙ f.searching.has_memory
 
   order-is : t.kernel.order ≡ s.kernel.order
   order-is = ap (λ (k : State). k.order) next.kernel
@@ -241,7 +241,7 @@ module _ (s : FocusedSearch) (n : ℕ) (t : FocusedSearch) (f : IsFocusing s) (l
     first-is,
     holds (λ C. take s.kernel.first C ≡ take s.kernel.first K) (take-push s.kernel.first K l.clause within)
         (take-forget ns 1 s.kernel.first all least ∙ take-push s.kernel.first K l.clause within),
-    short-is,
+    memory-is,
     order-is,
   )
 
@@ -273,7 +273,7 @@ module _ (s : FocusedSearch) (n : ℕ) (t : FocusedSearch) (f : IsFocusing s) (l
   pub next-focusing : IsFocusing t
   next-focusing = record {
     searching = record {
-      has_memory = short-is;
+      has_memory = memory-is;
       in_order = order-is ∙ f.searching.in_order;
       few = let v = vars-is in let few = f.searching.few in omega (arith, v, few);
       within = let a = first-is in let b = many in let c = within in omega (arith, a, b, c);

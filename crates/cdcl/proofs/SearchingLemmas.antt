@@ -29,7 +29,7 @@ pub IsRule-of : (order : Order) → IsRule (rule_of order)
 IsRule-of ByNumber = IsRule-by_number
 IsRule-of ByPlace = IsRule-by_place
 
-pub IsSearching-Propagates : (order : Order) (k l : State) (a : Closed) → IsSearching order k → l.vars ≡ k.vars → l.clauses ≡ k.clauses → l.first ≡ k.first → l.order ≡ k.order → l.short ≡ false
+pub IsSearching-Propagates : (order : Order) (k l : State) (a : Closed) → IsSearching order k → l.vars ≡ k.vars → l.clauses ≡ k.clauses → l.first ≡ k.first → l.order ≡ k.order → l.out_of_memory ≡ false
     → Propagates (rule_of order) k.clauses k.trail a l.trail → IsSearching order l
 IsSearching-Propagates order k l a h vars clauses first same_order memory closes = record {
   has_memory = memory;
@@ -51,7 +51,7 @@ IsOver-learn V R K T n lawful over h =
 -- the kernel after going back may learn the clause
 pub may_learn : (order : Order) (R : List Literal) (k l : State) (c : Clause) (level n : ℕ) → IsSearching order k → 1 ≤ current_level k.trail → least_false (literals k.trail) k.clauses ≡ Some n
     → c ≡ (learn_removing R k.clauses k.trail n).clause → level ≡ back_level k.trail (learn_removing R k.clauses k.trail n).clause
-    → l ≡ (if k.short then k else record k { trail = up_to k.trail level }) → IsOver l.vars c × IsLearnable l.trail c
+    → l ≡ (if k.out_of_memory then k else record k { trail = up_to k.trail level }) → IsOver l.vars c × IsLearnable l.trail c
 may_learn order R k l c level n h above clash clause back went =
     rw (rw (h.has_memory, back) at went, clause)
     (IsOver-learn k.vars R k.clauses k.trail n h.lawful h.trail_over clash, IsLearnable-learn R k.clauses k.trail n h.lawful h.open_below above clash)

@@ -146,7 +146,7 @@ module _ (s t : FocusedSearch) (place : ℕ) (f : IsFocusing s) (level : current
     vars-is,
     first-is,
     ap (take s.kernel.first) clauses-is ∙ take-append-le s.kernel.first s.kernel.clauses (clauses_of i.lines) f.searching.within,
-    ap (λ (k : State). k.short) i.more.kernel ∙ f.searching.has_memory,
+    ap (λ (k : State). k.out_of_memory) i.more.kernel ∙ f.searching.has_memory,
     ap (λ (k : State). k.order) i.more.kernel,
   )
 
@@ -164,7 +164,7 @@ module _ (s t : FocusedSearch) (place : ℕ) (f : IsFocusing s) (level : current
   settled-focusing : IsFocusing t
   settled-focusing = record {
     searching = record {
-      has_memory = ap (λ (k : State). k.short) i.more.kernel ∙ f.searching.has_memory;
+      has_memory = ap (λ (k : State). k.out_of_memory) i.more.kernel ∙ f.searching.has_memory;
       in_order = ap (λ (k : State). k.order) i.more.kernel ∙ f.searching.in_order;
       few = let v = vars-is in let few = f.searching.few in omega (arith, v, few);
       within = let a = first-is in let b = many-clauses in let c = f.searching.within in omega (arith, a, b, c);

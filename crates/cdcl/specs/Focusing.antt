@@ -140,7 +140,7 @@ pub record EndsRound (old : FocusedSearch) (forgets : List ℕ) (new : FocusedSe
 
 -- of the clauses behind the first ones, all but the last have marks, of which there are so many
 pub record CanForget (k : State) (marks : ℕ) : Type 0 where
-  pub has_memory : k.short ≡ false
+  pub has_memory : k.out_of_memory ≡ false
   pub few : k.vars < 2 ^ 31
   pub learnt : length k.clauses ≡ k.first + marks + 1
   pub none_false : least_false (literals k.trail) k.clauses ≡ None

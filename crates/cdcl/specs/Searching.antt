@@ -23,7 +23,7 @@ formula_of k = record { vars = k.vars; clauses = take k.first k.clauses }
 
 -- the kernel, which propagates in this order, may go over to a cube of the formula
 pub record IsReady (order : Order) (F : Formula) (k : State) : Type 0 where
-  pub has_memory : k.short ≡ false
+  pub has_memory : k.out_of_memory ≡ false
   pub in_order : k.order ≡ order
   pub vars : k.vars ≡ F.vars
   pub few : F.vars ≤ max_vars large
@@ -32,7 +32,7 @@ pub record IsReady (order : Order) (F : Formula) (k : State) : Type 0 where
 
 -- what a search keeps of its kernel from step to step
 pub record IsSearching (order : Order) (k : State) : Type 0 where
-  pub has_memory : k.short ≡ false
+  pub has_memory : k.out_of_memory ≡ false
   pub in_order : k.order ≡ order
   pub few : k.vars < 2 ^ 31
   pub within : k.first ≤ length k.clauses
@@ -44,7 +44,7 @@ pub record IsSearching (order : Order) (k : State) : Type 0 where
 -- a search goes on with the kernel, whose first clauses stay
 abbrev pub GoesOn : State → State → Type 0
 GoesOn old new =
-    (new.vars ≡ old.vars) × (new.first ≡ old.first) × (take old.first new.clauses ≡ take old.first old.clauses) × (new.short ≡ false)
+    (new.vars ≡ old.vars) × (new.first ≡ old.first) × (take old.first new.clauses ≡ take old.first old.clauses) × (new.out_of_memory ≡ false)
     × (new.order ≡ old.order)
 
 -- the search of the formula's cube Q begins

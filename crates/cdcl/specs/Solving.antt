@@ -27,7 +27,7 @@ use Rattle.cdcl.specs.Focusing.{IsEquipped, RunsTo, IsOwn, Reaches, stable_at}
 pub record Solving : Type 0 where
   pub formula : Formula
   pub plan : Plan
-  pub short : Bool
+  pub out_of_memory : Bool
 
 -- the solver is one of this formula and this plan
 abbrev pub IsSolverOf : Formula → Plan → Solving → Type 0

@@ -6,7 +6,7 @@ use Rattle.theory.specs.Literals.{Clause}
 -- taught: a clause, the level to go back to, and the variables seen
 pub record Taught : Type 0 where
   pub vars : ℕ
-  pub short : Bool
+  pub out_of_memory : Bool
   pub clause : Clause
   pub level : ℕ
   pub seen : List ℕ

@@ -8,7 +8,7 @@ ghost use Rattle.cdcl.specs.Marks.{IsSet, IsClear, CanLookAt, Resolves, HaveMet,
 ghost use Rattle.cdcl.specs.Learnt.{line_of};
 
 use crate::level::back_level;
-use crate::marks::{Marks, Room, put_all, reason_used, resolve};
+use crate::marks::{AnalysisScratch, Marks, put_all, reason_used, resolve};
 use cnf::{Lit, put_last};
 use kernel::{Entry, SearchKernel};
 use std::alloc::{AllocError, Global};
@@ -213,7 +213,7 @@ pub(crate) fn take_up(
 /// handed on from call to call by value, they took a fortieth of a search of parity chains.
 pub(crate) fn analyze_in(
     kernel: &SearchKernel,
-    room: &mut Room,
+    scratch: &mut AnalysisScratch,
     conflict: u64,
     learnt: &mut Learnt,
 ) -> Result<(), AllocError>
@@ -221,9 +221,9 @@ pub(crate) fn analyze_in(
     ensures line { OnOk result (line_of learnt.new ≡ learn kernel.now.clauses kernel.now.trail conflict) }
     ensures level { OnOk result (learnt.new.level ≡ back_level kernel.now.trail (learn kernel.now.clauses kernel.now.trail conflict).clause) }
 {
-    let mut marks = room.take(*learnt.hints.allocator(), kernel.vars())?;
+    let mut marks = scratch.take(*learnt.hints.allocator(), kernel.vars())?;
     resolve_conflict(kernel, &mut marks, conflict, &mut learnt.hints)?;
     take_up(kernel, &mut marks, learnt)?;
-    room.put_back(marks);
+    scratch.put_back(marks);
     Ok(())
 }

@@ -14,7 +14,7 @@ ghost use Rattle.cdcl.specs.Outcome.{outcome_of};
 
 use crate::analysis::{Learnt, analyze_in};
 use crate::keeping::KeepsLines;
-use crate::marks::Room;
+use crate::marks::AnalysisScratch;
 use crate::outcome::Outcome;
 use crate::plan::Plan;
 use crate::solver::Solver;
@@ -144,6 +144,11 @@ pub fn analyze(alloc: Global, kernel: &Kernel, conflict: u64) -> Result<Learnt, 
     ensures level { IfOk result (λ r. r.level ≡ back_level kernel.now.trail (learn kernel.now.clauses kernel.now.trail conflict).clause) }
 {
     let mut learnt = Learnt::none(alloc);
-    analyze_in(kernel.as_search(), &mut Room::new(), conflict, &mut learnt)?;
+    analyze_in(
+        kernel.as_search(),
+        &mut AnalysisScratch::new(),
+        conflict,
+        &mut learnt,
+    )?;
     Ok(learnt)
 }

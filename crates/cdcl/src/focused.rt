@@ -141,7 +141,7 @@ impl FocusedSearch {
     /// Goes over to a cube, of which nothing is counted, learnt or saved yet. It takes time by what
     /// the last cube changed.
     pub(crate) fn begin(&mut self, cube: &Cube) -> Result<(), AllocError>
-        requires over { self.old.kernel.short ≡ false → IsOver self.old.kernel.vars cube.now }
+        requires over { self.old.kernel.out_of_memory ≡ false → IsOver self.old.kernel.vars cube.now }
         requires equipped { IsEquipped self.old }
         ensures { OnOk result ((F : Formula) → IsReady ByPlace F self.old.kernel → Begins F self.old.constants cube.now self.new) }
     {
@@ -289,7 +289,7 @@ impl FocusedSearch {
     {
         refute(
             &self.kernel,
-            &mut self.analysis.room,
+            &mut self.analysis.scratch,
             &mut self.analysis.learnt,
             &mut self.lines,
             number,

@@ -40,7 +40,7 @@ fn last_restart(before: u32, conflicts: u32, restarts: bool) -> u32
 
 /// Goes back to a level, unless it is the current one.
 fn back_to(kernel: &mut SearchKernel, level: u32)
-    requires memory { kernel.old.short ≡ false }
+    requires memory { kernel.old.out_of_memory ≡ false }
     requires level { level ≤ current_level kernel.old.trail }
     ensures { kernel.new ≡ record kernel.old { trail = up_to kernel.old.trail level } }
 {

@@ -15,7 +15,7 @@ use crate::analysis::{Learnt, put_conflict, take_up};
 use crate::below::{wait_for_removable, walk_below};
 use crate::current_level::walk_current;
 use crate::glue::glue;
-use crate::marks::{Marks, Room};
+use crate::marks::{AnalysisScratch, Marks};
 use crate::numbers::Numbers;
 use crate::reasons::see_reasons;
 use crate::removing::Removing;
@@ -25,7 +25,7 @@ use std::alloc::{AllocError, Global};
 
 /// Analysis of one conflict after the other, in memory that is used again.
 pub(crate) struct Analysis {
-    pub(crate) room: Room,
+    pub(crate) scratch: AnalysisScratch,
     /// What the last conflict teaches.
     pub(crate) learnt: Learnt,
     /// How many of the line's hints, the last ones, are clauses that were resolved at the current
@@ -43,7 +43,7 @@ pub(crate) struct Analysis {
 impl Drop for Analysis {
     fn drop(self) {
         let Analysis {
-            room: _,
+            scratch: _,
             learnt: _,
             resolved: _,
             seen: _,
@@ -111,7 +111,7 @@ impl Analysis {
         let levels = Numbers::with_room(alloc, bound)?;
         let removing = Removing::with_room(alloc, bound)?;
         Ok(Analysis {
-            room: Room::new(),
+            scratch: AnalysisScratch::new(),
             learnt: Learnt::none(alloc),
             resolved: 0,
             seen,
@@ -136,7 +136,7 @@ impl Analysis {
         ensures removing { OnOk result (HasRoomFor kernel.now.vars self.new.removing) }
     {
         let alloc = *self.learnt.hints.allocator();
-        let mut marks = self.room.take(alloc, kernel.vars())?;
+        let mut marks = self.scratch.take(alloc, kernel.vars())?;
         self.resolved = resolve_short(
             kernel,
             &mut marks,
@@ -146,7 +146,7 @@ impl Analysis {
             conflict,
         )?;
         take_up(kernel, &mut marks, &mut self.learnt)?;
-        self.room.put_back(marks);
+        self.scratch.put_back(marks);
         Ok(())
     }
 

@@ -22,7 +22,7 @@ pub struct Lessons {
     // the number of variables
     vars: u32,
     // whether a request for memory was refused
-    short: bool,
+    out_of_memory: bool,
 }
 
 // written out, so that proofs of its owners stay short (docs/PROVING.md)
@@ -31,7 +31,7 @@ impl Drop for Lessons {
         let Lessons {
             analysis: _,
             vars: _,
-            short: _,
+            out_of_memory: _,
         } = self;
     }
 }
@@ -45,26 +45,26 @@ impl Model for Lessons {
 
     ghost view = { λ a. record {
       vars = a.vars;
-      short = a.short;
+      out_of_memory = a.out_of_memory;
       clause = a.analysis.learnt.clause.items;
       level = a.analysis.learnt.level;
       seen = a.analysis.seen.numbers;
     } };
 
     ghost invariant = { λ a. (a.vars < a.analysis.seen.bound) × (a.vars < a.analysis.levels.bound)
-        × (a.short ≡ false → HasRoomFor a.vars a.analysis.removing) };
+        × (a.out_of_memory ≡ false → HasRoomFor a.vars a.analysis.removing) };
 }
 
 impl Lessons {
     /// Room for the conflicts of kernels with so many variables; nothing is learnt yet.
     pub fn open(alloc: Global, vars: u32) -> Result<Lessons, AllocError>
         ensures vars { IfOk result (λ a. a.vars ≡ vars) }
-        ensures memory { IfOk result (λ a. a.short ≡ false) }
+        ensures memory { IfOk result (λ a. a.out_of_memory ≡ false) }
     {
         Ok(Lessons {
             analysis: Analysis::open(alloc, vars)?,
             vars,
-            short: false,
+            out_of_memory: false,
         })
     }
 
@@ -83,18 +83,18 @@ impl Lessons {
             ≡ is_seen kernel.now.clauses kernel.now.trail (lesson_of kernel.now.clauses kernel.now.trail conflict).seen v) }
         ensures variables { OnOk result (All (IsVariable kernel.now.vars) self.new.seen) }
         ensures vars { self.new.vars ≡ self.old.vars }
-        ensures memory { OnOk result (self.new.short ≡ false) }
-        ensures refused { OnErr result (self.new.short ≡ true) }
-        ensures stays { self.old.short ≡ true → IsErr result }
-        ensures was { OnOk result (self.old.short ≡ false) }
+        ensures memory { OnOk result (self.new.out_of_memory ≡ false) }
+        ensures refused { OnErr result (self.new.out_of_memory ≡ true) }
+        ensures stays { self.old.out_of_memory ≡ true → IsErr result }
+        ensures was { OnOk result (self.old.out_of_memory ≡ false) }
     {
         let _trail = kernel.trail(); // it ensures what the proof needs of the trail
-        if self.short {
+        if self.out_of_memory {
             return Err(AllocError);
         }
-        self.short = true;
+        self.out_of_memory = true;
         let glue = self.analysis.lesson(kernel, conflict)?;
-        self.short = false;
+        self.out_of_memory = false;
         Ok(glue)
     }
 

@@ -35,7 +35,7 @@ impl FocusedSearch {
         cube: &Cube,
         ranking: &Ranking,
     ) -> Result<Outcome<Row>, AllocError>
-        requires over { self.old.kernel.short ≡ false → IsOver self.old.kernel.vars cube.now }
+        requires over { self.old.kernel.out_of_memory ≡ false → IsOver self.old.kernel.vars cube.now }
         requires equipped { IsEquipped self.old }
         requires ready { (F : Formula) × IsReady ByPlace F self.old.kernel × IsRanking F.vars F.clauses ranking.now }
         ensures looks { IfOk result (λ o. (F : Formula) → IsReady ByPlace F self.old.kernel → Looks F cube.now (outcome_of o)) }

@@ -206,11 +206,11 @@ pub(crate) fn reason_used(marks: &Marks, entry: Entry) -> Option<u64>
 
 /// Room for marks, that is used again and again.
 #[derive(Drop)]
-pub(crate) struct Room {
+pub(crate) struct AnalysisScratch {
     kept: Option<Marks>,
 }
 
-impl Model for Room {
+impl Model for AnalysisScratch {
     ghost use Rattle.std.specs.Prelude.{IfSome};
     ghost use Rattle.cdcl.specs.Marks.{IsClear};
 
@@ -221,10 +221,10 @@ impl Model for Room {
     ghost invariant = { λ a. IfSome a.kept IsClear };
 }
 
-impl Room {
+impl AnalysisScratch {
     /// No room yet. It takes no memory.
-    pub(crate) fn new() -> Room {
-        Room { kept: None }
+    pub(crate) fn new() -> AnalysisScratch {
+        AnalysisScratch { kept: None }
     }
 
     /// The empty set over the variables, in the room that there is, or else in new one.

@@ -15,7 +15,7 @@ ghost use Rattle.cdcl.specs.Searching.{IsReady, IsSearching, IsSearchStep, Begin
 
 use crate::analysis::{Learnt, analyze_in};
 use crate::counts::{Counts, Watcher, tell};
-use crate::marks::Room;
+use crate::marks::AnalysisScratch;
 use crate::opening::open_kernel;
 use crate::outcome::Outcome;
 use crate::plan::Search;
@@ -35,7 +35,7 @@ pub(crate) struct OrderedSearch {
     /// The lines learnt.
     pub(crate) lines: Row,
     /// Room for the analysis of conflicts.
-    pub(crate) room: Room,
+    pub(crate) scratch: AnalysisScratch,
     /// What the last conflict taught.
     pub(crate) learnt: Learnt,
 }
@@ -48,7 +48,7 @@ impl Drop for OrderedSearch {
             conflicts: _,
             decided: _,
             lines: _,
-            room: _,
+            scratch: _,
             learnt: _,
         } = self;
     }
@@ -65,14 +65,14 @@ impl OrderedSearch {
             conflicts: 0,
             decided: None,
             lines: Row::new(alloc),
-            room: Room::new(),
+            scratch: AnalysisScratch::new(),
             learnt: Learnt::none(alloc),
         })
     }
 
     /// Goes over to a cube, of which nothing is counted, decided or learnt yet.
     pub(crate) fn begin(&mut self, cube: &Cube) -> Result<(), AllocError>
-        requires { self.old.kernel.short ≡ false → IsOver self.old.kernel.vars cube.now }
+        requires { self.old.kernel.out_of_memory ≡ false → IsOver self.old.kernel.vars cube.now }
         ensures { OnOk result ((F : Formula) → IsReady ByNumber F self.old.kernel → Begins F cube.now self.new) }
     {
         self.kernel.restart(cube)?;
@@ -154,7 +154,7 @@ impl OrderedSearch {
         if self.kernel.level() == 0 {
             return Ok(Some(refute(
                 &self.kernel,
-                &mut self.room,
+                &mut self.scratch,
                 &mut self.learnt,
                 &mut self.lines,
                 number,
@@ -177,7 +177,7 @@ impl OrderedSearch {
             ≡ learnt_next (search_of self.old) (learn self.old.kernel.clauses self.old.kernel.trail number)) }
         ensures kept { OnOk result (GoesOn self.old.kernel self.new.kernel) }
     {
-        analyze_in(&self.kernel, &mut self.room, number, &mut self.learnt)?;
+        analyze_in(&self.kernel, &mut self.scratch, number, &mut self.learnt)?;
         self.kernel.back_to(self.learnt.level);
         self.kernel.learn(&self.learnt.clause)?;
         self.conflicts += 1;

@@ -34,7 +34,7 @@ pub struct Solver {
     formula: Snapshot<Formula>,
     plan: Plan,
     // whether a call has met want of memory
-    short: bool,
+    out_of_memory: bool,
 }
 
 // written out, so that proofs of its owners stay short (docs/PROVING.md)
@@ -44,7 +44,7 @@ impl Drop for Solver {
             search: _,
             formula: _,
             plan: _,
-            short: _,
+            out_of_memory: _,
         } = self;
     }
 }
@@ -56,37 +56,37 @@ impl Model for Solver {
 
     ghost Value = { Solving };
 
-    ghost view = { λ a. record { formula = begun_by a.plan.search a.formula.value; plan = a.plan; short = a.short } };
+    ghost view = { λ a. record { formula = begun_by a.plan.search a.formula.value; plan = a.plan; out_of_memory = a.out_of_memory } };
 
-    ghost invariant = { λ a. a.short ≡ false → IsReadyBy a.plan (begun_by a.plan.search a.formula.value) a.search };
+    ghost invariant = { λ a. a.out_of_memory ≡ false → IsReadyBy a.plan (begun_by a.plan.search a.formula.value) a.search };
 }
 
 impl Solver {
     /// A solver of a formula by a plan. It takes time and memory by the formula's literals and
     /// variables, and fails where that is refused.
     pub fn open(alloc: Global, formula: &Formula, plan: Plan) -> Result<Solver, AllocError>
-        ensures { IfOk result (λ s. s ≡ record { formula = begun_by plan.search formula.now; plan = plan; short = false }) }
+        ensures { IfOk result (λ s. s ≡ record { formula = begun_by plan.search formula.now; plan = plan; out_of_memory = false }) }
     {
-        let solver = Solver::open_told(alloc, formula, plan, Root::Unknown)?;
+        let solver = Solver::open_with_root(alloc, formula, plan, Root::Unknown)?;
         Ok(solver)
     }
 
     /// As `open`, where another solver of the formula, by the plan, has found out what the cube
     /// without literals comes to: it isn't searched again.
-    pub fn open_told(
+    pub fn open_with_root(
         alloc: Global,
         formula: &Formula,
         plan: Plan,
         root: Root,
     ) -> Result<Solver, AllocError>
         requires { IsRootOf (begun_by plan.search formula.now) plan root }
-        ensures { IfOk result (λ s. s ≡ record { formula = begun_by plan.search formula.now; plan = plan; short = false }) }
+        ensures { IfOk result (λ s. s ≡ record { formula = begun_by plan.search formula.now; plan = plan; out_of_memory = false }) }
     {
         Ok(Solver {
             search: Searcher::open(alloc, formula, plan, root)?,
             formula: Snapshot::of(formula),
             plan,
-            short: false,
+            out_of_memory: false,
         })
     }
 
@@ -99,9 +99,9 @@ impl Solver {
         ensures runs { IfOk result (λ o. Runs self.old.formula self.old.plan cube.now (outcome_of o)) }
         ensures says { IfOk result (λ o. OutcomeSays self.old.plan.search self.old.formula cube.now (outcome_of o)) }
         ensures solves { (self.new.formula ≡ self.old.formula) × (self.new.plan ≡ self.old.plan) }
-        ensures refused { OnErr result (self.new.short ≡ true) }
-        ensures has_memory { OnOk result (self.new.short ≡ false) }
-        ensures stays { self.old.short ≡ true → IsErr result }
+        ensures refused { OnErr result (self.new.out_of_memory ≡ true) }
+        ensures has_memory { OnOk result (self.new.out_of_memory ≡ false) }
+        ensures stays { self.old.out_of_memory ≡ true → IsErr result }
     {
         let outcome = self.solve_watched(cube, &Unwatched)?;
         Ok(outcome)
@@ -113,7 +113,7 @@ impl Solver {
         requires { Runs self.now.formula self.now.plan [] (exhausted var) }
         ensures { IsRootOf self.now.formula self.now.plan result }
     {
-        if self.short {
+        if self.out_of_memory {
             return Root::Unknown;
         }
         self.search.root(var)
@@ -135,21 +135,21 @@ impl Solver {
         ensures runs { IfOk result (λ o. Runs self.old.formula self.old.plan cube.now (outcome_of o)) }
         ensures says { IfOk result (λ o. OutcomeSays self.old.plan.search self.old.formula cube.now (outcome_of o)) }
         ensures solves { (self.new.formula ≡ self.old.formula) × (self.new.plan ≡ self.old.plan) }
-        ensures refused { OnErr result (self.new.short ≡ true) }
-        ensures has_memory { OnOk result (self.new.short ≡ false) }
-        ensures stays { self.old.short ≡ true → IsErr result }
+        ensures refused { OnErr result (self.new.out_of_memory ≡ true) }
+        ensures has_memory { OnOk result (self.new.out_of_memory ≡ false) }
+        ensures stays { self.old.out_of_memory ≡ true → IsErr result }
     {
-        if self.short {
+        if self.out_of_memory {
             return Err(AllocError);
         }
-        self.short = true; // so it stays where one of the next calls fails
+        self.out_of_memory = true; // so it stays where one of the next calls fails
         if watcher.stops() {
             return Err(AllocError);
         }
         let conflicts = budget_of(&self.plan, cube.lits().len());
         let outcome = self.search.solve(cube, conflicts, watcher)?;
         watcher.counted(self.search.counts());
-        self.short = false;
+        self.out_of_memory = false;
         Ok(outcome)
     }
 }

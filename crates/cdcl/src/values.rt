@@ -8,7 +8,7 @@ ghost use Rattle.theory.specs.Search.{values, refuted};
 ghost use Rattle.cdcl.specs.Outcome.{outcome_of};
 
 use crate::analysis::{Learnt, analyze_in};
-use crate::marks::Room;
+use crate::marks::AnalysisScratch;
 use crate::outcome::Outcome;
 use kernel::SearchKernel;
 use lines::Row;
@@ -30,7 +30,7 @@ pub(crate) fn values(alloc: Global, kernel: &SearchKernel) -> Result<Vec<bool>, 
 /// A conflict at level 0 behind these lines: the cube is refuted, and its lines are handed out.
 pub(crate) fn refute(
     kernel: &SearchKernel,
-    room: &mut Room,
+    scratch: &mut AnalysisScratch,
     learnt: &mut Learnt,
     lines: &mut Row,
     number: u64,
@@ -39,7 +39,7 @@ pub(crate) fn refute(
     ensures { IfOk result (λ o. outcome_of o
         ≡ refuted (lines.old ++ learn kernel.now.clauses kernel.now.trail number ∷ [])) }
 {
-    analyze_in(kernel, room, number, learnt)?;
+    analyze_in(kernel, scratch, number, learnt)?;
     lines.push(&learnt.clause, &learnt.hints, &[])?;
     Ok(Outcome::Refuted(lines.hand_out()?))
 }

@@ -228,7 +228,7 @@ fn is_told(alloc: Global, formula: &Formula, plan: Plan, row: &Row) -> Result<bo
     let Some((var, root)) = root_of(alloc, &mut first)? else {
         return Ok(false);
     };
-    let mut told = Solver::open_told(alloc, formula, plan, root)?;
+    let mut told = Solver::open_with_root(alloc, formula, plan, root)?;
     let most = conflicts_in(alloc, formula, &mut first, row)?;
     goes_on(alloc, formula, &mut told, row, (var, most))
 }

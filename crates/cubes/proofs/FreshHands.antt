@@ -40,9 +40,9 @@ thorough F plan n = record {
 }
 
 -- work from the ledger with which the pool was opened
-pub fresh-work : (F : Formula) (plan : Plan) (n : ℕ) (is_short : Bool) (first last : Ledger) (s : List results.Solved) → first ≡ new_ledger n → HasWorked F plan is_short first last s → IsWork F plan is_short last s
-fresh-work F plan n is_short first last s e h =
-    subst (λ l. IsWork F plan is_short l s) (sym (h.is_last ∙ ap (λ l. joined l h.added) e)) (record {
+pub fresh-work : (F : Formula) (plan : Plan) (n : ℕ) (short_of_memory : Bool) (first last : Ledger) (s : List results.Solved) → first ≡ new_ledger n → HasWorked F plan short_of_memory first last s → IsWork F plan short_of_memory last s
+fresh-work F plan n short_of_memory first last s e h =
+    subst (λ l. IsWork F plan short_of_memory l s) (sym (h.is_last ∙ ap (λ l. joined l h.added) e)) (record {
       truthful = IsTruthful-joined F plan (new_ledger n) h.added [] s (truthful F plan n) h.work.truthful;
       thorough = λ o. IsThorough-joined F plan (new_ledger n) h.added [] s (thorough F plan n) (h.work.thorough o);
       went_home = h.work.went_home;

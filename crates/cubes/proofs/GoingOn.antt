@@ -43,8 +43,8 @@ module _ (a : Ledger) (g h : HandView) (on : GoesOn a g.ledger) where
   GoesOn-open zero some e = absurd (some refl)
   GoesOn-open (suc n) some e = GoesOn-call (still_open (suc n)) e tt
 
-  pub GoesHome-at : (is_short : Bool) (call : Call) → h ≡ adds g (calling call) → IsFarewell is_short call → GoesHome is_short a h.ledger
-  GoesHome-at is_short call e farewell = record { until = g.ledger; last = call; goes_on = on; is_new = ap (λ (v : HandView). v.ledger.calls) e; is_farewell = farewell }
+  pub GoesHome-at : (short_of_memory : Bool) (call : Call) → h ≡ adds g (calling call) → IsFarewell short_of_memory call → GoesHome short_of_memory a h.ledger
+  GoesHome-at short_of_memory call e farewell = record { until = g.ledger; last = call; goes_on = on; is_new = ap (λ (v : HandView). v.ledger.calls) e; is_farewell = farewell }
 
   pub GoesHome-halted : (b : Bool) → b ≡ true → h ≡ adds g (calling (halted b)) → GoesHome false a h.ledger
   GoesHome-halted true t e = GoesHome-at false (halted true) e tt
@@ -55,5 +55,5 @@ module _ (a : Ledger) (g h : HandView) (on : GoesOn a g.ledger) where
   GoesHome-open (suc n) z e = absurd (cc)
 
 -- as it is handed over
-pub home-as : (is_short told : Bool) (first : Ledger) (h g : HandView) → g ≡ h → told ≡ is_short → GoesHome is_short first h.ledger → GoesHome told first g.ledger
-home-as is_short told first h g e o home = rw (o, e) home
+pub home-as : (short_of_memory told : Bool) (first : Ledger) (h g : HandView) → g ≡ h → told ≡ short_of_memory → GoesHome short_of_memory first h.ledger → GoesHome told first g.ledger
+home-as short_of_memory told first h g e o home = rw (o, e) home

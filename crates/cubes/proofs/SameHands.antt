@@ -14,5 +14,5 @@ pub SameHand-then : (a b c : HandView) → SameHand a b → SameHand b c → Sam
 SameHand-then a b c p q = (q.0 ∙ p.0, q.1 ∙ p.1, q.2 ∙ p.2, q.3 ∙ p.3, q.4 ∙ p.4, q.5 ∙ p.5)
 
 -- what was worked, as it is handed over
-pub worked-as : (F : Formula) (plan : Plan) (is_short told : Bool) (first : Ledger) (h g : HandView) (s t : List Solved) → g ≡ h → t ≡ s → told ≡ is_short → HasWorked F plan is_short first h.ledger s → HasWorked F plan told first g.ledger t
-worked-as F plan is_short told first h g s t e f o work = rw (o, e, f) work
+pub worked-as : (F : Formula) (plan : Plan) (short_of_memory told : Bool) (first : Ledger) (h g : HandView) (s t : List Solved) → g ≡ h → t ≡ s → told ≡ short_of_memory → HasWorked F plan short_of_memory first h.ledger s → HasWorked F plan told first g.ledger t
+worked-as F plan short_of_memory told first h g s t e f o work = rw (o, e, f) work

@@ -11,7 +11,7 @@ use Rattle.theory.specs.Trees.{false_half, true_half}
 use Rattle.theory.specs.Results as results
 use Rattle.theory.specs.Round.{IsHandOn, IsRound, Adds, HasWorked}
 use Rattle.cubes.specs.Solved.{LinesSolved, solved_of}
-use Rattle.cubes.specs.Source.{IsOwnSolver}
+use Rattle.cubes.specs.Source.{IsLazySolver}
 use Rattle.cubes.specs.declared.hands.Ending.{Ending}
 use Rattle.cubes.specs.declared.hands.Ending.TheVariants as ending
 use Rattle.cubes.specs.declared.hands.Worker.{Worker}
@@ -22,7 +22,7 @@ Gets old new Q = (d : ℕ) × (new ≡ joined old (getting d Q))
 
 -- the hand's solver is the formula's, by the plan, and the pool is over the formula's variables
 abbrev pub IsWorker : {L : Type 0} → Formula → Plan → Worker L → Type 0
-IsWorker F plan w = IsOwnSolver F plan w.solver × (w.hand.vars ≡ F.vars)
+IsWorker F plan w = IsLazySolver F plan w.solver × (w.hand.vars ≡ F.vars)
 
 -- how a cube's outcome goes on
 abbrev pub EndsIn : Formula → List Literal → search.Outcome → Ending → Type 0
@@ -62,7 +62,7 @@ abbrev pub AddsCarried : Formula → Plan → Bool → List Literal → Ledger �
 AddsCarried F plan is_done H old new before after = Adds (λ l s. (l.put ≡ []) × IsHandOn F plan is_done H l s) old new before after
 
 abbrev pub Worked_as : Formula → Plan → Bool → Ledger → Ledger → List LinesSolved → Type 0
-Worked_as F plan is_short first last solved = HasWorked F plan is_short first last (map solved_of solved)
+Worked_as F plan short_of_memory first last solved = HasWorked F plan short_of_memory first last (map solved_of solved)
 
 -- a call behind which a hand goes on: it tells nobody to go home, and it read neither that nothing
 -- is left to be done nor that a hand was told to
@@ -84,12 +84,12 @@ abbrev pub IsFarewell : Bool → Call → Type 0
 IsFarewell true halt = Unit {0}
 IsFarewell false (still_open zero) = Unit {0}
 IsFarewell false (halted true) = Unit {0}
-IsFarewell is_short call = ⊥
+IsFarewell short_of_memory call = ⊥
 
 -- a hand goes home at the first such call, and not later
-pub record GoesHome (is_short : Bool) (old new : Ledger) : Type 0 where
+pub record GoesHome (short_of_memory : Bool) (old new : Ledger) : Type 0 where
   pub until : Ledger
   pub last : Call
   pub goes_on : GoesOn old until
   pub is_new : new.calls ≡ until.calls ++ last ∷ []
-  pub is_farewell : IsFarewell is_short last
+  pub is_farewell : IsFarewell short_of_memory last

@@ -18,7 +18,7 @@ use crate::cube_walk::CubeWalk;
 use crate::gate::{Gate, Watched, tell_refuted};
 use crate::pause::Pauses;
 use crate::place::place_of;
-use crate::results::OwnSolver;
+use crate::results::LazySolver;
 use crate::solved::{Solved, What};
 use crate::tries::Tries;
 use cdcl::{KeepsLines, Outcome, Plan, Refutation, Root, split};
@@ -56,7 +56,7 @@ pub(crate) enum Ending {
 #[derive(Drop)]
 pub(crate) struct Worker<L> {
     pub(crate) hand: Hand,
-    pub(crate) solver: OwnSolver,
+    pub(crate) solver: LazySolver,
     pub(crate) solved: Vec<Solved<L>>,
 }
 
@@ -248,7 +248,7 @@ impl<L: KeepsLines> Worker<L> {
     fn home(self, short_of_memory: bool) -> Worked<L>
         ensures hand { result.hand ≡ self.hand }
         ensures solved { result.solved.items ≡ self.solved.items }
-        ensures short { result.short_of_memory ≡ short_of_memory }
+        ensures short_of_memory { result.short_of_memory ≡ short_of_memory }
     {
         let Worker {
             hand,
@@ -286,7 +286,7 @@ pub(crate) fn work_in<L: KeepsLines, R: Wait + Clock, G: Gate>(
 {
     let mut worker = Worker {
         hand,
-        solver: OwnSolver::none(root),
+        solver: LazySolver::none(root),
         solved: Vec::new(alloc),
     };
     let mut pauses = Pauses::none();

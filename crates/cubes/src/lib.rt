@@ -27,7 +27,7 @@ pub use decided::decide_by_plan;
 pub use gate::{Gate, OpenGate};
 pub use hands::Worked;
 pub use place::place_of;
-pub use results::{OwnSolver, gather_by_plan, solve_one_by_plan};
+pub use results::{LazySolver, gather_by_plan, solve_one_by_plan};
 pub use size::TreeSize;
 pub use solved::{Solved, What};
 pub use streaming::{GivesOutcomes, TakesNodes, Untaken, go_through};

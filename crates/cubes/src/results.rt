@@ -10,7 +10,7 @@ ghost use Rattle.theory.specs.Beginnings.{begun_by};
 ghost use Rattle.cdcl.specs.Solving.{IsRootOf};
 ghost use Rattle.cubes.specs.Solved.{AreTrueBy, AreTrueResults, AreCheckedBy, AreCheckedResults, results_by};
 ghost use Rattle.cubes.specs.Known.{AreOutcomes};
-ghost use Rattle.cubes.specs.Source.{IsOwnSolver, IsSource};
+ghost use Rattle.cubes.specs.Source.{IsLazySolver, IsSource};
 ghost use Rattle.cubes.specs.Result.{IsResultBy, IsResultOf, IsCheckedResultBy, IsCheckedResultOf, Says};
 
 use crate::gate::{Gate, OpenGate, Watched, tell_refuted};
@@ -26,24 +26,24 @@ use std::alloc::{AllocError, Global};
 
 /// The solver of a formula by a plan, which is opened once a cube is to be solved, and what it is
 /// told of the cube without literals.
-pub struct OwnSolver {
+pub struct LazySolver {
     pub(crate) solver: Option<Solver>,
     pub(crate) root: Root,
 }
 
 // written out, so that proofs of its owners stay short (docs/PROVING.md)
-impl Drop for OwnSolver {
+impl Drop for LazySolver {
     fn drop(self) {
-        let OwnSolver { solver: _, root: _ } = self;
+        let LazySolver { solver: _, root: _ } = self;
     }
 }
 
-impl OwnSolver {
+impl LazySolver {
     /// None was needed yet. It takes no memory.
-    pub fn none(root: Root) -> OwnSolver
-        ensures { (F : Formula) (plan : plans.Plan) → IsRootOf F plan root → IsOwnSolver F plan result }
+    pub fn none(root: Root) -> LazySolver
+        ensures { (F : Formula) (plan : plans.Plan) → IsRootOf F plan root → IsLazySolver F plan result }
     {
-        OwnSolver { solver: None, root }
+        LazySolver { solver: None, root }
     }
 
     /// The outcome of a cube. A watcher is told what is done. The first call opens the solver, which
@@ -58,14 +58,14 @@ impl OwnSolver {
         watcher: &W,
     ) -> Result<Outcome<Row>, AllocError>
         requires over { IsOver formula.now.vars cube.now }
-        requires solver { IsOwnSolver (begun_by plan.search formula.now) plan self.old }
+        requires solver { IsLazySolver (begun_by plan.search formula.now) plan self.old }
         ensures runs { IfOk result (λ o. Runs (begun_by plan.search formula.now) plan cube.now (outcome_of o)) }
         ensures says { IfOk result (λ o. OutcomeSays plan.search (begun_by plan.search formula.now) cube.now (outcome_of o)) }
-        ensures kept { OnOk result (IsOwnSolver (begun_by plan.search formula.now) plan self.new) }
+        ensures kept { OnOk result (IsLazySolver (begun_by plan.search formula.now) plan self.new) }
     {
         let mut ready = match self.solver.take() {
             Some(solver) => solver,
-            None => Solver::open_told(alloc, formula, plan, self.root)?,
+            None => Solver::open_with_root(alloc, formula, plan, self.root)?,
         };
         let outcome = ready.solve_watched(cube, watcher)?;
         self.solver = Some(ready);
@@ -76,7 +76,7 @@ impl OwnSolver {
 /// Where the outcomes of cubes come from: those that are known, and a solver, once one was needed.
 pub(crate) struct Source<L> {
     pub(crate) known: Known<L>,
-    pub(crate) solver: OwnSolver,
+    pub(crate) solver: LazySolver,
 }
 
 // written out, so that proofs of its owners stay short (docs/PROVING.md)
@@ -138,7 +138,7 @@ pub(crate) fn gather_in<L: KeepsLines, G: Gate>(
     let _vars = formula.vars(); // it ensures what the proof needs of the formula
     let mut source = Source {
         known: Known::new(alloc, results)?,
-        solver: OwnSolver::none(root),
+        solver: LazySolver::none(root),
     };
     let mut gathering = Gathering::start(alloc);
     'cubes: loop {

@@ -52,7 +52,7 @@ fn all_work<L: KeepsLines + Send, R: Threads + Wait + Clock + Sync, G: Gate + Sy
     )
 }
 
-fn is_short<L>(works: &[Worked<L>]) -> bool
+fn ran_out_of_memory<L>(works: &[Worked<L>]) -> bool
     ensures { result ≡ false → All (λ w. w.short_of_memory ≡ false) works.now }
 {
     for worked in works {
@@ -82,7 +82,7 @@ fn results_in<L: KeepsLines + Send, R: Threads + Wait + Clock + Sync, G: Gate + 
     ensures { IfOk result (λ r. IsWhole (begun_by plan.search formula.now) plan (results_by L.lines r.items)) }
 {
     let works = all_work(rt, alloc, formula, plan, known, gate, hands)?;
-    if is_short(&works) {
+    if ran_out_of_memory(&works) {
         return Err(AllocError);
     }
     close_all(alloc, formula, pool, works)

@@ -45,7 +45,7 @@ fn all_work<R: Threads + Wait + Clock + Sync>(
     )
 }
 
-fn is_short(works: &[Worked]) -> bool
+fn ran_out_of_memory(works: &[Worked]) -> bool
     ensures { result ≡ false → All (λ w. w.short_of_memory ≡ false) works.now }
 {
     for worked in works {
@@ -68,7 +68,7 @@ fn harvested<R: Threads + Wait + Clock + Sync>(
 {
     let (pool, all) = pool::open(alloc, hands, formula.vars(), Cube::root(alloc))?;
     let works = all_work(rt, alloc, formula, all)?;
-    if is_short(&works) {
+    if ran_out_of_memory(&works) {
         return Err("short of memory".into());
     }
     Ok(harvest(alloc, formula, 1, pool, works)?)

@@ -7,14 +7,14 @@ use denote.Model.Marks.{tied_send}
 use denote.Model.Local.{Parts, rows}
 use denote.Model.Goals.{send, has_of}
 use Rattle.std.proofs.Crossing.{crosses}
-use Rattle.kernel.specs.declared.changed.Changed.TheDeep.{the_members, member-Changed}
-use Rattle.kernel.specs.contracts.changed.Changed.{the_row as the_changed}
-use Rattle.kernel.specs.contracts.changed.Changed.TheKnot.{frame, sizes, step, layer-Changed}
-use Rattle.kernel.specs.contracts.given.Given.{the_row as the_given}
-use Rattle.kernel.specs.contracts.clauses.Clauses.{the_row as the_clauses}
-use Rattle.kernel.specs.contracts.store.Store.{the_row as the_store}
+use Rattle.kernel.specs.declared.clauses.changed.Changed.TheDeep.{the_members, member-Changed}
+use Rattle.kernel.specs.contracts.clauses.changed.Changed.{the_row as the_changed}
+use Rattle.kernel.specs.contracts.clauses.changed.Changed.TheKnot.{frame, sizes, step, layer-Changed}
+use Rattle.kernel.specs.contracts.clauses.given.Given.{the_row as the_given}
+use Rattle.kernel.specs.contracts.clauses.clauses.Clauses.{the_row as the_clauses}
+use Rattle.kernel.specs.contracts.clauses.store.Store.{the_row as the_store}
 use Rattle.kernel.specs.contracts.propagator.Propagator.{the_row as the_propagator}
-use Rattle.kernel.specs.contracts.line.Line.{the_row as the_line}
+use Rattle.kernel.specs.contracts.units.line.Line.{the_row as the_line}
 use Rattle.kernel.specs.contracts.search_kernel.SearchKernel.{the_row as the_kernel}
 use Rattle.kernel.specs.contracts.search_kernel.SearchKernel.TheInside.{the_row as the_inside, the_type}
 

@@ -6,7 +6,7 @@ use Rattle.theory.specs.Plans.{Search, Plan}
 use Rattle.theory.specs.Beginnings.{begun_by}
 use Rattle.packs.specs.declared.fact.Fact.{Fact}
 use Rattle.packs.specs.Checking.{IsCheckedFact, IsChecking}
-use Rattle.cubes.specs.Source.{IsOwnSolver}
+use Rattle.cubes.specs.Source.{IsLazySolver}
 use Rattle.gathering.specs.Facts.{IsTrueFact}
 use Rattle.gathering.specs.declared.outcomes.StoredOutcomes.{StoredOutcomes}
 
@@ -21,4 +21,4 @@ AreTrueFacts facts F plan s = (fs : List Fact) × (facts s ≡ Some fs) × All (
 -- the checker and the solver are the formula's, by the plan
 pub record Gives {S : Type 0} (F : Formula) (plan : Plan) (o : StoredOutcomes S) : Type 0 where
   pub checker : IsChecking plan.search F o.checker
-  pub solver : IsOwnSolver (begun_by plan.search F) plan o.solver
+  pub solver : IsLazySolver (begun_by plan.search F) plan o.solver

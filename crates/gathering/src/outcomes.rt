@@ -16,7 +16,7 @@ use crate::facts::outcome_of_claim;
 use crate::store::KeepsFacts;
 use cdcl::{Outcome, Plan, Root, Unwatched};
 use cnf::Formula;
-use cubes::{GivesOutcomes, OwnSolver};
+use cubes::{GivesOutcomes, LazySolver};
 use kernel::Cube;
 use lines::Row;
 use packs::{Fact, FactChecker};
@@ -27,7 +27,7 @@ use std::alloc::{AllocError, Global};
 pub struct StoredOutcomes<S> {
     pub(crate) store: S,
     checker: FactChecker,
-    solver: OwnSolver,
+    solver: LazySolver,
     /// So many facts were taken.
     pub taken: u64,
     /// So many cubes were solved on the spot.
@@ -91,7 +91,7 @@ impl<S: KeepsFacts> StoredOutcomes<S> {
         Ok(StoredOutcomes {
             store,
             checker: open_checker(alloc, formula, plan)?,
-            solver: OwnSolver::none(Root::Unknown),
+            solver: LazySolver::none(Root::Unknown),
             taken: 0,
             solved: 0,
         })

@@ -8,7 +8,7 @@ use Rattle.theory.specs.Literals.{Literal, Clause, same, has, has_both_signs}
 use Rattle.theory.specs.Trails.{Trail, literals, current_level, up_to}
 use Rattle.cnf.specs.Lits.{code}
 use Rattle.kernel.specs.Watching.{At, IsPair, IsWatched, apart, first_true, second_true, other_true, both_signs, Reached, Good, held, waits, reached, spared, Tending, list_at, IsFull, IsListed, Tends, AllGood, WasUnit, listed_at, listed_both, IsExact, IsServed}
-use Rattle.kernel.specs.declared.watch.Watched.{Watched}
+use Rattle.kernel.specs.declared.watches.watch.Watched.{Watched}
 use Rattle.theory.proofs.literals.LiteralLemmas.{same-eq, same-refl}
 use Rattle.kernel.proofs.LiteralFacts.{true_false}
 use Rattle.kernel.proofs.Places.{At-get, At-push, At-set, code-one}

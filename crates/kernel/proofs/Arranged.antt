@@ -10,14 +10,14 @@ use Rattle.theory.specs.Truth.{IsOver}
 use Rattle.theory.specs.Forgetting.{forget, forgotten}
 use Rattle.theory.proofs.searching.ForgettingNumbers.{length-forget}
 use Rattle.theory.proofs.literals.LiteralLemmas.{or-cases, or-left, or-right, true_or_false, same-eq, same-refl}
-use Rattle.kernel.specs.declared.watch.Watched.{Watched}
+use Rattle.kernel.specs.declared.watches.watch.Watched.{Watched}
 use Rattle.kernel.specs.Watching.{At, IsPair}
 use Rattle.kernel.specs.Forgetting.{is_numbered, ArePairsLeft, watched_forgotten}
 use Rattle.kernel.specs.Arranging.{front, AreArranged}
-use Rattle.kernel.specs.declared.sight.Sight.{Sight}
-use Rattle.kernel.specs.declared.sight.Sight.TheVariants.{Satisfied, Moved, Last}
+use Rattle.kernel.specs.declared.watches.watch_visit.WatchVisit.{WatchVisit}
+use Rattle.kernel.specs.declared.watches.watch_visit.WatchVisit.TheVariants.{Satisfied, Moved, Last}
 use Rattle.kernel.specs.Visiting.{IsLast, Replaces}
-use Rattle.kernel.specs.Seeing.{CanSee, IsSeen, IsSight, other_front}
+use Rattle.kernel.specs.Seeing.{CanSee, IsSeen, IsWatchVisit, other_front}
 use Rattle.kernel.proofs.LiteralFacts.{true_false, all-member, same-sym}
 use Rattle.kernel.proofs.Places.{At-get, At-set, At-push}
 use Rattle.kernel.proofs.ForgottenAt.{At-forgotten, At-unforgotten}
@@ -210,15 +210,15 @@ pairs-forget A ns = record {
     go n w a at is false e = subst (λ (v : Watched). At (map front A) n v) (sym is) (front-At A n a (At-unforgotten ns A n a e at))
 
 -- what is seen of a clause is seen of each that has the same literals
-pub seen-given : (P : List Literal) (g : Literal) (c a d : Clause) (w : Watched) (r : Sight) → IsPermutation c a → w ≡ front a → IsSeen P g a d r → IsSight P g c w (front d) r
-seen-given P g c a d w (Satisfied k) p is s = subst (λ (v : Watched). IsSight P g c v (front d) (Satisfied k)) (sym is) s.sight
+pub seen-given : (P : List Literal) (g : Literal) (c a d : Clause) (w : Watched) (r : WatchVisit) → IsPermutation c a → w ≡ front a → IsSeen P g a d r → IsWatchVisit P g c w (front d) r
+seen-given P g c a d w (Satisfied k) p is s = subst (λ (v : Watched). IsWatchVisit P g c v (front d) (Satisfied k)) (sym is) s.visit
 seen-given P g c a d w (Last k t) p is s =
-    let x = s.sight in
-    subst (λ (v : Watched). IsSight P g c v (front d) (Last k t)) (sym is) (x.0, x.1, x.2, (λ l m ne. x.3 l (sym (has-permuted c a l p) ∙ m) ne), x.4)
+    let x = s.visit in
+    subst (λ (v : Watched). IsWatchVisit P g c v (front d) (Last k t)) (sym is) (x.0, x.1, x.2, (λ l m ne. x.3 l (sym (has-permuted c a l p) ∙ m) ne), x.4)
 seen-given P g c a d w (Moved v) p is s =
-    let x = s.sight in
+    let x = s.visit in
     let y : Replaces P c v.first v.second = record { member = has-permuted c a v.second p ∙ x.1.member; apart = x.1.apart; not_false = x.1.not_false } in
-    subst (λ (q : Watched). IsSight P g c q (front d) (Moved v)) (sym is) (x.0, y, x.2)
+    subst (λ (q : Watched). IsWatchVisit P g c q (front d) (Moved v)) (sym is) (x.0, y, x.2)
 
 pub set-last : {X : Type 0} (xs : List X) (x y : X) → set (xs ++ x ∷ []) (length xs) y ≡ xs ++ y ∷ []
 set-last [] x y = refl

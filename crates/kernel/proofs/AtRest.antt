@@ -5,7 +5,7 @@ use Rattle.theory.specs.Literals.{Literal, Clause, same, has, has_var, has_both_
 use Rattle.theory.specs.Status.{is_false, others_false}
 use Rattle.theory.proofs.literals.LiteralLemmas.{or-cases, same-eq, same-refl}
 use Rattle.kernel.specs.Watching.{IsConsistent, IsPair, apart, first_true, second_true, other_true, both_signs, At, Reached, Good, held, waits, reached, spared}
-use Rattle.kernel.specs.declared.watch.Watched.{Watched}
+use Rattle.kernel.specs.declared.watches.watch.Watched.{Watched}
 use Rattle.kernel.proofs.Places.{At-one}
 use Rattle.kernel.proofs.BothSigns.{both_signs-false, both_signs-unit}
 use Rattle.kernel.proofs.LiteralFacts.{true_false, all-member, free-not}

@@ -4,8 +4,8 @@ use Rattle.std.proofs.lemmas.List.{map-set, map-append, length-set, get_or-set_s
 use Rattle.std.proofs.Math.ListN.{get_or-map}
 use Rattle.std.proofs.lemmas.Bool.{cases_eq, cases_lt, leb-false}
 use Rattle.theory.specs.Literals.{Literal, Clause, same, has}
-use Rattle.kernel.specs.declared.watch.Watched.{Watched}
-use Rattle.kernel.specs.declared.watch.Watch.{Watch}
+use Rattle.kernel.specs.declared.watches.watch.Watched.{Watched}
+use Rattle.kernel.specs.declared.watches.watch.Watch.{Watch}
 use Rattle.cnf.specs.Lits.{code}
 use Rattle.kernel.specs.Watching.{At, IsPair, IsBeside, IsListed, list_at, listed_at, listed_both}
 use Rattle.kernel.specs.Visiting.{WatchLists, places, entries_at, tending, IsEntry, AreEntries, AreEntriesOf}

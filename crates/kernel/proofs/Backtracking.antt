@@ -7,7 +7,7 @@ use Rattle.theory.specs.Literals.{Literal, Clause, same, has, has_var, negated}
 use Rattle.theory.specs.Trails.{Entry, Trail, literals, current_level, level_at, up_to}
 use Rattle.theory.proofs.literals.LiteralLemmas.{or-cases, or-left, or-right, true_or_false}
 use Rattle.kernel.specs.Watching.{At, IsWatched, Reached, Good, held, waits, reached, spared, Tending, Includes, AreWatchedIn, Tends, AllGood, IsServed, other_true, both_signs, apart, first_true, second_true, WasUnit}
-use Rattle.kernel.specs.declared.watch.Watched.{Watched}
+use Rattle.kernel.specs.declared.watches.watch.Watched.{Watched}
 use Rattle.trail.specs.TrailOver.{IsRisingFrom}
 use Rattle.trail.proofs.Ordered.{rising-at}
 use Rattle.kernel.proofs.LiteralFacts.{true_false, has-push}

@@ -11,8 +11,8 @@ use Rattle.theory.specs.Literals.{Literal, Clause, same, has, negated}
 use Rattle.theory.specs.Status.{is_false}
 use Rattle.theory.specs.Trails.{Trail, literals, current_level}
 use Rattle.theory.proofs.literals.LiteralLemmas.{or-cases, or-left, same-eq, same-refl}
-use Rattle.kernel.specs.declared.watch.Watched.{Watched}
-use Rattle.kernel.specs.declared.watch.Watch.{Watch}
+use Rattle.kernel.specs.declared.watches.watch.Watched.{Watched}
+use Rattle.kernel.specs.declared.watches.watch.Watch.{Watch}
 use Rattle.cnf.specs.Lits.{code}
 use Rattle.kernel.specs.Watching.{At, IsPair, apart, Reached, Good, held, waits, reached, spared, Tending, IsServed, WasUnit, list_at, listed_both, lesser}
 use Rattle.kernel.specs.Visiting.{WatchLists, places, tending, AreEntries, entries_at, IsEntry}

@@ -4,7 +4,7 @@ use lib.Bits.{xor_assoc, xor_comm, xor_self, xor_zero_r}
 use Rattle.theory.specs.Literals.{Literal, Clause, same}
 use Rattle.theory.proofs.literals.LiteralLemmas.{same-eq, same-refl}
 use Rattle.cnf.specs.Lits.{code}
-use Rattle.kernel.specs.declared.watch.Watched.{Watched}
+use Rattle.kernel.specs.declared.watches.watch.Watched.{Watched}
 use Rattle.kernel.specs.Arranging.{front}
 use Rattle.kernel.specs.Seeing.{CanSee, other_front}
 

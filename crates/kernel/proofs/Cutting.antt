@@ -7,8 +7,8 @@ use Rattle.std.specs.List.{Contains, swap_remove}
 use Rattle.std.specs.List.Sorted.{IsPermutation}
 use Rattle.std.proofs.lemmas.List.Sorted.{Contains-permutation, IsPermutation-trans, IsPermutation-cons, IsPermutation-append_comm}
 use Rattle.std.proofs.lemmas.List.Elements.{Contains-append_left, Contains-push, Contains-push_cases}
-use Rattle.kernel.specs.declared.watch.Watched.{Watched}
-use Rattle.kernel.specs.declared.watch.Watch.{Watch}
+use Rattle.kernel.specs.declared.watches.watch.Watched.{Watched}
+use Rattle.kernel.specs.declared.watches.watch.Watch.{Watch}
 use Rattle.cnf.specs.Lits.{code}
 use Rattle.kernel.specs.Watching.{At}
 use Rattle.kernel.specs.Visiting.{places}

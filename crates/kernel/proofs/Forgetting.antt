@@ -12,8 +12,8 @@ use Rattle.theory.specs.Propagation.{least_false}
 use Rattle.theory.specs.Forgetting.{forgotten, forget}
 use Rattle.theory.proofs.searching.ForgettingNumbers.{length-forget}
 use Rattle.theory.proofs.literals.LiteralLemmas.{true_or_false}
-use Rattle.kernel.specs.declared.watch.Watched.{Watched}
-use Rattle.kernel.specs.declared.watch.Watch.{Watch}
+use Rattle.kernel.specs.declared.watches.watch.Watched.{Watched}
+use Rattle.kernel.specs.declared.watches.watch.Watch.{Watch}
 use Rattle.cnf.specs.Lits.{code}
 use Rattle.kernel.specs.Watching.{At, IsPair, IsWatched, both_signs, Good, held, waits, reached, spared, IsFull, list_at}
 use Rattle.kernel.specs.Visiting.{WatchLists, IsEntry, places, entries_at, tending}

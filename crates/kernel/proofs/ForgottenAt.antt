@@ -4,7 +4,7 @@ use Rattle.std.specs.List.{list_any}
 use Rattle.theory.specs.Literals.{Literal, Clause}
 use Rattle.theory.specs.Forgetting.{forgotten, forget}
 use Rattle.theory.proofs.searching.ForgettingNumbers.{length-forget}
-use Rattle.kernel.specs.declared.watch.Watched.{Watched}
+use Rattle.kernel.specs.declared.watches.watch.Watched.{Watched}
 use Rattle.kernel.specs.Watching.{At, IsWatched, apart, first_true, second_true, other_true, both_signs}
 use Rattle.kernel.specs.Forgetting.{is_numbered}
 

@@ -5,7 +5,7 @@ use Rattle.std.proofs.Math.Seq.{drop-nil}
 use Rattle.std.proofs.lemmas.List.{get_or-drop, get_or-take, length-drop, length-take, get_or_default}
 use Rattle.std.specs.Prelude.{insert}
 use Rattle.std.proofs.lemmas.List.Elements.{All-append, All-weaker}
-use Rattle.kernel.specs.declared.line.Waiting.{Waiting}
+use Rattle.kernel.specs.declared.units.unit_queue.Waiting.{Waiting}
 use Rattle.kernel.specs.Placing.{GoesFirst, AreInOrder}
 
 pub GoesFirst-trans : (a b c : Waiting) → GoesFirst a b → GoesFirst b c → GoesFirst a c

@@ -4,8 +4,8 @@ use Rattle.std.proofs.lemmas.List.{map-set, set-set, set-get_or, get_or-set_same
 use Rattle.std.proofs.Math.ListN.{get_or-map}
 use Rattle.theory.specs.Literals.{Literal}
 use Rattle.kernel.specs.declared.propagator.Propagator.{Propagator}
-use Rattle.kernel.specs.declared.watch.Watch.{Watch}
-use Rattle.kernel.specs.declared.line.Waiting.{Waiting}
+use Rattle.kernel.specs.declared.watches.watch.Watch.{Watch}
+use Rattle.kernel.specs.declared.units.unit_queue.Waiting.{Waiting}
 use Rattle.cnf.specs.Lits.{code}
 use Rattle.kernel.specs.EntryLists.{EntryList, entries_of, nth_list}
 use Rattle.kernel.specs.Visiting.{kept_of, with_list}

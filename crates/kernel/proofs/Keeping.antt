@@ -6,7 +6,7 @@ use Rattle.std.specs.List.{list_all, Contains}
 use Rattle.theory.specs.Literals.{Literal, Clause, same, has}
 use Rattle.theory.specs.Trails.{Trail}
 use Rattle.theory.proofs.literals.LiteralLemmas.{same-eq, same-refl}
-use Rattle.kernel.specs.declared.watch.Watched.{Watched}
+use Rattle.kernel.specs.declared.watches.watch.Watched.{Watched}
 use Rattle.kernel.specs.Watching.{At, IsPair, WasUnit, Reached}
 use Rattle.kernel.specs.Visiting.{WatchLists}
 use Rattle.kernel.specs.Attaching.{IsWatching}

@@ -15,7 +15,7 @@ use Rattle.kernel.specs.declared.order.Order.TheVariants.{ByNumber, ByPlace}
 use Rattle.kernel.specs.Rules.{rule_of}
 use Rattle.theory.proofs.literals.LiteralLemmas.{and-left, and-right, or-cases, true_or_false, not_true, same-eq}
 use Rattle.theory.proofs.literals.LiteralSets.{false_unless}
-use Rattle.kernel.specs.declared.watch.Watched.{Watched}
+use Rattle.kernel.specs.declared.watches.watch.Watched.{Watched}
 use Rattle.trail.specs.TrailOver.{IsOrdered}
 use Rattle.cnf.specs.Lits.{code}
 use Rattle.kernel.specs.Watching.{At, IsPair, IsWatched, apart, waits, Includes, WasUnit, listed_both}

@@ -34,7 +34,7 @@ pub mod Restarting
 pub mod Rooms
 pub mod Serving
 pub mod Shown
-pub mod Sights
+pub mod WatchVisits
 pub mod Steps
 pub mod TrailFacts
 pub mod TrueUnits

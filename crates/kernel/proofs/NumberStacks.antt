@@ -9,8 +9,8 @@ use Rattle.std.proofs.lemmas.Bool.{cases_lt}
 use Rattle.std.proofs.lemmas.List.Elements.{All-weaker, All-map}
 use Rattle.std.proofs.lemmas.List.Sorted.{IsPermutation-trans, IsPermutation-sym, IsPermutation-middle, IsPermutation-map}
 use Rattle.std.proofs.Math.ListN.{get_or-map}
-use Rattle.kernel.specs.declared.line.Waiting.{Waiting}
-use Rattle.kernel.specs.declared.numbered.Numbered.{Numbered}
+use Rattle.kernel.specs.declared.units.unit_queue.Waiting.{Waiting}
+use Rattle.kernel.specs.declared.units.numbered.Numbered.{Numbered}
 use Rattle.kernel.specs.Placing.{GoesFirst, AreFalling, at_start}
 
 -- one more at the end

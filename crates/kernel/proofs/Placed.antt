@@ -20,9 +20,9 @@ use Rattle.theory.specs.Propagation.{IsRule, last_false, by_number, by_place, Pl
 use Rattle.theory.proofs.literals.LiteralLemmas.{or-left, or-right}
 use Rattle.theory.proofs.searching.Rules.{IsRule-by_number, IsRule-by_place}
 use Rattle.theory.proofs.literals.LiteralSets.{false_unless}
-use Rattle.kernel.specs.declared.line.Waiting.{Waiting}
+use Rattle.kernel.specs.declared.units.unit_queue.Waiting.{Waiting}
 use Rattle.kernel.specs.Watching.{At, Good, held, waits, reached, spared, Reached, Tending, IsServed}
-use Rattle.kernel.specs.declared.watch.Watched.{Watched}
+use Rattle.kernel.specs.declared.watches.watch.Watched.{Watched}
 use Rattle.kernel.specs.Visiting.{WatchLists, tending}
 use Rattle.kernel.proofs.LiteralFacts.{true_false, free-not, free-not_negated, negated-negated, has-push}
 use Rattle.kernel.proofs.TrailFacts.{literals-push}

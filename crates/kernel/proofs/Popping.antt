@@ -11,7 +11,7 @@ use Rattle.theory.specs.Trails.{Entry, Trail, literals, current_level}
 use Rattle.theory.specs.Propagation.{least_false, least_unit}
 use Rattle.theory.proofs.literals.LiteralLemmas.{and-left, and-right, or-cases, or-left, or-right, true_or_false, same-refl}
 use Rattle.kernel.specs.Watching.{IsConsistent, IsPair, IsWatched, apart, first_true, second_true, other_true, both_signs, Reached, Good, held, waits, reached, spared, At, Tending, Includes, Tends, WasUnit, AllGood, IsServed}
-use Rattle.kernel.specs.declared.watch.Watched.{Watched}
+use Rattle.kernel.specs.declared.watches.watch.Watched.{Watched}
 use Rattle.kernel.specs.Placing.{IsLastOf}
 use Rattle.kernel.proofs.LastLiterals.{all-false-but, all-false}
 use Rattle.kernel.proofs.LiteralFacts.{true_false, has-push}

@@ -10,8 +10,8 @@ use Rattle.theory.specs.Literals.{Literal, Clause, same}
 use Rattle.theory.specs.Truth.{IsOver}
 use Rattle.theory.specs.Trails.{Trail}
 use Rattle.theory.proofs.literals.LiteralLemmas.{true_or_false}
-use Rattle.kernel.specs.declared.watch.Watched.{Watched}
-use Rattle.kernel.specs.declared.watch.Watch.{Watch}
+use Rattle.kernel.specs.declared.watches.watch.Watched.{Watched}
+use Rattle.kernel.specs.declared.watches.watch.Watch.{Watch}
 use Rattle.cnf.specs.Lits.{code}
 use Rattle.kernel.specs.Watching.{At, IsPair, apart, Good, held, waits, reached, IsFull, list_at}
 use Rattle.kernel.specs.Visiting.{WatchLists, places, entries_at, tending}

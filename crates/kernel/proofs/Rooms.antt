@@ -5,8 +5,8 @@ use Rattle.std.proofs.lemmas.List.{drop-set-add, drop-set-lt, take-set-le, drop-
 use Rattle.std.proofs.Math.ListN.{get_or-map}
 use Rattle.kernel.proofs.Places.{At-one, At-set, At-push}
 use Rattle.std.proofs.Math.Seq.{take-set-lt, drop-append_seam, drop-append-add}
-use Rattle.kernel.specs.declared.watch.Watch.{Watch}
-use Rattle.kernel.specs.declared.entry_lists.Head.{Head}
+use Rattle.kernel.specs.declared.watches.watch.Watch.{Watch}
+use Rattle.kernel.specs.declared.watches.entry_lists.Head.{Head}
 use Rattle.kernel.specs.Watching.{At}
 use Rattle.kernel.specs.EntryLists.{EntryList, entries_of, nth_list, in_room, in_rooms, AreApart}
 

@@ -5,7 +5,7 @@ use Rattle.std.proofs.lemmas.Bool.{cases_eq}
 use Rattle.theory.specs.Literals.{Literal, Clause, same, has, has_both_signs, negated}
 use Rattle.theory.proofs.literals.LiteralLemmas.{same-eq}
 use Rattle.kernel.specs.Watching.{apart, first_true, second_true, other_true, both_signs, Reached, Good, held, waits, reached, spared, At, StandsFrom, Tending, GoodBut, AllGood, list_at, IsListed, IsFound, without_nth}
-use Rattle.kernel.specs.declared.watch.Watched.{Watched}
+use Rattle.kernel.specs.declared.watches.watch.Watched.{Watched}
 use Rattle.kernel.proofs.LiteralFacts.{or_false, has-push, same-negated, negated-negated}
 use Rattle.kernel.proofs.Places.{At-one, At-get, At-set}
 use Rattle.kernel.proofs.Removing.{without-place}

@@ -10,7 +10,7 @@ use Rattle.theory.specs.Trails.{Trail, literals, current_level, up_to}
 use Rattle.theory.proofs.literals.LiteralLemmas.{true_or_false, same-eq, same-refl}
 use Rattle.cnf.specs.Lits.{code}
 use Rattle.kernel.specs.Watching.{IsConsistent, IsPair, IsWatched, apart, first_true, second_true, other_true, both_signs, Reached, Good, held, waits, reached, spared, At, Tending, list_at, IsExact, Includes, Tends, IsBeside, lesser, WasUnit, moved, IsFull, without_nth}
-use Rattle.kernel.specs.declared.watch.Watched.{Watched}
+use Rattle.kernel.specs.declared.watches.watch.Watched.{Watched}
 use Rattle.kernel.proofs.LiteralFacts.{true_false, all-member, same-sym, same-sym-false}
 use Rattle.kernel.proofs.Places.{At-one, At-get, At-set, code-one, At-push}
 use Rattle.kernel.proofs.Removing.{Contains-of_without, Contains-without, without-gone, without-once}

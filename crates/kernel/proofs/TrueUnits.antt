@@ -17,7 +17,7 @@ use Rattle.theory.proofs.trails.TrailLists.{current_level-push}
 use Rattle.theory.proofs.trails.LawfulTrails.{current_level-rises, IsLawful-append}
 use Rattle.trail.proofs.Reasons.{literals-reason}
 use Rattle.cnf.specs.Lits.{code}
-use Rattle.kernel.specs.declared.watch.Watched.{Watched}
+use Rattle.kernel.specs.declared.watches.watch.Watched.{Watched}
 use Rattle.kernel.specs.Watching.{first_true, held, IsPair, listed_both}
 use Rattle.kernel.specs.Visiting.{WatchLists, places, tending}
 use Rattle.kernel.specs.Attaching.{attached, IsWatching}

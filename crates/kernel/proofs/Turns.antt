@@ -9,8 +9,8 @@ use Rattle.std.proofs.lemmas.Bool.{cases_eq}
 use Rattle.theory.specs.Literals.{Literal, Clause, same, has, negated}
 use Rattle.theory.specs.Trails.{Trail, literals}
 use Rattle.theory.proofs.literals.LiteralLemmas.{same-eq, same-refl, true_or_false}
-use Rattle.kernel.specs.declared.watch.Watched.{Watched}
-use Rattle.kernel.specs.declared.watch.Watch.{Watch}
+use Rattle.kernel.specs.declared.watches.watch.Watched.{Watched}
+use Rattle.kernel.specs.declared.watches.watch.Watch.{Watch}
 use Rattle.cnf.specs.Lits.{code}
 use Rattle.kernel.specs.Watching.{At, IsConsistent, IsBeside, IsFull, lesser, list_at, moved, Walks, IsNext, Tending, held, other_true, reached, Reached, without_nth}
 use Rattle.kernel.specs.Visiting.{WatchLists, places, entries_at, tending, with_list, IsEntry, AreEntriesOf, AreEntries, Replaces, CanVisit, IsStay, IsVisit, satisfied, behind, unit, needless, clashes, moves}

@@ -5,8 +5,8 @@ use Rattle.theory.specs.Literals.{Literal, Clause, same, has, has_var, negated}
 use Rattle.theory.specs.Truth.{IsOver}
 use Rattle.theory.proofs.literals.LiteralLemmas.{or-cases, or-left, or-right, true_or_false, same-eq, same-refl}
 use Rattle.theory.proofs.literals.OverVariables.{AreOver-from_IsOver}
-use Rattle.kernel.specs.declared.watch.Watched.{Watched}
-use Rattle.kernel.specs.declared.watch.Watch.{Watch}
+use Rattle.kernel.specs.declared.watches.watch.Watched.{Watched}
+use Rattle.kernel.specs.declared.watches.watch.Watch.{Watch}
 use Rattle.cnf.specs.Lits.{code}
 use Rattle.kernel.specs.Watching.{At, IsConsistent, IsPair, IsBeside, lesser}
 use Rattle.std.proofs.Math.Bool.{beq}

@@ -7,8 +7,8 @@ use Rattle.std.specs.declared.cmp.Reverse.{Reverse}
 use Rattle.std.proofs.lemmas.Map.Keys.{ge_from_not_lt}
 use Rattle.std.proofs.lemmas.List.Elements.{All-from_recursion, All-append, All-weaker, All-map}
 use Rattle.std.proofs.lemmas.List.Sorted.{All-permutation, IsPermutation-append_left, IsPermutation-map}
-use Rattle.kernel.specs.declared.line.Waiting.{Waiting}
-use Rattle.kernel.specs.declared.numbered.Numbered.{Numbered}
+use Rattle.kernel.specs.declared.units.unit_queue.Waiting.{Waiting}
+use Rattle.kernel.specs.declared.units.numbered.Numbered.{Numbered}
 use Rattle.kernel.specs.Placing.{GoesFirst, at_start}
 
 -- what a heap by number answers goes first

@@ -9,7 +9,7 @@ use Rattle.theory.specs.Trails.{Trail, literals}
 use Rattle.theory.proofs.literals.LiteralLemmas.{same-refl, or-left, or-right}
 use Rattle.cnf.specs.Lits.{code}
 use Rattle.kernel.specs.Watching.{IsConsistent, Good, reached, At, StandsFrom, Tending, list_at, IsBeside, lesser, moved, WasUnit, GoodBut, AllGood, Walks, IsNext, IsServed}
-use Rattle.kernel.specs.declared.watch.Watched.{Watched}
+use Rattle.kernel.specs.declared.watches.watch.Watched.{Watched}
 use Rattle.kernel.specs.Visiting.{Replaces}
 use Rattle.kernel.proofs.LiteralFacts.{has-push, negated-negated, same-sym-false}
 use Rattle.kernel.proofs.Places.{At-one}

@@ -3,8 +3,8 @@ use Rattle.std.specs.Prelude.{◌≡◌, ℕ, ◌+◌, ◌*◌, ◌<◌, ◌≤�
 use Rattle.std.specs.List.{list_all, Contains}
 use Rattle.theory.specs.Literals.{Literal, Clause, same, has}
 use Rattle.theory.specs.Trails.{Trail, level_of}
-use Rattle.kernel.specs.declared.watch.Watched.{Watched}
-use Rattle.kernel.specs.declared.watch.Watch.{Watch}
+use Rattle.kernel.specs.declared.watches.watch.Watched.{Watched}
+use Rattle.kernel.specs.declared.watches.watch.Watch.{Watch}
 use Rattle.cnf.specs.Lits.{code}
 use Rattle.kernel.specs.Watching.{At, Reached, WasUnit, IsServed}
 use Rattle.kernel.specs.Visiting.{WatchLists, entries_at, tending, AreEntries}

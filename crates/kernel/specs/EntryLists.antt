@@ -1,7 +1,7 @@
 -- Lists of entries that lie in rooms of one list.
 use Rattle.std.specs.Prelude.{◌≡◌, ◌≢◌, ℕ, ◌+◌, ◌≤◌, ◌⊎◌, List, [], ◌∷◌, length, take, drop, slice_index_or}
-use Rattle.kernel.specs.declared.watch.Watch.{Watch}
-use Rattle.kernel.specs.declared.entry_lists.Head.{Head}
+use Rattle.kernel.specs.declared.watches.watch.Watch.{Watch}
+use Rattle.kernel.specs.declared.watches.entry_lists.Head.{Head}
 use Rattle.kernel.specs.Watching.{At}
 
 -- a list with its room, which begins at a place: its entries are the first ones of the room

@@ -2,9 +2,9 @@
 use Rattle.std.specs.Prelude.{◌≡◌, ℕ, ◌+◌, ◌-◌, nat_eq, nat_le, Bool, false, not, ◌&&◌, List, length, filter, cond, slice_index_or}
 use Rattle.std.specs.List.{list_any}
 use Rattle.theory.specs.Literals.{positive, negative}
-use Rattle.kernel.specs.declared.watch.Watched.{Watched}
-use Rattle.kernel.specs.declared.watch.Watch.{Watch}
-use Rattle.kernel.specs.declared.named.Named.{Named}
+use Rattle.kernel.specs.declared.watches.watch.Watched.{Watched}
+use Rattle.kernel.specs.declared.watches.watch.Watch.{Watch}
+use Rattle.kernel.specs.declared.clauses.named.Named.{Named}
 use Rattle.kernel.specs.Watching.{At}
 
 -- whether the clause at a place is among those from `first` on that have a flag

@@ -3,8 +3,8 @@ use Rattle.std.specs.Prelude.{ℕ, ◌+◌, Bool, List, [], ◌∷◌, ◌++◌,
 use Rattle.std.specs.declared.snapshot.Snapshot.{Snapshot}
 use Rattle.theory.specs.Literals.{Clause}
 use Rattle.theory.specs.Forgetting.{forgotten}
-use Rattle.kernel.specs.declared.changed.Change.{Change}
-use Rattle.kernel.specs.declared.changed.Change.TheVariants.{Pushed, Cut, Forgotten}
+use Rattle.kernel.specs.declared.clauses.changed.Change.{Change}
+use Rattle.kernel.specs.declared.clauses.changed.Change.TheVariants.{Pushed, Cut, Forgotten}
 use Rattle.kernel.specs.Forgetting.{names}
 
 -- the clauses from the place n on, with `1 -1` in place of those that are gone

@@ -2,7 +2,7 @@
 use Rattle.std.specs.Prelude.{◌≡◌, ℕ, ◌<◌, ◌≤◌, true, List, [], ◌∷◌, ◌++◌, ◌⊎◌, if◌then◌else◌}
 use Rattle.std.specs.List.{Contains}
 use Rattle.theory.specs.Literals.{same}
-use Rattle.kernel.specs.declared.watch.Watched.{Watched}
+use Rattle.kernel.specs.declared.watches.watch.Watched.{Watched}
 use Rattle.kernel.specs.Watching.{At}
 
 -- the clause at a place comes behind the others, if it watches one literal twice

@@ -6,8 +6,8 @@ use Rattle.theory.specs.Literals.{Literal, Clause, has}
 use Rattle.theory.specs.Status.{unit_literal}
 use Rattle.theory.specs.Trails.{Trail, literals}
 use Rattle.theory.specs.Propagation.{last_false}
-use Rattle.kernel.specs.declared.line.Waiting.{Waiting}
-use Rattle.kernel.specs.declared.numbered.Numbered.{Numbered}
+use Rattle.kernel.specs.declared.units.unit_queue.Waiting.{Waiting}
+use Rattle.kernel.specs.declared.units.numbered.Numbered.{Numbered}
 use Rattle.kernel.specs.declared.order.Order.{Order}
 use Rattle.kernel.specs.declared.order.Order.TheVariants.{ByNumber, ByPlace}
 use Rattle.kernel.specs.declared.propagator.Propagator.{Propagator}

@@ -4,9 +4,9 @@ use Rattle.std.specs.List.Sorted.{IsPermutation}
 use Rattle.theory.specs.Literals.{Literal, Clause, same, has, negated}
 use Rattle.theory.specs.Truth.{IsOver}
 use Rattle.trail.specs.Tables.{IsTruth, value_of}
-use Rattle.kernel.specs.declared.watch.Watched.{Watched}
-use Rattle.kernel.specs.declared.sight.Sight.{Sight}
-use Rattle.kernel.specs.declared.sight.Sight.TheVariants.{Satisfied, Moved, Last}
+use Rattle.kernel.specs.declared.watches.watch.Watched.{Watched}
+use Rattle.kernel.specs.declared.watches.watch_visit.WatchVisit.{WatchVisit}
+use Rattle.kernel.specs.declared.watches.watch_visit.WatchVisit.TheVariants.{Satisfied, Moved, Last}
 use Rattle.kernel.specs.Watching.{At}
 use Rattle.kernel.specs.Visiting.{IsLast, Replaces}
 use Rattle.kernel.specs.Arranging.{front}
@@ -39,12 +39,12 @@ abbrev pub other_front : Watched → Literal → Literal
 other_front w g = if same w.first g then w.second else w.first
 
 -- the clause c with w in front is seen, and has u in front then
-abbrev pub IsSight : List Literal → Literal → Clause → Watched → Watched → Sight → Type 0
-IsSight P g c w u (Satisfied k) = (k ≡ other_front w g) × (has P k ≡ true) × (u ≡ w)
-IsSight P g c w u (Last k t) = (k ≡ other_front w g) × IsTruth P k (value_of t) × (value_of t ≢ Some true) × IsLast P c k × (u ≡ w)
-IsSight P g c w u (Moved v) = (v.first ≡ other_front w g) × Replaces P c v.first v.second × (u ≡ v)
+abbrev pub IsWatchVisit : List Literal → Literal → Clause → Watched → Watched → WatchVisit → Type 0
+IsWatchVisit P g c w u (Satisfied k) = (k ≡ other_front w g) × (has P k ≡ true) × (u ≡ w)
+IsWatchVisit P g c w u (Last k t) = (k ≡ other_front w g) × IsTruth P k (value_of t) × (value_of t ≢ Some true) × IsLast P c k × (u ≡ w)
+IsWatchVisit P g c w u (Moved v) = (v.first ≡ other_front w g) × Replaces P c v.first v.second × (u ≡ v)
 
 -- the literals of the clause c change places
-pub record IsSeen (P : List Literal) (g : Literal) (c d : Clause) (s : Sight) : Type 0 where
-  pub sight : IsSight P g c (front c) (front d) s
+pub record IsSeen (P : List Literal) (g : Literal) (c d : Clause) (s : WatchVisit) : Type 0 where
+  pub visit : IsWatchVisit P g c (front c) (front d) s
   pub permutes : IsPermutation c d

@@ -13,4 +13,4 @@ pub record State : Type 0 where
   pub first : ℕ
   pub clauses : List Clause
   pub trail : Trail
-  pub short : Bool
+  pub out_of_memory : Bool

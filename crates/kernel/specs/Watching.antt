@@ -8,7 +8,7 @@ use Rattle.theory.specs.Literals.{Literal, Clause, same, has, negated, has_both_
 use Rattle.theory.specs.Status.{is_false, others_false}
 use Rattle.theory.specs.Trails.{Trail, literals, current_level, up_to}
 use Rattle.cnf.specs.Lits.{code}
-use Rattle.kernel.specs.declared.watch.Watched.{Watched}
+use Rattle.kernel.specs.declared.watches.watch.Watched.{Watched}
 
 -- no literal is in P beside its negation
 abbrev pub IsConsistent : List Literal → Type 0

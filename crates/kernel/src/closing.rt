@@ -23,10 +23,10 @@ ghost use Rattle.kernel.specs.Visiting.{kept_of, tending, AreEntries};
 ghost use Rattle.kernel.specs.Placing.{clauses_of, kept_with, place_in, IsLastOf, AreInLine};
 
 use crate::closed::Closed;
-use crate::last_false::{last_place, open_literal};
-use crate::line::{Line, Waiting};
 use crate::order::Order;
 use crate::propagator::{Propagator, Unit};
+use crate::units::last_false::{last_place, open_literal};
+use crate::units::unit_queue::{UnitQueue, Waiting};
 use cnf::Lit;
 use std::alloc::AllocError;
 use trail::{Entry, Trail};
@@ -58,7 +58,12 @@ impl Propagator {
     }
 
     /// Puts the clauses in line that were learnt or that wait from the beginning on.
-    fn line_up(&mut self, order: Order, trail: &Trail, line: &mut Line) -> Result<(), AllocError>
+    fn line_up(
+        &mut self,
+        order: Order,
+        trail: &Trail,
+        line: &mut UnitQueue,
+    ) -> Result<(), AllocError>
         requires over { All (IsOver trail.now.vars) self.old.clauses.given }
         requires units { (n : ℕ) → Contains self.old.units n → (n < length self.old.clauses.given) × ((c : Clause) → At self.old.clauses.given n c → WasUnit (literals trail.now.entries) c) }
         ensures waiting { OnOk result (IsPermutation (clauses_of line.old ++ self.old.units) (clauses_of line.new)) }
@@ -77,7 +82,7 @@ impl Propagator {
     // Inlined, so that its number and literal are in registers: as an answer in memory they were
     // read together right after they had been written one by one, for which a processor waits.
     #[inline(always)]
-    fn next_in_line(&self, trail: &Trail, line: &mut Line) -> Option<Unit>
+    fn next_in_line(&self, trail: &Trail, line: &mut UnitQueue) -> Option<Unit>
         requires none { self.now.conflict ≡ None }
         requires over { All (IsOver trail.now.vars) self.now.clauses.given }
         requires line { (o : Order) × AreInLine o self.now.clauses.given trail.now.entries line.old }
@@ -111,7 +116,7 @@ impl Propagator {
         order: Order,
         trail: &mut Trail,
         served: usize,
-        line: &mut Line,
+        line: &mut UnitQueue,
     ) -> Result<Closed, AllocError>
         requires inside { served ≤ length trail.old.entries }
         requires line { line.old ≡ [] }

@@ -15,7 +15,7 @@ ghost use Rattle.kernel.specs.Answer.{closed_of};
 ghost use Rattle.kernel.specs.Rules.{rule_of};
 ghost use Rattle.kernel.specs.declared.order.Order.TheVariants.{ByNumber};
 
-use crate::clauses::Clauses;
+use crate::clauses::clauses::Clauses;
 use crate::closed::Closed;
 use crate::order::Order;
 use crate::search_kernel::SearchKernel;
@@ -87,7 +87,7 @@ impl Kernel {
           first = length formula.now.clauses;
           clauses = formula.now.clauses;
           trail = cube_trail cube.now;
-          short = false;
+          out_of_memory = false;
         }) }
         ensures lawful { IfOk result (λ k.
             IsLawful k.clauses k.trail × IsOver k.vars (literals k.trail) × All (IsOver k.vars) k.clauses) }
@@ -114,7 +114,7 @@ impl Kernel {
           first = length (formula.now.clauses ++ unit_clauses units.now);
           clauses = formula.now.clauses ++ unit_clauses units.now;
           trail = cube_trail cube.now;
-          short = false;
+          out_of_memory = false;
         }) }
         ensures lawful { IfOk result (λ k.
             IsLawful k.clauses k.trail × IsOver k.vars (literals k.trail) × All (IsOver k.vars) k.clauses) }
@@ -144,11 +144,11 @@ impl Kernel {
         ensures ok { IfOk result (λ a. Propagates (rule_of self.old.order) self.old.clauses self.old.trail (closed_of a) self.new.trail) }
         ensures kept { (self.new.vars ≡ self.old.vars) × (self.new.clauses ≡ self.old.clauses) × (self.new.first ≡ self.old.first)
             × (self.new.order ≡ self.old.order) }
-        ensures short { OnOk result (self.new.short ≡ false) }
-        ensures refused { OnErr result (self.new.short ≡ true) }
-        ensures stays { self.old.short ≡ true → IsErr result }
-        ensures unchanged { self.old.short ≡ true → self.new.trail ≡ self.old.trail }
-        ensures was { OnOk result (self.old.short ≡ false) }
+        ensures has_memory { OnOk result (self.new.out_of_memory ≡ false) }
+        ensures refused { OnErr result (self.new.out_of_memory ≡ true) }
+        ensures stays { self.old.out_of_memory ≡ true → IsErr result }
+        ensures unchanged { self.old.out_of_memory ≡ true → self.new.trail ≡ self.old.trail }
+        ensures was { OnOk result (self.old.out_of_memory ≡ false) }
         ensures onward { (a : closing.Closed) (U : trails.Trail) → Propagates (rule_of self.old.order) self.old.clauses self.new.trail a U → Propagates (rule_of self.old.order) self.old.clauses self.old.trail a U }
     {
         self.kernel.close()
@@ -157,10 +157,10 @@ impl Kernel {
     /// Makes a free literal true at the next level, without a reason, after propagation came to
     /// rest. It takes no memory.
     pub fn decide(&mut self, lit: Lit)
-        requires { self.old.short ≡ false →
+        requires { self.old.out_of_memory ≡ false →
             IsVariable self.old.vars lit.var × (has_var (literals self.old.trail) lit.var ≡ false)
             × Propagates (rule_of self.old.order) self.old.clauses self.old.trail quiet self.old.trail }
-        ensures { self.new ≡ (if self.old.short then self.old else record self.old {
+        ensures { self.new ≡ (if self.old.out_of_memory then self.old else record self.old {
           trail =
               self.old.trail ++ record { lit = lit; reason = None; level = current_level self.old.trail + 1 } ∷ [];
         }) }
@@ -171,9 +171,9 @@ impl Kernel {
     /// Takes the entries above a level off, which is below the current one. It takes no memory, and
     /// time by the entries taken off.
     pub fn back_to(&mut self, level: u32)
-        requires { self.old.short ≡ false → level < current_level self.old.trail }
+        requires { self.old.out_of_memory ≡ false → level < current_level self.old.trail }
         ensures { self.new ≡
-            (if self.old.short then self.old else record self.old { trail = up_to self.old.trail level }) }
+            (if self.old.out_of_memory then self.old else record self.old { trail = up_to self.old.trail level }) }
     {
         self.kernel.back_to(level);
     }
@@ -183,14 +183,14 @@ impl Kernel {
     /// current level unless that is 0. It fails where a request for memory is refused, and from
     /// then on; the clauses and the trail are then as they were.
     pub fn learn(&mut self, clause: &[Lit]) -> Result<u64, AllocError>
-        requires { self.old.short ≡ false → IsOver self.old.vars clause.now × IsLearnable self.old.trail clause.now }
+        requires { self.old.out_of_memory ≡ false → IsOver self.old.vars clause.now × IsLearnable self.old.trail clause.now }
         ensures ok { IfOk result (λ n. n ≡ length self.old.clauses + 1) }
         ensures learnt { OnOk result (self.new ≡ record self.old {
           clauses = self.old.clauses ++ clause.now ∷ [];
         }) }
-        ensures refused { OnErr result (self.new ≡ record self.old { short = true }) }
-        ensures stays { self.old.short ≡ true → IsErr result }
-        ensures was { OnOk result (self.old.short ≡ false) }
+        ensures refused { OnErr result (self.new ≡ record self.old { out_of_memory = true }) }
+        ensures stays { self.old.out_of_memory ≡ true → IsErr result }
+        ensures was { OnOk result (self.old.out_of_memory ≡ false) }
     {
         let count = self.given.len();
         if let Err(error) = self.given.push(clause) {

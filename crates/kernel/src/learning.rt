@@ -17,16 +17,16 @@ impl SearchKernel {
     /// current level unless that is 0. It fails where a request for memory is refused, and from
     /// then on; the clauses and the trail are then as they were.
     pub fn learn(&mut self, clause: &[Lit]) -> Result<u64, AllocError>
-        requires { self.old.short ≡ false → IsOver self.old.vars clause.now × IsLearnable self.old.trail clause.now }
+        requires { self.old.out_of_memory ≡ false → IsOver self.old.vars clause.now × IsLearnable self.old.trail clause.now }
         ensures ok { IfOk result (λ n. n ≡ length self.old.clauses + 1) }
         ensures learnt { OnOk result (self.new ≡ record self.old {
           clauses = self.old.clauses ++ clause.now ∷ [];
         }) }
-        ensures refused { OnErr result (self.new ≡ record self.old { short = true }) }
-        ensures stays { self.old.short ≡ true → IsErr result }
-        ensures was { OnOk result (self.old.short ≡ false) }
+        ensures refused { OnErr result (self.new ≡ record self.old { out_of_memory = true }) }
+        ensures stays { self.old.out_of_memory ≡ true → IsErr result }
+        ensures was { OnOk result (self.old.out_of_memory ≡ false) }
     {
-        if self.short {
+        if self.out_of_memory {
             return Err(AllocError);
         }
         match self.propagator.attach_learnt(&self.trail, clause) {
@@ -35,7 +35,7 @@ impl SearchKernel {
                 Ok(self.propagator.clauses.len() as u64)
             }
             Err(error) => {
-                self.short = true;
+                self.out_of_memory = true;
                 Err(error)
             }
         }
@@ -48,19 +48,19 @@ impl SearchKernel {
     /// fails where a request for memory is refused, and from then on; the clauses and the trail are
     /// then as they were.
     pub fn learn_unit(&mut self, place: usize) -> Result<u64, AllocError>
-        requires level { self.old.short ≡ false → current_level self.old.trail ≡ 0 }
-        requires entry { self.old.short ≡ false →
+        requires level { self.old.out_of_memory ≡ false → current_level self.old.trail ≡ 0 }
+        requires entry { self.old.out_of_memory ≡ false →
             (e : trails.Entry) × (slice_get self.old.trail place ≡ Some e) × (is_some e.reason ≡ true) }
         ensures ok { IfOk result (λ n. n ≡ length self.old.clauses + 1) }
         ensures learnt { OnOk result ((e : trails.Entry) → slice_get self.old.trail place ≡ Some e → self.new ≡ record self.old {
           clauses = self.old.clauses ++ (e.lit ∷ []) ∷ [];
           trail = slice_set self.old.trail place record e { reason = Some (length self.old.clauses + 1) };
         }) }
-        ensures refused { OnErr result (self.new ≡ record self.old { short = true }) }
-        ensures stays { self.old.short ≡ true → IsErr result }
-        ensures was { OnOk result (self.old.short ≡ false) }
+        ensures refused { OnErr result (self.new ≡ record self.old { out_of_memory = true }) }
+        ensures stays { self.old.out_of_memory ≡ true → IsErr result }
+        ensures was { OnOk result (self.old.out_of_memory ≡ false) }
     {
-        if self.short {
+        if self.out_of_memory {
             return Err(AllocError);
         }
         let entry = self.trail.entries()[place];
@@ -72,7 +72,7 @@ impl SearchKernel {
                 Ok(number)
             }
             Err(error) => {
-                self.short = true;
+                self.out_of_memory = true;
                 Err(error)
             }
         }
@@ -80,9 +80,9 @@ impl SearchKernel {
 
     /// Counts as short of memory from here on: something that goes with the kernel was refused.
     pub(crate) fn give_up(&mut self)
-        ensures { self.new ≡ record self.old { short = true } }
+        ensures { self.new ≡ record self.old { out_of_memory = true } }
     {
-        self.short = true;
+        self.out_of_memory = true;
     }
 
     /// Forgets learnt clauses, so that propagation goes by the others alone: each keeps its number
@@ -93,15 +93,15 @@ impl SearchKernel {
     /// goes on. It fails where a request for memory is refused, and from then on; the clauses and
     /// the trail are then as they were.
     pub fn forget(&mut self, numbers: &[u64]) -> Result<(), AllocError>
-        requires learnt { self.old.short ≡ false → All (λ n. (self.old.first < n) × (n ≤ length self.old.clauses)) numbers.now }
-        requires no_reasons { self.old.short ≡ false → All (λ n. is_reason self.old.trail n ≡ false) numbers.now }
-        requires open { self.old.short ≡ false → least_false (literals self.old.trail) self.old.clauses ≡ None }
+        requires learnt { self.old.out_of_memory ≡ false → All (λ n. (self.old.first < n) × (n ≤ length self.old.clauses)) numbers.now }
+        requires no_reasons { self.old.out_of_memory ≡ false → All (λ n. is_reason self.old.trail n ≡ false) numbers.now }
+        requires open { self.old.out_of_memory ≡ false → least_false (literals self.old.trail) self.old.clauses ≡ None }
         ensures forgotten { OnOk result (self.new ≡ record self.old { clauses = forget numbers.now 1 self.old.clauses }) }
-        ensures refused { OnErr result (self.new ≡ record self.old { short = true }) }
-        ensures stays { self.old.short ≡ true → IsErr result }
-        ensures was { OnOk result (self.old.short ≡ false) }
+        ensures refused { OnErr result (self.new ≡ record self.old { out_of_memory = true }) }
+        ensures stays { self.old.out_of_memory ≡ true → IsErr result }
+        ensures was { OnOk result (self.old.out_of_memory ≡ false) }
     {
-        if self.short {
+        if self.out_of_memory {
             return Err(AllocError);
         }
         match self.propagator.forget(self.first, numbers) {
@@ -110,7 +110,7 @@ impl SearchKernel {
                 Ok(())
             }
             Err(error) => {
-                self.short = true;
+                self.out_of_memory = true;
                 Err(error)
             }
         }
@@ -121,11 +121,11 @@ impl SearchKernel {
     /// and the trail are then as they were.
     pub fn keep_learnt(&mut self) -> Result<(), AllocError>
         ensures kept { OnOk result (self.new ≡ record self.old { first = length self.old.clauses }) }
-        ensures refused { OnErr result (self.new ≡ record self.old { short = true }) }
-        ensures stays { self.old.short ≡ true → IsErr result }
-        ensures was { OnOk result (self.old.short ≡ false) }
+        ensures refused { OnErr result (self.new ≡ record self.old { out_of_memory = true }) }
+        ensures stays { self.old.out_of_memory ≡ true → IsErr result }
+        ensures was { OnOk result (self.old.out_of_memory ≡ false) }
     {
-        if self.short {
+        if self.out_of_memory {
             return Err(AllocError);
         }
         match self.propagator.note_singles(self.first, &mut self.singles) {
@@ -134,7 +134,7 @@ impl SearchKernel {
                 Ok(())
             }
             Err(error) => {
-                self.short = true;
+                self.out_of_memory = true;
                 Err(error)
             }
         }

@@ -20,16 +20,16 @@ ghost use Rattle.kernel.specs.EntryLists.{nth_list};
 ghost use Rattle.kernel.specs.Visiting.{WatchLists, kept_of, entries_at, CanVisit, IsVisit, IsLast, Replaces, tending, with_list, AreEntries};
 ghost use Rattle.kernel.specs.TruthTables.{AreTruths};
 
-use crate::entry_lists::{EntryLists, OpenList};
-use crate::last_false::last_place;
-use crate::line::{Line, Waiting};
+use crate::clauses::store::Store;
 use crate::order::Order;
-use crate::replacement::Starts;
-use crate::sight::Sight;
-use crate::store::Store;
-use crate::truths::Truths;
-use crate::units::Units;
-use crate::watch::{PackedWatch, Watch, Watched, code};
+use crate::units::last_false::last_place;
+use crate::units::unit_queue::{UnitQueue, Waiting};
+use crate::units::units::Units;
+use crate::watches::entry_lists::{EntryLists, OpenList};
+use crate::watches::replacement::Starts;
+use crate::watches::truths::Truths;
+use crate::watches::watch::{PackedWatch, Watch, Watched, code};
+use crate::watches::watch_visit::WatchVisit;
 use cnf::Lit;
 use std::alloc::AllocError;
 use trail::{Trail, Truth};
@@ -103,7 +103,7 @@ impl Propagator {
         trail: &Trail,
         clause: u32,
         lit: Lit,
-        line: &mut Line,
+        line: &mut UnitQueue,
     ) -> Result<(), AllocError>
         requires within { clause < length self.now.clauses.given }
         requires over { All (IsOver trail.now.vars) self.now.clauses.given }
@@ -128,7 +128,7 @@ impl Propagator {
         lit: Lit,
         status: Truth,
         place: Option<usize>,
-        line: &mut Line,
+        line: &mut UnitQueue,
     ) -> Result<(), AllocError>
         requires within { clause < length self.old.clauses.given }
         requires over { All (IsOver trail.now.vars) self.old.clauses.given }
@@ -174,14 +174,14 @@ impl Propagator {
         }
     }
 
-    /// Looks at the clause of an entry in the list of a literal that became false.
-    fn look(
+    /// Visits the clause of an entry in the list of a literal that became false.
+    fn visit_clause(
         &mut self,
         truths: Truths,
         gone: Lit,
         watch: Watch,
         place: Option<usize>,
-        line: &mut Line,
+        line: &mut UnitQueue,
     ) -> Result<Option<Lit>, AllocError>
         requires table { AreTruths truths.trail.now truths.table.now }
         requires small { watch.clause < 2 ^ 31 }
@@ -197,10 +197,10 @@ impl Propagator {
         let clause = watch.clause;
         match self
             .clauses
-            .look(truths, gone, clause as usize, &mut self.starts)
+            .visit_clause(truths, gone, clause as usize, &mut self.starts)
         {
-            Sight::Satisfied(other) => Ok(Some(other)),
-            Sight::Moved(watched) => {
+            WatchVisit::Satisfied(other) => Ok(Some(other)),
+            WatchVisit::Moved(watched) => {
                 self.list(
                     watched.second,
                     Watch {
@@ -211,7 +211,7 @@ impl Propagator {
                 )?;
                 Ok(None)
             }
-            Sight::Last(other, status) => {
+            WatchVisit::Last(other, status) => {
                 self.note(truths.trail, clause, other, status, place, line)?;
                 Ok(Some(other))
             }
@@ -230,7 +230,7 @@ impl Propagator {
         watch: Watch,
         status: Truth,
         place: Option<usize>,
-        line: &mut Line,
+        line: &mut UnitQueue,
     ) -> Result<Option<Lit>, AllocError>
         requires table { AreTruths truths.trail.now truths.table.now }
         requires small { watch.clause < 2 ^ 31 }
@@ -257,7 +257,7 @@ impl Propagator {
             )?;
             return Ok(Some(watch.blocker));
         }
-        self.look(truths, gone, watch, place, line)
+        self.visit_clause(truths, gone, watch, place, line)
     }
 
     /// Visits each clause that watches a literal which became false. Most visits end at a blocker
@@ -273,7 +273,7 @@ impl Propagator {
         trail: &Trail,
         gone: Lit,
         found: Option<usize>,
-        line: &mut Line,
+        line: &mut UnitQueue,
     ) -> Result<(), AllocError>
         requires ordered { IsOrdered trail.now.vars trail.now.entries }
         requires served { (floor : ℕ) × (n : ℕ) × IsNext trail.now.entries n gone × IsServed floor self.old.clauses.given trail.now.entries n (tending (kept_with self.old line.old)) }
@@ -313,7 +313,7 @@ impl Propagator {
         order: Order,
         trail: &Trail,
         place: usize,
-        line: &mut Line,
+        line: &mut UnitQueue,
     ) -> Result<(), AllocError>
         requires inside { place < length trail.now.entries }
         requires entries { AreEntries self.old.clauses.given (kept_of self.old) }
@@ -341,7 +341,7 @@ impl Propagator {
         order: Order,
         trail: &Trail,
         from: usize,
-        line: &mut Line,
+        line: &mut UnitQueue,
     ) -> Result<(), AllocError>
         requires inside { from ≤ length trail.now.entries }
         requires entries { AreEntries self.old.clauses.given (kept_of self.old) }
@@ -361,8 +361,8 @@ impl Propagator {
     }
 
     /// Forgets what was found unit or false.
-    pub fn calm(&mut self)
-        ensures calm { (self.new.units ≡ []) × (self.new.conflict ≡ None) }
+    pub fn clear_pending(&mut self)
+        ensures cleared { (self.new.units ≡ []) × (self.new.conflict ≡ None) }
         ensures kept { (self.new.clauses.given ≡ self.old.clauses.given) × (self.new.clauses.pairs ≡ self.old.clauses.pairs) × (self.new.lists ≡ self.old.lists) }
     {
         self.units.clear();

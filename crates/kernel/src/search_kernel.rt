@@ -14,12 +14,12 @@ ghost use Rattle.theory.specs.Trails as trails;
 ghost use Rattle.kernel.specs.Answer.{closed_of};
 ghost use Rattle.kernel.specs.Rules.{rule_of};
 
-use crate::attach::Room;
 use crate::closed::Closed;
 use crate::counts::Counts;
-use crate::line::Line;
 use crate::order::Order;
 use crate::propagator::Propagator;
+use crate::units::unit_queue::UnitQueue;
+use crate::watches::attach::ListCapacities;
 use cnf::{Formula, Lit};
 use std::alloc::{AllocError, Global};
 use std::marker::Model;
@@ -35,7 +35,7 @@ pub struct SearchKernel {
     // which unit clause propagation takes first
     order: Order,
     // those that wait by place, while propagation goes on; empty between two calls
-    line: Line,
+    line: UnitQueue,
     // how many of the clauses stay when a cube begins: the formula's, the units behind them, and
     // what was learnt and is kept; the others were learnt
     pub(crate) first: usize,
@@ -51,7 +51,7 @@ pub struct SearchKernel {
     // decision was made before all were
     floor: usize,
     // whether a call has met want of memory
-    pub(crate) short: bool,
+    pub(crate) out_of_memory: bool,
     // what was done; nothing goes by it
     pub(crate) counts: Counts,
 }
@@ -69,7 +69,7 @@ impl Drop for SearchKernel {
             trail: _,
             served: _,
             floor: _,
-            short: _,
+            out_of_memory: _,
             counts: _,
         } = self;
     }
@@ -92,13 +92,13 @@ impl Model for SearchKernel {
       first = a.first;
       clauses = a.propagator.clauses.given;
       trail = a.trail.entries;
-      short = a.short;
+      out_of_memory = a.out_of_memory;
     } };
 
     ghost invariant = { λ a.
         IsLawful a.propagator.clauses.given a.trail.entries × All (IsOver a.trail.vars) a.propagator.clauses.given × (a.first ≤ length a.propagator.clauses.given)
-        × (a.short ≡ false → IsWatching a.trail.vars a.first a.propagator.clauses.given a.trail.entries a.served a.floor (kept_of a.propagator) a.singles.items a.empty)
-        × (a.short ≡ false → a.line ≡ []) };
+        × (a.out_of_memory ≡ false → IsWatching a.trail.vars a.first a.propagator.clauses.given a.trail.entries a.served a.floor (kept_of a.propagator) a.singles.items a.empty)
+        × (a.out_of_memory ≡ false → a.line ≡ []) };
 }
 
 /// Puts a cube's literals on a trail without entries.
@@ -151,14 +151,14 @@ impl SearchKernel {
           first = length (formula.now.clauses ++ unit_clauses units.now);
           clauses = formula.now.clauses ++ unit_clauses units.now;
           trail = cube_trail cube.now;
-          short = false;
+          out_of_memory = false;
         }) }
         ensures lawful { IfOk result (λ k.
             IsLawful k.clauses k.trail × IsOver k.vars (literals k.trail) × All (IsOver k.vars) k.clauses) }
         ensures few { IfOk result (λ k. k.vars ≤ max_vars large) }
     {
         let vars = formula.vars();
-        let room = Room::of(alloc, 2 * vars as usize + 2, formula, units)?;
+        let room = ListCapacities::of(alloc, 2 * vars as usize + 2, formula, units)?;
         let mut singles = Vec::with_capacity(alloc, room.singles)?;
         let mut propagator = Propagator::with_room(alloc, room, formula, units)?;
         propagator.attach_all(formula, &mut singles)?;
@@ -170,13 +170,13 @@ impl SearchKernel {
             first: propagator.clauses.len(),
             propagator,
             order,
-            line: Line::new(alloc),
+            line: UnitQueue::new(alloc),
             singles,
             empty,
             trail,
             served: 0,
             floor: usize::MAX,
-            short: false,
+            out_of_memory: false,
             counts: Counts::none(),
         })
     }
@@ -187,7 +187,7 @@ impl SearchKernel {
     /// the cube's literals, and none by the formula. It fails where an earlier call has met want of
     /// memory, or where a request for memory is refused, and from then on.
     pub fn restart(&mut self, cube: &Cube) -> Result<(), AllocError>
-        requires { self.old.short ≡ false → IsOver self.old.vars cube.now }
+        requires { self.old.out_of_memory ≡ false → IsOver self.old.vars cube.now }
         ensures ok { OnOk result (self.new ≡ record self.old {
           clauses = take self.old.first self.old.clauses;
           trail = cube_trail cube.now;
@@ -196,17 +196,17 @@ impl SearchKernel {
         ensures over { OnOk result (IsOver self.new.vars (literals self.new.trail)) }
         ensures clauses_over { OnOk result (All (IsOver self.new.vars) self.new.clauses) }
         ensures kept { (self.new.vars ≡ self.old.vars) × (self.new.first ≡ self.old.first) × (self.new.order ≡ self.old.order) }
-        ensures refused { OnErr result (self.new.short ≡ true) }
-        ensures stays { self.old.short ≡ true → IsErr result }
-        ensures unchanged { self.old.short ≡ true → self.new ≡ self.old }
-        ensures was { OnOk result (self.old.short ≡ false) }
+        ensures refused { OnErr result (self.new.out_of_memory ≡ true) }
+        ensures stays { self.old.out_of_memory ≡ true → IsErr result }
+        ensures unchanged { self.old.out_of_memory ≡ true → self.new ≡ self.old }
+        ensures was { OnOk result (self.old.out_of_memory ≡ false) }
     {
-        if self.short {
+        if self.out_of_memory {
             return Err(AllocError);
         }
         self.trail.clear();
         if let Err(error) = self.propagator.cut(self.first, &self.singles, self.empty) {
-            self.short = true;
+            self.out_of_memory = true;
             return Err(error);
         }
         put_cube(&mut self.trail, cube.lits());
@@ -225,14 +225,14 @@ impl SearchKernel {
         ensures ok { IfOk result (λ a. Propagates (rule_of self.old.order) self.old.clauses self.old.trail (closed_of a) self.new.trail) }
         ensures kept { (self.new.vars ≡ self.old.vars) × (self.new.clauses ≡ self.old.clauses) × (self.new.first ≡ self.old.first)
             × (self.new.order ≡ self.old.order) }
-        ensures short { OnOk result (self.new.short ≡ false) }
-        ensures refused { OnErr result (self.new.short ≡ true) }
-        ensures stays { self.old.short ≡ true → IsErr result }
-        ensures unchanged { self.old.short ≡ true → self.new.trail ≡ self.old.trail }
-        ensures was { OnOk result (self.old.short ≡ false) }
+        ensures has_memory { OnOk result (self.new.out_of_memory ≡ false) }
+        ensures refused { OnErr result (self.new.out_of_memory ≡ true) }
+        ensures stays { self.old.out_of_memory ≡ true → IsErr result }
+        ensures unchanged { self.old.out_of_memory ≡ true → self.new.trail ≡ self.old.trail }
+        ensures was { OnOk result (self.old.out_of_memory ≡ false) }
         ensures onward { (a : closing.Closed) (U : trails.Trail) → Propagates (rule_of self.old.order) self.old.clauses self.new.trail a U → Propagates (rule_of self.old.order) self.old.clauses self.old.trail a U }
     {
-        if self.short {
+        if self.out_of_memory {
             return Err(AllocError);
         }
         match self
@@ -247,7 +247,7 @@ impl SearchKernel {
                 Ok(closed)
             }
             Err(error) => {
-                self.short = true;
+                self.out_of_memory = true;
                 Err(error)
             }
         }
@@ -256,15 +256,15 @@ impl SearchKernel {
     /// Makes a free literal true at the next level, without a reason, after propagation came to
     /// rest. It takes no memory.
     pub fn decide(&mut self, lit: Lit)
-        requires { self.old.short ≡ false →
+        requires { self.old.out_of_memory ≡ false →
             IsVariable self.old.vars lit.var × (has_var (literals self.old.trail) lit.var ≡ false)
             × Propagates (rule_of self.old.order) self.old.clauses self.old.trail quiet self.old.trail }
-        ensures { self.new ≡ (if self.old.short then self.old else record self.old {
+        ensures { self.new ≡ (if self.old.out_of_memory then self.old else record self.old {
           trail =
               self.old.trail ++ record { lit = lit; reason = None; level = current_level self.old.trail + 1 } ∷ [];
         }) }
     {
-        if self.short {
+        if self.out_of_memory {
             return;
         }
         self.floor = floor_of(self.floor, self.served, self.trail.entries().len());
@@ -280,15 +280,15 @@ impl SearchKernel {
     /// Takes the entries above a level off, which is below the current one. It takes no memory, and
     /// time by the entries taken off.
     pub fn back_to(&mut self, level: u32)
-        requires { self.old.short ≡ false → level < current_level self.old.trail }
+        requires { self.old.out_of_memory ≡ false → level < current_level self.old.trail }
         ensures { self.new ≡
-            (if self.old.short then self.old else record self.old { trail = up_to self.old.trail level }) }
+            (if self.old.out_of_memory then self.old else record self.old { trail = up_to self.old.trail level }) }
     {
-        if self.short {
+        if self.out_of_memory {
             return;
         }
         self.trail.back_to(level);
-        self.propagator.calm();
+        self.propagator.clear_pending();
         self.served = self.floor.min(self.trail.entries().len());
     }
 

@@ -39,18 +39,18 @@ if-false : {X : Type 0} (b : Bool) (x y : X) → b ≡ false → (if b then x el
 if-false b x y h = ap (λ c. if c then x else y) h
 
 -- the kernel decides
-pub decided : (k d : State) (l : Literal) → k.short ≡ false → d ≡ (if k.short then k else record k { trail = decide k.trail l }) → d ≡ record k { trail = decide k.trail l }
-decided k d l memory went = went ∙ if-false k.short k (record k { trail = decide k.trail l }) memory
+pub decided : (k d : State) (l : Literal) → k.out_of_memory ≡ false → d ≡ (if k.out_of_memory then k else record k { trail = decide k.trail l }) → d ≡ record k { trail = decide k.trail l }
+decided k d l memory went = went ∙ if-false k.out_of_memory k (record k { trail = decide k.trail l }) memory
 
 -- and propagates
-pub looked-at : (k d : State) (l : Literal) (a : Closed) (U : Trail) → k.short ≡ false → k.order ≡ ByPlace → d ≡ (if k.short then k else record k { trail = decide k.trail l })
+pub looked-at : (k d : State) (l : Literal) (a : Closed) (U : Trail) → k.out_of_memory ≡ false → k.order ≡ ByPlace → d ≡ (if k.out_of_memory then k else record k { trail = decide k.trail l })
     → Propagates (rule_of d.order) d.clauses d.trail a U → Propagates by_place k.clauses (decide k.trail l) a U
 looked-at k d l a U memory in_order went closes =
     subst (λ o. Propagates (rule_of o) k.clauses (decide k.trail l) a U) in_order
     (subst (λ (s : State). Propagates (rule_of s.order) s.clauses s.trail a U) (decided k d l memory went) closes)
 
 -- so level 1 is there
-pub level-1 : (k d : State) (l : Literal) (a : Closed) (U : Trail) → IsAtRest k → d ≡ (if k.short then k else record k { trail = decide k.trail l })
+pub level-1 : (k d : State) (l : Literal) (a : Closed) (U : Trail) → IsAtRest k → d ≡ (if k.out_of_memory then k else record k { trail = decide k.trail l })
     → Propagates (rule_of d.order) d.clauses d.trail a U → 0 < current_level U
 level-1 k d l a U rest went closes =
     let more = Propagates-more by_place k.clauses (decide k.trail l) U a (looked-at k d l a U rest.has_memory rest.in_order went closes) in
@@ -59,18 +59,18 @@ level-1 k d l a U rest went closes =
     omega (arith, is, same)
 
 -- and goes back to where it was
-pub restored : (k d n b : State) (l : Literal) (a : Closed) → IsAtRest k → IsLawful k.clauses k.trail → d ≡ (if k.short then k else record k { trail = decide k.trail l })
-    → (n.vars ≡ d.vars) × (n.clauses ≡ d.clauses) × (n.first ≡ d.first) × (n.order ≡ d.order) → n.short ≡ false → Propagates (rule_of d.order) d.clauses d.trail a n.trail
-    → b ≡ (if n.short then n else record n { trail = up_to n.trail 0 }) → b ≡ k
+pub restored : (k d n b : State) (l : Literal) (a : Closed) → IsAtRest k → IsLawful k.clauses k.trail → d ≡ (if k.out_of_memory then k else record k { trail = decide k.trail l })
+    → (n.vars ≡ d.vars) × (n.clauses ≡ d.clauses) × (n.first ≡ d.first) × (n.order ≡ d.order) → n.out_of_memory ≡ false → Propagates (rule_of d.order) d.clauses d.trail a n.trail
+    → b ≡ (if n.out_of_memory then n else record n { trail = up_to n.trail 0 }) → b ≡ k
 restored k d n b l a rest lawful went kept memory closes back =
     let same = decided k d l rest.has_memory went in
     let vars : n.vars ≡ k.vars = kept.0 ∙ ap (λ (s : State). s.vars) same in
     let clauses : n.clauses ≡ k.clauses = kept.1 ∙ ap (λ (s : State). s.clauses) same in
     let first : n.first ≡ k.first = kept.2 ∙ ap (λ (s : State). s.first) same in
     let order : n.order ≡ k.order = kept.3 ∙ ap (λ (s : State). s.order) same in
-    let short : n.short ≡ k.short = memory ∙ sym rest.has_memory in
+    let same_memory : n.out_of_memory ≡ k.out_of_memory = memory ∙ sym rest.has_memory in
     let trail : up_to n.trail 0 ≡ k.trail = back-at-rest k.clauses k.trail n.trail l a lawful rest.level (looked-at k d l a n.trail rest.has_memory rest.in_order went closes) in
-    back ∙ (if-false n.short n (record n { trail = up_to n.trail 0 }) memory ∙ rw (vars, clauses, first, order, short, trail) refl)
+    back ∙ (if-false n.out_of_memory n (record n { trail = up_to n.trail 0 }) memory ∙ rw (vars, clauses, first, order, same_memory, trail) refl)
 
 -- the candidates from a place on
 

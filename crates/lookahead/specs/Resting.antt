@@ -8,7 +8,7 @@ use Rattle.kernel.specs.declared.order.Order.TheVariants.{ByPlace}
 
 -- propagation by place has come to rest at level 0
 pub record IsAtRest (k : State) : Type 0 where
-  pub has_memory : k.short ≡ false
+  pub has_memory : k.out_of_memory ≡ false
   pub in_order : k.order ≡ ByPlace
   pub few : k.vars ≤ max_vars large
   pub level : current_level k.trail ≡ 0

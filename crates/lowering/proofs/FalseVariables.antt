@@ -135,5 +135,5 @@ found-asked search F K Q (Some values) is h = model-asked search F K Q values.it
 pub asked-there : (F : Formula) (o : Option Solving) (s : Solving) → o ≡ Some s → IfSome o (IsAsked F) → IsAsked F s
 asked-there F o s is h = subst (λ (u : Option Solving). IfSome u (IsAsked F)) is h
 
-pub asked-opened : (F : Formula) (plan : Plan) (s : Solving) → s ≡ record { formula = begun_by plan.search F; plan = plan; short = false } → IsAsked F s
+pub asked-opened : (F : Formula) (plan : Plan) (s : Solving) → s ≡ record { formula = begun_by plan.search F; plan = plan; out_of_memory = false } → IsAsked F s
 asked-opened F plan s is = subst (IsAsked F) (sym is) refl

@@ -56,7 +56,7 @@ by-place F d a b U o k e r =
 
 -- a kernel of the formula and of the cube without literals
 abbrev pub opened : Formula → ℕ → State
-opened F n = record { vars = F.vars; order = ByPlace; first = n; clauses = first_clauses F; trail = []; short = false }
+opened F n = record { vars = F.vars; order = ByPlace; first = n; clauses = first_clauses F; trail = []; out_of_memory = false }
 
 from-nothing : (F : Formula) (n : ℕ) (d : State) (a b : Answer) (U : Trail) → d ≡ opened F n → a ≡ b → Propagates (rule_of d.order) d.clauses d.trail (closed_of a) U
     → Propagates by_place (first_clauses F) [] (closed_of b) U
@@ -66,15 +66,15 @@ from-nothing F n d a b U is e r =
 
 -- what propagation leaves of it
 pub IsPrefix-open : (F : Formula) (M : Assignment) (n : ℕ) (q : List Literal) (d k : State) (a : Answer) → q ≡ [] → d ≡ opened F n → k.vars ≡ d.vars → k.clauses ≡ d.clauses → k.order ≡ d.order
-    → k.short ≡ false → a ≡ Quiet → Propagates (rule_of d.order) d.clauses d.trail (closed_of a) k.trail → IsPrefix F 1 M (record { cube = q; kernel = k })
-IsPrefix-open F M n q d k a none is vars clauses order short e r = subst (λ c. IsPrefix F 1 M (record { cube = c; kernel = k })) (sym none) (record {
+    → k.out_of_memory ≡ false → a ≡ Quiet → Propagates (rule_of d.order) d.clauses d.trail (closed_of a) k.trail → IsPrefix F 1 M (record { cube = q; kernel = k })
+IsPrefix-open F M n q d k a none is vars clauses order memory e r = subst (λ c. IsPrefix F 1 M (record { cube = c; kernel = k })) (sym none) (record {
   over = All-nil (λ l. IsVariable F.vars l.var);
   below = All-nil (λ l. l.var < 1);
   holds = tt;
   vars = vars ∙ ap (λ (s : State). s.vars) is;
   clauses = clauses ∙ ap (λ (s : State). s.clauses) is;
   in_order = order ∙ ap (λ (s : State). s.order) is;
-  has_memory = short;
+  has_memory = memory;
   rests = Propagates-rests by_place (first_clauses F) [] k.trail (from-nothing F n d a Quiet k.trail is e r);
   follows = λ N m t. Propagates-true by_place IsRule-by_place (value N) (first_clauses F) [] k.trail quiet m.clauses (from-nothing F n d a Quiet k.trail is e r) tt;
   settled = λ u one less. absurd (omega arith);
@@ -87,7 +87,7 @@ open-quiet F M n d U a i s is e r = no-conflict by_place IsRule-by_place (value 
 
 -- a kernel with memory in which the literal is decided
 abbrev pub decided : State → Literal → State
-decided s l = if s.short then s else record s { trail = decide s.trail l }
+decided s l = if s.out_of_memory then s else record s { trail = decide s.trail l }
 
 module _ (F : Formula) (M : Assignment) (p : Prefix) (l : Literal) (d : State) (h : IsPrefix F l.var M p) (is : d ≡ decided p.kernel l) where
   with-memory : d ≡ record p.kernel { trail = decide p.kernel.trail l }
@@ -111,15 +111,15 @@ module _ (F : Formula) (M : Assignment) (p : Prefix) (l : Literal) (d : State) (
 
   -- with one literal more, which is true in M
   pub IsPrefix-join : (q : List Literal) (k : State) (a : Answer) → IsVariable F.vars l.var → is_true (value M) l ≡ true → q ≡ p.cube ++ l ∷ [] → k.vars ≡ d.vars → k.clauses ≡ d.clauses → k.order ≡ d.order
-      → k.short ≡ false → a ≡ Quiet → Propagates (rule_of d.order) d.clauses d.trail (closed_of a) k.trail → IsPrefix F (l.var + 1) M (record { cube = q; kernel = k })
-  IsPrefix-join q k a v t longer vars clauses order short e r = subst (λ c. IsPrefix F (l.var + 1) M (record { cube = c; kernel = k })) (sym longer) (record {
+      → k.out_of_memory ≡ false → a ≡ Quiet → Propagates (rule_of d.order) d.clauses d.trail (closed_of a) k.trail → IsPrefix F (l.var + 1) M (record { cube = q; kernel = k })
+  IsPrefix-join q k a v t longer vars clauses order memory e r = subst (λ c. IsPrefix F (l.var + 1) M (record { cube = c; kernel = k })) (sym longer) (record {
     over = All-push (λ j. IsVariable F.vars j.var) p.cube l h.over v;
     below = All-push (λ j. j.var < l.var + 1) p.cube l (All-weaker (λ j. j.var < l.var) (λ j. j.var < l.var + 1) (λ j less. omega arith) p.cube h.below) (omega arith);
     holds = AreTrue-append (value M) p.cube (l ∷ []) h.holds (t, tt);
     vars = vars ∙ ap (λ (s : State). s.vars) with-memory ∙ h.vars;
     clauses = clauses ∙ ap (λ (s : State). s.clauses) with-memory ∙ h.clauses;
     in_order = order ∙ ap (λ (s : State). s.order) with-memory ∙ h.in_order;
-    has_memory = short;
+    has_memory = memory;
     rests = Propagates-rests by_place (first_clauses F) d.trail k.trail (from-prefix a Quiet k.trail e r);
     follows = λ N n j. Propagates-true by_place IsRule-by_place (value N) (first_clauses F) d.trail k.trail quiet n.clauses (from-prefix a Quiet k.trail e r)
         (true-there N n (AreTrue-front (value N) p.cube (l ∷ []) j) (AreTrue-back (value N) p.cube (l ∷ []) j).0);

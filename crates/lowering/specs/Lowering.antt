@@ -36,7 +36,7 @@ pub record IsPrefix (F : Formula) (x : ℕ) (M : Assignment) (p : Prefix) : Type
   pub vars : p.kernel.vars ≡ F.vars
   pub clauses : p.kernel.clauses ≡ first_clauses F
   pub in_order : p.kernel.order ≡ ByPlace
-  pub has_memory : p.kernel.short ≡ false
+  pub has_memory : p.kernel.out_of_memory ≡ false
   pub rests : Propagates by_place (first_clauses F) p.kernel.trail quiet p.kernel.trail
   pub follows : (N : Assignment) → Satisfies (searched F) N → AreTrue (value N) p.cube → AreTrue (value N) (literals p.kernel.trail)
   pub settled : (u : ℕ) → 1 ≤ u → u < x → has_var (literals p.kernel.trail) u ≡ true

@@ -9,4 +9,4 @@ use Rattle.replay.specs.declared.splits.LeastSplits.{LeastSplits}
 pub record IsReady (F : Formula) (s : LeastSplits) : Type 0 where
   pub vars : s.kernel.vars ≡ F.vars
   pub in_order : s.kernel.order ≡ ByNumber
-  pub clauses : s.kernel.short ≡ false → take s.kernel.first s.kernel.clauses ≡ first_clauses F
+  pub clauses : s.kernel.out_of_memory ≡ false → take s.kernel.first s.kernel.clauses ≡ first_clauses F

@@ -176,7 +176,7 @@ are_true-front m [] c h = refl
 are_true-front m (d ∷ K) c h = and-true (is_true_clause m d) (are_true m K) (and-left (is_true_clause m d) (are_true m (K ++ c ∷ [])) h) (are_true-front m K c (and-right (is_true_clause m d) (are_true m (K ++ c ∷ [])) h))
 
 -- the parts of the search beside the kernel
-pub IsFit-kernel : (s : Search) (k : State) → IsFit s → k.vars ≡ s.kernel.vars → k.order ≡ s.kernel.order → k.short ≡ false → IsFit (record s { kernel = k })
+pub IsFit-kernel : (s : Search) (k : State) → IsFit s → k.vars ≡ s.kernel.vars → k.order ≡ s.kernel.order → k.out_of_memory ≡ false → IsFit (record s { kernel = k })
 IsFit-kernel s k h vars order memory = record {
   memory = memory;
   order = order ∙ h.order;
@@ -213,7 +213,7 @@ IsAsked-with F A s t h kernel facts lessons choice marked assumed = record {
 }
 
 -- propagation
-pub IsAsked-Propagates : (F : Formula) (A : List Literal) (s : Search) (k : State) (a : Closed) → IsAsked F A s → k.vars ≡ s.kernel.vars → k.clauses ≡ s.kernel.clauses → k.order ≡ s.kernel.order → k.short ≡ false
+pub IsAsked-Propagates : (F : Formula) (A : List Literal) (s : Search) (k : State) (a : Closed) → IsAsked F A s → k.vars ≡ s.kernel.vars → k.clauses ≡ s.kernel.clauses → k.order ≡ s.kernel.order → k.out_of_memory ≡ false
     → Propagates by_place s.kernel.clauses s.kernel.trail a k.trail → IsAsked F A (record s { kernel = k })
 IsAsked-Propagates F A s k a h vars clauses order memory closes = record {
   fit = IsFit-kernel s k h.fit vars order memory;

@@ -216,7 +216,7 @@ pub IsLoaded-attached : (K : List Clause) (loaded place : ℕ) (s t : Search) (k
     → t.kernel ≡ k → t.facts ≡ s.facts → t.lessons ≡ s.lessons → t.choice ≡ s.choice → t.marked ≡ s.marked → IsLoaded K (take place K) t
 IsLoaded-attached K loaded place s t k h attached same kernel facts lessons choice marked = record {
   fit = record {
-    memory = ap (λ (x : State). x.short) kernel ∙ same.memory;
+    memory = ap (λ (x : State). x.out_of_memory) kernel ∙ same.memory;
     order = ap (λ (x : State). x.order) kernel ∙ (same.order ∙ h.fit.order);
     few = subst (λ v. v ≤ max_vars large) (sym vars) h.fit.few;
     lessons = ap (λ (x : Taught). x.vars) lessons ∙ (h.fit.lessons ∙ sym vars);

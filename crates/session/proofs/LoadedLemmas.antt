@@ -116,11 +116,11 @@ IsLoaded-settled F A s facts h level is = record {
 
 -- the kernel is opened anew over D, which stands for the clauses that were added and some learnt ones
 pub IsLoaded-renewed : (K B D : List Clause) (s t : Search) (room : ℕ) → (E : List Clause) × IsLoaded K E s → IsPut K B (length K) s.facts → IsPutBehind s.kernel.clauses B D
-    → t.kernel ≡ record { vars = room; order = ByPlace; first = length D; clauses = D; trail = []; short = false } → t.facts ≡ s.facts → t.lessons.vars ≡ room → HasChoice room t.choice → length t.marked.items ≡ room + 1
+    → t.kernel ≡ record { vars = room; order = ByPlace; first = length D; clauses = D; trail = []; out_of_memory = false } → t.facts ≡ s.facts → t.lessons.vars ≡ room → HasChoice room t.choice → length t.marked.items ≡ room + 1
     → s.kernel.vars ≤ room → room ≤ max_vars large → IsLoaded K K t
 IsLoaded-renewed K B D s t room was put behind kernel facts lessons choice marked more few = record {
   fit = record {
-    memory = ap (λ (k : State). k.short) kernel;
+    memory = ap (λ (k : State). k.out_of_memory) kernel;
     order = ap (λ (k : State). k.order) kernel;
     few = subst (λ v. v ≤ max_vars large) (sym vars) few;
     lessons = lessons ∙ sym vars;

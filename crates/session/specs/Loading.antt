@@ -11,7 +11,7 @@ use Rattle.session.specs.Choosing.{HasChoice}
 
 -- the parts of a search are for the same variables
 pub record IsFit (s : Search) : Type 0 where
-  pub memory : s.kernel.short ≡ false
+  pub memory : s.kernel.out_of_memory ≡ false
   pub order : s.kernel.order ≡ ByPlace
   pub few : s.kernel.vars ≤ max_vars large
   pub lessons : s.lessons.vars ≡ s.kernel.vars
@@ -57,4 +57,4 @@ pub record IsAttached (K : List Clause) (from place : ℕ) (old new : List Claus
 pub record IsSameKernel (old new : State) : Type 0 where
   pub vars : new.vars ≡ old.vars
   pub order : new.order ≡ old.order
-  pub memory : new.short ≡ false
+  pub memory : new.out_of_memory ≡ false

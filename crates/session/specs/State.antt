@@ -7,4 +7,4 @@ use Rattle.theory.specs.Truth.{Formula}
 pub record State : Type 0 where
   pub formula : Formula
   pub steps : ℕ
-  pub short : Bool
+  pub out_of_memory : Bool

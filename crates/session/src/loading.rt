@@ -54,7 +54,7 @@ fn negations_but_last(alloc: Global, lits: &[Lit]) -> Result<Cube, AllocError>
 /// Puts a clause of distinct variables behind the others. It takes time by its literals, by the
 /// trail, and by the kernel's clauses of one literal.
 fn attach(alloc: Global, kernel: &mut SearchKernel, lits: &[Lit]) -> Result<(), AllocError>
-    requires memory { kernel.old.short ≡ false }
+    requires memory { kernel.old.out_of_memory ≡ false }
     requires some { 1 ≤ length lits.now }
     requires distinct { are_distinct lits.now ≡ true }
     requires over { IsOver kernel.old.vars lits.now }
@@ -76,7 +76,7 @@ fn put_clause(
     lits: &mut Vec<Lit>,
     clause: &[Lit],
 ) -> Result<(), AllocError>
-    requires memory { kernel.old.short ≡ false }
+    requires memory { kernel.old.out_of_memory ≡ false }
     requires some { 1 ≤ length clause.now }
     requires over { IsOver kernel.old.vars clause.now }
     requires room { held.old.vars ≡ kernel.old.vars }
@@ -102,7 +102,7 @@ pub(crate) fn put_from(
     formula: &GrowingFormula,
     from: usize,
 ) -> Result<bool, AllocError>
-    requires memory { kernel.old.short ≡ false }
+    requires memory { kernel.old.out_of_memory ≡ false }
     requires room { formula.now.vars ≤ kernel.old.vars }
     requires few { kernel.old.vars < 2 ^ 31 }
     ensures all { IfOk result (λ all. all ≡ true → IsAttached formula.now.clauses from (length formula.now.clauses) kernel.old.clauses kernel.new.clauses) }

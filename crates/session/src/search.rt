@@ -67,7 +67,7 @@ pub(crate) fn open_kernel(alloc: Global, clauses: &Formula) -> Result<SearchKern
       first = length clauses.now.clauses;
       clauses = clauses.now.clauses;
       trail = [];
-      short = false;
+      out_of_memory = false;
     }) }
 {
     let root = Cube::root(alloc);
@@ -89,7 +89,7 @@ fn known(kernel: &SearchKernel, alloc: Global) -> Result<Cube, AllocError>
 
 /// Goes back to a level, unless it is the current one.
 fn back_to(kernel: &mut SearchKernel, level: u32)
-    requires memory { kernel.old.short ≡ false }
+    requires memory { kernel.old.out_of_memory ≡ false }
     requires level { level ≤ current_level kernel.old.trail }
     ensures { kernel.new ≡ record kernel.old { trail = up_to kernel.old.trail level } }
 {

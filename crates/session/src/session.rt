@@ -25,7 +25,7 @@ pub struct Session {
     // how many steps were made in all questions
     steps: u64,
     // whether a call has failed
-    short: bool,
+    out_of_memory: bool,
 }
 
 // written out, so that proofs of its owners stay short (docs/PROVING.md)
@@ -36,7 +36,7 @@ impl Drop for Session {
             search: _,
             loaded: _,
             steps: _,
-            short: _,
+            out_of_memory: _,
         } = self;
     }
 }
@@ -48,23 +48,23 @@ impl Model for Session {
 
     ghost Value = { State };
 
-    ghost view = { λ a. record { formula = a.formula; steps = a.steps; short = a.short } };
+    ghost view = { λ a. record { formula = a.formula; steps = a.steps; out_of_memory = a.out_of_memory } };
 
-    ghost invariant = { λ a. a.short ≡ false →
+    ghost invariant = { λ a. a.out_of_memory ≡ false →
         IsLoaded a.formula.clauses (take a.loaded a.formula.clauses) a.search × (a.loaded ≤ length a.formula.clauses) };
 }
 
 impl Session {
     /// No clauses over no variables. It fails where a request for memory is refused.
     pub fn open(alloc: Global) -> Result<Session, AllocError>
-        ensures { IfOk result (λ s. s ≡ record { formula = record { vars = 0; clauses = [] }; steps = 0; short = false }) }
+        ensures { IfOk result (λ s. s ≡ record { formula = record { vars = 0; clauses = [] }; steps = 0; out_of_memory = false }) }
     {
         Ok(Session {
             formula: GrowingFormula::new(alloc),
             search: Search::open(alloc)?,
             loaded: 0,
             steps: 0,
-            short: false,
+            out_of_memory: false,
         })
     }
 
@@ -75,17 +75,17 @@ impl Session {
         ensures added { OnOk result (self.new.formula.clauses ≡ self.old.formula.clauses ++ clause.now ∷ []) }
         ensures over { OnOk result (IsOver self.new.formula.vars clause.now) }
         ensures vars { self.old.formula.vars ≤ self.new.formula.vars }
-        ensures refused { OnErr result ((self.new.short ≡ true) × (self.new.formula.clauses ≡ self.old.formula.clauses)) }
-        ensures stays { self.old.short ≡ true → IsErr result }
+        ensures refused { OnErr result ((self.new.out_of_memory ≡ true) × (self.new.formula.clauses ≡ self.old.formula.clauses)) }
+        ensures stays { self.old.out_of_memory ≡ true → IsErr result }
         ensures steps { self.new.steps ≡ self.old.steps }
     {
-        if self.short {
+        if self.out_of_memory {
             return Err(AllocError);
         }
-        self.short = true; // until nothing was refused
+        self.out_of_memory = true; // until nothing was refused
         self.formula.widen(clause)?;
         self.formula.push(clause)?;
-        self.short = false;
+        self.out_of_memory = false;
         Ok(())
     }
 
@@ -102,13 +102,13 @@ impl Session {
         ensures says { IfOk result (Says self.new.formula assumptions.now ((I.may_interrupt interrupt.now ≡ true) ⊎ (2 ^ 64 - 1 ≤ self.new.steps))) }
         ensures clauses { self.new.formula.clauses ≡ self.old.formula.clauses }
         ensures vars { self.old.formula.vars ≤ self.new.formula.vars }
-        ensures refused { OnErr result (self.new.short ≡ true) }
-        ensures stays { self.old.short ≡ true → IsErr result }
+        ensures refused { OnErr result (self.new.out_of_memory ≡ true) }
+        ensures stays { self.old.out_of_memory ≡ true → IsErr result }
     {
-        if self.short {
+        if self.out_of_memory {
             return Err(AllocError);
         }
-        self.short = true; // until nothing was refused
+        self.out_of_memory = true; // until nothing was refused
         self.formula.widen(assumptions)?;
         let answer = self.search.answer(
             &self.formula,
@@ -117,7 +117,7 @@ impl Session {
             interrupt,
             &mut self.steps,
         )?;
-        self.short = false;
+        self.out_of_memory = false;
         Ok(answer)
     }
 

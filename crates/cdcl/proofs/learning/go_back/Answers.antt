@@ -31,7 +31,7 @@ pub returns-clause-kernel : goal.returns-clause-kernel
 returns-clause-kernel c =
     let k = c.args.kernel.now in
     let low = lower-level k c.requires.taught.0 c.args.learnt.now.clause.items c.args.learnt.now.level c.args.restarts c.requires.searching c.requires.taught.1 in
-    let went : c.back_to.new.self ≡ record k { trail = up_to k.trail c.args.learnt.now.level } = c.back_to.ensures ∙ if-false k.short k (record k { trail = up_to k.trail c.args.learnt.now.level }) c.requires.searching.has_memory in
+    let went : c.back_to.new.self ≡ record k { trail = up_to k.trail c.args.learnt.now.level } = c.back_to.ensures ∙ if-false k.out_of_memory k (record k { trail = up_to k.trail c.args.learnt.now.level }) c.requires.searching.has_memory in
     let learnt : c.learn.new.self ≡ record k { clauses = k.clauses ++ c.args.learnt.now.clause.items ∷ []; trail = up_to k.trail c.args.learnt.now.level } =
     c.in_ok-number.ensures.learnt ∙ (ap (λ (x : State). record x { clauses = x.clauses ++ c.deref.result.now ∷ [] }) went
     ∙ ap (λ (d : Clause). record k { clauses = k.clauses ++ d ∷ []; trail = up_to k.trail c.args.learnt.now.level }) c.deref.ensures.value) in

@@ -15,7 +15,7 @@ IsReady-opened : (order : Order) (F : Formula) (units : List Literal) (k : State
   first = length (F.clauses ++ unit_clauses units);
   clauses = F.clauses ++ unit_clauses units;
   trail = [];
-  short = false;
+  out_of_memory = false;
 } → k.vars ≤ max_vars large → IsReady order (record F { clauses = F.clauses ++ unit_clauses units }) k
 IsReady-opened order F units k opened few = subst (IsReady order (record F { clauses = F.clauses ++ unit_clauses units })) (sym opened) (record {
   has_memory = refl;

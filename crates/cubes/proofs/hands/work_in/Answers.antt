@@ -23,7 +23,7 @@ turns-init g c = record {
 pub returns-then-is_err-clause-work : goal.returns-then-is_err-clause-work
 returns-then-is_err-clause-work g c =
     let got = (rw c.in-Some-next.is at c.next-in-turns.ensures.got).1 in
-    worked-as (begun_by c.args.plan.search c.args.formula.now) c.args.plan true c.home.result.short_of_memory c.args.hand.ledger c.halt.new.self c.home.result.hand (results_by g.L.KeepsLines.lines c.round.new.self.solved.items) (results_by g.L.KeepsLines.lines c.home.result.solved.items) c.home.ensures.hand (ap (results_by g.L.KeepsLines.lines) c.home.ensures.solved) c.home.ensures.short
+    worked-as (begun_by c.args.plan.search c.args.formula.now) c.args.plan true c.home.result.short_of_memory c.args.hand.ledger c.halt.new.self c.home.result.hand (results_by g.L.KeepsLines.lines c.round.new.self.solved.items) (results_by g.L.KeepsLines.lines c.home.result.solved.items) c.home.ensures.hand (ap (results_by g.L.KeepsLines.lines) c.home.ensures.solved) c.home.ensures.short_of_memory
     (end-short (begun_by c.args.plan.search c.args.formula.now) c.args.plan c.args.hand.ledger c.turns.worker.hand.ledger c.halted-is_halted.new.self.ledger c.next-in-turns.new.hand.ledger
     c.round.new.self.hand.ledger c.halt.new.self.ledger c.halted-is_halted.result (is_ok c.round.result) c.in-Some-next.cube (results_by g.L.KeepsLines.lines c.turns.worker.solved.items) (results_by g.L.KeepsLines.lines c.round.new.self.solved.items)
     c.turns.invariant.underway (ap (λ (h : HandView). h.ledger) c.halted-is_halted.ensures.noted) got c.round.ensures.part (ap (λ (h : HandView). h.ledger) c.halt.ensures.noted))
@@ -62,7 +62,7 @@ turns-preserved g c = record {
 pub returns-clause-work : goal.returns-clause-work
 returns-clause-work g c =
     worked-as (begun_by c.args.plan.search c.args.formula.now) c.args.plan false c.home-2.result.short_of_memory c.args.hand.ledger c.match-next.worker.hand c.home-2.result.hand (results_by g.L.KeepsLines.lines c.match-next.worker.solved.items) (results_by g.L.KeepsLines.lines c.home-2.result.solved.items) c.home-2.ensures.hand (ap (results_by g.L.KeepsLines.lines) c.home-2.ensures.solved)
-    c.home-2.ensures.short
+    c.home-2.ensures.short_of_memory
     (elim c.match-next.branch [
       | in-None w ↦ absurd (search rules)
       | in-Some+then-is_halted w ↦ subst (λ (v : Worker _). HasWorked (begun_by c.args.plan.search c.args.formula.now) c.args.plan false c.args.hand.ledger v.hand.ledger (results_by g.L.KeepsLines.lines v.solved.items)) (sym w.worker-is)
@@ -97,13 +97,13 @@ returns-then-is_err-clause-home g c =
     let unhalted = GoesOn-halted first c.turns.worker.hand c.halted-is_halted.new.self c.turns.invariant.onward c.halted-is_halted.result c.if-is_halted.false c.halted-is_halted.ensures.noted in
     let taken = GoesOn-got first c.halted-is_halted.new.self c.next-in-turns.new.hand unhalted c.in-Some-next.cube got in
     let worked = GoesOn-then first c.next-in-turns.new.hand.ledger c.round.new.self.hand.ledger taken c.round.ensures.calls in
-    home-as true c.home.result.short_of_memory first c.halt.new.self c.home.result.hand c.home.ensures.hand c.home.ensures.short
+    home-as true c.home.result.short_of_memory first c.halt.new.self c.home.result.hand c.home.ensures.hand c.home.ensures.short_of_memory
     (GoesHome-at first c.round.new.self.hand c.halt.new.self worked true halt c.halt.ensures.noted tt)
 
 pub returns-clause-home : goal.returns-clause-home
 returns-clause-home g c =
     let first = c.args.hand.ledger in
-    home-as false c.home-2.result.short_of_memory first c.match-next.worker.hand c.home-2.result.hand c.home-2.ensures.hand c.home-2.ensures.short
+    home-as false c.home-2.result.short_of_memory first c.match-next.worker.hand c.home-2.result.hand c.home-2.ensures.hand c.home-2.ensures.short_of_memory
     (elim c.match-next.branch [
       | in-None w ↦ absurd (search rules)
       | in-Some+then-is_halted w ↦ subst (λ (v : Worker _). GoesHome false first v.hand.ledger) (sym w.worker-is)

@@ -35,10 +35,10 @@ returns-in-Quiet-clause-few c =
 
 pub returns-in-Quiet-clause-kept : goal.returns-in-Quiet-clause-kept
 returns-in-Quiet-clause-kept c =
-    restored c.args.kernel.now c.decide.new.self c.close.new.self c.back_to.new.self c.args.lit (closed_of c.in_ok-closed.closed) c.requires.rest c.trail-before.ensures.lawful c.decide.ensures c.in_ok-closed.ensures.kept c.in_ok-closed.ensures.short
+    restored c.args.kernel.now c.decide.new.self c.close.new.self c.back_to.new.self c.args.lit (closed_of c.in_ok-closed.closed) c.requires.rest c.trail-before.ensures.lawful c.decide.ensures c.in_ok-closed.ensures.kept c.in_ok-closed.ensures.has_memory
     c.in_ok-closed.ensures.ok c.back_to.ensures
 
 pub returns-in-Conflict-clause-kept : goal.returns-in-Conflict-clause-kept
 returns-in-Conflict-clause-kept c =
-    restored c.args.kernel.now c.decide.new.self c.close.new.self c.back_to.new.self c.args.lit (closed_of c.in_ok-closed.closed) c.requires.rest c.trail-before.ensures.lawful c.decide.ensures c.in_ok-closed.ensures.kept c.in_ok-closed.ensures.short
+    restored c.args.kernel.now c.decide.new.self c.close.new.self c.back_to.new.self c.args.lit (closed_of c.in_ok-closed.closed) c.requires.rest c.trail-before.ensures.lawful c.decide.ensures c.in_ok-closed.ensures.kept c.in_ok-closed.ensures.has_memory
     c.in_ok-closed.ensures.ok c.back_to.ensures

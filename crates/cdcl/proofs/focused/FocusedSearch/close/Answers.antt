@@ -10,7 +10,7 @@ closes c = rw c.requires.focusing.searching.in_order at c.in_ok-closed.ensures.o
 
 pub settle-requires-clause-focusing : goal.settle-requires-clause-focusing
 settle-requires-clause-focusing c =
-    IsFocusing-Propagates c.args.self.now c.close.new.self (closed_of c.in_ok-closed.closed) c.requires.focusing c.close.ensures.kept.0 c.close.ensures.kept.1 c.close.ensures.kept.2 c.close.ensures.kept.3 c.in_ok-closed.ensures.short (closes c)
+    IsFocusing-Propagates c.args.self.now c.close.new.self (closed_of c.in_ok-closed.closed) c.requires.focusing c.close.ensures.kept.0 c.close.ensures.kept.1 c.close.ensures.kept.2 c.close.ensures.kept.3 c.in_ok-closed.ensures.has_memory (closes c)
 
 pub settle-requires-clause-before : goal.settle-requires-clause-before
 settle-requires-clause-before c level =
@@ -21,5 +21,5 @@ settle-requires-clause-above c above = units-above c.args.self.now c.close.new.s
 
 pub returns : goal.returns
 returns c =
-    Closes-settled c.args.self.now c.settle.new.self c.close.new.self (closed_of c.in_ok-closed.closed) c.close.ensures.kept.0 c.close.ensures.kept.1 c.close.ensures.kept.2 c.close.ensures.kept.3 c.in_ok-closed.ensures.short
+    Closes-settled c.args.self.now c.settle.new.self c.close.new.self (closed_of c.in_ok-closed.closed) c.close.ensures.kept.0 c.close.ensures.kept.1 c.close.ensures.kept.2 c.close.ensures.kept.3 c.in_ok-closed.ensures.has_memory
     (rw c.requires.focusing.searching.in_order at c.in_ok-closed.ensures.ok) (rw c.requires.focusing.searching.in_order at c.close.ensures.onward) c.in_ok-settle.ensures

@@ -14,14 +14,14 @@ use Rattle.cdcl.proofs.focused.FocusedSearch.look_from_here.Goals as goal
 
 pub look_at_rest-requires-clause-focusing : goal.look_at_rest-requires-clause-focusing
 look_at_rest-requires-clause-focusing c =
-    IsFocusing-Propagates c.args.self.now c.close.new.self quiet c.requires.focusing c.close.ensures.kept.0 c.close.ensures.kept.1 c.close.ensures.kept.2 c.close.ensures.kept.3 c.in_ok-close.ensures.short
+    IsFocusing-Propagates c.args.self.now c.close.new.self quiet c.requires.focusing c.close.ensures.kept.0 c.close.ensures.kept.1 c.close.ensures.kept.2 c.close.ensures.kept.3 c.in_ok-close.ensures.has_memory
     (rw (c.in-Quiet.is, c.requires.focusing.searching.in_order) at c.in_ok-close.ensures.ok)
 
 pub look_at_rest-requires-clause-rest : goal.look_at_rest-requires-clause-rest
 look_at_rest-requires-clause-rest c =
     let closes : Propagates by_place c.args.self.now.kernel.clauses c.args.self.now.kernel.trail quiet c.close.new.self.trail = rw (c.in-Quiet.is, c.requires.focusing.searching.in_order) at c.in_ok-close.ensures.ok in
     record {
-      has_memory = c.in_ok-close.ensures.short;
+      has_memory = c.in_ok-close.ensures.has_memory;
       in_order = c.close.ensures.kept.3 ∙ c.requires.focusing.searching.in_order;
       few = rw c.close.ensures.kept.0 c.requires.focusing.few;
       level = (Propagates-more _ _ _ _ _ closes).2 ∙ c.requires.level;
@@ -40,7 +40,7 @@ low c = (Propagates-more _ _ _ _ _ (met c)).2 ∙ c.requires.level
 
 pub settle-requires-clause-focusing : goal.settle-requires-clause-focusing
 settle-requires-clause-focusing c =
-    IsFocusing-Propagates c.args.self.now c.close.new.self (conflict c.in-Conflict.number) c.requires.focusing c.close.ensures.kept.0 c.close.ensures.kept.1 c.close.ensures.kept.2 c.close.ensures.kept.3 c.in_ok-close.ensures.short (met c)
+    IsFocusing-Propagates c.args.self.now c.close.new.self (conflict c.in-Conflict.number) c.requires.focusing c.close.ensures.kept.0 c.close.ensures.kept.1 c.close.ensures.kept.2 c.close.ensures.kept.3 c.in_ok-close.ensures.has_memory (met c)
 
 pub settle-requires-clause-before : goal.settle-requires-clause-before
 settle-requires-clause-before c level = tt

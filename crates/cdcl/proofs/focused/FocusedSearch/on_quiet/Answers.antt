@@ -46,7 +46,7 @@ returns-in-Some-clause-next c saved budget counted h =
     let k = c.args.self.now.kernel in
     let went : c.decide.new.self ≡ record k { trail = k.trail ++ record { lit = saved_literal c.args.self.now.decisions.saved c.in-Some.var; reason = None; level = current_level k.trail + 1 } ∷ [] } =
     rw (c.literal.ensures, c.best_free.ensures.saved) at (c.decide.ensures
-    ∙ if-false k.short k (record k { trail = k.trail ++ record { lit = c.literal.result; reason = None; level = current_level k.trail + 1 } ∷ [] }) c.requires.focusing.searching.has_memory) in
+    ∙ if-false k.out_of_memory k (record k { trail = k.trail ++ record { lit = c.literal.result; reason = None; level = current_level k.trail + 1 } ∷ [] }) c.requires.focusing.searching.has_memory) in
     let one : c.from.result ≡ (if is_restarting c.args.self.now.pace.mode then 0 else 1) = c.from.ensures ∙ (c.if_stable.ensures ∙ ap (λ (m : Mode). if is_restarting m then 0 else 1) c.mode.ensures) in
     Follows-decided budget c.args.self.now _ saved c.in-Some.var c.requires.focusing counted (Propagates-says by_place k.clauses k.trail k.trail quiet c.requires.quiet)
     (sym c.best_free.ensures.best ∙ c.in-Some.is) h went c.trail-trail.ensures.lawful c.trail-trail.ensures.over c.trail-trail.ensures.clauses_over

@@ -11,7 +11,7 @@ came_to_rest c = rw (c.in-Quiet.is, c.requires.searching.in_order) at c.in_ok-cl
 
 pub on_quiet-requires-clause-searching : goal.on_quiet-requires-clause-searching
 on_quiet-requires-clause-searching c =
-    IsSearching-Propagates ByNumber c.args.self.now.kernel c.close.new.self quiet c.requires.searching c.close.ensures.kept.0 c.close.ensures.kept.1 c.close.ensures.kept.2 c.close.ensures.kept.3 c.in_ok-close.ensures.short (came_to_rest c)
+    IsSearching-Propagates ByNumber c.args.self.now.kernel c.close.new.self quiet c.requires.searching c.close.ensures.kept.0 c.close.ensures.kept.1 c.close.ensures.kept.2 c.close.ensures.kept.3 c.in_ok-close.ensures.has_memory (came_to_rest c)
 
 pub on_quiet-requires-clause-quiet : goal.on_quiet-requires-clause-quiet
 on_quiet-requires-clause-quiet c = rw c.close.ensures.kept.1 (Propagates-rests _ _ _ _ (came_to_rest c))
@@ -21,7 +21,7 @@ met c = rw (c.in-Conflict.is, c.requires.searching.in_order) at c.in_ok-close.en
 
 pub on_conflict-requires-clause-searching : goal.on_conflict-requires-clause-searching
 on_conflict-requires-clause-searching c =
-    IsSearching-Propagates ByNumber c.args.self.now.kernel c.close.new.self (conflict c.in-Conflict.number) c.requires.searching c.close.ensures.kept.0 c.close.ensures.kept.1 c.close.ensures.kept.2 c.close.ensures.kept.3 c.in_ok-close.ensures.short (met c)
+    IsSearching-Propagates ByNumber c.args.self.now.kernel c.close.new.self (conflict c.in-Conflict.number) c.requires.searching c.close.ensures.kept.0 c.close.ensures.kept.1 c.close.ensures.kept.2 c.close.ensures.kept.3 c.in_ok-close.ensures.has_memory (met c)
 
 pub on_conflict-requires-clause-conflict : goal.on_conflict-requires-clause-conflict
 on_conflict-requires-clause-conflict c = rw c.close.ensures.kept.1 (Propagates-conflict _ _ _ _ _ (met c))

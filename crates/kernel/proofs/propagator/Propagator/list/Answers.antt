@@ -1,5 +1,5 @@
 use Rattle.std.proofs.Common.{◌∙◌, ◌++◌, ◌∷◌, [], List, get_or, map, set}
-use Rattle.kernel.specs.declared.watch.Watch.{Watch}
+use Rattle.kernel.specs.declared.watches.watch.Watch.{Watch}
 use Rattle.kernel.specs.EntryLists.{entries_of}
 use Rattle.kernel.proofs.propagator.Propagator.list.Goals as goal
 

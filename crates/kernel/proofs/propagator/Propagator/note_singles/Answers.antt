@@ -1,5 +1,5 @@
 use Rattle.std.proofs.Common.{◌≡◌, ◌<◌, true, length, get_or, subst, arith}
-use Rattle.kernel.specs.declared.watch.Watched.{Watched}
+use Rattle.kernel.specs.declared.watches.watch.Watched.{Watched}
 use Rattle.kernel.specs.Keeping.{AreSinglesTo}
 use Rattle.kernel.proofs.Places.{At-get}
 use Rattle.kernel.proofs.Keeping.{singles-none, singles-more}

@@ -1,7 +1,7 @@
 use Rattle.std.proofs.Common.{◌≡◌, ◌<◌, ◌≤◌, ◌∙◌, ◌+◌, ◌∷◌, [], ◌++◌, true, ℕ, List, length, get_or, take, set, sym, ap, refl, subst, arith, Some, None}
 use Rattle.std.proofs.lemmas.List.{length-set, set-set, get_or-set_same}
 use Rattle.theory.specs.Trails.{literals}
-use Rattle.kernel.specs.declared.watch.Watch.{Watch}
+use Rattle.kernel.specs.declared.watches.watch.Watch.{Watch}
 use Rattle.cnf.specs.Lits.{code}
 use Rattle.kernel.specs.Watching.{IsNext, IsServed, Walks, Tends, AllGood, At, without_nth}
 use Rattle.kernel.specs.EntryLists.{EntryList, entries_of, nth_list}

@@ -8,7 +8,7 @@ use Rattle.kernel.proofs.search_kernel.SearchKernel.back_to.Goals as goal
 pub invariant_of-self : goal.invariant_of-self
 invariant_of-self c =
     let asked = (rw (← c.self.view_is) at c.requires) c.if-self.false in
-    let k = c.calm.ensures.kept in
+    let k = c.clear_pending.ensures.kept in
     let K = c.self.inside.propagator.clauses.given in
     let V = c.self.inside.trail.vars in
     let T = c.self.inside.trail.entries in (
@@ -16,7 +16,7 @@ invariant_of-self c =
       rw (k.0, c.back_to.ensures.vars) c.self.invariant.1,
       rw k.0 c.self.invariant.2,
       λ h. rw (k.0, c.back_to.ensures.vars, c.min-self-inside.ensures, c.entries.ensures.entries, c.back_to.ensures.entries)
-          (back-watching V c.self.inside.first K T c.self.inside.served c.self.inside.floor c.args.level (kept_of c.self.inside.propagator) (kept_of c.calm.new.self) c.self.inside.singles.items c.self.inside.empty asked
-          k.1 (ap (λ v. map entries_of v) k.2) c.calm.ensures.calm.0 c.calm.ensures.calm.1 (c.self.invariant.3 h)),
+          (back-watching V c.self.inside.first K T c.self.inside.served c.self.inside.floor c.args.level (kept_of c.self.inside.propagator) (kept_of c.clear_pending.new.self) c.self.inside.singles.items c.self.inside.empty asked
+          k.1 (ap (λ v. map entries_of v) k.2) c.clear_pending.ensures.cleared.0 c.clear_pending.ensures.cleared.1 (c.self.invariant.3 h)),
       c.self.invariant.4,
     )

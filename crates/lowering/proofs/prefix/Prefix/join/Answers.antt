@@ -12,4 +12,4 @@ unreachable-requires c =
 pub returns : goal.returns
 returns c =
     IsPrefix-join c.args.formula.now c.args.model.now c.args.self.now c.args.lit c.decide.new.self c.requires.prefix c.decide.ensures c.push.new.self c.close.new.self c.in_ok-close.field-0
-    c.requires.variable c.requires.is_true c.in_ok-push.ensures.ok c.close.ensures.kept.0 c.close.ensures.kept.1 c.close.ensures.kept.3 c.in_ok-close.ensures.short c.in-Quiet.is c.in_ok-close.ensures.ok
+    c.requires.variable c.requires.is_true c.in_ok-push.ensures.ok c.close.ensures.kept.0 c.close.ensures.kept.1 c.close.ensures.kept.3 c.in_ok-close.ensures.has_memory c.in-Quiet.is c.in_ok-close.ensures.ok

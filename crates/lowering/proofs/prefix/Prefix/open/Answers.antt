@@ -14,4 +14,4 @@ pub returns : goal.returns
 returns c =
     let opened = rw (c.requires.units, c.root-cube.ensures) at c.in_ok-kernel.ensures.opened in
     IsPrefix-open c.args.formula.now c.args.model.now _ c.root-cube.result c.in_ok-kernel.kernel c.close.new.self c.in_ok-close.field-0 c.root-cube.ensures opened c.close.ensures.kept.0
-    c.close.ensures.kept.1 c.close.ensures.kept.3 c.in_ok-close.ensures.short c.in-Quiet.is c.in_ok-close.ensures.ok
+    c.close.ensures.kept.1 c.close.ensures.kept.3 c.in_ok-close.ensures.has_memory c.in-Quiet.is c.in_ok-close.ensures.ok

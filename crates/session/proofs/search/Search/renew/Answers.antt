@@ -27,5 +27,5 @@ returns-clause-loaded c =
     IsLoaded-renewed K c.put_added.new.clauses.clauses D.clauses s _ room c.requires
     (subst (λ P. IsPut K c.put_added.new.clauses.clauses (length K) P) (ap (λ (l : State). literals l.trail) restarted ∙ literals-cube s.facts) c.in_ok-put_added.ensures.put)
     (subst (λ (x : List Clause). IsPutBehind x c.put_added.new.clauses.clauses D.clauses) (ap (λ (l : State). l.clauses) restarted) c.in_ok-put_learnt.ensures.put)
-    (c.in_ok-self.ensures ∙ ap (λ v. record { vars = v; order = ByPlace; first = length D.clauses; clauses = D.clauses; trail = []; short = false }) vars) (ap (λ (x : Search). x.facts) c.make_room.ensures.same)
+    (c.in_ok-self.ensures ∙ ap (λ v. record { vars = v; order = ByPlace; first = length D.clauses; clauses = D.clauses; trail = []; out_of_memory = false }) vars) (ap (λ (x : Search). x.facts) c.make_room.ensures.same)
     c.in_ok-make_room.ensures.lessons c.in_ok-make_room.ensures.choice c.in_ok-make_room.ensures.marked (let more = c.room_for-room.ensures.more in let same = c.vars.ensures in omega (arith, more, same)) c.room_for-room.ensures.few

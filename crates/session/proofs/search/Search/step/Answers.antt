@@ -15,7 +15,7 @@ on_quiet-requires-clause-asked c =
     let s = c.args.self.now in
     let k = c.close.new.self in
     let kept = c.close.ensures.kept in
-    IsAsked-Propagates c.args.formula.now c.args.assumptions.now s k (closed_of c.in_ok-close.field-0) c.requires kept.0 kept.1 kept.3 c.in_ok-close.ensures.short
+    IsAsked-Propagates c.args.formula.now c.args.assumptions.now s k (closed_of c.in_ok-close.field-0) c.requires kept.0 kept.1 kept.3 c.in_ok-close.ensures.has_memory
     (subst (λ (o : Order). Propagates (rule_of o) s.kernel.clauses s.kernel.trail (closed_of c.in_ok-close.field-0) k.trail) c.requires.fit.order c.in_ok-close.ensures.ok)
 
 pub on_quiet-requires-clause-quiet : goal.on_quiet-requires-clause-quiet
@@ -31,7 +31,7 @@ on_conflict-requires-clause-asked c =
     let s = c.args.self.now in
     let k = c.close.new.self in
     let kept = c.close.ensures.kept in
-    IsAsked-Propagates c.args.formula.now c.args.assumptions.now s k (closed_of c.in_ok-close.field-0) c.requires kept.0 kept.1 kept.3 c.in_ok-close.ensures.short
+    IsAsked-Propagates c.args.formula.now c.args.assumptions.now s k (closed_of c.in_ok-close.field-0) c.requires kept.0 kept.1 kept.3 c.in_ok-close.ensures.has_memory
     (subst (λ (o : Order). Propagates (rule_of o) s.kernel.clauses s.kernel.trail (closed_of c.in_ok-close.field-0) k.trail) c.requires.fit.order c.in_ok-close.ensures.ok)
 
 pub on_conflict-requires-clause-conflict : goal.on_conflict-requires-clause-conflict

@@ -1,6 +1,0 @@
-use Rattle.std.proofs.Common.{◌≡◌, false, All, take}
-use Rattle.cubes_tests.proofs.harvests.is_short.Given as goal
-
--- none so far
-abbrev pub invariant-loop-worked : goal.invariant-loop-worked
-invariant-loop-worked l = All (λ w. w.short_of_memory ≡ false) (take l.worked-index l.works)
