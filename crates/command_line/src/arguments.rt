@@ -10,6 +10,7 @@ use crate::spread_arguments::{
 use clap::error::ErrorKind;
 use clap::{Arg, ArgAction, ArgMatches, Command, Error};
 use cnf::Limits;
+use cubes::HandCount;
 use std::alloc::{AllocError, Global};
 
 /// The name by which a command line asks for standard input.
@@ -20,9 +21,6 @@ const ORDERED_BUDGET: u32 = 1000;
 
 /// The most cubes that a formula may be divided into.
 pub const MAX_DIVIDE: u32 = 65_536;
-
-/// The most hands.
-const MAX_HANDS: u32 = 16;
 
 /// Whether something is wanted.
 static WHETHER: [&str; 2] = ["yes", "no"];
@@ -363,8 +361,8 @@ fn asked_in(matches: &ArgMatches<'_>) -> Option<Asked> {
         Some(cubes) if cubes > MAX_DIVIDE => return None,
         divide => divide,
     };
-    let hands = matches.get_one::<u32>("hands")?;
-    if budget < 1 || budget > greatest_budget(choice) || hands < 1 || hands > MAX_HANDS {
+    let hands = HandCount::new(matches.get_one::<u32>("hands")? as usize)?.get();
+    if budget < 1 || budget > greatest_budget(choice) {
         return None;
     }
     Some(Asked {
@@ -373,7 +371,7 @@ fn asked_in(matches: &ArgMatches<'_>) -> Option<Asked> {
         divide,
         simplify: simplify_in(matches),
         any_model: matches.get_flag("any-model"),
-        hands: hands as usize,
+        hands,
         seconds: matches.get_one::<u32>("seconds"),
         limits: limits_of(matches),
     })

@@ -6,6 +6,7 @@ ghost use Rattle.cdcl.specs.declared.plan.Search.TheVariants as search;
 
 use cdcl::Plan;
 use cnf::Limits;
+use cubes::HandCount;
 use strategies::Strategy;
 
 /// The budget of the focused search, where none is asked for: so much that a formula which isn't
@@ -54,11 +55,10 @@ pub struct Asked {
 pub struct Effort {
     pub limits: Limits,
     pub strategy: Strategy,
-    /// How many hands solve it, 1 to 16.
-    pub hands: usize,
+    /// How many hands solve it.
+    pub hands: HandCount,
     /// After how many seconds a run ends without a verdict, if it isn't solved by then.
     pub seconds: Option<u32>,
-    ghost hands_fit: { (1 ≤ hands) × (hands ≤ 16) },
 }
 
 /// The greatest budget that may be asked for.
@@ -140,7 +140,7 @@ impl Asked {
                 self.simplify,
                 self.any_model,
             ),
-            hands: self.hands,
+            hands: HandCount::of(self.hands),
             seconds: self.seconds,
         }
     }

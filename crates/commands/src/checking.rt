@@ -19,8 +19,8 @@ use lrat::Variables;
 use lrat_forms::{ProofText, Uncommented};
 use messages::{Command, ProofSource, Refused};
 use noticed::{NoticedReader, NoticedWriter};
-use runs::{CheckRules, Checked, RunFault, Told, check_told};
-use statistics::{Board, Unobserved, print_check_statistics, show_progress};
+use runs::{CheckRules, Checked, RunFault, Told, check_with};
+use statistics::{Board, print_check_statistics, show_progress};
 use std::alloc::Global;
 use std::fs::Files;
 use std::io::{Read, Write};
@@ -28,6 +28,7 @@ use std::sync::Wait;
 use std::thread;
 use std::thread::Threads;
 use std::time::Clock;
+use strategies::Unobserved;
 
 /// The status of a proof that is accepted.
 const ACCEPTED: u8 = 0;
@@ -121,7 +122,7 @@ fn check_opened<
     ensures { CheckSays (limits_of rules.limits) rules.variables (F.remaining formula) (P.remaining proof) (W.contents answer.old) (W.contents answer.new) (checked_by result) }
 {
     if !shown.progress && !shown.stats {
-        return check_told(alloc, formula, proof, rules, answer, &Unobserved);
+        return check_with(alloc, formula, proof, rules, answer, &Unobserved);
     }
     let board = Board::of_proof(rt, size);
     let result = if shown.progress {

@@ -13,7 +13,7 @@ fn note<E: Write>(out: &mut E, said: &str, what: &str) {
 
 /// By which search a formula is about to be solved.
 fn note_search<E: Write>(out: &mut E, effort: &Effort) {
-    let (hands, plan) = (effort.hands, effort.strategy.plan());
+    let (hands, plan) = (effort.hands.get(), effort.strategy.plan());
     if let Some(first) = effort.strategy.first() {
         let _ = writeln!(
             out,

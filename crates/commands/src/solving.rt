@@ -22,7 +22,7 @@ use command_line::{Effort, FormulaFile, Shown};
 use cubes::OpenGate;
 use messages::{Command, say_repeats, say_same_file, say_unproved};
 use noticed::{NoticedReader, NoticedWriter};
-use runs::{RunFault, TimeLimit, Verdict, answer_limited_within};
+use runs::{Options, RunFault, TimeLimit, Verdict, answer_with};
 use statistics::{Board, Manner, print_statistics, show_progress};
 use std::alloc::Global;
 use std::fs::Files;
@@ -31,6 +31,7 @@ use std::sync::Wait;
 use std::thread;
 use std::thread::Threads;
 use std::time::Clock;
+use strategies::Unobserved;
 use whole_file::Locks;
 
 /// The status of a satisfiable formula.
@@ -136,7 +137,7 @@ fn run_shown<
 ) -> Result<Option<Verdict>, RunFault>
     ensures { LimitedSays (limits_of effort.limits) (IsSome effort.seconds) (I.remaining input) effort.strategy (option_map P.contents proof) (W.contents answer.old) (W.contents answer.new) result }
 {
-    let (limits, hands) = (effort.limits, effort.hands);
+    let (limits, hands) = (effort.limits, effort.hands.get());
     let board = Board::of_strategy(rt, effort.strategy, hands, proof.is_some());
     let result = match manner {
         Some(manner) => run_beside(
@@ -164,12 +165,15 @@ fn run_plain<R: Files + Threads + Wait + Clock + Sync, I: Read + Drop, W: Write>
 ) -> Result<Option<Verdict>, RunFault>
     ensures { LimitedSays (limits_of effort.limits) (IsSome effort.seconds) (I.remaining input) effort.strategy None (W.contents answer.old) (W.contents answer.new) result }
 {
-    let (limits, gate) = (effort.limits, OpenGate);
-    let (strategy, hands) = (effort.strategy, effort.hands);
-    let limit = TimeLimit::begin(rt, effort.seconds);
-    answer_limited_within(
-        rt, alloc, input, limits, answer, strategy, hands, &gate, &limit,
-    )
+    let options = Options {
+        limits: effort.limits,
+        strategy: effort.strategy,
+        hands: effort.hands,
+        gate: &OpenGate,
+        limit: &TimeLimit::begin(rt, effort.seconds),
+        observer: &Unobserved,
+    };
+    answer_with(rt, alloc, input, &options, answer)
 }
 
 /// Whether it is to be told if a limit of time was reached while a model was lowered.

@@ -1,5 +1,4 @@
-//! Runs that are watched: they write what `run_limited_within`, `answer_limited_within` and
-//! `check_run_within` write.
+//! Runs and checks that are counted on a board.
 ghost use Rattle.std.specs.Prelude.{IsSome, option_map};
 ghost use Rattle.cnf.specs.Limits.{limits_of};
 ghost use Rattle.runs.specs.Check.{CheckSays, checked_by};
@@ -7,8 +6,8 @@ ghost use Rattle.runs.specs.Limited.{LimitedSays};
 
 use command_line::Effort;
 use runs::{
-    CheckRules, RunFault, TimeLimit, Told, Verdict, answer_limited_observed, check_told,
-    run_limited_observed,
+    CheckRules, Limit, Options, RunFault, TimeLimit, Told, Verdict, answer_with, check_with,
+    run_with,
 };
 use statistics::{Board, CountedReader, CountedWriter, TextWatch, Watch};
 use std::alloc::Global;
@@ -18,40 +17,42 @@ use std::sync::Wait;
 use std::thread::Threads;
 use std::time::Clock;
 
-/// A run that is counted on a board. Without a writer for the proof, none is made.
-fn run_on_board<
+/// A run that is watched. Without a writer for the proof, none is made.
+fn run_watched<
+    'x,
     R: Files + Threads + Wait + Clock + Sync,
     I: Read + Drop,
     W: Write,
     P: Write + Drop,
+    L: Limit + Sync,
 >(
-    rt: &R,
-    alloc: Global,
-    board: &Board,
+    watch: &'x Watch<'x, R>,
+    limit: &'x L,
     effort: Effort,
     input: I,
     answer: &mut W,
     proof: Option<P>,
 ) -> Result<Option<Verdict>, RunFault>
-    ensures { LimitedSays (limits_of effort.limits) (IsSome effort.seconds) (I.remaining input) effort.strategy (option_map P.contents proof) (W.contents answer.old) (W.contents answer.new) result }
+    ensures { LimitedSays (limits_of effort.limits) (L.is_reached limit.now) (I.remaining input) effort.strategy (option_map P.contents proof) (W.contents answer.old) (W.contents answer.new) result }
 {
-    let watch = Watch { rt, alloc, board };
-    let limit = TimeLimit::begin(rt, effort.seconds);
-    let (limits, strategy, hands) = (effort.limits, effort.strategy, effort.hands);
+    let options = Options {
+        limits: effort.limits,
+        strategy: effort.strategy,
+        hands: effort.hands,
+        gate: watch,
+        limit,
+        observer: watch,
+    };
+    let (rt, alloc) = (watch.rt, watch.alloc);
     match proof {
         Some(proof) => {
             let mut counted = CountedWriter {
                 inner: proof,
-                counter: &watch,
+                counter: watch,
             };
-            let proof = &mut counted;
-            run_limited_observed(
-                rt, alloc, input, limits, answer, proof, strategy, hands, &watch, &limit, &watch,
-            )
+            run_with(rt, alloc, input, &options, answer, &mut counted)
         }
-        None => answer_limited_observed(
-            rt, alloc, input, limits, answer, strategy, hands, &watch, &limit, &watch,
-        ),
+        None => answer_with(rt, alloc, input, &options, answer),
     }
 }
 
@@ -73,7 +74,9 @@ pub(crate) fn run_counted<
 ) -> Result<Option<Verdict>, RunFault>
     ensures { LimitedSays (limits_of effort.limits) (IsSome effort.seconds) (I.remaining input) effort.strategy (option_map P.contents proof) (W.contents answer.old) (W.contents answer.new) result }
 {
-    let result = run_on_board(rt, alloc, board, effort, input, answer, proof);
+    let watch = Watch { rt, alloc, board };
+    let limit = TimeLimit::begin(rt, effort.seconds);
+    let result = run_watched(&watch, &limit, effort, input, answer, proof);
     board.end_progress(rt);
     result
 }
@@ -100,7 +103,7 @@ pub(crate) fn check_counted<R: Files + Wait + Clock, F: Read + Drop, P: Read + D
         inner: proof,
         counter: &watch,
     };
-    let result = check_told(alloc, text, counted, rules, answer, &watch);
+    let result = check_with(alloc, text, counted, rules, answer, &watch);
     watch.checked();
     board.end_progress(rt);
     result

@@ -20,6 +20,7 @@ ghost use Rattle.cubes.specs.Solved.{AreTrueResults, solved_of};
 
 use crate::closing::close_all;
 use crate::gate::{Gate, OpenGate};
+use crate::hand_count::HandCount;
 use crate::hands::{Worked, work_in};
 use crate::results::{assemble_in, gather_in};
 use crate::solved::Solved;
@@ -130,5 +131,6 @@ pub fn solve_with<R: Threads + Wait + Clock + Sync, G: Gate + Sync>(
     ensures result { IfOk result (λ t. IsResultOf (searched formula.now) (ordered_within budget) t) }
     ensures says { IfOk result (λ t. Says ordered formula.now t) }
 {
+    let hands = HandCount::of(hands);
     solve_in(rt, alloc, formula, Plan::ordered(budget), hands, gate)
 }

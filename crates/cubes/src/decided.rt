@@ -1,8 +1,9 @@
 //! Whether a formula is satisfiable, with no line of a refuted cube kept.
-ghost use Rattle.std.specs.Prelude.{◌≤◌, IfOk, MatchOption};
+ghost use Rattle.std.specs.Prelude.{IfOk, MatchOption};
 ghost use Rattle.cubes.specs.Decided.{IsModelOf, IsRefuted};
 
 use crate::gate::Gate;
+use crate::hand_count::HandCount;
 use crate::threads::solve_in;
 use crate::tree::Tree;
 use cdcl::{Plan, Unkept};
@@ -21,10 +22,9 @@ pub fn decide_by_plan<R: Threads + Wait + Clock + Sync, G: Gate + Sync>(
     alloc: Global,
     formula: &Formula,
     plan: Plan,
-    hands: usize,
+    hands: HandCount,
     gate: &G,
 ) -> Result<Option<Vec<bool>>, AllocError>
-    requires { (1 ≤ hands) × (hands ≤ 16) }
     ensures { IfOk result (λ found. MatchOption found (IsRefuted formula.now plan) (λ values. IsModelOf formula.now plan values.items)) }
 {
     let tree: Tree<Unkept> = solve_in(rt, alloc, formula, plan, hands, gate)?;

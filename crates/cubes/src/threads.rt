@@ -10,6 +10,7 @@ ghost use Rattle.cubes.specs.Solved.{results_by};
 
 use crate::closing::close_all;
 use crate::gate::Gate;
+use crate::hand_count::HandCount;
 use crate::hands::{Worked, work_in};
 use crate::preparing::{Beginning, prepare};
 use crate::results::{assemble_in, gather_in};
@@ -133,15 +134,14 @@ fn solve_from<L: KeepsLines + Send, R: Threads + Wait + Clock + Sync, G: Gate + 
     formula: &Formula,
     plan: Plan,
     root: Root,
-    hands: usize,
+    hands: HandCount,
     gate: &G,
 ) -> Result<Tree<L>, AllocError>
-    requires hands { (1 ≤ hands) × (hands ≤ 16) }
     requires root { IsRootOf (begun_by plan.search formula.now) plan root }
     ensures result { IfOk result (λ t. IsResultBy L.lines (begun_by plan.search formula.now) plan t) }
     ensures says { IfOk result (λ t. Says plan.search formula.now t) }
 {
-    match pool::open(alloc, hands, formula.vars(), Cube::root(alloc)) {
+    match pool::open(alloc, hands.get(), formula.vars(), Cube::root(alloc)) {
         Ok((pool, all)) => solve_by_hands(rt, alloc, formula, plan, root, gate, pool, all),
         Err(_) => solve_here(alloc, formula, plan, root, gate),
     }
@@ -153,10 +153,9 @@ pub(crate) fn solve_in<L: KeepsLines + Send, R: Threads + Wait + Clock + Sync, G
     alloc: Global,
     formula: &Formula,
     plan: Plan,
-    hands: usize,
+    hands: HandCount,
     gate: &G,
 ) -> Result<Tree<L>, AllocError>
-    requires hands { (1 ≤ hands) × (hands ≤ 16) }
     ensures result { IfOk result (λ t. IsResultBy L.lines (begun_by plan.search formula.now) plan t) }
     ensures says { IfOk result (λ t. Says plan.search formula.now t) }
 {
@@ -175,10 +174,9 @@ pub fn solve_by_plan<R: Threads + Wait + Clock + Sync, G: Gate + Sync>(
     alloc: Global,
     formula: &Formula,
     plan: Plan,
-    hands: usize,
+    hands: HandCount,
     gate: &G,
 ) -> Result<Tree<Row>, AllocError>
-    requires hands { (1 ≤ hands) × (hands ≤ 16) }
     ensures result { IfOk result (λ t. IsResultOf (begun_by plan.search formula.now) plan t) }
     ensures says { IfOk result (λ t. Says plan.search formula.now t) }
 {

@@ -1,10 +1,9 @@
 //! What a gate is told of what the hands have done.
-ghost use Rattle.std.specs.Prelude.{◌≤◌};
 
 use crate::plans::plan_of;
 use cdcl::{Counts, Plan, Search};
 use cnf::{Formula, read_formula};
-use cubes::{Gate, solve_by_plan};
+use cubes::{Gate, HandCount, solve_by_plan};
 use kernel::Cube;
 use samples::{EIGHT, FIVE, FOUR};
 use std::alloc::Global;
@@ -138,10 +137,8 @@ fn done_by<R: Threads + Wait + Clock + Sync>(
     alloc: Global,
     formula: &Formula,
     plan: Plan,
-    hands: usize,
-) -> Result<(Done, Done), Fail>
-    requires { (1 ≤ hands) × (hands ≤ 16) }
-{
+    hands: HandCount,
+) -> Result<(Done, Done), Fail> {
     let gate = Told {
         rt,
         before: Mutex::new(Counts::none()),
@@ -157,10 +154,8 @@ fn is_told<R: Threads + Wait + Clock + Sync>(
     rt: &R,
     alloc: Global,
     row: &Row,
-    hands: usize,
-) -> Result<bool, Fail>
-    requires { (1 ≤ hands) × (hands ≤ 16) }
-{
+    hands: HandCount,
+) -> Result<bool, Fail> {
     let (text, search, budget, divide, before, wanted) = *row;
     let formula = read_formula(alloc, text.as_bytes())?;
     let plan = plan_of(search, budget, divide);
@@ -172,7 +167,7 @@ fn a_gate_is_told_what_is_done(rt: HostRuntime) -> Result<(), Fail> {
     for row in &ROWS {
         for hands in [1, 2, 4] {
             assert!(rt;
-                is_told(&rt, rt.alloc(), row, hands)?,
+                is_told(&rt, rt.alloc(), row, HandCount::of(hands))?,
                 "{hands} hands at {}",
                 row.0
             );

@@ -1,10 +1,9 @@
 //! Worked rows: what is decided of a formula with no line kept, with little budget and with much,
 //! beside the tree that `solve_by_plan` gives.
-ghost use Rattle.std.specs.Prelude.{◌≤◌};
 
 use cdcl::Plan;
 use cnf::{Formula, read_formula};
-use cubes::{OpenGate, Tree, decide_by_plan, solve_by_plan};
+use cubes::{HandCount, OpenGate, Tree, decide_by_plan, solve_by_plan};
 use samples::{EIGHT, FOUR_PURE, SIXTEEN, TWO_MODELS};
 use std::alloc::Global;
 use std::sync::Wait;
@@ -30,11 +29,9 @@ fn is_as_solved<R: Threads + Wait + Clock + Sync>(
     alloc: Global,
     formula: &Formula,
     plan: Plan,
-    hands: usize,
+    hands: HandCount,
     found: Option<&[bool]>,
-) -> Result<bool, Fail>
-    requires { (1 ≤ hands) × (hands ≤ 16) }
-{
+) -> Result<bool, Fail> {
     match solve_by_plan(rt, alloc, formula, plan, hands, &OpenGate)? {
         Tree::Model(values) => Ok(found == Some(values.as_slice())),
         Tree::Refuted(_) => Ok(found.is_none()),
@@ -47,10 +44,8 @@ fn decides<R: Threads + Wait + Clock + Sync>(
     alloc: Global,
     row: &Row,
     plan: Plan,
-    hands: usize,
-) -> Result<bool, Fail>
-    requires { (1 ≤ hands) × (hands ≤ 16) }
-{
+    hands: HandCount,
+) -> Result<bool, Fail> {
     let (text, wanted) = *row;
     let formula = read_formula(alloc, text.as_bytes())?;
     let found = decide_by_plan(rt, alloc, &formula, plan, hands, &OpenGate)?;
@@ -65,7 +60,13 @@ fn decides_as_it_solves(rt: HostRuntime) -> Result<(), Fail> {
     for row in &ROWS {
         for hands in [1, 2, 8] {
             for budget in [1, 1000] {
-                let is_decided = decides(&rt, rt.alloc(), row, Plan::ordered(budget), hands)?;
+                let is_decided = decides(
+                    &rt,
+                    rt.alloc(),
+                    row,
+                    Plan::ordered(budget),
+                    HandCount::of(hands),
+                )?;
                 assert!(rt;
                     is_decided,
                     "{hands} hands, budget {budget}, at {:?}",

@@ -1,10 +1,9 @@
 //! A gate that counts: each cube of a tree is solved once, whatever the hands.
-ghost use Rattle.std.specs.Prelude.{◌≤◌};
 
 use crate::plans::plan_of;
 use cdcl::{Plan, Search};
 use cnf::{Formula, read_formula};
-use cubes::{Gate, solve_by_plan};
+use cubes::{Gate, HandCount, solve_by_plan};
 use kernel::Cube;
 use samples::{EIGHT, FOUR, SIXTEEN, reads};
 use std::alloc::Global;
@@ -103,11 +102,9 @@ fn is_solved_once<R: Threads + Wait + Clock + Sync>(
     alloc: Global,
     formula: &Formula,
     plan: Plan,
-    hands: usize,
+    hands: HandCount,
     cubes: Cubes,
-) -> Result<bool, Fail>
-    requires { (1 ≤ hands) × (hands ≤ 16) }
-{
+) -> Result<bool, Fail> {
     let gate = Counter {
         before: Passed::none(cubes),
         after: Passed::none(cubes),
@@ -121,10 +118,8 @@ fn is_solved_once_each_time<R: Threads + Wait + Clock + Sync>(
     rt: &R,
     alloc: Global,
     row: &Row,
-    hands: usize,
-) -> Result<bool, Fail>
-    requires { (1 ≤ hands) × (hands ≤ 16) }
-{
+    hands: HandCount,
+) -> Result<bool, Fail> {
     let (text, search, budget, divide, cubes) = *row;
     let formula = read_formula(alloc, text.as_bytes())?;
     let plan = plan_of(search, budget, divide);
@@ -140,7 +135,7 @@ fn is_solved_once_each_time<R: Threads + Wait + Clock + Sync>(
 fn each_cube_is_solved_once(rt: HostRuntime) -> Result<(), Fail> {
     for row in &TREES {
         for hands in [1, 2, 4] {
-            let is_once = is_solved_once_each_time(&rt, rt.alloc(), row, hands)?;
+            let is_once = is_solved_once_each_time(&rt, rt.alloc(), row, HandCount::of(hands))?;
             assert!(rt; is_once, "{hands} hands at {}", row.0);
         }
     }

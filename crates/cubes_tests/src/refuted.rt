@@ -1,10 +1,9 @@
 //! What a gate is told of the first search, and of cubes that are refuted.
-ghost use Rattle.std.specs.Prelude.{◌≤◌};
 
 use crate::plans::plan_of;
 use cdcl::{FirstAnswer, FirstSearch, Plan, Search};
 use cnf::{Formula, read_formula};
-use cubes::{Gate, solve_by_plan};
+use cubes::{Gate, HandCount, solve_by_plan};
 use kernel::Cube;
 use samples::{EIGHT, FIVE, FOUR};
 use std::alloc::Global;
@@ -74,10 +73,8 @@ fn told_by<R: Threads + Wait + Clock + Sync>(
     alloc: Global,
     formula: &Formula,
     plan: Plan,
-    hands: usize,
-) -> Result<(First, u64), Fail>
-    requires { (1 ≤ hands) × (hands ≤ 16) }
-{
+    hands: HandCount,
+) -> Result<(First, u64), Fail> {
     let gate = Told {
         rt,
         first: Mutex::new(None),
@@ -94,10 +91,8 @@ fn tell<R: Threads + Wait + Clock + Sync>(
     rt: &R,
     alloc: Global,
     row: &Row,
-    hands: usize,
-) -> Result<bool, Fail>
-    requires { (1 ≤ hands) × (hands ≤ 16) }
-{
+    hands: HandCount,
+) -> Result<bool, Fail> {
     let (text, budget, divide, first) = *row;
     let formula = read_formula(alloc, text.as_bytes())?;
     let plan = plan_of(Search::Focused, budget, divide);
@@ -109,7 +104,7 @@ fn all_of_a_tree_without_a_model_is_refuted(rt: HostRuntime) -> Result<(), Fail>
     for row in &ROWS {
         for hands in [1, 2, 4] {
             assert!(rt;
-                tell(&rt, rt.alloc(), row, hands)?,
+                tell(&rt, rt.alloc(), row, HandCount::of(hands))?,
                 "{hands} hands at {}",
                 row.0
             );

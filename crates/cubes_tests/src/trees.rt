@@ -1,11 +1,10 @@
 //! Worked rows: trees that are gathered from results, and those that hands solve, with a budget of
 //! one conflict for the root.
-ghost use Rattle.std.specs.Prelude.{◌≤◌};
 
 use crate::results::{Given, OF_EIGHT, WantedTree, gathered, is_tree};
 use cdcl::Plan;
 use cnf::read_formula;
-use cubes::{OpenGate, solve_by_plan};
+use cubes::{HandCount, OpenGate, solve_by_plan};
 use samples::EIGHT;
 use std::alloc::Global;
 use std::sync::Wait;
@@ -116,11 +115,9 @@ fn is_solved_by<R: Threads + Wait + Clock + Sync>(
     rt: &R,
     alloc: Global,
     text: &str,
-    hands: usize,
+    hands: HandCount,
     wanted: WantedTree,
-) -> Result<bool, Fail>
-    requires { (1 ≤ hands) × (hands ≤ 16) }
-{
+) -> Result<bool, Fail> {
     let formula = read_formula(alloc, text.as_bytes())?;
     for _ in 0..20 {
         let tree = solve_by_plan(rt, alloc, &formula, Plan::ordered(1), hands, &OpenGate)?;
@@ -143,7 +140,7 @@ static TREES: [(&str, WantedTree); 2] = [
 fn solves_by_many_hands(rt: HostRuntime) -> Result<(), Fail> {
     for (text, wanted) in &TREES {
         for hands in [1, 2, 4, 8, 16] {
-            let is_solved = is_solved_by(&rt, rt.alloc(), text, hands, *wanted)?;
+            let is_solved = is_solved_by(&rt, rt.alloc(), text, HandCount::of(hands), *wanted)?;
             assert!(rt; is_solved, "{hands} hands at {text:?}");
         }
     }

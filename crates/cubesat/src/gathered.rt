@@ -1,17 +1,17 @@
 //! `gather`: what is said of cubes that are missing, of packs and faults, and its statuses.
+ghost use Rattle.std.specs.Prelude.{◌≡◌, None};
 
-use crate::gathering_hands::{gather_at_once_by, gather_stored_by};
 use crate::standing_lines::open_of;
 use cnf::{Formula, ReadFault, read_formula_within};
 use commands::{
     FAILED, Input, Known, Locks, PlacedProof, SATISFIABLE, UNSATISFIABLE, begin_proof, open_input,
     print_fault_of, print_no_memory, print_not_begun, print_not_opened,
 };
+use cubes::HandCount;
 use noticed::{NoticedReader, NoticedWriter};
-use runs::{GatheredFrom, RunFault, Verdict};
+use runs::{GatheredFrom, Gathering, RunFault, Verdict, gather_at_once, gather_stored};
 use spread::{
-    Folder, HandCount, PackStore, RunFile, Said, StoreCounts, formula_bytes_in, progress_in,
-    run_in, store_in,
+    Folder, PackStore, RunFile, Said, StoreCounts, formula_bytes_in, progress_in, run_in, store_in,
 };
 use statistics::{Board, CountedWriter, Manner, Stage, Watch, show_progress};
 use std::alloc::{AllocError, Global};
@@ -71,7 +71,7 @@ struct Held {
 
 /// A run whose result is gathered, and where the proof goes.
 #[derive(Drop)]
-struct Gathering<'a, R: Files> {
+struct GatheredRun<'a, R: Files> {
     held: &'a Held,
     /// The formula's path, and the file there, so that the proof isn't written over it.
     formula: &'a str,
@@ -84,11 +84,25 @@ struct Gathering<'a, R: Files> {
     board: &'a Board,
 }
 
+impl<R: Files> GatheredRun<'_, R> {
+    /// What is gathered, from this store.
+    fn over<S>(&self, store: S) -> Gathering<S>
+        ensures { result.strategy.first ≡ None }
+    {
+        Gathering {
+            store,
+            limits: self.held.run.limits,
+            strategy: self.held.run.strategy(),
+            hands: self.hands,
+        }
+    }
+}
+
 /// Begins the file of the proof; or else the status.
 fn proof_begun<'a, R: Files, E: Write, L: Locks<R::File>>(
     rt: &'a R,
     alloc: Global,
-    run: &Gathering<'_, R>,
+    run: &GatheredRun<'_, R>,
     faults: &mut E,
     locks: &L,
 ) -> Result<PlacedProof<'a, R>, u8> {
@@ -103,7 +117,7 @@ fn proof_begun<'a, R: Files, E: Write, L: Locks<R::File>>(
 fn gather_once<R: Files + Threads + Wait + Clock + Sync, W: Write, E: Write>(
     rt: &R,
     alloc: Global,
-    run: &Gathering<'_, R>,
+    run: &GatheredRun<'_, R>,
     store: &mut PackStore<'_, R>,
     proof: PlacedProof<'_, R>,
     answer: &mut W,
@@ -121,16 +135,13 @@ fn gather_once<R: Files + Threads + Wait + Clock + Sync, W: Write, E: Write>(
     };
     let mut output = NoticedWriter::of(counted);
     let mut answer = NoticedWriter::of(answer);
-    let gathered = gather_at_once_by(
+    let gathered = gather_at_once(
         rt,
         alloc,
         &mut input,
-        run.held.run.limits,
-        store,
+        run.over(store),
         &mut answer,
         &mut output,
-        run.held.run.plan,
-        run.hands,
     );
     let gathered = gathered.transpose()?;
     let known = Known {
@@ -149,7 +160,7 @@ fn gather_once<R: Files + Threads + Wait + Clock + Sync, W: Write, E: Write>(
 fn gather_twice<R: Files + Threads + Wait + Clock + Sync, W: Write, E: Write>(
     rt: &R,
     alloc: Global,
-    run: &Gathering<'_, R>,
+    run: &GatheredRun<'_, R>,
     store: PackStore<'_, R>,
     proof: PlacedProof<'_, R>,
     answer: &mut W,
@@ -167,16 +178,13 @@ fn gather_twice<R: Files + Threads + Wait + Clock + Sync, W: Write, E: Write>(
     };
     let mut output = NoticedWriter::of(counted);
     let mut answer = NoticedWriter::of(answer);
-    let gathered = gather_stored_by(
+    let gathered = gather_stored(
         rt,
         alloc,
         &mut input,
-        run.held.run.limits,
-        store,
+        run.over(store),
         &mut answer,
         &mut output,
-        run.held.run.strategy(),
-        run.hands,
     );
     let known = Known {
         formula: run.formula,
@@ -195,7 +203,7 @@ fn gather_twice<R: Files + Threads + Wait + Clock + Sync, W: Write, E: Write>(
 fn gather_opened<R: Files + Threads + Wait + Clock + Sync, W: Write, E: Write, L: Locks<R::File>>(
     rt: &R,
     alloc: Global,
-    run: &Gathering<'_, R>,
+    run: &GatheredRun<'_, R>,
     mut store: PackStore<'_, R>,
     answer: &mut W,
     faults: &mut E,
@@ -227,7 +235,7 @@ fn gather_beside<
 >(
     rt: &R,
     alloc: Global,
-    run: &Gathering<'_, R>,
+    run: &GatheredRun<'_, R>,
     store: PackStore<'_, R>,
     answer: &mut W,
     faults: &mut E,
@@ -374,7 +382,7 @@ where
         Err(error) => return print_not_opened(faults, file, error, false),
     };
     let board = Board::new(rt, Stage::Writing);
-    let run = Gathering {
+    let run = GatheredRun {
         held: &held,
         formula: file,
         input: &input,

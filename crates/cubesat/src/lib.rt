@@ -3,20 +3,20 @@
 #![tactic(auto)]
 
 mod gathered;
-mod gathering_hands;
 mod program;
 mod spreading;
 mod standing_lines;
 
 pub use cdcl::Plan;
+pub use cnf::Limits;
 pub use commands::{Locks, NoLocks, Screen, SystemLocks, explanation};
-pub use program::{command, command_in_folders, command_on, command_with_input};
+pub use cubes::{Gate, HandCount, OpenGate};
+pub use program::{Console, command, command_in_folders, command_on, command_with_input};
 pub use runs::{
-    Checked, Limit, RunFault, Verdict, answer_limited_within, answer_within, check_run,
-    check_run_within, run, run_by_plan, run_limited_within, run_one, run_one_by_plan, run_within,
-    runs_write_the_same,
+    CheckRules, Checked, Limit, Options, RunFault, TimeLimit, Told, Verdict, answer_with,
+    check_run, check_with, run, run_one, run_with, runs_write_the_same,
 };
 pub use statistics::{
     Board, CubeCounts, Figures, Manner, Stage, TextSize, print_line, show_progress,
 };
-pub use strategies::Strategy;
+pub use strategies::{Observer, Strategy, Unobserved};

@@ -87,16 +87,9 @@ fn serve<
     W: Write,
     E: Write + Send,
     L: Locks<R::File>,
->(
-    rt: &R,
-    alloc: Global,
-    request: Request<'_>,
-    input: I,
-    answer: &mut W,
-    faults: &mut E,
-    screen: Screen,
-    locks: &L,
-) -> u8 {
+>(rt: &R, alloc: Global, request: Request<'_>, console: &mut Console<I, W, E>, locks: &L) -> u8 {
+    let (input, screen) = (&mut console.input, console.screen);
+    let (answer, faults) = (&mut console.answer, &mut console.faults);
     match request {
         Request::Solve {
             asked,
@@ -140,30 +133,33 @@ fn serve<
     }
 }
 
+/// What a command line reads and prints beside its files.
+#[derive(Drop)]
+pub struct Console<I, W, E> {
+    /// It is read where the line has `-` for a file.
+    pub input: I,
+    pub answer: W,
+    /// Where faults are printed, and what is shown of a run.
+    pub faults: E,
+    /// Where `faults` leads.
+    pub screen: Screen,
+}
+
 /// Does all that the program does for a command line, of which the first word is the program's
-/// name: reads and writes its files, reads `input` where the line has `-` for one, writes the
-/// answer to `answer`, faults and what is shown of the run to `faults`, and answers the exit
+/// name: reads and writes its files, reads and prints at the console, and answers the exit
 /// status: 10 satisfiable, 20 unsatisfiable, 0 for a formula that isn't decided in time, or that is
 /// written, for a proof that is accepted, for help and for an explanation, 1 for a proof that is
 /// refused, on a fault or a wrong command line. A failed write to `faults` changes nothing else.
-/// `screen` says where `faults` leads. Of two runs for one proof the later is refused.
+/// Of two runs for one proof the later is refused.
 pub fn command_with_input<
     R: Files + Threads + Wait + Clock + Sync,
     I: Read + Drop,
     W: Write,
     E: Write + Send,
->(
-    rt: &R,
-    alloc: Global,
-    words: &[&str],
-    input: I,
-    answer: &mut W,
-    faults: &mut E,
-    screen: Screen,
-) -> u8 {
+>(rt: &R, alloc: Global, words: &[&str], console: &mut Console<I, W, E>) -> u8 {
     match request_of(alloc, words) {
-        Ok(request) => serve(rt, alloc, request, input, answer, faults, screen, &NoLocks),
-        Err(error) => print_unparsed(error, answer, faults),
+        Ok(request) => serve(rt, alloc, request, console, &NoLocks),
+        Err(error) => print_unparsed(error, &mut console.answer, &mut console.faults),
     }
 }
 
@@ -180,25 +176,19 @@ pub fn command_in_folders<
     W: Write,
     E: Write + Send,
     L: Locks<R::File>,
->(
-    rt: &R,
-    alloc: Global,
-    words: &[&str],
-    input: I,
-    answer: &mut W,
-    faults: &mut E,
-    screen: Screen,
-    locks: &L,
-) -> u8
+>(rt: &R, alloc: Global, words: &[&str], console: &mut Console<I, W, E>, locks: &L) -> u8
 where
     R::File: Send,
     R::Dir: Send,
     R::A: Send,
 {
     match request_of(alloc, words) {
-        Ok(Request::Spread(asked)) => work_on(rt, alloc, asked, answer, faults, locks),
-        Ok(request) => serve(rt, alloc, request, input, answer, faults, screen, locks),
-        Err(error) => print_unparsed(error, answer, faults),
+        Ok(Request::Spread(asked)) => {
+            let (answer, faults) = (&mut console.answer, &mut console.faults);
+            work_on(rt, alloc, asked, answer, faults, locks)
+        }
+        Ok(request) => serve(rt, alloc, request, console, locks),
+        Err(error) => print_unparsed(error, &mut console.answer, &mut console.faults),
     }
 }
 
@@ -211,7 +201,13 @@ pub fn command_on<R: Files + Threads + Wait + Clock + Sync, W: Write, E: Write +
     faults: &mut E,
     screen: Screen,
 ) -> u8 {
-    command_with_input(rt, alloc, words, io::empty(), answer, faults, screen)
+    let mut console = Console {
+        input: io::empty(),
+        answer,
+        faults,
+        screen,
+    };
+    command_with_input(rt, alloc, words, &mut console)
 }
 
 /// What `command_on` does where `faults` leads to no terminal.

@@ -1,7 +1,7 @@
 //! The program `cubesat`.
 #![tactic(auto)]
 
-use cubesat::{Screen, SystemLocks, command_in_folders};
+use cubesat::{Console, Screen, SystemLocks, command_in_folders};
 use std::alloc::{AllocError, Global};
 use std::io::IsTerminal;
 use std::process::ExitCode;
@@ -43,23 +43,17 @@ fn main(rt: HostRuntime) -> ExitCode {
         let _ = eprintln!(rt; "{NO_MEMORY}");
         return ExitCode::from(1);
     };
-    let mut faults = rt.stderr();
+    let faults = rt.stderr();
     let screen = if faults.is_terminal() {
         Screen::Terminal
     } else {
         Screen::Stream
     };
-    let input = rt.stdin();
-    let mut answer = rt.stdout();
-    let status = command_in_folders(
-        &rt,
-        alloc,
-        &words,
-        input,
-        &mut answer,
-        &mut faults,
+    let mut console = Console {
+        input: rt.stdin(),
+        answer: rt.stdout(),
+        faults,
         screen,
-        &SystemLocks,
-    );
-    ExitCode::from(status)
+    };
+    ExitCode::from(command_in_folders(&rt, alloc, &words, &mut console, &SystemLocks))
 }

@@ -1,5 +1,5 @@
 //! `-` is standard input, of either command.
-use cubesat::{Screen, command_with_input};
+use cubesat::{Console, Screen, command_with_input};
 use samples::faulty::Trickle;
 use samples::{FOUR, FOUR_PROOF, WIDE, WIDE_PROOF};
 use sessions::{Paths, Printed, Wanted, is_filled, put_texts};
@@ -35,17 +35,14 @@ fn run_with<R: Files + AllocGlobal + Threads + Wait + Clock + Sync>(
     words: &[&str],
     input: Input,
 ) -> Printed {
-    let mut answer = Vec::new(rt.alloc());
-    let mut faults = Vec::new(rt.alloc());
-    let status = command_with_input(
-        rt,
-        rt.alloc(),
-        words,
-        input.reader(),
-        &mut answer,
-        &mut faults,
-        Screen::Stream,
-    );
+    let mut console = Console {
+        input: input.reader(),
+        answer: Vec::new(rt.alloc()),
+        faults: Vec::new(rt.alloc()),
+        screen: Screen::Stream,
+    };
+    let status = command_with_input(rt, rt.alloc(), words, &mut console);
+    let Console { answer, faults, .. } = console;
     Printed {
         status,
         answer,

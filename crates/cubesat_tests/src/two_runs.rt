@@ -1,7 +1,7 @@
 //! Two runs for one proof: the later one is refused while the earlier is at work, and takes the place
 //! of one that was killed.
 use crate::command_lines::REFUTED;
-use cubesat::{Locks, Screen, SystemLocks, command_in_folders};
+use cubesat::{Console, Locks, Screen, SystemLocks, command_in_folders};
 use samples::{FOUR, FOUR_PROOF};
 use sessions::{Parts, Printed, Wanted, is_filled};
 use std::fs;
@@ -26,18 +26,14 @@ where
         "cubesat", "solve", "--budget", "1", "--proof", "PROOF", "FORMULA",
     ];
     let words = parts.paths.words(rt.alloc(), &words)?;
-    let mut answer = Vec::new(rt.alloc());
-    let mut faults = Vec::new(rt.alloc());
-    let status = command_in_folders(
-        rt,
-        rt.alloc(),
-        &words,
-        empty(),
-        &mut answer,
-        &mut faults,
-        Screen::Stream,
-        locks,
-    );
+    let mut console = Console {
+        input: empty(),
+        answer: Vec::new(rt.alloc()),
+        faults: Vec::new(rt.alloc()),
+        screen: Screen::Stream,
+    };
+    let status = command_in_folders(rt, rt.alloc(), &words, &mut console, locks);
+    let Console { answer, faults, .. } = console;
     Ok(Printed {
         status,
         answer,

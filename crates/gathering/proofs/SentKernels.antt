@@ -14,7 +14,7 @@ use Rattle.kernel.specs.contracts.clauses.given.Given.{the_row as the_given}
 use Rattle.kernel.specs.contracts.clauses.clauses.Clauses.{the_row as the_clauses}
 use Rattle.kernel.specs.contracts.clauses.store.Store.{the_row as the_store}
 use Rattle.kernel.specs.contracts.propagator.Propagator.{the_row as the_propagator}
-use Rattle.kernel.specs.contracts.units.line.Line.{the_row as the_line}
+use Rattle.kernel.specs.contracts.units.unit_queue.UnitQueue.{the_row as the_unit_queue}
 use Rattle.kernel.specs.contracts.search_kernel.SearchKernel.{the_row as the_kernel}
 use Rattle.kernel.specs.contracts.search_kernel.SearchKernel.TheInside.{the_row as the_inside, the_type}
 
@@ -39,11 +39,11 @@ store_send = search (sendable, given_send, clauses_send) depth 24
 propagator_send : IsSend the_propagator
 propagator_send = search (sendable, crosses, store_send) depth 24
 
-line_send : IsSend the_line
-line_send = search (sendable, crosses) depth 40 fits 50000
+unit_queue_send : IsSend the_unit_queue
+unit_queue_send = search (sendable, crosses) depth 40 fits 50000
 
 inside_send : IsSend the_inside
-inside_send = declared_send the_type (propagator_send, (search (sendable, crosses) depth 40 fits 50000, (line_send, (search (sendable, crosses) depth 40 fits 50000, (search (sendable, crosses) depth 40 fits 50000, (search (sendable, crosses) depth 40 fits 50000, (search (sendable, crosses) depth 40 fits 50000, (search (sendable, crosses) depth 40 fits 50000, (search (sendable, crosses) depth 40 fits 50000, (search (sendable, crosses) depth 40 fits 50000, (search (sendable, crosses) depth 40 fits 50000, tt)))))))))))
+inside_send = declared_send the_type (propagator_send, (search (sendable, crosses) depth 40 fits 50000, (unit_queue_send, (search (sendable, crosses) depth 40 fits 50000, (search (sendable, crosses) depth 40 fits 50000, (search (sendable, crosses) depth 40 fits 50000, (search (sendable, crosses) depth 40 fits 50000, (search (sendable, crosses) depth 40 fits 50000, (search (sendable, crosses) depth 40 fits 50000, (search (sendable, crosses) depth 40 fits 50000, (search (sendable, crosses) depth 40 fits 50000, tt)))))))))))
 
 pub kernel_send : IsSend the_kernel
 kernel_send = search (sendable, inside_send)

@@ -11,7 +11,8 @@ use Rattle.kernel.specs.Watching.{At, IsPair, IsWatched, apart, first_true, seco
 use Rattle.kernel.specs.declared.watches.watch.Watched.{Watched}
 use Rattle.theory.proofs.literals.LiteralLemmas.{same-eq, same-refl}
 use Rattle.kernel.proofs.LiteralFacts.{true_false}
-use Rattle.kernel.proofs.Places.{At-get, At-push, At-set, code-one}
+use Rattle.trail.proofs.Tables.{code-one}
+use Rattle.kernel.proofs.Places.{At-get, At-push, At-set}
 use Rattle.kernel.proofs.Serving.{Good-more}
 
 -- a clause that isn't empty came to the end, watched by w, and maybe waits

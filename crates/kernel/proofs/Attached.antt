@@ -10,7 +10,8 @@ use Rattle.cnf.specs.Lits.{code}
 use Rattle.kernel.specs.Watching.{At, IsPair, IsBeside, IsListed, list_at, listed_at, listed_both}
 use Rattle.kernel.specs.Visiting.{WatchLists, places, entries_at, tending, IsEntry, AreEntries, AreEntriesOf}
 use Rattle.kernel.specs.Attaching.{with_entry, attached}
-use Rattle.kernel.proofs.Places.{At-get, At-push, code-one}
+use Rattle.trail.proofs.Tables.{code-one}
+use Rattle.kernel.proofs.Places.{At-get, At-push}
 use Rattle.kernel.proofs.Turns.{At-places}
 
 pub list_at-places : (lists : List (List Watch)) (l : Literal) → list_at (map places lists) l ≡ places (entries_at lists l)

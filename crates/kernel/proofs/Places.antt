@@ -1,10 +1,8 @@
 -- Elements at places.
-use Rattle.std.proofs.Common.{◌≡◌, ◌≢◌, ℕ, zero, suc, ◌+◌, ◌-◌, ◌<◌, ◌≤◌, Bool, true, false, List, [], ◌∷◌, ◌++◌, length, get_or, set, refl, ap, sym, ◌∙◌, ◌⊎◌, inl, inr, arith, cond}
+use Rattle.std.proofs.Common.{◌≡◌, ◌≢◌, ℕ, zero, suc, ◌+◌, ◌-◌, ◌<◌, ◌≤◌, List, [], ◌∷◌, ◌++◌, length, get_or, set, refl, sym, ◌∙◌, ◌⊎◌, inl, inr, arith}
 use Rattle.std.proofs.lemmas.List.{get_or_default, get_or-set_same, get_or-set_other, length-set, get_or_append_left, get_or_push, length_push, get_or-take, length-take-le}
 use Rattle.std.proofs.lemmas.Bool.{cases_eq, cases_lt}
 use Rattle.std.specs.List.{Contains, swap_remove}
-use Rattle.theory.specs.Literals.{Literal}
-use Rattle.cnf.specs.Lits.{code}
 use Rattle.kernel.specs.Watching.{At}
 
 pub At-one : {X : Type 0} (xs : List X) (n : ℕ) (x y : X) → At xs n x → At xs n y → x ≡ y
@@ -71,29 +69,6 @@ swap_remove-place xs j d p n inside here other read = go (cases_eq p (length xs 
         let taken : get_or (swap_remove xs j d) p n ≡ get_or (set xs j (get_or xs (length xs - 1) d)) p n = get_or-take (length xs - 1) (set xs j (get_or xs (length xs - 1) d)) p n below in
         let kept : get_or (set xs j (get_or xs (length xs - 1) d)) p n ≡ get_or xs p n = get_or-set_other xs j p (get_or xs (length xs - 1) d) n other in
         (p, omega (arith, size, below), taken ∙ kept ∙ read, (λ h. h))
-
-pub code-one : (k l : Literal) → code k ≡ code l → k ≡ l
-code-one k l h = go k.positive l.positive refl refl
-  where
-    go : (a b : Bool) → k.positive ≡ a → l.positive ≡ b → k ≡ l
-    go true true e f =
-        let s : k.positive ≡ l.positive = e ∙ sym f in
-        let one : cond {A = ℕ} k.positive 1 0 ≡ cond l.positive 1 0 = ap {B = ℕ} (λ p. cond p 1 0) s in
-        let v : k.var ≡ l.var = omega (arith, h, one) in
-        λ i. record { var = v i; positive = s i }
-    go false false e f =
-        let s : k.positive ≡ l.positive = e ∙ sym f in
-        let one : cond {A = ℕ} k.positive 1 0 ≡ cond l.positive 1 0 = ap {B = ℕ} (λ p. cond p 1 0) s in
-        let v : k.var ≡ l.var = omega (arith, h, one) in
-        λ i. record { var = v i; positive = s i }
-    go true false e f =
-        let x : cond {A = ℕ} k.positive 1 0 ≡ 1 = rw e refl in
-        let y : cond {A = ℕ} l.positive 1 0 ≡ 0 = rw f refl in
-        absurd (omega (arith, h, x, y))
-    go false true e f =
-        let x : cond {A = ℕ} k.positive 1 0 ≡ 0 = rw e refl in
-        let y : cond {A = ℕ} l.positive 1 0 ≡ 1 = rw f refl in
-        absurd (omega (arith, h, x, y))
 
 -- one that is not the one taken out is still there
 pub Contains-swap_remove : (xs : List ℕ) (j d n m : ℕ) → At xs j n → m ≢ n → Contains xs m → Contains (swap_remove xs j d) m

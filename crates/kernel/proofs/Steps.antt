@@ -12,7 +12,8 @@ use Rattle.cnf.specs.Lits.{code}
 use Rattle.kernel.specs.Watching.{IsConsistent, IsPair, IsWatched, apart, first_true, second_true, other_true, both_signs, Reached, Good, held, waits, reached, spared, At, Tending, list_at, IsExact, Includes, Tends, IsBeside, lesser, WasUnit, moved, IsFull, without_nth}
 use Rattle.kernel.specs.declared.watches.watch.Watched.{Watched}
 use Rattle.kernel.proofs.LiteralFacts.{true_false, all-member, same-sym, same-sym-false}
-use Rattle.kernel.proofs.Places.{At-one, At-get, At-set, code-one, At-push}
+use Rattle.trail.proofs.Tables.{code-one}
+use Rattle.kernel.proofs.Places.{At-one, At-get, At-set, At-push}
 use Rattle.kernel.proofs.Removing.{Contains-of_without, Contains-without, without-gone, without-once}
 use Rattle.kernel.proofs.TrailFacts.{Includes-take}
 

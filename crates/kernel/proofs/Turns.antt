@@ -16,7 +16,8 @@ use Rattle.kernel.specs.Watching.{At, IsConsistent, IsBeside, IsFull, lesser, li
 use Rattle.kernel.specs.Visiting.{WatchLists, places, entries_at, tending, with_list, IsEntry, AreEntriesOf, AreEntries, Replaces, CanVisit, IsStay, IsVisit, satisfied, behind, unit, needless, clashes, moves}
 use Rattle.kernel.proofs.LiteralFacts.{true_false}
 use Rattle.kernel.proofs.LastLiterals.{all-false-but, all-false}
-use Rattle.kernel.proofs.Places.{At-one, At-get, At-set, At-push, At-behind, code-one}
+use Rattle.trail.proofs.Tables.{code-one}
+use Rattle.kernel.proofs.Places.{At-one, At-get, At-set, At-push, At-behind}
 use Rattle.kernel.proofs.Removing.{without-first-behind, map-without, without-from}
 use Rattle.kernel.proofs.Steps.{both, Good-spared}
 use Rattle.kernel.proofs.Walking.{Visits, Walks-good, Walks-unit, Walks-false, Walks-move, gone-true}

@@ -15,7 +15,8 @@ use Rattle.kernel.specs.Attaching.{with_entry}
 use Rattle.kernel.specs.Seeing.{IsWatchVisit, other_front}
 use Rattle.kernel.specs.Placing.{IsLastOf}
 use Rattle.kernel.proofs.LiteralFacts.{true_false}
-use Rattle.kernel.proofs.Places.{At-get, code-one}
+use Rattle.trail.proofs.Tables.{code-one}
+use Rattle.kernel.proofs.Places.{At-get}
 use Rattle.kernel.proofs.Visits.{Looked, pair-inside, looked, looked-stays, looked-last, clause-is, beside-one, noted}
 
 -- a literal that isn't false has another list than one that is

@@ -28,7 +28,7 @@ use crate::units::units::Units;
 use crate::watches::entry_lists::{EntryLists, OpenList};
 use crate::watches::replacement::Starts;
 use crate::watches::truths::Truths;
-use crate::watches::watch::{PackedWatch, Watch, Watched, code};
+use crate::watches::watch::{PackedWatch, Watch, Watched};
 use crate::watches::watch_visit::WatchVisit;
 use cnf::Lit;
 use std::alloc::AllocError;
@@ -329,7 +329,7 @@ impl Propagator {
         let found = found_at(order, trail, place);
         let entry = trail.entries()[place];
         let gone = entry.lit.negated();
-        let count = self.lists.count(code(gone));
+        let count = self.lists.count(gone.code());
         self.visits = self.visits.saturating_add(count as u64);
         self.visit_all(trail, gone, found, line)?;
         Ok(())

@@ -3,11 +3,11 @@
 //! each of these gives out the one that goes first, and each is fast where units come in order.
 
 pub(crate) mod last_false;
-pub(crate) mod line;
 pub(crate) mod number_stack;
 pub(crate) mod numbered;
-pub(crate) mod pile;
 pub(crate) mod queue;
+pub(crate) mod unit_overflow;
+pub(crate) mod unit_queue;
 pub(crate) mod units;
 pub(crate) mod waiting_heap;
 pub(crate) mod waiting_queue;

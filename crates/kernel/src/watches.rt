@@ -7,6 +7,6 @@ pub(crate) mod cut;
 pub(crate) mod entries;
 pub(crate) mod entry_lists;
 pub(crate) mod replacement;
-pub(crate) mod sight;
 pub(crate) mod truths;
 pub(crate) mod watch;
+pub(crate) mod watch_visit;

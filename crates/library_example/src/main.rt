@@ -1,82 +1,76 @@
-//! The solver and the checker as a library, on bytes in memory: a formula is solved by two hands,
-//! its answer printed, and its proof checked.
+//! The solver and the checker as a library, on bytes in memory: each search solves a formula by two
+//! hands and within a limit of time; the answer is printed, and the proof is checked.
 #![tactic(auto)]
 
-use cubes::OpenGate;
-use cubesat::{Checked, RunFault, Verdict, check_run, run};
+use cubesat::{
+    HandCount, Limits, Observer, OpenGate, Options, Plan, RunFault, Strategy, TimeLimit, Verdict,
+    check_run, run_with,
+};
 use std::alloc::Global;
 use std::io::Write;
 use std::process::ExitCode;
 use std::sync::Wait;
+use std::sync::atomic::{AtomicU64, Ordering};
 use std::thread::Threads;
 use std::time::Clock;
 
 /// Both variables must be true and must not be.
-const FORMULA: &str = "p cnf 2 4\n1 2 0\n1 -2 0\n-1 2 0\n-1 -2 0\n";
+const FORMULA: &[u8] = b"p cnf 2 4\n1 2 0\n1 -2 0\n-1 2 0\n-1 -2 0\n";
 
 /// Conflicts that the first cube may have before it is split.
 const BUDGET: u32 = 1000;
 
-const HANDS: usize = 2;
+/// Then a run ends with `s UNKNOWN` and no verdict.
+const SECONDS: u32 = 60;
 
-/// What a formula comes to.
+/// Counts the proofs that are written.
 #[derive(Drop)]
-struct Solved {
-    verdict: Verdict,
-    /// The status line and the value lines.
-    answer: Vec<u8>,
-    /// In LRAT; empty where there is a model.
-    proof: Vec<u8>,
+struct Proofs {
+    written: AtomicU64,
 }
 
-/// Solves a formula. A fault says by its number what went wrong (`cubesat explain`).
-fn solve<R: Threads + Wait + Clock + Sync>(
+impl Observer for Proofs {
+    fn written(&self) {
+        let _before = self.written.fetch_add(1, Ordering::SeqCst);
+    }
+}
+
+/// Writes the answer of a search, and whether the checker accepts its proof. A fault says by its
+/// number what went wrong (`cubesat explain`).
+fn solve<R: Threads + Wait + Clock + Sync, W: Write>(
     rt: &R,
     alloc: Global,
-    formula: &[u8],
-) -> Result<Solved, RunFault> {
-    let mut answer = Vec::new(alloc);
+    plan: Plan,
+    proofs: &Proofs,
+    out: &mut W,
+) -> Result<(), RunFault> {
+    let options = Options {
+        limits: Limits::Standard,
+        strategy: Strategy::of(plan),
+        hands: HandCount::of(2),
+        gate: &OpenGate,
+        limit: &TimeLimit::begin(rt, Some(SECONDS)),
+        observer: proofs,
+    };
     let mut proof = Vec::new(alloc);
-    let gate = OpenGate;
-    let verdict = run(
-        rt,
-        alloc,
-        formula,
-        &mut answer,
-        &mut proof,
-        BUDGET,
-        HANDS,
-        &gate,
-    )?;
-    Ok(Solved {
-        verdict,
-        answer,
-        proof,
-    })
-}
-
-/// Whether the checker accepts a proof of a formula, and the line that it writes.
-fn check(alloc: Global, formula: &[u8], proof: &[u8]) -> Result<(bool, Vec<u8>), RunFault> {
-    let mut line = Vec::new(alloc);
-    let checked = check_run(alloc, formula, proof, &mut line)?;
-    Ok((checked == Checked::Accepted, line))
+    if let Some(Verdict::Unsatisfiable) = run_with(rt, alloc, FORMULA, &options, out, &mut proof)? {
+        let _checked = check_run(alloc, FORMULA, proof.as_slice(), out)?;
+    }
+    Ok(())
 }
 
 fn main(rt: HostRuntime) -> ExitCode {
-    let alloc = rt.alloc();
-    let formula = FORMULA.as_bytes();
-    let Ok(solved) = solve(&rt, alloc, formula) else {
-        return ExitCode::from(1);
+    let (alloc, mut out) = (rt.alloc(), rt.stdout());
+    let proofs = Proofs {
+        written: AtomicU64::new(0),
     };
-    let mut out = rt.stdout();
-    if out.write_all(&solved.answer).is_err() {
-        return ExitCode::from(1);
-    }
-    if solved.verdict == Verdict::Satisfiable {
-        return ExitCode::from(0);
-    }
-    match check(alloc, formula, &solved.proof) {
-        Ok((true, line)) if out.write_all(&line).is_ok() => ExitCode::from(0),
-        _ => ExitCode::from(1),
+    let ordered = solve(&rt, alloc, Plan::ordered(BUDGET), &proofs, &mut out);
+    let focused = solve(&rt, alloc, Plan::focused(BUDGET), &proofs, &mut out);
+    let written = proofs.written.load(Ordering::SeqCst);
+    let printed = writeln!(out, "{written} proofs");
+    if ordered.is_ok() && focused.is_ok() && printed.is_ok() {
+        ExitCode::from(0)
+    } else {
+        ExitCode::from(1)
     }
 }

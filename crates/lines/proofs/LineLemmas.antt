@@ -5,7 +5,8 @@ use Rattle.theory.specs.Literals.{Literal, Clause}
 use Rattle.theory.specs.Learning.{Line}
 use Rattle.lines.specs.declared.section.Section.{Section}
 use Rattle.lines.specs.declared.section.Section.TheVariants.{Literals, Hints, Forgotten}
-use Rattle.lines.specs.Rows.{Part, whole, with_number, at_zero, row, listed, with_list, IsListing, IsBetween, code, literal_at, code_behind, hint_behind, clause_part, hints_part, forgets_part, IsFront}
+use Rattle.cnf.specs.Lits.{code}
+use Rattle.lines.specs.Rows.{Part, whole, with_number, at_zero, row, listed, with_list, IsListing, IsBetween, literal_at, code_behind, hint_behind, clause_part, hints_part, forgets_part, IsFront}
 
 pub front-front : (xs ys zs : List ℕ) → IsFront xs ys → IsFront ys zs → IsFront xs zs
 front-front xs ys zs (a, e) (b, f) = (omega (arith, a, b), sym (take-take (length xs) (length ys) zs a) ∙ ap (λ (l : List ℕ). take (length xs) l) f ∙ e)

@@ -89,10 +89,6 @@ IsWhole bytes = row bytes ≡ whole (row bytes).lines
 abbrev pub AreWithin : ℕ → ℕ → List Line → Type 0
 AreWithin literals numbers lines = All (λ l. (length l.clause ≤ literals) × (length l.hints ≤ numbers) × (length l.forgets ≤ numbers)) lines
 
--- how a literal is coded
-abbrev pub code : Literal → ℕ
-code l = 2 * l.var + (if l.positive then 1 else 0)
-
 -- bytes stand in front of others
 abbrev pub IsFront : List ℕ → List ℕ → Type 0
 IsFront xs ys = (length xs ≤ length ys) × (take (length xs) ys ≡ xs)

@@ -1,20 +1,21 @@
 //! How a literal or a hint is written behind the one before it: by a number from 1 on, small where
 //! the two are near. The number of a forgotten clause is written as a hint is.
 ghost use Rattle.std.specs.Prelude.{◌≡◌, ◌<◌, ◌≤◌, ◌^◌};
-ghost use Rattle.lines.specs.Rows.{code, code_behind, literal_at, hint_behind};
+ghost use Rattle.cnf.specs.Lits.{code};
+ghost use Rattle.lines.specs.Rows.{code_behind, literal_at, hint_behind};
 
 use cnf::Lit;
 
 /// No hint is greater: it is the greatest number of a clause in a proof.
 pub(crate) const MAX_HINT: u64 = 9_223_372_036_854_775_807;
 
-/// The code of a literal: twice its variable, and one more for the variable itself.
+/// The code of a literal, as a row has it.
 pub(crate) fn code(lit: Lit) -> u32
     ensures code { result ≡ code lit }
     ensures some { 1 ≤ lit.var }
 {
-    let double = 2 * lit.var();
-    if lit.positive() { double + 1 } else { double }
+    let _var = lit.var(); // it bounds the code
+    lit.code() as u32
 }
 
 /// The literal of a code.

@@ -13,7 +13,8 @@ use Rattle.theory.specs.Literals.{Literal, Clause, IsVariable, same, same_sign, 
 use Rattle.theory.proofs.literals.LiteralLemmas.{same-eq}
 use Rattle.theory.proofs.literals.ClauseWalks.{has-at}
 use Rattle.theory.proofs.literals.LiteralSets.{false_unless}
-use Rattle.lookahead.specs.Tables.{code, at, AreStamped, AreOccurrences}
+use Rattle.cnf.specs.Lits.{code}
+use Rattle.lookahead.specs.Tables.{at, AreStamped, AreOccurrences}
 
 and-right-false : (b : Bool) → (b && false) ≡ false
 and-right-false true = refl

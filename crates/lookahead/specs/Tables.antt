@@ -1,11 +1,8 @@
 -- Tables by literal.
-use Rattle.std.specs.Prelude.{◌≡◌, ℕ, ◌+◌, ◌*◌, ◌≤◌, nat_eq, List, slice_index_or, if◌then◌else◌}
+use Rattle.std.specs.Prelude.{◌≡◌, ℕ, ◌≤◌, nat_eq, List, slice_index_or}
 use Rattle.theory.specs.Literals.{Literal, Clause, has}
 use Rattle.theory.specs.Looking.{occurrences}
-
--- the place of a literal in a table
-abbrev pub code : Literal → ℕ
-code l = 2 * l.var + (if l.positive then 1 else 0)
+use Rattle.cnf.specs.Lits.{code}
 
 -- what stands at a place of a table
 abbrev pub at : List ℕ → ℕ → ℕ

@@ -3,7 +3,8 @@ ghost use Rattle.std.specs.Prelude.{◌≡◌, ◌<◌, ◌≤◌, ◌+◌, ◌*
 ghost use Rattle.theory.specs.Literals.{Literal, Clause};
 ghost use Rattle.theory.specs.Trails.{variables};
 ghost use Rattle.theory.specs.Held.{is_held};
-ghost use Rattle.lookahead.specs.Tables.{code, at, AreOccurrences};
+ghost use Rattle.cnf.specs.Lits.{code};
+ghost use Rattle.lookahead.specs.Tables.{at, AreOccurrences};
 
 use crate::occurrences::occurrences;
 use crate::ranking::is_held;

@@ -2,7 +2,8 @@
 ghost use Rattle.std.specs.Prelude.{◌≡◌, ◌<◌, ◌≤◌, ◌+◌, ◌*◌, ◌^◌, ◌&&◌, not, ℕ, List, [], take, length, All, IfOk, vec_len, if◌then◌else◌};
 ghost use Rattle.theory.specs.Literals.{Literal, Clause, has, has_both_signs};
 ghost use Rattle.theory.specs.Truth.{IsOver};
-ghost use Rattle.lookahead.specs.Tables.{code, at, AreStamped, AreOccurrences};
+ghost use Rattle.cnf.specs.Lits.{code};
+ghost use Rattle.lookahead.specs.Tables.{at, AreStamped, AreOccurrences};
 
 use cnf::Lit;
 use kernel::SearchKernel;
@@ -10,13 +11,6 @@ use std::alloc::{AllocError, Global};
 
 /// A kernel has room for fewer clauses.
 const MAX_CLAUSES: u64 = 1 << 31;
-
-/// The place of a literal in a table.
-pub(crate) fn code(lit: Lit) -> usize
-    ensures { result ≡ code lit }
-{
-    2 * lit.var() as usize + if lit.positive() { 1 } else { 0 }
-}
 
 /// Notes at each literal of a clause that the clause of this number has it.
 fn stamp(stamps: &mut [u32], vars: u32, clause: &[Lit], number: u32)
@@ -27,7 +21,7 @@ fn stamp(stamps: &mut [u32], vars: u32, clause: &[Lit], number: u32)
     ensures room { length stamps.new ≡ length stamps.old }
 {
     for lit in clause {
-        stamps[code(*lit)] = number;
+        stamps[lit.code()] = number;
     }
 }
 
@@ -39,7 +33,7 @@ fn has_both_signs(stamps: &[u32], vars: u32, clause: &[Lit], number: u32) -> boo
     ensures { result ≡ has_both_signs clause.now }
 {
     for lit in clause {
-        if stamps[code(lit.negated())] == number {
+        if stamps[lit.negated().code()] == number {
             return true;
         }
     }
@@ -58,7 +52,7 @@ fn count(counts: &mut [u32], stamps: &mut [u32], vars: u32, clause: &[Lit], numb
     ensures room { (length counts.new ≡ length counts.old) × (length stamps.new ≡ length stamps.old) }
 {
     for lit in clause {
-        let code = code(*lit);
+        let code = lit.code();
         if stamps[code] == number {
             counts[code] += 1;
             stamps[code] = 0;

@@ -6,10 +6,11 @@ ghost use Rattle.theory.specs.Literals.{Literal, Clause};
 ghost use Rattle.theory.specs.Trails.{literals, variables};
 ghost use Rattle.theory.specs.Held.{is_held};
 ghost use Rattle.theory.specs.Looking.{rank, ranks, best_ones, max_candidates};
-ghost use Rattle.lookahead.specs.Tables.{code, at, AreOccurrences};
+ghost use Rattle.cnf.specs.Lits.{code};
+ghost use Rattle.lookahead.specs.Tables.{at, AreOccurrences};
 ghost use Rattle.lookahead.specs.Rankings.{goes_before, ranked_by, first_free, IsRanking};
 
-use crate::occurrences::{code, occurrences};
+use crate::occurrences::occurrences;
 use cnf::Lit;
 use kernel::SearchKernel;
 use std::alloc::{AllocError, Global};
@@ -54,8 +55,8 @@ fn rank_of(counts: &[u32], var: u32) -> u64
     requires few { (l : Literal) → l.var ≡ var → at counts.now (code l) < 2 ^ 31 }
     ensures { (K : List Clause) (V : ℕ) → AreOccurrences V K counts.now → var ≤ V → result ≡ rank K var }
 {
-    let positive = counts[code(Lit::of(var, true))];
-    let negative = counts[code(Lit::of(var, false))];
+    let positive = counts[Lit::of(var, true).code()];
+    let negative = counts[Lit::of(var, false).code()];
     (u64::from(positive) + 1) * (u64::from(negative) + 1)
 }
 

@@ -7,7 +7,8 @@ use Rattle.theory.specs.Steps.{Group}
 use Rattle.theory.proofs.literals.LiteralLemmas.{or-left, or-right}
 use Rattle.theory.proofs.literals.LiteralSets.{and-true}
 use Rattle.lrat.specs.Named.{IsNamed, IsCandidate, AreCandidates}
-use Rattle.lrat.specs.Occurrences.{code, count_at, slots_with, StayThere}
+use Rattle.cnf.specs.Lits.{code}
+use Rattle.lrat.specs.Occurrences.{count_at, slots_with, StayThere}
 use Rattle.lrat.specs.Slots.{Slot, put, there_before}
 
 -- a number that is taken out once

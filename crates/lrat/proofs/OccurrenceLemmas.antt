@@ -14,7 +14,8 @@ use Rattle.lrat.specs.declared.occurrences.Occurrences.{Occurrences}
 use Rattle.lrat.specs.Chained.{IsIn}
 use Rattle.lrat.specs.Indexed.{AreCounted, IsIndexed}
 use Rattle.lrat.specs.Slots.{Slot, put, there_before}
-use Rattle.lrat.specs.Occurrences.{code, AreEntered, StayThere}
+use Rattle.cnf.specs.Lits.{code}
+use Rattle.lrat.specs.Occurrences.{AreEntered, StayThere}
 use Rattle.lrat.proofs.CountLemmas.{slots-stay}
 
 -- slots that come or go

@@ -4,7 +4,8 @@ use Rattle.theory.specs.Literals.{Literal}
 use Rattle.lrat.specs.declared.counts.Counts.{Counts}
 use Rattle.lrat.specs.declared.occurrences.Occurrences.{Occurrences}
 use Rattle.lrat.specs.Chained.{AreChains}
-use Rattle.lrat.specs.Occurrences.{code, count_at, slots_with, AreEntered}
+use Rattle.cnf.specs.Lits.{code}
+use Rattle.lrat.specs.Occurrences.{count_at, slots_with, AreEntered}
 use Rattle.lrat.specs.Slots.{Slot}
 
 -- of the slots before a place, no more have a literal than its count says

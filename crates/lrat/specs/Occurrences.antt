@@ -1,13 +1,10 @@
 -- Where the clauses are that have a literal.
-use Rattle.std.specs.Prelude.{◌≡◌, ℕ, ◌+◌, ◌*◌, ◌<◌, ◌≤◌, true, List, [], ◌∷◌, length, Some, slice_get, slice_index_or, if◌then◌else◌}
+use Rattle.std.specs.Prelude.{◌≡◌, ℕ, ◌+◌, ◌<◌, ◌≤◌, true, List, [], ◌∷◌, length, Some, slice_get, slice_index_or, if◌then◌else◌}
 use Rattle.theory.specs.Literals.{Literal, has}
+use Rattle.cnf.specs.Lits.{code}
 use Rattle.lrat.specs.declared.chains.Chains.{Chains}
 use Rattle.lrat.specs.Chained.{IsIn}
 use Rattle.lrat.specs.Slots.{Slot}
-
--- the code of a literal
-abbrev pub code : Literal → ℕ
-code l = 2 * l.var + (if l.positive then 1 else 0)
 
 -- each slot below the count that is there is in the chain of each literal of its clause
 abbrev pub AreEntered : List Slot → Chains → ℕ → Type 0

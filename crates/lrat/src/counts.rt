@@ -3,18 +3,12 @@ ghost use Rattle.std.specs.Prelude.{◌≡◌, ◌<◌, ◌≤◌, ◌+◌, ◌*
 ghost use Rattle.theory.specs.Literals.{Literal, has};
 ghost use Rattle.theory.specs.Truth.{IsOver};
 ghost use Rattle.lrat.specs.Indexed.{AreCounted};
-ghost use Rattle.lrat.specs.Occurrences.{code, count_at};
+ghost use Rattle.cnf.specs.Lits.{code};
+ghost use Rattle.lrat.specs.Occurrences.{count_at};
 
 use crate::clauses::Clauses;
 use cnf::Lit;
 use std::alloc::{AllocError, Global};
-
-/// The code of a literal.
-pub(crate) fn code(lit: Lit) -> usize
-    ensures { result ≡ code lit }
-{
-    2 * lit.var() as usize + if lit.positive() { 1 } else { 0 }
-}
 
 /// Counts a clause for each of its literals, and again for one that is repeated.
 fn count(counts: &mut Vec<u32>, vars: u32, clause: &[Lit]) -> Result<(), AllocError>
@@ -25,7 +19,7 @@ fn count(counts: &mut Vec<u32>, vars: u32, clause: &[Lit]) -> Result<(), AllocEr
     ensures len { vec_len counts.new ≡ vec_len counts.old }
 {
     for lit in clause {
-        let code = code(*lit);
+        let code = lit.code();
         let count = counts[code];
         if count == u32::MAX {
             return Err(AllocError);
@@ -89,7 +83,7 @@ impl Counts {
     pub(crate) fn of(&self, lit: Lit) -> usize
         ensures { result ≡ count_at self.now.counts.items (code lit) }
     {
-        let code = code(lit);
+        let code = lit.code();
         if code < self.counts.len() {
             self.counts[code] as usize
         } else {

@@ -4,12 +4,13 @@ ghost use Rattle.std.specs.Prelude.{◌≡◌, ◌≢◌, ◌<◌, ◌≤◌, �
 ghost use Rattle.theory.specs.Literals.{Literal, has};
 ghost use Rattle.theory.specs.Truth.{IsOver};
 ghost use Rattle.lrat.specs.Chained.{IsOn, IsIn, AreChains, IsThereAt};
-ghost use Rattle.lrat.specs.Occurrences.{code, slots_with};
+ghost use Rattle.cnf.specs.Lits.{code};
+ghost use Rattle.lrat.specs.Occurrences.{slots_with};
 ghost use Rattle.lrat.specs.Indexed.{IsIndexed};
 
 use crate::chains::Chains;
 use crate::clauses::Clauses;
-use crate::counts::{Counts, code};
+use crate::counts::Counts;
 use cnf::Lit;
 use std::alloc::{AllocError, Global};
 
@@ -29,7 +30,7 @@ pub(crate) fn enter(
     ensures len { vec_len chains.new.heads ≡ vec_len chains.old.heads }
 {
     for lit in clause {
-        chains.put(code(*lit), place)?;
+        chains.put(lit.code(), place)?;
     }
     Ok(())
 }
@@ -95,7 +96,7 @@ impl Occurrences {
         ensures swept { (i : ℕ) → IsIn self.new.chains (code lit) i → IsThereAt clauses.now.slots i }
         ensures entered { self.new.entered ≡ self.old.entered }
     {
-        self.chains.sweep(code(lit), clauses);
+        self.chains.sweep(lit.code(), clauses);
     }
 
     /// The link to the first place of the clauses entered that have a literal; some may not be
@@ -105,7 +106,7 @@ impl Occurrences {
         ensures within { result ≤ vec_len self.now.chains.entries }
         ensures first { (i : ℕ) → IsIn self.now.chains (code lit) i → IsOn self.now.chains.entries.items result i }
     {
-        self.chains.head(code(lit))
+        self.chains.head(lit.code())
     }
 
     /// The place that a link leads to, and the link to the next one.

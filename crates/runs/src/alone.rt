@@ -158,11 +158,8 @@ fn write_output<W: Write>(writer: &mut W, output: &mut Output) -> Result<(), Run
     Ok(())
 }
 
-/// Decides the formula of a DIMACS text by the plan: writes the proof, flushes it, and then writes
-/// and flushes the answer. The proof of a satisfiable formula is empty. `RunFault` says when each
-/// fault comes and what is written then. Of the two clauses `says` is all of it, with the very
-/// bytes; `answer_is_right` says of a run that ends well only that its answer is right.
-pub fn run_one_by_plan<R: Read + Drop, W: Write, P: Write>(
+/// What `run` does by a plan, without threads.
+fn run_alone<R: Read + Drop, W: Write, P: Write>(
     alloc: Global,
     input: R,
     answer: &mut W,
@@ -189,7 +186,7 @@ pub fn run_one_by_plan<R: Read + Drop, W: Write, P: Write>(
     Ok(output.verdict)
 }
 
-/// `run_one_by_plan` by the ordered search, with a budget of 1 to 100,000 conflicts for the root.
+/// What `run` does, without threads.
 pub fn run_one<R: Read + Drop, W: Write, P: Write>(
     alloc: Global,
     input: R,
@@ -201,5 +198,5 @@ pub fn run_one<R: Read + Drop, W: Write, P: Write>(
     ensures says { RunSays standard (R.remaining input) (by_plan (ordered_within budget)) (P.contents proof.old) (P.contents proof.new) (W.contents answer.old) (W.contents answer.new) result }
     ensures answer_is_right { IfOk result (IsRightAnswer standard ordered (R.remaining input) (P.contents proof.old) (P.contents proof.new) (W.contents answer.old) (W.contents answer.new)) }
 {
-    run_one_by_plan(alloc, input, answer, proof, Plan::ordered(budget))
+    run_alone(alloc, input, answer, proof, Plan::ordered(budget))
 }

@@ -1,22 +1,23 @@
 //! A run that writes an answer and no proof.
-ghost use Rattle.std.specs.Prelude.{◌≤◌, IfOk, MatchOption};
+ghost use Rattle.std.specs.Prelude.{IfOk, MatchOption};
 ghost use Rattle.cnf.specs.Limits.{limits_of};
 ghost use Rattle.strategies.specs.Deciding.{IsModelOf, IsRefuted};
 ghost use Rattle.runs.specs.Answered.{AnswerSays, IsAnswerFor};
 
 use crate::fault::RunFault;
+use crate::limit::{Limit, LimitedGate};
+use crate::options::Options;
 use crate::output::write_text;
 use crate::verdict::Verdict;
 use cnf::{Formula, Limits, read_from_within};
 use cubes::Gate;
 use join::answer_bytes;
-use statistics::{Observer, Unobserved};
 use std::alloc::{AllocError, Global};
 use std::io::{Read, Write};
 use std::sync::Wait;
 use std::thread::Threads;
 use std::time::Clock;
-use strategies::{Stages, Strategy, decide_by_strategy};
+use strategies::{Observer, Strategy, decide_by_strategy};
 
 /// The verdict, and the text of the answer, where the formula has this model, or none.
 fn text_of(
@@ -43,34 +44,31 @@ fn text_of(
     }
 }
 
-/// What `answer_within` does. An observer is told once the formula is read, once it is decided, and
-/// before the answer is written.
-pub(crate) fn answer_observed<
+/// What `answer_with` does, but that a run which the limit or the gate ends answers `NoMemory`.
+pub(crate) fn answer_to_end<
     T: Threads + Wait + Clock + Sync,
     R: Read + Drop,
     W: Write,
     G: Gate + Sync,
-    O: Observer + Stages,
+    L: Limit + Sync,
+    O: Observer,
 >(
     rt: &T,
     alloc: Global,
     input: R,
-    limits: Limits,
+    options: &Options<'_, G, L, O>,
     answer: &mut W,
-    strategy: Strategy,
-    hands: usize,
-    gate: &G,
-    observer: &O,
 ) -> Result<Verdict, RunFault>
-    requires { (1 ≤ hands) × (hands ≤ 16) }
-    ensures { AnswerSays (limits_of limits) (R.remaining input) strategy (W.contents answer.old) (W.contents answer.new) result }
+    ensures { AnswerSays (limits_of options.now.limits) (R.remaining input) options.now.strategy (W.contents answer.old) (W.contents answer.new) result }
 {
+    let (limits, strategy, hands) = (options.limits, options.strategy, options.hands);
+    let (gate, observer) = (LimitedGate::of(options), options.observer);
     let formula = match read_from_within(alloc, input, limits) {
         Ok(formula) => formula,
         Err(fault) => return Err(RunFault::of_read(fault)),
     };
     observer.read(&formula);
-    let decided = decide_by_strategy(rt, alloc, &formula, strategy, hands, gate, observer);
+    let decided = decide_by_strategy(rt, alloc, &formula, strategy, hands, &gate, observer);
     let Ok(found) = decided else {
         return Err(RunFault::NoMemory);
     };
@@ -82,26 +80,4 @@ pub(crate) fn answer_observed<
     observer.answers();
     write_text(answer, &text, RunFault::AnswerWriteFailed)?;
     Ok(verdict)
-}
-
-/// Decides the formula of a DIMACS text by the strategy, by 1 to 16 hands, and writes and flushes the
-/// answer: the bytes that `run_within` writes. No proof is made of it, and none of its lines is
-/// kept. `RunFault` says when each fault comes and what is written then.
-pub fn answer_within<T: Threads + Wait + Clock + Sync, R: Read + Drop, W: Write, G: Gate + Sync>(
-    rt: &T,
-    alloc: Global,
-    input: R,
-    limits: Limits,
-    answer: &mut W,
-    strategy: Strategy,
-    hands: usize,
-    gate: &G,
-) -> Result<Verdict, RunFault>
-    requires { (1 ≤ hands) × (hands ≤ 16) }
-    ensures { AnswerSays (limits_of limits) (R.remaining input) strategy (W.contents answer.old) (W.contents answer.new) result }
-{
-    let observer = Unobserved;
-    answer_observed(
-        rt, alloc, input, limits, answer, strategy, hands, gate, &observer,
-    )
 }

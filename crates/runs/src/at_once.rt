@@ -1,4 +1,4 @@
-//! A run without threads, over facts that are kept elsewhere and that nobody vouches for. It goes
+//! A run over facts that are kept elsewhere and that nobody vouches for. It goes
 //! through the formula's tree once: the proof is written as the nodes come.
 ghost use Rattle.std.specs.Prelude.{◌≡◌, ◌⊎◌, [], length, IsNone, IfOk, IfErr, IfSome, MatchResult};
 ghost use Rattle.cdcl.specs.Plans.{search_from, first_units};
@@ -16,7 +16,7 @@ use crate::before_output::{lines_before, write_before};
 use crate::fault::RunFault;
 use crate::output::write_text;
 use crate::proof_stream::ProofStream;
-use crate::stored::GatheredFrom;
+use crate::stored::{GatheredFrom, Gathering};
 use crate::verdict::Verdict;
 use beginnings::{Unwatched, begun};
 use cdcl::Plan;
@@ -138,56 +138,36 @@ fn gather_at_once_by<R: Read + Drop, S: KeepsFacts + Drop, H: OpensOutcomes<S>, 
     }))
 }
 
-/// What `gather_stored` does for a formula that isn't satisfiable, by going through its tree once:
-/// each fact is asked for and checked once, and the proof is written as the nodes come. Where a cube
+/// What `gather_stored` does by the strategy's plan, for a formula that isn't satisfiable, by going
+/// through its tree once: each fact is asked for and checked once, and the proof is written as the nodes come. Where a cube
 /// turns out to have a model, it answers none: nothing of the answer is written, but some of a proof
 /// may be, which the formula hasn't. Who calls it begins the proof anew then, and calls
 /// `gather_stored`. `RunFault` says when each fault comes, but that want of memory, too, may come
 /// behind a beginning of the proof; once all nodes came, it is a proof that can't be written.
-pub fn gather_at_once<R: Read + Drop, S: KeepsFacts + Drop, W: Write, P: Write>(
-    alloc: Global,
-    input: R,
-    limits: Limits,
-    store: S,
-    answer: &mut W,
-    proof: &mut P,
-    plan: Plan,
-) -> Result<Option<GatheredFrom>, RunFault>
-    ensures answer_is_right { IfOk result (λ o. IfSome o (λ g. IsRightAnswer (limits_of limits) plan.search (R.remaining input) (P.contents proof.old) (P.contents proof.new) (W.contents answer.old) (W.contents answer.new) g.verdict)) }
-    ensures none { IfOk result (λ o. IsNone o → HasNoProof (limits_of limits) (R.remaining input) (W.contents answer.old) (W.contents answer.new)) }
-    ensures leaves { IfErr result (LeavesAtOnce (limits_of limits) plan.search (R.remaining input) (P.contents proof.old) (P.contents proof.new) (W.contents answer.old) (W.contents answer.new)) }
-    ensures says { AreTrueStored S.facts (limits_of limits) (R.remaining input) plan store →
-        IfOk result (λ o. IfSome o (λ g. WritesBoth (limits_of limits) (R.remaining input) (by_plan plan) (P.contents proof.old) (P.contents proof.new) (W.contents answer.old) (W.contents answer.new) g.verdict)) }
-{
-    gather_at_once_by(alloc, input, limits, store, answer, proof, plan, &OneHand)
-}
-
-/// What `gather_at_once` does, by so many hands: each checks facts in a thread of its own, where one
-/// can be started, before their cubes are asked for, if the store has them in the order of a tree. It
-/// writes the same, and takes memory as `gather_stored_by_hands` does.
-pub fn gather_at_once_by_hands<
-    T: Threads + Sync,
-    R: Read + Drop,
-    S: KeepsFacts + Drop,
-    W: Write,
-    P: Write,
->(
+pub fn gather_at_once<T: Threads + Sync, R: Read + Drop, S: KeepsFacts + Drop, W: Write, P: Write>(
     rt: &T,
     alloc: Global,
     input: R,
-    limits: Limits,
-    store: S,
+    gathering: Gathering<S>,
     answer: &mut W,
     proof: &mut P,
-    plan: Plan,
-    hands: usize,
 ) -> Result<Option<GatheredFrom>, RunFault>
-    ensures answer_is_right { IfOk result (λ o. IfSome o (λ g. IsRightAnswer (limits_of limits) plan.search (R.remaining input) (P.contents proof.old) (P.contents proof.new) (W.contents answer.old) (W.contents answer.new) g.verdict)) }
-    ensures none { IfOk result (λ o. IsNone o → HasNoProof (limits_of limits) (R.remaining input) (W.contents answer.old) (W.contents answer.new)) }
-    ensures leaves { IfErr result (LeavesAtOnce (limits_of limits) plan.search (R.remaining input) (P.contents proof.old) (P.contents proof.new) (W.contents answer.old) (W.contents answer.new)) }
-    ensures says { AreTrueStored S.facts (limits_of limits) (R.remaining input) plan store →
-        IfOk result (λ o. IfSome o (λ g. WritesBoth (limits_of limits) (R.remaining input) (by_plan plan) (P.contents proof.old) (P.contents proof.new) (W.contents answer.old) (W.contents answer.new) g.verdict)) }
+    ensures answer_is_right { IfOk result (λ o. IfSome o (λ g. IsRightAnswer (limits_of gathering.limits) gathering.strategy.plan.search (R.remaining input) (P.contents proof.old) (P.contents proof.new) (W.contents answer.old) (W.contents answer.new) g.verdict)) }
+    ensures none { IfOk result (λ o. IsNone o → HasNoProof (limits_of gathering.limits) (R.remaining input) (W.contents answer.old) (W.contents answer.new)) }
+    ensures leaves { IfErr result (LeavesAtOnce (limits_of gathering.limits) gathering.strategy.plan.search (R.remaining input) (P.contents proof.old) (P.contents proof.new) (W.contents answer.old) (W.contents answer.new)) }
+    ensures says { AreTrueStored S.facts (limits_of gathering.limits) (R.remaining input) gathering.strategy.plan gathering.store →
+        IfOk result (λ o. IfSome o (λ g. WritesBoth (limits_of gathering.limits) (R.remaining input) (by_plan gathering.strategy.plan) (P.contents proof.old) (P.contents proof.new) (W.contents answer.old) (W.contents answer.new) g.verdict)) }
 {
-    let hands = ManyHands { rt, count: hands };
+    let Gathering {
+        store,
+        limits,
+        strategy,
+        hands,
+    } = gathering;
+    let (plan, count) = (strategy.plan(), hands.get());
+    if count == 1 {
+        return gather_at_once_by(alloc, input, limits, store, answer, proof, plan, &OneHand);
+    }
+    let hands = ManyHands { rt, count };
     gather_at_once_by(alloc, input, limits, store, answer, proof, plan, &hands)
 }

@@ -1,6 +1,5 @@
 //! A run of the checker of proofs.
 ghost use Rattle.std.specs.Prelude.{◌≡◌, MatchResult};
-ghost use Rattle.theory.specs.Reading.{standard};
 ghost use Rattle.cnf.specs.Limits.{limits_of};
 ghost use Rattle.lrat.specs.Extended.{checked_formula};
 ghost use Rattle.runs.specs.Check.{CheckSays, checked_by};
@@ -13,9 +12,9 @@ use crate::proof_input::feed_all;
 use cnf::{Formula, Limits, read_from_within};
 use lrat::{ProofStream, Refusal, Variables};
 use messages::Refused;
-use statistics::{Observer, Unobserved};
 use std::alloc::Global;
 use std::io::{Read, Write};
+use strategies::Observer;
 
 /// How large the files of a check may be, and which variables the proof's clauses may have.
 #[derive(Clone, Copy)]
@@ -95,9 +94,13 @@ fn judge<P: Read>(
     Ok(Judged { verdict, named })
 }
 
-/// What `check_run_within` does by these rules, with the same faults; the answer also says why the
-/// proof is refused, if it is. An observer is told once, before the line is written.
-pub fn check_told<R: Read + Drop, P: Read + Drop, W: Write, O: Observer>(
+/// Checks a proof against the formula of a DIMACS text, by the checker of `lrat`: reads the
+/// formula, then the proof until there is one byte more than it may have, and writes and flushes
+/// one line, `accepted` or why it is refused. Each step is checked as its line ends, so it takes
+/// memory for the clauses that are there, and none for the text. `RunFault` says when each fault
+/// comes and what is written then. The answer also says why the proof is refused, if it is. An observer is
+/// told once, before the line is written.
+pub fn check_with<R: Read + Drop, P: Read + Drop, W: Write, O: Observer>(
     alloc: Global,
     formula: R,
     mut proof: P,
@@ -121,37 +124,4 @@ pub fn check_told<R: Read + Drop, P: Read + Drop, W: Write, O: Observer>(
     let checked = line.checked;
     let why = why_refused(judged.verdict, judged.named);
     Ok(Told { checked, why })
-}
-
-/// Checks a proof against the formula of a DIMACS text, by the checker of `lrat`: reads the
-/// formula, then the proof until there is one byte more than it may have, and writes and flushes
-/// one line, `accepted` or why it is refused. Each step is checked as its line ends, so it takes
-/// memory for the clauses that are there, and none for the text. `RunFault` says when each fault
-/// comes and what is written then.
-pub fn check_run_within<R: Read + Drop, P: Read + Drop, W: Write>(
-    alloc: Global,
-    formula: R,
-    proof: P,
-    limits: Limits,
-    answer: &mut W,
-) -> Result<Checked, RunFault>
-    ensures { CheckSays (limits_of limits) Variables.OfFormula (R.remaining formula) (P.remaining proof) (W.contents answer.old) (W.contents answer.new) result }
-{
-    let rules = CheckRules::within(limits);
-    match check_told(alloc, formula, proof, rules, answer, &Unobserved) {
-        Ok(told) => Ok(told.checked),
-        Err(fault) => Err(fault),
-    }
-}
-
-/// `check_run_within` the standard limits: of the proof it reads 4,294,967,297 bytes at most.
-pub fn check_run<R: Read + Drop, P: Read + Drop, W: Write>(
-    alloc: Global,
-    formula: R,
-    proof: P,
-    answer: &mut W,
-) -> Result<Checked, RunFault>
-    ensures { CheckSays standard Variables.OfFormula (R.remaining formula) (P.remaining proof) (W.contents answer.old) (W.contents answer.new) result }
-{
-    check_run_within(alloc, formula, proof, Limits::Standard, answer)
 }

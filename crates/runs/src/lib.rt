@@ -9,10 +9,12 @@ mod before_output;
 mod by_hands;
 mod check;
 mod checked_line;
+mod compatible;
 mod fault;
 mod laws;
 mod limit;
 mod limited;
+mod options;
 mod output;
 mod proof_input;
 mod proof_output;
@@ -22,18 +24,16 @@ mod threaded;
 mod tidy;
 mod verdict;
 
-pub use alone::{run_one, run_one_by_plan};
-pub use answered::answer_within;
-pub use at_once::{gather_at_once, gather_at_once_by_hands};
-pub use check::{CheckRules, Told, check_run, check_run_within, check_told};
+pub use alone::run_one;
+pub use at_once::gather_at_once;
+pub use check::{CheckRules, Told, check_with};
 pub use checked_line::Checked;
+pub use compatible::{check_run, run};
 pub use fault::RunFault;
 pub use laws::runs_write_the_same;
 pub use limit::{Limit, TimeLimit};
-pub use limited::{
-    answer_limited_observed, answer_limited_within, run_limited_observed, run_limited_within,
-};
-pub use stored::{GatheredFrom, gather_stored, gather_stored_by_hands};
-pub use threaded::{run, run_by_plan, run_within};
+pub use limited::{answer_with, run_with};
+pub use options::Options;
+pub use stored::{GatheredFrom, Gathering, gather_stored};
 pub use tidy::tidy_within;
 pub use verdict::Verdict;

@@ -1,6 +1,7 @@
 //! A limit of time.
 ghost use Rattle.std.specs.Prelude.{◌≡◌, true, IsSome};
 
+use crate::options::Options;
 use cdcl::{Counts, FirstSearch};
 use cubes::Gate;
 use kernel::Cube;
@@ -57,8 +58,17 @@ impl<R: Clock> Limit for TimeLimit<'_, R> {
 /// A gate that also stops the hands where a limit is reached.
 #[derive(Drop)]
 pub(crate) struct LimitedGate<'a, G, L> {
-    pub(crate) gate: &'a G,
-    pub(crate) limit: &'a L,
+    gate: &'a G,
+    limit: &'a L,
+}
+
+impl<'a, G, L> LimitedGate<'a, G, L> {
+    pub(crate) fn of<O>(options: &Options<'a, G, L, O>) -> LimitedGate<'a, G, L> {
+        LimitedGate {
+            gate: options.gate,
+            limit: options.limit,
+        }
+    }
 }
 
 impl<G: Gate, L: Limit> Gate for LimitedGate<'_, G, L> {

@@ -1,4 +1,4 @@
-//! A run without threads, over facts that are kept elsewhere and that nobody vouches for. Its proof
+//! A run over facts that are kept elsewhere and that nobody vouches for. Its proof
 //! is written while they are read again, so that no more than one of them is in memory.
 ghost use Rattle.std.specs.Prelude.{◌≡◌, List, ◌++◌, None, IfOk, IfErr, MatchResult, ℕ};
 ghost use Rattle.std.specs.Io.KnownBytes.{Appends};
@@ -21,13 +21,13 @@ use crate::verdict::Verdict;
 use beginnings::{Unwatched, begun};
 use cdcl::{Plan, Unkept};
 use cnf::{Formula, Limits, read_from_within};
-use cubes::{GivesOutcomes, OpenGate, Tree, Untaken, go_through};
+use cubes::{GivesOutcomes, HandCount, OpenGate, Tree, Untaken, go_through};
 use gathering::{CountsOutcomes, KeepsFacts, ManyHands, OneHand, OpensOutcomes};
 use join::LinesBefore;
 use std::alloc::Global;
 use std::io::{Read, Write};
 use std::thread::Threads;
-use strategies::{Strategy, Unstaged, answered};
+use strategies::{Strategy, Unobserved, answered};
 
 /// What a run over stored facts comes to.
 #[derive(Clone, Copy, Debug, PartialEq, Eq)]
@@ -37,6 +37,19 @@ pub struct GatheredFrom {
     pub taken: u64,
     /// So many cubes were solved for it, since no fact of them was checked.
     pub solved: u64,
+}
+
+/// Facts of a formula's cubes that are kept elsewhere, and how a run goes over them.
+#[derive(Drop)]
+pub struct Gathering<S> {
+    pub store: S,
+    /// How large the formula may be.
+    pub limits: Limits,
+    pub strategy: Strategy,
+    /// How many hands check facts. Several do so before their cubes are asked for, if the store has
+    /// them in the order of a tree, each in a thread of its own where one can be started. What is
+    /// written is the same.
+    pub hands: HandCount,
 }
 
 /// Writes the proof of what is searched, which isn't satisfiable, from the outcomes of its cubes,
@@ -127,7 +140,13 @@ fn gather_stored_by<R: Read + Drop, S: KeepsFacts + Drop, H: OpensOutcomes<S>, W
     };
     let (taken, solved) = (outcomes.taken(), outcomes.solved());
     let Ok(tree) = answered(
-        alloc, &formula, &begun, strategy, tree, &OpenGate, &Unstaged,
+        alloc,
+        &formula,
+        &begun,
+        strategy,
+        tree,
+        &OpenGate,
+        &Unobserved,
     ) else {
         return Err(RunFault::NoMemory);
     };
@@ -156,62 +175,43 @@ fn gather_stored_by<R: Read + Drop, S: KeepsFacts + Drop, H: OpensOutcomes<S>, W
     })
 }
 
-/// What `run_one_by_plan` does within these limits, where facts of the formula's cubes are kept
-/// elsewhere: it goes through the formula's tree twice, once to come to the verdict and once to
-/// write the proof, and asks for each cube's facts when it comes there. Nobody vouches for these:
-/// of the cubes that it needs, it takes what a check bears out, each time, and solves the others.
-/// So its answer is right whatever the store gives, and also where that changes in between; where
-/// the store tells what it gives, and all of that is true of the formula by the plan, the very
-/// bytes of `run_within` are written. The strategy has no search before its plan: whoever began the
-/// run has chosen that; its model may be lowered to the first one. It takes memory by the formula,
-/// a few bytes for each node of the tree, and the longest fact. `RunFault` says when each fault
-/// comes; in the second way through the tree want of memory is a proof that can't be written.
-pub fn gather_stored<R: Read + Drop, S: KeepsFacts + Drop, W: Write, P: Write>(
-    alloc: Global,
-    input: R,
-    limits: Limits,
-    store: S,
-    answer: &mut W,
-    proof: &mut P,
-    strategy: Strategy,
-) -> Result<GatheredFrom, RunFault>
-    requires { strategy.first ≡ None }
-    ensures answer_is_right { IfOk result (λ g. IsRightAnswer (limits_of limits) (search_by strategy) (R.remaining input) (P.contents proof.old) (P.contents proof.new) (W.contents answer.old) (W.contents answer.new) g.verdict) }
-    ensures leaves { IfErr result (LeavesStored (limits_of limits) (search_by strategy) (R.remaining input) (P.contents proof.old) (P.contents proof.new) (W.contents answer.old) (W.contents answer.new)) }
-    ensures says { AreTrueStored S.facts (limits_of limits) (R.remaining input) strategy.plan store →
-        IfOk result (λ g. WritesBoth (limits_of limits) (R.remaining input) strategy (P.contents proof.old) (P.contents proof.new) (W.contents answer.old) (W.contents answer.new) g.verdict) }
-{
-    gather_stored_by(
-        alloc, input, limits, store, answer, proof, strategy, &OneHand,
-    )
-}
-
-/// What `gather_stored` does, by so many hands: each checks facts in a thread of its own, where one
-/// can be started, before their cubes are asked for, if the store has them in the order of a tree. It
-/// writes the same. For each hand it takes memory by the formula once more, and by a few facts.
-pub fn gather_stored_by_hands<
-    T: Threads + Sync,
-    R: Read + Drop,
-    S: KeepsFacts + Drop,
-    W: Write,
-    P: Write,
->(
+/// What `run_with` does, where facts of the formula's cubes are kept elsewhere: it goes through the
+/// formula's tree twice, once to come to the verdict and once to write the proof, and asks for each
+/// cube's facts when it comes there. Nobody vouches for these: of the cubes that it needs, it takes
+/// what a check bears out, each time, and solves the others. So its answer is right whatever the
+/// store gives, and also where that changes in between; where the store tells what it gives, and all
+/// of that is true of the formula by the plan, the very bytes of `run_with` are written. The
+/// strategy has no search before its plan: whoever began the run has chosen that; its model may be
+/// lowered to the first one. It takes memory by the formula, a few bytes for each node of the tree,
+/// and the longest fact; by several hands, for each of them that of the formula once more, and of a
+/// few facts. `RunFault` says when each fault comes; in the second way through the tree want of
+/// memory is a proof that can't be written.
+pub fn gather_stored<T: Threads + Sync, R: Read + Drop, S: KeepsFacts + Drop, W: Write, P: Write>(
     rt: &T,
     alloc: Global,
     input: R,
-    limits: Limits,
-    store: S,
+    gathering: Gathering<S>,
     answer: &mut W,
     proof: &mut P,
-    strategy: Strategy,
-    hands: usize,
 ) -> Result<GatheredFrom, RunFault>
-    requires { strategy.first ≡ None }
-    ensures answer_is_right { IfOk result (λ g. IsRightAnswer (limits_of limits) (search_by strategy) (R.remaining input) (P.contents proof.old) (P.contents proof.new) (W.contents answer.old) (W.contents answer.new) g.verdict) }
-    ensures leaves { IfErr result (LeavesStored (limits_of limits) (search_by strategy) (R.remaining input) (P.contents proof.old) (P.contents proof.new) (W.contents answer.old) (W.contents answer.new)) }
-    ensures says { AreTrueStored S.facts (limits_of limits) (R.remaining input) strategy.plan store →
-        IfOk result (λ g. WritesBoth (limits_of limits) (R.remaining input) strategy (P.contents proof.old) (P.contents proof.new) (W.contents answer.old) (W.contents answer.new) g.verdict) }
+    requires { gathering.strategy.first ≡ None }
+    ensures answer_is_right { IfOk result (λ g. IsRightAnswer (limits_of gathering.limits) (search_by gathering.strategy) (R.remaining input) (P.contents proof.old) (P.contents proof.new) (W.contents answer.old) (W.contents answer.new) g.verdict) }
+    ensures leaves { IfErr result (LeavesStored (limits_of gathering.limits) (search_by gathering.strategy) (R.remaining input) (P.contents proof.old) (P.contents proof.new) (W.contents answer.old) (W.contents answer.new)) }
+    ensures says { AreTrueStored S.facts (limits_of gathering.limits) (R.remaining input) gathering.strategy.plan gathering.store →
+        IfOk result (λ g. WritesBoth (limits_of gathering.limits) (R.remaining input) gathering.strategy (P.contents proof.old) (P.contents proof.new) (W.contents answer.old) (W.contents answer.new) g.verdict) }
 {
-    let hands = ManyHands { rt, count: hands };
+    let Gathering {
+        store,
+        limits,
+        strategy,
+        hands,
+    } = gathering;
+    let count = hands.get();
+    if count == 1 {
+        return gather_stored_by(
+            alloc, input, limits, store, answer, proof, strategy, &OneHand,
+        );
+    }
+    let hands = ManyHands { rt, count };
     gather_stored_by(alloc, input, limits, store, answer, proof, strategy, &hands)
 }

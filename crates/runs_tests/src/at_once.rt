@@ -1,13 +1,16 @@
 //! What stands after a fault of a run over stored facts that goes through the tree once.
 
 use crate::facts_in_memory::FactsInMemory;
+use crate::plainly::gathering_of;
 use cdcl::Plan;
-use runs::{RunFault, gather_at_once, run_one_by_plan};
+use cubes::HandCount;
+use runs::{RunFault, gather_at_once, run_one};
 use samples::faulty::{Limited, Limits, ROOMY, UNFLUSHED};
 use samples::{FOUR, FOUR_PROOF};
 use std::alloc::{AllocError, Global};
 use std::fmt::Write;
 use std::test::Fail;
+use std::thread::Threads;
 
 const REFUTED: &[u8] = b"s UNSATISFIABLE\n";
 
@@ -20,7 +23,8 @@ struct Left<'a> {
 }
 
 /// Whether a run at budget 1 without facts leaves just this at writers of these limits.
-fn leaves(
+fn leaves<R: Threads + Sync>(
+    rt: &R,
     alloc: Global,
     text: &str,
     proof: Limits,
@@ -30,10 +34,9 @@ fn leaves(
     let store = FactsInMemory::new(alloc, Vec::new(alloc))?;
     let mut proof = Limited::new(alloc, proof);
     let mut answer = Limited::new(alloc, answer);
-    let limits = cnf::Limits::Standard;
-    let plan = Plan::ordered(1);
+    let gathering = gathering_of(store, Plan::ordered(1), HandCount::of(1));
     let input = text.as_bytes();
-    let result = gather_at_once(alloc, input, limits, store, &mut answer, &mut proof, plan);
+    let result = gather_at_once(rt, alloc, input, gathering, &mut answer, &mut proof);
     Ok(
         result == Err(left.fault)
             && proof.taken.as_slice() == left.proof
@@ -42,7 +45,8 @@ fn leaves(
 }
 
 /// Whether a run whose proof has room for so many bytes stops in it, before its answer.
-fn stops_in_proof(
+fn stops_in_proof<R: Threads + Sync>(
+    rt: &R,
     alloc: Global,
     text: &str,
     proof: &[u8],
@@ -53,39 +57,43 @@ fn stops_in_proof(
         proof: &proof[..room.min(proof.len())],
         answer: b"",
     };
-    leaves(alloc, text, Limits::of(room), ROOMY, &left)
+    leaves(rt, alloc, text, Limits::of(room), ROOMY, &left)
 }
 
 /// Whether a run whose answer has room for so many bytes stops in it, behind its whole proof.
-fn stops_in_answer(alloc: Global, room: usize) -> Result<bool, AllocError> {
+fn stops_in_answer<R: Threads + Sync>(
+    rt: &R,
+    alloc: Global,
+    room: usize,
+) -> Result<bool, AllocError> {
     let left = Left {
         fault: RunFault::AnswerWriteFailed,
         proof: FOUR_PROOF.as_bytes(),
         answer: &REFUTED[..room.min(REFUTED.len())],
     };
-    leaves(alloc, FOUR, ROOMY, Limits::of(room), &left)
+    leaves(rt, alloc, FOUR, ROOMY, Limits::of(room), &left)
 }
 
 /// Whether a run whose proof can't be flushed has no answer.
-fn stops_in_flush(alloc: Global) -> Result<bool, AllocError> {
+fn stops_in_flush(rt: &(impl Threads + Sync), alloc: Global) -> Result<bool, AllocError> {
     let left = Left {
         fault: RunFault::ProofWriteFailed,
         proof: FOUR_PROOF.as_bytes(),
         answer: b"",
     };
-    leaves(alloc, FOUR, UNFLUSHED, ROOMY, &left)
+    leaves(rt, alloc, FOUR, UNFLUSHED, ROOMY, &left)
 }
 
 #[test]
 fn writes_that_fail_leave_no_verdict(rt: HostRuntime) -> Result<(), Fail> {
     let proof = FOUR_PROOF.as_bytes();
     for room in 0..proof.len() {
-        let stops = stops_in_proof(rt.alloc(), FOUR, proof, room)?;
+        let stops = stops_in_proof(&rt, rt.alloc(), FOUR, proof, room)?;
         assert!(rt; stops, "room for {room} bytes of a proof");
     }
-    assert!(rt; stops_in_flush(rt.alloc())?, "no flush");
+    assert!(rt; stops_in_flush(&rt, rt.alloc())?, "no flush");
     for room in 0..REFUTED.len() {
-        let stops = stops_in_answer(rt.alloc(), room)?;
+        let stops = stops_in_answer(&rt, rt.alloc(), room)?;
         assert!(rt; stops, "room for {room} bytes of an answer");
     }
     Ok(())
@@ -134,8 +142,7 @@ fn pigeons(alloc: Global) -> Result<String, AllocError> {
 fn proof_of(alloc: Global, text: &str) -> Result<Vec<u8>, RunFault> {
     let mut proof = Vec::new(alloc);
     let mut answer = Vec::new(alloc);
-    let plan = Plan::ordered(1);
-    run_one_by_plan(alloc, text.as_bytes(), &mut answer, &mut proof, plan)?;
+    run_one(alloc, text.as_bytes(), &mut answer, &mut proof, 1)?;
     Ok(proof)
 }
 
@@ -147,7 +154,7 @@ fn a_write_on_the_way_may_fail(rt: HostRuntime) -> Result<(), Fail> {
     let proof = proof_of(rt.alloc(), text.as_str())?;
     assert!(rt; proof.len() > 150_000);
     for room in [0, 100_000] {
-        let stops = stops_in_proof(rt.alloc(), text.as_str(), &proof, room)?;
+        let stops = stops_in_proof(&rt, rt.alloc(), text.as_str(), &proof, room)?;
         assert!(rt; stops, "room for {room} bytes");
     }
     Ok(())

@@ -1,19 +1,18 @@
 //! Runs by strategies: which plan decides, by how many conflicts the search before it has; and the
 //! first model, whatever model was found.
-ghost use Rattle.std.specs.Prelude.{◌≤◌};
 
 use crate::facts_in_memory::FactsInMemory;
 use cdcl::Plan;
 use cnf::{Limits, read_formula};
-use cubes::OpenGate;
-use runs::{RunFault, answer_within, gather_stored, run_within};
+use cubes::{HandCount, OpenGate};
+use runs::{Gathering, Options, RunFault, TimeLimit, answer_with, gather_stored, run_with};
 use samples::{FOUR, FOUR_PROOF};
 use std::alloc::Global;
 use std::sync::Wait;
 use std::test::Fail;
 use std::thread::Threads;
 use std::time::Clock;
-use strategies::{Strategy, Unstaged, chosen};
+use strategies::{Strategy, Unobserved, chosen};
 
 /// Two clauses and more that make variable 1 true: the ordered search has a conflict before it finds
 /// the first model.
@@ -124,27 +123,23 @@ fn writes<R: Threads + Wait + Clock + Sync>(
     rt: &R,
     alloc: Global,
     row: &Row,
-    hands: usize,
-) -> Result<bool, RunFault>
-    requires { (1 ≤ hands) × (hands ≤ 16) }
-{
+    hands: HandCount,
+) -> Result<bool, RunFault> {
     let Some(strategy) = strategy_of(row) else {
         return Ok(false);
     };
-    let (limits, gate, text) = (Limits::Standard, OpenGate, row.text.as_bytes());
-    let (mut answer, mut proof, mut alone) = (Vec::new(alloc), Vec::new(alloc), Vec::new(alloc));
-    run_within(
-        rt,
-        alloc,
-        text,
-        limits,
-        &mut answer,
-        &mut proof,
+    let options = Options {
+        limits: Limits::Standard,
         strategy,
         hands,
-        &gate,
-    )?;
-    answer_within(rt, alloc, text, limits, &mut alone, strategy, hands, &gate)?;
+        gate: &OpenGate,
+        limit: &TimeLimit::begin(rt, None),
+        observer: &Unobserved,
+    };
+    let text = row.text.as_bytes();
+    let (mut answer, mut proof, mut alone) = (Vec::new(alloc), Vec::new(alloc), Vec::new(alloc));
+    run_with(rt, alloc, text, &options, &mut answer, &mut proof)?;
+    answer_with(rt, alloc, text, &options, &mut alone)?;
     Ok(
         answer.as_slice() == row.answer.as_bytes()
             && proof.as_slice() == row.proof.as_bytes()
@@ -154,24 +149,22 @@ fn writes<R: Threads + Wait + Clock + Sync>(
 
 /// Whether the plan that a row's strategy chooses writes the same where nothing is known of cubes,
 /// with the first model.
-fn gathers(alloc: Global, row: &Row) -> Result<bool, Fail> {
+fn gathers(rt: &(impl Threads + Sync), alloc: Global, row: &Row) -> Result<bool, Fail> {
     let Some(strategy) = strategy_of(row) else {
         return Ok(false);
     };
     let formula = read_formula(alloc, row.text.as_bytes())?;
-    let plan = chosen(alloc, &formula, strategy, &OpenGate, &Unstaged)?;
+    let plan = chosen(alloc, &formula, strategy, &OpenGate, &Unobserved)?;
     let store = FactsInMemory::new(alloc, Vec::new(alloc))?;
     let (mut answer, mut proof) = (Vec::new(alloc), Vec::new(alloc));
-    let (limits, strategy) = (Limits::Standard, strategy.chosen(plan));
-    gather_stored(
-        alloc,
-        row.text.as_bytes(),
-        limits,
+    let gathering = Gathering {
         store,
-        &mut answer,
-        &mut proof,
-        strategy,
-    )?;
+        limits: Limits::Standard,
+        strategy: strategy.chosen(plan),
+        hands: HandCount::of(1),
+    };
+    let text = row.text.as_bytes();
+    gather_stored(rt, alloc, text, gathering, &mut answer, &mut proof)?;
     Ok(answer.as_slice() == row.answer.as_bytes() && proof.as_slice() == row.proof.as_bytes())
 }
 
@@ -179,9 +172,13 @@ fn gathers(alloc: Global, row: &Row) -> Result<bool, Fail> {
 fn strategies_write(rt: HostRuntime) -> Result<(), Fail> {
     for row in &ROWS {
         for hands in [1, 2] {
-            assert!(rt; writes(&rt, rt.alloc(), row, hands)?, "{}", row.text);
+            assert!(rt;
+                writes(&rt, rt.alloc(), row, HandCount::of(hands))?,
+                "{}",
+                row.text
+            );
         }
-        assert!(rt; gathers(rt.alloc(), row)?, "gathered {}", row.text);
+        assert!(rt; gathers(&rt, rt.alloc(), row)?, "gathered {}", row.text);
     }
     Ok(())
 }

@@ -1,12 +1,12 @@
 //! Worked rows of checking: the line written for the bytes of a formula and a proof.
 use cnf::Limits;
 use lrat::Variables;
-use runs::{CheckRules, Checked, check_run, check_told};
+use runs::{CheckRules, Checked, check_run, check_with};
 use samples::faulty::Trickle;
 use samples::{FOUR, FOUR_PROOF, WIDE, WIDE_PROOF};
-use statistics::Unobserved;
 use std::alloc::Global;
 use std::test::Fail;
+use strategies::Unobserved;
 
 const ACCEPTED: &str = "accepted\n";
 
@@ -153,7 +153,7 @@ fn lines_of_extended_proofs(rt: HostRuntime) -> Result<(), Fail> {
         };
         let mut said = Vec::new(rt.alloc());
         let (text, steps) = (FOUR.as_bytes(), proof.as_bytes());
-        let _ = check_told(rt.alloc(), text, steps, rules, &mut said, &Unobserved)?;
+        let _ = check_with(rt.alloc(), text, steps, rules, &mut said, &Unobserved)?;
         assert!(rt; said.as_slice() == line.as_bytes(), "{proof}");
     }
     Ok(())

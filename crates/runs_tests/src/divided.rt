@@ -1,10 +1,10 @@
 //! Whole runs by plans that divide the formula, by one hand and by several. The rows of `FIVE` and
 //! `EIGHT` are worked out by hand, the others by a program of its own, which goes by the definition.
-ghost use Rattle.std.specs.Prelude.{◌≤◌};
 
+use crate::plainly::run_plainly;
 use cdcl::Plan;
-use cubes::OpenGate;
-use runs::{RunFault, run_by_plan, run_one_by_plan};
+use cubes::HandCount;
+use runs::RunFault;
 use samples::{EIGHT, FIVE, soon_stable};
 use std::alloc::Global;
 use std::sync::Wait;
@@ -80,53 +80,30 @@ fn are_wanted(row: &Row, answer: &[u8], proof: &[u8]) -> bool {
     answer == row.answer.as_bytes() && proof == row.proof.as_bytes()
 }
 
-/// Whether a run without threads writes what is wanted.
-fn writes(alloc: Global, row: &Row) -> Result<bool, RunFault> {
-    let Some(plan) = plan_of(row) else {
-        return Ok(false);
-    };
-    let mut proof = Vec::new(alloc);
-    let mut answer = Vec::new(alloc);
-    run_one_by_plan(alloc, row.text.as_bytes(), &mut answer, &mut proof, plan)?;
-    Ok(are_wanted(row, &answer, &proof))
-}
-
 /// Whether so many hands write what is wanted.
 fn hands_write<R: Threads + Wait + Clock + Sync>(
     rt: &R,
     alloc: Global,
     row: &Row,
-    hands: usize,
-) -> Result<bool, RunFault>
-    requires { (1 ≤ hands) × (hands ≤ 16) }
-{
+    hands: HandCount,
+) -> Result<bool, RunFault> {
     let Some(plan) = plan_of(row) else {
         return Ok(false);
     };
     let mut proof = Vec::new(alloc);
     let mut answer = Vec::new(alloc);
-    let text = row.text.as_bytes();
-    run_by_plan(
-        rt,
-        alloc,
-        text,
-        &mut answer,
-        &mut proof,
-        plan,
-        hands,
-        &OpenGate,
-    )?;
+    run_plainly(rt, alloc, row.text, plan, hands, &mut answer, &mut proof)?;
     Ok(are_wanted(row, &answer, &proof))
 }
 
-/// Whether a row's run does, without threads, by one hand and by eight.
+/// Whether a row's run does, by one hand and by eight.
 fn holds<R: Threads + Wait + Clock + Sync>(
     rt: &R,
     alloc: Global,
     row: &Row,
 ) -> Result<bool, RunFault> {
-    let is_written = writes(alloc, row)? && hands_write(rt, alloc, row, 1)?;
-    Ok(is_written && hands_write(rt, alloc, row, 8)?)
+    let is_written = hands_write(rt, alloc, row, HandCount::of(1))?;
+    Ok(is_written && hands_write(rt, alloc, row, HandCount::of(8))?)
 }
 
 #[test]

@@ -1,12 +1,17 @@
 //! Examples from end to end: refuted by each search at budgets from the least on, and each proof accepted.
 ghost use Rattle.std.specs.Prelude.{◌≤◌};
 
+use crate::plainly::run_plainly;
 use cdcl::{Plan, Search};
-use runs::{Checked, RunFault, Verdict, check_run, run_one_by_plan};
+use cubes::HandCount;
+use runs::{Checked, RunFault, Verdict, check_run};
 use std::alloc::{AllocError, Global};
 use std::fmt::Write;
 use std::process::Abort;
+use std::sync::Wait;
 use std::test::Fail;
+use std::thread::Threads;
+use std::time::Clock;
 
 const HOLES: u32 = 6;
 
@@ -84,11 +89,19 @@ fn plan_of(search: Search, budget: u32) -> Plan
 }
 
 /// The proof of an unsatisfiable formula, or none where something else is answered.
-fn proof_of(alloc: Global, text: &str, plan: Plan) -> Result<Option<Vec<u8>>, RunFault> {
+fn proof_of<R: Threads + Wait + Clock + Sync>(
+    rt: &R,
+    alloc: Global,
+    text: &str,
+    plan: Plan,
+) -> Result<Option<Vec<u8>>, RunFault> {
     let mut proof = Vec::new(alloc);
     let mut answer = Vec::new(alloc);
-    let verdict = run_one_by_plan(alloc, text.as_bytes(), &mut answer, &mut proof, plan)?;
-    if verdict != Verdict::Unsatisfiable || answer.as_slice() != b"s UNSATISFIABLE\n".as_slice() {
+    let hand = HandCount::of(1);
+    let verdict = run_plainly(rt, alloc, text, plan, hand, &mut answer, &mut proof)?;
+    if verdict != Some(Verdict::Unsatisfiable)
+        || answer.as_slice() != b"s UNSATISFIABLE\n".as_slice()
+    {
         return Ok(None);
     }
     Ok(Some(proof))
@@ -102,18 +115,28 @@ fn is_accepted(alloc: Global, text: &str, proof: &[u8]) -> Result<bool, RunFault
 }
 
 /// Whether an unsatisfiable formula is refuted by a plan, with a proof that is accepted.
-fn is_refuted(alloc: Global, text: &str, plan: Plan) -> Result<bool, RunFault> {
-    match proof_of(alloc, text, plan)? {
+fn is_refuted<R: Threads + Wait + Clock + Sync>(
+    rt: &R,
+    alloc: Global,
+    text: &str,
+    plan: Plan,
+) -> Result<bool, RunFault> {
+    match proof_of(rt, alloc, text, plan)? {
         Some(proof) => is_accepted(alloc, text, &proof),
         None => Ok(false),
     }
 }
 
 /// Checks that a formula is refuted by a search, at each of some budgets.
-fn check_budgets(rt: &impl Abort, alloc: Global, text: &str, search: Search) -> Result<(), Fail> {
+fn check_budgets<R: Abort + Threads + Wait + Clock + Sync>(
+    rt: &R,
+    alloc: Global,
+    text: &str,
+    search: Search,
+) -> Result<(), Fail> {
     for budget in [1, 2, 10, 1000] {
         let plan = plan_of(search, budget);
-        assert!(rt; is_refuted(alloc, text, plan)?, "budget {budget}");
+        assert!(rt; is_refuted(rt, alloc, text, plan)?, "budget {budget}");
     }
     Ok(())
 }

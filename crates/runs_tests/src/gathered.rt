@@ -2,15 +2,17 @@
 //! are worked out by hand.
 
 use crate::facts_in_memory::FactsInMemory;
+use crate::plainly::gathering_of;
 use crate::true_packs::plan_of;
 use cdcl::Search;
-use cnf::{Limits, read_formula};
+use cnf::read_formula;
+use cubes::HandCount;
 use packs::{Fact, read_pack};
 use runs::{gather_at_once, gather_stored};
 use samples::{FOUR, FOUR_PROOF};
 use std::alloc::{AllocError, Global};
 use std::test::Fail;
-use strategies::Strategy;
+use std::thread::Threads;
 
 /// The cube without literals is split on 1, or on 2, or on 3.
 const SPLIT_1: &[u8] = &[0, 2, 1, 0, 0];
@@ -344,20 +346,14 @@ fn store_of(alloc: Global, row: &Row) -> Result<Option<FactsInMemory>, Fail> {
 }
 
 /// Whether a row's run takes, solves and writes what is wanted.
-fn writes(alloc: Global, row: &Row) -> Result<bool, Fail> {
+fn writes(rt: &(impl Threads + Sync), alloc: Global, row: &Row) -> Result<bool, Fail> {
     let Some(store) = store_of(alloc, row)? else {
         return Ok(false);
     };
     let (mut proof, mut answer) = (Vec::new(alloc), Vec::new(alloc));
-    let gathered = gather_stored(
-        alloc,
-        row.text.as_bytes(),
-        Limits::Standard,
-        store,
-        &mut answer,
-        &mut proof,
-        Strategy::of(plan_of(row.search)),
-    )?;
+    let gathering = gathering_of(store, plan_of(row.search), HandCount::of(1));
+    let text = row.text.as_bytes();
+    let gathered = gather_stored(rt, alloc, text, gathering, &mut answer, &mut proof)?;
     Ok(
         gathered.taken == row.taken
             && gathered.solved == row.solved
@@ -368,20 +364,14 @@ fn writes(alloc: Global, row: &Row) -> Result<bool, Fail> {
 
 /// Whether a row's run writes the same where it goes through the tree once, with a store that is lent;
 /// of a formula with a model, which has no proof, it answers nothing.
-fn writes_at_once(alloc: Global, row: &Row) -> Result<bool, Fail> {
+fn writes_at_once(rt: &(impl Threads + Sync), alloc: Global, row: &Row) -> Result<bool, Fail> {
     let Some(mut store) = store_of(alloc, row)? else {
         return Ok(false);
     };
     let (mut proof, mut answer) = (Vec::new(alloc), Vec::new(alloc));
-    let gathered = gather_at_once(
-        alloc,
-        row.text.as_bytes(),
-        Limits::Standard,
-        &mut store,
-        &mut answer,
-        &mut proof,
-        plan_of(row.search),
-    )?;
+    let gathering = gathering_of(&mut store, plan_of(row.search), HandCount::of(1));
+    let text = row.text.as_bytes();
+    let gathered = gather_at_once(rt, alloc, text, gathering, &mut answer, &mut proof)?;
     let Some(gathered) = gathered else {
         return Ok(row.proof.is_empty() && answer.is_empty());
     };
@@ -396,8 +386,12 @@ fn writes_at_once(alloc: Global, row: &Row) -> Result<bool, Fail> {
 #[test]
 fn runs_over_packs(rt: HostRuntime) -> Result<(), Fail> {
     for row in &ROWS {
-        assert!(rt; writes(rt.alloc(), row)?, "{}", row.name);
-        assert!(rt; writes_at_once(rt.alloc(), row)?, "{} at once", row.name);
+        assert!(rt; writes(&rt, rt.alloc(), row)?, "{}", row.name);
+        assert!(rt;
+            writes_at_once(&rt, rt.alloc(), row)?,
+            "{} at once",
+            row.name
+        );
     }
     Ok(())
 }

@@ -1,17 +1,19 @@
 //! Calls within the large limits, and the standard ones beside them.
-ghost use Rattle.std.specs.Prelude.{◌≤◌};
 
 use cdcl::Plan;
 use cnf::{Limits, Place, ReadFault};
-use cubes::OpenGate;
-use runs::{Checked, RunFault, Verdict, answer_within, check_run, check_run_within, run_within};
+use cubes::{HandCount, OpenGate};
+use runs::{
+    CheckRules, Checked, Options, RunFault, TimeLimit, Verdict, answer_with, check_run, check_with,
+    run_with,
+};
 use samples::{FOUR, FOUR_PROOF};
 use std::alloc::Global;
 use std::sync::Wait;
 use std::test::Fail;
 use std::thread::Threads;
 use std::time::Clock;
-use strategies::Strategy;
+use strategies::{Strategy, Unobserved};
 
 /// One more variable than the standard limits allow, and two clauses that refute it.
 const WIDE: &[u8] = b"p cnf 262144 2\n1 0\n-1 0\n";
@@ -21,15 +23,19 @@ const REFUSED: RunFault = RunFault::Read(ReadFault::OverLimit(Place { line: 1, c
 
 /// Whether a run within the large limits writes the four clauses' proof.
 fn runs(rt: &(impl Threads + Wait + Clock + Sync), alloc: Global) -> Result<bool, RunFault> {
-    let (limits, gate) = (Limits::Large, OpenGate);
-    let strategy = Strategy::of(Plan::ordered(1));
     let (mut said, mut lines) = (Vec::new(alloc), Vec::new(alloc));
+    let options = Options {
+        limits: Limits::Large,
+        strategy: Strategy::of(Plan::ordered(1)),
+        hands: HandCount::of(2),
+        gate: &OpenGate,
+        limit: &TimeLimit::begin(rt, None),
+        observer: &Unobserved,
+    };
     let formula = FOUR.as_bytes();
-    let verdict = run_within(
-        rt, alloc, formula, limits, &mut said, &mut lines, strategy, 2, &gate,
-    )?;
+    let verdict = run_with(rt, alloc, formula, &options, &mut said, &mut lines)?;
     Ok(
-        verdict == Verdict::Unsatisfiable
+        verdict == Some(Verdict::Unsatisfiable)
             && lines.as_slice() == FOUR_PROOF.as_bytes()
             && said.as_slice() == b"s UNSATISFIABLE\n".as_slice(),
     )
@@ -43,29 +49,36 @@ fn is_refusal(fault: RunFault) -> Result<bool, RunFault> {
     Ok(fault == REFUSED)
 }
 
+/// The answer to the wide formula within limits.
+fn answer_of<R: Threads + Wait + Clock + Sync>(
+    rt: &R,
+    alloc: Global,
+    limits: Limits,
+    said: &mut Vec<u8>,
+) -> Result<Option<Verdict>, RunFault> {
+    let options = Options {
+        limits,
+        strategy: Strategy::of(Plan::ordered(1000)),
+        hands: HandCount::of(1),
+        gate: &OpenGate,
+        limit: &TimeLimit::begin(rt, None),
+        observer: &Unobserved,
+    };
+    answer_with(rt, alloc, WIDE, &options, said)
+}
+
 /// Whether the wide formula is refused within the standard limits, and answered within the large
 /// ones.
 fn answers(rt: &(impl Threads + Wait + Clock + Sync), alloc: Global) -> Result<bool, RunFault> {
-    let (strategy, gate) = (Strategy::of(Plan::ordered(1000)), OpenGate);
     let mut said = Vec::new(alloc);
-    let standard = Limits::Standard;
-    let Err(fault) = answer_within(rt, alloc, WIDE, standard, &mut said, strategy, 1, &gate) else {
+    let Err(fault) = answer_of(rt, alloc, Limits::Standard, &mut said) else {
         return Ok(false);
     };
     let is_refused = is_refusal(fault)? && said.is_empty();
-    let verdict = answer_within(
-        rt,
-        alloc,
-        WIDE,
-        Limits::Large,
-        &mut said,
-        strategy,
-        1,
-        &gate,
-    )?;
+    let verdict = answer_of(rt, alloc, Limits::Large, &mut said)?;
     Ok(
         is_refused
-            && verdict == Verdict::Unsatisfiable
+            && verdict == Some(Verdict::Unsatisfiable)
             && said.as_slice() == b"s UNSATISFIABLE\n".as_slice(),
     )
 }
@@ -78,8 +91,13 @@ fn checks(alloc: Global) -> Result<bool, RunFault> {
         return Ok(false);
     };
     let is_refused = is_refusal(fault)? && said.is_empty();
-    let checked = check_run_within(alloc, WIDE, proof, Limits::Large, &mut said)?;
-    Ok(is_refused && checked == Checked::Accepted && said.as_slice() == b"accepted\n".as_slice())
+    let rules = CheckRules::within(Limits::Large);
+    let told = check_with(alloc, WIDE, proof, rules, &mut said, &Unobserved)?;
+    Ok(
+        is_refused
+            && told.checked == Checked::Accepted
+            && said.as_slice() == b"accepted\n".as_slice(),
+    )
 }
 
 #[test]

@@ -40,6 +40,8 @@ mod one_byte;
 #[cfg(test)]
 mod other_solvers;
 #[cfg(test)]
+mod plainly;
+#[cfg(test)]
 mod rows;
 #[cfg(test)]
 mod stored_hands;

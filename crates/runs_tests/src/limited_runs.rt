@@ -1,11 +1,11 @@
-//! `run_limited_within` in memory: what it writes, and what it comes to, by how often its limit is asked
+//! `run_with` in memory: what it writes, and what it comes to, by how often its limit is asked
 //! before it is reached.
-ghost use Rattle.std.specs.Prelude.{◌≤◌, ⊤};
+ghost use Rattle.std.specs.Prelude.{⊤};
 
 use cdcl::Plan;
 use cnf::{Place, ReadFault};
-use cubes::OpenGate;
-use runs::{Limit, RunFault, Verdict, run_limited_within};
+use cubes::{HandCount, OpenGate};
+use runs::{Limit, Options, RunFault, Verdict, run_with};
 use samples::faulty::{Limited, Limits};
 use samples::{FOUR, FOUR_PROOF};
 use std::alloc::Global;
@@ -13,7 +13,7 @@ use std::sync::Wait;
 use std::sync::atomic::{AtomicU64, Ordering};
 use std::thread::Threads;
 use std::time::Clock;
-use strategies::Strategy;
+use strategies::{Strategy, Unobserved};
 
 /// A limit that is reached once it was asked so often.
 #[derive(Drop)]
@@ -109,27 +109,25 @@ static ROWS: [Row; 9] = [
 
 /// Whether a run by so many hands, with a budget of one conflict for the root, comes to what a row
 /// says.
-fn holds<R: Threads + Wait + Clock + Sync>(rt: &R, alloc: Global, row: &Row, hands: usize) -> bool
-    requires { (1 ≤ hands) × (hands ≤ 16) }
-{
+fn holds<R: Threads + Wait + Clock + Sync>(
+    rt: &R,
+    alloc: Global,
+    row: &Row,
+    hands: HandCount,
+) -> bool {
     let limit = Asked::new(row.often);
     let mut answer = Limited::new(alloc, Limits::of(row.room));
     let mut proof = Vec::new(alloc);
     let input = row.formula.as_bytes();
-    let strategy = Strategy::of(Plan::ordered(1));
-    let gate = OpenGate;
-    let result = run_limited_within(
-        rt,
-        alloc,
-        input,
-        cnf::Limits::Standard,
-        &mut answer,
-        &mut proof,
-        strategy,
+    let options = Options {
+        limits: cnf::Limits::Standard,
+        strategy: Strategy::of(Plan::ordered(1)),
         hands,
-        &gate,
-        &limit,
-    );
+        gate: &OpenGate,
+        limit: &limit,
+        observer: &Unobserved,
+    };
+    let result = run_with(rt, alloc, input, &options, &mut answer, &mut proof);
     result == row.result
         && answer.taken.as_slice() == row.answer.as_bytes()
         && proof.as_slice() == row.proof.as_bytes()
@@ -140,7 +138,7 @@ fn a_limit_ends_a_run(rt: HostRuntime) {
     for row in &ROWS {
         for hands in [1, 2, 8] {
             assert!(rt;
-                holds(&rt, rt.alloc(), row, hands),
+                holds(&rt, rt.alloc(), row, HandCount::of(hands)),
                 "{hands} hands, asked {} times",
                 row.often
             );

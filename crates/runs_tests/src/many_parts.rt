@@ -5,9 +5,8 @@
 //! is true.
 ghost use Rattle.std.specs.Prelude.{◌≤◌};
 
-use cdcl::Plan;
 use cubes::OpenGate;
-use runs::{RunFault, Verdict, run_by_plan, run_one_by_plan};
+use runs::{RunFault, Verdict, run, run_one};
 use samples::faulty::{Limited, Limits};
 use std::alloc::{AllocError, Global};
 use std::fmt::Write;
@@ -67,7 +66,7 @@ fn formula(alloc: Global) -> Result<String, AllocError> {
 /// The proof that a run without threads writes.
 fn proof_alone(alloc: Global, text: &[u8]) -> Result<Vec<u8>, RunFault> {
     let (mut answer, mut proof) = (Vec::new(alloc), Vec::new(alloc));
-    run_one_by_plan(alloc, text, &mut answer, &mut proof, Plan::ordered(1))?;
+    run_one(alloc, text, &mut answer, &mut proof, 1)?;
     Ok(proof)
 }
 
@@ -86,9 +85,8 @@ fn hands_write<R: Threads + Wait + Clock + Sync>(
 ) -> bool {
     let mut answer = Vec::new(alloc);
     let mut lines = Limited::new(alloc, Limits::of(room));
-    let plan = Plan::ordered(1);
     let gate = OpenGate;
-    let result = run_by_plan(rt, alloc, text, &mut answer, &mut lines, plan, 3, &gate);
+    let result = run(rt, alloc, text, &mut answer, &mut lines, 1, 3, &gate);
     result == wanted && proof.get(..room) == Some(lines.taken.as_slice())
 }
 

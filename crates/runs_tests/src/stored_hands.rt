@@ -2,17 +2,18 @@
 //! take as many facts.
 
 use crate::facts_in_memory::FactsInMemory;
+use crate::plainly::gathering_of;
 use crate::true_packs::{pack_of, plan_of};
 use cdcl::{Plan, Search};
-use cnf::{Limits, read_formula};
+use cnf::read_formula;
+use cubes::HandCount;
 use lines::Row;
 use packs::{Claim, Fact, read_pack};
-use runs::{GatheredFrom, RunFault, gather_stored, gather_stored_by_hands};
+use runs::{GatheredFrom, RunFault, gather_stored};
 use samples::{EIGHT, SIXTEEN, TWO_MODELS};
 use std::alloc::{AllocError, Global};
 use std::test::Fail;
 use std::thread::Threads;
-use strategies::Strategy;
 
 /// What becomes of the facts of a whole tree.
 #[derive(Clone, Copy)]
@@ -103,34 +104,6 @@ struct Written {
     answer: Vec<u8>,
 }
 
-/// A run over facts by one hand.
-fn written_alone(
-    alloc: Global,
-    text: &str,
-    facts: Vec<Fact>,
-    plan: Plan,
-) -> Result<Written, RunFault> {
-    let store = FactsInMemory::new(alloc, facts).map_err(|_| RunFault::NoMemory)?;
-    let (mut proof, mut answer) = (Vec::new(alloc), Vec::new(alloc));
-    let limits = Limits::Standard;
-    let input = text.as_bytes();
-    let strategy = Strategy::of(plan);
-    let gathered = gather_stored(
-        alloc,
-        input,
-        limits,
-        store,
-        &mut answer,
-        &mut proof,
-        strategy,
-    )?;
-    Ok(Written {
-        gathered,
-        proof,
-        answer,
-    })
-}
-
 /// A run over facts by so many hands.
 fn written_by<R: Threads + Sync>(
     rt: &R,
@@ -138,23 +111,13 @@ fn written_by<R: Threads + Sync>(
     text: &str,
     facts: Vec<Fact>,
     plan: Plan,
-    hands: usize,
+    hands: HandCount,
 ) -> Result<Written, RunFault> {
     let store = FactsInMemory::new(alloc, facts).map_err(|_| RunFault::NoMemory)?;
     let (mut proof, mut answer) = (Vec::new(alloc), Vec::new(alloc));
-    let limits = Limits::Standard;
+    let gathering = gathering_of(store, plan, hands);
     let input = text.as_bytes();
-    let gathered = gather_stored_by_hands(
-        rt,
-        alloc,
-        input,
-        limits,
-        store,
-        &mut answer,
-        &mut proof,
-        Strategy::of(plan),
-        hands,
-    )?;
+    let gathered = gather_stored(rt, alloc, input, gathering, &mut answer, &mut proof)?;
     Ok(Written {
         gathered,
         proof,
@@ -168,11 +131,12 @@ fn is_same<R: Threads + Sync>(
     alloc: Global,
     run: (&str, Search),
     change: Change,
-    hands: usize,
+    hands: HandCount,
 ) -> Result<bool, Fail> {
     let (text, search) = run;
     let plan = plan_of(search);
-    let alone = written_alone(alloc, text, changed_facts(alloc, text, plan, change)?, plan)?;
+    let facts = changed_facts(alloc, text, plan, change)?;
+    let alone = written_by(rt, alloc, text, facts, plan, HandCount::of(1))?;
     let facts = changed_facts(alloc, text, plan, change)?;
     let by = written_by(rt, alloc, text, facts, plan, hands)?;
     Ok(
@@ -186,8 +150,8 @@ fn is_same<R: Threads + Sync>(
 fn hands_write_what_one_hand_writes(rt: HostRuntime) -> Result<(), Fail> {
     for run in &RUNS {
         for place in 0..CHANGES.len() {
-            for hands in [0, 1, 2, 3, 8] {
-                let same = is_same(&rt, rt.alloc(), *run, CHANGES[place], hands)?;
+            for hands in [2, 3, 8] {
+                let same = is_same(&rt, rt.alloc(), *run, CHANGES[place], HandCount::of(hands))?;
                 assert!(rt; same, "change {place} of {} by {hands} hands", run.0);
             }
         }

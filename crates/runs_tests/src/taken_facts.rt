@@ -2,15 +2,17 @@
 //! each cube: a formula that has no facts is solved at its root.
 
 use crate::facts_in_memory::FactsInMemory;
+use crate::plainly::gathering_of;
 use cdcl::{Plan, Search};
-use cnf::{Limits, Lit};
+use cnf::Lit;
+use cubes::HandCount;
 use lines::Row;
 use packs::{Claim, Fact};
 use runs::{GatheredFrom, RunFault, gather_at_once, gather_stored};
 use samples::{FOUR, cube_of};
 use std::alloc::{AllocError, Global};
 use std::test::Fail;
-use strategies::Strategy;
+use std::thread::Threads;
 
 /// What is said of a cube; where it is refuted, by an empty clause with these hints.
 #[derive(Clone, Copy)]
@@ -192,33 +194,31 @@ fn plan_of(search: Search) -> Plan {
 }
 
 /// Whether a run over a case's store takes, solves and answers what is wanted.
-fn is_taken(alloc: Global, case: &Case, store: FactsInMemory) -> Result<bool, RunFault> {
+fn is_taken<R: Threads + Sync>(
+    rt: &R,
+    alloc: Global,
+    case: &Case,
+    store: FactsInMemory,
+) -> Result<bool, RunFault> {
     let (mut proof, mut answer) = (Vec::new(alloc), Vec::new(alloc));
-    let gathered = gather_stored(
-        alloc,
-        case.text.as_bytes(),
-        Limits::Standard,
-        store,
-        &mut answer,
-        &mut proof,
-        Strategy::of(plan_of(case.search)),
-    )?;
+    let gathering = gathering_of(store, plan_of(case.search), HandCount::of(1));
+    let text = case.text.as_bytes();
+    let gathered = gather_stored(rt, alloc, text, gathering, &mut answer, &mut proof)?;
     let GatheredFrom { taken, solved, .. } = gathered;
     Ok(taken == case.taken && solved == case.solved && answer.as_slice() == case.answer.as_bytes())
 }
 
 /// Whether it is so by going through the tree once, which answers nothing of a model.
-fn is_taken_at_once(alloc: Global, case: &Case, store: FactsInMemory) -> Result<bool, RunFault> {
+fn is_taken_at_once<R: Threads + Sync>(
+    rt: &R,
+    alloc: Global,
+    case: &Case,
+    store: FactsInMemory,
+) -> Result<bool, RunFault> {
     let (mut proof, mut answer) = (Vec::new(alloc), Vec::new(alloc));
-    let gathered = gather_at_once(
-        alloc,
-        case.text.as_bytes(),
-        Limits::Standard,
-        store,
-        &mut answer,
-        &mut proof,
-        plan_of(case.search),
-    )?;
+    let gathering = gathering_of(store, plan_of(case.search), HandCount::of(1));
+    let text = case.text.as_bytes();
+    let gathered = gather_at_once(rt, alloc, text, gathering, &mut answer, &mut proof)?;
     let Some(gathered) = gathered else {
         return Ok(case.answer == MODEL && answer.is_empty());
     };
@@ -233,10 +233,10 @@ fn is_taken_at_once(alloc: Global, case: &Case, store: FactsInMemory) -> Result<
 fn checked_facts_are_taken(rt: HostRuntime) -> Result<(), Fail> {
     for case in &CASES {
         let store = store_of(rt.alloc(), case)?;
-        assert!(rt; is_taken(rt.alloc(), case, store)?, "{}", case.name);
+        assert!(rt; is_taken(&rt, rt.alloc(), case, store)?, "{}", case.name);
         let store = store_of(rt.alloc(), case)?;
         assert!(rt;
-            is_taken_at_once(rt.alloc(), case, store)?,
+            is_taken_at_once(&rt, rt.alloc(), case, store)?,
             "{} at once",
             case.name
         );

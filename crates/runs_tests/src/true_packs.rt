@@ -2,15 +2,19 @@
 //! of a run.
 
 use crate::facts_in_memory::FactsInMemory;
+use crate::plainly::{gathering_of, run_plainly};
 use cdcl::{Plan, Search, Solver};
-use cnf::{Formula, Limits, read_formula};
+use cnf::{Formula, read_formula};
+use cubes::HandCount;
 use gathering::fact_of;
 use packs::{Claim, read_pack, write_fact};
-use runs::{GatheredFrom, RunFault, Verdict, gather_at_once, gather_stored, run_one_by_plan};
+use runs::{GatheredFrom, RunFault, Verdict, gather_at_once, gather_stored};
 use samples::{EIGHT, SIXTEEN, TWO_MODELS, cube_of};
 use std::alloc::{AllocError, Global};
+use std::sync::Wait;
 use std::test::Fail;
-use strategies::Strategy;
+use std::thread::Threads;
+use std::time::Clock;
 
 /// Puts what is so of a cube behind a pack. It answers the variable that the cube is split on.
 fn put_fact(
@@ -68,7 +72,8 @@ struct Written<T> {
 }
 
 /// A run over the facts of a pack that a store keeps.
-fn gathered_from(
+fn gathered_from<R: Threads + Sync>(
+    rt: &R,
     alloc: Global,
     text: &str,
     store: FactsInMemory,
@@ -76,18 +81,9 @@ fn gathered_from(
 ) -> Result<Written<GatheredFrom>, RunFault> {
     let mut proof = Vec::new(alloc);
     let mut answer = Vec::new(alloc);
-    let limits = Limits::Standard;
+    let gathering = gathering_of(store, plan, HandCount::of(1));
     let input = text.as_bytes();
-    let strategy = Strategy::of(plan);
-    let gathered = gather_stored(
-        alloc,
-        input,
-        limits,
-        store,
-        &mut answer,
-        &mut proof,
-        strategy,
-    )?;
+    let gathered = gather_stored(rt, alloc, input, gathering, &mut answer, &mut proof)?;
     Ok(Written {
         gathered,
         proof,
@@ -96,7 +92,8 @@ fn gathered_from(
 }
 
 /// A run over the facts of a pack that a store keeps, which goes through the tree once.
-fn gathered_at_once(
+fn gathered_at_once<R: Threads + Sync>(
+    rt: &R,
     alloc: Global,
     text: &str,
     store: FactsInMemory,
@@ -104,9 +101,9 @@ fn gathered_at_once(
 ) -> Result<Written<Option<GatheredFrom>>, RunFault> {
     let mut proof = Vec::new(alloc);
     let mut answer = Vec::new(alloc);
-    let limits = Limits::Standard;
+    let gathering = gathering_of(store, plan, HandCount::of(1));
     let input = text.as_bytes();
-    let gathered = gather_at_once(alloc, input, limits, store, &mut answer, &mut proof, plan)?;
+    let gathered = gather_at_once(rt, alloc, input, gathering, &mut answer, &mut proof)?;
     Ok(Written {
         gathered,
         proof,
@@ -115,7 +112,8 @@ fn gathered_at_once(
 }
 
 /// Whether a run without facts comes to this verdict and writes the same.
-fn is_written_by_run<T>(
+fn is_written_by_run<R: Threads + Wait + Clock + Sync, T>(
+    rt: &R,
     alloc: Global,
     text: &str,
     plan: Plan,
@@ -124,9 +122,10 @@ fn is_written_by_run<T>(
 ) -> Result<bool, RunFault> {
     let mut proof = Vec::new(alloc);
     let mut answer = Vec::new(alloc);
-    let own = run_one_by_plan(alloc, text.as_bytes(), &mut answer, &mut proof, plan)?;
+    let hand = HandCount::of(1);
+    let own = run_plainly(rt, alloc, text, plan, hand, &mut answer, &mut proof)?;
     Ok(
-        verdict == own
+        own == Some(verdict)
             && proof.as_slice() == written.proof.as_slice()
             && answer.as_slice() == written.answer.as_slice(),
     )
@@ -159,11 +158,15 @@ fn store_of(alloc: Global, text: &str, plan: Plan) -> Result<FactsInMemory, Fail
 
 /// Whether all that a store of the tree says is taken on the way to the answer, but for models, and the
 /// bytes are a run's.
-fn is_taken(alloc: Global, row: &Row) -> Result<bool, Fail> {
+fn is_taken<R: Threads + Wait + Clock + Sync>(
+    rt: &R,
+    alloc: Global,
+    row: &Row,
+) -> Result<bool, Fail> {
     let (text, search, facts, models) = *row;
     let plan = plan_of(search);
     let store = store_of(alloc, text, plan)?;
-    let written = gathered_from(alloc, text, store, plan)?;
+    let written = gathered_from(rt, alloc, text, store, plan)?;
     let GatheredFrom {
         verdict,
         taken,
@@ -173,32 +176,36 @@ fn is_taken(alloc: Global, row: &Row) -> Result<bool, Fail> {
     Ok(
         taken == facts.saturating_sub(models)
             && solved == models.min(1)
-            && is_written_by_run(alloc, text, plan, verdict, &written)?,
+            && is_written_by_run(rt, alloc, text, plan, verdict, &written)?,
     )
 }
 
 /// And so it is by going through the tree once, where there is no model.
-fn is_taken_at_once(alloc: Global, row: &Row) -> Result<bool, Fail> {
+fn is_taken_at_once<R: Threads + Wait + Clock + Sync>(
+    rt: &R,
+    alloc: Global,
+    row: &Row,
+) -> Result<bool, Fail> {
     let (text, search, facts, models) = *row;
     let plan = plan_of(search);
     let store = store_of(alloc, text, plan)?;
-    let written = gathered_at_once(alloc, text, store, plan)?;
+    let written = gathered_at_once(rt, alloc, text, store, plan)?;
     let Some(gathered) = written.gathered else {
         return Ok(models > 0 && written.answer.is_empty());
     };
     Ok(
         gathered.taken == facts
             && gathered.solved == 0
-            && is_written_by_run(alloc, text, plan, gathered.verdict, &written)?,
+            && is_written_by_run(rt, alloc, text, plan, gathered.verdict, &written)?,
     )
 }
 
 #[test]
 fn true_packs_are_taken(rt: HostRuntime) -> Result<(), Fail> {
     for row in &ROWS {
-        assert!(rt; is_taken(rt.alloc(), row)?, "{} of {}", row.2, row.0);
+        assert!(rt; is_taken(&rt, rt.alloc(), row)?, "{} of {}", row.2, row.0);
         assert!(rt;
-            is_taken_at_once(rt.alloc(), row)?,
+            is_taken_at_once(&rt, rt.alloc(), row)?,
             "{} of {} at once",
             row.2,
             row.0

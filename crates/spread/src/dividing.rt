@@ -21,7 +21,7 @@ use std::alloc::{AllocError, Global};
 use std::fs::Files;
 use std::io::{ErrorKind, Write};
 use std::{fs, io};
-use strategies::{Strategy, Unstaged, chosen};
+use strategies::{Strategy, Unobserved, chosen};
 
 /// What is known of the formula of a run.
 #[derive(Clone, Copy, Debug, PartialEq, Eq)]
@@ -168,7 +168,7 @@ fn write_division<R: Files, E: Write, G: Gate>(
 fn settled(alloc: Global, formula: &Formula, strategy: Strategy) -> Result<Strategy, AllocError>
     ensures { IfOk result (IsSettled formula.now strategy) }
 {
-    let plan = chosen(alloc, formula, strategy, &OpenGate, &Unstaged)?;
+    let plan = chosen(alloc, formula, strategy, &OpenGate, &Unobserved)?;
     Ok(strategy.chosen(plan))
 }
 

@@ -2,8 +2,8 @@
 
 use crate::folder::Folder;
 use crate::found::{Found, found_at};
-use crate::hand_count::HandCount;
 use crate::run_file::RunFile;
+use cubes::HandCount;
 use packs::FactReader;
 use std::alloc::{AllocError, Global};
 use std::fs::Files;

@@ -3,13 +3,12 @@ ghost use Rattle.std.specs.Prelude.{◌≡◌, ◌↔◌, All, IsOk};
 
 use crate::conquering::{Ended, go_on};
 use crate::folder::Folder;
-use crate::hand_count::HandCount;
 use crate::run_file::RunFile;
 use crate::said::{Said, say_no_memory};
 use crate::told::Told;
 use crate::way::{Waiting, Way};
 use cnf::Formula;
-use cubes::Gate;
+use cubes::{Gate, HandCount};
 use std::alloc::{AllocError, Global};
 use std::fs::Files;
 use std::io::Write;

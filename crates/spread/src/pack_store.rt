@@ -3,12 +3,12 @@
 use crate::folder::Folder;
 use crate::found::{Entry, Found};
 use crate::found_packs::{FoundPack, packs_by_hands};
-use crate::hand_count::HandCount;
 use crate::open_packs::OpenPacks;
 use crate::pack_file::{NOT_WHOLE, packs_of};
 use crate::passage::Span;
 use crate::run_file::RunFile;
 use crate::said::{Said, say, say_error, say_no_memory};
+use cubes::HandCount;
 use gathering::{CubeTable, KeepsFacts};
 use kernel::Cube;
 use packs::{Fact, FactReader};

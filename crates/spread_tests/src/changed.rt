@@ -1,9 +1,10 @@
 //! Packs that change behind a store's back.
 use crate::rows::{Row, begin};
 use crate::steps::{Step, check_steps};
-use runs::{Verdict, gather_stored};
+use cubes::HandCount;
+use runs::{Gathering, Verdict, gather_stored};
 use samples::{FOUR, FOUR_PROOF};
-use spread::{Folder, HandCount, run_in, store_in};
+use spread::{Folder, run_in, store_in};
 use std::fs::Files;
 use std::test::Fail;
 use std::thread::Threads;
@@ -98,24 +99,21 @@ where
     let Ok(run) = run_in(rt, alloc, folder, &mut faults) else {
         return Ok(false);
     };
-    let Some(hand) = HandCount::new(1) else {
-        return Ok(false);
-    };
-    let Ok(store) = store_in(rt, alloc, folder, &run, 2, hand, &mut faults) else {
+    let hands = HandCount::of(1);
+    let Ok(store) = store_in(rt, alloc, folder, &run, 2, hands, &mut faults) else {
         return Ok(false);
     };
     make_change(rt, row.text)?;
     let mut answer = Vec::new(alloc);
     let mut proof = Vec::new(alloc);
-    let gathered = gather_stored(
-        alloc,
-        FOUR.as_bytes(),
-        run.limits,
+    let gathering = Gathering {
         store,
-        &mut answer,
-        &mut proof,
-        run.strategy(),
-    );
+        limits: run.limits,
+        strategy: run.strategy(),
+        hands,
+    };
+    let text = FOUR.as_bytes();
+    let gathered = gather_stored(rt, alloc, text, gathering, &mut answer, &mut proof);
     match gathered {
         Ok(gathered) => Ok(
             gathered.verdict == Verdict::Unsatisfiable

@@ -1,5 +1,5 @@
 //! Command lines one after the other, what each prints, and its status.
-use cubesat::{NoLocks, Screen, command_in_folders};
+use cubesat::{Console, NoLocks, Screen, command_in_folders};
 use std::alloc::Global;
 use std::fs::Files;
 use std::io::empty;
@@ -30,18 +30,14 @@ where
     R::File: Send,
     R::Dir: Send,
 {
-    let mut answer = Vec::new(alloc);
-    let mut faults = Vec::new(alloc);
-    let status = command_in_folders(
-        rt,
-        alloc,
-        row.words,
-        empty(),
-        &mut answer,
-        &mut faults,
-        Screen::Stream,
-        &NoLocks,
-    );
+    let mut console = Console {
+        input: empty(),
+        answer: Vec::new(alloc),
+        faults: Vec::new(alloc),
+        screen: Screen::Stream,
+    };
+    let status = command_in_folders(rt, alloc, row.words, &mut console, &NoLocks);
+    let Console { answer, faults, .. } = console;
     let is_silent = faults.is_empty() == row.faults.is_empty();
     status == row.status
         && answer.as_slice() == row.answer.as_bytes()

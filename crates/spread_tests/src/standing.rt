@@ -1,7 +1,7 @@
 //! How far a run is: what `status` prints, and what `gather` says of one that isn't finished.
 use crate::rows::{Row, begin};
 use crate::steps::{Step, check_steps};
-use cubesat::{NoLocks, Screen, command_in_folders};
+use cubesat::{Console, NoLocks, Screen, command_in_folders};
 use samples::{FOUR, FOUR_PROOF, TWO_MODELS};
 use std::alloc::Global;
 use std::fs::Files;
@@ -44,19 +44,15 @@ where
     R::File: Send,
     R::Dir: Send,
 {
-    let mut answer = Vec::new(alloc);
-    let mut faults = Vec::new(alloc);
+    let mut console = Console {
+        input: empty(),
+        answer: Vec::new(alloc),
+        faults: Vec::new(alloc),
+        screen: Screen::Stream,
+    };
     let words = ["cubesat", "status", RUN];
-    let status = command_in_folders(
-        rt,
-        alloc,
-        &words,
-        empty(),
-        &mut answer,
-        &mut faults,
-        Screen::Stream,
-        &NoLocks,
-    );
+    let status = command_in_folders(rt, alloc, &words, &mut console, &NoLocks);
+    let Console { answer, faults, .. } = console;
     status == standing.status && answer.starts_with(standing.lines.as_bytes()) && faults.is_empty()
 }
 

@@ -1,7 +1,7 @@
 //! What is said where a run's files, or what a command prints, can't be written.
 use crate::rows::{Row, begin, first_other};
 use crate::steps::{Step, check_steps};
-use cubesat::{NoLocks, Screen, command_in_folders};
+use cubesat::{Console, NoLocks, Screen, command_in_folders};
 use samples::FOUR;
 use samples::faulty::{Limited, Limits};
 use sessions::fake::{Call, Fake};
@@ -128,19 +128,14 @@ where
     R::File: Send,
     R::Dir: Send,
 {
-    let mut answer = Limited::new(rt.alloc(), Limits::of(0));
-    let mut faults = Vec::new(rt.alloc());
-    let status = command_in_folders(
-        rt,
-        rt.alloc(),
-        words,
-        empty(),
-        &mut answer,
-        &mut faults,
-        Screen::Stream,
-        &NoLocks,
-    );
-    status == 1 && faults.starts_with(said.as_bytes())
+    let mut console = Console {
+        input: empty(),
+        answer: Limited::new(rt.alloc(), Limits::of(0)),
+        faults: Vec::new(rt.alloc()),
+        screen: Screen::Stream,
+    };
+    let status = command_in_folders(rt, rt.alloc(), words, &mut console, &NoLocks);
+    status == 1 && console.faults.starts_with(said.as_bytes())
 }
 
 /// Command lines, and what is said where they can't print.

@@ -4,7 +4,6 @@
 use crate::board::Board;
 use crate::counted::Counter;
 use crate::figures::{FormulaSize, StageEnd, TextSize, TreeSize};
-use crate::observer::Observer;
 use crate::peak::peak_memory;
 use beginnings::SimplifiedCounts;
 use cdcl::{Counts, FirstAnswer, FirstSearch};
@@ -16,7 +15,7 @@ use std::alloc::Global;
 use std::rt::Files;
 use std::sync::Wait;
 use std::time::Clock;
-use strategies::{LoweringCounts, Stages};
+use strategies::{LoweringCounts, Observer};
 use tidying::has_repeats;
 
 /// Counts a run on a board.
@@ -151,7 +150,14 @@ impl<R: Wait + Clock> Gate for Watch<'_, R> {
     }
 }
 
-impl<R: Wait + Clock> Stages for Watch<'_, R> {
+impl<R: Files + Wait + Clock> Observer for Watch<'_, R> {
+    fn read(&self, formula: &Formula) {
+        self.note_repeats(formula);
+        let size = FormulaSize::of(formula);
+        let end = self.stage_end();
+        self.board.figures().lock(self.rt).end_reading(size, end);
+    }
+
     fn searched_first(&self, counts: Counts) {
         self.board.figures().lock(self.rt).count_first(counts);
     }
@@ -184,15 +190,6 @@ impl<R: Wait + Clock> Stages for Watch<'_, R> {
 
     fn lowering(&self, counts: LoweringCounts) {
         self.board.figures().lock(self.rt).count_lowering(counts);
-    }
-}
-
-impl<R: Files + Wait + Clock> Observer for Watch<'_, R> {
-    fn read(&self, formula: &Formula) {
-        self.note_repeats(formula);
-        let size = FormulaSize::of(formula);
-        let end = self.stage_end();
-        self.board.figures().lock(self.rt).end_reading(size, end);
     }
 
     fn solved(&self, tree: &Tree<Row>) {

@@ -10,10 +10,11 @@ use statistics::{
     Board, FormulaSize, Manner, Stage, StageEnd, Watch, print_line, print_statistics,
 };
 use std::alloc::{AllocError, Global};
+use std::fs::Files;
 use std::sync::Wait;
 use std::test::Fail;
 use std::time::Clock;
-use strategies::{LoweringCounts, Stages, Strategy};
+use strategies::{LoweringCounts, Observer, Strategy};
 
 /// What a hand has done in all, with so many conflicts.
 fn counts_of(conflicts: u64) -> Counts {
@@ -142,7 +143,11 @@ fn wait_without_cubes<R: Wait + Clock>(rt: &R, alloc: Global) -> Result<bool, Fa
 }
 
 /// A run by the search that is made first, by a hand, and in the lowering.
-fn watch_stages<R: Wait + Clock>(rt: &R, alloc: Global, board: &Board) -> Result<(), AllocError> {
+fn watch_stages<R: Files + Wait + Clock>(
+    rt: &R,
+    alloc: Global,
+    board: &Board,
+) -> Result<(), AllocError> {
     let watch = Watch { rt, alloc, board };
     watch.searched_first(counts_of(4));
     watch.searched_first(counts_of(10));
@@ -173,7 +178,7 @@ c reading: 0.500 s
 ";
 
 /// Whether each stage is counted by itself, and all together.
-fn count_by_stages<R: Wait + Clock>(rt: &R, alloc: Global) -> Result<bool, Fail> {
+fn count_by_stages<R: Files + Wait + Clock>(rt: &R, alloc: Global) -> Result<bool, Fail> {
     let strategy = Strategy::automatic(10, Plan::focused(1000));
     let board = Board::of_strategy(rt, strategy, 1, false);
     watch_stages(rt, alloc, &board)?;

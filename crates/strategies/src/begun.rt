@@ -1,5 +1,5 @@
 //! The result of a formula by a plan, however its search begins.
-ghost use Rattle.std.specs.Prelude.{◌≡◌, ◌≤◌, ◌↔◌, List, [], length, IfOk, IfSome, IsSome, MatchOption};
+ghost use Rattle.std.specs.Prelude.{◌≡◌, ◌↔◌, List, [], length, IfOk, IfSome, IsSome, MatchOption};
 ghost use Rattle.theory.specs.Truth.{Formula};
 ghost use Rattle.theory.specs.Plans as plans;
 ghost use Rattle.theory.specs.Learning.{Line};
@@ -12,11 +12,11 @@ ghost use Rattle.strategies.specs.Choosing.{IsModelByPlan};
 ghost use Rattle.strategies.specs.Deciding.{IsRefutedByPlan, IsResultFor};
 
 use crate::choosing::tell;
-use crate::strategy::Stages;
+use crate::observer::Observer;
 use beginnings::{Beginning, BeginningWatcher, Begun, SimplifiedCounts, Unwatched, begin};
 use cdcl::{Counts, Outcome, Plan};
 use cnf::Formula;
-use cubes::{Gate, Node, Tree, decide_by_plan, solve_by_plan, solve_one_by_plan};
+use cubes::{Gate, HandCount, Node, Tree, decide_by_plan, solve_by_plan, solve_one_by_plan};
 use lines::Row;
 use std::alloc::{AllocError, Global};
 use std::sync::Wait;
@@ -25,26 +25,26 @@ use std::time::Clock;
 
 /// Watches a beginning.
 #[derive(Drop)]
-struct Begins<'a, G, S> {
+struct Begins<'a, G, O> {
     gate: &'a G,
-    stages: &'a S,
+    observer: &'a O,
 }
 
-impl<G: Gate, S: Stages> BeginningWatcher for Begins<'_, G, S> {
+impl<G: Gate, O: Observer> BeginningWatcher for Begins<'_, G, O> {
     fn tried(&self, counts: Counts) {
-        self.stages.tried(counts);
+        self.observer.tried(counts);
     }
 
     fn ended_try(&self, is_decided: bool) {
-        self.stages.ended_try(is_decided);
+        self.observer.ended_try(is_decided);
     }
 
     fn simplifying(&self, literals: u64) {
-        self.stages.simplifying(literals);
+        self.observer.simplifying(literals);
     }
 
     fn simplified(&self, counts: SimplifiedCounts) {
-        self.stages.simplified(counts);
+        self.observer.simplified(counts);
     }
 
     fn stops(&self) -> bool {
@@ -103,19 +103,18 @@ fn found_in(begun: &Begun, found: Option<Vec<bool>>) -> Option<Vec<bool>>
 }
 
 /// The result of what the plan's search of a formula begins with.
-pub(crate) fn solve_begun<R: Threads + Wait + Clock + Sync, G: Gate + Sync, S: Stages>(
+pub(crate) fn solve_begun<R: Threads + Wait + Clock + Sync, G: Gate + Sync, O: Observer>(
     rt: &R,
     alloc: Global,
     formula: &Formula,
     plan: Plan,
-    hands: usize,
+    hands: HandCount,
     gate: &G,
-    stages: &S,
+    observer: &O,
 ) -> Result<(Begun, Tree<Row>), AllocError>
-    requires { (1 ≤ hands) × (hands ≤ 16) }
     ensures { IfOk result (λ p. IsResultFor formula.now plan p.0 p.1) }
 {
-    match begin(alloc, formula, plan, &Begins { gate, stages })? {
+    match begin(alloc, formula, plan, &Begins { gate, observer })? {
         Beginning::Decided(outcome) => {
             tell(alloc, gate, &outcome);
             let tree = tree_of_root(alloc, outcome)?;
@@ -150,20 +149,19 @@ pub(crate) fn solve_one_begun(
 
 /// The model of a formula by a plan, or none where its result is a refuted tree. No line of a cube
 /// is kept but of the one without literals.
-pub(crate) fn decide_begun<R: Threads + Wait + Clock + Sync, G: Gate + Sync, S: Stages>(
+pub(crate) fn decide_begun<R: Threads + Wait + Clock + Sync, G: Gate + Sync, O: Observer>(
     rt: &R,
     alloc: Global,
     formula: &Formula,
     plan: Plan,
-    hands: usize,
+    hands: HandCount,
     gate: &G,
-    stages: &S,
+    observer: &O,
 ) -> Result<Option<Vec<bool>>, AllocError>
-    requires { (1 ≤ hands) × (hands ≤ 16) }
     ensures { IfOk result (λ found. MatchOption found (IsRefutedByPlan formula.now plan) (λ values. IsModelByPlan formula.now plan values.items)) }
 {
     let _vars = formula.vars(); // it ensures what the proof needs of the formula
-    match begin(alloc, formula, plan, &Begins { gate, stages })? {
+    match begin(alloc, formula, plan, &Begins { gate, observer })? {
         Beginning::Decided(outcome) => {
             tell(alloc, gate, &outcome);
             Ok(model_of_root(outcome))

@@ -6,7 +6,8 @@ ghost use Rattle.theory.specs.Runs.{Runs};
 ghost use Rattle.cdcl.specs.Outcome.{outcome_of};
 ghost use Rattle.strategies.specs.Choosing.{Decides, IsChosen};
 
-use crate::strategy::{Stages, Strategy};
+use crate::observer::Observer;
+use crate::strategy::Strategy;
 use cdcl::{Counts, Outcome, Plan, Solver, Watcher};
 use cnf::Formula;
 use cubes::Gate;
@@ -16,14 +17,14 @@ use std::alloc::{AllocError, Global};
 
 /// Watches the search that is made first.
 #[derive(Drop)]
-struct FirstWatcher<'a, G, S> {
+struct FirstWatcher<'a, G, O> {
     gate: &'a G,
-    stages: &'a S,
+    observer: &'a O,
 }
 
-impl<G: Gate, S: Stages> Watcher for FirstWatcher<'_, G, S> {
+impl<G: Gate, O: Observer> Watcher for FirstWatcher<'_, G, O> {
     fn counted(&self, counts: Counts) {
-        self.stages.searched_first(counts);
+        self.observer.searched_first(counts);
     }
 
     fn stops(&self) -> bool {
@@ -57,39 +58,39 @@ pub(crate) fn tell<G: Gate>(alloc: Global, gate: &G, outcome: &Outcome<Row>) {
 
 /// The outcome of the whole formula as one cube by the ordered search, with 1 to 100,000 conflicts.
 /// It fails where a request for memory is refused or the gate stops it.
-pub(crate) fn first_outcome<G: Gate, S: Stages>(
+pub(crate) fn first_outcome<G: Gate, O: Observer>(
     alloc: Global,
     formula: &Formula,
     budget: u32,
     gate: &G,
-    stages: &S,
+    observer: &O,
 ) -> Result<Outcome<Row>, AllocError>
     requires { (1 ≤ budget) × (budget ≤ 100000) }
     ensures { IfOk result (λ o. Runs (searched formula.now) (ordered_within budget) [] (outcome_of o)) }
 {
     let root = Cube::root(alloc);
     let mut solver = Solver::open(alloc, formula, Plan::ordered(budget))?;
-    let outcome = solver.solve_watched(&root, &FirstWatcher { gate, stages })?;
-    stages.ended_first(decides(&outcome));
+    let outcome = solver.solve_watched(&root, &FirstWatcher { gate, observer })?;
+    observer.ended_first(decides(&outcome));
     tell(alloc, gate, &outcome);
     Ok(outcome)
 }
 
 /// The plan that decides the formula by the strategy. It takes the time of the search that is made
 /// first, and fails where a request for memory is refused or the gate stops that.
-pub fn chosen<G: Gate, S: Stages>(
+pub fn chosen<G: Gate, O: Observer>(
     alloc: Global,
     formula: &Formula,
     strategy: Strategy,
     gate: &G,
-    stages: &S,
+    observer: &O,
 ) -> Result<Plan, AllocError>
     ensures { IfOk result (IsChosen formula.now strategy) }
 {
     let Some(budget) = strategy.first() else {
         return Ok(strategy.plan());
     };
-    let outcome = first_outcome(alloc, formula, budget, gate, stages)?;
+    let outcome = first_outcome(alloc, formula, budget, gate, observer)?;
     if decides(&outcome) {
         return Ok(Plan::ordered(budget));
     }

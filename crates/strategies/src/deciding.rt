@@ -1,5 +1,5 @@
 //! A formula's result by a strategy.
-ghost use Rattle.std.specs.Prelude.{◌≡◌, ◌⊎◌, ◌≤◌, true, false, None, IfOk, MatchOption};
+ghost use Rattle.std.specs.Prelude.{◌≡◌, ◌⊎◌, true, false, None, IfOk, MatchOption};
 ghost use Rattle.theory.specs.Plans.{ordered};
 ghost use Rattle.theory.specs.Beginnings.{begun_by};
 ghost use Rattle.cdcl.specs.Plans.{search_from};
@@ -11,11 +11,12 @@ ghost use Rattle.strategies.specs.Deciding.{IsDecidedAs, IsDecidedBy, IsFoundBy,
 use crate::begun::{decide_begun, extended, solve_begun, solve_one_begun, tree_of_root};
 use crate::choosing::{decides, first_outcome};
 use crate::lowest::first_model;
-use crate::strategy::{Stages, Strategy};
+use crate::observer::Observer;
+use crate::strategy::Strategy;
 use beginnings::Begun;
 use cdcl::{Outcome, Plan, Search, Unkept};
 use cnf::Formula;
-use cubes::{Gate, Tree};
+use cubes::{Gate, HandCount, Tree};
 use lines::Row;
 use std::alloc::{AllocError, Global};
 use std::sync::Wait;
@@ -47,14 +48,14 @@ fn is_lowered(strategy: Strategy, plan: Plan) -> bool
 }
 
 /// The answer's model, from the one that the plan found, which decides the formula.
-fn answer_of<G: Gate, S: Stages>(
+fn answer_of<G: Gate, O: Observer>(
     alloc: Global,
     formula: &Formula,
     strategy: Strategy,
     plan: Plan,
     model: Vec<bool>,
     gate: &G,
-    stages: &S,
+    observer: &O,
 ) -> Result<Vec<bool>, AllocError>
     requires { IsFoundBy formula.now strategy plan model.items }
     ensures { IfOk result (λ values. IsModelOf formula.now strategy values.items) }
@@ -63,7 +64,7 @@ fn answer_of<G: Gate, S: Stages>(
     if !is_lowered(strategy, plan) {
         return Ok(model);
     }
-    first_model(alloc, formula, plan, model, gate, stages)
+    first_model(alloc, formula, plan, model, gate, observer)
 }
 
 /// A plan's result for what its search begins with.
@@ -75,24 +76,23 @@ struct Planned {
 }
 
 /// The chosen plan's result.
-fn tree_of<R: Threads + Wait + Clock + Sync, G: Gate + Sync, S: Stages>(
+fn tree_of<R: Threads + Wait + Clock + Sync, G: Gate + Sync, O: Observer>(
     rt: &R,
     alloc: Global,
     formula: &Formula,
     strategy: Strategy,
-    hands: usize,
+    hands: HandCount,
     gate: &G,
-    stages: &S,
+    observer: &O,
 ) -> Result<Planned, AllocError>
-    requires { (1 ≤ hands) × (hands ≤ 16) }
     ensures { IfOk result (λ p. IsTreeBy formula.now strategy p.plan p.begun p.tree) }
 {
     let plan = strategy.plan();
     let Some(budget) = strategy.first() else {
-        let (begun, tree) = solve_begun(rt, alloc, formula, plan, hands, gate, stages)?;
+        let (begun, tree) = solve_begun(rt, alloc, formula, plan, hands, gate, observer)?;
         return Ok(Planned { plan, begun, tree });
     };
-    let outcome = first_outcome(alloc, formula, budget, gate, stages)?;
+    let outcome = first_outcome(alloc, formula, budget, gate, observer)?;
     if decides(&outcome) {
         let first = Plan::ordered(budget);
         let tree = tree_of_root(alloc, outcome)?;
@@ -102,36 +102,35 @@ fn tree_of<R: Threads + Wait + Clock + Sync, G: Gate + Sync, S: Stages>(
             tree,
         });
     }
-    let (begun, tree) = solve_begun(rt, alloc, formula, plan, hands, gate, stages)?;
+    let (begun, tree) = solve_begun(rt, alloc, formula, plan, hands, gate, observer)?;
     Ok(Planned { plan, begun, tree })
 }
 
 /// The chosen plan, and the model of the formula's result by it, or none where that is a refuted
 /// tree.
-fn model_of<R: Threads + Wait + Clock + Sync, G: Gate + Sync, S: Stages>(
+fn model_of<R: Threads + Wait + Clock + Sync, G: Gate + Sync, O: Observer>(
     rt: &R,
     alloc: Global,
     formula: &Formula,
     strategy: Strategy,
-    hands: usize,
+    hands: HandCount,
     gate: &G,
-    stages: &S,
+    observer: &O,
 ) -> Result<(Plan, Option<Vec<bool>>), AllocError>
-    requires { (1 ≤ hands) × (hands ≤ 16) }
     ensures { IfOk result (λ p. MatchOption p.1 (IsRefuted formula.now strategy) (λ values. IsFoundBy formula.now strategy p.0 values.items)) }
 {
     let _vars = formula.vars(); // it ensures what the proof needs of the formula
     let plan = strategy.plan();
     let Some(budget) = strategy.first() else {
-        let found = decide_begun(rt, alloc, formula, plan, hands, gate, stages)?;
+        let found = decide_begun(rt, alloc, formula, plan, hands, gate, observer)?;
         return Ok((plan, found));
     };
     let first = Plan::ordered(budget);
-    match first_outcome(alloc, formula, budget, gate, stages)? {
+    match first_outcome(alloc, formula, budget, gate, observer)? {
         Outcome::Model(values) => Ok((first, Some(values))),
         Outcome::Refuted(_) => Ok((first, None)),
         Outcome::Exhausted(_) => {
-            let found = decide_begun(rt, alloc, formula, plan, hands, gate, stages)?;
+            let found = decide_begun(rt, alloc, formula, plan, hands, gate, observer)?;
             Ok((plan, found))
         }
     }
@@ -140,27 +139,26 @@ fn model_of<R: Threads + Wait + Clock + Sync, G: Gate + Sync, S: Stages>(
 /// What the formula comes to by the strategy, with the lines of a proof, by 1 to 16 hands: whatever
 /// these are, the gate and the schedule, it is the same. It fails only where a request for memory is
 /// refused or the gate stops the hands.
-pub fn solve_by_strategy<R: Threads + Wait + Clock + Sync, G: Gate + Sync, S: Stages>(
+pub fn solve_by_strategy<R: Threads + Wait + Clock + Sync, G: Gate + Sync, O: Observer>(
     rt: &R,
     alloc: Global,
     formula: &Formula,
     strategy: Strategy,
-    hands: usize,
+    hands: HandCount,
     gate: &G,
-    stages: &S,
+    observer: &O,
 ) -> Result<Decided, AllocError>
-    requires hands { (1 ≤ hands) × (hands ≤ 16) }
     ensures result { IfOk result (IsDecidedBy formula.now strategy) }
     ensures says { IfOk result (λ d. Says (search_by strategy) formula.now d.tree) }
 {
     let _vars = formula.vars(); // it ensures what the proof needs of the formula
-    let planned = tree_of(rt, alloc, formula, strategy, hands, gate, stages)?;
+    let planned = tree_of(rt, alloc, formula, strategy, hands, gate, observer)?;
     let Planned { plan, begun, tree } = planned;
     let search = plan.search();
     match tree {
         Tree::Model(values) => {
             let model = extended(&begun, values);
-            let answer = answer_of(alloc, formula, strategy, plan, model, gate, stages)?;
+            let answer = answer_of(alloc, formula, strategy, plan, model, gate, observer)?;
             let tree = Tree::Model(answer);
             Ok(Decided {
                 search,
@@ -210,22 +208,21 @@ pub fn solve_one(alloc: Global, formula: &Formula, plan: Plan) -> Result<Decided
 
 /// The model that `solve_by_strategy` answers, or none where it answers a refuted tree. No line of a
 /// cube that is solved is kept. It fails as that does.
-pub fn decide_by_strategy<R: Threads + Wait + Clock + Sync, G: Gate + Sync, S: Stages>(
+pub fn decide_by_strategy<R: Threads + Wait + Clock + Sync, G: Gate + Sync, O: Observer>(
     rt: &R,
     alloc: Global,
     formula: &Formula,
     strategy: Strategy,
-    hands: usize,
+    hands: HandCount,
     gate: &G,
-    stages: &S,
+    observer: &O,
 ) -> Result<Option<Vec<bool>>, AllocError>
-    requires { (1 ≤ hands) × (hands ≤ 16) }
     ensures { IfOk result (λ found. MatchOption found (IsRefuted formula.now strategy) (λ values. IsModelOf formula.now strategy values.items)) }
 {
-    let (plan, found) = model_of(rt, alloc, formula, strategy, hands, gate, stages)?;
+    let (plan, found) = model_of(rt, alloc, formula, strategy, hands, gate, observer)?;
     match found {
         Some(values) => {
-            let answer = answer_of(alloc, formula, strategy, plan, values, gate, stages)?;
+            let answer = answer_of(alloc, formula, strategy, plan, values, gate, observer)?;
             Ok(Some(answer))
         }
         None => Ok(None),
@@ -235,14 +232,14 @@ pub fn decide_by_strategy<R: Threads + Wait + Clock + Sync, G: Gate + Sync, S: S
 /// A checked result of what the strategy's plan begins with, with the model that is the answer in
 /// the place of the one that was found. There is no search before the plan. It fails only where a
 /// request for memory is refused or the gate stops it.
-pub fn answered<G: Gate, S: Stages>(
+pub fn answered<G: Gate, O: Observer>(
     alloc: Global,
     formula: &Formula,
     begun: &Begun,
     strategy: Strategy,
     tree: Tree<Unkept>,
     gate: &G,
-    stages: &S,
+    observer: &O,
 ) -> Result<Tree<Unkept>, AllocError>
     requires alone { strategy.first ≡ None }
     requires begun { IsBegunBy formula.now strategy.plan begun.now }
@@ -258,7 +255,7 @@ pub fn answered<G: Gate, S: Stages>(
             if !is_lowered(strategy, plan) {
                 return Ok(Tree::Model(model));
             }
-            let answer = first_model(alloc, formula, plan, model, gate, stages)?;
+            let answer = first_model(alloc, formula, plan, model, gate, observer)?;
             Ok(Tree::Model(answer))
         }
         Tree::Refuted(nodes) => Ok(Tree::Refuted(nodes)),

@@ -3,7 +3,7 @@ ghost use Rattle.std.specs.Prelude.{IfOk};
 ghost use Rattle.theory.specs.Truth.{Satisfies};
 ghost use Rattle.theory.specs.FirstModel.{IsFirst};
 
-use crate::strategy::Stages;
+use crate::observer::Observer;
 use cdcl::Plan;
 use cnf::Formula;
 use cubes::Gate;
@@ -12,14 +12,14 @@ use std::alloc::{AllocError, Global};
 
 /// Watches a lowering.
 #[derive(Drop)]
-struct Lowers<'a, G, S> {
+struct Lowers<'a, G, O> {
     gate: &'a G,
-    stages: &'a S,
+    observer: &'a O,
 }
 
-impl<G: Gate, S: Stages> LoweringWatcher for Lowers<'_, G, S> {
+impl<G: Gate, O: Observer> LoweringWatcher for Lowers<'_, G, O> {
     fn lowering(&self, counts: LoweringCounts) {
-        self.stages.lowering(counts);
+        self.observer.lowering(counts);
     }
 
     fn stops(&self) -> bool {
@@ -29,18 +29,18 @@ impl<G: Gate, S: Stages> LoweringWatcher for Lowers<'_, G, S> {
 
 /// The formula's first model, from any model: questions are searched by the plan, undivided. It fails
 /// where a request for memory is refused or the gate stops it.
-pub(crate) fn first_model<G: Gate, S: Stages>(
+pub(crate) fn first_model<G: Gate, O: Observer>(
     alloc: Global,
     formula: &Formula,
     plan: Plan,
     model: Vec<bool>,
     gate: &G,
-    stages: &S,
+    observer: &O,
 ) -> Result<Vec<bool>, AllocError>
     requires { Satisfies formula.now model.items }
     ensures { IfOk result (λ values. IsFirst formula.now values.items) }
 {
     let plan = plan.divided(0);
-    let watcher = Lowers { gate, stages };
+    let watcher = Lowers { gate, observer };
     lowered(alloc, formula, plan, model, &watcher)
 }

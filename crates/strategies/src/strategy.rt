@@ -1,10 +1,8 @@
-//! How a formula is decided, and who is told how far that is.
+//! How a formula is decided.
 ghost use Rattle.std.specs.Prelude.{◌≡◌, ◌≤◌, true, false, Some, None, IfSome};
 ghost use Rattle.strategies.specs.Strategies.{by_plan};
 
-use beginnings::SimplifiedCounts;
-use cdcl::{Counts, Plan};
-use lowering::LoweringCounts;
+use cdcl::Plan;
 use std::marker::Model;
 
 /// How a formula is decided, and which of its models is the answer. Formula and strategy fix the
@@ -110,33 +108,3 @@ impl Strategy {
         self.lowers
     }
 }
-
-/// Told how far a strategy is. What is answered doesn't depend on it.
-pub trait Stages {
-    /// The search that is made first has done so much. It is told as a gate is.
-    fn searched_first(&self, _counts: Counts) {}
-
-    /// That search has ended, and decided the formula or not.
-    fn ended_first(&self, _is_decided: bool) {}
-
-    /// The search that says whether the formula is simplified has done so much.
-    fn tried(&self, _counts: Counts) {}
-
-    /// That search has ended, and decided the formula or not.
-    fn ended_try(&self, _is_decided: bool) {}
-
-    /// The simplification has looked at so many literals.
-    fn simplifying(&self, _literals: u64) {}
-
-    /// The formula is simplified.
-    fn simplified(&self, _counts: SimplifiedCounts) {}
-
-    /// The lowering is so far.
-    fn lowering(&self, _counts: LoweringCounts) {}
-}
-
-/// Nobody is told.
-#[derive(Clone, Copy)]
-pub struct Unstaged;
-
-impl Stages for Unstaged {}

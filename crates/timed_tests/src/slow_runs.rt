@@ -1,6 +1,6 @@
 //! Runs by a clock that goes on only while a read waits for lines of progress. So they take seconds
 //! by their clock and no time, and print the same each time.
-use cubesat::{Screen, command_with_input};
+use cubesat::{Console, Screen, command_with_input};
 use samples::FOUR;
 use sessions::Paths;
 use sessions::clocks::{LONG, Pace};
@@ -81,9 +81,13 @@ fn run_on<R: Files + Threads + Wait + Clock + Sync>(
     pace: &Pace,
     log: &Mutex<Vec<u8>>,
 ) -> u8 {
-    let mut answer = Printer { log, pace };
-    let mut faults = Printer { log, pace };
-    command_with_input(rt, alloc, words, input, &mut answer, &mut faults, screen)
+    let mut console = Console {
+        input,
+        answer: Printer { log, pace },
+        faults: Printer { log, pace },
+        screen,
+    };
+    command_with_input(rt, alloc, words, &mut console)
 }
 
 /// What such a command line prints, and its status, by the pace of a system's slow file.

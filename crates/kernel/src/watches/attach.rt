@@ -19,7 +19,7 @@ use crate::propagator::Propagator;
 use crate::units::units::Units;
 use crate::watches::entry_lists::EntryLists;
 use crate::watches::replacement::Starts;
-use crate::watches::watch::{MOST_CLAUSES, PackedWatch, Watch, Watched, code};
+use crate::watches::watch::{MOST_CLAUSES, PackedWatch, Watch, Watched};
 use cnf::{Formula, Lit};
 use std::alloc::{AllocError, Global};
 use trail::Trail;
@@ -122,7 +122,7 @@ impl Propagator {
             × (length self.new.lists ≡ length self.old.lists) }
         ensures others { (n : ℕ) → n ≢ code lit → nth_list self.new.lists n ≡ nth_list self.old.lists n }
     {
-        self.lists.push(code(lit), PackedWatch::of(watch))?;
+        self.lists.push(lit.code(), PackedWatch::of(watch))?;
         Ok(())
     }
 
@@ -295,7 +295,7 @@ impl Propagator {
 fn count_entry(counts: &mut [u32], lit: Lit)
     ensures { length counts.new ≡ length counts.old }
 {
-    let at = code(lit);
+    let at = lit.code();
     if at < counts.len() {
         counts[at] = counts[at].saturating_add(1);
     }

@@ -14,7 +14,7 @@ ghost use Rattle.kernel.specs.Attaching.{IsWatching};
 ghost use Rattle.kernel.specs.Cutting.{IsKeptBelow, AreKeptBelow, AreCodesOf};
 
 use crate::propagator::Propagator;
-use crate::watches::watch::{PackedWatch, code};
+use crate::watches::watch::PackedWatch;
 use std::alloc::AllocError;
 
 /// Takes the entries of clauses from `first` on out of a list; the answer is how many stay. Their
@@ -49,8 +49,8 @@ impl Propagator {
         let mut codes = Vec::new(alloc);
         for index in first..self.clauses.len() {
             let watched = self.clauses.watched(index);
-            codes.push(code(watched.first))?;
-            codes.push(code(watched.second))?;
+            codes.push(watched.first.code())?;
+            codes.push(watched.second.code())?;
         }
         codes.sort_unstable();
         Ok(codes)

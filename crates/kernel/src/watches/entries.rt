@@ -7,7 +7,7 @@ ghost use Rattle.cnf.specs.Lits.{code};
 
 use crate::propagator::Propagator;
 use crate::watches::entry_lists::OpenList;
-use crate::watches::watch::{PackedWatch, code};
+use crate::watches::watch::PackedWatch;
 use cnf::Lit;
 
 impl Propagator {
@@ -19,7 +19,7 @@ impl Propagator {
         ensures len { result.len ≡ (nth_list self.now.lists (code lit)).len }
         ensures within { result.len ≤ length (nth_list self.now.lists (code lit)).room }
     {
-        self.lists.open(code(lit))
+        self.lists.open(lit.code())
     }
 
     /// The entry at a place of a list.

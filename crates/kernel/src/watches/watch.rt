@@ -1,7 +1,6 @@
 //! Which literals a clause watches, and the entries of the lists of those that watch a literal.
 ghost use Rattle.std.specs.Prelude.{◌≡◌, ◌+◌, ◌*◌, ◌<◌, ◌^◌, true, false};
 ghost use Rattle.theory.specs.Literals.{same};
-ghost use Rattle.cnf.specs.Lits.{code};
 
 use cnf::Lit;
 use std::marker::Model;
@@ -26,13 +25,6 @@ pub struct Watch {
     pub blocker: Lit,
     /// Whether the clause has at most two literals.
     pub is_short: bool,
-}
-
-/// Where what is kept of a literal stands in a list by literal.
-pub fn code(lit: Lit) -> usize
-    ensures { result ≡ code lit }
-{
-    lit.code()
 }
 
 /// So many clauses can be watched.

@@ -1,6 +1,7 @@
 use Rattle.std.proofs.Common.{◌+◌, ◌++◌, ◌∷◌, [], ap, sym, ◌∙◌, take}
 use Rattle.std.proofs.lemmas.List.{take_more, take_all}
-use Rattle.lines.specs.Rows.{code, clause_part}
+use Rattle.cnf.specs.Lits.{code}
+use Rattle.lines.specs.Rows.{clause_part}
 use Rattle.lines.proofs.LineLemmas.{front-front, clause-more, clause-ends}
 use Rattle.lines.proofs.line.push_clause.Goals as goal
 

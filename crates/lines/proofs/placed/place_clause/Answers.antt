@@ -1,6 +1,7 @@
 use Rattle.std.proofs.Common.{◌+◌, ◌++◌, ◌∷◌, [], ap, sym, ◌∙◌, arith, take}
 use Rattle.std.proofs.lemmas.List.{take_more, take_all}
-use Rattle.lines.specs.Rows.{code, clause_part}
+use Rattle.cnf.specs.Lits.{code}
+use Rattle.lines.specs.Rows.{clause_part}
 use Rattle.lines.proofs.LineLemmas.{clause-more, clause-ends}
 use Rattle.lines.proofs.PlacedLemmas.{front-within}
 use Rattle.lines.proofs.placed.place_clause.Goals as goal

@@ -1,6 +1,7 @@
 use Rattle.std.proofs.Common.{◌∙◌, refl, arith}
 use Rattle.theory.specs.Propagation.{clause_at}
-use Rattle.lookahead.specs.Tables.{at, code}
+use Rattle.cnf.specs.Lits.{code}
+use Rattle.lookahead.specs.Tables.{at}
 use Rattle.lookahead.proofs.ArrangedCounts.{arranged-over, counts-permuted}
 use Rattle.lookahead.proofs.TableLemmas.{occurrences-more}
 use Rattle.lookahead.proofs.occurrences.count_all.Goals as goal

@@ -1,6 +1,7 @@
 use Rattle.std.proofs.Common.{◌+◌, ◌*◌, ◌∙◌, ap, ap₂}
 use Rattle.theory.specs.Literals.{positive, negative}
-use Rattle.lookahead.specs.Tables.{at, code}
+use Rattle.cnf.specs.Lits.{code}
+use Rattle.lookahead.specs.Tables.{at}
 use Rattle.lookahead.proofs.ranking.rank_of.Goals as goal
 
 pub returns : goal.returns

@@ -1,6 +1,7 @@
 use Rattle.std.proofs.Common.{◌≡◌, ◌<◌, ◌≤◌, ℕ, true, take, vec_len}
 use Rattle.theory.specs.Literals.{Literal, has}
-use Rattle.lrat.specs.Occurrences.{code, count_at}
+use Rattle.cnf.specs.Lits.{code}
+use Rattle.lrat.specs.Occurrences.{count_at}
 use Rattle.lrat.proofs.counts.count.Given as goal
 
 -- the clause counts for the literals so far

@@ -1,7 +1,7 @@
 use Rattle.std.proofs.Common.{◌≡◌, ℕ, true, take, vec_len}
 use Rattle.theory.specs.Literals.{Literal, has}
 use Rattle.lrat.specs.Chained.{IsIn, AreChains}
-use Rattle.lrat.specs.Occurrences.{code}
+use Rattle.cnf.specs.Lits.{code}
 use Rattle.lrat.proofs.occurrences.enter.Given as goal
 
 -- the place is in the chains of the literals so far

@@ -3,7 +3,7 @@ use Rattle.cnf.specs.Limits.{limits_of}
 use Rattle.lrat.specs.Extended.{checked_formula}
 use Rattle.runs.proofs.CheckRuns.{CheckSays-unread, CheckSays-stopped, IsCheckOf-made}
 use Rattle.runs.proofs.StreamedLemmas.{some_reading}
-use Rattle.runs.proofs.check.check_told.Goals as goal
+use Rattle.runs.proofs.check.check_with.Goals as goal
 
 pub returns-in-Err : goal.returns-in-Err
 returns-in-Err g c =

@@ -34,6 +34,14 @@ impl HandCount {
         }
     }
 
+    /// So many hands, 1 to 16.
+    pub fn of(count: usize) -> HandCount
+        requires { (1 ≤ count) × (count ≤ 16) }
+        ensures { result ≡ count }
+    {
+        HandCount { count }
+    }
+
     /// The number, from 1 to 16.
     pub fn get(self) -> usize
         ensures same { result ≡ self }

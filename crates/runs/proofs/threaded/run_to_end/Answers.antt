@@ -5,12 +5,12 @@ use Rattle.join.specs.Walking.{lines_left}
 use Rattle.cnf.specs.Limits.{limits_of}
 use Rattle.runs.proofs.RightAnswers.{says-right}
 use Rattle.runs.proofs.RunLemmas.{IsRunOf-made, RunSays-unread, RunSays-stopped}
-use Rattle.runs.proofs.threaded.run_observed.Goals as goal
+use Rattle.runs.proofs.threaded.run_to_end.Goals as goal
 
 pub returns-in-Err-clause-says : goal.returns-in-Err-clause-says
 returns-in-Err-clause-says g c =
     rw c.of_read.ensures
-    (RunSays-unread (limits_of c.args.limits) (g.R.Read.remaining c.args.input) (g.P.Write.contents c.args.proof.now) (g.W.Write.contents c.args.answer.now) c.args.strategy c.in-Err.fault c.in-Err.ensures)
+    (RunSays-unread (limits_of c.args.options.now.limits) (g.R.Read.remaining c.args.input) (g.P.Write.contents c.args.proof.now) (g.W.Write.contents c.args.answer.now) c.args.options.now.strategy c.in-Err.fault c.in-Err.ensures)
 
 pub returns-clause-says : goal.returns-clause-says
 returns-clause-says g c =
@@ -19,7 +19,7 @@ returns-clause-says g c =
     let new = c.write_output_by_hands.new.output in
     let proof = proof_text (before_left old.before ++ lines_left old.lines) in
     let kept = c.in_ok-write_output_by_hands.ensures.kept in
-    let run = IsRunOf-made (limits_of c.args.limits) known c.args.strategy c.in-Ok.formula old.verdict proof old.answer.items c.in-Ok.ensures c.in-Ok-output_of.ensures.texts in
+    let run = IsRunOf-made (limits_of c.args.options.now.limits) known c.args.options.now.strategy c.in-Ok.formula old.verdict proof old.answer.items c.in-Ok.ensures c.in-Ok-output_of.ensures.texts in
     record {
       proof = proof;
       answer = new.answer.items;
@@ -30,7 +30,7 @@ returns-clause-says g c =
 
 pub returns-clause-answer_is_right : goal.returns-clause-answer_is_right
 returns-clause-answer_is_right g c =
-    says-right (limits_of c.args.limits) (g.R.Read.remaining c.args.input) c.args.strategy (g.P.Write.contents c.args.proof.now) (g.P.Write.contents c.write_output_by_hands.new.writer) (g.W.Write.contents c.args.answer.now) (g.W.Write.contents c.write_text.new.writer) (Ok c.write_output_by_hands.new.output.verdict)
+    says-right (limits_of c.args.options.now.limits) (g.R.Read.remaining c.args.input) c.args.options.now.strategy (g.P.Write.contents c.args.proof.now) (g.P.Write.contents c.write_output_by_hands.new.writer) (g.W.Write.contents c.args.answer.now) (g.W.Write.contents c.write_text.new.writer) (Ok c.write_output_by_hands.new.output.verdict)
     (returns-clause-says g c)
 
 pub returns-in_err-write_output_by_hands-clause-says : goal.returns-in_err-write_output_by_hands-clause-says
@@ -38,6 +38,6 @@ returns-in_err-write_output_by_hands-clause-says g c =
     let known = g.R.Read.remaining c.args.input in
     let old = c.in-Ok-output_of.output in
     let proof = proof_text (before_left old.before ++ lines_left old.lines) in
-    let run = IsRunOf-made (limits_of c.args.limits) known c.args.strategy c.in-Ok.formula old.verdict proof old.answer.items c.in-Ok.ensures c.in-Ok-output_of.ensures.texts in
-    RunSays-stopped (limits_of c.args.limits) known c.args.strategy (g.P.Write.contents c.args.proof.now) (g.P.Write.contents c.write_output_by_hands.new.writer) (g.W.Write.contents c.args.answer.now) c.from_residual.result c.in_err-write_output_by_hands.field-0.0 old.verdict proof old.answer.items (search rules) run
+    let run = IsRunOf-made (limits_of c.args.options.now.limits) known c.args.options.now.strategy c.in-Ok.formula old.verdict proof old.answer.items c.in-Ok.ensures c.in-Ok-output_of.ensures.texts in
+    RunSays-stopped (limits_of c.args.options.now.limits) known c.args.options.now.strategy (g.P.Write.contents c.args.proof.now) (g.P.Write.contents c.write_output_by_hands.new.writer) (g.W.Write.contents c.args.answer.now) c.from_residual.result c.in_err-write_output_by_hands.field-0.0 old.verdict proof old.answer.items (search rules) run
     c.in_err-write_output_by_hands.ensures.written

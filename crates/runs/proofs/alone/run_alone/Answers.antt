@@ -6,7 +6,7 @@ use Rattle.theory.specs.Reading.{standard}
 use Rattle.strategies.specs.Strategies.{by_plan}
 use Rattle.runs.proofs.RightAnswers.{says-right}
 use Rattle.runs.proofs.RunLemmas.{IsRunOf-made, RunSays-unread, RunSays-stopped}
-use Rattle.runs.proofs.alone.run_one_by_plan.Goals as goal
+use Rattle.runs.proofs.alone.run_alone.Goals as goal
 
 pub returns-in-Err-clause-says : goal.returns-in-Err-clause-says
 returns-in-Err-clause-says g c =
