@@ -1,26 +1,24 @@
 -- How a plan's search begins, with the formula itself or with what a simplification leaves.
-use Rattle.std.proofs.Common.{◌≡◌, ℕ, ◌≤◌, min, Bool, true, false, List, [], ◌++◌, length, refl, sym, ap, ap₂, ◌∙◌, subst, arith}
+use Rattle.std.proofs.Common.{◌≡◌, ℕ, ◌≤◌, min, true, false, List, [], ◌++◌, length, refl, sym, ap, ap₂, ◌∙◌, subst, arith}
 use Rattle.theory.specs.Truth.{Formula, Assignment}
 use Rattle.theory.specs.Plans.{Constants, Search, ordered, focused, Plan}
 use Rattle.theory.specs.Search as search
 use Rattle.theory.specs.Search.{exhausted}
 use Rattle.theory.specs.Focused.{RunsFocused}
-use Rattle.theory.specs.Runs.{Runs}
+use Rattle.theory.specs.Runs.{RunsBy, Runs}
 use Rattle.theory.specs.Trees.{Tree}
 use Rattle.theory.specs.Steps.{Step}
 use Rattle.theory.specs.Proofs.{lines_of}
-use Rattle.theory.specs.Simplifying.{Change, Eliminated, simplified, simplified_formula, simplification, extended_model}
+use Rattle.theory.specs.Simplifying.{Change, simplified, simplified_formula, simplification, extended_model}
 use Rattle.theory.specs.Trying.{IsSimplification}
-use Rattle.theory.specs.Beginnings.{Beginning, by_changes, begun, begun_by, beginning_by, model_back, first_tried, IsHard, IsToSimplify, Begins, directly, simpler, proof}
+use Rattle.theory.specs.Beginnings.{by_changes, begun_by, beginning_by, model_back, first_tried, IsHard, IsToSimplify, directly, simpler}
 use Rattle.theory.proofs.searching.FocusedSplits.{RunsFocused-exhausted}
 use Rattle.theory.proofs.searching.MoreConflicts.{soon-decided}
-use Rattle.theory.proofs.trees.Divisions.{Runs-searched}
 use Rattle.cdcl.specs.Solving.{Solving}
 use Rattle.cdcl.proofs.SearchedFormulas.{begun_by-is}
 use Rattle.cdcl.specs.Plans.{constants_from}
 use Rattle.simplify.specs.Made.{Made, steps_from, IsMadeBy}
-use Rattle.beginnings.specs.Begun.{model_in, IsBegun, IsBegunBy, IsFinal}
-use Rattle.beginnings.specs.declared.begun_formula.Begun.{Begun}
+use Rattle.beginnings.specs.Begun.{IsBegunBy, IsFinal}
 use Rattle.beginnings.specs.declared.begun_formula.Begun.TheVariants.{Given, Simplified}
 
 -- nothing is to be done to a model of the formula itself
@@ -69,12 +67,11 @@ unwanted F plan never y = never (y.wanted, go plan.search y.hard)
 
 -- the first search is the focused one of the formula itself, undivided
 pub first-runs : (F : Formula) (plan first : Plan) (n : ℕ) (s : Solving) (o : search.Outcome) → first ≡ record { search = focused (constants_from plan.search); budget = n; divide = 0; simplify = true } → n ≡ min first_tried plan.budget
-    → s ≡ record { formula = begun_by first.search F; plan = first; out_of_memory = false } → Runs s.formula s.plan [] o → RunsFocused (constants_from plan.search) F (min first_tried plan.budget) [] o
+    → s ≡ record { formula = begun_by first.search F; plan = first; out_of_memory = false } → RunsBy s.plan.search s.formula s.plan.budget [] o → RunsFocused (constants_from plan.search) F (min first_tried plan.budget) [] o
 first-runs F plan first n s o is few whole runs =
     let c = constants_from plan.search in
-    let by_first = subst (λ (t : Solving). Runs t.formula t.plan [] o) whole runs in
-    let by_plan : Runs F (record { search = focused c; budget = n; divide = 0; simplify = true }) [] o = subst (λ (p : Plan). Runs (begun_by p.search F) p [] o) is by_first in
-    subst (λ k. RunsFocused c F k [] o) few ((Runs-searched F (record { search = focused c; budget = n; divide = 0; simplify = true }) [] o).0 by_plan)
+    let by_first = subst (λ (t : Solving). RunsBy t.plan.search t.formula t.plan.budget [] o) whole runs in
+    subst (λ k. RunsFocused c F k [] o) few (subst (λ (p : Plan). RunsBy p.search (begun_by p.search F) p.budget [] o) is by_first)
 
 -- the first search used up its conflicts
 pub hard : (F : Formula) (plan : Plan) (c : Constants) (x : ℕ) → plan.search ≡ focused c → plan.simplify ≡ true → RunsFocused c F (min first_tried plan.budget) [] (exhausted x) → IsToSimplify F plan × (1 ≤ F.vars)

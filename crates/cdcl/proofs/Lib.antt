@@ -44,5 +44,4 @@ pub mod FocusedSteps
 pub mod ClosedSearches
 pub mod LongerSearches
 pub mod FocusedBeginnings
-pub mod DividingLemmas
 pub mod SearcherLemmas

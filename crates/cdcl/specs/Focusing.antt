@@ -6,14 +6,14 @@ use Rattle.theory.specs.Reading.{large, max_vars}
 use Rattle.theory.specs.Plans.{Constants}
 use Rattle.theory.specs.Trails.{Trail, literals, current_level, variables, up_to}
 use Rattle.theory.specs.Propagation.{Closed, quiet, conflict, by_place, Propagates, least_false}
-use Rattle.theory.specs.Learning.{back_level}
-use Rattle.theory.specs.Units.{AreUnits}
+use Rattle.theory.specs.Learning.{learn, back_level}
+use Rattle.theory.specs.Units.{AreUnits, units_of}
 use Rattle.theory.specs.Lessons.{lesson_of}
 use Rattle.theory.specs.Modes.{is_restarting, pace_after}
 use Rattle.theory.specs.Restarts.{glues_after, restarts}
 use Rattle.theory.specs.Rephasing.{is_over, next_turn, rephased}
 use Rattle.theory.specs.Forgetting.{unused, forget}
-use Rattle.theory.specs.Search.{Outcome, exhausted, Next, ends, goes_on}
+use Rattle.theory.specs.Search.{Outcome, refuted, exhausted, Next, ends, goes_on}
 use Rattle.theory.specs.Dividing.{LeadsTo}
 use Rattle.theory.specs.Focused as definition
 use Rattle.theory.specs.Focused.{FocusedState, IsFocusedStep, settled, if_stable, learnt_next, saved_after, splits_on}
@@ -288,3 +288,17 @@ pub record Begins (F : Formula) (c : Constants) (Q : List Literal) (s : FocusedS
   pub counted : s.conflicts ≡ 0
   pub saves : HasSaved s (map (λ v. true) (variables F.vars))
   pub begun : state_of s (map (λ v. true) (variables F.vars)) ≡ definition.begin c F Q
+
+-- propagation refutes the cube that was begun
+pub record IsRefutedAtOnce (s : FocusedSearch) (o : Outcome) : Type 0 where
+  pub number : ℕ
+  pub trail : Trail
+  pub propagates : Propagates by_place s.kernel.clauses s.kernel.trail (conflict number) trail
+  pub refutes : s.lines ≡ [] → let u = units_of s.kernel.clauses trail in o ≡ refuted (u.lines ++ learn u.clauses u.trail number ∷ [])
+
+-- or it comes to rest
+pub record ComesToRest (old new : FocusedSearch) : Type 0 where
+  pub propagates : Propagates by_place old.kernel.clauses old.kernel.trail quiet new.kernel.trail
+  pub clauses : new.kernel.clauses ≡ old.kernel.clauses
+  pub vars : new.kernel.vars ≡ old.kernel.vars
+  pub focusing : IsFocusing new

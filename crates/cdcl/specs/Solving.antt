@@ -1,26 +1,12 @@
--- Solving cubes of a formula by a plan.
-use Rattle.std.specs.Prelude.{◌≡◌, ℕ, ◌*◌, ◌<◌, ◌≤◌, Bool, [], min}
+-- Solving cubes of a formula by a plan's search.
+use Rattle.std.specs.Prelude.{◌≡◌, Bool}
 use Rattle.theory.specs.Truth.{Formula}
-use Rattle.theory.specs.Plans.{Constants, ordered, focused, Plan}
-use Rattle.theory.specs.Search.{exhausted, max_focused}
-use Rattle.theory.specs.Focused.{begin}
-use Rattle.theory.specs.Dividing.{first_conflicts, IsDivisible}
-use Rattle.theory.specs.Runs.{Runs}
+use Rattle.theory.specs.Plans.{ordered, focused, Plan}
 use Rattle.kernel.specs.declared.order.Order.TheVariants.{ByNumber, ByPlace}
-use Rattle.lookahead.specs.Rankings.{IsRanking}
-use Rattle.cdcl.specs.declared.dividing.Division.{Division}
-use Rattle.cdcl.specs.declared.dividing.Division.TheVariants.{Unasked, Whole, Divided}
-use Rattle.cdcl.specs.declared.dividing.First.{First}
-use Rattle.cdcl.specs.declared.dividing.First.TheVariants.{Ended, FewDecisions, ManyDecisions}
-use Rattle.cdcl.specs.declared.dividing.DividingSearch.{DividingSearch}
-use Rattle.cdcl.specs.declared.focused.FocusedSearch.{FocusedSearch}
-use Rattle.cdcl.specs.declared.root.Root.{Root}
-use Rattle.cdcl.specs.declared.root.Root.TheVariants.{Unknown, Searched, LookedAt}
 use Rattle.cdcl.specs.declared.searcher.Searcher.{Searcher}
 use Rattle.cdcl.specs.declared.searcher.Searcher.TheVariants.{Ordered, Focused}
 use Rattle.cdcl.specs.Searching.{IsReady}
-use Rattle.cdcl.specs.Outcome.{outcome_of}
-use Rattle.cdcl.specs.Focusing.{IsEquipped, RunsTo, IsOwn, Reaches, stable_at}
+use Rattle.cdcl.specs.Focusing.{IsEquipped}
 
 -- what a solver is seen as: which formula it solves cubes of, as its search begins with it, by which
 -- plan, and whether it has met want of memory
@@ -29,47 +15,7 @@ pub record Solving : Type 0 where
   pub plan : Plan
   pub out_of_memory : Bool
 
--- the solver is one of this formula and this plan
-abbrev pub IsSolverOf : Formula → Plan → Solving → Type 0
-IsSolverOf F plan s = (s.formula ≡ F) × (s.plan ≡ plan)
-
--- what is known of a formula's division is true
-abbrev pub IsDivisionOf : Formula → Plan → Division → Type 0
-IsDivisionOf F plan Unasked = Unit {0}
-IsDivisionOf F plan Whole = ¬ (IsDivisible F plan)
-IsDivisionOf F plan (Divided ranking) = IsDivisible F plan × IsRanking F.vars F.clauses ranking
-
--- and it is known
-abbrev pub IsKnown : Formula → Plan → Division → Type 0
-IsKnown F plan Unasked = ⊥
-IsKnown F plan Whole = ¬ (IsDivisible F plan)
-IsKnown F plan (Divided ranking) = IsDivisible F plan × IsRanking F.vars F.clauses ranking
-
--- what is known of a formula's cube without literals is true
-abbrev pub IsRootOf : Formula → Plan → Root → Type 0
-IsRootOf F plan Unknown = Unit {0}
-IsRootOf F plan (Searched x) = ¬ (IsDivisible F plan) × Runs F plan [] (exhausted x)
-IsRootOf F plan (LookedAt x) = IsDivisible F plan × Runs F plan [] (exhausted x)
-
--- the first search has come to this, up to its conflict number t: an outcome, or the conflict, with
--- fewer than five decisions for four conflicts of stable mode, or with more
-abbrev pub FirstSays : Constants → Formula → ℕ → First → FocusedSearch → Type 0
-FirstSays c F t (Ended o) s = RunsTo c F t (begin c F []) (outcome_of o) s.decided × IsOwn o
-FirstSays c F t FewDecisions s = Reaches c F t (begin c F []) s × (4 * s.decided < 5 * stable_at s)
-FirstSays c F t ManyDecisions s = Reaches c F t (begin c F []) s × ¬ (4 * s.decided < 5 * stable_at s)
-
--- the search goes by the plan, and may go over to a cube of the formula
-pub record IsDividing (plan : Plan) (F : Formula) (s : DividingSearch) : Type 0 where
-  pub ready : IsReady ByPlace F s.search.kernel
-  pub equipped : IsEquipped s.search
-  pub search : plan.search ≡ focused s.search.constants
-  pub divide : plan.divide ≡ s.divide
-  pub few : s.divide ≤ 65536
-  pub asked : min first_conflicts plan.budget ≡ s.asked
-  pub within : (1 ≤ s.asked) × (s.asked ≤ max_focused)
-  pub division : IsDivisionOf F plan s.division
-  pub root : IsRootOf F plan s.root
-
+-- the search is the plan's, and may go over to a cube of the formula
 abbrev pub IsReadyBy : Plan → Formula → Searcher → Type 0
 IsReadyBy plan F (Ordered s) = (plan.search ≡ ordered) × IsReady ByNumber F s.kernel
-IsReadyBy plan F (Focused s) = IsDividing plan F s
+IsReadyBy plan F (Focused s) = (plan.search ≡ focused s.constants) × IsReady ByPlace F s.kernel × IsEquipped s

@@ -1,6 +1,5 @@
 //! How much a search has done, and who is told of it while it goes on.
 
-use crate::first_search::FirstSearch;
 use std::alloc::AllocError;
 
 /// How much a solver has done since it was opened, in all its cubes. Each number stays once it has
@@ -87,9 +86,6 @@ impl Counts {
 pub trait Watcher {
     /// The solver has done so much since it was opened.
     fn counted(&self, counts: Counts);
-
-    /// The first search was asked whether the formula is divided, or ended before.
-    fn asked(&self, _first: FirstSearch) {}
 
     /// Whether the solver is to stop before it has an answer. It is asked before each cube, and
     /// each time that it was told what is done inside one.

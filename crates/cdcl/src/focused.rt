@@ -4,16 +4,16 @@ ghost use Rattle.theory.specs.Truth.{Formula, Assignment, IsOver};
 ghost use Rattle.theory.specs.Modes.{is_restarting};
 ghost use Rattle.theory.specs.Trails.{literals, current_level};
 ghost use Rattle.theory.specs.Propagation.{by_place, Propagates, quiet, conflict, least_false};
-ghost use Rattle.theory.specs.Search.{refuted, max_focused};
+ghost use Rattle.theory.specs.Search.{refuted, budget_within, max_focused};
 ghost use Rattle.theory.specs.Learning.{learn};
-ghost use Rattle.theory.specs.Focused.{splits_on};
+ghost use Rattle.theory.specs.Focused.{splits_on, RunsFocused};
 ghost use Rattle.heuristics.specs.Modes.{mode_of};
 ghost use Rattle.kernel.specs.Answer.{closed_of};
 ghost use Rattle.kernel.specs.declared.order.Order.TheVariants.{ByPlace};
 ghost use Rattle.cdcl.specs.Outcome.{outcome_of};
 ghost use Rattle.cdcl.specs.Searching.{IsReady, formula_of};
 ghost use Rattle.cdcl.specs.declared.focused.Stop.TheVariants.{Spent};
-ghost use Rattle.cdcl.specs.Focusing.{state_of, RunsTo, Stops, IsSpent, HasSaved, HasUnits, IsEquipped, IsFocusing, Follows, IsFocusedSearchStep, Begins, Closes, Continues};
+ghost use Rattle.cdcl.specs.Focusing.{state_of, IsKept, RunsTo, Stops, IsSpent, HasSaved, HasUnits, IsEquipped, IsFocusing, Follows, IsFocusedSearchStep, Begins, Closes, Continues};
 
 use crate::counts::{Counts, Watcher, tell};
 use crate::decisions::{Decisions, count_up_to};
@@ -31,10 +31,11 @@ use kernel::{Closed, Cube, Order, SearchKernel};
 use lines::Row;
 use std::alloc::{AllocError, Global};
 
-/// The state of a search.
-pub(crate) struct FocusedSearch {
+/// The state of a search. It can be stopped at a conflict, and resumed.
+pub struct FocusedSearch {
     pub(crate) constants: Constants,
-    pub(crate) kernel: SearchKernel,
+    /// The clauses and the trail. Who changes it leaves it as it was, where the search is to go on.
+    pub kernel: SearchKernel,
     /// How many conflicts above level 0 were counted.
     pub(crate) conflicts: u32,
     /// How many of these were counted in stable mode.
@@ -88,7 +89,7 @@ impl Drop for FocusedSearch {
 
 /// How a search stops.
 #[derive(Drop)]
-pub(crate) enum Stop {
+pub enum Stop {
     /// With an outcome, before it has counted as many conflicts as it may.
     Ended(Outcome<Row>),
     /// At the last conflict that it may count, which isn't learnt from.
@@ -104,7 +105,7 @@ pub(crate) fn if_stable(mode: Mode) -> u32
 
 impl FocusedSearch {
     /// A search of a formula, before its first cube.
-    pub(crate) fn open(
+    pub fn open(
         alloc: Global,
         formula: &Formula,
         constants: Constants,
@@ -140,7 +141,7 @@ impl FocusedSearch {
 
     /// Goes over to a cube, of which nothing is counted, learnt or saved yet. It takes time by what
     /// the last cube changed.
-    pub(crate) fn begin(&mut self, cube: &Cube) -> Result<(), AllocError>
+    pub fn begin(&mut self, cube: &Cube) -> Result<(), AllocError>
         requires over { self.old.kernel.out_of_memory ≡ false → IsOver self.old.kernel.vars cube.now }
         requires equipped { IsEquipped self.old }
         ensures { OnOk result ((F : Formula) → IsReady ByPlace F self.old.kernel → Begins F self.old.constants cube.now self.new) }
@@ -161,7 +162,7 @@ impl FocusedSearch {
     }
 
     /// How much was done in all cubes so far.
-    pub(crate) fn counts(&self) -> Counts {
+    pub fn counts(&self) -> Counts {
         Counts {
             restarts: self.averages.restarts(),
             minimised: self.analysis.removing.removed(),
@@ -188,9 +189,45 @@ impl FocusedSearch {
         }
     }
 
+    /// As `run`, from the conflict at which the search was stopped: that isn't counted again.
+    pub fn resume<W: Watcher>(
+        &mut self,
+        budget: u32,
+        watcher: &W,
+    ) -> Result<Outcome<Row>, AllocError>
+        requires focusing { IsFocusing self.old }
+        requires units { HasUnits self.old }
+        requires counted { (self.old.conflicts < budget) × (budget ≤ max_focused) }
+        ensures runs { IfOk result (λ o. (saved : Assignment) → HasSaved self.old saved →
+            RunsTo self.old.constants (formula_of self.old.kernel) budget (state_of self.old saved) (outcome_of o) self.new.decided) }
+        ensures kept { OnOk result (Continues self.old self.new) }
+    {
+        self.tally.resume();
+        self.run(budget, watcher)
+    }
+
+    /// The outcome of a cube, with this budget of conflicts.
+    pub fn solve<W: Watcher>(
+        &mut self,
+        cube: &Cube,
+        budget: u32,
+        watcher: &W,
+    ) -> Result<Outcome<Row>, AllocError>
+        requires over { self.old.kernel.out_of_memory ≡ false → IsOver self.old.kernel.vars cube.now }
+        requires equipped { IsEquipped self.old }
+        requires ready { (F : Formula) × IsReady ByPlace F self.old.kernel }
+        requires budget { (1 ≤ budget) × (budget ≤ max_focused) }
+        ensures runs { IfOk result (λ o. (F : Formula) (B : ℕ) → IsReady ByPlace F self.old.kernel → budget ≡ budget_within max_focused B cube.now →
+            RunsFocused self.old.constants F B cube.now (outcome_of o)) }
+        ensures kept { OnOk result (IsKept self.old self.new) }
+    {
+        self.begin(cube)?;
+        self.run(budget, watcher)
+    }
+
     /// Goes on up to the conflict of this number, or to an outcome before it. At the conflict the
     /// search may go on to a later one.
-    pub(crate) fn run_to<W: Watcher>(&mut self, last: u32, watcher: &W) -> Result<Stop, AllocError>
+    pub fn run_to<W: Watcher>(&mut self, last: u32, watcher: &W) -> Result<Stop, AllocError>
         requires focusing { IsFocusing self.old }
         requires units { HasUnits self.old }
         requires counted { (self.old.conflicts < last) × (last ≤ max_focused) }

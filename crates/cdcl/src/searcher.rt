@@ -1,20 +1,19 @@
 //! The search of a plan.
-ghost use Rattle.std.specs.Prelude.{◌≡◌, ◌≤◌, [], IfOk, OnOk};
+ghost use Rattle.std.specs.Prelude.{◌≡◌, ◌≤◌, IfOk, OnOk};
 ghost use Rattle.theory.specs.Truth.{Formula, IsOver};
 ghost use Rattle.theory.specs.Plans as plans;
-ghost use Rattle.theory.specs.Search.{exhausted, max_focused};
-ghost use Rattle.theory.specs.Runs.{cube_budget, Runs};
+ghost use Rattle.theory.specs.Search.{max_focused};
+ghost use Rattle.theory.specs.Runs.{RunsBy, cube_budget};
 ghost use Rattle.theory.specs.Results.{OutcomeSays};
-ghost use Rattle.cdcl.specs.Outcome.{outcome_of};
 ghost use Rattle.theory.specs.Beginnings.{begun_by};
-ghost use Rattle.cdcl.specs.Solving.{IsReadyBy, IsRootOf};
+ghost use Rattle.cdcl.specs.Outcome.{outcome_of};
+ghost use Rattle.cdcl.specs.Solving.{IsReadyBy};
 
 use crate::counts::{Counts, Watcher};
-use crate::dividing::DividingSearch;
+use crate::focused::FocusedSearch;
 use crate::ordered::OrderedSearch;
 use crate::outcome::Outcome;
 use crate::plan::{Plan, Search};
-use crate::root::Root;
 use cnf::Formula;
 use kernel::Cube;
 use lines::Row;
@@ -24,25 +23,18 @@ use std::alloc::{AllocError, Global};
 #[derive(Drop)]
 pub(crate) enum Searcher {
     Ordered(OrderedSearch),
-    Focused(DividingSearch),
+    Focused(FocusedSearch),
 }
 
 impl Searcher {
-    /// The plan's search of a formula, before its first cube, with what is known of the cube
-    /// without literals.
-    pub(crate) fn open(
-        alloc: Global,
-        formula: &Formula,
-        plan: Plan,
-        root: Root,
-    ) -> Result<Searcher, AllocError>
-        requires { IsRootOf (begun_by plan.search formula.now) plan root }
+    /// The plan's search of a formula, before its first cube.
+    pub(crate) fn open(alloc: Global, formula: &Formula, plan: Plan) -> Result<Searcher, AllocError>
         ensures { IfOk result (IsReadyBy plan (begun_by plan.search formula.now)) }
     {
         match plan.search() {
             Search::Ordered => Ok(Searcher::Ordered(OrderedSearch::open(alloc, formula)?)),
             Search::Focused => {
-                let search = DividingSearch::open(alloc, formula, plan, root)?;
+                let search = FocusedSearch::open(alloc, formula, plan.constants())?;
                 Ok(Searcher::Focused(search))
             }
         }
@@ -52,17 +44,7 @@ impl Searcher {
     pub(crate) fn counts(&self) -> Counts {
         match self {
             Searcher::Ordered(search) => search.counts(),
-            Searcher::Focused(search) => search.search.counts(),
-        }
-    }
-
-    /// What is known of the cube without literals, once it was found to be split on this variable.
-    pub(crate) fn root(&self, var: u32) -> Root
-        ensures { (F : Formula) (plan : plans.Plan) → IsReadyBy plan F self.now → Runs F plan [] (exhausted var) → IsRootOf F plan result }
-    {
-        match self {
-            Searcher::Ordered(_) => Root::Searched(var),
-            Searcher::Focused(search) => search.root_split_on(var),
+            Searcher::Focused(search) => search.counts(),
         }
     }
 
@@ -76,7 +58,7 @@ impl Searcher {
         requires ready { (F : Formula) × (plan : plans.Plan) × IsReadyBy plan F self.old × IsOver F.vars cube.now × (budget ≡ cube_budget plan cube.now) }
         requires budget { (1 ≤ budget) × (budget ≤ max_focused) }
         ensures runs { IfOk result (λ o. (F : Formula) (plan : plans.Plan) → IsReadyBy plan F self.old → budget ≡ cube_budget plan cube.now →
-            Runs F plan cube.now (outcome_of o)) }
+            RunsBy plan.search F plan.budget cube.now (outcome_of o)) }
         ensures says { IfOk result (λ o. (F : Formula) (plan : plans.Plan) → IsReadyBy plan F self.old → budget ≡ cube_budget plan cube.now →
             IsOver F.vars cube.now → OutcomeSays plan.search F cube.now (outcome_of o)) }
         ensures ready { OnOk result ((F : Formula) (plan : plans.Plan) → IsReadyBy plan F self.old → IsReadyBy plan F self.new) }
@@ -87,7 +69,7 @@ impl Searcher {
                 search.run(budget, watcher)
             }
             Searcher::Focused(search) => {
-                let _trail = search.search.kernel.trail(); // it ensures what the clauses are over
+                let _trail = search.kernel.trail(); // it ensures what the clauses are over
                 let _lits = cube.lits(); // it ensures that they are distinct
                 search.solve(cube, budget, watcher)
             }

@@ -1,18 +1,15 @@
 //! Solving the cubes of a formula, one after the other.
-ghost use Rattle.std.specs.Prelude.{◌≡◌, [], true, false, IfOk, OnOk, OnErr, IsErr};
+ghost use Rattle.std.specs.Prelude.{◌≡◌, true, false, IfOk, OnOk, OnErr, IsErr};
 ghost use Rattle.theory.specs.Truth.{IsOver};
-ghost use Rattle.theory.specs.Search.{exhausted};
-ghost use Rattle.theory.specs.Runs.{Runs};
+ghost use Rattle.theory.specs.Runs.{RunsBy};
 ghost use Rattle.theory.specs.Results.{OutcomeSays};
 ghost use Rattle.cdcl.specs.Outcome.{outcome_of};
 ghost use Rattle.theory.specs.Beginnings.{begun_by};
-ghost use Rattle.cdcl.specs.Solving.{IsRootOf};
 
 use crate::budget::budget_of;
 use crate::counts::{Counts, Unwatched, Watcher};
 use crate::outcome::Outcome;
 use crate::plan::Plan;
-use crate::root::Root;
 use crate::searcher::Searcher;
 use cnf::Formula;
 use kernel::Cube;
@@ -21,13 +18,12 @@ use std::alloc::{AllocError, Global};
 use std::marker::Model;
 use std::snapshot::Snapshot;
 
-/// Solves cubes of one formula by one plan. The formula's clauses are copied once, for the ordered
-/// search with a unit clause for each of its pure literals, and the room for analysis is made once,
-/// so that a cube costs what its search does and not what the formula holds. A cube's budget is the
-/// root's times one more than the cube's literals, and at most 1,000,000, or with the focused
-/// search 1,000,000,000. Where the plan wants a division, the first cube of few literals is
-/// preceded by a search of up to 20,000 conflicts, which says whether the formula is divided. Once
-/// a call has met want of memory, each later one answers it.
+/// Solves cubes of one formula by the search of one plan, and divides none. The formula's clauses
+/// are copied once, for the ordered search with a unit clause for each of its pure literals, and the
+/// room for analysis is made once, so that a cube costs what its search does and not what the
+/// formula holds. A cube's budget is the root's times one more than the cube's literals, and at most
+/// 1,000,000, or with the focused search 1,000,000,000. Once a call has met want of memory, each
+/// later one answers it.
 pub struct Solver {
     search: Searcher,
     // which formula it is; it is no data, and takes no room
@@ -67,36 +63,21 @@ impl Solver {
     pub fn open(alloc: Global, formula: &Formula, plan: Plan) -> Result<Solver, AllocError>
         ensures { IfOk result (λ s. s ≡ record { formula = begun_by plan.search formula.now; plan = plan; out_of_memory = false }) }
     {
-        let solver = Solver::open_with_root(alloc, formula, plan, Root::Unknown)?;
-        Ok(solver)
-    }
-
-    /// As `open`, where another solver of the formula, by the plan, has found out what the cube
-    /// without literals comes to: it isn't searched again.
-    pub fn open_with_root(
-        alloc: Global,
-        formula: &Formula,
-        plan: Plan,
-        root: Root,
-    ) -> Result<Solver, AllocError>
-        requires { IsRootOf (begun_by plan.search formula.now) plan root }
-        ensures { IfOk result (λ s. s ≡ record { formula = begun_by plan.search formula.now; plan = plan; out_of_memory = false }) }
-    {
         Ok(Solver {
-            search: Searcher::open(alloc, formula, plan, root)?,
+            search: Searcher::open(alloc, formula, plan)?,
             formula: Snapshot::of(formula),
             plan,
             out_of_memory: false,
         })
     }
 
-    /// The outcome of a cube over the formula's variables, by the plan: whatever cubes came before,
-    /// it is the same. It takes time by what the search does, and by the variables for a model
-    /// alone. An error comes only where an earlier call has met want of memory, or where a
+    /// The outcome of a cube over the formula's variables, by the plan's search: whatever cubes came
+    /// before, it is the same. It takes time by what the search does, and by the variables for a
+    /// model alone. An error comes only where an earlier call has met want of memory, or where a
     /// request for memory is refused, and from then on.
     pub fn solve(&mut self, cube: &Cube) -> Result<Outcome<Row>, AllocError>
         requires over { IsOver self.old.formula.vars cube.now }
-        ensures runs { IfOk result (λ o. Runs self.old.formula self.old.plan cube.now (outcome_of o)) }
+        ensures runs { IfOk result (λ o. RunsBy self.old.plan.search self.old.formula self.old.plan.budget cube.now (outcome_of o)) }
         ensures says { IfOk result (λ o. OutcomeSays self.old.plan.search self.old.formula cube.now (outcome_of o)) }
         ensures solves { (self.new.formula ≡ self.old.formula) × (self.new.plan ≡ self.old.plan) }
         ensures refused { OnErr result (self.new.out_of_memory ≡ true) }
@@ -105,18 +86,6 @@ impl Solver {
     {
         let outcome = self.solve_watched(cube, &Unwatched)?;
         Ok(outcome)
-    }
-
-    /// What other solvers may be told of the cube without literals, which was found to be split on
-    /// this variable.
-    pub fn root(&self, var: u32) -> Root
-        requires { Runs self.now.formula self.now.plan [] (exhausted var) }
-        ensures { IsRootOf self.now.formula self.now.plan result }
-    {
-        if self.out_of_memory {
-            return Root::Unknown;
-        }
-        self.search.root(var)
     }
 
     /// How much was done in all cubes so far.
@@ -132,7 +101,7 @@ impl Solver {
         watcher: &W,
     ) -> Result<Outcome<Row>, AllocError>
         requires over { IsOver self.old.formula.vars cube.now }
-        ensures runs { IfOk result (λ o. Runs self.old.formula self.old.plan cube.now (outcome_of o)) }
+        ensures runs { IfOk result (λ o. RunsBy self.old.plan.search self.old.formula self.old.plan.budget cube.now (outcome_of o)) }
         ensures says { IfOk result (λ o. OutcomeSays self.old.plan.search self.old.formula cube.now (outcome_of o)) }
         ensures solves { (self.new.formula ≡ self.old.formula) × (self.new.plan ≡ self.old.plan) }
         ensures refused { OnErr result (self.new.out_of_memory ≡ true) }

@@ -8,8 +8,6 @@ mod compatible;
 #[cfg(test)]
 mod conflicts;
 #[cfg(test)]
-mod divided;
-#[cfg(test)]
 mod focused;
 #[cfg(test)]
 mod kernels;

@@ -1,3 +1,5 @@
+pub mod DividingLemmas
+pub mod DividedSearches
 pub mod Walks
 pub mod OkLemmas
 pub mod PlaceLemmas

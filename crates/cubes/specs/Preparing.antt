@@ -3,10 +3,10 @@ use Rattle.std.specs.Prelude.{List}
 use Rattle.theory.specs.Truth.{Formula}
 use Rattle.theory.specs.Plans.{Search, Plan}
 use Rattle.theory.specs.Learning.{Line}
-use Rattle.cdcl.specs.Solving.{IsRootOf}
+use Rattle.cubes.specs.Division.{IsRootOf}
 use Rattle.cubes.specs.Result.{IsResultBy, Says}
-use Rattle.cubes.specs.declared.preparing.Beginning.{Beginning}
-use Rattle.cubes.specs.declared.preparing.Beginning.TheVariants.{Decided, Open}
+use Rattle.cubes.specs.declared.division.preparing.Beginning.{Beginning}
+use Rattle.cubes.specs.declared.division.preparing.Beginning.TheVariants.{Decided, Open}
 
 -- the tree is the formula's result, or what hands are told is true
 abbrev pub Begins : {L : Type 0} → (L → List Line) → Formula → Plan → Beginning L → Type 0

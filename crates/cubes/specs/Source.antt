@@ -3,7 +3,7 @@ use Rattle.std.specs.Prelude.{List, IfSome}
 use Rattle.theory.specs.Truth.{Formula}
 use Rattle.theory.specs.Plans.{Plan}
 use Rattle.theory.specs.Learning.{Line}
-use Rattle.cdcl.specs.Solving.{IsSolverOf, IsRootOf}
+use Rattle.cubes.specs.Division.{IsSolverOf, IsRootOf}
 use Rattle.cubes.specs.Known.{AreCheckedOutcomes}
 use Rattle.cubes.specs.declared.results.LazySolver.{LazySolver}
 use Rattle.cubes.specs.declared.results.Source.{Source}

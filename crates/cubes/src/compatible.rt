@@ -19,6 +19,7 @@ ghost use Rattle.cubes.specs.Shares.{share_of, AreNumbered};
 ghost use Rattle.cubes.specs.Solved.{AreTrueResults, solved_of};
 
 use crate::closing::close_all;
+use crate::division::root::Root;
 use crate::gate::{Gate, OpenGate};
 use crate::hand_count::HandCount;
 use crate::hands::{Worked, work_in};
@@ -26,7 +27,7 @@ use crate::results::{assemble_in, gather_in};
 use crate::solved::Solved;
 use crate::threads::solve_in;
 use crate::tree::Tree;
-use cdcl::{Plan, Root};
+use cdcl::Plan;
 use cnf::Formula;
 use pool::{Hand, Pool};
 use std::alloc::{AllocError, Global};

@@ -1,6 +1,7 @@
 //! What a hand passes as it solves cubes from the pool.
 
-use cdcl::{Counts, FirstSearch, Outcome, Watcher};
+use crate::division::first_search::{DivisionWatcher, FirstSearch};
+use cdcl::{Counts, Outcome, Watcher};
 use kernel::Cube;
 use lines::Row;
 
@@ -69,12 +70,14 @@ impl<G: Gate> Watcher for Prepared<'_, G> {
         self.gate.prepared(counts);
     }
 
-    fn asked(&self, first: FirstSearch) {
-        self.gate.asked(first);
-    }
-
     fn stops(&self) -> bool {
         self.gate.stops()
+    }
+}
+
+impl<G: Gate> DivisionWatcher for Prepared<'_, G> {
+    fn asked(&self, first: FirstSearch) {
+        self.gate.asked(first);
     }
 }
 
@@ -94,3 +97,5 @@ impl<G: Gate> Watcher for Watched<'_, G> {
         self.gate.stops()
     }
 }
+
+impl<G: Gate> DivisionWatcher for Watched<'_, G> {}

@@ -7,18 +7,21 @@ ghost use Rattle.theory.specs.Results.{OutcomeSays, IsWhole, done};
 ghost use Rattle.theory.specs.Checked.{IsCheckedOf};
 ghost use Rattle.cdcl.specs.Outcome.{outcome_of, outcome_by};
 ghost use Rattle.theory.specs.Beginnings.{begun_by};
-ghost use Rattle.cdcl.specs.Solving.{IsRootOf};
+ghost use Rattle.cubes.specs.Division.{IsRootOf};
 ghost use Rattle.cubes.specs.Solved.{AreTrueBy, AreTrueResults, AreCheckedBy, AreCheckedResults, results_by};
 ghost use Rattle.cubes.specs.Known.{AreOutcomes};
 ghost use Rattle.cubes.specs.Source.{IsLazySolver, IsSource};
 ghost use Rattle.cubes.specs.Result.{IsResultBy, IsResultOf, IsCheckedResultBy, IsCheckedResultOf, Says};
 
+use crate::division::cube_solver::CubeSolver;
+use crate::division::first_search::DivisionWatcher;
+use crate::division::root::Root;
 use crate::gate::{Gate, OpenGate, Watched, tell_refuted};
 use crate::gathering::Gathering;
 use crate::known::Known;
 use crate::solved::Solved;
 use crate::tree::Tree;
-use cdcl::{KeepsLines, Outcome, Plan, Root, Solver, Watcher};
+use cdcl::{KeepsLines, Outcome, Plan};
 use cnf::Formula;
 use kernel::Cube;
 use lines::Row;
@@ -27,7 +30,7 @@ use std::alloc::{AllocError, Global};
 /// The solver of a formula by a plan, which is opened once a cube is to be solved, and what it is
 /// told of the cube without literals.
 pub struct LazySolver {
-    pub(crate) solver: Option<Solver>,
+    pub(crate) solver: Option<CubeSolver>,
     pub(crate) root: Root,
 }
 
@@ -49,7 +52,7 @@ impl LazySolver {
     /// The outcome of a cube. A watcher is told what is done. The first call opens the solver, which
     /// takes memory by the formula; it fails where a request for memory is refused or the watcher
     /// stops it, and the next call opens another solver then.
-    pub fn solve<W: Watcher>(
+    pub fn solve<W: DivisionWatcher>(
         &mut self,
         alloc: Global,
         formula: &Formula,
@@ -65,9 +68,9 @@ impl LazySolver {
     {
         let mut ready = match self.solver.take() {
             Some(solver) => solver,
-            None => Solver::open_with_root(alloc, formula, plan, self.root)?,
+            None => CubeSolver::open(alloc, formula, plan, self.root)?,
         };
-        let outcome = ready.solve_watched(cube, watcher)?;
+        let outcome = ready.solve(plan, cube, watcher)?;
         self.solver = Some(ready);
         Ok(outcome)
     }

@@ -3,20 +3,21 @@ ghost use Rattle.std.specs.Prelude.{◌≡◌, ◌≤◌, [], false, length, All
 ghost use Rattle.theory.specs.Results.{IsWhole};
 ghost use Rattle.pool.specs.Pools.{AreNew};
 ghost use Rattle.theory.specs.Beginnings.{begun_by};
-ghost use Rattle.cdcl.specs.Solving.{IsRootOf};
+ghost use Rattle.cubes.specs.Division.{IsRootOf};
 ghost use Rattle.cubes.specs.Result.{IsResultBy, IsResultOf, Says};
 ghost use Rattle.cubes.specs.Shares.{HasDone, HaveDone};
 ghost use Rattle.cubes.specs.Solved.{results_by};
 
 use crate::closing::close_all;
+use crate::division::preparing::{Beginning, prepare};
+use crate::division::root::Root;
 use crate::gate::Gate;
 use crate::hand_count::HandCount;
 use crate::hands::{Worked, work_in};
-use crate::preparing::{Beginning, prepare};
 use crate::results::{assemble_in, gather_in};
 use crate::solved::Solved;
 use crate::tree::Tree;
-use cdcl::{KeepsLines, Plan, Root};
+use cdcl::{KeepsLines, Plan};
 use cnf::Formula;
 use kernel::Cube;
 use lines::Row;

@@ -15,6 +15,8 @@ mod decided;
 #[cfg(test)]
 mod deep;
 #[cfg(test)]
+mod divided;
+#[cfg(test)]
 mod gates;
 #[cfg(test)]
 mod hands;

@@ -1,9 +1,9 @@
 //! What a gate is told of the first search, and of cubes that are refuted.
 
 use crate::plans::plan_of;
-use cdcl::{FirstAnswer, FirstSearch, Plan, Search};
+use cdcl::{Plan, Search};
 use cnf::{Formula, read_formula};
-use cubes::{Gate, HandCount, solve_by_plan};
+use cubes::{FirstAnswer, FirstSearch, Gate, HandCount, solve_by_plan};
 use kernel::Cube;
 use samples::{EIGHT, FIVE, FOUR};
 use std::alloc::Global;

@@ -10,9 +10,9 @@ ghost use Rattle.theory.specs.Results.{OutcomeSays};
 ghost use Rattle.cdcl.specs.Outcome.{outcome_of};
 ghost use Rattle.cubes.specs.Solved.{AreTrueResults};
 
-use cdcl::{Outcome, Plan, Refutation, Solver};
+use cdcl::{Outcome, Plan, Refutation, Unwatched};
 use cnf::Formula;
-use cubes::{Node, Solved, Tree, What, gather_by_plan};
+use cubes::{CubeSolver, Node, Root, Solved, Tree, What, gather_by_plan};
 use kernel::Cube;
 use lines::Row as LineRow;
 use samples::{cube_of, reads};
@@ -65,8 +65,8 @@ pub fn solved(
     ensures runs { IfOk result (λ o. Runs (begun_by plan.search formula.now) plan cube.now (outcome_of o)) }
     ensures says { IfOk result (λ o. OutcomeSays plan.search (begun_by plan.search formula.now) cube.now (outcome_of o)) }
 {
-    let mut solver = Solver::open(alloc, formula, plan)?;
-    solver.solve(cube)
+    let mut solver = CubeSolver::open(alloc, formula, plan, Root::Unknown)?;
+    solver.solve(plan, cube, &Unwatched)
 }
 
 /// Adds a cube's result. The answer is `false` where it isn't the one that the row names.

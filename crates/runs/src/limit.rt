@@ -2,8 +2,8 @@
 ghost use Rattle.std.specs.Prelude.{◌≡◌, true, IsSome};
 
 use crate::options::Options;
-use cdcl::{Counts, FirstSearch};
-use cubes::Gate;
+use cdcl::Counts;
+use cubes::{FirstSearch, Gate};
 use kernel::Cube;
 use std::time::{Clock, Instant};
 

@@ -10,9 +10,9 @@ ghost use Rattle.spread.specs.Solving.{IsLeft, IsOfTree};
 
 use crate::solving::{Left, solve};
 use crate::told::Told;
-use cdcl::{Plan, Solver};
+use cdcl::Plan;
 use cnf::Formula;
-use cubes::Gate;
+use cubes::{Gate, LazySolver, Root};
 use kernel::Cube;
 use packs::Fact;
 use std::alloc::{AllocError, Global};
@@ -110,7 +110,7 @@ pub(crate) fn by_breadth<G: Gate>(
     ensures divides { IfOk result (λ d. Divides formula.now plan d.facts.items d.waiting.items d.has_model) }
 {
     let told = Told { gate, hand: 0 };
-    let mut solver = Solver::open(alloc, formula, plan)?;
+    let mut solver = LazySolver::none(Root::Unknown);
     let mut facts = Vec::new(alloc);
     let mut has_model = false;
     let mut queue = VecDeque::new(alloc);
@@ -123,7 +123,7 @@ pub(crate) fn by_breadth<G: Gate>(
             break;
         };
         let count = cube.lits().len();
-        let left = solve(formula, plan, &mut solver, cube, &mut facts, &told)?;
+        let left = solve(alloc, formula, plan, &mut solver, cube, &mut facts, &told)?;
         if take_up(&mut queue, left, count)? {
             has_model = true;
         }

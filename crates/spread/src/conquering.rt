@@ -2,6 +2,7 @@
 ghost use Rattle.std.specs.Prelude.{◌≡◌, [], All, IfOk, IfNone, OnOk};
 ghost use Rattle.theory.specs.Beginnings.{begun_by};
 ghost use Rattle.theory.specs.Truth.{IsOver};
+ghost use Rattle.cubes.specs.Source.{IsLazySolver};
 ghost use Rattle.gathering.specs.Facts.{IsTrueFact};
 ghost use Rattle.spread.specs.Solving.{IsStep};
 
@@ -13,9 +14,9 @@ use crate::said::{Said, say_no_memory};
 use crate::solving::{Left, solve};
 use crate::told::Told;
 use crate::way::Way;
-use cdcl::{Plan, Solver};
+use cdcl::Plan;
 use cnf::Formula;
-use cubes::Gate;
+use cubes::{Gate, LazySolver, Root};
 use kernel::Cube;
 use packs::Fact;
 use std::alloc::{AllocError, Global};
@@ -67,23 +68,22 @@ impl<'a, R: Clock> Time<'a, R> {
 
 /// Solves a cube, and puts its halves on the way, if it is split; whether it has a model.
 fn step<G: Gate>(
+    alloc: Global,
     formula: &Formula,
     plan: Plan,
-    solver: &mut Solver,
+    solver: &mut LazySolver,
     cube: Cube,
     way: &mut Vec<Cube>,
     facts: &mut Vec<Fact>,
     told: &Told<'_, G>,
 ) -> Result<bool, AllocError>
-    requires formula { solver.old.formula ≡ begun_by plan.search formula.now }
-    requires plan { solver.old.plan ≡ plan }
+    requires solver { IsLazySolver (begun_by plan.search formula.now) plan solver.old }
     requires facts { All (IsTrueFact formula.now plan) facts.old.items }
-    ensures formula { solver.new.formula ≡ begun_by plan.search formula.now }
-    ensures plan { solver.new.plan ≡ plan }
+    ensures solver { OnOk result (IsLazySolver (begun_by plan.search formula.now) plan solver.new) }
     ensures facts { OnOk result (All (IsTrueFact formula.now plan) facts.new.items) }
     ensures way { IsOver formula.now.vars cube → IfOk result (λ has_model. IsStep formula.now plan cube has_model way.old.items way.new.items) }
 {
-    match solve(formula, plan, solver, cube, facts, told)? {
+    match solve(alloc, formula, plan, solver, cube, facts, told)? {
         Left::Nothing => Ok(false),
         Left::Model => Ok(true),
         Left::Halves(left, right) => {
@@ -109,25 +109,32 @@ fn solve_next<R: Files + Alloc + Clone + Drop, E: Write, G: Gate>(
     folder: Folder,
     formula: &Formula,
     plan: Plan,
-    solver: &mut Solver,
+    solver: &mut LazySolver,
     cube: Cube,
     way: &mut Way<'_>,
     facts: &mut Vec<Fact>,
     told: &Told<'_, G>,
     faults: &mut E,
 ) -> Result<(), Said>
-    requires formula { solver.old.formula ≡ begun_by plan.search formula.now }
-    requires plan { solver.old.plan ≡ plan }
+    requires solver { IsLazySolver (begun_by plan.search formula.now) plan solver.old }
     requires facts { All (IsTrueFact formula.now plan) facts.old.items }
-    ensures formula { solver.new.formula ≡ begun_by plan.search formula.now }
-    ensures plan { solver.new.plan ≡ plan }
+    ensures solver { OnOk result (IsLazySolver (begun_by plan.search formula.now) plan solver.new) }
     ensures facts { OnOk result (All (IsTrueFact formula.now plan) facts.new.items) }
 {
     if is_needless(rt, alloc, folder, &cube) {
         way.leave();
         return Ok(());
     }
-    match step(formula, plan, solver, cube, &mut way.own, facts, told) {
+    match step(
+        alloc,
+        formula,
+        plan,
+        solver,
+        cube,
+        &mut way.own,
+        facts,
+        told,
+    ) {
         Ok(false) => Ok(()),
         Ok(true) => {
             note_last(rt, alloc, folder, facts);
@@ -183,15 +190,14 @@ fn solve_all<R: Files + Clock + Alloc + Clone + Drop, E: Write, G: Gate>(
     folder: Folder,
     run: &RunFile,
     formula: &Formula,
-    solver: &mut Solver,
+    solver: &mut LazySolver,
     way: &mut Way<'_>,
     seconds: u64,
     facts: &mut Vec<Fact>,
     told: &Told<'_, G>,
     faults: &mut E,
 ) -> Result<Ended, Said>
-    requires formula { solver.old.formula ≡ begun_by run.now.plan.search formula.now }
-    requires plan { solver.old.plan ≡ run.now.plan }
+    requires solver { IsLazySolver (begun_by run.now.plan.search formula.now) run.now.plan solver.old }
     requires facts { All (IsTrueFact formula.now run.now.plan) facts.old.items }
     ensures facts { OnOk result (All (IsTrueFact formula.now run.now.plan) facts.new.items) }
     ensures done { IfOk result (λ ended. ended ≡ Ended.Done → way.new.own.items ≡ []) }
@@ -228,9 +234,7 @@ pub(crate) fn go_on<R: Files + Clock + Alloc + Clone + Drop, E: Write, G: Gate>(
 ) -> Result<Ended, Said>
     ensures { IfOk result (λ ended. ended ≡ Ended.Done → way.new.own.items ≡ []) }
 {
-    let Ok(mut solver) = Solver::open(alloc, formula, run.plan) else {
-        return Err(say_no_memory(faults, folder.path));
-    };
+    let mut solver = LazySolver::none(Root::Unknown);
     let mut facts = Vec::new(alloc);
     let ended = solve_all(
         rt,

@@ -5,19 +5,20 @@ ghost use Rattle.theory.specs.Truth.{IsOver};
 ghost use Rattle.theory.specs.Trees.{false_half, true_half};
 ghost use Rattle.theory.specs.Checked.{IsFitSplit};
 ghost use Rattle.cdcl.specs.Outcome.{outcome_of};
+ghost use Rattle.cubes.specs.Source.{IsLazySolver};
 ghost use Rattle.gathering.specs.Facts.{IsTrueFact};
 ghost use Rattle.spread.specs.Solving.{IsFitOutcome, IsLeftBy, IsLeft};
 
 use crate::told::Told;
-use cdcl::{Outcome, Plan, Solver, split};
+use cdcl::{Outcome, Plan, split};
 use cnf::Formula;
-use cubes::Gate;
+use cubes::{Gate, LazySolver};
 use gathering::fact_of;
 use kernel::Cube;
 use lines::Row;
 use packs::Fact;
 use replay::is_over;
-use std::alloc::AllocError;
+use std::alloc::{AllocError, Global};
 
 /// What a cube leaves once it is solved.
 #[derive(Drop)]
@@ -50,27 +51,25 @@ fn left_by(formula: &Formula, cube: &Cube, outcome: &Outcome<Row>) -> Result<Lef
 /// isn't over the formula's variables is passed over. It fails where a request for memory is
 /// refused, or the gate stops it.
 pub(crate) fn solve<G: Gate>(
+    alloc: Global,
     formula: &Formula,
     plan: Plan,
-    solver: &mut Solver,
+    solver: &mut LazySolver,
     cube: Cube,
     facts: &mut Vec<Fact>,
     told: &Told<'_, G>,
 ) -> Result<Left, AllocError>
-    requires formula { solver.old.formula ≡ begun_by plan.search formula.now }
-    requires plan { solver.old.plan ≡ plan }
+    requires solver { IsLazySolver (begun_by plan.search formula.now) plan solver.old }
     requires facts { All (IsTrueFact formula.now plan) facts.old.items }
-    ensures formula { solver.new.formula ≡ begun_by plan.search formula.now }
-    ensures plan { solver.new.plan ≡ plan }
+    ensures solver { OnOk result (IsLazySolver (begun_by plan.search formula.now) plan solver.new) }
     ensures facts { OnOk result (All (IsTrueFact formula.now plan) facts.new.items) }
     ensures left { IsOver formula.now.vars cube → IfOk result (λ left. IsLeft formula.now plan cube left facts.old.items facts.new.items) }
 {
-    let _plan = plan; // it is there for the contract alone
     if !is_over(formula.vars(), cube.lits()) {
         return Ok(Left::Nothing);
     }
     told.begin(&cube);
-    let outcome = solver.solve_watched(&cube, told);
+    let outcome = solver.solve(alloc, formula, plan, &cube, told);
     told.end(&cube);
     let outcome = outcome?;
     let left = left_by(formula, &cube, &outcome)?;

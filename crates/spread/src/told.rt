@@ -1,7 +1,7 @@
 //! What a gate is told of the cubes that a hand solves.
 
 use cdcl::{Counts, Watcher};
-use cubes::Gate;
+use cubes::{DivisionWatcher, Gate};
 use kernel::Cube;
 
 /// A hand, and the gate that is told of its cubes.
@@ -32,3 +32,5 @@ impl<G: Gate> Watcher for Told<'_, G> {
         self.gate.stops()
     }
 }
+
+impl<G: Gate> DivisionWatcher for Told<'_, G> {}

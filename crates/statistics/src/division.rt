@@ -1,7 +1,7 @@
 //! How far a formula that was divided by lookahead is.
 ghost use Rattle.std.specs.Prelude.{◌≤◌, IfSome};
 
-use cdcl::{FirstAnswer, FirstSearch};
+use cubes::{FirstAnswer, FirstSearch};
 use std::fmt;
 use std::fmt::{Display, Formatter};
 

@@ -2,7 +2,7 @@
 
 use crate::division::Done;
 use crate::figures::Figures;
-use cdcl::{FirstAnswer, FirstSearch};
+use cubes::{FirstAnswer, FirstSearch};
 use std::io::Write;
 
 /// Prints by which figures of the first search the formula isn't divided.

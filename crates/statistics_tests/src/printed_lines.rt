@@ -1,7 +1,8 @@
 //! The lines of `--progress` of known figures, at each stage, as a list has them and a terminal.
 use crate::figures::{put_first, put_lowering, some_figures};
-use cdcl::{FirstAnswer, FirstSearch, Search};
+use cdcl::Search;
 use cnf::read_formula;
+use cubes::{FirstAnswer, FirstSearch};
 use samples::FOUR;
 use statistics::{Figures, FormulaSize, Manner, Stage, StageEnd, print_line};
 use std::alloc::Global;

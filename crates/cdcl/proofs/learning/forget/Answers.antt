@@ -1,4 +1,4 @@
-use Rattle.std.proofs.Common.{◌≡◌, ◌∙◌, ℕ, ◌+◌, ◌<◌, ◌≤◌, ◌++◌, ◌∷◌, [], List, length, All, ap, sym, subst, length-append, arith, refl}
+use Rattle.std.proofs.Common.{◌≡◌, ◌∙◌, ℕ, ◌+◌, ◌<◌, ◌≤◌, ◌∷◌, [], List, length, All, ap, sym, subst, length-append, arith, refl}
 use Rattle.theory.specs.Literals.{Clause}
 use Rattle.theory.specs.Plans.{Constants, default_constants}
 use Rattle.theory.specs.Forgetting.{forget}

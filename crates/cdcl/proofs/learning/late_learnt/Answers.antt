@@ -1,4 +1,4 @@
-use Rattle.std.proofs.Common.{◌∙◌, ℕ, ◌+◌, ◌-◌, drop, arith, refl}
+use Rattle.std.proofs.Common.{◌∙◌, ℕ, ◌-◌, drop, arith, refl}
 use Rattle.theory.specs.Plans.{Constants, default_constants}
 use Rattle.heuristics.proofs.LateLemmas.{candidates-distinct}
 use Rattle.cdcl.proofs.ForgettingLemmas.{late-found}

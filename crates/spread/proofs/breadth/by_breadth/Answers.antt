@@ -2,6 +2,7 @@ use Rattle.std.specs.Prelude.{if◌then◌else◌}
 use Rattle.std.proofs.Common.{◌≡◌, Bool, true, false, List, [], ◌++◌, All, ◌∷◌, length, subst, sym, ap, ◌∙◌}
 use Rattle.std.proofs.lemmas.List.Elements.{All-nil, All-cons, All-same, All-head, All-tail}
 use Rattle.theory.specs.Literals.{Literal}
+use Rattle.theory.specs.Beginnings.{begun_by}
 use Rattle.gathering.specs.Facts.{IsTrueFact}
 use Rattle.spread.specs.Dividing.{longer_first, IsBreadth}
 use Rattle.spread.specs.Solving.{IsOfTree}
@@ -19,8 +20,7 @@ cubes-preserved g c =
     let all = All-same (IsOfTree F plan) (Q ∷ rest) c.cubes.queue.items (sym c.in-Some.ensures.items) c.cubes.invariant.cubes in
     let here = All-head (IsOfTree F plan) Q rest all in
     record {
-      formula = c.in_ok-left.ensures.formula;
-      plan = c.in_ok-left.ensures.plan;
+      solver = c.in_ok-left.ensures.solver;
       facts = c.in_ok-left.ensures.facts;
       cubes = c.in_ok-take_up.ensures.cubes F plan Q c.cubes.facts.items c.solve.new.facts.items here (c.in_ok-left.ensures.left here.over) (All-tail (IsOfTree F plan) Q rest all);
       waits =
@@ -44,8 +44,7 @@ cubes-init g c =
     let alone : c.push_back.new.self.items ≡ [] ∷ [] = c.in_ok-push_back.ensures.items ∙ (ap (λ (Qs : List (List Literal)). Qs ++ c.root.result ∷ []) c.new-queue.ensures.items ∙ ap (λ (Q : List Literal). Q ∷ []) c.root.ensures) in
     let none = c.new-facts.ensures.items in
     record {
-      formula = ap (λ solver. solver.formula) c.in_ok-solver.ensures;
-      plan = ap (λ solver. solver.plan) c.in_ok-solver.ensures;
+      solver = c.none-solver.ensures (begun_by plan.search F) plan tt;
       facts = All-same (IsTrueFact F plan) c.new-facts.result.items [] none (All-nil (IsTrueFact F plan));
       cubes = All-same (IsOfTree F plan) c.push_back.new.self.items ([] ∷ []) alone (All-cons (IsOfTree F plan) [] [] (root F plan) (All-nil (IsOfTree F plan)));
       waits = subst (λ fs. IsBreadth F plan fs c.push_back.new.self.items false) (sym none) (subst (λ Qs. IsBreadth F plan [] Qs false) (sym alone) (root-waits F plan));

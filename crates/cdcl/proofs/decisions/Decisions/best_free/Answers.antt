@@ -1,11 +1,11 @@
-use Rattle.std.proofs.Common.{◌≡◌, ◌∙◌, ℕ, List, not, ap, sym, arith}
-use Rattle.theory.specs.Literals.{IsVariable, has_var}
+use Rattle.std.proofs.Common.{◌∙◌, not, ap, sym, arith}
+use Rattle.theory.specs.Literals.{has_var}
 use Rattle.theory.specs.Truth.{value}
 use Rattle.theory.specs.Trails.{literals}
 use Rattle.theory.specs.Scores.{best_outside}
 use Rattle.theory.proofs.literals.LiteralLemmas.{and-left, and-right, not_true}
 use Rattle.heuristics.proofs.WaitingOnes.{best_outside-waiting, best_outside-nobody}
-use Rattle.heuristics.specs.Rankings.{Ranking, vars_of}
+use Rattle.heuristics.specs.Rankings.{Ranking}
 use Rattle.cdcl.specs.Searching.{formula_of}
 use Rattle.cdcl.proofs.WaitingLemmas.{fewer-wait, best-waits, AreWaiting-out, chosen-held}
 use Rattle.cdcl.proofs.decisions.Decisions.best_free.Goals as goal

@@ -1,6 +1,5 @@
 use Rattle.std.proofs.Common.{◌≡◌, ◌∙◌, Bool, true, false, not, ◌&&◌, is_some, ap, sym, refl}
 use Rattle.theory.specs.Literals.{has_var}
-use Rattle.theory.specs.Truth.{value}
 use Rattle.theory.specs.Trails.{literals}
 use Rattle.lookahead.proofs.RankingLemmas.{entry-there}
 use Rattle.cdcl.proofs.decisions.Decisions.may_decide.Goals as goal

@@ -1,4 +1,4 @@
-use Rattle.std.proofs.Common.{◌≡◌, ℕ, List, Bool, length, true, false, ap, ◌∙◌}
+use Rattle.std.proofs.Common.{ℕ, List, Bool, length, true, false, ap, ◌∙◌}
 use Rattle.theory.specs.Held.{is_held}
 use Rattle.theory.proofs.searching.MappedVariables.{at-variable, length-mapped}
 use Rattle.cdcl.specs.Searching.{formula_of}
