@@ -83,9 +83,9 @@ impl<G: Gate> DivisionWatcher for Prepared<'_, G> {
 
 /// Tells a gate what the solver of a hand has done.
 #[derive(Drop)]
-pub(crate) struct Watched<'a, G> {
-    pub(crate) gate: &'a G,
-    pub(crate) hand: usize,
+pub struct Watched<'a, G> {
+    pub gate: &'a G,
+    pub hand: usize,
 }
 
 impl<G: Gate> Watcher for Watched<'_, G> {

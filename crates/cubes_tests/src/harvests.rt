@@ -1,6 +1,6 @@
 //! Worked rows: what the hands of a pool bring home together, with a budget of one conflict for the
 //! root, and the tree that is assembled from it.
-ghost use Rattle.std.specs.Prelude.{◌≡◌, ◌≤◌, false, map, length, All, IfOk};
+ghost use Rattle.std.specs.Prelude.{◌≡◌, false, map, length, All, IfOk};
 ghost use Rattle.theory.specs.Plans.{ordered_within};
 ghost use Rattle.theory.specs.Pure.{searched};
 ghost use Rattle.theory.specs.Results.{IsWhole};
@@ -10,7 +10,7 @@ ghost use Rattle.cubes.specs.Solved.{solved_of};
 use crate::hands::is_result;
 use crate::results::{Given, NODES, NODES_OF_SIXTEEN, WantedTree, is_tree};
 use cnf::{Formula, read_formula};
-use cubes::{OpenGate, Solved, Tree, Worked, assemble, harvest, work};
+use cubes::{HandCount, OpenGate, Solved, Tree, Worked, assemble, harvest, work};
 use kernel::Cube;
 use pool::Hand;
 use samples::{EIGHT, SIXTEEN, TWO_MODELS};
@@ -61,12 +61,11 @@ fn harvested<R: Threads + Wait + Clock + Sync>(
     rt: &R,
     alloc: Global,
     formula: &Formula,
-    hands: usize,
+    hands: HandCount,
 ) -> Result<Vec<Solved>, Fail>
-    requires { (1 ≤ hands) × (hands ≤ 16) }
     ensures { IfOk result (λ r. IsWhole (searched formula.now) (ordered_within 1) (map solved_of r.items)) }
 {
-    let (pool, all) = pool::open(alloc, hands, formula.vars(), Cube::root(alloc))?;
+    let (pool, all) = pool::open(alloc, hands.get(), formula.vars(), Cube::root(alloc))?;
     let works = all_work(rt, alloc, formula, all)?;
     if ran_out_of_memory(&works) {
         return Err("short of memory".into());
@@ -122,11 +121,10 @@ fn brings<R: Threads + Wait + Clock + Sync>(
     rt: &R,
     alloc: Global,
     formula: &Formula,
+    hands: HandCount,
     wanted: &Harvest,
-) -> Result<bool, Fail>
-    requires { (1 ≤ wanted.now.hands) × (wanted.now.hands ≤ 16) }
-{
-    let results = harvested(rt, alloc, formula, wanted.hands)?;
+) -> Result<bool, Fail> {
+    let results = harvested(rt, alloc, formula, hands)?;
     if !are_these(&results, wanted.rows) {
         return Ok(false);
     }
@@ -140,12 +138,12 @@ fn brings_each_time<R: Threads + Wait + Clock + Sync>(
     alloc: Global,
     wanted: &Harvest,
 ) -> Result<bool, Fail> {
-    if wanted.hands < 1 || wanted.hands > 16 {
+    let Some(hands) = HandCount::new(wanted.hands) else {
         return Ok(false);
-    }
+    };
     let formula = read_formula(alloc, wanted.text.as_bytes())?;
     for _ in 0..20 {
-        if !brings(rt, alloc, &formula, wanted)? {
+        if !brings(rt, alloc, &formula, hands, wanted)? {
             return Ok(false);
         }
     }

@@ -17,10 +17,9 @@ ghost use Rattle.runs.specs.Answer.{IsRightAnswer};
 ghost use Rattle.runs.specs.Run.{AreTexts, RunSays};
 ghost use Rattle.runs.specs.Written.{IsAnswer};
 
-use crate::before_output::{lines_before, write_before};
 use crate::fault::RunFault;
 use crate::output::write_text;
-use crate::proof_output::{room, write_proof};
+use crate::proof_output::{lines_before, room, write_lines, write_proof};
 use crate::verdict::Verdict;
 use beginnings::Begun;
 use cdcl::Plan;
@@ -153,7 +152,7 @@ fn write_output<W: Write>(writer: &mut W, output: &mut Output) -> Result<(), Run
         (λ e. (e ≡ RunFault.ProofWriteFailed) × (count : ℕ) × Appends (W.contents writer.old) (W.contents writer.new) (take count (proof_text (before_left output.old.before ++ lines_left output.old.lines)))) }
     ensures kept { (output.new.verdict ≡ output.old.verdict) × (output.new.answer ≡ output.old.answer) }
 {
-    write_before(writer, &mut output.before, &mut output.buffer)?;
+    write_lines(writer, &mut output.before, &mut output.buffer)?;
     write_proof(writer, &mut output.lines, &mut output.buffer)?;
     Ok(())
 }

@@ -5,12 +5,12 @@ ghost use Rattle.strategies.specs.Deciding.{IsModelOf, IsRefuted};
 ghost use Rattle.runs.specs.Answered.{AnswerSays, IsAnswerFor};
 
 use crate::fault::RunFault;
-use crate::limit::{Limit, LimitedGate};
+use crate::limit::LimitedGate;
 use crate::options::Options;
 use crate::output::write_text;
 use crate::verdict::Verdict;
 use cnf::{Formula, Limits, read_from_within};
-use cubes::Gate;
+use cubes::{Gate, Limit};
 use join::answer_bytes;
 use std::alloc::{AllocError, Global};
 use std::io::{Read, Write};

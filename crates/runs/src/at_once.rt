@@ -12,9 +12,9 @@ ghost use Rattle.runs.specs.Run.{WritesBoth};
 ghost use Rattle.runs.specs.Stored.{AreTrueStored, IsStreamFor};
 ghost use Rattle.runs.specs.AtOnce.{HasNoProof, LeavesAtOnce, WritesAllIfRefuted, WritesIfRefuted};
 
-use crate::before_output::{lines_before, write_before};
 use crate::fault::RunFault;
 use crate::output::write_text;
+use crate::proof_output::{lines_before, write_lines};
 use crate::proof_stream::ProofStream;
 use crate::stored::{GatheredFrom, Gathering};
 use crate::verdict::Verdict;
@@ -75,7 +75,7 @@ pub(crate) fn write_all_if_refuted<O: GivesOutcomes, P: Write>(
         (WritesAllIfRefuted searched.now plan (O.gives_own outcomes.old searched.now plan) (before_left before.old) (P.contents proof.old) (P.contents proof.new))
         (λ e. (e ≡ RunFault.NoMemory) ⊎ (e ≡ RunFault.ProofWriteFailed)) }
 {
-    write_before(proof, before, &mut stream.buffer)?;
+    write_lines(proof, before, &mut stream.buffer)?;
     write_if_refuted(alloc, searched, plan, outcomes, stream, proof)
 }
 

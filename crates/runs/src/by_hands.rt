@@ -9,7 +9,6 @@ ghost use Rattle.runs.specs.Parts.{text_of, whole, AreMade, IsGiven, IsIdle, IsM
 ghost use Rattle.runs.specs.Written.{IsOnItsWay};
 
 use crate::alone::Output;
-use crate::before_output::write_before;
 use crate::fault::RunFault;
 use crate::proof_output::{fill, write_lines, write_proof};
 use join::Lines;
@@ -227,7 +226,7 @@ pub(crate) fn write_output_by_hands<T: Threads + Sync, W: Write>(
         (λ e. (e ≡ RunFault.ProofWriteFailed) × (count : ℕ) × Appends (W.contents writer.old) (W.contents writer.new) (take count (proof_text (before_left output.old.before ++ lines_left output.old.lines)))) }
     ensures kept { (output.new.verdict ≡ output.old.verdict) × (output.new.answer ≡ output.old.answer) }
 {
-    write_before(writer, &mut output.before, &mut output.buffer)?;
+    write_lines(writer, &mut output.before, &mut output.buffer)?;
     write_by_hands(rt, writer, &mut output.lines, &mut output.buffer, parts)?;
     Ok(())
 }

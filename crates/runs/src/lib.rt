@@ -5,7 +5,6 @@
 mod alone;
 mod answered;
 mod at_once;
-mod before_output;
 mod by_hands;
 mod check;
 mod checked_line;
@@ -29,9 +28,9 @@ pub use at_once::gather_at_once;
 pub use check::{CheckRules, Told, check_with};
 pub use checked_line::Checked;
 pub use compatible::{check_run, run};
+pub use cubes::{Limit, TimeLimit};
 pub use fault::RunFault;
 pub use laws::runs_write_the_same;
-pub use limit::{Limit, TimeLimit};
 pub use limited::{answer_with, run_with};
 pub use options::Options;
 pub use stored::{GatheredFrom, Gathering, gather_stored};

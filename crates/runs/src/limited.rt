@@ -7,12 +7,11 @@ ghost use Rattle.runs.specs.Limited.{EndsUnsolved, LimitedAnswerSays, LimitedRun
 
 use crate::answered::answer_to_end;
 use crate::fault::RunFault;
-use crate::limit::Limit;
 use crate::options::Options;
 use crate::output::write_text;
 use crate::threaded::run_to_end;
 use crate::verdict::Verdict;
-use cubes::Gate;
+use cubes::{Gate, Limit};
 use std::alloc::Global;
 use std::io::{Read, Write};
 use std::sync::Wait;

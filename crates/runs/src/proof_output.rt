@@ -1,13 +1,18 @@
 //! The text of a proof, as it is written: line by line through one buffer.
-ghost use Rattle.std.specs.Prelude.{◌≡◌, ℕ, ◌≤◌, [], ◌++◌, length, take, IfOk, OnOk, MatchResult};
+ghost use Rattle.std.specs.Prelude.{◌≡◌, ℕ, ◌≤◌, List, [], ◌++◌, length, take, IfOk, OnOk, MatchResult};
 ghost use Rattle.std.specs.Bool.{OnFalse};
 ghost use Rattle.std.specs.Io.KnownBytes.{Appends};
+ghost use Rattle.theory.specs.Steps.{Step};
 ghost use Rattle.theory.specs.Texts.{proof_text, step_text};
+ghost use Rattle.beginnings.specs.Begun.{formula_in, lines_in};
+ghost use Rattle.join.specs.Before.{before_left, IsBefore};
 ghost use Rattle.join.specs.Walking.{line_of, lines_left, IsAtEnd, IsBetweenLines, OnMore};
 ghost use Rattle.runs.specs.Written.{Puts};
 
 use crate::fault::RunFault;
 use crate::output::write_bytes;
+use beginnings::Begun;
+use cnf::Formula;
 use join::{Kind, Lines, LinesBefore, ProofLine};
 use lrat::{write_clause, write_deletion};
 use std::alloc::{AllocError, Global};
@@ -15,6 +20,23 @@ use std::io::Write;
 
 /// How many bytes are written at once, or a few more: whole lines.
 pub(crate) const ENOUGH: usize = 65_536;
+
+/// The lines before those of a formula's tree, which is searched from this on.
+pub(crate) fn lines_before(
+    alloc: Global,
+    formula: &Formula,
+    begun: &mut Begun,
+) -> Result<LinesBefore, AllocError>
+    ensures left { IfOk result (λ l. before_left l ≡ lines_in begun.old formula.now) }
+    ensures lawful { IfOk result IsBefore }
+    ensures formula { OnOk result (formula_in begun.new formula.now ≡ formula_in begun.old formula.now) }
+{
+    let _vars = formula.vars(); // it ensures what the proof needs of the formula
+    let clauses = formula.clause_count() as u64;
+    let row = begun.take_lines(alloc);
+    let lines = LinesBefore::of(alloc, clauses, row)?;
+    Ok(lines)
+}
 
 /// Room for lines on their way to a writer. No more is asked for while they are written.
 pub(crate) fn room(
@@ -39,34 +61,71 @@ pub(crate) fn put_text(line: &ProofLine, buffer: &mut Vec<u8>) -> Result<(), All
     Ok(())
 }
 
-/// Puts the next line into the buffer; it answers whether there was one more.
-fn put_line(lines: &mut Lines, buffer: &mut Vec<u8>) -> Result<bool, AllocError>
-    requires { IsBetweenLines lines.old }
-    ensures puts { IfOk result (λ more. Puts (lines_left lines.old) (lines_left lines.new) buffer.old.items buffer.new.items more) }
-    ensures lawful { OnOk result (IsBetweenLines lines.new) }
-    ensures end { IfOk result (λ more. OnFalse more (IsAtEnd lines.new)) }
-{
-    if !lines.next_line()? {
-        return Ok(false);
+/// Lines of a proof, of which one after the other is put into a buffer.
+pub(crate) trait PutsLines {
+    /// The lines that are left.
+    ghost left: { Self → List Step };
+    /// That the next one can be asked for.
+    ghost is_lawful: { Self → Type 0 };
+    /// That there is none.
+    ghost is_at_end: { Self → Type 0 };
+
+    /// Puts the next line into the buffer; it answers whether there was one more.
+    fn put_line(&mut self, buffer: &mut Vec<u8>) -> Result<bool, AllocError>
+        requires { is_lawful self.old }
+        ensures puts { IfOk result (λ more. Puts (left self.old) (left self.new) buffer.old.items buffer.new.items more) }
+        ensures lawful { OnOk result (is_lawful self.new) }
+        ensures none { IfOk result (λ more. OnFalse more (left self.new ≡ [])) }
+        ensures end { IfOk result (λ more. OnFalse more (is_at_end self.new)) };
+}
+
+impl PutsLines for Lines {
+    ghost left = { λ lines. lines_left lines };
+
+    ghost is_lawful = { λ lines. IsBetweenLines lines };
+
+    ghost is_at_end = { λ lines. IsAtEnd lines };
+
+    fn put_line(&mut self, buffer: &mut Vec<u8>) -> Result<bool, AllocError> {
+        if !self.next_line()? {
+            return Ok(false);
+        }
+        put_text(self.line(), buffer)?;
+        Ok(true)
     }
-    put_text(lines.line(), buffer)?;
-    Ok(true)
+}
+
+impl PutsLines for LinesBefore {
+    ghost left = { λ lines. before_left lines };
+
+    ghost is_lawful = { λ lines. IsBefore lines };
+
+    ghost is_at_end = { λ lines. before_left lines ≡ [] };
+
+    fn put_line(&mut self, buffer: &mut Vec<u8>) -> Result<bool, AllocError> {
+        if !self.next_line()? {
+            return Ok(false);
+        }
+        put_text(self.line(), buffer)?;
+        Ok(true)
+    }
 }
 
 /// Puts lines into the buffer until it has so many bytes; it answers whether it has.
-pub(crate) fn fill(
-    lines: &mut Lines,
+pub(crate) fn fill<L: PutsLines>(
+    lines: &mut L,
     buffer: &mut Vec<u8>,
     enough: usize,
 ) -> Result<bool, AllocError>
-    requires { IsBetweenLines lines.old }
-    ensures text { OnOk result (buffer.new.items ++ proof_text (lines_left lines.new) ≡ buffer.old.items ++ proof_text (lines_left lines.old)) }
-    ensures lawful { OnOk result (IsBetweenLines lines.new) }
+    requires { L.is_lawful lines.old }
+    ensures text { OnOk result (buffer.new.items ++ proof_text (L.left lines.new) ≡ buffer.old.items ++ proof_text (L.left lines.old)) }
+    ensures lawful { OnOk result (L.is_lawful lines.new) }
     ensures full { IfOk result (λ full. OnMore (enough ≤ length buffer.new.items) full) }
-    ensures end { IfOk result (λ full. OnFalse full (IsAtEnd lines.new)) }
+    ensures none { IfOk result (λ full. OnFalse full (L.left lines.new ≡ [])) }
+    ensures end { IfOk result (λ full. OnFalse full (L.is_at_end lines.new)) }
 {
     'lines: while buffer.len() < enough {
-        if !put_line(lines, buffer)? {
+        if !lines.put_line(buffer)? {
             return Ok(false);
         }
     }
@@ -76,16 +135,16 @@ pub(crate) fn fill(
 /// Writes the text of lines behind what a buffer has of it, through that buffer, which is empty
 /// then. A write fails as in `write_bytes`, and so it does where there is no memory for a line; then
 /// a beginning of the text is written.
-pub(crate) fn write_lines<W: Write>(
+pub(crate) fn write_lines<W: Write, L: PutsLines>(
     writer: &mut W,
-    lines: &mut Lines,
+    lines: &mut L,
     buffer: &mut Vec<u8>,
 ) -> Result<(), RunFault>
-    requires { IsBetweenLines lines.old }
-    ensures written { MatchResult result (λ _. Appends (W.contents writer.old) (W.contents writer.new) (buffer.old.items ++ proof_text (lines_left lines.old)))
-        (λ e. (e ≡ RunFault.ProofWriteFailed) × (count : ℕ) × Appends (W.contents writer.old) (W.contents writer.new) (take count (buffer.old.items ++ proof_text (lines_left lines.old)))) }
+    requires { L.is_lawful lines.old }
+    ensures written { MatchResult result (λ _. Appends (W.contents writer.old) (W.contents writer.new) (buffer.old.items ++ proof_text (L.left lines.old)))
+        (λ e. (e ≡ RunFault.ProofWriteFailed) × (count : ℕ) × Appends (W.contents writer.old) (W.contents writer.new) (take count (buffer.old.items ++ proof_text (L.left lines.old)))) }
     ensures buffer { OnOk result (buffer.new.items ≡ []) }
-    ensures end { OnOk result (IsAtEnd lines.new) }
+    ensures end { OnOk result (L.is_at_end lines.new) }
 {
     'lines: loop {
         let Ok(full) = fill(lines, buffer, ENOUGH) else {

@@ -13,9 +13,9 @@ ghost use Rattle.runs.specs.Stored.{AreTrueStored, IsProofOf, IsProofText, IsRef
 
 use crate::alone::answer_of;
 use crate::at_once::write_all_if_refuted;
-use crate::before_output::lines_before;
 use crate::fault::RunFault;
 use crate::output::write_text;
+use crate::proof_output::lines_before;
 use crate::proof_stream::ProofStream;
 use crate::verdict::Verdict;
 use beginnings::{Unwatched, begun};

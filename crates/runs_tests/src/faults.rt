@@ -1,8 +1,7 @@
 //! What stands after a fault of solving: readers and writers that fail at each place.
-ghost use Rattle.std.specs.Prelude.{◌≤◌};
 
 use cnf::{Place, ReadFault};
-use cubes::OpenGate;
+use cubes::{HandCount, OpenGate};
 use runs::{RunFault, Verdict, run, run_one};
 use samples::faulty::{Full, Limited, Limits, ROOMY, Trickle, UNFLUSHED};
 use samples::{FOUR, FOUR_PROOF};
@@ -208,13 +207,16 @@ fn faults_have_numbers(rt: HostRuntime) {
 }
 
 /// What stands where the proof's writer fails under so many hands.
-fn stops_in_proof<R: Threads + Wait + Clock + Sync>(rt: &R, alloc: Global, hands: usize) -> bool
-    requires { (1 ≤ hands) × (hands ≤ 16) }
-{
+fn stops_in_proof<R: Threads + Wait + Clock + Sync>(
+    rt: &R,
+    alloc: Global,
+    hands: HandCount,
+) -> bool {
     let mut proof = Limited::new(alloc, Limits::of(5));
     let mut answer = Limited::new(alloc, ROOMY);
     let text = FOUR.as_bytes();
     let gate = OpenGate;
+    let hands = hands.get();
     let result = run(rt, alloc, text, &mut answer, &mut proof, 1, hands, &gate);
     result == Err(RunFault::ProofWriteFailed)
         && proof.taken.as_slice() == b"5 1 0".as_slice()
@@ -222,13 +224,16 @@ fn stops_in_proof<R: Threads + Wait + Clock + Sync>(rt: &R, alloc: Global, hands
 }
 
 /// What stands where the answer's writer fails under so many hands.
-fn stops_in_answer<R: Threads + Wait + Clock + Sync>(rt: &R, alloc: Global, hands: usize) -> bool
-    requires { (1 ≤ hands) × (hands ≤ 16) }
-{
+fn stops_in_answer<R: Threads + Wait + Clock + Sync>(
+    rt: &R,
+    alloc: Global,
+    hands: HandCount,
+) -> bool {
     let mut proof = Limited::new(alloc, ROOMY);
     let mut answer = Limited::new(alloc, Limits::of(3));
     let text = SATISFIABLE.as_bytes();
     let gate = OpenGate;
+    let hands = hands.get();
     let result = run(rt, alloc, text, &mut answer, &mut proof, 1000, hands, &gate);
     result == Err(RunFault::AnswerWriteFailed)
         && proof.taken.is_empty()
@@ -238,7 +243,8 @@ fn stops_in_answer<R: Threads + Wait + Clock + Sync>(rt: &R, alloc: Global, hand
 #[test]
 fn writers_that_fail_under_several_hands(rt: HostRuntime) {
     for hands in [1, 2, 8] {
-        assert!(rt; stops_in_proof(&rt, rt.alloc(), hands), "{hands} hands");
-        assert!(rt; stops_in_answer(&rt, rt.alloc(), hands), "{hands} hands");
+        let count = HandCount::of(hands);
+        assert!(rt; stops_in_proof(&rt, rt.alloc(), count), "{hands} hands");
+        assert!(rt; stops_in_answer(&rt, rt.alloc(), count), "{hands} hands");
     }
 }

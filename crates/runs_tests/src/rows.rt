@@ -1,7 +1,7 @@
 //! Worked rows of runs with memory, readers and writers that serve.
 ghost use Rattle.std.specs.Prelude.{◌≤◌};
 
-use cubes::OpenGate;
+use cubes::{HandCount, OpenGate};
 use runs::{RunFault, Verdict, run, run_one, runs_write_the_same};
 use samples::{EIGHT, FOUR, FOUR_PROOF};
 use std::alloc::Global;
@@ -56,10 +56,9 @@ fn hands_agree<R: Threads + Wait + Clock + Sync>(
     rt: &R,
     alloc: Global,
     row: &Row<'_>,
-    hands: usize,
+    hands: HandCount,
 ) -> Result<bool, RunFault>
-    requires budget { (1 ≤ row.now.budget) × (row.now.budget ≤ 100000) }
-    requires hands { (1 ≤ hands) × (hands ≤ 16) }
+    requires { (1 ≤ row.now.budget) × (row.now.budget ≤ 100000) }
 {
     let mut proof = Vec::new(alloc);
     let mut answer = Vec::new(alloc);
@@ -73,7 +72,7 @@ fn hands_agree<R: Threads + Wait + Clock + Sync>(
         &mut answer,
         &mut proof,
         budget,
-        hands,
+        hands.get(),
         &gate,
     )?;
     Ok(verdict == row.verdict() && is_written(row, &proof, &answer))
@@ -89,7 +88,7 @@ fn holds<R: Threads + Wait + Clock + Sync>(
         return Ok(false);
     }
     for hands in [1, 2, 8] {
-        if !hands_agree(rt, alloc, row, hands)? {
+        if !hands_agree(rt, alloc, row, HandCount::of(hands))? {
             return Ok(false);
         }
     }

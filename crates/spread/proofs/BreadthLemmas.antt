@@ -1,19 +1,31 @@
--- Cubes of a tree, and their halves.
-use Rattle.std.proofs.Common.{◌≡◌, List, [], ◌∷◌, ◌++◌, All, refl, sym, ap, subst, append_assoc}
+-- Cubes of a tree, what is said of them, and their halves.
+use Rattle.std.proofs.Common.{◌≡◌, ℕ, List, [], ◌∷◌, ◌++◌, All, refl, sym, ap, subst, append_assoc}
 use Rattle.std.proofs.lemmas.List.Elements.{All-nil, All-push, All-same}
 use Rattle.std.proofs.lemmas.List.{append-nil}
 use Rattle.theory.specs.Literals.{Literal, IsVariable, positive, negative}
 use Rattle.theory.specs.Truth.{Formula}
 use Rattle.theory.specs.Plans.{Plan}
 use Rattle.theory.specs.Search.{Outcome, model, refuted, exhausted}
-use Rattle.theory.specs.Trees.{LeadsOn}
+use Rattle.theory.specs.Trees.{false_half, true_half, LeadsOn}
 use Rattle.theory.specs.Runs.{Runs}
 use Rattle.theory.specs.Beginnings.{begun_by}
+use Rattle.theory.specs.Results.{OutcomeSays}
 use Rattle.theory.specs.Checked.{IsFitSplit}
 use Rattle.theory.proofs.trees.CheckedTrees.{IsOver-half}
+use Rattle.packs.specs.declared.fact.Claim.TheVariants.{Split}
 use Rattle.packs.specs.declared.fact.Fact.{Fact}
-use Rattle.spread.specs.declared.solving.Left.TheVariants.{Halves}
-use Rattle.spread.specs.Solving.{IsFitOutcome, IsLeftBy, IsLeft, IsOfTree}
+use Rattle.gathering.specs.Facts.{claim_of, IsTrueFact}
+use Rattle.spread.specs.Solving.{IsSaidOf, IsOfTree}
+
+-- what is said of a cube by its outcome
+pub said-of : (F : Formula) (plan : Plan) (Q : List Literal) (o : Outcome) (f : Fact) → Runs (begun_by plan.search F) plan Q o → OutcomeSays plan.search (begun_by plan.search F) Q o → f ≡ record { cube = Q; claim = claim_of o } → IsSaidOf F plan Q f
+said-of F plan Q o f runs says is =
+    subst (IsSaidOf F plan Q) (sym is) record { cube = refl; true = record { outcome = o; runs = runs; says = refl }; fit = fits o says }
+  where
+    fits : (o : Outcome) → OutcomeSays plan.search (begun_by plan.search F) Q o → (x : ℕ) → claim_of o ≡ Split x → IsFitSplit F Q x
+    fits (model M) says x e = absurd (cc)
+    fits (refuted lines) says x e = absurd (cc)
+    fits (exhausted y) says x e = let same : y ≡ x = cc in subst (IsFitSplit F Q) same says
 
 pub root : (F : Formula) (plan : Plan) → IsOfTree F plan []
 root F plan = record { over = All-nil (λ (l : Literal). IsVariable F.vars l.var); cube = record { path = []; reached = refl; splits = tt } }
@@ -32,16 +44,17 @@ half F plan Q l here runs fit = record {
   };
 }
 
-pub halves-of : (F : Formula) (plan : Plan) (Q low high : List Literal) (before after : List Fact) → IsOfTree F plan Q → IsLeft F plan Q (Halves low high) before after → IsOfTree F plan low × IsOfTree F plan high
-halves-of F plan Q low high before after here left = go left.outcome left.runs left.fit left.leaves
+pub halves-of : (F : Formula) (plan : Plan) (f : Fact) (x : ℕ) → IsOfTree F plan f.cube → IsTrueFact F plan f → f.claim ≡ Split x → IsFitSplit F f.cube x
+    → IsOfTree F plan (false_half f.cube x) × IsOfTree F plan (true_half f.cube x)
+halves-of F plan f x here true-fact is fit = go true-fact.outcome true-fact.runs true-fact.says
   where
-    go : (o : Outcome) → Runs (begun_by plan.search F) plan Q o → IsFitOutcome F Q o → IsLeftBy Q o (Halves low high) → IsOfTree F plan low × IsOfTree F plan high
-    go (model M) runs fit e = absurd e
-    go (refuted lines) runs fit e = absurd e
-    go (exhausted x) runs fit e = (
-      subst (λ (P : List Literal). IsOfTree F plan P) (sym e.0) (half F plan Q (negative x) here runs fit),
-      subst (λ (P : List Literal). IsOfTree F plan P) (sym e.1) (half F plan Q (positive x) here runs fit),
-    )
+    go : (o : Outcome) → Runs (begun_by plan.search F) plan f.cube o → f.claim ≡ claim_of o → IsOfTree F plan (false_half f.cube x) × IsOfTree F plan (true_half f.cube x)
+    go (model M) runs says = absurd (cc)
+    go (refuted lines) runs says = absurd (cc)
+    go (exhausted y) runs says =
+        let same : y ≡ x = cc in
+        let splits = subst (λ z. Runs (begun_by plan.search F) plan f.cube (exhausted z)) same runs in
+        (half F plan f.cube (negative x) here splits fit, half F plan f.cube (positive x) here splits fit)
 
 -- two more at the end
 pub both-pushed : {A : Type 0} (P : A → Type 0) (xs ys zs : List A) (x y : A) → All P xs → P x → P y → ys ≡ xs ++ x ∷ [] → zs ≡ ys ++ y ∷ [] → All P zs

@@ -11,10 +11,10 @@ use Rattle.theory.specs.Search.{Outcome, model, refuted, exhausted}
 use Rattle.theory.specs.Trees.{false_half, true_half}
 use Rattle.theory.specs.Runs.{Runs}
 use Rattle.theory.specs.Beginnings.{begun_by}
+use Rattle.packs.specs.declared.fact.Claim.{Claim}
+use Rattle.packs.specs.declared.fact.Claim.TheVariants.{Split, Refuted, Model}
 use Rattle.packs.specs.declared.fact.Fact.{Fact}
-use Rattle.gathering.specs.Facts.{claim_of}
-use Rattle.spread.specs.declared.solving.Left.TheVariants.{Nothing, Model, Halves}
-use Rattle.spread.specs.Solving.{IsLeftBy, IsLeft}
+use Rattle.gathering.specs.Facts.{claim_of, IsTrueFact}
 use Rattle.spread.specs.Dividing.{Divides, begins, goes_on, IsBreadth, from_longer, before_longer, longer_first}
 
 -- the root waits alone
@@ -290,33 +290,40 @@ pub longer-cubes : (P : List Literal → Type 0) (xs : List (List Literal)) → 
 longer-cubes P [] h = h
 longer-cubes P (Q ∷ xs) h = All-append P (from_longer (length Q) (Q ∷ xs)) (before_longer (length Q) (Q ∷ xs)) (from-cubes P (length Q) (Q ∷ xs) h) (before-cubes P (length Q) (Q ∷ xs) h)
 
--- what waits once the first one's outcome is taken up
-module _ (F : Formula) (plan : Plan) (before after : List Fact) (Q : List Literal) (rest queue : List (List Literal)) (known : Bool) (b : IsBreadth F plan before (Q ∷ rest) known) where
-  first : IsNext F plan before Q rest known
-  first = next F plan before Q rest known (Q ∷ rest) refl b
+-- what waits once what is said of the first one is taken up
+module _ (F : Formula) (plan : Plan) (before : List Fact) (f : Fact) (rest queue : List (List Literal)) (known : Bool) (b : IsBreadth F plan before (f.cube ∷ rest) known) (true-fact : IsTrueFact F plan f) where
+  first : IsNext F plan before f.cube rest known
+  first = next F plan before f.cube rest known (f.cube ∷ rest) refl b
 
-  pub nothing-left-waits : IsLeft F plan Q Nothing before after → queue ≡ rest → IsBreadth F plan after queue known
-  nothing-left-waits left e = go left.outcome left.runs left.leaves left.said
-    where
-      go : (o : Outcome) → Runs (begun_by plan.search F) plan Q o → IsLeftBy Q o Nothing → after ≡ before ++ record { cube = Q; claim = claim_of o } ∷ [] → IsBreadth F plan after queue known
-      go (model M) runs l said = absurd l
-      go (refuted lines) runs l said = refuted-waits F plan before after Q rest queue known first lines runs said e
-      go (exhausted x) runs l said = absurd l
+  abbrev pub after : List Fact
+  after = before ++ f ∷ []
 
-  pub model-left-waits : IsLeft F plan Q Model before after → queue ≡ from_longer (length Q) rest → IsBreadth F plan after queue true
-  model-left-waits left e = go left.outcome left.runs left.leaves left.said
-    where
-      go : (o : Outcome) → Runs (begun_by plan.search F) plan Q o → IsLeftBy Q o Model → after ≡ before ++ record { cube = Q; claim = claim_of o } ∷ [] → IsBreadth F plan after queue true
-      go (model M) runs l said = model-waits F plan before after Q rest queue known first M runs said e
-      go (refuted lines) runs l said = absurd l
-      go (exhausted x) runs l said = absurd l
+  said : (o : Outcome) → f.claim ≡ claim_of o → after ≡ before ++ record { cube = f.cube; claim = claim_of o } ∷ []
+  said o says = ap (λ (c : Claim). before ++ record { cube = f.cube; claim = c } ∷ []) says
 
-  pub halves-wait : (low high : List Literal) → IsLeft F plan Q (Halves low high) before after → queue ≡ (rest ++ low ∷ []) ++ high ∷ [] → IsBreadth F plan after queue known
-  halves-wait low high left e = go left.outcome left.runs left.leaves left.said
+  pub refuted-fact : (lines : List Line) → f.claim ≡ Refuted lines → queue ≡ rest → IsBreadth F plan after queue known
+  refuted-fact lines is e = go true-fact.outcome true-fact.runs true-fact.says
     where
-      go : (o : Outcome) → Runs (begun_by plan.search F) plan Q o → IsLeftBy Q o (Halves low high) → after ≡ before ++ record { cube = Q; claim = claim_of o } ∷ [] → IsBreadth F plan after queue known
-      go (model M) runs l said = absurd l
-      go (refuted lines) runs l said = absurd l
-      go (exhausted x) runs l said =
-          split-waits F plan before after Q rest queue known first x runs said
-          (e ∙ (ap (λ (P : List Literal). (rest ++ P ∷ []) ++ high ∷ []) l.0 ∙ ap (λ (P : List Literal). (rest ++ false_half Q x ∷ []) ++ P ∷ []) l.1))
+      go : (o : Outcome) → Runs (begun_by plan.search F) plan f.cube o → f.claim ≡ claim_of o → IsBreadth F plan after queue known
+      go (model M) runs says = absurd (cc)
+      go (refuted ls) runs says = refuted-waits F plan before after f.cube rest queue known first ls runs (said (refuted ls) says) e
+      go (exhausted x) runs says = absurd (cc)
+
+  pub model-fact : f.claim ≡ Model → queue ≡ from_longer (length f.cube) rest → IsBreadth F plan after queue true
+  model-fact is e = go true-fact.outcome true-fact.runs true-fact.says
+    where
+      go : (o : Outcome) → Runs (begun_by plan.search F) plan f.cube o → f.claim ≡ claim_of o → IsBreadth F plan after queue true
+      go (model M) runs says = model-waits F plan before after f.cube rest queue known first M runs (said (model M) says) e
+      go (refuted ls) runs says = absurd (cc)
+      go (exhausted x) runs says = absurd (cc)
+
+  pub split-fact : (x : ℕ) → f.claim ≡ Split x → queue ≡ (rest ++ false_half f.cube x ∷ []) ++ true_half f.cube x ∷ [] → IsBreadth F plan after queue known
+  split-fact x is e = go true-fact.outcome true-fact.runs true-fact.says
+    where
+      go : (o : Outcome) → Runs (begun_by plan.search F) plan f.cube o → f.claim ≡ claim_of o → IsBreadth F plan after queue known
+      go (model M) runs says = absurd (cc)
+      go (refuted ls) runs says = absurd (cc)
+      go (exhausted y) runs says =
+          let same : y ≡ x = cc in
+          split-waits F plan before after f.cube rest queue known first y runs (said (exhausted y) says)
+          (subst (λ z. queue ≡ (rest ++ false_half f.cube z ∷ []) ++ true_half f.cube z ∷ []) (sym same) e)

@@ -7,8 +7,8 @@ use Rattle.packs.specs.Facts.{IsReadAs}
 use Rattle.packs.specs.Packs.{framed, Reads}
 use Rattle.packs.proofs.FrameLemmas.{frame-short, length-framed}
 use Rattle.packs.proofs.PackLemmas.{LeadsTo, LeadsTo-none, LeadsTo-read, LeadsTo-end}
-use Rattle.spread.specs.declared.passage.Passage.{Passage}
-use Rattle.spread.specs.declared.passage.Span.{Span}
+use Rattle.spread.specs.declared.pack_file.Passage.{Passage}
+use Rattle.spread.specs.declared.pack_file.Span.{Span}
 use Rattle.spread.specs.declared.found.Entry.{Entry}
 use Rattle.spread.specs.declared.found.Found.{Found}
 use Rattle.spread.specs.Sums.{sum_of}

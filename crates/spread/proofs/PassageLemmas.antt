@@ -6,9 +6,9 @@ use Rattle.std.proofs.lemmas.Slice.Eq.{bytes_eq-Decides}
 use Rattle.std.proofs.Math.Seq.{take-append_seam}
 use Rattle.packs.specs.Packs.{framed}
 use Rattle.packs.proofs.FrameLemmas.{frame-cut, frame-split}
-use Rattle.spread.specs.declared.passage.Span.{Span}
+use Rattle.spread.specs.declared.pack_file.Span.{Span}
 use Rattle.sha2.specs.Hashers.{Holds256}
-use Rattle.spread.specs.declared.passage.Passage.{Passage}
+use Rattle.spread.specs.declared.pack_file.Passage.{Passage}
 use Rattle.spread.specs.Passages.{IsBetween, IsWithin, IsFilled, IsMet, IsLength, IsNext, HasNoBody}
 
 module _ {R : Type 0} (remaining : R → Option (List ℕ)) where

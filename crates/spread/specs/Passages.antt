@@ -3,8 +3,8 @@ use Rattle.std.specs.Prelude.{◌≡◌, ◌≢◌, ◌<◌, ◌≤◌, ◌+◌,
 use Rattle.std.specs.Int.{w64, to_le_bytes}
 use Rattle.sha2.specs.Hashers.{Holds256}
 use Rattle.packs.specs.Packs.{framed}
-use Rattle.spread.specs.declared.passage.Passage.{Passage}
-use Rattle.spread.specs.declared.passage.Span.{Span}
+use Rattle.spread.specs.declared.pack_file.Passage.{Passage}
+use Rattle.spread.specs.declared.pack_file.Span.{Span}
 
 -- these bytes were read, and the reader has those behind them, as many as it is believed to have
 pub record IsBetween {R : Type 0} (remaining : R → Option (List ℕ)) (p : Passage R) (before behind : List ℕ) : Type 0 where

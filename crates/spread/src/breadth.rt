@@ -1,20 +1,21 @@
 //! Solving cubes by breadth, until so many are open.
-ghost use Rattle.std.specs.Prelude.{◌≡◌, ◌∷◌, Bool, true, if◌then◌else◌, List, All, length, IfOk, OnOk};
-ghost use Rattle.theory.specs.Literals.{Literal};
-ghost use Rattle.theory.specs.Truth.{Formula};
+ghost use Rattle.std.specs.Prelude.{◌≡◌, ℕ, [], ◌∷◌, ◌++◌, Bool, true, if◌then◌else◌, List, All, IfOk, OnOk};
 ghost use Rattle.theory.specs.Plans.{Plan};
+ghost use Rattle.theory.specs.Beginnings.{begun_by};
+ghost use Rattle.theory.specs.Checked.{IsFitSplit};
+ghost use Rattle.cubes.specs.Division.{IsSolverOf};
+ghost use Rattle.packs.specs.declared.fact.Claim.TheVariants.{Split};
 ghost use Rattle.packs.specs.declared.fact.Fact as facts;
 ghost use Rattle.gathering.specs.Facts.{IsTrueFact};
 ghost use Rattle.spread.specs.Dividing.{from_longer, longer_first, IsBreadth, Divides};
-ghost use Rattle.spread.specs.Solving.{IsLeft, IsOfTree};
+ghost use Rattle.spread.specs.Solving.{IsOfTree};
 
-use crate::solving::{Left, solve};
-use crate::told::Told;
-use cdcl::Plan;
+use crate::solving::solve;
+use cdcl::{Plan, split};
 use cnf::Formula;
-use cubes::{Gate, LazySolver, Root};
+use cubes::{CubeSolver, Gate, Root, Watched};
 use kernel::Cube;
-use packs::Fact;
+use packs::{Claim, Fact};
 use std::alloc::{AllocError, Global};
 use std::collections::VecDeque;
 
@@ -74,25 +75,55 @@ fn put_in_order(queue: &mut VecDeque<Cube>) -> Result<(), AllocError>
     Ok(())
 }
 
-/// Takes up what a cube of so many literals leaves; whether it has a model.
-fn take_up(queue: &mut VecDeque<Cube>, left: Left, count: usize) -> Result<bool, AllocError>
-    ensures cubes { (F : Formula) (plan : Plan) (Q : List Literal) (before after : List facts.Fact) → IsOfTree F plan Q → IsLeft F plan Q left before after →
-        All (IsOfTree F plan) queue.old.items → OnOk result (All (IsOfTree F plan) queue.new.items) }
-    ensures waits { (F : Formula) (plan : Plan) (Q : List Literal) (before after : List facts.Fact) (known : Bool) → count ≡ length Q → IsLeft F plan Q left before after →
-        IsBreadth F plan before (Q ∷ queue.old.items) known → IfOk result (λ found. IsBreadth F plan after queue.new.items (if found then true else known)) }
+/// Takes up what is said of a cube: its halves wait behind the others, or of those that wait what
+/// lies right of its model is taken away. Whether it has a model.
+fn take_up(formula: &Formula, queue: &mut VecDeque<Cube>, fact: &Fact) -> Result<bool, AllocError>
+    requires { (x : ℕ) → fact.now.claim ≡ Split x → IsFitSplit formula.now fact.now.cube x }
+    ensures cubes { (plan : Plan) → IsOfTree formula.now plan fact.now.cube → IsTrueFact formula.now plan fact.now → All (IsOfTree formula.now plan) queue.old.items →
+        OnOk result (All (IsOfTree formula.now plan) queue.new.items) }
+    ensures waits { (plan : Plan) (before : List facts.Fact) (known : Bool) → IsTrueFact formula.now plan fact.now → IsBreadth formula.now plan before (fact.now.cube ∷ queue.old.items) known →
+        IfOk result (λ found. IsBreadth formula.now plan (before ++ fact.now ∷ []) queue.new.items (if found then true else known)) }
 {
-    match left {
-        Left::Nothing => Ok(false),
-        Left::Model => {
-            drop_right(queue, count)?;
+    let _vars = formula.vars(); // it ensures what the proof needs of the variable
+    match &fact.claim {
+        Claim::Refuted(_) => Ok(false),
+        Claim::Model => {
+            drop_right(queue, fact.cube.lits().len())?;
             Ok(true)
         }
-        Left::Halves(left, right) => {
+        Claim::Split(var) => {
+            let (left, right) = split(&fact.cube, *var)?;
             queue.push_back(left)?;
             queue.push_back(right)?;
             Ok(false)
         }
     }
+}
+
+/// Solves a cube, and takes up what is said of it; whether it has a model.
+fn step<G: Gate>(
+    formula: &Formula,
+    plan: Plan,
+    solver: &mut CubeSolver,
+    cube: Cube,
+    queue: &mut VecDeque<Cube>,
+    facts: &mut Vec<Fact>,
+    watched: &Watched<'_, G>,
+) -> Result<bool, AllocError>
+    requires solver { IsSolverOf (begun_by plan.search formula.now) plan solver.old }
+    requires facts { All (IsTrueFact formula.now plan) facts.old.items }
+    ensures solver { OnOk result (IsSolverOf (begun_by plan.search formula.now) plan solver.new) }
+    ensures facts { OnOk result (All (IsTrueFact formula.now plan) facts.new.items) }
+    ensures cubes { IsOfTree formula.now plan cube → All (IsOfTree formula.now plan) queue.old.items → OnOk result (All (IsOfTree formula.now plan) queue.new.items) }
+    ensures waits { (known : Bool) → IsOfTree formula.now plan cube → IsBreadth formula.now plan facts.old.items (cube ∷ queue.old.items) known →
+        IfOk result (λ found. IsBreadth formula.now plan facts.new.items queue.new.items (if found then true else known)) }
+{
+    let Some(fact) = solve(formula, plan, solver, cube, watched)? else {
+        return Ok(false);
+    };
+    let has_model = take_up(formula, queue, &fact)?;
+    facts.push(fact)?;
+    Ok(has_model)
 }
 
 /// Solves the cubes of a formula by breadth, from the one without literals on, until at least so
@@ -109,8 +140,8 @@ pub(crate) fn by_breadth<G: Gate>(
     ensures cubes { IfOk result (λ d. All (IsOfTree formula.now plan) d.waiting.items) }
     ensures divides { IfOk result (λ d. Divides formula.now plan d.facts.items d.waiting.items d.has_model) }
 {
-    let told = Told { gate, hand: 0 };
-    let mut solver = LazySolver::none(Root::Unknown);
+    let watched = Watched { gate, hand: 0 };
+    let mut solver = CubeSolver::open(alloc, formula, plan, Root::Unknown)?;
     let mut facts = Vec::new(alloc);
     let mut has_model = false;
     let mut queue = VecDeque::new(alloc);
@@ -122,9 +153,15 @@ pub(crate) fn by_breadth<G: Gate>(
         let Some(cube) = queue.pop_front() else {
             break;
         };
-        let count = cube.lits().len();
-        let left = solve(alloc, formula, plan, &mut solver, cube, &mut facts, &told)?;
-        if take_up(&mut queue, left, count)? {
+        if step(
+            formula,
+            plan,
+            &mut solver,
+            cube,
+            &mut queue,
+            &mut facts,
+            &watched,
+        )? {
             has_model = true;
         }
     }

@@ -1,31 +1,33 @@
 //! Solving the cubes of a part, as one hand does.
-ghost use Rattle.std.specs.Prelude.{◌≡◌, [], All, IfOk, IfNone, OnOk};
+ghost use Rattle.std.specs.Prelude.{◌≡◌, ℕ, List, [], ◌++◌, All, IfOk, IfNone, OnOk};
+ghost use Rattle.theory.specs.Literals.{Literal};
 ghost use Rattle.theory.specs.Beginnings.{begun_by};
+ghost use Rattle.theory.specs.Checked.{IsFitSplit};
 ghost use Rattle.theory.specs.Truth.{IsOver};
-ghost use Rattle.cubes.specs.Source.{IsLazySolver};
+ghost use Rattle.cubes.specs.Division.{IsSolverOf};
+ghost use Rattle.packs.specs.declared.fact.Claim.TheVariants.{Split};
 ghost use Rattle.gathering.specs.Facts.{IsTrueFact};
-ghost use Rattle.spread.specs.Solving.{IsStep};
+ghost use Rattle.spread.specs.Solving.{IsStepBy, IsStep};
 
 use crate::folder::Folder;
-use crate::models::{is_needless, note_model};
+use crate::notes::{is_needless, note_model};
 use crate::pack_file::write_pack;
 use crate::run_file::RunFile;
 use crate::said::{Said, say_no_memory};
-use crate::solving::{Left, solve};
-use crate::told::Told;
+use crate::solving::solve;
 use crate::way::Way;
-use cdcl::Plan;
+use cdcl::{Plan, split};
 use cnf::Formula;
-use cubes::{Gate, LazySolver, Root};
+use cubes::{CubeSolver, Gate, Limit, Root, TimeLimit, Watched};
 use kernel::Cube;
-use packs::Fact;
+use packs::{Claim, Fact};
 use std::alloc::{AllocError, Global};
 use std::fs::Files;
 use std::io::Write;
-use std::time::{Clock, Instant};
+use std::time::Clock;
 
 /// After how many seconds what was found is written.
-const SECONDS_OF_A_PACK: u64 = 600;
+const SECONDS_OF_A_PACK: u32 = 600;
 
 /// How a part ended, or a hand of it.
 #[derive(Clone, Copy, Debug, PartialEq, Eq)]
@@ -35,63 +37,46 @@ pub enum Ended {
     OutOfTime,
 }
 
-/// So many seconds from a beginning on.
-#[derive(Drop)]
-struct Time<'a, R> {
-    rt: &'a R,
-    since: Option<Instant>,
-}
-
-impl<'a, R: Clock> Time<'a, R> {
-    fn begin(rt: &'a R) -> Time<'a, R> {
-        Time {
-            rt,
-            since: Instant::now(rt).ok(),
-        }
-    }
-
-    fn begin_again(&mut self) {
-        self.since = Instant::now(self.rt).ok();
-    }
-
-    /// Whether so many seconds are over. Where the clock can't be read, they aren't.
-    fn is_over(&self, seconds: u64) -> bool {
-        let Some(since) = self.since else {
-            return false;
-        };
-        match since.elapsed(self.rt) {
-            Ok(time) => time.as_secs() >= seconds,
-            Err(_) => false,
+/// Puts the halves of a split cube on the way; whether the cube has a model.
+fn put_halves(formula: &Formula, way: &mut Vec<Cube>, fact: &Fact) -> Result<bool, AllocError>
+    requires { (x : ℕ) → fact.now.claim ≡ Split x → IsFitSplit formula.now fact.now.cube x }
+    ensures { IfOk result (λ has_model. (put : List (List Literal)) × IsStepBy fact.now.cube fact.now.claim has_model put × (way.new.items ≡ way.old.items ++ put)) }
+{
+    let _vars = formula.vars(); // it ensures what the proof needs of the variable
+    match &fact.claim {
+        Claim::Refuted(_) => Ok(false),
+        Claim::Model => Ok(true),
+        Claim::Split(var) => {
+            let (left, right) = split(&fact.cube, *var)?;
+            way.push(right)?;
+            way.push(left)?;
+            Ok(false)
         }
     }
 }
 
 /// Solves a cube, and puts its halves on the way, if it is split; whether it has a model.
 fn step<G: Gate>(
-    alloc: Global,
     formula: &Formula,
     plan: Plan,
-    solver: &mut LazySolver,
+    solver: &mut CubeSolver,
     cube: Cube,
     way: &mut Vec<Cube>,
     facts: &mut Vec<Fact>,
-    told: &Told<'_, G>,
+    watched: &Watched<'_, G>,
 ) -> Result<bool, AllocError>
-    requires solver { IsLazySolver (begun_by plan.search formula.now) plan solver.old }
+    requires solver { IsSolverOf (begun_by plan.search formula.now) plan solver.old }
     requires facts { All (IsTrueFact formula.now plan) facts.old.items }
-    ensures solver { OnOk result (IsLazySolver (begun_by plan.search formula.now) plan solver.new) }
+    ensures solver { OnOk result (IsSolverOf (begun_by plan.search formula.now) plan solver.new) }
     ensures facts { OnOk result (All (IsTrueFact formula.now plan) facts.new.items) }
     ensures way { IsOver formula.now.vars cube → IfOk result (λ has_model. IsStep formula.now plan cube has_model way.old.items way.new.items) }
 {
-    match solve(alloc, formula, plan, solver, cube, facts, told)? {
-        Left::Nothing => Ok(false),
-        Left::Model => Ok(true),
-        Left::Halves(left, right) => {
-            way.push(right)?;
-            way.push(left)?;
-            Ok(false)
-        }
-    }
+    let Some(fact) = solve(formula, plan, solver, cube, watched)? else {
+        return Ok(false);
+    };
+    let has_model = put_halves(formula, way, &fact)?;
+    facts.push(fact)?;
+    Ok(has_model)
 }
 
 /// Notes that the cube of the last fact has a model. That it can't be noted only costs time.
@@ -109,32 +94,23 @@ fn solve_next<R: Files + Alloc + Clone + Drop, E: Write, G: Gate>(
     folder: Folder,
     formula: &Formula,
     plan: Plan,
-    solver: &mut LazySolver,
+    solver: &mut CubeSolver,
     cube: Cube,
     way: &mut Way<'_>,
     facts: &mut Vec<Fact>,
-    told: &Told<'_, G>,
+    watched: &Watched<'_, G>,
     faults: &mut E,
 ) -> Result<(), Said>
-    requires solver { IsLazySolver (begun_by plan.search formula.now) plan solver.old }
+    requires solver { IsSolverOf (begun_by plan.search formula.now) plan solver.old }
     requires facts { All (IsTrueFact formula.now plan) facts.old.items }
-    ensures solver { OnOk result (IsLazySolver (begun_by plan.search formula.now) plan solver.new) }
+    ensures solver { OnOk result (IsSolverOf (begun_by plan.search formula.now) plan solver.new) }
     ensures facts { OnOk result (All (IsTrueFact formula.now plan) facts.new.items) }
 {
     if is_needless(rt, alloc, folder, &cube) {
         way.leave();
         return Ok(());
     }
-    match step(
-        alloc,
-        formula,
-        plan,
-        solver,
-        cube,
-        &mut way.own,
-        facts,
-        told,
-    ) {
+    match step(formula, plan, solver, cube, &mut way.own, facts, watched) {
         Ok(false) => Ok(()),
         Ok(true) => {
             note_last(rt, alloc, folder, facts);
@@ -146,23 +122,23 @@ fn solve_next<R: Files + Alloc + Clone + Drop, E: Write, G: Gate>(
 }
 
 /// Writes what was found in ten minutes, and begins anew.
-fn write_where_due<R: Files + Clock, E: Write>(
-    rt: &R,
+fn write_where_due<'a, R: Files + Clock, E: Write>(
+    rt: &'a R,
     alloc: Global,
     folder: Folder,
     run: &RunFile,
     formula: &Formula,
     facts: &mut Vec<Fact>,
-    written: &mut Time<'_, R>,
+    due: &mut TimeLimit<'a, R>,
     faults: &mut E,
 ) -> Result<(), Said>
     requires { All (IsTrueFact formula.now run.now.plan) facts.old.items }
     ensures { OnOk result (All (IsTrueFact formula.now run.now.plan) facts.new.items) }
 {
-    if written.is_over(SECONDS_OF_A_PACK) {
+    if due.reached() {
         write_pack(rt, alloc, folder, run, formula, facts, faults)?;
         facts.clear();
-        written.begin_again();
+        *due = TimeLimit::begin(rt, Some(SECONDS_OF_A_PACK));
     }
     Ok(())
 }
@@ -190,30 +166,30 @@ fn solve_all<R: Files + Clock + Alloc + Clone + Drop, E: Write, G: Gate>(
     folder: Folder,
     run: &RunFile,
     formula: &Formula,
-    solver: &mut LazySolver,
+    solver: &mut CubeSolver,
     way: &mut Way<'_>,
-    seconds: u64,
+    seconds: Option<u32>,
     facts: &mut Vec<Fact>,
-    told: &Told<'_, G>,
+    watched: &Watched<'_, G>,
     faults: &mut E,
 ) -> Result<Ended, Said>
-    requires solver { IsLazySolver (begun_by run.now.plan.search formula.now) run.now.plan solver.old }
+    requires solver { IsSolverOf (begun_by run.now.plan.search formula.now) run.now.plan solver.old }
     requires facts { All (IsTrueFact formula.now run.now.plan) facts.old.items }
     ensures facts { OnOk result (All (IsTrueFact formula.now run.now.plan) facts.new.items) }
     ensures done { IfOk result (λ ended. ended ≡ Ended.Done → way.new.own.items ≡ []) }
 {
-    let begun = Time::begin(rt);
-    let mut written = Time::begin(rt);
+    let limit = TimeLimit::begin(rt, seconds);
+    let mut due = TimeLimit::begin(rt, Some(SECONDS_OF_A_PACK));
     'cubes: for _ in 0..u64::MAX {
-        if begun.is_over(seconds) {
+        if limit.reached() {
             return Ok(Ended::OutOfTime);
         }
-        write_where_due(rt, alloc, folder, run, formula, facts, &mut written, faults)?;
+        write_where_due(rt, alloc, folder, run, formula, facts, &mut due, faults)?;
         let Some(cube) = next_cube(way, folder, faults)? else {
             return Ok(Ended::Done);
         };
         solve_next(
-            rt, alloc, folder, formula, run.plan, solver, cube, way, facts, told, faults,
+            rt, alloc, folder, formula, run.plan, solver, cube, way, facts, watched, faults,
         )?;
     }
     Ok(Ended::OutOfTime) // no time is enough for so many cubes
@@ -228,13 +204,15 @@ pub(crate) fn go_on<R: Files + Clock + Alloc + Clone + Drop, E: Write, G: Gate>(
     run: &RunFile,
     formula: &Formula,
     way: &mut Way<'_>,
-    seconds: u64,
-    told: &Told<'_, G>,
+    seconds: Option<u32>,
+    watched: &Watched<'_, G>,
     faults: &mut E,
 ) -> Result<Ended, Said>
     ensures { IfOk result (λ ended. ended ≡ Ended.Done → way.new.own.items ≡ []) }
 {
-    let mut solver = LazySolver::none(Root::Unknown);
+    let Ok(mut solver) = CubeSolver::open(alloc, formula, run.plan, Root::Unknown) else {
+        return Err(say_no_memory(faults, folder.path));
+    };
     let mut facts = Vec::new(alloc);
     let ended = solve_all(
         rt,
@@ -246,7 +224,7 @@ pub(crate) fn go_on<R: Files + Clock + Alloc + Clone + Drop, E: Write, G: Gate>(
         way,
         seconds,
         &mut facts,
-        told,
+        watched,
         faults,
     )?;
     write_pack(rt, alloc, folder, run, formula, &facts, faults)?;

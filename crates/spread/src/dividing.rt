@@ -6,14 +6,12 @@ ghost use Rattle.spread.specs.RunFiles.{IsSettled};
 
 use crate::begun::begun_for;
 use crate::breadth::{Division, by_breadth};
-use crate::files::{read_file, write_file};
-use crate::folder::Folder;
+use crate::folder::{Folder, read_file, sum_of, write_file};
 use crate::left_open::open_in;
 use crate::pack_file::write_pack;
 use crate::round_file::{next_round, write_round};
 use crate::run_file::{RunFile, formula_in, formula_of, run_in, run_of, run_text};
 use crate::said::{Said, say, say_error, say_no_memory};
-use crate::sums::sum_of;
 use cnf::{Formula, Limits};
 use cubes::{Gate, OpenGate};
 use kernel::Cube;

@@ -1,8 +1,15 @@
-//! Where things lie in the folder of a run.
+//! Where things lie in the folder of a run. They are read and written whole, and told apart by their
+//! sums.
 ghost use Rattle.std.specs.Prelude.{◌≡◌, ◌++◌, IfOk, string_bytes, codes};
+ghost use Rattle.spread.specs.Sums.{sum_of};
 
 use crate::slice::Slice;
+use sha2::{Digest, Sha256};
 use std::alloc::{AllocError, Global};
+use std::fs::Files;
+use std::io::{Read, Write};
+use std::{fs, io};
+use whole_file::{Destination, WholeFile};
 
 /// The folder of a run.
 #[derive(Clone, Copy)]
@@ -87,4 +94,34 @@ impl<'a> Folder<'a> {
         let path = self.path;
         format!(in alloc; "{path}/packs/{name}")
     }
+}
+
+/// The bytes of a file.
+pub(crate) fn read_file<R: Files>(rt: &R, alloc: Global, path: &str) -> io::Result<Vec<u8>> {
+    let mut file = fs::open(rt, path)?;
+    let mut bytes = Vec::new(alloc);
+    file.read_to_end(&mut bytes)?;
+    Ok(bytes)
+}
+
+/// Writes a file beside its place, syncs it, and puts it there once it is whole.
+pub(crate) fn write_file<R: Files>(
+    rt: &R,
+    alloc: Global,
+    path: &str,
+    bytes: &[u8],
+) -> io::Result<()> {
+    let destination = Destination::of(rt, alloc, path)?;
+    let mut file = WholeFile::create(rt, destination)?;
+    file.write_all(bytes)?;
+    file.end()
+}
+
+/// The SHA-256 of bytes, in hexadecimal digits.
+pub(crate) fn sum_of(alloc: Global, bytes: &[u8]) -> Result<String, AllocError>
+    ensures { IfOk result (λ text. string_bytes text ≡ sum_of bytes.now) }
+{
+    let mut hasher = Sha256::new();
+    hasher.update(bytes);
+    hex::encode(alloc, hasher.finalize())
 }

@@ -5,11 +5,10 @@ use crate::conquering::{Ended, go_on};
 use crate::folder::Folder;
 use crate::run_file::RunFile;
 use crate::said::{Said, say_no_memory};
-use crate::told::Told;
 use crate::way::{Waiting, Way};
 use cnf::Formula;
-use cubes::{Gate, HandCount};
-use std::alloc::{AllocError, Global};
+use cubes::{Gate, HandCount, Watched};
+use std::alloc::Global;
 use std::fs::Files;
 use std::io::Write;
 use std::thread;
@@ -18,58 +17,30 @@ use std::time::Clock;
 
 /// How a hand ended, and what it said.
 #[derive(Drop)]
-struct Worked {
+struct HandEnd {
     ended: Result<Ended, Said>,
     said: Vec<u8>,
 }
 
 /// Solves what waits until nothing does, as one hand does.
-fn work<R: Files + Clock + Alloc + Clone + Drop, G: Gate>(
+fn conquer_alone<R: Files + Clock + Alloc + Clone + Drop, G: Gate>(
     rt: &R,
     alloc: Global,
     folder: Folder,
     run: &RunFile,
     formula: &Formula,
     waiting: &Waiting,
-    seconds: u64,
+    seconds: Option<u32>,
     gate: &G,
     hand: usize,
-) -> Worked {
+) -> HandEnd {
     let mut said = Vec::new(alloc);
     let mut way = Way::of(alloc, waiting);
-    let told = Told { gate, hand };
+    let watched = Watched { gate, hand };
     let ended = go_on(
-        rt, alloc, folder, run, formula, &mut way, seconds, &told, &mut said,
+        rt, alloc, folder, run, formula, &mut way, seconds, &watched, &mut said,
     );
-    Worked { ended, said }
-}
-
-fn all_work<R: Files + Clock + Threads + Sync + Alloc + Clone + Drop, G: Gate + Sync>(
-    rt: &R,
-    alloc: Global,
-    folder: Folder,
-    run: &RunFile,
-    formula: &Formula,
-    waiting: &Waiting,
-    seconds: u64,
-    hands: HandCount,
-    gate: &G,
-) -> Result<Vec<Worked>, AllocError>
-where
-    R::File: Send,
-    R::Dir: Send,
-    R::A: Send,
-{
-    thread::map_indices(
-        rt,
-        alloc,
-        hands.get(),
-        &|hand| {
-            work(
-                rt, alloc, folder, run, formula, waiting, seconds, gate, hand,
-            )
-        },
-    )
+    HandEnd { ended, said }
 }
 
 /// How two hands ended, taken together.
@@ -85,21 +56,21 @@ fn end_of_both(all: Result<Ended, Said>, ended: Result<Ended, Said>) -> Result<E
 }
 
 /// How all hands ended. What they said is printed.
-fn end_of<E: Write>(works: &[Worked], faults: &mut E) -> Result<Ended, Said>
-    ensures ok { IsOk result ↔ All (λ w. IsOk w.ended) works.now }
-    ensures done { result ≡ Ok Ended.Done ↔ All (λ w. w.ended ≡ Ok Ended.Done) works.now }
+fn end_of<E: Write>(ends: &[HandEnd], faults: &mut E) -> Result<Ended, Said>
+    ensures ok { IsOk result ↔ All (λ end. IsOk end.ended) ends.now }
+    ensures done { result ≡ Ok Ended.Done ↔ All (λ end. end.ended ≡ Ok Ended.Done) ends.now }
 {
     let mut all = Ok(Ended::Done);
-    for worked in works {
-        let _ = faults.write_all(&worked.said);
-        all = end_of_both(all, worked.ended);
+    for end in ends {
+        let _ = faults.write_all(&end.said);
+        all = end_of_both(all, end.ended);
     }
     all
 }
 
 /// Lets so many hands solve what waits, each with a solver of its own. Each takes whole cubes, and
 /// writes what it found. What one says is printed once all are home.
-pub(crate) fn solve_by_hands<
+pub(crate) fn conquer_by_hands<
     R: Files + Clock + Threads + Sync + Alloc + Clone + Drop,
     E: Write,
     G: Gate + Sync,
@@ -110,7 +81,7 @@ pub(crate) fn solve_by_hands<
     run: &RunFile,
     formula: &Formula,
     waiting: &Waiting,
-    seconds: u64,
+    seconds: Option<u32>,
     hands: HandCount,
     gate: &G,
     faults: &mut E,
@@ -120,10 +91,18 @@ where
     R::Dir: Send,
     R::A: Send,
 {
-    match all_work(
-        rt, alloc, folder, run, formula, waiting, seconds, hands, gate,
-    ) {
-        Ok(works) => end_of(&works, faults),
+    let ends = thread::map_indices(
+        rt,
+        alloc,
+        hands.get(),
+        &|hand| {
+            conquer_alone(
+                rt, alloc, folder, run, formula, waiting, seconds, gate, hand,
+            )
+        },
+    );
+    match ends {
+        Ok(ends) => end_of(&ends, faults),
         Err(_) => Err(say_no_memory(faults, folder.path)),
     }
 }

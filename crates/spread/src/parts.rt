@@ -1,18 +1,18 @@
 //! Solving the parts of a round.
-ghost use Rattle.std.specs.Prelude.{◌≡◌, ℕ, ◌+◌, ◌-◌, ◌*◌, ◌^◌, ◌≤◌, [], ◌∷◌, ◌++◌, if◌then◌else◌, IfOk, OnOk, MatchOption, reverse};
+ghost use Rattle.std.specs.Prelude.{◌≡◌, ℕ, ◌+◌, ◌-◌, ◌*◌, ◌^◌, ◌≤◌, [], ◌∷◌, ◌++◌, if◌then◌else◌, IfOk, OnOk, Some, None, MatchOption, min, reverse};
 ghost use Rattle.spread.specs.Parts.{part_at, of_part};
 
 use crate::begun::begun_for;
 use crate::conquering::Ended;
 use crate::folder::Folder;
-use crate::hands::solve_by_hands;
+use crate::hands::conquer_by_hands;
 use crate::left_open::left_open;
+use crate::notes::{note_begun, note_ended};
 use crate::open_cubes::OpenCubes;
 use crate::round_file::read_round;
 use crate::run_file::{RunFile, formula_in, run_in};
 use crate::said::{Said, say_no_memory};
 use crate::slice::Slice;
-use crate::under_way::{note_begun, note_ended};
 use crate::way::Waiting;
 use cnf::Formula;
 use cubes::{Gate, HandCount};
@@ -76,14 +76,11 @@ fn left_of_part<R: Files + Alloc + Clone + Drop, E: Write>(
     Ok(cubes)
 }
 
-/// How many seconds so many minutes have. Where none are said, more than there will be.
-fn seconds_of(minutes: Option<u32>) -> u64
-    ensures { MatchOption minutes (result ≡ 2 ^ 64 - 1) (λ m. result ≡ 60 * m) }
+/// How many seconds so many minutes have, or the most that there can be.
+fn seconds_of(minutes: Option<u32>) -> Option<u32>
+    ensures { MatchOption minutes (result ≡ None) (λ m. result ≡ Some (min (60 * m) (2 ^ 32 - 1))) }
 {
-    match minutes {
-        Some(minutes) => u64::from(minutes) * 60,
-        None => u64::MAX,
-    }
+    minutes.map(|minutes| minutes.saturating_mul(60))
 }
 
 /// Solves a part of a round, as `conquer` does.
@@ -110,7 +107,7 @@ where
     let searched = begun.formula(&formula);
     let waiting = Waiting::of(cubes);
     let seconds = seconds_of(minutes);
-    solve_by_hands(
+    conquer_by_hands(
         rt, alloc, folder, &run, searched, &waiting, seconds, hands, gate, faults,
     )
 }

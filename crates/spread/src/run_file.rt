@@ -5,10 +5,8 @@ ghost use Rattle.cnf.specs.Limits.{limits_of};
 ghost use Rattle.spread.specs.Sums.{sum_of};
 ghost use Rattle.spread.specs.RunFiles.{most_at_root, plan_by, written_by, IsFormulaOf};
 
-use crate::files::read_file;
-use crate::folder::Folder;
+use crate::folder::{Folder, read_file, sum_of};
 use crate::said::{Said, say, say_error, say_no_memory};
-use crate::sums::sum_of;
 use cdcl::{Plan, Search};
 use cnf::{Formula, Limits, read_formula_within};
 use std::alloc::{AllocError, Global};

@@ -183,19 +183,13 @@ static GATHERED: [Row; 1] = [Row {
 /// pack is due ten minutes behind the part's beginning or the pack before, where something was found
 /// since; the clock is read once more behind it.
 static PACKS: [(&[u64], usize); 5] = [
-    (&[5_000, 5_000, 604_999], 2),
+    (&[5_000, 604_999], 2),
     // nothing was found yet
-    (&[5_000, 5_000, 5_000, 605_000], 2),
-    (&[5_000, 5_000, 5_000, 5_000, 605_000], 3),
+    (&[5_000, 605_000], 2),
+    (&[5_000, 5_000, 605_000], 3),
     // three cubes come behind this pack, and then one
-    (
-        &[
-            5_000, 5_000, 5_000, 5_000, 605_000, 605_000, 605_000, 605_000, 605_000, 605_000,
-            1_205_000,
-        ],
-        4,
-    ),
-    (&[UNREAD, UNREAD, 5_000, 5_000, 4_000_000_000_000], 2),
+    (&[5_000, 5_000, 605_000, 605_000, 605_000, 1_205_000], 4),
+    (&[UNREAD, 5_000, 4_000_000_000_000], 2),
 ];
 
 #[test]

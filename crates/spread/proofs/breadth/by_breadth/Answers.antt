@@ -1,8 +1,7 @@
 use Rattle.std.specs.Prelude.{if◌then◌else◌}
-use Rattle.std.proofs.Common.{◌≡◌, Bool, true, false, List, [], ◌++◌, All, ◌∷◌, length, subst, sym, ap, ◌∙◌}
+use Rattle.std.proofs.Common.{◌≡◌, Bool, true, false, List, [], ◌++◌, All, ◌∷◌, subst, sym, ap, ◌∙◌}
 use Rattle.std.proofs.lemmas.List.Elements.{All-nil, All-cons, All-same, All-head, All-tail}
 use Rattle.theory.specs.Literals.{Literal}
-use Rattle.theory.specs.Beginnings.{begun_by}
 use Rattle.gathering.specs.Facts.{IsTrueFact}
 use Rattle.spread.specs.Dividing.{longer_first, IsBreadth}
 use Rattle.spread.specs.Solving.{IsOfTree}
@@ -20,21 +19,19 @@ cubes-preserved g c =
     let all = All-same (IsOfTree F plan) (Q ∷ rest) c.cubes.queue.items (sym c.in-Some.ensures.items) c.cubes.invariant.cubes in
     let here = All-head (IsOfTree F plan) Q rest all in
     record {
-      solver = c.in_ok-left.ensures.solver;
-      facts = c.in_ok-left.ensures.facts;
-      cubes = c.in_ok-take_up.ensures.cubes F plan Q c.cubes.facts.items c.solve.new.facts.items here (c.in_ok-left.ensures.left here.over) (All-tail (IsOfTree F plan) Q rest all);
+      solver = c.in_ok-step.ensures.solver;
+      facts = c.in_ok-step.ensures.facts;
+      cubes = c.in_ok-step.ensures.cubes here (All-tail (IsOfTree F plan) Q rest all);
       waits =
-          let before = c.cubes.facts.items in
-          let after = c.solve.new.facts.items in
           let known = c.cubes.has_model in
-          let found = c.in_ok-take_up.field-0 in
-          let popped : IsBreadth F plan before (Q ∷ rest) known = subst (λ Qs. IsBreadth F plan before Qs known) c.in-Some.ensures.items c.cubes.invariant.waits in
-          let next : IsBreadth F plan after c.take_up.new.queue.items (if found then true else known) = c.in_ok-take_up.ensures.waits F plan Q before after known (ap length c.lits-count.ensures.lits) (c.in_ok-left.ensures.left here.over) popped in
+          let found = c.in_ok-step.field-0 in
+          let popped : IsBreadth F plan c.cubes.facts.items (Q ∷ rest) known = subst (λ Qs. IsBreadth F plan c.cubes.facts.items Qs known) c.in-Some.ensures.items c.cubes.invariant.waits in
+          let next : IsBreadth F plan c.step.new.facts.items c.step.new.queue.items (if found then true else known) = c.in_ok-step.ensures.waits known here popped in
           let same : (if found then true else known) ≡ c.if-branch.has_model = elim c.if-branch.branch [
             | then-branch w ↦ ap (λ (b : Bool). if b then true else known) w.if-branch.true ∙ sym w.has_model-is
             | else-branch w ↦ ap (λ (b : Bool). if b then true else known) w.if-branch.false ∙ sym w.has_model-is
           ] in
-          subst (λ (m : Bool). IsBreadth F plan after c.take_up.new.queue.items m) same next;
+          subst (λ (m : Bool). IsBreadth F plan c.step.new.facts.items c.step.new.queue.items m) same next;
     }
 
 pub cubes-init : goal.cubes-init
@@ -44,7 +41,7 @@ cubes-init g c =
     let alone : c.push_back.new.self.items ≡ [] ∷ [] = c.in_ok-push_back.ensures.items ∙ (ap (λ (Qs : List (List Literal)). Qs ++ c.root.result ∷ []) c.new-queue.ensures.items ∙ ap (λ (Q : List Literal). Q ∷ []) c.root.ensures) in
     let none = c.new-facts.ensures.items in
     record {
-      solver = c.none-solver.ensures (begun_by plan.search F) plan tt;
+      solver = c.in_ok-solver.ensures;
       facts = All-same (IsTrueFact F plan) c.new-facts.result.items [] none (All-nil (IsTrueFact F plan));
       cubes = All-same (IsOfTree F plan) c.push_back.new.self.items ([] ∷ []) alone (All-cons (IsOfTree F plan) [] [] (root F plan) (All-nil (IsOfTree F plan)));
       waits = subst (λ fs. IsBreadth F plan fs c.push_back.new.self.items false) (sym none) (subst (λ Qs. IsBreadth F plan [] Qs false) (sym alone) (root-waits F plan));

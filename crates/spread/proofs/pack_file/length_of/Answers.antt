@@ -1,6 +1,6 @@
 use Rattle.std.proofs.Common.{rules}
 use Rattle.std.proofs.lemmas.Nat.{le_bytes_8}
-use Rattle.spread.proofs.passage.length_of.Goals as goal
+use Rattle.spread.proofs.pack_file.length_of.Goals as goal
 
 pub returns : goal.returns
 returns c = le_bytes_8 c.args.head _ (search rules) (search rules) c.from_le_bytes.ensures

@@ -1,7 +1,7 @@
 use Rattle.std.proofs.Common.{◌≡◌, ◌∙◌, length, subst, Bool, arith}
 use Rattle.spread.specs.Passages.{IsFilled}
 use Rattle.spread.proofs.PassageLemmas.{IsMet-told, seam}
-use Rattle.spread.proofs.passage.Passage.has.Goals as goal
+use Rattle.spread.proofs.pack_file.Passage.has.Goals as goal
 
 pub returns : goal.returns
 returns g c before behind between =

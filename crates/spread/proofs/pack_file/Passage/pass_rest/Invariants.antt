@@ -1,6 +1,6 @@
 use Rattle.std.proofs.Common.{List, ℕ}
 use Rattle.spread.specs.Passages.{IsWithin}
-use Rattle.spread.proofs.passage.Passage.pass_rest.Given as goal
+use Rattle.spread.proofs.pack_file.Passage.pass_rest.Given as goal
 
 -- it stays within the bytes
 abbrev pub invariant-loop-self : goal.invariant-loop-self

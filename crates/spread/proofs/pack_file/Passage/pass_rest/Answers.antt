@@ -1,5 +1,5 @@
 use Rattle.spread.proofs.PassageLemmas.{IsWithin-filled, IsWithin-end}
-use Rattle.spread.proofs.passage.Passage.pass_rest.Goals as goal
+use Rattle.spread.proofs.pack_file.Passage.pass_rest.Goals as goal
 
 pub loop-self-preserved : goal.loop-self-preserved
 loop-self-preserved g c bytes within =

@@ -1,7 +1,7 @@
 use Rattle.std.proofs.Common.{◌≡◌, length, subst, sym, Bool, List, ℕ, Option, arith}
 use Rattle.spread.specs.Passages.{IsFilled, IsLength}
 use Rattle.spread.proofs.PassageLemmas.{IsNext-read, IsBetween-flag, seam}
-use Rattle.spread.proofs.passage.Passage.next.Goals as goal
+use Rattle.spread.proofs.pack_file.Passage.next.Goals as goal
 
 pub returns-clause-bytes : goal.returns-clause-bytes
 returns-clause-bytes g c before behind between =

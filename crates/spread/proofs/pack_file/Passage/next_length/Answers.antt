@@ -1,7 +1,7 @@
 use Rattle.std.proofs.Common.{subst, Bool}
 use Rattle.spread.specs.Passages.{IsFilled}
 use Rattle.spread.proofs.PassageLemmas.{IsLength-cut, IsLength-there}
-use Rattle.spread.proofs.passage.Passage.next_length.Goals as goal
+use Rattle.spread.proofs.pack_file.Passage.next_length.Goals as goal
 
 pub returns-then-length-self-clause-bytes : goal.returns-then-length-self-clause-bytes
 returns-then-length-self-clause-bytes g c before behind between =

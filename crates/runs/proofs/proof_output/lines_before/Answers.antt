@@ -1,6 +1,6 @@
 use Rattle.std.proofs.Common.{ap, ◌∙◌}
 use Rattle.simplify.specs.Made.{steps_from}
-use Rattle.runs.proofs.before_output.lines_before.Goals as goal
+use Rattle.runs.proofs.proof_output.lines_before.Goals as goal
 
 pub returns-clause-left : goal.returns-clause-left
 returns-clause-left c =

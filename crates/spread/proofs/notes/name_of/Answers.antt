@@ -2,7 +2,7 @@ use Rattle.std.proofs.Common.{◌≡◌, ◌++◌, length, min, map, codes, arit
 use Rattle.std.proofs.lemmas.List.{length-take}
 use Rattle.spread.specs.Models.{sign}
 use Rattle.spread.proofs.HandLemmas.{taken-at-most}
-use Rattle.spread.proofs.models.name_of.Goals as goal
+use Rattle.spread.proofs.notes.name_of.Goals as goal
 
 pub returns : goal.returns
 returns c =
