@@ -9,7 +9,7 @@ use Rattle.theory.specs.Trails.{Trail, Entry, literals, entry_of, current_level}
 use Rattle.theory.specs.Lawful.{IsLawful}
 use Rattle.theory.specs.Truth.{IsOver}
 use Rattle.theory.proofs.literals.OverVariables.{AreOver-from_IsOver}
-use Rattle.theory.proofs.literals.LiteralLemmas.{and-left, and-right, or-cases, or-left}
+use Rattle.theory.proofs.literals.LiteralLemmas.{and-right, or-cases, or-left}
 use Rattle.theory.proofs.literals.LiteralSets.{true_false, false_unless, and-true, literal_of_var, has_var-has}
 use Rattle.kernel.specs.State.{State}
 use Rattle.cdcl.specs.declared.marks.Marks.{Marks}
@@ -67,24 +67,9 @@ WaitsFor-found K T marked v place old new lawful found inside m moved q = times-
 pub WaitsFor-free : (K : List Clause) (T : Trail) (marked : List Bool) (v : ℕ) (places : List ℕ) → IsLawful K T → entry_of T v ≡ None → WaitsFor T marked v places places
 WaitsFor-free K T marked v places lawful free q = rw (awaited-free K T marked v q lawful free) (omega arith)
 
-pub WaitsFor-unmarked : (T : Trail) (marked : List Bool) (v : ℕ) (places : List ℕ) → slice_index_or marked v false ≡ false → WaitsFor T marked v places places
-WaitsFor-unmarked T marked v places m q = rw (none (slice_get T q)) (omega arith)
-  where
-    none : (o : Option Entry) → is_awaited marked (v ∷ []) o ≡ false
-    none None = refl
-    none (Some d) = false_unless (is_awaited marked (v ∷ []) (Some d)) (λ t. true_false (slice_index_or marked v false)
-        (ap (λ x. slice_index_or marked x false) (sym (awaited-var marked v d t)) ∙ and-left (slice_index_or marked d.lit.var false) (nat_eq d.lit.var v || false) t) m)
-
 -- the places of the variables so far wait
 abbrev pub WaitFor : Trail → List Bool → List ℕ → List ℕ → List ℕ → Type 0
 WaitFor T marked vars old new = (q : ℕ) → times q new ≡ cond (is_awaited marked vars (slice_get T q)) 1 0 + times q old
-
-pub WaitFor-none : (T : Trail) (marked : List Bool) (places : List ℕ) → WaitFor T marked [] places places
-WaitFor-none T marked places q = rw (none (slice_get T q)) (omega arith)
-  where
-    none : (o : Option Entry) → is_awaited marked [] o ≡ false
-    none None = refl
-    none (Some d) = false_unless (is_awaited marked [] (Some d)) (λ t. absurd (true_false false (and-right (slice_index_or marked d.lit.var false) false t) refl))
 
 -- one variable more, which isn't among those before
 pub WaitFor-more : (T : Trail) (marked : List Bool) (vars : List ℕ) (v : ℕ) (old between new : List ℕ) → is_one_of vars v ≡ false → WaitFor T marked vars old between → WaitsFor T marked v between new

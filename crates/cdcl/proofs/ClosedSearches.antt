@@ -14,7 +14,7 @@ use Rattle.theory.specs.Scores.{best_outside}
 use Rattle.theory.specs.Search.{Next, ends, goes_on, exhausted, refuted}
 use Rattle.theory.specs.Units.{Units, units_of, AreUnits}
 use Rattle.theory.specs.Focused as definition
-use Rattle.theory.specs.Focused.{FocusedState, IsFocusedStep, settled, with_units_of, learnt_next, splits_on}
+use Rattle.theory.specs.Focused.{FocusedState, settled, with_units_of, learnt_next, splits_on}
 use Rattle.theory.proofs.literals.LiteralSets.{false_unless}
 use Rattle.theory.proofs.trails.LawfulTrails.{Propagates-conflict}
 use Rattle.theory.proofs.trails.TrailLevels.{up_to-current}

@@ -15,7 +15,7 @@ use Rattle.theory.specs.Modes as modes
 use Rattle.theory.specs.Modes.{Mode, is_restarting}
 use Rattle.theory.specs.Scores.{Scores, is_seen, scores_after}
 use Rattle.theory.specs.Restarts as restarting
-use Rattle.theory.specs.Restarts.{Glues, glues_after, with_glue}
+use Rattle.theory.specs.Restarts.{Glues, glues_after}
 use Rattle.theory.specs.Forgetting.{Mark, not_used, unused, with_used, forget}
 use Rattle.theory.specs.Rephasing.{is_over, rephased}
 use Rattle.theory.specs.Search.{max_focused}

@@ -1,9 +1,7 @@
 -- What a conflict teaches, put together from the walks over the current level and below it.
-use Rattle.std.proofs.Common.{◌≡◌, ℕ, ◌+◌, ◌-◌, ◌≤◌, Bool, true, false, not, ◌&&◌, ◌||◌, List, [], ◌∷◌, ◌++◌, length, take, drop, Option, Some, None, refl, ap, sym, ◌∙◌, nat_lt, arith, length-append}
-use Rattle.std.specs.List.{list_any}
-use Rattle.std.proofs.lemmas.List.Folds.{list_any-append}
-use Rattle.theory.specs.Literals.{Literal, Clause, has_var}
-use Rattle.theory.specs.Trails.{Trail, literals, entry_of, level_at, current_level}
+use Rattle.std.proofs.Common.{◌≡◌, ℕ, ◌+◌, ◌-◌, ◌≤◌, true, not, List, [], ◌∷◌, ◌++◌, length, take, drop, Option, Some, None, refl, ap, sym, ◌∙◌, arith, length-append}
+use Rattle.theory.specs.Literals.{Literal, Clause}
+use Rattle.theory.specs.Trails.{Trail, literals, current_level}
 use Rattle.theory.specs.Propagation.{clause_at, least_false}
 use Rattle.theory.specs.Status.{is_false}
 use Rattle.theory.specs.Lessons.{lesson_of}
@@ -13,7 +11,6 @@ use Rattle.theory.proofs.searching.Walks.{Refutes-walk, Refutes-begin}
 use Rattle.theory.specs.Lawful.{IsLawful}
 use Rattle.theory.specs.Learning.{walk, with_literals, resolved_by, reason_used, is_of_cube}
 use Rattle.theory.specs.Removing.{first_walk, removable}
-use Rattle.theory.specs.Scores.{is_seen}
 use Rattle.kernel.specs.State.{State}
 use Rattle.cdcl.specs.declared.marks.Marks.{Marks}
 use Rattle.cdcl.specs.Marks.{IsSet, latest_from}
@@ -57,14 +54,6 @@ last-hints k R n count hints lawful above is many = (
 -- where nothing waits, it doesn't matter what is removable
 pub IsSet-plain : {R : List Literal} (k : State) (S : Clause) (bound : ℕ) (m : Marks) → m.pending ≡ [] → IsSet k R S bound m → IsSet k [] S 0 m
 IsSet-plain {R} k S bound m none h = record { is = h.is; seen = h.seen; pending = rw none (pending-done k.trail [] S) }
-
--- what is seen by either of two lists of clauses
-pub seen-both : (K : List Clause) (T : Trail) (ms ns : List ℕ) (v : ℕ) → is_seen K T (ms ++ ns) v ≡ (is_seen K T ms v || is_seen K T ns v)
-seen-both K T ms ns v = ap (λ b. nat_lt 0 (level_at (entry_of T v)) && b) (list_any-append (λ n. has_var (clause_at K n) v) ms ns) ∙ each (nat_lt 0 (level_at (entry_of T v))) (list_any (λ n. has_var (clause_at K n) v) ms) (list_any (λ n. has_var (clause_at K n) v) ns)
-  where
-    each : (a b c : Bool) → (a && (b || c)) ≡ ((a && b) || (a && c))
-    each true b c = refl
-    each false b c = refl
 
 -- the literals of the line are false
 pub line-false : (k : State) (n : ℕ) → IsLawful k.clauses k.trail → least_false (literals k.trail) k.clauses ≡ Some n → is_false (literals k.trail) (lesson_of k.clauses k.trail n).line.clause ≡ true

@@ -5,9 +5,6 @@ use Rattle.std.proofs.Common.{◌≡◌, ℕ, zero, suc, ◌+◌, ◌<◌, ◌�
 abbrev pub changed-before : {X : Type 0} → (X → X) → ℕ → List X → List X
 changed-before f at xs = map f (take at xs) ++ drop at xs
 
-pub changed-first : {X : Type 0} (f : X → X) (xs : List X) → xs ≡ changed-before f 0 xs
-changed-first f xs = refl
-
 pub changed-read : {X : Type 0} (f : X → X) (xs : List X) (at : ℕ) (d : X) → at < length xs → get_or (changed-before f at xs) at d ≡ get_or xs at d
 changed-read f [] at d h = absurd (omega arith)
 changed-read f (x ∷ xs) zero d h = refl
@@ -23,12 +20,6 @@ changed-all f [] zero h = refl
 changed-all f [] (suc at) h = refl
 changed-all f (x ∷ xs) zero h = absurd (omega arith)
 changed-all {X} f (x ∷ xs) (suc at) h = ap (λ (ys : List X). f x ∷ ys) (changed-all f xs at (omega arith))
-
-pub changed-long : {X : Type 0} (f : X → X) (xs : List X) (at : ℕ) → length (changed-before f at xs) ≡ length xs
-changed-long f [] zero = refl
-changed-long f [] (suc at) = refl
-changed-long f (x ∷ xs) zero = refl
-changed-long f (x ∷ xs) (suc at) = ap suc (changed-long f xs at)
 
 -- what is read of the changed list
 pub mapped-read : {X Y : Type 0} (f : X → Y) (xs : List X) (n : ℕ) (d : X) (e : Y) → n < length xs → get_or (map f xs) n e ≡ f (get_or xs n d)

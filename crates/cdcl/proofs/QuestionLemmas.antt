@@ -405,21 +405,6 @@ between-numbered k v b n lawful h = rw (reason-read k v b n h) (reasoned k v b l
 pub IsReasonOf-arranged : (k : State) (v : ℕ) (b : IsBetween k v) (n : ℕ) (c : Clause) → Some n ≡ reason_at (entry_of k.trail v) → IsPermutation (clause_at k.clauses n) c → IsReasonOf k v c
 IsReasonOf-arranged k v b n c h p = record { between = b; permuted = subst (λ m. IsPermutation (clause_at k.clauses m) c) (reason-read k v b n h) p }
 
--- a question begins
-pub IsAsking-begin : (k : State) (S : Clause) (marked : List Bool) (root : ℕ) (old new : Removing) → IsBetween k root → IsKnown k S old → new.reached.numbers ≡ root ∷ [] → new.parents.items ≡ 0 ∷ []
-    → new.removable ≡ old.removable → new.kept ≡ old.kept → IsAsking k S marked new 0
-IsAsking-begin k S marked root old new between known reached parents removable kept = record {
-  known = record { removable = rw removable known.removable; kept = rw kept known.kept };
-  between = rw reached (λ i d less. single i d less);
-  closed = λ i less. absurd (omega (arith, less));
-  parents_many = ap length parents ∙ sym (ap length reached);
-  parents = λ i one less. (let long = ap length reached in absurd (omega (arith, one, less, long)));
-}
-  where
-    single : (i d : ℕ) → i < 1 → IsBetween k (get_or (root ∷ []) i d)
-    single zero d less = between
-    single (suc i) d less = absurd (omega (arith, less))
-
 -- a question that is refused
 pub IsKnown-refused : (k : State) (S : Clause) (marked : List Bool) (at : ℕ) (old new : Removing) → IsAnswered k S marked at false old → new.removable ≡ old.removable
     → ((p : ℕ → Bool) → p (get_or old.reached.numbers at 0) ≡ false → ((i : ℕ) → 1 ≤ i → i < length old.reached.numbers → p (get_or old.reached.numbers i 0) ≡ false → p (get_or old.reached.numbers (get_or old.parents.items i 0) 0) ≡ false)

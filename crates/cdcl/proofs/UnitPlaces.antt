@@ -1,9 +1,8 @@
 -- The places of the entries that make a clause's literals false, and the reasons of these entries.
-use Rattle.std.proofs.Common.{◌≡◌, ℕ, zero, suc, ◌+◌, ◌-◌, ◌<◌, ◌≤◌, Bool, true, false, not, cond, ◌||◌, List, [], ◌∷◌, ◌++◌, length, take, get_or, Option, Some, None, slice_get, refl, ap, sym, subst, ◌∙◌, nat_eq, eqb-true, eq-eqb, inl, inr, append-nil, All, arith, slice_index, if◌then◌else◌, IsPermutation}
+use Rattle.std.proofs.Common.{◌≡◌, ℕ, zero, suc, ◌+◌, ◌-◌, ◌<◌, ◌≤◌, Bool, true, false, ◌||◌, List, [], ◌∷◌, ◌++◌, length, take, get_or, Option, Some, None, slice_get, refl, ap, sym, subst, ◌∙◌, nat_eq, eqb-true, eq-eqb, inl, inr, All, arith, slice_index, if◌then◌else◌, IsPermutation}
 use Rattle.std.specs.List.{Contains, dedup}
 use Rattle.std.specs.List.Sorted.{IsStrictlyIncreasing}
 use Rattle.std.proofs.lemmas.List.{take_more, take_all, get_or_default}
-use Rattle.std.proofs.lemmas.List.Elements.{filter-append}
 use Rattle.std.proofs.lemmas.List.Folds.{list_any_at}
 use Rattle.std.proofs.lemmas.List.Sorted.{list_any-IsPermutation}
 use Rattle.std.proofs.lemmas.List.Kept.{Contains-dedup_nat, Contains-from_dedup}
@@ -18,7 +17,7 @@ use Rattle.theory.proofs.literals.LiteralLemmas.{same-refl, or-cases, or-left}
 use Rattle.theory.proofs.literals.LiteralSets.{true_false, false_unless, one_or_other, other-same, has-head, has-cases, has-without, has-from_without, Refutes-from_is_false, is_false-from_Refutes, negated-negated}
 use Rattle.theory.proofs.searching.UnitLines.{has_two-one, has_two-other}
 use Rattle.kernel.specs.State.{State}
-use Rattle.kernel.proofs.LiteralFacts.{same-sym, same-sym-false}
+use Rattle.kernel.proofs.LiteralFacts.{same-sym-false}
 use Rattle.cdcl.specs.Numbers.{is_one_of}
 use Rattle.cdcl.specs.Removing.{reason_at}
 use Rattle.cdcl.specs.Units.{is_against, reasons_at}
@@ -145,33 +144,9 @@ pub against-none : (o : Option Entry) → is_against [] o ≡ false
 against-none None = refl
 against-none (Some e) = refl
 
-pub against-append : (c d : Clause) (o : Option Entry) → is_against (c ++ d) o ≡ is_against c o || is_against d o
-against-append c d None = refl
-against-append [] d (Some e) = refl
-against-append (x ∷ c) d (Some e) = ap (λ b. same (negated e.lit) x || b) (against-append c d (Some e)) ∙ go (same (negated e.lit) x) (has c (negated e.lit)) (has d (negated e.lit))
-  where
-    go : (a b c : Bool) → a || (b || c) ≡ (a || b) || c
-    go true b c = refl
-    go false b c = refl
-
 pub against-covers : (c d : Clause) (o : Option Entry) → Covers c d → Covers d c → is_against c o ≡ is_against d o
 against-covers c d None to from = refl
 against-covers c d (Some e) to from = both (has c (negated e.lit)) (has d (negated e.lit)) (to (negated e.lit)) (from (negated e.lit))
-
--- the next literal of a clause, of which the literal l is left out
-pub without-skip : (c : Clause) (l x : Literal) (i : ℕ) → i < length c → x ≡ get_or c i x → same x l ≡ true → without (take (i + 1) c) l ≡ without (take i c) l
-without-skip c l x i inside at is =
-    ap (λ (d : Clause). without d l) (take_more c i x inside)
-    ∙ (filter-append (λ k. not (same l k)) (take i c) (get_or c i x ∷ [])
-    ∙ (ap (λ (k : Literal). without (take i c) l ++ without (k ∷ []) l) (sym at)
-    ∙ (ap (λ b. without (take i c) l ++ cond (not b) (x ∷ []) []) (same-sym x l is) ∙ append-nil (without (take i c) l))))
-
-pub without-more : (c : Clause) (l x : Literal) (i : ℕ) → i < length c → x ≡ get_or c i x → same x l ≡ false → without (take (i + 1) c) l ≡ without (take i c) l ++ x ∷ []
-without-more c l x i inside at other =
-    ap (λ (d : Clause). without d l) (take_more c i x inside)
-    ∙ (filter-append (λ k. not (same l k)) (take i c) (get_or c i x ∷ [])
-    ∙ (ap (λ (k : Literal). without (take i c) l ++ without (k ∷ []) l) (sym at)
-    ∙ ap (λ b. without (take i c) l ++ cond (not b) (x ∷ []) []) (same-sym-false x l other)))
 
 -- a literal that is left is false
 pub left-false : (P : List Literal) (c : Clause) (l x : Literal) (i : ℕ) → is_false P (without c l) ≡ true → i < length c → x ≡ get_or c i x → same x l ≡ false → has P (negated x) ≡ true
@@ -289,20 +264,6 @@ places-first b c l T p = go b (slice_get T p)
     go : (b : Bool) (o : Option Entry) → b ≡ b || is_against [] o
     go true o = refl
     go false o = sym (against-none o)
-
-pub places-skip : (b n : Bool) (c : Clause) (l x : Literal) (i : ℕ) (o : Option Entry) → i < length c → x ≡ get_or c i x → same x l ≡ true → n ≡ b || is_against (without (take i c) l) o → n ≡ b || is_against (without (take (i + 1) c) l) o
-places-skip b n c l x i o inside at is before = before ∙ ap (λ (d : Clause). b || is_against d o) (sym (without-skip c l x i inside at is))
-
-pub places-more : (b n m : Bool) (c : Clause) (l x : Literal) (i : ℕ) (o : Option Entry) → i < length c → x ≡ get_or c i x → same x l ≡ false → n ≡ b || is_against (without (take i c) l) o → m ≡ n || is_against (x ∷ []) o
-    → m ≡ b || is_against (without (take (i + 1) c) l) o
-places-more b n m c l x i o inside at other before more =
-    more ∙ (ap (λ a. a || is_against (x ∷ []) o) before
-    ∙ (grouped b (is_against (without (take i c) l) o) (is_against (x ∷ []) o)
-    ∙ (ap (λ a. b || a) (sym (against-append (without (take i c) l) (x ∷ []) o)) ∙ ap (λ (d : Clause). b || is_against d o) (sym (without-more c l x i inside at other)))))
-  where
-    grouped : (a b c : Bool) → (a || b) || c ≡ a || (b || c)
-    grouped true b c = refl
-    grouped false b c = refl
 
 -- in order, and for the clause as it was given
 pub places-arranged : (c d : Clause) (l : Literal) (T : Trail) (xs ys zs : List ℕ) (p : ℕ) → IsPermutation c d → ((q : ℕ) → is_one_of xs q ≡ is_against (without d l) (slice_get T q)) → IsPermutation xs ys → zs ≡ dedup nat_eq ys

@@ -22,7 +22,7 @@ use Rattle.cdcl.specs.Saving.{AgreeOutside, AreWaiting, HoldsAsIn}
 use Rattle.cdcl.specs.declared.decisions.Decisions.{Decisions}
 use Rattle.cdcl.proofs.PlaceLemmas.{placed-there, placed-is, place-below, entry_of-placed}
 use Rattle.cdcl.proofs.TrailFronts.{has_var-last}
-use Rattle.cdcl.proofs.TrailValues.{has-value, entry_of-there}
+use Rattle.cdcl.proofs.TrailValues.{has-value}
 
 -- the values saved at a conflict
 pub value-saved : (V : ℕ) (T : Trail) (M : Assignment) (v : ℕ) → IsVariable V v → value (saved_after V T M) v ≡ (if has_var (literals T) v then has (literals T) (positive v) else value M v)
@@ -118,13 +118,6 @@ free-none (e ∷ T) v h = go (nat_eq e.lit.var v) refl h (free-none T v)
         → (option_map (λ (e : Entry). e.lit.positive) (entry_of T v) ≡ None → has_var (literals T) v ≡ false) → (nat_eq v e.lit.var || has_var (literals T) v) ≡ false
     go true q h more = absurd (cc)
     go false q h more = or-none (nat_eq v e.lit.var) (has_var (literals T) v) (false_unless (nat_eq v e.lit.var) (λ t. true_false (nat_eq e.lit.var v) (eq-eqb e.lit.var v (sym (eqb-true v e.lit.var t))) q)) (more h)
-
-pub there-some : (T : Trail) (v : ℕ) (b : Bool) → option_map (λ (e : Entry). e.lit.positive) (entry_of T v) ≡ Some b → has_var (literals T) v ≡ true
-there-some T v b h = go (entry_of T v) refl h
-  where
-    go : (o : Option Entry) → entry_of T v ≡ o → option_map (λ (e : Entry). e.lit.positive) o ≡ Some b → has_var (literals T) v ≡ true
-    go None e q = absurd (cc)
-    go (Some d) e q = let there = entry_of-there T v d e in subst (λ w. has_var (literals T) w ≡ true) there.0 (has_var-has (literals T) d.lit there.1)
 
 -- fewer wait when one is taken out
 pub fewer-wait : (r : Ranking) (x : ℕ) → x - 1 < length r.waiting → waits r x ≡ true → count_by (λ b. b) (with_waiting r x false).waiting < count_by (λ b. b) r.waiting

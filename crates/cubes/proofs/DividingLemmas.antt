@@ -1,20 +1,18 @@
 -- A look at a cube, and what the first search says of a formula's division.
-use Rattle.std.proofs.Common.{◌≡◌, ◌≢◌, true, Bool, not, nat_eq, None, cond, find, eq-eqb, min, take, ℕ, ◌+◌, ◌*◌, ◌^◌, ◌<◌, ◌≤◌, false, nat_lt, le-ltb, List, [], ◌∷◌, ◌++◌, Option, Some, IfSome, filter, refl, ap, ap₂, sym, subst, ◌∙◌, arith}
+use Rattle.std.proofs.Common.{◌≡◌, ◌≢◌, true, Bool, not, nat_eq, None, cond, find, eq-eqb, min, take, ℕ, ◌+◌, ◌*◌, ◌^◌, ◌<◌, ◌≤◌, false, nat_lt, le-ltb, List, [], ◌∷◌, Option, Some, IfSome, filter, refl, ap, ap₂, sym, subst, ◌∙◌, arith}
 use Rattle.std.proofs.Math.Pow.{pow_mono}
 use Rattle.std.specs.List.{list_any}
-use Rattle.theory.specs.Literals.{Literal, Clause, IsVariable, has_var}
+use Rattle.theory.specs.Literals.{Clause, IsVariable, has_var}
 use Rattle.theory.specs.Truth.{Formula}
 use Rattle.theory.specs.Plans.{Constants, focused, Plan}
-use Rattle.theory.specs.Trails.{Trail, literals, variables, cube_trail}
+use Rattle.theory.specs.Trails.{Trail, literals, variables}
 use Rattle.theory.specs.Held.{is_held, held, least_held}
-use Rattle.theory.specs.Propagation.{Closed, quiet, conflict, by_place, Propagates}
-use Rattle.theory.specs.Learning.{learn}
-use Rattle.theory.specs.Units.{units_of}
-use Rattle.theory.specs.Search.{Outcome, model, refuted, exhausted, values, Next, ends, goes_on, max_focused}
+use Rattle.theory.specs.Propagation.{Closed, by_place}
+use Rattle.theory.specs.Search.{Outcome, model, exhausted, values, Next, ends, goes_on, max_focused}
 use Rattle.theory.proofs.literals.OverVariables.{AreOver-from_IsOver}
 use Rattle.lookahead.proofs.TrailLengths.{length-lawful}
 use Rattle.theory.specs.Focused.{FocusedState, if_stable, begin, settled, after, splits_on, IsFocusedStep}
-use Rattle.theory.specs.Looking.{Chooses, no_choice, best_ones, max_candidates, ranks, SplitsInto, Looks}
+use Rattle.theory.specs.Looking.{Chooses, no_choice, best_ones, max_candidates, ranks, SplitsInto}
 use Rattle.theory.specs.Dividing.{LeadsTo, stays, moves, HasFewDecisions, first_conflicts, IsDivisible}
 use Rattle.theory.proofs.literals.LiteralLemmas.{or-left, or-right, not_true}
 use Rattle.theory.proofs.literals.LiteralSets.{true_false}
@@ -31,7 +29,7 @@ use Rattle.cubes.specs.declared.division.dividing.First.TheVariants.{Ended, FewD
 use Rattle.cdcl.specs.declared.focused.FocusedSearch.{FocusedSearch}
 use Rattle.cdcl.specs.Outcome.{outcome_of}
 use Rattle.cdcl.specs.Searching.{IsReady}
-use Rattle.cdcl.specs.Focusing.{state_of, stable_at, RunsTo, Reaches, IsSpent, IsKept, IsRefutedAtOnce}
+use Rattle.cdcl.specs.Focusing.{state_of, stable_at, RunsTo, Reaches, IsSpent, IsKept}
 use Rattle.cubes.specs.declared.division.dividing.DividingSearch.{DividingSearch}
 use Rattle.cubes.specs.Division.{IsKnown, IsDivisionOf, FirstSays, IsDividing}
 
@@ -81,19 +79,6 @@ chosen-some F V K T found x is vars clauses h =
     subst (λ (L : List Clause). Chooses L T no_choice (best_ones max_candidates (filter (is_held L) (variables F.vars)) (ranks F.vars L) (literals T)) x) clauses
     (subst (λ (W : ℕ). Chooses K T no_choice (best_ones max_candidates (filter (is_held K) (variables W)) (ranks W K) (literals T)) x) vars
     (subst (λ (o : Option ℕ). IfSome o (Chooses K T no_choice (best_ones max_candidates (filter (is_held K) (variables V)) (ranks V K) (literals T)))) is h))
-
-pub looks-quiet : (F : Formula) (Q : List Literal) (V : ℕ) (K : List Clause) (T U : Trail) (o : Outcome) → V ≡ F.vars → K ≡ F.clauses → T ≡ cube_trail Q → Propagates by_place K T quiet U
-    → ((G : Formula) → V ≡ G.vars → K ≡ G.clauses → SplitsInto G U (least_held G U) o) → Looks F Q o
-looks-quiet F Q V K T U o vars clauses trail closes splits = record { answer = quiet; trail = U; propagates = rw (clauses, trail) at closes; comes_to = splits F vars clauses }
-
--- a look that propagation refutes, where there are no lines yet
-pub looks-refuted : (s : FocusedSearch) (o : Outcome) → IsRefutedAtOnce s o → (F : Formula) (Q : List Literal) → s.kernel.clauses ≡ F.clauses → s.kernel.trail ≡ cube_trail Q → s.lines ≡ [] → Looks F Q o
-looks-refuted s o h F Q clauses trail none = record {
-  answer = conflict h.number;
-  trail = h.trail;
-  propagates = rw (clauses, trail) at h.propagates;
-  comes_to = h.refutes none ∙ ap (λ (K : List Clause). let u = units_of K h.trail in refuted (u.lines ++ learn u.clauses u.trail h.number ∷ [])) clauses;
-}
 
 -- steps to an end, of which each state has one, have one end
 ends-unique : {State : Type 0} (IsStep : State → Next State → Type 0) → ((s : State) (m n : Next State) → IsStep s m → IsStep s n → m ≡ n)

@@ -4,7 +4,7 @@ use Rattle.theory.specs.Reading.{Limits}
 use Rattle.theory.specs.Truth as truth
 use Rattle.theory.specs.Texts.{lf}
 use Rattle.theory.specs.Steps as steps
-use Rattle.theory.specs.ProofReading.{ProofReading, ProofReadsWithin, line_fault, too_long}
+use Rattle.theory.specs.ProofReading.{ProofReadsWithin, line_fault, too_long}
 use Rattle.theory.specs.ProofReading as reading
 use Rattle.theory.specs.Checking.{checks, accepted, refused, no_empty_clause}
 use Rattle.theory.specs.Checking as theory

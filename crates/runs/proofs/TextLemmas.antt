@@ -18,7 +18,6 @@ use Rattle.strategies.specs.Strategies.{Strategy, search_by}
 use Rattle.strategies.specs.Choosing.{IsChosen}
 use Rattle.strategies.specs.Deciding.{IsDecidedAs}
 use Rattle.strategies.proofs.FoundModels.{result-checked}
-use Rattle.strategies.specs.Texts.{IsRefutationText}
 use Rattle.join.specs.Numbered.{AreChecked, AreStepsOf}
 use Rattle.join.proofs.JoinLemmas.{AreChecked-result}
 use Rattle.runs.specs.declared.verdict.Verdict.{Verdict}

@@ -1,16 +1,14 @@
 -- What a run of `tidy` says where it writes nothing, or its text.
-use Rattle.std.proofs.Common.{◌≡◌, ℕ, List, ◌++◌, take, Option, Result, Ok, Err, MatchResult, inl, inr, ◌⊎◌, refl}
+use Rattle.std.proofs.Common.{◌≡◌, ℕ, List, ◌++◌, take, Option, Result, Ok, Err, MatchResult, ◌⊎◌, refl}
 use Rattle.std.specs.Io.KnownBytes.{Appends}
 use Rattle.theory.specs.Reading.{Limits}
 use Rattle.theory.specs.Truth as truth
 use Rattle.cnf.specs.declared.fault.ReadFault.{ReadFault}
 use Rattle.cnf.specs.declared.fault.ReadFault.TheVariants as reading
 use Rattle.cnf.specs.Faults.{IsReadOf}
-use Rattle.tidying.specs.Tidied.{tidied}
-use Rattle.tidying.specs.Texts.{formula_text}
 use Rattle.runs.specs.declared.fault.RunFault.{RunFault}
 use Rattle.runs.specs.Faults.{fault_of_read}
-use Rattle.runs.specs.Tidy.{IsTidyOf, TidySays}
+use Rattle.runs.specs.Tidy.{TidySays}
 use Rattle.runs.proofs.CheckRuns.{unchecked}
 use Rattle.runs.proofs.ProofLemmas.{begins, written-on, stopped-in}
 use Rattle.runs.proofs.WrittenLemmas.{Keeps-same, Appends-then}
@@ -28,12 +26,6 @@ TidySays-unread X L known a (reading.TooManyClauses x) h = unchecked L known a (
 TidySays-unread X L known a (reading.TooFewClauses x) h = unchecked L known a (reading.TooFewClauses x) h (λ e. cc)
 TidySays-unread X L known a (reading.ClauseNotEnded x) h = unchecked L known a (reading.ClauseNotEnded x) h (λ e. cc)
 TidySays-unread X L known a (reading.OverLimit x) h = unchecked L known a (reading.OverLimit x) h (λ e. cc)
-
--- a formula that was read, and its text
-pub IsTidyOf-made : (L : Limits) (known : Option (List ℕ)) (F : truth.Formula) (text : List ℕ) → ◌≡◌ {A = Result truth.Formula ReadFault} (Ok F) (Err reading.ReadFailed) ⊎ IsReadOf L known (Ok F)
-    → text ≡ formula_text (tidied F) → IsTidyOf L known text
-IsTidyOf-made L known F text (inl e) is = absurd (cc)
-IsTidyOf-made L known F text (inr r) is = record { bytes = r.bytes; are = r.are; value = F; reads = r.is_read; is = is }
 
 -- a text in two parts, of which the first is written
 second-stopped : (a b d : Option (List ℕ)) (first second : List ℕ) (count : ℕ) → Appends a b first → Appends b d (take count second) → (n : ℕ) × Appends a d (take n (first ++ second))

@@ -1,5 +1,5 @@
 -- What is found in a pack, one body after the other.
-use Rattle.std.proofs.Common.{◌≡◌, ◌≢◌, ◌≤◌, ◌<◌, ◌+◌, ◌-◌, ◌^◌, min, ℕ, suc, List, [], ◌∷◌, ◌++◌, length, take, drop, Bool, true, false, not, Option, Some, None, MatchOption, refl, sym, ap, ◌∙◌, append_assoc, append-nil, length-append, subst, arith, codes}
+use Rattle.std.proofs.Common.{◌≡◌, ◌≢◌, ◌≤◌, ◌+◌, ◌-◌, ◌^◌, min, ℕ, List, [], ◌∷◌, ◌++◌, length, take, drop, Bool, true, false, not, Option, Some, None, MatchOption, refl, sym, ap, ◌∙◌, append_assoc, append-nil, length-append, subst, arith, codes}
 use Rattle.std.specs.Int.{w64, to_le_bytes}
 use Rattle.std.proofs.Math.Seq.{take-append_seam, drop-append_seam}
 use Rattle.packs.specs.declared.fact.Fact.{Fact}
@@ -12,9 +12,9 @@ use Rattle.spread.specs.declared.pack_file.Span.{Span}
 use Rattle.spread.specs.declared.found.Entry.{Entry}
 use Rattle.spread.specs.declared.found.Found.{Found}
 use Rattle.spread.specs.Sums.{sum_of}
-use Rattle.spread.specs.PackFiles.{head, pack_name, IsWholePack}
+use Rattle.spread.specs.PackFiles.{head, IsWholePack}
 use Rattle.spread.specs.Passages.{IsBetween, IsWithin, IsMet, IsNext, IsStopped}
-use Rattle.spread.specs.Found.{is_model, IsAt, AreAt, nothing, behind, HasFound}
+use Rattle.spread.specs.Found.{is_model, AreAt, nothing, behind, HasFound}
 
 -- what was put
 abbrev pub IsPut : Option Fact → Span → (old new : Found) → Type 0

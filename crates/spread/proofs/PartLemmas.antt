@@ -1,13 +1,9 @@
 -- The parts of a round take turns.
-use Rattle.std.proofs.Common.{◌≡◌, ◌≢◌, ℕ, suc, ◌+◌, ◌%◌, ◌<◌, ◌≤◌, Bool, true, false, cond, eqb, List, [], ◌∷◌, ◌++◌, length, refl, sym, ap, ◌∙◌, arith}
-use Rattle.std.proofs.Math.Nat.{suc-mod, mod_self, mod-lt, mod-eq_of_lt}
+use Rattle.std.proofs.Common.{◌≡◌, ◌≢◌, ℕ, suc, ◌+◌, ◌%◌, ◌<◌, Bool, true, false, cond, eqb, List, [], ◌∷◌, ◌++◌, length, refl, sym, ap, ◌∙◌, arith}
+use Rattle.std.proofs.Math.Nat.{suc-mod, mod-eq_of_lt}
 use Rattle.std.proofs.Math.Numerals.{suc-eq-add-one}
 use Rattle.std.proofs.lemmas.Bool.{eq-eqb, eqb-true, eqb-false}
 use Rattle.spread.specs.Parts.{part_at, of_part}
-
--- each cube belongs to one of the parts
-pub part_at-within : (parts number : ℕ) → 1 ≤ parts → (1 ≤ part_at parts number) × (part_at parts number ≤ parts)
-part_at-within parts number some = let below = mod-lt number {m = parts} some in (omega arith, omega (arith, below))
 
 after : (parts number : ℕ) → (number + 1) % parts ≡ (number % parts + 1) % parts
 after parts number = ap (λ n. n % parts) (sym (suc-eq-add-one number)) ∙ (suc-mod number parts ∙ ap (λ n. n % parts) (suc-eq-add-one (number % parts)))
@@ -17,14 +13,6 @@ pub turn-on : (parts number part : ℕ) → part ≡ part_at parts number → pa
 turn-on parts number part same before =
     let below : number % parts + 1 < parts = omega arith in
     let next : (number + 1) % parts ≡ number % parts + 1 = after parts number ∙ mod-eq_of_lt below in
-    omega arith
-
--- and behind the last part comes the first
-pub turn-back : (parts number part : ℕ) → 1 ≤ parts → part ≡ part_at parts number → parts ≤ part → 1 ≡ part_at parts (number + 1)
-turn-back parts number part some same last =
-    let below : number % parts < parts = mod-lt number {m = parts} some in
-    let full : number % parts + 1 ≡ parts = omega arith in
-    let next : (number + 1) % parts ≡ 0 = after parts number ∙ (ap (λ n. n % parts) full ∙ mod_self parts) in
     omega arith
 
 with-own : {A : Type 0} (b : Bool) (y x : A) (new old : List A) → new ≡ old ++ x ∷ [] → cond b (y ∷ new) new ≡ cond b (y ∷ old) old ++ x ∷ []

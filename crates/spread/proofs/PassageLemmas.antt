@@ -1,12 +1,11 @@
 -- Going through a pack.
-use Rattle.std.proofs.Common.{◌≡◌, ◌≢◌, ◌≤◌, ◌<◌, ◌+◌, ◌^◌, w64, ℕ, List, [], ◌∷◌, ◌++◌, length, take, drop, Bool, true, false, ◌&&◌, Option, Some, None, refl, sym, ap, ◌∙◌, append_assoc, append-nil, length-append, subst, arith}
+use Rattle.std.proofs.Common.{◌≡◌, ◌≢◌, ◌≤◌, ◌<◌, ◌+◌, ◌^◌, w64, ℕ, List, [], ◌∷◌, ◌++◌, length, take, drop, Bool, true, false, Option, Some, refl, sym, ap, ◌∙◌, append_assoc, append-nil, length-append, subst, arith}
 use Rattle.std.specs.Int.{to_le_bytes}
 use Rattle.std.specs.Str.{bytes_eq}
 use Rattle.std.proofs.lemmas.Slice.Eq.{bytes_eq-Decides}
 use Rattle.std.proofs.Math.Seq.{take-append_seam}
 use Rattle.packs.specs.Packs.{framed}
 use Rattle.packs.proofs.FrameLemmas.{frame-cut, frame-split}
-use Rattle.spread.specs.declared.pack_file.Span.{Span}
 use Rattle.sha2.specs.Hashers.{Holds256}
 use Rattle.spread.specs.declared.pack_file.Passage.{Passage}
 use Rattle.spread.specs.Passages.{IsBetween, IsWithin, IsFilled, IsMet, IsLength, IsNext, HasNoBody}

@@ -1,9 +1,6 @@
-use Rattle.std.proofs.Common.{sym, subst}
 use Rattle.cnf.specs.Limits.{limits_of}
 use Rattle.join.specs.Before.{before_left}
 use Rattle.join.specs.Walking.{lines_left}
-use Rattle.join.specs.Numbered.{AreChecked, AreStepsOf}
-use Rattle.cdcl.specs.Plans.{beginning_of}
 use Rattle.runs.proofs.TextLemmas.{decided-checked, result-texts}
 use Rattle.runs.proofs.alone.output_of.Goals as goal
 

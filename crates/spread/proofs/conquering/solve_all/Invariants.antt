@@ -1,4 +1,4 @@
-use Rattle.std.proofs.Common.{◌≡◌, All}
+use Rattle.std.proofs.Common.{All}
 use Rattle.theory.specs.Beginnings.{begun_by}
 use Rattle.cubes.specs.Division.{IsSolverOf}
 use Rattle.gathering.specs.Facts.{IsTrueFact}

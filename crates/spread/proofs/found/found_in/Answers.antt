@@ -1,4 +1,4 @@
-use Rattle.std.proofs.Common.{refl, false, ◌∙◌, List, ℕ}
+use Rattle.std.proofs.Common.{refl, false, ◌∙◌}
 use Rattle.spread.proofs.FoundLemmas.{IsSoFar-none, IsSoFar-more, IsSoFar-end}
 use Rattle.spread.proofs.found.found_in.Goals as goal
 

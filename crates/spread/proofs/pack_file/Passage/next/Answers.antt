@@ -1,5 +1,5 @@
-use Rattle.std.proofs.Common.{◌≡◌, length, subst, sym, Bool, List, ℕ, Option, arith}
-use Rattle.spread.specs.Passages.{IsFilled, IsLength}
+use Rattle.std.proofs.Common.{◌≡◌, length, subst, Bool, arith}
+use Rattle.spread.specs.Passages.{IsFilled}
 use Rattle.spread.proofs.PassageLemmas.{IsNext-read, IsBetween-flag, seam}
 use Rattle.spread.proofs.pack_file.Passage.next.Goals as goal
 
