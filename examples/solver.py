@@ -10,7 +10,7 @@ HERE = os.path.dirname(os.path.realpath(__file__))
 # The module's folder in the repository, and in a package, where these scripts stand in
 # share/doc/cubesat/examples.
 MODULES = [os.path.join(HERE, it) for it in ("../python", "../../../../lib/python3/dist-packages")]
-sys.path[:0] = [it for it in MODULES if os.path.exists(os.path.join(it, "cubesat.py"))][:1]
+sys.path[:0] = [it for it in MODULES if os.path.exists(os.path.join(it, "cubesat"))][:1]
 import cubesat
 
 

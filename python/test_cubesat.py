@@ -1,5 +1,5 @@
 #!/usr/bin/env python3
-"""Tests of the module `cubesat` that stands beside this file, or, where none does, of the one that is installed. What is expected follows from the
+"""Tests of the package `cubesat` that stands beside this file, or, where none does, of the one that is installed. What is expected follows from the
 definitions of truth and of the first model, and from docs/FORMATS.md."""
 import importlib.util
 import itertools
@@ -14,6 +14,7 @@ import unittest
 from unittest import mock
 
 import cubesat
+from cubesat import _programs
 
 
 def pigeons(count):
@@ -24,6 +25,8 @@ def pigeons(count):
     return some + [[-holes * a - hole, -holes * b - hole] for a, b in pairs for hole in range(1, count)]
 
 
+# where the package stands
+FOLDER = os.path.dirname(os.path.dirname(os.path.abspath(cubesat.__file__)))
 PIGEONS = pigeons(3)
 # Its models are those in which 1 differs from 2 and 2 from 3.
 ALTERNATING = [[1, 2], [-1, -2], [2, 3], [-2, -3]]
@@ -350,7 +353,7 @@ class Programs(InFolder):
         on_path = os.path.join(self.folder, "elsewhere")
         for folder in (modules, programs, on_path):
             os.makedirs(folder)
-        module = self.loaded(shutil.copy(cubesat.__file__, modules))
+        module = self.loaded(shutil.copytree(os.path.dirname(cubesat.__file__), os.path.join(modules, "cubesat")))
         with mock.patch.dict(os.environ, CUBESAT="", PATH=on_path):
             with self.assertRaises(module.NoProgram):
                 module.find_program()
@@ -359,10 +362,11 @@ class Programs(InFolder):
             beside = shutil.copy(elsewhere, os.path.join(programs, "cubesat"))
             self.assertEqual(os.path.realpath(module.find_program()), os.path.realpath(beside))
 
-    def loaded(self, path):
-        spec = importlib.util.spec_from_file_location("copied_cubesat", path)
+    def loaded(self, folder):
+        spec = importlib.util.spec_from_file_location("copied_cubesat", os.path.join(folder, "__init__.py"), submodule_search_locations=[folder])
         module = importlib.util.module_from_spec(spec)
-        spec.loader.exec_module(module)
+        with mock.patch.dict(sys.modules, copied_cubesat=module):
+            spec.loader.exec_module(module)
         return module
 
 
@@ -378,7 +382,7 @@ ENDS = [
 ]
 
 
-@unittest.skipUnless(cubesat._bond(os.getpid()), "there is no setpriv")
+@unittest.skipUnless(_programs.bond(os.getpid()), "there is no setpriv")
 class Ends(InFolder):
     def test_program_ends_with_the_process(self):
         """The program writes a line to a pipe, which it holds open until it ends."""
@@ -387,7 +391,7 @@ class Ends(InFolder):
         environment = {**os.environ, "TMPDIR": self.folder, "CUBESAT": program_of(self.folder, f'exec 3> "{pipe}"; echo begun >&3; exec sleep 30')}
         for name, calls, number in ENDS:
             words = [sys.executable, "-Bc", f"import cubesat, os, sys, threading; {calls}"]
-            how = {"cwd": os.path.dirname(os.path.abspath(cubesat.__file__)), "env": environment, "stdin": subprocess.PIPE, "stderr": subprocess.DEVNULL}
+            how = {"cwd": FOLDER, "env": environment, "stdin": subprocess.PIPE, "stderr": subprocess.DEVNULL}
             with self.subTest(name), open(os.open(pipe, os.O_RDONLY | os.O_NONBLOCK), "rb", buffering=0) as program:
                 with subprocess.Popen(words, **how) as process:
                     self.assertEqual(self.said_by(program), b"begun\n")
@@ -401,11 +405,11 @@ class Ends(InFolder):
 
     def test_program_isnt_begun_once_the_process_has_ended(self):
         """So it is for a process of another number, which isn't the one that waits."""
-        words = [*cubesat._bond(os.getpid())[:-1], "0", "echo", "begun"]
+        words = [*_programs.bond(os.getpid())[:-1], "0", "echo", "begun"]
         self.assertEqual(subprocess.run(words, capture_output=True).stdout, b"")
 
     def test_without_setpriv(self):
-        with mock.patch.object(cubesat, "_bond", lambda _: ()):
+        with mock.patch.object(_programs, "bond", lambda _: ()):
             self.assertEqual(cubesat.solve(ALTERNATING), [-1, 2, -3])
 
 

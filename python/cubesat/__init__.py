@@ -1,0 +1,113 @@
+"""Decides propositional formulas by the program `cubesat`.
+
+    import cubesat
+    cubesat.solve([[1, 2], [-1, 3]])     # [-1, 2, -3]: the first model
+    cubesat.solve([[1, 2], [-1], [-2]])  # None: there is none, and the proof of that was checked
+
+    with cubesat.Solver([[1, 2]]) as solver:  # many questions of a formula that grows
+        solver.solve([-1])                    # True, and solver.get_model() is [-1, 2]
+        solver.add_clause([-2])
+        solver.solve([-1])                    # False, and solver.get_core() is [-1]
+
+Variables are numbered from 1, and a literal is a variable or its negative. Needs Python 3.7 or later, and nothing beside it.
+"""
+from __future__ import annotations
+
+import os
+import tempfile
+from collections.abc import Iterable
+
+from ._formulas import dimacs
+from ._programs import StrPath, fault_of, find_program, run
+from ._solver import Solver
+from .errors import BadClauses, Error, Fault, NoProgram, OutOfTime
+
+__all__ = ["BadClauses", "Error", "Fault", "NoProgram", "OutOfTime", "Solver", "dimacs", "find_program", "solve"]
+
+SATISFIABLE = 10
+UNSATISFIABLE = 20
+UNKNOWN = 0
+
+
+def solve(
+    clauses: Iterable[Iterable[int]],
+    *,
+    variables: int | None = None,
+    search: str | None = None,
+    budget: int | None = None,
+    divide: int | None = None,
+    simplify: bool = True,
+    any_model: bool = False,
+    hands: int = 1,
+    seconds: int | None = None,
+    large: bool = False,
+    check: bool = True,
+    proof: StrPath | None = None,
+    program: StrPath | None = None,
+) -> list[int] | None:
+    """A model, or None, where there is none.
+
+    A model has a literal for each variable, in order; that of no variables is an empty list, so compare with None. The answer None is given once
+    `cubesat check` accepted the proof.
+
+    variables: how many there are; without it, up to the greatest that a clause has
+    search:    "automatic", "ordered" or "focused"; without it automatic, or ordered where a budget is
+               given. "ordered" gives the first model in the order of assignments, false before true
+               and the least variable first; "focused" gives one of several, and decides most large
+               formulas sooner. "automatic" makes the ordered search with few conflicts, then the
+               focused one, and lowers the model that this finds to the first one
+    budget:    conflicts of the first cube: for "ordered" 1 to 100,000, without it 1000; for "focused" 1
+               to 1,000,000,000, without it 100,000,000; for "automatic" those of the ordered search.
+               Another budget gives another proof, and by "focused" maybe another model
+    divide:    cubes into which the focused search divides a formula first, if its first conflicts
+               tell that this helps, 0 to 65,536; without it 64, and 0 and 1 divide none. Another
+               number may give another proof and another model. "ordered" takes none
+    simplify:  whether the focused search simplifies a formula that its first 1000 conflicts don't
+               decide, before it goes on; without it another proof and maybe another model. "ordered"
+               never does
+    any_model: whether "automatic" may answer the model that the focused search finds, which spares the
+               time of lowering it
+    hands:     threads, 1 to 16; they change neither the answer nor the proof
+    seconds:   after how many the search is given up, with OutOfTime; without it, never
+    large:     whether the formula may have up to 100,000,000 variables, 1,000,000,000 clauses and
+               8,000,000,000 literals, and not 262,143, 1,000,000 and 8,000,000 alone
+    check:     whether the proof is checked
+    proof:     where to keep the proof, which is empty where there is a model; a run that fails leaves
+               what is there
+    program:   the path of the program; without it, see `find_program`
+
+    Raises BadClauses, NoProgram, OutOfTime, or Fault. Formula and proof are written to a temporary folder (TMPDIR says where), but for a proof that is kept.
+    Where Linux has `setpriv`, the program ends once this process does, however that ends.
+    """
+    text = dimacs(clauses, variables, large=large)
+    path = find_program(program)
+    with tempfile.TemporaryDirectory(prefix="cubesat-") as folder:
+        formula = os.path.join(folder, "formula.cnf")
+        written = os.path.join(folder, "proof.lrat") if proof is None else os.path.abspath(proof)
+        with open(formula, "w") as file:
+            file.write(text)
+        options = ["--hands", str(hands)] + ([] if search is None else ["--search", search])
+        options += [] if budget is None else ["--budget", str(budget)]
+        options += [] if divide is None else ["--divide", str(divide)]
+        options += [] if simplify else ["--simplify", "no"]
+        options += ["--any-model"] if any_model else []
+        options += [] if seconds is None else ["--seconds", str(seconds)]
+        options += ["--large"] if large else []
+        options += ["--proof", written] if check or proof is not None else []
+        ran = run(path, "solve", *options, formula)
+        if ran.returncode == SATISFIABLE:
+            return _model(ran.stdout)
+        if (ran.returncode, ran.stdout) == (UNKNOWN, "s UNKNOWN\n"):
+            raise OutOfTime(f"not decided in {seconds} seconds")
+        if ran.returncode != UNSATISFIABLE:
+            raise fault_of(ran)
+        if check:
+            checked = run(path, "check", *(["--large"] if large else []), formula, written)
+            if (checked.returncode, checked.stdout) != (0, "accepted\n"):
+                raise fault_of(checked)
+    return None
+
+
+def _model(answer: str) -> list[int]:
+    lines = [line[2:].split() for line in answer.splitlines() if line.startswith("v ")]
+    return [int(word) for words in lines for word in words if word != "0"]
