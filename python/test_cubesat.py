@@ -1,6 +1,8 @@
 #!/usr/bin/env python3
 """Tests of the package `cubesat` that stands beside this file, or, where none does, of the one that is installed. What is expected follows from the
 definitions of truth and of the first model, and from docs/FORMATS.md."""
+import contextlib
+import gc
 import importlib.util
 import itertools
 import os
@@ -10,7 +12,10 @@ import signal
 import subprocess
 import sys
 import tempfile
+import threading
+import time
 import unittest
+from concurrent.futures import ThreadPoolExecutor
 from unittest import mock
 
 import cubesat
@@ -329,11 +334,152 @@ class Questions(InFolder):
         solver = cubesat.Solver(pigeons(8))
         solver.delete()
         solver.delete()
-        self.assertIsNotNone(solver._ran.returncode)
-        self.assertRaises(ValueError, solver.solve)
+        self.assertIsNotNone(solver._child.ran.returncode)
+        for call in (solver.solve, lambda: solver.add_clause([1]), lambda: solver.solve_limited(seconds=1)):
+            self.assertRaisesRegex(ValueError, "deleted", call)
+
+    def test_program_ends_with_the_last_use_of_its_solver(self):
+        solver = cubesat.Solver()
+        ran = solver._child.ran
+        del solver
+        gc.collect()
+        self.assertIsNotNone(ran.returncode)
+
+
+class Interrupt(BaseException):
+    """What a handler of signals raises, as that of an interrupt does."""
+
+
+def call_in(seconds, function):
+    """Calls it in so many seconds in the main thread, whatever that does then."""
+    signal.signal(signal.SIGALRM, lambda *_: function())
+    signal.setitimer(signal.ITIMER_REAL, seconds)
+
+
+def raise_interrupt():
+    raise Interrupt
+
+
+@contextlib.contextmanager
+def thread_at_a_question(solver, ask):
+    """A thread that has begun to ask, and ends with the block."""
+    thread = threading.Thread(target=ask)
+    thread.start()
+    while solver._turn.is_free():
+        time.sleep(0.001)
+    yield
+    thread.join()
+
+
+class LeftQuestions(InFolder):
+    def tearDown(self):
+        signal.setitimer(signal.ITIMER_REAL, 0)
+        signal.signal(signal.SIGALRM, signal.SIG_DFL)
+
+    def test_exception_ends_the_solver(self):
+        deaf = program_of(self.folder, "exec sleep 100")
+        for name, clauses, program in (
+            ("while the program searches", pigeons(13), None),
+            ("while clauses are written", itertools.repeat([1], 100_000), deaf),
+            ("before the program says anything", [], deaf),
+        ):
+            with self.subTest(name), cubesat.Solver(clauses, program=program) as solver:
+                call_in(0.3, raise_interrupt)
+                self.assertRaises(Interrupt, solver.solve)
+                self.assertIsNotNone(solver._child.ran.returncode)
+                for call in (solver.solve, solver.solve, lambda: solver.add_clause([1])):
+                    self.assertRaisesRegex(ValueError, "exception left a question", call)
+                self.assertEqual((solver.get_model(), solver.get_core()), (None, None))
+
+    def test_exception_that_comes_before_the_question_changes_nothing(self):
+        with cubesat.Solver(ALTERNATING) as solver:
+            self.assertRaises(Interrupt, solver.solve, (raise_interrupt() for _ in range(1)))
+            self.assertTrue(solver.solve([1]))
+            self.assertEqual(solver.get_model(), [1, -2, 3])
+
+    def test_handler_that_returns_changes_nothing(self):
+        """A program that answers late."""
+        program = program_of(self.folder, "read header; read question; sleep 1; echo s SATISFIABLE; echo v 0; read more")
+        calls = []
+        with cubesat.Solver(program=program) as solver:
+            call_in(0.3, lambda: calls.append(1))
+            self.assertTrue(solver.solve())
+        self.assertEqual(calls, [1])
+
+    def test_handler_that_asks_or_deletes(self):
+        """It runs while the solver is at a question, in the same thread."""
+        for name, call, error, words in (
+            ("it asks", lambda solver: solver.solve, RuntimeError, "at another call"),
+            ("it adds", lambda solver: lambda: solver.add_clause([1]), RuntimeError, "at another call"),
+            ("it deletes", lambda solver: solver.delete, ValueError, "deleted"),
+        ):
+            with self.subTest(name), cubesat.Solver(pigeons(13)) as solver:
+                call_in(0.3, call(solver))
+                self.assertRaisesRegex(error, words, solver.solve)
+
+
+class Threads(InFolder):
+    def test_two_threads_at_once(self):
+        """One is refused while the other is at a question, which ends with the solver."""
+        errors = []
+
+        def ask():
+            try:
+                solver.solve()
+            except ValueError as error:
+                errors.append(str(error))
+
+        with cubesat.Solver(pigeons(13)) as solver, thread_at_a_question(solver, ask):
+            for call in (solver.solve, lambda: solver.add_clause([1]), lambda: solver.append_formula([[1]])):
+                self.assertRaisesRegex(RuntimeError, "make one for each thread", call)
+            solver.delete()
+        self.assertEqual(errors, ["the solver is deleted"])
+
+    def test_answer_is_that_of_the_thread_that_asked(self):
+        """A thread that asked nothing gets the last answer."""
+        with cubesat.Solver(ALTERNATING) as solver, ThreadPoolExecutor(1) as other, ThreadPoolExecutor(1) as third:
+            self.assertTrue(solver.solve([1]))
+            self.assertEqual(other.submit(solver.get_model).result(), [1, -2, 3])
+            self.assertTrue(other.submit(solver.solve, [-1]).result())
+            self.assertEqual(other.submit(solver.get_model).result(), [-1, 2, -3])
+            self.assertEqual(third.submit(solver.get_model).result(), [-1, 2, -3])
+            for call in (solver.get_model, solver.get_core):
+                self.assertRaisesRegex(RuntimeError, "another thread has asked", call)
+            self.assertTrue(solver.solve([1]))
+            self.assertEqual(solver.get_model(), [1, -2, 3])
+
+    def test_solver_outlives_the_thread_that_made_it(self):
+        made = []
+        maker = threading.Thread(target=lambda: made.append(cubesat.Solver(ALTERNATING)))
+        maker.start()
+        maker.join()
+        with made[0] as solver:
+            self.assertTrue(solver.solve([1]))
+            self.assertEqual(solver.get_model(), [1, -2, 3])
+
+    def test_fork_has_no_part_in_the_solver(self):
+        """It is refused, and its end leaves the program as it is."""
+        with cubesat.Solver(ALTERNATING) as solver:
+            child = os.fork()
+            if not child:
+                with contextlib.suppress(RuntimeError):
+                    solver.solve()
+                    os._exit(1)
+                solver.delete()
+                os._exit(0)
+            self.assertEqual(os.waitpid(child, 0)[1], 0)
+            self.assertTrue(solver.solve([1]))
+            self.assertEqual(solver.get_model(), [1, -2, 3])
 
 
 class Programs(InFolder):
+    def test_program_that_the_system_cant_run(self):
+        program = program_of(self.folder, "")
+        with open(program, "w") as file:
+            file.write("no program")
+        for call in (lambda: cubesat.solve([], program=program), lambda: cubesat.Solver(program=program)):
+            self.assertRaisesRegex(cubesat.NoProgram, "can't be run", call)
+
     def test_missing_program(self):
         absent = os.path.join(self.folder, "absent")
         with self.assertRaises(cubesat.NoProgram):
@@ -371,45 +517,56 @@ class Programs(InFolder):
 
 
 # Ends of a process that waits for the program, alone or in a thread: what it calls, and the signal that it gets, or else the end of its input.
-IN_THREAD = "threading.Thread(target=cubesat.solve, args=([],), daemon={}).start(); "
+IN_THREAD = "threading.Thread(target={}, daemon={}).start(); "
+IMPORTS = "import cubesat, os, sys, threading; from concurrent.futures import ThreadPoolExecutor"
+SOLVE, ASK = "lambda: cubesat.solve([])", "lambda: cubesat.Solver().solve()"
 ENDS = [
-    ("killed", "cubesat.solve([])", signal.SIGKILL),
-    ("told to end", "cubesat.solve([])", signal.SIGTERM),
-    ("interrupted", "cubesat.solve([])", signal.SIGINT),
-    ("killed with a thread", IN_THREAD.format(False) + "sys.stdin.read()", signal.SIGKILL),
-    ("its main thread ended", IN_THREAD.format(True) + "sys.stdin.read()", None),
-    ("ended at once", IN_THREAD.format(False) + "sys.stdin.read(); os._exit(0)", None),
+    ("killed", f"({SOLVE})()", signal.SIGKILL),
+    ("told to end", f"({SOLVE})()", signal.SIGTERM),
+    ("interrupted", f"({SOLVE})()", signal.SIGINT),
+    ("killed with a thread", IN_THREAD.format(SOLVE, False) + "sys.stdin.read()", signal.SIGKILL),
+    ("its main thread ended", IN_THREAD.format(SOLVE, True) + "sys.stdin.read()", None),
+    ("ended at once", IN_THREAD.format(SOLVE, False) + "sys.stdin.read(); os._exit(0)", None),
+    ("killed at a question", f"({ASK})()", signal.SIGKILL),
+    ("interrupted at a question", f"({ASK})()", signal.SIGINT),
+    ("ended at the question of a thread", IN_THREAD.format(ASK, True) + "sys.stdin.read()", None),
+    ("killed behind the thread that made the solver", "ThreadPoolExecutor().submit(cubesat.Solver).result().solve()", signal.SIGKILL),
+    ("killed, with a fork that lives on", "solver = cubesat.Solver(); os.fork() or sys.stdin.read(); solver.solve()", signal.SIGKILL),
 ]
 
 
-@unittest.skipUnless(_programs.bond(os.getpid()), "there is no setpriv")
 class Ends(InFolder):
     def test_program_ends_with_the_process(self):
-        """The program writes a line to a pipe, which it holds open until it ends."""
+        """The program reads, as the true one does first, and writes a line to a pipe, which it holds open until it ends."""
         pipe = os.path.join(self.folder, "pipe")
         os.mkfifo(pipe)
-        environment = {**os.environ, "TMPDIR": self.folder, "CUBESAT": program_of(self.folder, f'exec 3> "{pipe}"; echo begun >&3; exec sleep 30')}
+        environment = {**os.environ, "TMPDIR": self.folder, "CUBESAT": program_of(self.folder, f'read line; exec 3> "{pipe}"; echo begun >&3; exec sleep 30')}
         for name, calls, number in ENDS:
-            words = [sys.executable, "-Bc", f"import cubesat, os, sys, threading; {calls}"]
+            words = [sys.executable, "-Bc", f"{IMPORTS}; {calls}"]
             how = {"cwd": FOLDER, "env": environment, "stdin": subprocess.PIPE, "stderr": subprocess.DEVNULL}
             with self.subTest(name), open(os.open(pipe, os.O_RDONLY | os.O_NONBLOCK), "rb", buffering=0) as program:
                 with subprocess.Popen(words, **how) as process:
                     self.assertEqual(self.said_by(program), b"begun\n")
                     if number:
                         process.send_signal(number)
-                self.assertEqual(self.said_by(program), b"")
+                    else:
+                        process.stdin.close()
+                    process.wait()
+                    self.assertEqual(self.said_by(program), b"")
 
     def said_by(self, program):
         self.assertTrue(select.select([program], [], [], 10)[0], "it says nothing, and hasn't ended")
         return program.read(100)
 
-    def test_program_isnt_begun_once_the_process_has_ended(self):
-        """So it is for a process of another number, which isn't the one that waits."""
-        words = [*_programs.bond(os.getpid())[:-1], "0", "echo", "begun"]
-        self.assertEqual(subprocess.run(words, capture_output=True).stdout, b"")
+    def test_program_begins_nothing_where_the_process_has_ended_before(self):
+        """It gets a part of the text then, or nothing."""
+        for text in ("", "p cnf 1 1\n", "p cnf 1 1\n1"):
+            for command in (["solve", "-"], ["check", "-", os.devnull]):
+                with self.subTest(text, command=command):
+                    self.assertEqual(_programs.run(cubesat.find_program(), *command, text=text).returncode, 1)
 
-    def test_without_setpriv(self):
-        with mock.patch.object(_programs, "bond", lambda _: ()):
+    def test_system_that_sends_no_signal(self):
+        with mock.patch.object(_programs.fcntl, "F_SETOWN", -1):
             self.assertEqual(cubesat.solve(ALTERNATING), [-1, 2, -3])
 
 

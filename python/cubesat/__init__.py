@@ -76,16 +76,13 @@ def solve(
                what is there
     program:   the path of the program; without it, see `find_program`
 
-    Raises BadClauses, NoProgram, OutOfTime, or Fault. Formula and proof are written to a temporary folder (TMPDIR says where), but for a proof that is kept.
-    Where Linux has `setpriv`, the program ends once this process does, however that ends.
+    Raises BadClauses, NoProgram, OutOfTime, or Fault. A proof that isn't kept is written to a temporary folder (TMPDIR says where). The program ends once this
+    process does, however that ends.
     """
     text = dimacs(clauses, variables, large=large)
     path = find_program(program)
     with tempfile.TemporaryDirectory(prefix="cubesat-") as folder:
-        formula = os.path.join(folder, "formula.cnf")
         written = os.path.join(folder, "proof.lrat") if proof is None else os.path.abspath(proof)
-        with open(formula, "w") as file:
-            file.write(text)
         options = ["--hands", str(hands)] + ([] if search is None else ["--search", search])
         options += [] if budget is None else ["--budget", str(budget)]
         options += [] if divide is None else ["--divide", str(divide)]
@@ -94,7 +91,7 @@ def solve(
         options += [] if seconds is None else ["--seconds", str(seconds)]
         options += ["--large"] if large else []
         options += ["--proof", written] if check or proof is not None else []
-        ran = run(path, "solve", *options, formula)
+        ran = run(path, "solve", *options, "-", text=text)
         if ran.returncode == SATISFIABLE:
             return _model(ran.stdout)
         if (ran.returncode, ran.stdout) == (UNKNOWN, "s UNKNOWN\n"):
@@ -102,7 +99,7 @@ def solve(
         if ran.returncode != UNSATISFIABLE:
             raise fault_of(ran)
         if check:
-            checked = run(path, "check", *(["--large"] if large else []), formula, written)
+            checked = run(path, "check", *(["--large"] if large else []), "-", written, text=text)
             if (checked.returncode, checked.stdout) != (0, "accepted\n"):
                 raise fault_of(checked)
     return None

@@ -1,12 +1,15 @@
 """The program: where it is, how it is run, and what it said where it failed."""
 from __future__ import annotations
 
-import functools
+import contextlib
+import fcntl
 import os
 import shutil
+import signal
 import subprocess
+import weakref
 from pathlib import Path
-from typing import Union
+from typing import IO, Union
 
 from .errors import Fault, NoProgram
 
@@ -21,10 +24,11 @@ def find_program(given: StrPath | None = None) -> str:
     """
     named = given or os.environ.get("CUBESAT")
     wanted = [os.fspath(named)] if named else [_beside(), "cubesat"]
-    found = next(filter(None, map(shutil.which, wanted)), None)
-    if found is None:
-        raise NoProgram(f"no program at {wanted[0]}" + ("" if named else ", nor on the PATH; CUBESAT may name one"))
-    return found
+    for it in wanted:
+        found = shutil.which(it)
+        if found is not None:
+            return found
+    raise NoProgram(f"no program at {wanted[0]}" + ("" if named else ", nor on the PATH; CUBESAT may name one"))
 
 
 def _beside() -> str:
@@ -34,22 +38,100 @@ def _beside() -> str:
     return os.path.normpath(prefix / "bin" / "cubesat")
 
 
-def run(*words: str) -> subprocess.CompletedProcess[str]:
-    return subprocess.run((*bond(os.getpid()), *words), stdin=subprocess.DEVNULL, capture_output=True, text=True, errors="replace")
+class Child:
+    """The program at work. `close` kills it, as does the end of a block or the last use of this object; so does the end of this process, however it ends.
 
-
-@functools.lru_cache(maxsize=1)
-def bond(process: int) -> tuple[str, ...]:
-    """The words before a command that is to end once this process does, however that ends; none where there is no `setpriv`, of util-linux, that can do it.
-
-    It asks Linux to kill it once the thread that began it is gone, and becomes a shell; that ends if the process is gone already, else it becomes the
-    command. The child could ask in a function that Python calls before the command (`preexec_fn`), but that may hang where there are other threads.
+    The program holds an end of a pipe, and this process the other one: where a process ends the system closes what it holds, and of that it sends the
+    program a signal. No thread has a part in this. A fork of this process lets go of its copy, since the program isn't its own.
     """
-    path = shutil.which("setpriv") or shutil.which("setpriv", path=os.defpath)
-    if path is None:
-        return ()
-    words = (path, "--pdeathsig", "KILL", "/bin/sh", "-c", '[ "$PPID" = "$0" ] && exec "$@"', str(process))
-    return words if subprocess.run([*words, "/bin/sh", "-c", ":"], capture_output=True).returncode == 0 else ()
+
+    def __init__(self, *words: str, stderr: IO[bytes] | int):
+        theirs, ours = _pipe()
+        try:
+            self.ran = subprocess.Popen(words, stdin=subprocess.PIPE, stdout=subprocess.PIPE, stderr=stderr, bufsize=0, pass_fds=[theirs])
+            _signal_end(theirs, self.ran.pid)
+        except BaseException as error:
+            _let_go(ours)
+            if isinstance(error, OSError):
+                raise NoProgram(f"{words[0]} can't be run: {error.strerror}") from None
+            raise
+        finally:
+            os.close(theirs)
+        assert self.ran.stdin and self.ran.stdout
+        self.input, self.output = self.ran.stdin, self.ran.stdout
+        self._process = os.getpid()
+        self.close = weakref.finalize(self, _close, self.ran, ours, self._process)
+
+    def __enter__(self) -> Child:
+        return self
+
+    def __exit__(self, *_: object) -> None:
+        self.close()
+
+    def kill(self) -> None:
+        if self._process == os.getpid():
+            self.ran.kill()
+
+    def status(self) -> int:
+        """The program's status, once it has ended; if it doesn't end with its input, it is killed after ten seconds."""
+        self.input.close()
+        try:
+            return self.ran.wait(10)
+        except subprocess.TimeoutExpired:
+            self.kill()
+            return self.ran.wait()
+
+
+# Our ends of the pipes of all children.
+_HELD: set[int] = set()
+
+
+def _pipe() -> tuple[int, int]:
+    """A pipe's ends, the child's above those that a script may use for itself."""
+    low, ours = os.pipe()
+    _HELD.add(ours)
+    try:
+        return fcntl.fcntl(low, fcntl.F_DUPFD_CLOEXEC, 10), ours
+    finally:
+        os.close(low)
+
+
+def _close(ran: subprocess.Popen[bytes], ours: int, process: int) -> None:
+    if process == os.getpid():
+        ran.kill()
+        ran.wait()
+    for file in filter(None, (ran.stdin, ran.stdout, ran.stderr)):
+        file.close()
+    _let_go(ours)
+
+
+def _let_go(end: int) -> None:
+    with contextlib.suppress(KeyError):
+        _HELD.remove(end)
+        os.close(end)
+
+
+def _let_all_go() -> None:
+    for end in [*_HELD]:
+        _let_go(end)
+
+
+os.register_at_fork(after_in_child=_let_all_go)
+
+
+def _signal_end(pipe: int, process: int) -> None:
+    """Has the process killed when the other end of the pipe is closed, if the system can do that."""
+    with contextlib.suppress(OSError):
+        fcntl.fcntl(pipe, fcntl.F_SETOWN, process)
+        fcntl.fcntl(pipe, fcntl.F_SETSIG, signal.SIGKILL)
+        fcntl.fcntl(pipe, fcntl.F_SETFL, os.O_ASYNC)
+
+
+def run(*words: str, text: str) -> subprocess.CompletedProcess[str]:
+    """Runs the program to its end on a text, which it gets once it can't outlive this process: without the text it begins nothing."""
+    with Child(*words, stderr=subprocess.PIPE) as child:
+        answer, faults = child.ran.communicate(text.encode())
+        return subprocess.CompletedProcess(words, child.ran.returncode, answer.decode(errors="replace"), faults.decode(errors="replace"))
 
 
 def fault_of(ran: subprocess.CompletedProcess[str]) -> Fault:

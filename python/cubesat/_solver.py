@@ -1,35 +1,45 @@
 """Questions of a formula that grows."""
 from __future__ import annotations
 
-import contextlib
 import math
 import os
 import subprocess
 import tempfile
+import threading
 from collections.abc import Iterable, Iterator
 
-from ._formulas import LARGE_VARIABLES, literals_of
-from ._programs import StrPath, bond, fault_of, find_program
-from .errors import BadClauses, Fault, OutOfTime
+from ._formulas import LARGE_VARIABLES, greatest_variable, line_of, literals_of
+from ._programs import Child, StrPath, fault_of, find_program
+from .errors import Fault, OutOfTime
+
+# How an answer ends, and the word before the numbers of each line behind its first.
+ENDS = (b" 0\n", b"s UNKNOWN\n")
+NUMBERS_BEHIND = {b"s SATISFIABLE": b"v ", b"s UNSATISFIABLE": b"c core ", b"s UNKNOWN": b""}
+PIECE = 1 << 16
 
 
 class Solver:
     """A formula that grows, and questions of it under assumptions. One program answers them all, so what a question has taught stays for the next ones.
 
-    The names are those of PySAT. Which model an answer is isn't fixed, a core is no smallest one, and no proof is written. Behind a Fault each question
-    raises it again. Delete the solver, or use it in a `with` statement: the program ends then.
+    The names are those of PySAT. Which model an answer is isn't fixed, a core is no smallest one, and no proof is written. Behind a Fault each call raises
+    it again. An exception that leaves a question before its answer, as an interrupt does, ends the program, and each later call raises ValueError: make
+    another solver then. Threads and processes have a solver each: one that uses a solver while another is at it gets a RuntimeError. Delete the solver, or
+    use it in a `with` statement: the program ends then, or else with this process.
     """
 
     def __init__(self, bootstrap_with: Iterable[Iterable[int]] = (), *, program: StrPath | None = None):
         """A solver of these clauses. program: the path of the program; without it, see `find_program`."""
+        self._turn = Turn()
         self._model: list[int] | None = None
         self._core: list[int] | None = None
         self._vars = self._clauses = 0
         self._waiting = ["p inccnf"]
-        self._said = tempfile.TemporaryFile("w+", errors="replace")
+        self._fault: Fault | None = None
+        self._is_deleted = self._is_at_question = False
+        path = find_program(program)
+        self._said = tempfile.TemporaryFile()
         try:
-            words = (*bond(os.getpid()), find_program(program), "session")
-            self._ran = subprocess.Popen(words, stdin=subprocess.PIPE, stdout=subprocess.PIPE, stderr=self._said, text=True, errors="replace")
+            self._child = Child(path, "session", stderr=self._said)
         except BaseException:
             self._said.close()
             raise
@@ -47,8 +57,11 @@ class Solver:
 
     def add_clause(self, clause: Iterable[int]) -> None:
         """Adds a clause, or raises BadClauses, which is a ValueError."""
-        self._waiting.append(self._line(clause, f"clause {self._clauses + 1}"))
-        self._clauses += 1
+        literals = literals_of(clause, f"clause {self._clauses + 1}", LARGE_VARIABLES)
+        with self._turn:
+            self._require_program()
+            self._waiting.append(self._line(literals))
+            self._clauses += 1
 
     def append_formula(self, clauses: Iterable[Iterable[int]]) -> None:
         """Adds clauses, or raises BadClauses; those before the bad one are added then."""
@@ -68,10 +81,12 @@ class Solver:
 
     def get_model(self) -> list[int] | None:
         """The model that the last question found, if it found one: a literal for each variable of the clauses and assumptions so far, in order."""
+        self._turn.require_own_question()
         return None if self._model is None else [*self._model]
 
     def get_core(self) -> list[int] | None:
         """Some assumptions of the last question, with which the clauses have no model, if it found that there is none."""
+        self._turn.require_own_question()
         return None if self._core is None else [*self._core]
 
     def enum_models(self, assumptions: Iterable[int] = (), *, limit: int | None = None) -> Iterator[list[int]]:
@@ -79,7 +94,7 @@ class Solver:
         held = [*assumptions]
         found = 0
         while (limit is None or found < limit) and self.solve(held):
-            model = self.get_model()
+            model = self.get_model() or []
             self.add_clause([-literal for literal in model])
             found += 1
             yield model
@@ -93,70 +108,113 @@ class Solver:
         return self._clauses
 
     def delete(self) -> None:
-        """Ends the program. A question raises ValueError from then on; to delete the solver again changes nothing."""
-        with contextlib.suppress(OSError):
-            self._ran.stdin.close()
-        self._ran.kill()
-        self._ran.wait()
-        self._ran.stdout.close()
+        """Ends the program, also where another thread is at a question, which raises ValueError, as a question or a clause does from then on. To delete the
+        solver again changes nothing."""
+        self._is_deleted = True
+        self._child.kill()
+        if self._turn.is_free():
+            self._close()
+
+    def _close(self) -> None:
+        self._child.close()
         self._said.close()
 
-    def _line(self, literals: Iterable[int], name: str) -> str:
+    def _require_program(self) -> None:
+        if self._is_deleted:
+            raise ValueError("the solver is deleted")
+        if self._fault is not None:
+            raise self._fault.with_traceback(None)
+        if self._is_at_question:
+            raise ValueError("the solver has ended, since an exception left a question before its answer: make another one")
+
+    def _line(self, literals: list[int]) -> str:
         """The literals as a line of a session."""
-        checked = literals_of(literals, name)
-        greatest = max(map(abs, checked), default=0)
-        if greatest > LARGE_VARIABLES:
-            raise BadClauses(f"{name}: a variable over {LARGE_VARIABLES:,}, the greatest that there may be")
-        self._vars = max(self._vars, greatest)
-        return " ".join(map(str, (*checked, 0)))
+        self._vars = max(self._vars, greatest_variable(literals))
+        return line_of(literals)
 
     def _ask(self, assumptions: Iterable[int], seconds: float | None) -> bool | None:
         limit = "" if seconds is None or seconds == math.inf else f"t {max(math.ceil(seconds), 1)}\n"
-        question = f"{limit}a {self._line(assumptions, 'assumptions')}"
-        self._model = self._core = None
-        self._write(question)
-        answer = self._ran.stdout.readline()
-        if answer == "s SATISFIABLE\n":
-            self._model = self._numbers("v")
-            return True
-        if answer == "s UNSATISFIABLE\n":
-            self._core = self._numbers("c core")
-            return False
-        if answer == "s UNKNOWN\n":
-            return None
-        raise self._failed()
+        literals = literals_of(assumptions, "assumptions", LARGE_VARIABLES)
+        with self._turn:
+            self._require_program()
+            self._turn.begin_question()
+            self._model = self._core = None
+            self._is_at_question = True
+            try:
+                self._write(f"{limit}a {self._line(literals)}")
+                status, numbers = self._read()
+            except BaseException:
+                self._close()
+                raise
+            self._is_at_question = False
+            if status == b"s SATISFIABLE":
+                self._model = numbers
+            elif status == b"s UNSATISFIABLE":
+                self._core = numbers
+            else:
+                return None
+            return self._model is not None
 
     def _write(self, question: str) -> None:
         """Writes what waits, the question last. The program reads all of it before it answers."""
-        if self._said.closed:
-            raise ValueError("the solver is deleted")
-        if self._ran.stdin.closed:
-            raise self._failed()
+        rest = memoryview("\n".join([*self._waiting, question, ""]).encode())
+        self._waiting = []
         try:
-            self._ran.stdin.write("\n".join([*self._waiting, question, ""]))
-            self._ran.stdin.flush()
+            while rest:
+                rest = rest[self._child.input.write(rest) :]
         except OSError:
             raise self._failed() from None
-        self._waiting = []
 
-    def _numbers(self, begin: str) -> list[int]:
-        """The numbers of lines that begin so, up to a 0."""
-        numbers: list[int] = []
-        while not numbers or numbers[-1] != 0:
-            line = self._ran.stdout.readline()
-            if not line.startswith(f"{begin} "):
+    def _read(self) -> tuple[bytes, list[int]]:
+        """The first line of an answer, and the numbers behind it, without the 0 at their end."""
+        answer = bytearray()
+        while not answer.endswith(ENDS):
+            piece = self._child.output.read(PIECE)
+            answer += piece
+            if not piece or not b"s ".startswith(answer[:2]):
                 raise self._failed()
-            numbers += map(int, line[len(begin) :].split())
-        return numbers[:-1]
+        status, _, lines = bytes(answer).partition(b"\n")
+        begin = NUMBERS_BEHIND.get(status)
+        if begin is None or not all(line.startswith(begin) for line in lines.splitlines()):
+            raise self._failed()
+        return status, [*map(int, lines.replace(begin, b" ").split())][:-1] if lines else []
 
-    def _failed(self) -> Fault:
+    def _failed(self) -> Exception:
         """Why the program ended before it had answered; where it is still there, it ends with its input."""
-        with contextlib.suppress(OSError):
-            self._ran.stdin.close()
-        try:
-            self._ran.wait(10)
-        except subprocess.TimeoutExpired:
-            self._ran.kill()
-            self._ran.wait()
+        if self._is_deleted:
+            return ValueError("the solver is deleted")
+        status = self._child.status()
         self._said.seek(0)
-        return fault_of(subprocess.CompletedProcess((), self._ran.returncode, "", self._said.read()))
+        self._fault = fault_of(subprocess.CompletedProcess((), status, "", self._said.read().decode(errors="replace")))
+        return self._fault
+
+
+class Turn:
+    """Lets one call at a time use a solver, in the process that made it, and knows which thread asked last."""
+
+    def __init__(self) -> None:
+        self._process = os.getpid()
+        self._lock = threading.Lock()
+        self._asked = 0
+        self._of_thread = threading.local()
+
+    def __enter__(self) -> None:
+        if self._process != os.getpid():
+            raise RuntimeError("the solver is another process's: make one for each process")
+        if not self._lock.acquire(blocking=False):
+            raise RuntimeError("the solver is at another call: make one for each thread")
+
+    def __exit__(self, *_: object) -> None:
+        self._lock.release()
+
+    def is_free(self) -> bool:
+        return not self._lock.locked()
+
+    def begin_question(self) -> None:
+        self._asked += 1
+        self._of_thread.asked = self._asked
+
+    def require_own_question(self) -> None:
+        """Refuses the answer to another thread's question to one whose own was before it."""
+        if getattr(self._of_thread, "asked", self._asked) != self._asked:
+            raise RuntimeError("another thread has asked the solver since: make one for each thread")
