@@ -43,10 +43,11 @@ def arguments(text):
 
 @functools.cache
 def program():
-    """The program, which is built here where it wasn't: the module would keep what that prints to itself."""
-    found = cubesat.find_program()
-    subprocess.run([found, "--version"], check=True, stdout=subprocess.DEVNULL)
-    return found
+    """The program, which is built here where a clone has none: the module never does that."""
+    building = os.path.join(HERE, "../bin/cubesat")
+    if os.path.exists(building) and not os.environ.get("CUBESAT"):
+        subprocess.run([building, "--version"], check=True, stdout=subprocess.DEVNULL)
+    return cubesat.find_program()
 
 
 def solve(formula, *, search="automatic", refuted=None):

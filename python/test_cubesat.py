@@ -30,8 +30,9 @@ def pigeons(count):
     return some + [[-holes * a - hole, -holes * b - hole] for a, b in pairs for hole in range(1, count)]
 
 
-# where the package stands
+# where the package stands, and in a clone what builds the program
 FOLDER = os.path.dirname(os.path.dirname(os.path.abspath(cubesat.__file__)))
+BIN_CUBESAT = os.path.join(FOLDER, "../bin/cubesat")
 PIGEONS = pigeons(3)
 # Its models are those in which 1 differs from 2 and 2 from 3.
 ALTERNATING = [[1, 2], [-1, -2], [2, 3], [-2, -3]]
@@ -507,6 +508,22 @@ class Programs(InFolder):
             self.assertEqual(module.find_program(), elsewhere)
             beside = shutil.copy(elsewhere, os.path.join(programs, "cubesat"))
             self.assertEqual(os.path.realpath(module.find_program()), os.path.realpath(beside))
+
+    @unittest.skipUnless(os.path.exists(BIN_CUBESAT), "it isn't the module of a clone")
+    def test_clone_is_never_built(self):
+        """The program is there or isn't, and a source is as it was or newer."""
+        package = shutil.copytree(os.path.dirname(cubesat.__file__), os.path.join(self.folder, "python/cubesat"))
+        for folder in ("bin", "crates/cubesat_program/src", "crates/cubesat_program/out"):
+            os.makedirs(os.path.join(self.folder, folder))
+        shutil.copy(BIN_CUBESAT, os.path.join(self.folder, "bin"))
+        program = os.path.join(self.folder, "crates/cubesat_program/out/cubesat_program")
+        for change in ("crates.txt", "crates/cubesat_program/src/main.rt"):
+            with open(os.path.join(self.folder, change), "w"), mock.patch.dict(os.environ, CUBESAT=""):
+                module = self.loaded(package)
+                for call in (module.find_program, lambda: module.solve([]), module.Solver):
+                    self.assertRaisesRegex(module.NoProgram, f"builds it: {self.folder}/bin/cubesat --version$", call)
+                os.replace(program_of(self.folder, "[ $1 = --version ] && exit; echo s SATISFIABLE; echo v 0; exit 10"), program)
+                self.assertEqual((module.solve([]), module.find_program()), ([], program))
 
     def loaded(self, folder):
         spec = importlib.util.spec_from_file_location("copied_cubesat", os.path.join(folder, "__init__.py"), submodule_search_locations=[folder])

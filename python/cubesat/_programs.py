@@ -3,6 +3,7 @@ from __future__ import annotations
 
 import contextlib
 import fcntl
+import functools
 import os
 import shutil
 import signal
@@ -20,10 +21,15 @@ def find_program(given: StrPath | None = None) -> str:
     """The path of the program, or NoProgram.
 
     It is the one that is given, else the environment's CUBESAT, else the one that was installed with this module, else the one on the PATH. A name
-    without a slash is looked for on the PATH.
+    without a slash is looked for on the PATH. In a clone it is the one that was built there; NoProgram says how, where it wasn't, or the sources have
+    changed since.
     """
     named = given or os.environ.get("CUBESAT")
-    wanted = [os.fspath(named)] if named else [_beside(), "cubesat"]
+    folder = Path(__file__).resolve().parent.parent
+    if not named and (folder.parent / "crates.txt").exists():
+        return _built_in(str(folder.parent))
+    prefix = folder / "../../.." if folder.name.endswith("-packages") else folder
+    wanted = [os.fspath(named)] if named else [os.path.normpath(prefix / "bin/cubesat"), "cubesat"]
     for it in wanted:
         found = shutil.which(it)
         if found is not None:
@@ -31,11 +37,14 @@ def find_program(given: StrPath | None = None) -> str:
     raise NoProgram(f"no program at {wanted[0]}" + ("" if named else ", nor on the PATH; CUBESAT may name one"))
 
 
-def _beside() -> str:
-    """Where the program stands: in PREFIX/bin for PREFIX/lib/python3/dist-packages, and in the repository in bin beside the folder of this package."""
-    folder = Path(__file__).resolve().parent.parent
-    prefix = folder / "../../.." if folder.name.endswith("-packages") else folder / ".."
-    return os.path.normpath(prefix / "bin" / "cubesat")
+@functools.lru_cache(maxsize=None)
+def _built_in(clone: str) -> str:
+    """Its `bin/cubesat` knows whether the program is as the sources are, and would build it, which takes long and which nobody would see."""
+    words, environment = [f"{clone}/bin/cubesat", "--version"], {**os.environ, "CUBESAT_BUILD": "no"}
+    asked = subprocess.run(words, env=environment, stdin=subprocess.DEVNULL, stdout=subprocess.PIPE, stderr=subprocess.PIPE, text=True, errors="replace")
+    if asked.returncode:
+        raise NoProgram(asked.stderr.strip())
+    return f"{clone}/crates/cubesat_program/out/cubesat_program"
 
 
 class Child:
