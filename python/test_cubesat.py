@@ -16,6 +16,7 @@ import threading
 import time
 import unittest
 from concurrent.futures import ThreadPoolExecutor
+from fractions import Fraction
 from unittest import mock
 
 import cubesat
@@ -204,13 +205,25 @@ class Refusals(InFolder):
             with open(proof) as file:
                 self.assertEqual(file.read(), "old\n")
 
-    def test_options_out_of_range_are_a_fault(self):
+    def test_options_out_of_range(self):
         bad = [{"seconds": 0}, {"hands": 0}, {"hands": 17}, {"budget": 0}, {"budget": 100_001}, {"search": "x"}]
         bad += [{"divide": 65_537}, {"search": "focused", "divide": -1}, {"search": "ordered", "divide": 2}, {"budget": 1, "divide": 2}]
-        bad += [{"search": "automatic", "budget": 100_001}]
+        bad += [{"search": "automatic", "budget": 100_001}, {"search": "focused", "budget": 1_000_000_001}, {"hands": 10**5000}]
+        bad += [{"seconds": -1}, {"seconds": float("nan")}, {"search": "ordered", "simplify": False}, {"search": 1}]
         for options in bad:
-            with self.subTest(options), self.assertRaises(cubesat.Fault):
+            with self.subTest(options), self.assertRaisesRegex(ValueError, f"^({'|'.join(options)}): "):
                 cubesat.solve(ALTERNATING, **options)
+
+    def test_options_of_another_kind(self):
+        for options in ({"hands": 1.0}, {"hands": "1"}, {"hands": True}, {"hands": None}, {"search": "focused", "budget": 2.5}, {"divide": [1]}, {"seconds": "1"}):
+            with self.subTest(options), self.assertRaises(TypeError):
+                cubesat.solve(ALTERNATING, **options)
+
+    def test_options_of_other_kinds_that_are_numbers(self):
+        for options in ({"hands": Whole(2)}, {"seconds": 0.5}, {"seconds": float("inf")}, {"seconds": Fraction(5, 2)}, {"budget": Whole(5)}, {"divide": Whole(2)}):
+            with self.subTest(options):
+                self.assertEqual(cubesat.solve(ALTERNATING, **options), [-1, 2, -3])
+        self.assertEqual(cubesat.solve([], variables=Whole(2)), [-1, -2])
 
     def test_wrong_proof_gives_no_answer(self):
         """The program is one that empties the proof that the true one wrote, so that no step adds the empty clause."""
@@ -249,6 +262,7 @@ BAD_CALLS = [
     ("an assumption that is none", lambda solver: solver.solve([0])),
     ("a text", lambda solver: solver.solve("1")),
     ("no number of seconds", lambda solver: solver.solve_limited(seconds=float("nan"))),
+    ("no seconds", lambda solver: solver.solve_limited(seconds=0)),
 ]
 
 

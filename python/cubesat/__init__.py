@@ -16,11 +16,16 @@ from __future__ import annotations
 import os
 import tempfile
 from collections.abc import Iterable
+from typing import TYPE_CHECKING
 
 from ._formulas import dimacs
+from ._options import number_within, search_options, whole_seconds
 from ._programs import StrPath, fault_of, find_program, run
 from ._solver import Solver
 from .errors import BadClauses, Error, Fault, NoProgram, OutOfTime
+
+if TYPE_CHECKING:
+    from typing import SupportsIndex
 
 __all__ = ["BadClauses", "Error", "Fault", "NoProgram", "OutOfTime", "Solver", "dimacs", "find_program", "solve"]
 
@@ -30,16 +35,16 @@ UNKNOWN = 0
 
 
 def solve(
-    clauses: Iterable[Iterable[int]],
+    clauses: Iterable[Iterable[SupportsIndex]],
     *,
-    variables: int | None = None,
+    variables: SupportsIndex | None = None,
     search: str | None = None,
-    budget: int | None = None,
-    divide: int | None = None,
+    budget: SupportsIndex | None = None,
+    divide: SupportsIndex | None = None,
     simplify: bool = True,
     any_model: bool = False,
-    hands: int = 1,
-    seconds: int | None = None,
+    hands: SupportsIndex = 1,
+    seconds: float | None = None,
     large: bool = False,
     check: bool = True,
     proof: StrPath | None = None,
@@ -68,7 +73,8 @@ def solve(
     any_model: whether "automatic" may answer the model that the focused search finds, which spares the
                time of lowering it
     hands:     threads, 1 to 16; they change neither the answer nor the proof
-    seconds:   after how many the search is given up, with OutOfTime; without it, never
+    seconds:   after how many the search is given up, with OutOfTime, rounded up to whole ones; without
+               it, never
     large:     whether the formula may have up to 100,000,000 variables, 1,000,000,000 clauses and
                8,000,000,000 literals, and not 262,143, 1,000,000 and 8,000,000 alone
     check:     whether the proof is checked
@@ -76,22 +82,20 @@ def solve(
                what is there
     program:   the path of the program; without it, see `find_program`
 
-    Raises BadClauses, NoProgram, OutOfTime, or Fault. A proof that isn't kept is written to a temporary folder (TMPDIR says where). The program ends once this
-    process does, however that ends.
+    Raises BadClauses, NoProgram, OutOfTime or Fault, and ValueError or TypeError of what no argument may be. A proof that isn't kept is written to a temporary
+    folder (TMPDIR says where). The program ends once this process does, however that ends.
     """
+    options = [*search_options(search, budget, divide, simplify), "--hands", str(number_within("hands", hands, 1, 16))]
+    limit = whole_seconds(seconds)
+    options += [] if limit is None else ["--seconds", str(limit)]
+    options += ["--any-model"] if any_model else []
+    options += ["--large"] if large else []
     text = dimacs(clauses, variables, large=large)
     path = find_program(program)
     with tempfile.TemporaryDirectory(prefix="cubesat-") as folder:
         written = os.path.join(folder, "proof.lrat") if proof is None else os.path.abspath(proof)
-        options = ["--hands", str(hands)] + ([] if search is None else ["--search", search])
-        options += [] if budget is None else ["--budget", str(budget)]
-        options += [] if divide is None else ["--divide", str(divide)]
-        options += [] if simplify else ["--simplify", "no"]
-        options += ["--any-model"] if any_model else []
-        options += [] if seconds is None else ["--seconds", str(seconds)]
-        options += ["--large"] if large else []
-        options += ["--proof", written] if check or proof is not None else []
-        ran = run(path, "solve", *options, "-", text=text)
+        kept = ["--proof", written] if check or proof is not None else []
+        ran = run(path, "solve", *options, *kept, "-", text=text)
         if ran.returncode == SATISFIABLE:
             return _model(ran.stdout)
         if (ran.returncode, ran.stdout) == (UNKNOWN, "s UNKNOWN\n"):

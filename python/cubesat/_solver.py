@@ -1,16 +1,21 @@
 """Questions of a formula that grows."""
 from __future__ import annotations
 
-import math
+import itertools
 import os
 import subprocess
 import tempfile
 import threading
 from collections.abc import Iterable, Iterator
+from typing import TYPE_CHECKING
 
 from ._formulas import LARGE_VARIABLES, greatest_variable, line_of, literals_of
+from ._options import whole_seconds
 from ._programs import Child, StrPath, fault_of, find_program
 from .errors import Fault, OutOfTime
+
+if TYPE_CHECKING:
+    from typing import SupportsIndex
 
 # How an answer ends, and the word before the numbers of each line behind its first.
 ENDS = (b" 0\n", b"s UNKNOWN\n")
@@ -27,7 +32,7 @@ class Solver:
     use it in a `with` statement: the program ends then, or else with this process.
     """
 
-    def __init__(self, bootstrap_with: Iterable[Iterable[int]] = (), *, program: StrPath | None = None):
+    def __init__(self, bootstrap_with: Iterable[Iterable[SupportsIndex]] = (), *, program: StrPath | None = None):
         """A solver of these clauses. program: the path of the program; without it, see `find_program`."""
         self._turn = Turn()
         self._model: list[int] | None = None
@@ -55,7 +60,7 @@ class Solver:
     def __exit__(self, *_: object) -> None:
         self.delete()
 
-    def add_clause(self, clause: Iterable[int]) -> None:
+    def add_clause(self, clause: Iterable[SupportsIndex]) -> None:
         """Adds a clause, or raises BadClauses, which is a ValueError."""
         literals = literals_of(clause, f"clause {self._clauses + 1}", LARGE_VARIABLES)
         with self._turn:
@@ -63,20 +68,20 @@ class Solver:
             self._waiting.append(self._line(literals))
             self._clauses += 1
 
-    def append_formula(self, clauses: Iterable[Iterable[int]]) -> None:
+    def append_formula(self, clauses: Iterable[Iterable[SupportsIndex]]) -> None:
         """Adds clauses, or raises BadClauses; those before the bad one are added then."""
         for clause in clauses:
             self.add_clause(clause)
 
-    def solve(self, assumptions: Iterable[int] = ()) -> bool:
+    def solve(self, assumptions: Iterable[SupportsIndex] = ()) -> bool:
         """Whether the clauses have a model in which the assumptions are true."""
         answer = self._ask(assumptions, None)
         if answer is None:
             raise OutOfTime("the program gave the question up")
         return answer
 
-    def solve_limited(self, assumptions: Iterable[int] = (), *, seconds: float) -> bool | None:
-        """The same, or None where that isn't decided in so many seconds, which are rounded up to whole ones, at least one."""
+    def solve_limited(self, assumptions: Iterable[SupportsIndex] = (), *, seconds: float) -> bool | None:
+        """The same, or None where that isn't decided in so many seconds, which are rounded up to whole ones."""
         return self._ask(assumptions, seconds)
 
     def get_model(self) -> list[int] | None:
@@ -89,14 +94,14 @@ class Solver:
         self._turn.require_own_question()
         return None if self._core is None else [*self._core]
 
-    def enum_models(self, assumptions: Iterable[int] = (), *, limit: int | None = None) -> Iterator[list[int]]:
+    def enum_models(self, assumptions: Iterable[SupportsIndex] = (), *, limit: SupportsIndex | None = None) -> Iterator[list[int]]:
         """The models in which the assumptions are true, each once, or so many of them. Each one is excluded by a clause, which stays."""
         held = [*assumptions]
-        found = 0
-        while (limit is None or found < limit) and self.solve(held):
+        for _ in itertools.count() if limit is None else range(limit):
+            if not self.solve(held):
+                break
             model = self.get_model() or []
             self.add_clause([-literal for literal in model])
-            found += 1
             yield model
 
     def nof_vars(self) -> int:
@@ -132,8 +137,9 @@ class Solver:
         self._vars = max(self._vars, greatest_variable(literals))
         return line_of(literals)
 
-    def _ask(self, assumptions: Iterable[int], seconds: float | None) -> bool | None:
-        limit = "" if seconds is None or seconds == math.inf else f"t {max(math.ceil(seconds), 1)}\n"
+    def _ask(self, assumptions: Iterable[SupportsIndex], seconds: float | None) -> bool | None:
+        whole = whole_seconds(seconds)
+        limit = "" if whole is None else f"t {whole}\n"
         literals = literals_of(assumptions, "assumptions", LARGE_VARIABLES)
         with self._turn:
             self._require_program()
