@@ -303,6 +303,51 @@ class Questions(InFolder):
             self.assertEqual(sorted(solver.enum_models([-1])), [[-1, 2]])
             self.assertTrue(solver.solve([1]))
 
+    def test_beginnings_as_in_pysat(self):
+        for name, begin in (
+            ("clauses first", lambda: cubesat.Solver(ALTERNATING)),
+            ("by name", lambda: cubesat.Solver(bootstrap_with=ALTERNATING)),
+            ("a solver's name first", lambda: cubesat.Solver("g3", bootstrap_with=ALTERNATING)),
+            ("in PySAT's order", lambda: cubesat.Solver("cadical153", ALTERNATING, True)),
+            ("all by name", lambda: cubesat.Solver(name="m22", bootstrap_with=iter(ALTERNATING), use_timer=True)),
+        ):
+            with self.subTest(name), begin() as solver:
+                self.assertEqual((solver.solve([1]), solver.get_model(), solver.nof_clauses()), (True, [1, -2, 3], 4))
+        for begin in (lambda: cubesat.Solver(), lambda: cubesat.Solver("g4"), lambda: cubesat.Solver("g4", None)):
+            with begin() as solver:
+                self.assertEqual((solver.solve(), solver.nof_vars()), (True, 0))
+        self.assertRaises(TypeError, cubesat.Solver, ALTERNATING, ALTERNATING)
+
+    def test_status_and_time(self):
+        with cubesat.Solver(ALTERNATING) as solver:
+            self.assertEqual((solver.get_status(), solver.time(), solver.time_accum()), (None, 0, 0))
+            taken = []
+            for assumptions, status in (([1], True), ([1, 2], False), ([], True)):
+                solver.solve(assumptions)
+                self.assertIs(solver.get_status(), status)
+                taken.append(solver.time())
+            self.assertTrue(all(it > 0 for it in taken))
+            self.assertAlmostEqual(solver.time_accum(), sum(taken))
+        with cubesat.Solver(pigeons(13)) as solver:
+            solver.solve_limited(seconds=1)
+            self.assertIsNone(solver.get_status())
+
+    def test_methods_that_pysat_alone_has(self):
+        with cubesat.Solver() as solver:
+            for name, words in (
+                ("accum_stats", "--stats"),
+                ("add_atmost", "clauses"),
+                ("conf_budget", "seconds="),
+                ("interrupt", "seconds="),
+                ("propagate", "solve"),
+                ("set_phases", "assume"),
+                ("get_proof", "proof=PATH"),
+            ):
+                with self.subTest(name):
+                    self.assertFalse(hasattr(solver, name))
+                    self.assertRaisesRegex(AttributeError, f"Solver has no {name}: .*{words}", getattr, solver, name)
+            self.assertRaisesRegex(AttributeError, "^Solver has no other$", getattr, solver, "other")
+
     def test_integers_of_any_kind(self):
         with cubesat.Solver([[Whole(1), Whole(-2)]]) as solver:
             self.assertTrue(solver.solve([Whole(2)]))

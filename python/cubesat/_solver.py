@@ -7,6 +7,7 @@ import subprocess
 import tempfile
 import threading
 from collections.abc import Iterable, Iterator
+from time import monotonic
 from typing import TYPE_CHECKING
 
 from ._formulas import LARGE_VARIABLES, greatest_variable, line_of, literals_of
@@ -17,10 +18,29 @@ from .errors import Fault, OutOfTime
 if TYPE_CHECKING:
     from typing import SupportsIndex
 
-# How an answer ends, and the word before the numbers of each line behind its first.
+    Formula = Iterable[Iterable[SupportsIndex]]
+
+# The first line of an answer and what it says, how each line behind it begins, and how an answer ends.
+STATUS_OF = {b"s SATISFIABLE": True, b"s UNSATISFIABLE": False, b"s UNKNOWN": None}
+BEGIN_BEHIND = {b"s SATISFIABLE": b"v ", b"s UNSATISFIABLE": b"c core ", b"s UNKNOWN": b""}
 ENDS = (b" 0\n", b"s UNKNOWN\n")
-NUMBERS_BEHIND = {b"s SATISFIABLE": b"v ", b"s UNSATISFIABLE": b"c core ", b"s UNKNOWN": b""}
 PIECE = 1 << 16
+
+# Methods of PySAT that a session can't have, and what to use.
+LIMIT = "solve_limited(seconds=..) limits a question by its time"
+ELSEWHERE = {
+    "accum_stats": "`cubesat solve --stats` counts what a run takes",
+    "add_atmost": "add its clauses, as those of a counter, which takes variables of its own",
+    "add_xor_clause": "add its clauses",
+    "clear_interrupt": LIMIT,
+    "conf_budget": LIMIT,
+    "dec_budget": LIMIT,
+    "get_proof": "cubesat.solve(clauses, proof=PATH) writes one",
+    "interrupt": LIMIT + ", and delete() ends one of another thread",
+    "prop_budget": LIMIT,
+    "propagate": "a literal follows where solve([*assumptions, -literal]) is False",
+    "set_phases": "assume literals that are to be true: solve(assumptions)",
+}
 
 
 class Solver:
@@ -32,11 +52,28 @@ class Solver:
     use it in a `with` statement: the program ends then, or else with this process.
     """
 
-    def __init__(self, bootstrap_with: Iterable[Iterable[SupportsIndex]] = (), *, program: StrPath | None = None):
-        """A solver of these clauses. program: the path of the program; without it, see `find_program`."""
+    def __init__(
+        self,
+        name: str | Formula = "",
+        bootstrap_with: Formula | None = None,
+        use_timer: bool = True,
+        *,
+        program: StrPath | None = None,
+    ):
+        """A solver of these clauses, which may stand first: Solver([[1, 2]]), or as in PySAT Solver("g3", bootstrap_with=[[1, 2]]).
+
+        name: of a solver of PySAT, which changes nothing. use_timer: changes nothing, since `time` is always there. program: the path of the program;
+        without it, see `find_program`
+        """
+        if not isinstance(name, str):
+            if bootstrap_with is not None:
+                raise TypeError("clauses stand twice, first and as bootstrap_with")
+            bootstrap_with = name
         self._turn = Turn()
+        self._status: bool | None = None
         self._model: list[int] | None = None
         self._core: list[int] | None = None
+        self._time = self._all_time = 0.0
         self._vars = self._clauses = 0
         self._waiting = ["p inccnf"]
         self._fault: Fault | None = None
@@ -49,7 +86,7 @@ class Solver:
             self._said.close()
             raise
         try:
-            self.append_formula(bootstrap_with)
+            self.append_formula(() if bootstrap_with is None else bootstrap_with)
         except BaseException:
             self.delete()
             raise
@@ -68,7 +105,7 @@ class Solver:
             self._waiting.append(self._line(literals))
             self._clauses += 1
 
-    def append_formula(self, clauses: Iterable[Iterable[SupportsIndex]]) -> None:
+    def append_formula(self, clauses: Formula) -> None:
         """Adds clauses, or raises BadClauses; those before the bad one are added then."""
         for clause in clauses:
             self.add_clause(clause)
@@ -93,6 +130,19 @@ class Solver:
         """Some assumptions of the last question, with which the clauses have no model, if it found that there is none."""
         self._turn.require_own_question()
         return None if self._core is None else [*self._core]
+
+    def get_status(self) -> bool | None:
+        """What the last question answered: True, False, or None where that isn't known."""
+        self._turn.require_own_question()
+        return self._status
+
+    def time(self) -> float:
+        """How many seconds the last question took that was answered."""
+        return self._time
+
+    def time_accum(self) -> float:
+        """How many seconds all questions took that were answered."""
+        return self._all_time
 
     def enum_models(self, assumptions: Iterable[SupportsIndex] = (), *, limit: SupportsIndex | None = None) -> Iterator[list[int]]:
         """The models in which the assumptions are true, each once, or so many of them. Each one is excluded by a clause, which stays."""
@@ -120,6 +170,11 @@ class Solver:
         if self._turn.is_free():
             self._close()
 
+    if not TYPE_CHECKING:
+
+        def __getattr__(self, name):
+            raise AttributeError(f"Solver has no {name}" + (f": {ELSEWHERE[name]}" if name in ELSEWHERE else ""))
+
     def _close(self) -> None:
         self._child.close()
         self._said.close()
@@ -144,22 +199,22 @@ class Solver:
         with self._turn:
             self._require_program()
             self._turn.begin_question()
-            self._model = self._core = None
+            self._status = self._model = self._core = None
             self._is_at_question = True
+            begun = monotonic()
             try:
                 self._write(f"{limit}a {self._line(literals)}")
-                status, numbers = self._read()
+                line, numbers = self._read()
             except BaseException:
                 self._close()
                 raise
             self._is_at_question = False
-            if status == b"s SATISFIABLE":
-                self._model = numbers
-            elif status == b"s UNSATISFIABLE":
-                self._core = numbers
-            else:
-                return None
-            return self._model is not None
+            self._time = monotonic() - begun
+            self._all_time += self._time
+            self._status = STATUS_OF[line]
+            self._model = numbers if self._status is True else None
+            self._core = numbers if self._status is False else None
+            return self._status
 
     def _write(self, question: str) -> None:
         """Writes what waits, the question last. The program reads all of it before it answers."""
@@ -180,7 +235,7 @@ class Solver:
             if not piece or not b"s ".startswith(answer[:2]):
                 raise self._failed()
         status, _, lines = bytes(answer).partition(b"\n")
-        begin = NUMBERS_BEHIND.get(status)
+        begin = BEGIN_BEHIND.get(status)
         if begin is None or not all(line.startswith(begin) for line in lines.splitlines()):
             raise self._failed()
         return status, [*map(int, lines.replace(begin, b" ").split())][:-1] if lines else []
