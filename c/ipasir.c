@@ -75,6 +75,11 @@ static void send_text(Solver *solver, Text *text) {
     text->count = 0;
 }
 
+/* Whether `holds` has a place for it. */
+static bool is_literal(const Solver *solver, int lit) {
+    return lit && lit >= -solver->vars && lit <= solver->vars;
+}
+
 static size_t place_of(int lit) {
     return 2 * (size_t)abs(lit) + (lit > 0);
 }
@@ -199,6 +204,11 @@ void ipasir_add(void *of, int lit_or_zero) {
 
 void ipasir_assume(void *of, int lit) {
     Solver *solver = of;
+    if (!lit) { /* it would end the question, and what follows would be a clause */
+        fprintf(stderr, "ipasir: 0: no literal to assume\n");
+        solver->has_failed = true;
+        return;
+    }
     put_lit(solver, &solver->assumptions, lit);
 }
 
@@ -223,14 +233,14 @@ int ipasir_solve(void *of) {
 
 int ipasir_val(void *of, int lit) {
     Solver *solver = of;
-    if (abs(lit) > solver->vars)
+    if (!is_literal(solver, lit))
         return 0;
     return solver->holds[place_of(lit)] ? lit : solver->holds[place_of(-lit)] ? -lit : 0;
 }
 
 int ipasir_failed(void *of, int lit) {
     Solver *solver = of;
-    return abs(lit) <= solver->vars && solver->holds[place_of(lit)];
+    return is_literal(solver, lit) && solver->holds[place_of(lit)];
 }
 
 void ipasir_set_terminate(void *of, void *data, int (*terminate)(void *data)) {

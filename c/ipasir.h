@@ -2,8 +2,8 @@
  *
  * Each solver is a program of its own, the one that the environment's CUBESAT names, or else `cubesat`
  * on the PATH. It ends with `ipasir_release`, or when the question that it is at is answered and its
- * caller is gone. Variables are at most 100,000,000. Once a solver has failed, as where memory is short
- * or its program is gone, each question comes to 0, and standard error says why. */
+ * caller is gone. Variables are at most 100,000,000. Once a solver has failed, as where memory is short,
+ * its program is gone or what it was given is no literal, each question comes to 0, and standard error says why. */
 #ifndef IPASIR_H
 #define IPASIR_H
 
@@ -23,7 +23,7 @@ void ipasir_release(void *solver);
 /* Puts a literal into the clause that is being added, or ends it with 0. */
 void ipasir_add(void *solver, int lit_or_zero);
 
-/* The literal has to be true in the answer to the next question. */
+/* The literal, which isn't 0, has to be true in the answer to the next question. */
 void ipasir_assume(void *solver, int lit);
 
 /* Whether the clauses have a model in which the assumptions are true: 10, or 20 where they have none, or 0
