@@ -19,6 +19,11 @@ from concurrent.futures import ThreadPoolExecutor
 from fractions import Fraction
 from unittest import mock
 
+try:
+    import numpy
+except ImportError:
+    numpy = None
+
 import cubesat
 from cubesat import _programs
 
@@ -75,6 +80,16 @@ def program_of(folder, text):
         file.write(f"#!/bin/bash\n{text}\n")
     os.chmod(path, 0o755)
     return path
+
+
+class Whole:
+    """An integer of another kind."""
+
+    def __init__(self, number):
+        self.number = number
+
+    def __index__(self):
+        return self.number
 
 
 class InFolder(unittest.TestCase):
@@ -266,16 +281,6 @@ BAD_CALLS = [
 ]
 
 
-class Whole:
-    """An integer of another kind."""
-
-    def __init__(self, number):
-        self.number = number
-
-    def __index__(self):
-        return self.number
-
-
 class Questions(InFolder):
     def test_questions_in_turn(self):
         with cubesat.Solver() as solver:
@@ -406,6 +411,42 @@ class Questions(InFolder):
         self.assertIsNotNone(ran.returncode)
 
 
+@unittest.skipUnless(numpy, "there is no numpy")
+class Arrays(unittest.TestCase):
+    def test_clauses_are_rows(self):
+        for kind in ("int8", "int64", "int32"):
+            rows = numpy.array([[1, 2], [-1, 3]], dtype=kind)
+            for name, clauses in (("an array", rows), ("a list of rows", [*rows]), ("a generator", (it for it in rows)), ("columns", rows.T.copy().T)):
+                with self.subTest(f"{name} of {kind}"):
+                    model = cubesat.solve(clauses, variables=rows.dtype.type(4), hands=rows.dtype.type(1), seconds=numpy.float64(100))
+                    self.assertEqual((model, {*map(type, model)}), ([-1, 2, -3, -4], {int}))
+        self.assertEqual(cubesat.solve(numpy.array([[1], [3]], dtype="uint16")), [1, -2, 3])
+        self.assertEqual(cubesat.solve(numpy.empty((0, 3), dtype=int)), [])
+
+    def test_questions(self):
+        with cubesat.Solver(numpy.array(ALTERNATING)) as solver:
+            solver.add_clause(numpy.array([-4, 1], dtype="int8"))
+            solver.append_formula(numpy.array([[4, 5]]))
+            self.assertTrue(solver.solve(numpy.array([4])))
+            self.assertEqual(solver.get_model()[:4], [1, -2, 3, 4])
+            self.assertFalse(solver.solve(numpy.array([-1, 4])))
+            self.assertEqual(sorted(solver.get_core()), [-1, 4])
+            self.assertTrue(all(model[3] == 4 for model in solver.enum_models(numpy.array([4]), limit=numpy.int64(2))))
+
+    def test_what_is_no_literal(self):
+        for name, clauses in (
+            ("floats", [[1.0]]),
+            ("truth values", [[True]]),
+            ("rows that zeros fill up", [[1, 2], [3, 0]]),
+            ("one row", [1, 2]),
+            ("three dimensions", [[[1]]]),
+            ("three dimensions, rows of two", [[[1, 2]]]),
+            ("the least of a kind", numpy.array([[-(2**63)]])),
+        ):
+            with self.subTest(name), self.assertRaises(cubesat.BadClauses):
+                cubesat.solve(numpy.array(clauses))
+
+
 class Interrupt(BaseException):
     """What a handler of signals raises, as that of an interrupt does."""
 
@@ -533,6 +574,22 @@ class Threads(InFolder):
 
 
 class Programs(InFolder):
+    def test_module_that_is_run_is_the_program(self):
+        """A file in place of a command is a formula to solve."""
+        formula = os.path.join(self.folder, "four.cnf")
+        with open(formula, "w") as file:
+            file.write("p cnf 1 2\n1 0\n-1 0\n")
+        for words, status in (([formula], 20), (["solve", formula], 20), ([formula, "--seconds", "100"], 20), (["--version"], 0)):
+            with self.subTest(words):
+                called = {"cwd": FOLDER, "stdout": subprocess.PIPE, "stderr": subprocess.PIPE}
+                ran, same = (subprocess.run([*it, *words], **called) for it in ([sys.executable, "-m", "cubesat"], [cubesat.find_program()]))
+                self.assertEqual(ran.returncode, status)
+                if words[0] != formula:
+                    self.assertEqual((ran.stdout, ran.stderr), (same.stdout, same.stderr))
+        absent = {**os.environ, "CUBESAT": os.path.join(self.folder, "absent")}
+        ran = subprocess.run([sys.executable, "-m", "cubesat"], cwd=FOLDER, env=absent, stderr=subprocess.PIPE)
+        self.assertEqual((ran.returncode, ran.stderr.decode()), (1, f"cubesat: no program at {absent['CUBESAT']}\n"))
+
     def test_program_that_the_system_cant_run(self):
         program = program_of(self.folder, "")
         with open(program, "w") as file:

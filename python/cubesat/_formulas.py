@@ -57,11 +57,11 @@ def _refuse_literal(literal: object, name: str) -> int:
 
 
 def integer_of(number: SupportsIndex) -> int | None:
-    """It as an int, whichever kind of integer it is; a truth value is none."""
+    """It as an int, whichever kind of integer it is; a truth value, numpy's too, is none."""
     if type(number) is int:
         return number
     with contextlib.suppress(TypeError):
-        return None if isinstance(number, bool) else operator.index(number)
+        return None if type(number).__name__ in ("bool", "bool_") else operator.index(number)
     return None
 
 
