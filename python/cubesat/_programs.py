@@ -52,15 +52,19 @@ class Child:
 
     The program holds an end of a pipe, and this process the other one: where a process ends the system closes what it holds, and of that it sends the
     program a signal. No thread has a part in this. A fork of this process lets go of its copy, since the program isn't its own.
+
+    faults: the file that its standard error goes to, which is closed with it; without one a pipe
     """
 
-    def __init__(self, *words: str, stderr: IO[bytes] | int):
+    def __init__(self, *words: str, faults: IO[bytes] | None = None):
         theirs, ours = _pipe()
         try:
-            self.ran = subprocess.Popen(words, stdin=subprocess.PIPE, stdout=subprocess.PIPE, stderr=stderr, bufsize=0, pass_fds=[theirs])
+            self.ran = subprocess.Popen(words, stdin=subprocess.PIPE, stdout=subprocess.PIPE, stderr=faults or subprocess.PIPE, bufsize=0, pass_fds=[theirs])
             _signal_end(theirs, self.ran.pid)
         except BaseException as error:
             _let_go(ours)
+            if faults:
+                faults.close()
             if isinstance(error, OSError):
                 raise NoProgram(f"{words[0]} can't be run: {error.strerror}") from None
             raise
@@ -69,7 +73,8 @@ class Child:
         assert self.ran.stdin and self.ran.stdout
         self.input, self.output = self.ran.stdin, self.ran.stdout
         self._process = os.getpid()
-        self.close = weakref.finalize(self, _close, self.ran, ours, self._process)
+        files = [it for it in (self.input, self.output, self.ran.stderr, faults) if it]
+        self.close = weakref.finalize(self, _close, self.ran, files, ours, self._process)
 
     def __enter__(self) -> Child:
         return self
@@ -105,11 +110,11 @@ def _pipe() -> tuple[int, int]:
         os.close(low)
 
 
-def _close(ran: subprocess.Popen[bytes], ours: int, process: int) -> None:
+def _close(ran: subprocess.Popen[bytes], files: list[IO[bytes]], ours: int, process: int) -> None:
     if process == os.getpid():
         ran.kill()
         ran.wait()
-    for file in filter(None, (ran.stdin, ran.stdout, ran.stderr)):
+    for file in files:
         file.close()
     _let_go(ours)
 
@@ -138,7 +143,7 @@ def _signal_end(pipe: int, process: int) -> None:
 
 def run(*words: str, text: str) -> subprocess.CompletedProcess[str]:
     """Runs the program to its end on a text, which it gets once it can't outlive this process: without the text it begins nothing."""
-    with Child(*words, stderr=subprocess.PIPE) as child:
+    with Child(*words) as child:
         answer, faults = child.ran.communicate(text.encode())
         return subprocess.CompletedProcess(words, child.ran.returncode, answer.decode(errors="replace"), faults.decode(errors="replace"))
 

@@ -80,11 +80,7 @@ class Solver:
         self._is_deleted = self._is_at_question = False
         path = find_program(program)
         self._said = tempfile.TemporaryFile()
-        try:
-            self._child = Child(path, "session", stderr=self._said)
-        except BaseException:
-            self._said.close()
-            raise
+        self._child = Child(path, "session", faults=self._said)
         try:
             self.append_formula(() if bootstrap_with is None else bootstrap_with)
         except BaseException:
@@ -168,16 +164,12 @@ class Solver:
         self._is_deleted = True
         self._child.kill()
         if self._turn.is_free():
-            self._close()
+            self._child.close()
 
     if not TYPE_CHECKING:
 
         def __getattr__(self, name):
             raise AttributeError(f"Solver has no {name}" + (f": {ELSEWHERE[name]}" if name in ELSEWHERE else ""))
-
-    def _close(self) -> None:
-        self._child.close()
-        self._said.close()
 
     def _require_program(self) -> None:
         if self._is_deleted:
@@ -206,7 +198,7 @@ class Solver:
                 self._write(f"{limit}a {self._line(literals)}")
                 line, numbers = self._read()
             except BaseException:
-                self._close()
+                self._child.close()
                 raise
             self._is_at_question = False
             self._time = monotonic() - begun
