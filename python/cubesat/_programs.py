@@ -134,8 +134,8 @@ os.register_at_fork(after_in_child=_let_all_go)
 
 
 def _signal_end(pipe: int, process: int) -> None:
-    """Has the process killed when the other end of the pipe is closed, if the system can do that."""
-    with contextlib.suppress(OSError):
+    """Has the process killed when the other end of the pipe is closed, if the system can do that, as Linux can."""
+    with contextlib.suppress(OSError, AttributeError):
         fcntl.fcntl(pipe, fcntl.F_SETOWN, process)
         fcntl.fcntl(pipe, fcntl.F_SETSIG, signal.SIGKILL)
         fcntl.fcntl(pipe, fcntl.F_SETFL, os.O_ASYNC)
