@@ -1,6 +1,7 @@
 #!/usr/bin/env python3
 """Tests of the package `cubesat` that stands beside this file, or, where none does, of the one that is installed. What is expected follows from the
 definitions of truth and of the first model, and from docs/FORMATS.md."""
+import enum
 import importlib.util
 import itertools
 import os
@@ -167,6 +168,11 @@ class Answers(InFolder):
         proof = os.path.join(self.folder, "f.lrat")
         cubesat.solve(ALTERNATING, proof=proof)
         self.assertEqual(os.path.getsize(proof), 0)
+
+    def test_integers_of_other_kinds(self):
+        named = enum.IntEnum("named", {"one": 1, "two": -2})
+        for clause in ([named.one, named.two], [1, named.two], [Whole(1), -2], (Whole(it) for it in (1, -2))):
+            self.assertEqual(cubesat.dimacs([clause], Whole(3)), "p cnf 3 1\n1 -2 0\n")
 
     def test_text_of_a_formula(self):
         self.assertEqual(cubesat.dimacs([[1, -3], []], 4), "p cnf 4 2\n1 -3 0\n0\n")
