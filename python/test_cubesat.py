@@ -363,6 +363,8 @@ class Programs(InFolder):
                 module = self.loaded(package)
                 for call in (module.find_program, lambda: module.solve([]), module.Solver):
                     self.assertRaisesRegex(module.NoProgram, f"builds it: {self.folder}/bin/cubesat --version$", call)
+                with self.assertRaisesRegex(cubesat.Fault, "builds it"):
+                    cubesat.solve([], program=os.path.join(self.folder, "bin/cubesat"))
                 os.replace(program_of(self.folder, "[ $1 = --version ] && exit; echo s SATISFIABLE; echo v 0; exit 10"), program)
                 self.assertEqual((module.solve([]), module.find_program()), ([], program))
 

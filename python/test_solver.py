@@ -5,13 +5,15 @@ import gc
 import itertools
 import os
 import signal
+import subprocess
+import sys
 import threading
 import time
 import unittest
 from concurrent.futures import ThreadPoolExecutor
 
 import cubesat
-from test_cubesat import ALTERNATING, InFolder, Whole, pigeons, program_of
+from test_cubesat import ALTERNATING, FOLDER, InFolder, Whole, pigeons, program_of
 
 # Calls of one solver in turn: clauses that are added, then assumptions, and the literals that the answer has: a model's, or those of the core.
 QUESTIONS = [
@@ -226,6 +228,16 @@ class LeftQuestions(InFolder):
             call_in(0.3, lambda: calls.append(1))
             self.assertTrue(solver.solve())
         self.assertEqual(calls, [1])
+
+    def test_interrupt_of_a_terminal_is_the_process_own(self):
+        """A terminal sends it to the whole group, here before a question."""
+        calls = "signal.signal(signal.SIGINT, lambda *_: None); solver = cubesat.Solver([[1]]); print(1, flush=True); input(); print(solver.solve(), flush=True)"
+        words = [sys.executable, "-Bc", f"import cubesat, signal; {calls}"]
+        how = {"cwd": FOLDER, "stdin": subprocess.PIPE, "stdout": subprocess.PIPE, "start_new_session": True}
+        with subprocess.Popen(words, **how) as process:
+            self.assertEqual(process.stdout.readline(), b"1\n")
+            os.killpg(process.pid, signal.SIGINT)
+            self.assertEqual(process.communicate(b"\n")[0], b"True\n")
 
     def test_handler_that_asks_or_deletes(self):
         """It runs while the solver is at a question, in the same thread."""

@@ -15,6 +15,7 @@ from typing import IO, Union
 from .errors import Fault, NoProgram
 
 StrPath = Union[str, "os.PathLike[str]"]
+NO_BUILD = {"CUBESAT_BUILD": "no"}
 
 
 def find_program(given: StrPath | None = None) -> str:
@@ -40,8 +41,7 @@ def find_program(given: StrPath | None = None) -> str:
 @functools.lru_cache(maxsize=None)
 def _built_in(clone: str) -> str:
     """Its `bin/cubesat` knows whether the program is as the sources are, and would build it, which takes long and which nobody would see."""
-    words, environment = [f"{clone}/bin/cubesat", "--version"], {**os.environ, "CUBESAT_BUILD": "no"}
-    asked = subprocess.run(words, env=environment, stdin=subprocess.DEVNULL, stdout=subprocess.PIPE, stderr=subprocess.PIPE, text=True, errors="replace")
+    asked = run(f"{clone}/bin/cubesat", "--version", text="")
     if asked.returncode:
         raise NoProgram(asked.stderr.strip())
     return f"{clone}/crates/cubesat_program/out/cubesat_program"
@@ -59,7 +59,16 @@ class Child:
     def __init__(self, *words: str, faults: IO[bytes] | None = None):
         theirs, ours = _pipe()
         try:
-            self.ran = subprocess.Popen(words, stdin=subprocess.PIPE, stdout=subprocess.PIPE, stderr=faults or subprocess.PIPE, bufsize=0, pass_fds=[theirs])
+            self.ran = subprocess.Popen(
+                words,
+                stdin=subprocess.PIPE,
+                stdout=subprocess.PIPE,
+                stderr=faults or subprocess.PIPE,
+                bufsize=0,
+                pass_fds=[theirs],
+                env={**os.environ, **NO_BUILD},
+                start_new_session=True,  # a terminal's interrupt is for this process to handle
+            )
             _signal_end(theirs, self.ran.pid)
         except BaseException as error:
             _let_go(ours)
