@@ -397,10 +397,10 @@ ENDS = [
 
 class Ends(InFolder):
     def test_program_ends_with_the_process(self):
-        """The program reads, as the true one does first, and writes a line to a pipe, which it holds open until it ends."""
+        """The program is a script that reads, as the true one does first, writes a line to a pipe, and begins another that holds it open until it ends."""
         pipe = os.path.join(self.folder, "pipe")
         os.mkfifo(pipe)
-        environment = {**os.environ, "TMPDIR": self.folder, "CUBESAT": program_of(self.folder, f'read line; exec 3> "{pipe}"; echo begun >&3; exec sleep 30')}
+        environment = {**os.environ, "TMPDIR": self.folder, "CUBESAT": program_of(self.folder, f'read line; exec 3> "{pipe}"; echo begun >&3; sleep 30; true')}
         for name, calls, number in ENDS:
             words = [sys.executable, "-Bc", f"{IMPORTS}; {calls}"]
             how = {"cwd": FOLDER, "env": environment, "stdin": subprocess.PIPE, "stderr": subprocess.DEVNULL}

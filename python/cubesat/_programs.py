@@ -67,7 +67,7 @@ class Child:
                 bufsize=0,
                 pass_fds=[theirs],
                 env={**os.environ, **NO_BUILD},
-                start_new_session=True,  # a terminal's interrupt is for this process to handle
+                start_new_session=True,  # and so a group: a terminal's interrupt is for this process alone
             )
             _signal_end(theirs, self.ran.pid)
         except BaseException as error:
@@ -92,8 +92,7 @@ class Child:
         self.close()
 
     def kill(self) -> None:
-        if self._process == os.getpid():
-            self.ran.kill()
+        _kill(self.ran, self._process)
 
     def status(self) -> int:
         """The program's status, once it has ended; if it doesn't end with its input, it is killed after ten seconds."""
@@ -120,12 +119,19 @@ def _pipe() -> tuple[int, int]:
 
 
 def _close(ran: subprocess.Popen[bytes], files: list[IO[bytes]], ours: int, process: int) -> None:
+    _kill(ran, process)
     if process == os.getpid():
-        ran.kill()
         ran.wait()
     for file in files:
         file.close()
     _let_go(ours)
+
+
+def _kill(ran: subprocess.Popen[bytes], process: int) -> None:
+    """Kills the program that this process began, with what a script in its place has begun."""
+    if process == os.getpid() and ran.poll() is None:
+        with contextlib.suppress(ProcessLookupError):
+            os.killpg(ran.pid, signal.SIGKILL)
 
 
 def _let_go(end: int) -> None:
@@ -142,10 +148,10 @@ def _let_all_go() -> None:
 os.register_at_fork(after_in_child=_let_all_go)
 
 
-def _signal_end(pipe: int, process: int) -> None:
-    """Has the process killed when the other end of the pipe is closed, if the system can do that, as Linux can."""
+def _signal_end(pipe: int, group: int) -> None:
+    """Has a group of processes killed when the other end of the pipe is closed, if the system can do that, as Linux can."""
     with contextlib.suppress(OSError, AttributeError):
-        fcntl.fcntl(pipe, fcntl.F_SETOWN, process)
+        fcntl.fcntl(pipe, fcntl.F_SETOWN, -group)
         fcntl.fcntl(pipe, fcntl.F_SETSIG, signal.SIGKILL)
         fcntl.fcntl(pipe, fcntl.F_SETFL, os.O_ASYNC)
 
