@@ -3,3 +3,4 @@ pub mod NeededLemmas
 pub mod AskedLemmas
 pub mod LoadedLemmas
 pub mod GatheredLemmas
+pub mod NamingLemmas

@@ -1,5 +1,5 @@
 //! The formula that grows, by clauses and by variables.
-ghost use Rattle.std.specs.Prelude.{◌≡◌, ◌≤◌, ◌<◌, ◌++◌, ◌∷◌, [], length, slice_get, Some, All, OnOk, OnErr};
+ghost use Rattle.std.specs.Prelude.{◌≡◌, ◌≤◌, ◌<◌, ◌++◌, ◌∷◌, [], max, length, slice_get, Some, All, OnOk, OnErr};
 ghost use Rattle.theory.specs.Truth.{IsOver};
 ghost use Rattle.theory.specs.Reading.{large, max_vars};
 
@@ -35,18 +35,6 @@ impl Model for GrowingFormula {
     ghost view = { λ a. record { vars = a.vars; clauses = a.clauses.clauses } };
 
     ghost invariant = { λ a. All (IsOver a.vars) a.clauses.clauses × (a.clauses.vars ≡ max_vars large) × (a.vars ≤ max_vars large) };
-}
-
-/// The greatest variable of some literals, or a number if that is greater.
-fn greatest_variable(lits: &[Lit], least: u32) -> u32
-    ensures least { least ≤ result }
-    ensures over { IsOver result lits.now }
-{
-    let mut greatest = least;
-    for lit in lits {
-        greatest = greatest.max(lit.var());
-    }
-    greatest
 }
 
 impl GrowingFormula {
@@ -90,20 +78,12 @@ impl GrowingFormula {
         self.clauses.clause(place)
     }
 
-    /// Takes the variables of these literals in. It fails where there are more than 100,000,000;
-    /// nothing has changed then.
-    pub(crate) fn widen(&mut self, lits: &[Lit]) -> Result<(), AllocError>
-        ensures over { OnOk result (IsOver self.new.vars lits.now) }
-        ensures more { self.old.vars ≤ self.new.vars }
-        ensures clauses { self.new.clauses ≡ self.old.clauses }
-        ensures refused { OnErr result (self.new ≡ self.old) }
+    /// Takes the variables up to one in, if there are fewer.
+    pub(crate) fn widen(&mut self, vars: u32)
+        requires { vars ≤ max_vars large }
+        ensures { self.new ≡ record self.old { vars = max self.old.vars vars } }
     {
-        let vars = greatest_variable(lits, self.vars);
-        if vars > Limits::Large.vars() {
-            return Err(AllocError);
-        }
-        self.vars = vars;
-        Ok(())
+        self.vars = self.vars.max(vars);
     }
 
     /// Puts a clause behind the others, whose variables were taken in. It fails where a request for

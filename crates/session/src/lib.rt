@@ -9,6 +9,7 @@ mod growing;
 mod interrupt;
 mod learning;
 mod loading;
+mod names;
 mod question;
 mod renewing;
 mod restarts;

@@ -6,6 +6,7 @@ ghost use Rattle.session.specs.Answers.{Says};
 use crate::answer::Answer;
 use crate::growing::GrowingFormula;
 use crate::interrupt::Interrupt;
+use crate::names::Names;
 use crate::search::Search;
 use cnf::Lit;
 use std::alloc::{AllocError, Global};
@@ -15,9 +16,13 @@ use std::marker::Model;
 /// question learns and the last values of variables stay for the next ones; so do the variables'
 /// scores, until more variables come than there is room for. New clauses go into the kernel one by
 /// one when the next question is asked; where that would take longer, it is opened anew, in time by
-/// all clauses. Once a call has failed, each of them fails.
+/// all clauses. Variables that no clause and no assumption has take four bytes each up to the greatest
+/// one, and a model has them false. Once a call has failed, each of them fails.
 pub struct Session {
-    // the clauses added
+    names: Names,
+    // the literals of a call, by the numbers of their variables
+    numbered: Vec<Lit>,
+    // the clauses added, by the numbers of their variables
     formula: GrowingFormula,
     search: Search,
     // how many of the clauses the search has, the first ones
@@ -32,6 +37,8 @@ pub struct Session {
 impl Drop for Session {
     fn drop(self) {
         let Session {
+            names: _,
+            numbered: _,
             formula: _,
             search: _,
             loaded: _,
@@ -44,14 +51,15 @@ impl Drop for Session {
 impl Model for Session {
     ghost use Rattle.std.specs.Prelude.{◌≡◌, ◌≤◌, false, take, length};
     ghost use Rattle.session.specs.State.{State};
+    ghost use Rattle.session.specs.Naming.{IsNumbered, formula_outward};
     ghost use Rattle.session.specs.Loading.{IsLoaded};
 
     ghost Value = { State };
 
-    ghost view = { λ a. record { formula = a.formula; steps = a.steps; out_of_memory = a.out_of_memory } };
+    ghost view = { λ a. record { formula = formula_outward a.names a.formula; steps = a.steps; out_of_memory = a.out_of_memory } };
 
-    ghost invariant = { λ a. a.out_of_memory ≡ false →
-        IsLoaded a.formula.clauses (take a.loaded a.formula.clauses) a.search × (a.loaded ≤ length a.formula.clauses) };
+    ghost invariant = { λ a. IsNumbered a.names a.formula × (a.out_of_memory ≡ false →
+        IsLoaded a.formula.clauses (take a.loaded a.formula.clauses) a.search × (a.loaded ≤ length a.formula.clauses)) };
 }
 
 impl Session {
@@ -60,6 +68,8 @@ impl Session {
         ensures { IfOk result (λ s. s ≡ record { formula = record { vars = 0; clauses = [] }; steps = 0; out_of_memory = false }) }
     {
         Ok(Session {
+            names: Names::new(alloc),
+            numbered: Vec::new(alloc),
             formula: GrowingFormula::new(alloc),
             search: Search::open(alloc)?,
             loaded: 0,
@@ -69,8 +79,8 @@ impl Session {
     }
 
     /// Adds a clause. Its variables become variables of the formula; literals may stand in it more
-    /// than once, or with both signs, and the empty clause is one too. It takes time by its literals.
-    /// It fails where a request for memory is refused, or a variable is above 100,000,000.
+    /// than once, or with both signs, and the empty clause is one too. It takes time by its literals,
+    /// and by the variables up to them that are above all before. It fails where a request for memory is refused, or a variable is above 100,000,000.
     pub fn add_clause(&mut self, clause: &[Lit]) -> Result<(), AllocError>
         ensures added { OnOk result (self.new.formula.clauses ≡ self.old.formula.clauses ++ clause.now ∷ []) }
         ensures over { OnOk result (IsOver self.new.formula.vars clause.now) }
@@ -83,8 +93,10 @@ impl Session {
             return Err(AllocError);
         }
         self.out_of_memory = true; // until nothing was refused
-        self.formula.widen(clause)?;
-        self.formula.push(clause)?;
+        self.numbered.clear();
+        self.names.put_numbers(clause, &mut self.numbered)?;
+        self.formula.widen(self.names.count());
+        self.formula.push(&self.numbered)?;
         self.out_of_memory = false;
         Ok(())
     }
@@ -109,14 +121,17 @@ impl Session {
             return Err(AllocError);
         }
         self.out_of_memory = true; // until nothing was refused
-        self.formula.widen(assumptions)?;
-        let answer = self.search.answer(
+        self.numbered.clear();
+        self.names.put_numbers(assumptions, &mut self.numbered)?;
+        self.formula.widen(self.names.count());
+        let numbered = self.search.answer(
             &self.formula,
             &mut self.loaded,
-            assumptions,
+            &self.numbered,
             interrupt,
             &mut self.steps,
         )?;
+        let answer = self.names.answer(numbered)?;
         self.out_of_memory = false;
         Ok(answer)
     }
@@ -125,7 +140,7 @@ impl Session {
     pub fn vars(&self) -> u32
         ensures { result ≡ self.now.formula.vars }
     {
-        self.formula.vars()
+        self.names.vars()
     }
 
     /// How many clauses were added.

@@ -98,3 +98,17 @@ fn refusal_stays(rt: HostRuntime) -> Result<(), Fail> {
     assert!(rt; fails_for_good(rt.alloc())?);
     Ok(())
 }
+
+/// Whether a variable above the greatest one is refused, and each call behind it.
+fn refuses_variable(alloc: Global) -> Result<bool, AllocError> {
+    let mut session = Session::open(alloc)?;
+    let lits = crate::asked::lits_of(alloc, &[1, 100_000_001])?;
+    let is_refused = session.add_clause(&lits).is_err();
+    Ok(is_refused && session.solve(&[], &Never).is_err())
+}
+
+#[test]
+fn variable_above_the_greatest(rt: HostRuntime) -> Result<(), Fail> {
+    assert!(rt; refuses_variable(rt.alloc())?);
+    Ok(())
+}

@@ -23,7 +23,7 @@ enum Step {
     Ask(&'static [i32], Wanted),
 }
 
-static ROWS: [(&str, &[Step]); 9] = [
+static ROWS: [(&str, &[Step]); 13] = [
     (
         "no clauses",
         &[
@@ -104,6 +104,55 @@ static ROWS: [(&str, &[Step]); 9] = [
             Step::Add(&[-100, 5000]),
             Step::Ask(&[-1], Wanted::Model(&[-1, 100, 5000])),
             Step::Ask(&[-5000, -1], Wanted::Core(&[-5000, -1])),
+        ],
+    ),
+    (
+        "variables far apart",
+        &[
+            Step::Add(&[1, -1_000_000]),
+            Step::Ask(&[], Wanted::Model(&[])),
+            Step::Ask(&[1_000_000], Wanted::Model(&[1, 1_000_000])),
+            Step::Add(&[-1, 500_000]),
+            Step::Add(&[2, 1_000_000]),
+            Step::Ask(&[-500_000], Wanted::Model(&[-1, 2, -500_000, -1_000_000])),
+            Step::Ask(
+                &[3, 1_000_000, -500_000],
+                Wanted::Core(&[1_000_000, -500_000]),
+            ),
+            Step::Add(&[1_000_000]),
+            Step::Ask(&[-1], Wanted::Core(&[-1])),
+            Step::Ask(&[-500_000], Wanted::Core(&[-500_000])),
+        ],
+    ),
+    (
+        "variables in falling order",
+        &[
+            Step::Add(&[900, 700]),
+            Step::Add(&[-900, 500]),
+            Step::Ask(&[-700], Wanted::Model(&[900, -700, 500])),
+            Step::Add(&[-500, 300, 100]),
+            Step::Ask(&[-700, -100], Wanted::Model(&[900, -700, 500, 300, -100])),
+            Step::Ask(&[-100, -300, -700], Wanted::Core(&[-100, -300, -700])),
+            Step::Ask(&[-300, 700, -500], Wanted::Model(&[-300, 700, -500, -900])),
+        ],
+    ),
+    (
+        "what stands nowhere is false",
+        &[
+            Step::Add(&[6]),
+            Step::Ask(&[-3, 8], Wanted::Model(&[-1, -2, -3, -4, -5, 6, -7, 8])),
+            Step::Add(&[-2, 4]),
+            Step::Ask(&[2, 9], Wanted::Model(&[-1, 2, 4, -5, 6, -7, 9])),
+        ],
+    ),
+    (
+        "assumptions that name variables",
+        &[
+            Step::Ask(&[40, -20], Wanted::Model(&[40, -20])),
+            Step::Ask(&[20, 60, -20], Wanted::Core(&[20, -20])),
+            Step::Add(&[-60, 20]),
+            Step::Ask(&[60, 80], Wanted::Model(&[60, 80, 20])),
+            Step::Ask(&[100, 60, -20], Wanted::Core(&[60, -20])),
         ],
     ),
     (
