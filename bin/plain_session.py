@@ -6,6 +6,8 @@ import subprocess
 import threading
 
 CALLS, VARIABLES, SECONDS = 100, 12, 60
+# the variables are some of those up to one of these
+GREATEST = (VARIABLES, VARIABLES, 2000)
 # what stands behind a call; a question has to end its line, and be flushed, before its answer comes
 CUTS = ("\n", "\n", "\n", " ", "\n\n", " \t\n")
 
@@ -24,11 +26,16 @@ def every(literals):
     return functools.reduce(operator.and_, map(assignments, literals), (1 << (1 << VARIABLES)) - 1)
 
 
-def is_session_answer(status, literals, models, asked, greatest):
-    """Whether an answer is right, by the assignments that satisfy the clauses, the assumptions, and the greatest variable so far."""
+def is_session_answer(status, literals, models, asked):
+    """Whether an answer is right, by the assignments that satisfy the clauses, and the assumptions."""
     if status == 10:
-        return [*map(abs, literals)] == [*range(1, greatest + 1)] and {*asked} <= {*literals} and every(literals) & models != 0
+        return {*asked} <= {*literals} and every(literals) & models != 0
     return {*literals} <= {*asked} and every(literals) & models == 0
+
+
+def is_whole(literals, named):
+    """Whether a model has each variable up to the greatest of those named so far, and others are false."""
+    return [*map(abs, literals)] == [*range(1, max(named, default=0) + 1)] and all(it < 0 for it in literals if abs(it) not in named)
 
 
 class Session:
@@ -88,7 +95,16 @@ class Sequence:
     def __init__(self, dice, session, counts):
         self.dice, self.session, self.counts = dice, session, counts
         self.variables = dice.randint(1, VARIABLES)
-        self.models, self.greatest, self.status, self.is_limited = every([]), 0, 0, False
+        numbers = dice.sample(range(1, dice.choice(GREATEST) + 1), VARIABLES)
+        self.numbers = {place * sign: number * sign for place, number in enumerate(numbers, 1) for sign in (1, -1)}
+        self.places = {number: place for place, number in self.numbers.items()}
+        self.models, self.named, self.status, self.is_limited = every([]), set(), 0, False
+
+    def name(self, literals):
+        """The literals in the numbers that the text has for variables."""
+        said = [self.numbers[it] for it in literals]
+        self.named |= {*map(abs, said)}
+        return said
 
     def put(self, *words, ends_line=False):
         self.session.send(" ".join(map(str, words)) + ("\n" if ends_line else self.dice.choice(CUTS)))
@@ -96,9 +112,8 @@ class Sequence:
     def add(self):
         clause = random_clause(self.dice, self.variables)
         if self.models & some(clause) or self.dice.random() < 0.03:
-            self.put(*clause, 0)
+            self.put(*self.name(clause), 0)
             self.models &= some(clause)
-            self.greatest = max([self.greatest, *map(abs, clause)])
 
     def limit(self):
         self.put("t", self.dice.choice((1, 5, 60)))
@@ -107,13 +122,14 @@ class Sequence:
     def ask(self):
         """What is wrong with the answer to a question, or nothing."""
         asked = [self.dice.choice((-1, 1)) * self.dice.randint(1, self.variables) for _ in range(self.dice.choice((0, 0, 1, 2, 3, 4, 6, 9)))]
-        self.put("a", *asked, 0, ends_line=True)
-        self.greatest = max([self.greatest, *map(abs, asked)])
-        status, literals = self.session.answer()
-        is_right = self.is_limited if status == 0 else status is not None and is_session_answer(status, literals, self.models, asked, self.greatest)
+        self.put("a", *self.name(asked), 0, ends_line=True)
+        status, said = self.session.answer()
+        literals = [self.places[it] for it in said if it in self.places]
+        is_read = status is not None and (is_whole(said, self.named) if status == 10 else len(literals) == len(said))
+        is_right = is_read and (self.is_limited if status == 0 else is_session_answer(status, literals, self.models, asked))
         self.counts[{10: "answers with a model", 20: "with a core", 0: "with neither"}.get(status)] += 1
         self.status, self.is_limited = status, False
-        return None if is_right else f"an answer to {asked}: {status}, {literals}"
+        return None if is_right else f"an answer to {self.name(asked)}: {status}, {said}"
 
     def play(self):
         """What is wrong with an answer or with the status, or nothing."""
