@@ -94,11 +94,23 @@ fn put_clause(
     Ok(())
 }
 
+/// Makes a trail one of so many variables, unless it is.
+fn make_room(alloc: Global, held: &mut Trail, vars: u32) -> Result<(), AllocError>
+    requires { vars < 2 ^ 31 }
+    ensures { OnOk result (held.new.vars ≡ vars) }
+{
+    if held.vars() != vars {
+        *held = Trail::with_room(alloc, vars)?;
+    }
+    Ok(())
+}
+
 /// Puts the clauses of a formula from one on into a kernel, as far as the first empty one. Whether
-/// all are put.
+/// all are put. The trail is room for that: made once, it serves until the kernel has more variables.
 pub(crate) fn put_from(
     alloc: Global,
     kernel: &mut SearchKernel,
+    held: &mut Trail,
     formula: &GrowingFormula,
     from: usize,
 ) -> Result<bool, AllocError>
@@ -109,14 +121,14 @@ pub(crate) fn put_from(
     ensures part { IfOk result (λ all. all ≡ false → IsAttached formula.now.clauses from from kernel.old.clauses kernel.new.clauses) }
     ensures kept { OnOk result (IsSameKernel kernel.old kernel.new) }
 {
-    let mut held = Trail::with_room(alloc, kernel.vars())?;
+    make_room(alloc, held, kernel.vars())?;
     let mut lits = Vec::new(alloc);
     for place in from..formula.clause_count() {
         let clause = formula.clause(place);
         if clause.is_empty() {
             return Ok(false);
         }
-        put_clause(alloc, kernel, &mut held, &mut lits, clause)?;
+        put_clause(alloc, kernel, held, &mut lits, clause)?;
     }
     Ok(true)
 }

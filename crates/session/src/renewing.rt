@@ -213,7 +213,7 @@ impl Search {
             return Ok(true);
         }
         let alloc = *self.marked.allocator();
-        let all = put_from(alloc, &mut self.kernel, formula, loaded)?;
+        let all = put_from(alloc, &mut self.kernel, &mut self.held, formula, loaded)?;
         note_added(&mut self.glues, self.kernel.count() as usize)?;
         self.units = self.units.saturating_add(units_from(formula, loaded));
         Ok(all)

@@ -13,6 +13,7 @@ use cdcl::Lessons;
 use cnf::{Formula, Lit};
 use kernel::{Cube, Order, SearchKernel};
 use std::alloc::{AllocError, Global};
+use trail::Trail;
 
 /// What stays from question to question, and how far a question is.
 pub(crate) struct Search {
@@ -26,6 +27,8 @@ pub(crate) struct Search {
     pub(crate) choice: Choice,
     /// Marks by variable, none of which is set between two questions.
     pub(crate) marked: Vec<bool>,
+    /// Room for the literals of a clause that is put in.
+    pub(crate) held: Trail,
     /// The glues of the kernel's clauses, 0 of those that were added.
     pub(crate) glues: Vec<u32>,
     /// How many of the kernel's clauses have one literal, at least.
@@ -49,6 +52,7 @@ impl Drop for Search {
             lessons: _,
             choice: _,
             marked: _,
+            held: _,
             glues: _,
             units: _,
             restarts: _,
@@ -119,6 +123,7 @@ impl Search {
             lessons: Lessons::open(alloc, 0)?,
             choice: Choice::open(alloc, 0)?,
             marked: vec![in alloc; false; 1]?,
+            held: Trail::with_room(alloc, 0)?,
             glues: Vec::new(alloc),
             units: 0,
             restarts: Restarts::first(),
