@@ -10,14 +10,26 @@
 # the answer then. It is 3 where no part of a round ended well and no pack came, twice: RUN/joblog.ROUND
 # has the status of each part.
 set -eu
+fail() {
+    echo "parallel.sh: $1" >&2
+    exit 1
+}
+[ $# -ge 1 ] || fail "name the folder of a run: parallel.sh RUN [ROUND]"
 run=$1
+[ -e "$run/run" ] || fail "$run is no run: make one by cubesat divide --into $run FORMULA"
 round=${2:-$(ls "$run/rounds" | tail -n 1)}
 parts=${PARTS:-64}
 minutes=${MINUTES:-60}
 hands=${HANDS:-1}
 program=${CUBESAT:-cubesat}
 where=()
-[ -z "${LOGINS:-}" ] || where=(--sshloginfile "$LOGINS" --filter-hosts)
+command -v parallel > /dev/null || fail "GNU parallel isn't there: install it, or call loop.sh from a scheduler's jobs"
+command -v "$program" > /dev/null || fail "the program $program isn't there: set CUBESAT to its path, which all machines have"
+if [ -n "${LOGINS:-}" ]; then
+    [ -r "$LOGINS" ] || fail "the file of logins $LOGINS can't be read"
+    command -v ssh > /dev/null || fail "ssh isn't there, which GNU parallel calls for the machines of $LOGINS"
+    where=(--sshloginfile "$LOGINS" --filter-hosts)
+fi
 packs() { find "$run/packs" -name '*.pack' 2> /dev/null | wc -l; }
 # the seventh column of the log has a job's status
 has_ended_well() { awk 'NR > 1 && $7 == 0 { found = 1 } END { exit !found }' "$run/joblog.$round" 2> /dev/null; }
