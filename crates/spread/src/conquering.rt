@@ -27,7 +27,7 @@ use std::io::Write;
 use std::time::Clock;
 
 /// After how many seconds what was found is written.
-const SECONDS_OF_A_PACK: u32 = 600;
+const SECONDS_OF_A_PACK: u32 = 60;
 
 /// How a part ended, or a hand of it.
 #[derive(Clone, Copy, Debug, PartialEq, Eq)]
@@ -121,7 +121,7 @@ fn solve_next<R: Files + Alloc + Clone + Drop, E: Write, G: Gate>(
     }
 }
 
-/// Writes what was found in ten minutes, and begins anew.
+/// Writes what was found in a minute, and begins anew.
 fn write_where_due<'a, R: Files + Clock, E: Write>(
     rt: &'a R,
     alloc: Global,
@@ -158,8 +158,8 @@ fn next_cube<E: Write>(
 }
 
 /// Solves the cubes on the way, with what their splits leave, until none is left, a model is found
-/// or the time is over. What was found is written about every ten minutes, and left among the facts
-/// since then.
+/// or the time is over. What was found is written about every minute, and left among the facts since
+/// then.
 fn solve_all<R: Files + Clock + Alloc + Clone + Drop, E: Write, G: Gate>(
     rt: &R,
     alloc: Global,

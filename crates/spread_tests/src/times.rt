@@ -180,20 +180,20 @@ static GATHERED: [Row; 1] = [Row {
 }];
 
 /// What the clock shows in milliseconds, and how many packs there are, with that of the division. A
-/// pack is due ten minutes behind the part's beginning or the pack before, where something was found
+/// pack is due a minute behind the part's beginning or the pack before, where something was found
 /// since; the clock is read once more behind it.
 static PACKS: [(&[u64], usize); 5] = [
-    (&[5_000, 604_999], 2),
+    (&[5_000, 64_999], 2),
     // nothing was found yet
-    (&[5_000, 605_000], 2),
-    (&[5_000, 5_000, 605_000], 3),
+    (&[5_000, 65_000], 2),
+    (&[5_000, 5_000, 65_000], 3),
     // three cubes come behind this pack, and then one
-    (&[5_000, 5_000, 605_000, 605_000, 605_000, 1_205_000], 4),
+    (&[5_000, 5_000, 65_000, 65_000, 65_000, 125_000], 4),
     (&[UNREAD, 5_000, 4_000_000_000_000], 2),
 ];
 
 #[test]
-fn packs_are_written_each_ten_minutes(rt: HostRuntime) -> Result<(), Fail> {
+fn packs_are_written_each_minute(rt: HostRuntime) -> Result<(), Fail> {
     for (millis, count) in &PACKS {
         begin(&rt, DUE, DUE_FORMULA, SIXTEEN)?;
         assert!(rt; first_other(&rt, &QUARTERS).is_none());
