@@ -62,7 +62,7 @@ pub enum Spread<'a> {
         proof: &'a str,
         /// From 1 to 16.
         hands: u32,
-        /// Whether cubes that are missing are solved; without it they are counted.
+        /// Whether cubes that are missing are solved; without it they are counted, and none is.
         solves: bool,
         stats: bool,
         progress: bool,
@@ -171,7 +171,7 @@ pub(crate) fn conquer_command<'a>(alloc: Global) -> Result<Command<'a>, AllocErr
 pub(crate) fn gather_command<'a>(alloc: Global) -> Result<Command<'a>, AllocError> {
     Command::new(alloc, "gather")
         .about(
-            "Check what a run has found, and write proof and answer: status 4 where cubes are missing",
+            "Check what a run has found, and write proof and answer: `s UNKNOWN`, status 0, where cubes are missing",
         )
         .arg(proof_option(alloc))?
         .arg(hands_option(

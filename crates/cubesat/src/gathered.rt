@@ -1,8 +1,9 @@
 //! `gather`: what is said of cubes that are missing, of packs and faults, and its statuses.
 ghost use Rattle.std.specs.Prelude.{◌≡◌, None};
+ghost use Rattle.commands.specs.Status.{verdict_status};
+ghost use Rattle.cubesat.specs.Ends.{IsEndOf};
 
-use crate::standing_lines::open_of;
-use cnf::{Formula, ReadFault, read_formula_within};
+use crate::gathered_store::{Held, formula_of, held_in, print_missing, store_for};
 use commands::{
     FAILED, Input, Known, Locks, PlacedProof, SATISFIABLE, UNSATISFIABLE, begin_proof, open_input,
     print_fault_of, print_no_memory, print_not_begun, print_not_opened,
@@ -10,11 +11,9 @@ use commands::{
 use cubes::HandCount;
 use noticed::{NoticedReader, NoticedWriter};
 use runs::{GatheredFrom, Gathering, RunFault, Verdict, gather_at_once, gather_stored};
-use spread::{
-    Folder, PackStore, RunFile, Said, StoreCounts, formula_bytes_in, progress_in, run_in, store_in,
-};
+use spread::{Folder, PackStore, Said, StoreCounts, unproved_in};
 use statistics::{Board, CountedWriter, Manner, Stage, Watch, show_progress};
-use std::alloc::{AllocError, Global};
+use std::alloc::Global;
 use std::fs::Files;
 use std::io::{Empty, Write};
 use std::sync::Wait;
@@ -22,8 +21,14 @@ use std::thread;
 use std::thread::Threads;
 use std::time::Clock;
 
-/// The status of gathering a run of which cubes are missing.
-const MISSING: u8 = 4;
+/// What gathering came to.
+#[derive(Clone, Copy, Debug, PartialEq, Eq)]
+enum End {
+    /// A verdict or a fault, with what is to be said of it said.
+    Status(u8),
+    /// A cube of which no fact is so, and which isn't to be solved.
+    Unproved,
+}
 
 /// Prints what the packs of a run had, and what was taken of it.
 fn print_counts<E: Write>(faults: &mut E, counts: StoreCounts, gathered: &GatheredFrom) {
@@ -40,33 +45,37 @@ fn print_counts<E: Write>(faults: &mut E, counts: StoreCounts, gathered: &Gather
     );
 }
 
-/// The status of what gathering came to, of which it is said what happened if it came to no verdict.
+/// The status of a verdict.
+fn status_of(verdict: Verdict) -> u8
+    ensures { result ≡ verdict_status verdict }
+{
+    match verdict {
+        Verdict::Satisfiable => SATISFIABLE,
+        Verdict::Unsatisfiable => UNSATISFIABLE,
+    }
+}
+
+/// What gathering came to, of which it is said what happened if it came to a fault. `has_ended` tells
+/// whether it ended at a cube of which no fact is so.
 fn end_gather<R: Files, E: Write>(
     rt: &R,
     faults: &mut E,
     gathered: Result<GatheredFrom, RunFault>,
     known: &Known<'_>,
     counts: Option<StoreCounts>,
-) -> u8 {
+    has_ended: bool,
+) -> End
+    ensures { IsEndOf gathered has_ended result }
+{
     let gathered = match gathered {
         Ok(gathered) => gathered,
-        Err(fault) => return print_fault_of(rt, faults, fault, known, false),
+        Err(_) if has_ended => return End::Unproved,
+        Err(fault) => return End::Status(print_fault_of(rt, faults, fault, known, false)),
     };
     if let Some(counts) = counts {
         print_counts(faults, counts, &gathered);
     }
-    match gathered.verdict {
-        Verdict::Satisfiable => SATISFIABLE,
-        Verdict::Unsatisfiable => UNSATISFIABLE,
-    }
-}
-
-/// What the folder of a run holds, but for its packs.
-#[derive(Drop)]
-struct Held {
-    run: RunFile,
-    /// The formula's bytes.
-    formula: Vec<u8>,
+    End::Status(status_of(gathered.verdict))
 }
 
 /// A run whose result is gathered, and where the proof goes.
@@ -112,7 +121,7 @@ fn proof_begun<'a, R: Files, E: Write, L: Locks<R::File>>(
     }
 }
 
-/// Gathers the result of a run by going through its tree once; the status, if it came to an end.
+/// Gathers the result of a run by going through its tree once; what it came to, if it came to an end.
 /// Otherwise the formula has a model, and nothing is printed or stands in the proof's place.
 fn gather_once<R: Files + Threads + Wait + Clock + Sync, W: Write, E: Write>(
     rt: &R,
@@ -122,7 +131,7 @@ fn gather_once<R: Files + Threads + Wait + Clock + Sync, W: Write, E: Write>(
     proof: PlacedProof<'_, R>,
     answer: &mut W,
     faults: &mut E,
-) -> Option<u8> {
+) -> Option<End> {
     let mut input = NoticedReader::of(run.held.formula.as_slice());
     let watch = Watch {
         rt,
@@ -139,7 +148,7 @@ fn gather_once<R: Files + Threads + Wait + Clock + Sync, W: Write, E: Write>(
         rt,
         alloc,
         &mut input,
-        run.over(store),
+        run.over(&mut *store),
         &mut answer,
         &mut output,
     );
@@ -153,19 +162,21 @@ fn gather_once<R: Files + Threads + Wait + Clock + Sync, W: Write, E: Write>(
         answer_error: answer.error(),
         limits: run.held.run.limits,
     };
-    Some(end_gather(rt, faults, gathered, &known, run.counts))
+    let has_ended = store.has_ended();
+    let end = end_gather(rt, faults, gathered, &known, run.counts, has_ended);
+    Some(end)
 }
 
-/// Gathers the result of a run by going through its tree twice; the status.
+/// Gathers the result of a run by going through its tree twice; what it came to.
 fn gather_twice<R: Files + Threads + Wait + Clock + Sync, W: Write, E: Write>(
     rt: &R,
     alloc: Global,
     run: &GatheredRun<'_, R>,
-    store: PackStore<'_, R>,
+    store: &mut PackStore<'_, R>,
     proof: PlacedProof<'_, R>,
     answer: &mut W,
     faults: &mut E,
-) -> u8 {
+) -> End {
     let mut input = NoticedReader::of(run.held.formula.as_slice());
     let watch = Watch {
         rt,
@@ -182,7 +193,7 @@ fn gather_twice<R: Files + Threads + Wait + Clock + Sync, W: Write, E: Write>(
         rt,
         alloc,
         &mut input,
-        run.over(store),
+        run.over(&mut *store),
         &mut answer,
         &mut output,
     );
@@ -195,37 +206,76 @@ fn gather_twice<R: Files + Threads + Wait + Clock + Sync, W: Write, E: Write>(
         answer_error: answer.error(),
         limits: run.held.run.limits,
     };
-    end_gather(rt, faults, gathered, &known, run.counts)
+    let has_ended = store.has_ended();
+    end_gather(rt, faults, gathered, &known, run.counts, has_ended)
 }
 
-/// Gathers the result of a run from what its packs have; the status. It goes through the tree once
+/// Gathers the result of a run from what its packs have; what it came to. It goes through the tree once
 /// where they claim no model, and the proof can be begun anew if there is one.
 fn gather_opened<R: Files + Threads + Wait + Clock + Sync, W: Write, E: Write, L: Locks<R::File>>(
     rt: &R,
     alloc: Global,
     run: &GatheredRun<'_, R>,
-    mut store: PackStore<'_, R>,
+    store: &mut PackStore<'_, R>,
     answer: &mut W,
     faults: &mut E,
     locks: &L,
-) -> u8 {
+) -> End {
     let mut proof = match proof_begun(rt, alloc, run, faults, locks) {
         Ok(proof) => proof,
-        Err(status) => return status,
+        Err(status) => return End::Status(status),
     };
     if !store.claims_model() && proof.is_apart() {
-        if let Some(status) = gather_once(rt, alloc, run, &mut store, proof, answer, faults) {
-            return status;
+        if let Some(end) = gather_once(rt, alloc, run, store, proof, answer, faults) {
+            return end;
         }
         proof = match proof_begun(rt, alloc, run, faults, locks) {
             Ok(proof) => proof,
-            Err(status) => return status,
+            Err(status) => return End::Status(status),
         };
     }
     gather_twice(rt, alloc, run, store, proof, answer, faults)
 }
 
-/// Gathers the result of a run as `gather_opened` does, with its progress shown by a thread beside it.
+/// Says what has no fact that is so, and that the answer is unknown; the status.
+fn end_unproved<R: Files, W: Write, E: Write>(
+    alloc: Global,
+    folder: Folder<'_>,
+    held: &Held,
+    store: &mut PackStore<'_, R>,
+    answer: &mut W,
+    faults: &mut E,
+) -> u8 {
+    let Ok(formula) = formula_of(alloc, held) else {
+        return print_no_memory(faults, folder.path, false);
+    };
+    let Some(formula) = formula else {
+        return FAILED; // it was read before
+    };
+    match unproved_in(alloc, folder, &held.run, &formula, store, faults) {
+        Ok(missing) => print_missing(answer, faults, folder.path, missing),
+        Err(Said) => FAILED,
+    }
+}
+
+/// Gathers the result of a run as `gather_opened` does, and says what it came to; the status.
+fn gather_told<R: Files + Threads + Wait + Clock + Sync, W: Write, E: Write, L: Locks<R::File>>(
+    rt: &R,
+    alloc: Global,
+    folder: Folder<'_>,
+    run: &GatheredRun<'_, R>,
+    store: &mut PackStore<'_, R>,
+    answer: &mut W,
+    faults: &mut E,
+    locks: &L,
+) -> u8 {
+    match gather_opened(rt, alloc, run, store, answer, faults, locks) {
+        End::Status(status) => status,
+        End::Unproved => end_unproved(alloc, folder, run.held, store, answer, faults),
+    }
+}
+
+/// Gathers the result of a run as `gather_told` does, with its progress shown by a thread beside it.
 /// What it says is printed behind that.
 fn gather_beside<
     R: Files + Threads + Wait + Clock + Sync,
@@ -235,108 +285,26 @@ fn gather_beside<
 >(
     rt: &R,
     alloc: Global,
+    folder: Folder<'_>,
     run: &GatheredRun<'_, R>,
-    store: PackStore<'_, R>,
+    store: &mut PackStore<'_, R>,
     answer: &mut W,
     faults: &mut E,
     locks: &L,
 ) -> u8 {
     let board = run.board;
-    let mut store = Some(store);
     let mut said = Vec::new(alloc);
     let (_, status) = thread::join_mut(
         rt,
         &mut || show_progress(rt, board, faults, Manner::Listed),
         &mut || {
-            let status = match store.take() {
-                Some(store) => gather_opened(rt, alloc, run, store, answer, &mut said, locks),
-                None => FAILED,
-            };
+            let status = gather_told(rt, alloc, folder, run, store, answer, &mut said, locks);
             board.end_progress(rt);
             status
         },
     );
     let _ = faults.write_all(&said);
     status
-}
-
-/// What the folder of a run holds; the formula is the one of the run.
-fn held_in<R: Files, E: Write>(
-    rt: &R,
-    alloc: Global,
-    folder: Folder<'_>,
-    faults: &mut E,
-) -> Result<Held, Said> {
-    let run = run_in(rt, alloc, folder, faults)?;
-    let formula = formula_bytes_in(rt, alloc, folder, &run, faults)?;
-    Ok(Held { run, formula })
-}
-
-/// The run's formula, or that memory was refused. There is none where it can't be read: what is wrong
-/// with it is said where it is gathered.
-fn formula_of(alloc: Global, held: &Held) -> Result<Option<Formula>, AllocError> {
-    match read_formula_within(alloc, &held.formula, held.run.limits) {
-        Ok(formula) => Ok(Some(formula)),
-        Err(ReadFault::NoMemory) => Err(AllocError),
-        Err(_) => Ok(None),
-    }
-}
-
-/// How many cubes the packs of a run leave open. What is said of packs on the way is only printed
-/// where some are, or they can't be told: gathering says it again.
-fn missing_in<R: Files + Alloc + Clone + Drop, E: Write>(
-    rt: &R,
-    alloc: Global,
-    folder: Folder<'_>,
-    run: &RunFile,
-    formula: &Formula,
-    faults: &mut E,
-) -> Result<usize, Said> {
-    let mut said = Vec::new(alloc);
-    let missing = progress_in(rt, alloc, folder, run, formula, &mut said).map(open_of);
-    match missing {
-        Ok(0) => {}
-        _ => {
-            let _ = faults.write_all(&said);
-        }
-    }
-    missing
-}
-
-/// How many variables the formula of a run has, if it can be gathered: none of its cubes is missing,
-/// or those that are will be solved; or else the status, with the reason printed.
-fn vars_of<R: Files + Alloc + Clone + Drop, E: Write>(
-    rt: &R,
-    alloc: Global,
-    folder: Folder<'_>,
-    held: &Held,
-    solves: bool,
-    faults: &mut E,
-) -> Result<u32, u8> {
-    let Ok(formula) = formula_of(alloc, held) else {
-        return Err(print_no_memory(faults, folder.path, false));
-    };
-    let Some(formula) = formula else {
-        return Ok(0);
-    };
-    if solves {
-        return Ok(formula.vars());
-    }
-    match missing_in(rt, alloc, folder, &held.run, &formula, faults) {
-        Ok(0) => Ok(formula.vars()),
-        Ok(missing) => Err(print_missing(faults, folder.path, missing)),
-        Err(Said) => Err(FAILED),
-    }
-}
-
-/// Prints how many cubes are missing, and what to do; the status.
-fn print_missing<E: Write>(faults: &mut E, path: &str, missing: usize) -> u8 {
-    let cubes = if missing == 1 { "cube is" } else { "cubes are" };
-    let _ = writeln!(
-        faults,
-        "cubesat: {path}: {missing} {cubes} missing; write a round of them by `cubesat divide --into` and solve it, or gather with --solve"
-    );
-    MISSING
 }
 
 /// Gathers the result of a run, with its proof written to a file; the status.
@@ -365,15 +333,12 @@ where
     let Ok(held) = held_in(rt, alloc, folder, faults) else {
         return FAILED;
     };
-    let vars = match vars_of(rt, alloc, folder, &held, solves, faults) {
-        Ok(vars) => vars,
+    let mut store = match store_for(rt, alloc, folder, &held, hands, solves, answer, faults) {
+        Ok(store) => store,
         Err(status) => return status,
     };
     let Ok(file) = folder.formula(alloc) else {
         return print_no_memory(faults, folder.path, false);
-    };
-    let Ok(store) = store_in(rt, alloc, folder, &held.run, vars, hands, faults) else {
-        return FAILED;
     };
     let file = file.as_str();
     // it was read; it is opened so that the proof isn't written over it
@@ -391,9 +356,10 @@ where
         counts: if stats { Some(store.counts()) } else { None },
         board: &board,
     };
+    let store = &mut store;
     if shows {
-        gather_beside(rt, alloc, &run, store, answer, faults, locks)
+        gather_beside(rt, alloc, folder, &run, store, answer, faults, locks)
     } else {
-        gather_opened(rt, alloc, &run, store, answer, faults, locks)
+        gather_told(rt, alloc, folder, &run, store, answer, faults, locks)
     }
 }

@@ -3,6 +3,7 @@
 #![tactic(auto)]
 
 mod gathered;
+mod gathered_store;
 mod program;
 mod spreading;
 mod standing_lines;

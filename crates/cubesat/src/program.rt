@@ -168,7 +168,7 @@ pub fn command_with_input<
 /// (`gather`) and says how far they are (`status`). A proof's part is locked by `locks`: of two
 /// runs for one proof at once the later is refused. `divide` prints how many cubes are open, with
 /// status 0, or the answer, with that of `solve`; the status of `conquer` is 0, or 75 where its
-/// time is over; that of `gather` is that of `solve`, or 4 where cubes are missing; that of
+/// time is over; that of `gather` is that of `solve`, 0 also where cubes are missing; that of
 /// `status` is that of `divide`.
 pub fn command_in_folders<
     R: Files + Threads + Wait + Clock + Sync + Alloc + Clone + Drop,

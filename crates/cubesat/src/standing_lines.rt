@@ -20,7 +20,7 @@ fn status_by(progress: Progress) -> u8 {
 }
 
 /// The status of a command whose answer is printed, unless that failed.
-fn status_printed<E: Write>(faults: &mut E, written: io::Result<()>, status: u8) -> u8 {
+pub(crate) fn status_printed<E: Write>(faults: &mut E, written: io::Result<()>, status: u8) -> u8 {
     match written {
         Ok(()) => status,
         Err(error) => {

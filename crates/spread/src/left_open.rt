@@ -80,7 +80,7 @@ pub(crate) fn left_open<R: Files + Alloc + Clone + Drop, E: Write>(
 }
 
 /// The cube without literals, by itself.
-fn root_alone(alloc: Global) -> Result<Vec<Cube>, AllocError>
+pub(crate) fn root_alone(alloc: Global) -> Result<Vec<Cube>, AllocError>
     ensures { IfOk result (λ way. way.items ≡ [] ∷ []) }
 {
     let mut way = Vec::new(alloc);

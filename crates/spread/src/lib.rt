@@ -20,6 +20,7 @@ mod said;
 mod slice;
 mod solving;
 mod standing;
+mod unproved;
 mod way;
 
 pub use conquering::Ended;
@@ -31,3 +32,4 @@ pub use run_file::{RunFile, formula_bytes_in, run_in};
 pub use said::Said;
 pub use slice::Slice;
 pub use standing::{Standing, progress_in, standing_in};
+pub use unproved::{unproved_in, withhold_splits};

@@ -16,13 +16,13 @@ use std::collections::{HashMap, HashSet};
 
 /// What is said of a cube, without the lines of a refuted one.
 #[derive(Clone, Copy)]
-enum Word {
+pub(crate) enum Word {
     Split(u32),
     Refuted,
     Model,
 }
 
-fn word_of(claim: &Claim) -> Word
+pub(crate) fn word_of(claim: &Claim) -> Word
     ensures { result ≡ word_by claim.now }
 {
     match claim {
@@ -43,7 +43,7 @@ fn is_solved(word: &Word) -> bool
 }
 
 /// Cubes above which nothing is asked for, by their literals.
-struct Tops {
+pub(crate) struct Tops {
     lits: HashSet<Vec<Lit>>,
     /// How many literals the shortest and the longest one have.
     shortest: usize,
@@ -62,7 +62,7 @@ impl Drop for Tops {
 }
 
 impl Tops {
-    fn of(alloc: Global, cubes: &[Cube]) -> Result<Tops, AllocError>
+    pub(crate) fn of(alloc: Global, cubes: &[Cube]) -> Result<Tops, AllocError>
         ensures { IfOk result (λ tops. All (IsTop tops) cubes.now) }
     {
         let mut tops = Tops {
@@ -80,7 +80,7 @@ impl Tops {
     }
 
     /// Whether these are the literals of one of them, or of a cube below one.
-    fn are_above(&self, lits: &[Lit]) -> bool
+    pub(crate) fn are_above(&self, lits: &[Lit]) -> bool
         ensures { IsTrue result ↔ IsBelowTop self.now lits.now }
     {
         let end = self.longest.min(lits.len()) + 1;
@@ -164,7 +164,7 @@ pub(crate) struct OpenCubes {
 }
 
 /// Puts the halves of a cube on the way, so that the left one comes first; whether they could be.
-fn put_halves(
+pub(crate) fn put_halves(
     formula: &Formula,
     way: &mut Vec<Cube>,
     cube: &Cube,

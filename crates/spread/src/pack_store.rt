@@ -2,13 +2,14 @@
 
 use crate::folder::Folder;
 use crate::found::{Entry, Found, FoundPack, packs_by_hands};
+use crate::open_cubes::Tops;
 use crate::pack_file::{NOT_WHOLE, Span, packs_of};
 use crate::run_file::RunFile;
 use crate::said::{Said, say, say_error, say_no_memory};
 use cubes::HandCount;
 use gathering::{CubeTable, KeepsFacts};
 use kernel::Cube;
-use packs::{Fact, FactReader};
+use packs::{Claim, Fact, FactReader};
 use std::alloc::{AllocError, Global};
 use std::collections::HashMap;
 use std::fs::Files;
@@ -18,10 +19,11 @@ use std::{fs, io};
 
 /// Where a fact stands.
 #[derive(Clone, Copy, Debug, PartialEq, Eq)]
-struct Place {
+pub(crate) struct Place {
     // the number of its pack
     pack: usize,
     span: Span,
+    claims_model: bool,
 }
 
 /// What packs had. Each number stops at the greatest one.
@@ -35,7 +37,8 @@ pub struct StoreCounts {
     pub broken_off: u64,
 }
 
-/// The facts of a run's packs. Where each stands is kept, and each is read when it is asked for.
+/// The facts of a run's packs. Where each stands is kept, and each is read when it is asked for. Where
+/// none of a cube's is checked, the cube is solved, or the way through the tree ends there.
 #[derive(Drop)]
 pub struct PackStore<'a, R: Files> {
     rt: &'a R,
@@ -47,6 +50,13 @@ pub struct PackStore<'a, R: Files> {
     open: OpenPacks<R::File>,
     counts: StoreCounts,
     claims_model: bool,
+    // so many facts of each pack were found not to be so
+    false_facts: Vec<u64>,
+    // no split of these cubes is given, nor of those below them
+    doubtful: Tops,
+    solves: bool,
+    has_tried_model: bool,
+    has_ended: bool,
 }
 
 impl<'a, R: Files> PackStore<'a, R> {
@@ -64,7 +74,84 @@ impl<'a, R: Files> PackStore<'a, R> {
                 broken_off: 0,
             },
             claims_model: false,
+            false_facts: Vec::new(alloc),
+            doubtful: Tops::of(alloc, &[])?,
+            solves: true,
+            has_tried_model: false,
+            has_ended: false,
         })
+    }
+
+    /// The store by which nothing is solved: where no fact of a cube is checked, the way through the
+    /// tree ends, as for want of memory. Only one cube is solved of which a model is claimed, since
+    /// nothing else tells whether that is so.
+    pub fn without_solving(mut self) -> PackStore<'a, R> {
+        self.solves = false;
+        self
+    }
+
+    /// Whether a way through the tree ended at a cube, since no fact of it is checked.
+    pub fn has_ended(&self) -> bool {
+        self.has_ended
+    }
+
+    /// Whether a cube was solved of which a model is claimed.
+    pub(crate) fn has_tried_model(&self) -> bool {
+        self.has_tried_model
+    }
+
+    /// Gives no split of these cubes from now on, nor of those below them.
+    pub(crate) fn doubt(&mut self, cubes: Tops) {
+        self.doubtful = cubes;
+    }
+
+    /// How many facts it has of a cube.
+    pub(crate) fn count_of(&self, cube: &Cube) -> usize {
+        self.places.count(cube)
+    }
+
+    /// Where the fact of a cube with this number stands, from 0 on.
+    pub(crate) fn place_of(&self, cube: &Cube, number: usize) -> Option<Place> {
+        self.places.item(cube, number).copied()
+    }
+
+    /// Whether a fact claims a model of the cube.
+    pub(crate) fn claims_model_of(&self, cube: &Cube) -> bool {
+        for number in 0..self.places.count(cube) {
+            if let Some(place) = self.places.item(cube, number) {
+                if place.claims_model {
+                    return true;
+                }
+            }
+        }
+        false
+    }
+
+    /// Counts the fact that stands there as one that isn't so.
+    pub(crate) fn count_false(&mut self, place: Place) {
+        if let Some(count) = self.false_facts.get_mut(place.pack) {
+            *count = count.saturating_add(1);
+        }
+    }
+
+    /// Says of which packs facts were found not to be so, and of how many.
+    pub(crate) fn say_false<E: Write>(&self, faults: &mut E) {
+        for (path, count) in self.paths.iter().zip(&self.false_facts) {
+            say_false_of(faults, path.as_str(), *count);
+        }
+    }
+
+    /// What is given of a cube of which no fact is checked, or that the way ends there.
+    fn none_checked(&mut self, cube: &Cube) -> Result<Option<Fact>, AllocError> {
+        if self.solves {
+            return Ok(None);
+        }
+        if !self.has_tried_model && self.claims_model_of(cube) {
+            self.has_tried_model = true;
+            return Ok(None);
+        }
+        self.has_ended = true;
+        Err(AllocError)
     }
 
     /// What was read.
@@ -91,6 +178,7 @@ impl<'a, R: Files> PackStore<'a, R> {
         self.count_found(&found);
         let pack = self.paths.len();
         self.paths.push(path)?;
+        self.false_facts.push(0)?;
         for entry in found.facts {
             let Entry {
                 cube,
@@ -98,7 +186,12 @@ impl<'a, R: Files> PackStore<'a, R> {
                 claims_model,
             } = entry;
             self.claims_model |= claims_model;
-            self.places.put(cube, Place { pack, span })?;
+            let place = Place {
+                pack,
+                span,
+                claims_model,
+            };
+            self.places.put(cube, place)?;
         }
         Ok(())
     }
@@ -120,26 +213,54 @@ impl<'a, R: Files> PackStore<'a, R> {
         }
     }
 
-    /// The fact that stands there, if it can be read.
-    fn fact_at(&mut self, place: Place) -> Result<Option<Fact>, AllocError> {
-        match self.body_at(place)? {
-            Some(body) => self.reader.read(body),
-            None => Ok(None),
+    /// Whether a fact is a split that isn't given.
+    fn is_withheld(&self, fact: &Fact) -> bool {
+        match fact.claim {
+            Claim::Split(_) => self.doubtful.are_above(fact.cube.lits()),
+            Claim::Refuted(_) | Claim::Model => false,
+        }
+    }
+
+    /// The fact that stands there, if it can be read and is given.
+    pub(crate) fn fact_at(&mut self, place: Place) -> Result<Option<Fact>, AllocError> {
+        let Some(body) = self.body_at(place)? else {
+            return Ok(None);
+        };
+        match self.reader.read(body)? {
+            Some(fact) if self.is_withheld(&fact) => Ok(None),
+            fact => Ok(fact),
         }
     }
 }
 
+/// Says how many facts of a pack aren't so, if there are any.
+fn say_false_of<E: Write>(faults: &mut E, path: &str, count: u64) {
+    let words = match count {
+        0 => return,
+        1 => "fact that isn't so",
+        _ => "facts that aren't so",
+    };
+    let _ = writeln!(
+        faults,
+        "cubesat: {path}: {count} {words}; take the pack away before the next round is written"
+    );
+}
+
 impl<R: Files> KeepsFacts for PackStore<'_, R> {
+    // The last one is asked for first, so number 0 is none of the packs' and comes where none of these
+    // is checked.
     fn count(&self, cube: &Cube) -> usize {
-        self.places.count(cube)
+        self.count_of(cube).saturating_add(1)
     }
 
     fn fact(&mut self, cube: &Cube, number: usize) -> Result<Option<Fact>, AllocError> {
-        let place = match self.places.item(cube, number) {
-            Some(place) => *place,
-            None => return Ok(None),
+        let Some(number) = number.checked_sub(1) else {
+            return self.none_checked(cube);
         };
-        self.fact_at(place)
+        match self.place_of(cube, number) {
+            Some(place) => self.fact_at(place),
+            None => Ok(None),
+        }
     }
 
     fn ordered(&self) -> usize {

@@ -169,7 +169,7 @@ fn of_two_facts_the_later_one_serves(rt: HostRuntime) -> Result<(), Fail> {
 
 /// A pack with the split of the first cube, two claimed models, three bodies that are no facts, and a
 /// broken end, beside that of the division.
-static COUNTED: [Step; 4] = [
+static COUNTED: [Step; 5] = [
     Step::Ends(Row {
         words: &[
             "cubesat",
@@ -194,6 +194,19 @@ static COUNTED: [Step; 4] = [
         words: &[
             "cubesat",
             "gather",
+            "--proof",
+            "spread_counts.lrat",
+            "spread_counts",
+        ],
+        status: 0,
+        answer: "s UNKNOWN\n",
+        faults: "cubesat: spread_counts/packs/971900806fb5f0b9b2f7dfd0bf128ee4f872e872c5e3ca5db8c7875fc0aa25df.pack: 2 facts that aren't so; take the pack away before the next round is written\ncubesat: spread_counts: 2 cubes are missing; write",
+    }),
+    Step::Ends(Row {
+        words: &[
+            "cubesat",
+            "gather",
+            "--solve",
             "--proof",
             "spread_counts.lrat",
             "--stats",

@@ -173,8 +173,8 @@ fn a_model_closes_what_lies_right_of_it(rt: HostRuntime) -> Result<(), Fail> {
 
 const UNFINISHED: Row = Row {
     words: &["cubesat", "gather", "--proof", PROOF, RUN],
-    status: 4,
-    answer: "",
+    status: 0,
+    answer: "s UNKNOWN\n",
     faults: "cubesat: spread_standing: 2 cubes are missing; write a round of them by `cubesat divide --into` and solve it, or gather with --solve\n",
 };
 

@@ -124,6 +124,33 @@ fn what_is_so_is_taken(rt: HostRuntime) -> Result<(), Fail> {
     Ok(())
 }
 
+const UNASKED: Row = Row {
+    words: &["cubesat", "gather", "--proof", PROOF, RUN],
+    status: 0,
+    answer: "s UNKNOWN\n",
+    faults: "cubesat: spread_stores/packs/18c71143cce50f9458b242c0e9254d1de3568b9c0753124934060f6dfba8bc77.pack: 1 fact that isn't so; take the pack away before the next round is written\ncubesat: spread_stores: 1 cube is missing; write a round of them by `cubesat divide --into` and solve it, or gather with --solve\n",
+};
+
+/// Nothing is solved unasked where the only fact of a cube isn't so, and no proof is left.
+static NOT_SOLVED: [Step; 4] = [
+    Step::Put(PROOF, "an old proof"),
+    Step::Ends(UNASKED),
+    Step::Ends(Row {
+        words: &["cubesat", "gather", "--proof", PROOF, "--hands", "3", RUN],
+        ..UNASKED
+    }),
+    Step::Holds(PROOF, "an old proof"),
+];
+
+#[test]
+fn what_is_not_so_is_named(rt: HostRuntime) -> Result<(), Fail> {
+    begin(&rt, RUN, FORMULA, FOUR)?;
+    check_steps(&rt, &MADE);
+    check_steps(&rt, &[WRONG_LEFT, CUT_IN_LENGTH]);
+    check_steps(&rt, &NOT_SOLVED);
+    Ok(())
+}
+
 /// Without packs all is solved, and without their folder that is said.
 static NO_PACKS: [Step; 9] = [
     Step::Ends(Row {
