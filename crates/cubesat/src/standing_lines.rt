@@ -1,11 +1,12 @@
 //! How far a run is that is spread over machines, as it is printed.
 
 use commands::{FAILED, SATISFIABLE, UNSATISFIABLE};
-use spread::{Folder, Progress, Said, Standing, standing_in};
+use spread::{Folder, PartNote, Progress, Said, Standing, standing_in};
 use std::alloc::Global;
 use std::fs::Files;
 use std::io;
 use std::io::Write;
+use std::time::Clock;
 
 /// The status where cubes are open, and where a part is solved.
 pub(crate) const DONE: u8 = 0;
@@ -55,28 +56,39 @@ pub(crate) fn open_of(progress: Progress) -> usize {
     }
 }
 
+/// Writes the name of a part that is at work, and how old its last word is.
+fn write_part<W: Write>(answer: &mut W, part: &PartNote) -> io::Result<()> {
+    let name = part.name.as_str();
+    match part.age {
+        Some(age) => writeln!(answer, "part {name} {age}"),
+        None => writeln!(answer, "part {name}"),
+    }
+}
+
+/// Writes how many parts are at work, and a line of each.
+fn write_parts<W: Write>(answer: &mut W, parts: &[PartNote]) -> io::Result<()> {
+    let count = parts.len();
+    writeln!(answer, "parts {count}")?;
+    for part in parts {
+        write_part(answer, part)?;
+    }
+    Ok(())
+}
+
 /// Writes how far a run is, a number a line.
 fn write_standing<W: Write>(answer: &mut W, standing: &Standing) -> io::Result<()> {
-    let Standing {
-        rounds,
-        progress,
-        solved,
-        under_way,
-        seconds,
-    } = *standing;
-    let open = open_of(progress);
-    write!(
-        answer,
-        "rounds {rounds}\nopen {open}\nsolved {solved}\nparts {under_way}\n"
-    )?;
-    match seconds {
+    let (rounds, solved) = (standing.rounds, standing.solved);
+    let open = open_of(standing.progress);
+    write!(answer, "rounds {rounds}\nopen {open}\nsolved {solved}\n")?;
+    write_parts(answer, &standing.at_work)?;
+    match standing.seconds {
         Some(seconds) => writeln!(answer, "seconds {seconds}"),
         None => Ok(()),
     }
 }
 
 /// Prints how far a run is, with its numbers; the status.
-pub(crate) fn print_standing<R: Files + Alloc + Clone + Drop, W: Write, E: Write>(
+pub(crate) fn print_standing<R: Files + Clock + Alloc + Clone + Drop, W: Write, E: Write>(
     rt: &R,
     alloc: Global,
     folder: Folder<'_>,

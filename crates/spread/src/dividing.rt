@@ -8,6 +8,7 @@ use crate::begun::begun_for;
 use crate::breadth::{Division, by_breadth};
 use crate::folder::{Folder, read_file, sum_of, write_file};
 use crate::left_open::open_in;
+use crate::notes::{PartNote, parts_at_work};
 use crate::pack_file::write_pack;
 use crate::round_file::{next_round, write_round};
 use crate::run_file::{RunFile, formula_in, formula_of, run_in, run_of, run_text};
@@ -18,6 +19,7 @@ use kernel::Cube;
 use std::alloc::{AllocError, Global};
 use std::fs::Files;
 use std::io::{ErrorKind, Write};
+use std::time::Clock;
 use std::{fs, io};
 use strategies::{Strategy, Unobserved, chosen};
 
@@ -207,15 +209,33 @@ pub fn divide<R: Files, E: Write, G: Gate>(
     )
 }
 
+/// Says how many parts are at work, if any are, and how old their last words are: what they solve is in
+/// the next round too.
+fn say_at_work<E: Write>(faults: &mut E, folder: Folder, parts: &[PartNote]) {
+    let (path, count) = (folder.path, parts.len());
+    let youngest = parts.iter().filter_map(|part| part.age).min();
+    let oldest = parts.iter().filter_map(|part| part.age).max();
+    if let (Some(youngest), Some(oldest)) = (youngest, oldest) {
+        let _ = writeln!(
+            faults,
+            "cubesat: {path}: parts at work, or killed: {count}, whose last words came {youngest} to {oldest} s ago; what they solve is in the next round too"
+        );
+    }
+}
+
 /// Writes the next round of a run: the cubes that its packs leave open. Nothing of what the packs
-/// say is checked; that is what gathering does.
-pub fn divide_again<R: Files + Alloc + Clone + Drop, E: Write>(
+/// say is checked; that is what gathering does. Where parts of the run are at work, that is said.
+pub fn divide_again<R: Files + Clock + Alloc + Clone + Drop, E: Write>(
     rt: &R,
     alloc: Global,
     folder: Folder,
     faults: &mut E,
 ) -> Result<Progress, Said> {
     let run = run_in(rt, alloc, folder, faults)?;
+    let Ok(parts) = parts_at_work(rt, alloc, folder) else {
+        return Err(say_no_memory(faults, folder.path));
+    };
+    say_at_work(faults, folder, &parts);
     let formula = formula_in(rt, alloc, folder, &run, faults)?;
     let open = open_in(rt, alloc, folder, &run, &formula, faults)?;
     if !open.cubes.is_empty() {

@@ -72,7 +72,7 @@ impl<'a> Folder<'a> {
         format!(in alloc; "{path}/rounds/{number:04}")
     }
 
-    /// The folder of the parts that are under way.
+    /// The folder of the parts that are at work.
     pub fn parts(self, alloc: Global) -> Result<String, AllocError>
         ensures { IfOk result (λ path. string_bytes path ≡ self.entry.path.now ++ codes "/parts") }
     {
@@ -80,11 +80,19 @@ impl<'a> Folder<'a> {
         format!(in alloc; "{path}/parts")
     }
 
-    /// The note of a part of a round that is under way.
+    /// The note of a part of a round that is at work.
     pub fn part(self, alloc: Global, round: u32, slice: Slice) -> Result<String, AllocError> {
         let path = self.path;
         let (number, parts) = (slice.number(), slice.parts());
         format!(in alloc; "{path}/parts/{round:04}-{number}-{parts}")
+    }
+
+    /// The note of a part by its name.
+    pub fn note(self, alloc: Global, name: &str) -> Result<String, AllocError>
+        ensures { IfOk result (λ path. string_bytes path ≡ self.entry.path.now ++ codes "/parts/" ++ name.now) }
+    {
+        let path = self.path;
+        format!(in alloc; "{path}/parts/{name}")
     }
 
     /// The pack of a name.

@@ -1,5 +1,5 @@
 //! Notes in the folder of a run: where models were found, so that parts which have only cubes right
-//! of one can end, and which parts are under way. A part that is killed leaves its own.
+//! of one can end, and which parts are at work. A part that is killed leaves its own.
 ghost use Rattle.std.specs.Prelude.{◌≡◌, ◌++◌, IfOk, map, take, codes, string_bytes};
 ghost use Rattle.spread.specs.Models.{sign};
 
@@ -8,6 +8,8 @@ use crate::slice::Slice;
 use kernel::Cube;
 use std::alloc::{AllocError, Global};
 use std::fs::Files;
+use std::io::{ErrorKind, Write};
+use std::time::{Clock, SystemTime};
 use std::{fs, io};
 
 /// Of so many literals at most the name of a model tells the signs, since a file's name is bounded.
@@ -78,6 +80,7 @@ pub(crate) fn is_needless<R: Files + Alloc + Clone + Drop>(
     found_left(rt, alloc, folder, cube).unwrap_or(false)
 }
 
+// a byte is written, so that any file system counts it as written anew
 fn make_note<R: Files>(
     rt: &R,
     alloc: Global,
@@ -87,12 +90,12 @@ fn make_note<R: Files>(
 ) -> io::Result<()> {
     let _ = fs::create_dir(rt, folder.parts(alloc)?.as_str()); // it is there mostly
     let path = folder.part(alloc, round, slice)?;
-    fs::create(rt, path.as_str())?;
-    Ok(())
+    let mut file = fs::create(rt, path.as_str())?;
+    file.write_all(b"\n")
 }
 
-/// Notes that a part of a round has begun. That it can't be noted hinders nothing.
-pub(crate) fn note_begun<R: Files>(
+/// Notes that a part of a round is at work now. That it can't be noted hinders nothing.
+pub(crate) fn note_at_work<R: Files>(
     rt: &R,
     alloc: Global,
     folder: Folder,
@@ -115,29 +118,56 @@ pub(crate) fn note_ended<R: Files>(
     }
 }
 
-fn count_notes<R: Files + Alloc + Clone + Drop>(
-    rt: &R,
-    alloc: Global,
-    folder: Folder,
-    round: u32,
-) -> io::Result<usize> {
-    let beginning = format!(in alloc; "{round:04}-")?;
-    let mut count = 0usize;
-    for entry in fs::read_dir(rt, folder.parts(alloc)?.as_str())? {
-        let entry = entry?;
-        if entry.file_name().starts_with(beginning.as_str()) {
-            count = count.saturating_add(1);
-        }
-    }
-    Ok(count)
+/// A part of a run that has begun and not ended, or was killed.
+#[derive(Debug, PartialEq, Eq, Drop)]
+pub struct PartNote {
+    /// The name of its note: the round, the part's number and how many parts there are, as `0001-3-16`.
+    pub name: String,
+    /// How many seconds ago it was written last, if the times of files tell.
+    pub age: Option<u64>,
 }
 
-/// How many parts of a round are under way, or were killed. Where the notes can't be read, none.
-pub(crate) fn count_under_way<R: Files + Alloc + Clone + Drop>(
+/// The names of the notes in the folder of parts, in their order.
+fn names_in<R: Files + Alloc + Clone + Drop>(
     rt: &R,
     alloc: Global,
     folder: Folder,
-    round: u32,
-) -> usize {
-    count_notes(rt, alloc, folder, round).unwrap_or(0)
+) -> io::Result<Vec<String>> {
+    let mut names = Vec::new(alloc);
+    for entry in fs::read_dir(rt, folder.parts(alloc)?.as_str())? {
+        let entry = entry?;
+        names.push(String::from_str(alloc, entry.file_name())?)?;
+    }
+    names.sort_unstable();
+    Ok(names)
+}
+
+/// How many seconds ago a file was written, if its time and the clock tell; one of a clock ahead, 0.
+fn age_of<R: Files + Clock>(rt: &R, path: &str) -> io::Result<u64> {
+    let written = fs::metadata(rt, path)?.modified()?;
+    match SystemTime::now(rt)?.duration_since(written) {
+        Ok(time) => Ok(time.as_secs()),
+        Err(_) => Ok(0),
+    }
+}
+
+/// The parts of a run that are at work, or were killed, by their names. Where the notes can't be read,
+/// none is known; it fails where a request for memory is refused.
+pub(crate) fn parts_at_work<R: Files + Clock + Alloc + Clone + Drop>(
+    rt: &R,
+    alloc: Global,
+    folder: Folder,
+) -> Result<Vec<PartNote>, AllocError> {
+    let names = match names_in(rt, alloc, folder) {
+        Ok(names) => names,
+        Err(error) if error.kind() == ErrorKind::OutOfMemory => return Err(AllocError),
+        Err(_) => Vec::new(alloc),
+    };
+    let mut parts = Vec::new(alloc);
+    for name in names {
+        let path = folder.note(alloc, name.as_str())?;
+        let age = age_of(rt, path.as_str()).ok();
+        parts.push(PartNote { name, age })?;
+    }
+    Ok(parts)
 }

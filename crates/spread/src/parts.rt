@@ -6,8 +6,9 @@ use crate::begun::begun_for;
 use crate::conquering::Ended;
 use crate::folder::Folder;
 use crate::hands::conquer_by_hands;
+use crate::heartbeat::Heartbeat;
 use crate::left_open::left_open;
-use crate::notes::{note_begun, note_ended};
+use crate::notes::{note_at_work, note_ended};
 use crate::open_cubes::OpenCubes;
 use crate::round_file::read_round;
 use crate::run_file::{RunFile, formula_in, run_in};
@@ -117,7 +118,8 @@ where
 /// Hands take the cubes from left to right. It ends at a model, and where one is known left of the
 /// next cube, since the cubes that wait lie right of it. It can be stopped at any moment, and
 /// started twice: it goes on from what was written. It reads all packs once, at its beginning.
-/// While it is under way, a note in the run's folder says so, and the gate is told of each cube.
+/// While it is at work, a note in the run's folder says so, which is written anew about each minute,
+/// and the gate is told of each cube.
 pub fn conquer<R: Files + Clock + Threads + Sync + Alloc + Clone + Drop, E: Write, G: Gate + Sync>(
     rt: &R,
     alloc: Global,
@@ -134,9 +136,10 @@ where
     R::Dir: Send,
     R::A: Send,
 {
-    note_begun(rt, alloc, folder, round, slice);
+    note_at_work(rt, alloc, folder, round, slice);
+    let heartbeat = Heartbeat::of(rt, alloc, folder, round, slice, gate);
     let ended = solve_part(
-        rt, alloc, folder, round, slice, minutes, hands, gate, faults,
+        rt, alloc, folder, round, slice, minutes, hands, &heartbeat, faults,
     );
     note_ended(rt, alloc, folder, round, slice);
     ended

@@ -11,9 +11,9 @@ use cdcl::{Plan, Search};
 use cnf::{Formula, Limits, read_formula_within};
 use std::alloc::{AllocError, Global};
 use std::fs::Files;
-use std::io::Write;
-use std::str;
+use std::io::{ErrorKind, Write};
 use std::str::Lines;
+use std::{fs, io, str};
 use strategies::Strategy;
 
 /// The greatest budget of a root by each search.
@@ -218,6 +218,31 @@ pub(crate) fn run_of(alloc: Global, bytes: &[u8]) -> Result<Option<RunFile>, All
     }))
 }
 
+/// Whether a run was begun in a folder: its formula is there.
+fn is_begun<R: Files>(rt: &R, alloc: Global, folder: Folder) -> io::Result<bool> {
+    fs::exists(rt, folder.formula(alloc)?.as_str())
+}
+
+/// Says why the file of a run can't be read.
+fn say_no_run<R: Files, E: Write>(
+    rt: &R,
+    alloc: Global,
+    folder: Folder,
+    path: &str,
+    error: io::Error,
+    faults: &mut E,
+) -> Said {
+    let is_missing = error.kind() == ErrorKind::NotFound;
+    if is_missing && is_begun(rt, alloc, folder).unwrap_or(false) {
+        return say(
+            faults,
+            folder.path,
+            "`divide` hasn't ended here: run it again",
+        );
+    }
+    say_error(faults, path, error)
+}
+
 /// The run of a folder, or why there is none, which is said.
 pub fn run_in<R: Files, E: Write>(
     rt: &R,
@@ -228,18 +253,19 @@ pub fn run_in<R: Files, E: Write>(
     let Ok(path) = folder.run(alloc) else {
         return Err(say_no_memory(faults, folder.path));
     };
-    let bytes = match read_file(rt, alloc, path.as_str()) {
+    let path = path.as_str();
+    let bytes = match read_file(rt, alloc, path) {
         Ok(bytes) => bytes,
-        Err(error) => return Err(say_error(faults, path.as_str(), error)),
+        Err(error) => return Err(say_no_run(rt, alloc, folder, path, error, faults)),
     };
     match run_of(alloc, &bytes) {
         Ok(Some(run)) => Ok(run),
         Ok(None) => Err(say(
             faults,
-            path.as_str(),
+            path,
             "not a run that this version makes; make one by `cubesat divide --into`",
         )),
-        Err(_) => Err(say_no_memory(faults, path.as_str())),
+        Err(_) => Err(say_no_memory(faults, path)),
     }
 }
 

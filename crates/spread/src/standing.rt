@@ -5,27 +5,27 @@ ghost use Rattle.spread.specs.Progress.{IsKnown};
 use crate::dividing::{Progress, progress_of};
 use crate::folder::Folder;
 use crate::left_open::open_in;
-use crate::notes::count_under_way;
+use crate::notes::{PartNote, parts_at_work};
 use crate::pack_file::packs_of;
 use crate::round_file::rounds_of;
 use crate::run_file::{RunFile, formula_in, run_in};
-use crate::said::Said;
+use crate::said::{Said, say_no_memory};
 use cnf::Formula;
 use std::alloc::Global;
 use std::fs::Files;
 use std::io::Write;
-use std::time::SystemTime;
+use std::time::{Clock, SystemTime};
 use std::{fs, io};
 
 /// How far a run is.
-#[derive(Clone, Copy, Debug, PartialEq, Eq)]
+#[derive(Debug, PartialEq, Eq, Drop)]
 pub struct Standing {
     pub rounds: u32,
     pub progress: Progress,
     /// Of how many cubes packs say that they are refuted or have a model.
     pub solved: usize,
-    /// So many parts of the last round have begun and not ended; some may have been killed.
-    pub under_way: usize,
+    /// The parts of all rounds that have begun and not ended; some may have been killed.
+    pub at_work: Vec<PartNote>,
     /// From when the run was made until its last pack came, if the times of the files tell.
     pub seconds: Option<u64>,
 }
@@ -85,7 +85,7 @@ fn seconds_until<R: Files>(
 
 /// How far a run is, or why that can't be told, which is said. It reads all packs, as `divide_again`
 /// does.
-pub fn standing_in<R: Files + Alloc + Clone + Drop, E: Write>(
+pub fn standing_in<R: Files + Clock + Alloc + Clone + Drop, E: Write>(
     rt: &R,
     alloc: Global,
     folder: Folder,
@@ -96,11 +96,14 @@ pub fn standing_in<R: Files + Alloc + Clone + Drop, E: Write>(
     let names = packs_of(rt, alloc, folder, faults)?;
     let rounds = rounds_of(rt, alloc, folder, faults)?;
     let open = open_in(rt, alloc, folder, &run, &formula, faults)?;
+    let Ok(at_work) = parts_at_work(rt, alloc, folder) else {
+        return Err(say_no_memory(faults, folder.path));
+    };
     Ok(Standing {
         rounds,
         progress: progress_of(open.cubes.len(), open.has_model),
         solved: open.solved,
-        under_way: count_under_way(rt, alloc, folder, rounds),
+        at_work,
         seconds: seconds_until(rt, alloc, folder, &names).unwrap_or(None),
     })
 }

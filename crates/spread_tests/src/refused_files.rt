@@ -124,7 +124,7 @@ static BEGUN_AGAIN: [Step; 9] = [
         words: &["cubesat", "divide", "--into", "spread_begun"],
         status: 1,
         answer: "",
-        faults: "cubesat: spread_begun/run: ",
+        faults: "cubesat: spread_begun: `divide` hasn't ended here: run it again\n",
     }),
     Step::Ends(Row {
         words: &[

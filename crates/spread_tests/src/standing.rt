@@ -110,14 +110,14 @@ static UNSATISFIABLE: [(&[Step<'static>], Standing); 5] = [
         &KILLED,
         Standing {
             status: 0,
-            lines: "rounds 2\nopen 1\nsolved 1\nparts 1\nseconds ",
+            lines: "rounds 2\nopen 1\nsolved 1\nparts 2\npart 0001-2-2 ",
         },
     ),
     (
         &[SOLVED_RIGHT],
         Standing {
             status: 20,
-            lines: "rounds 2\nopen 0\nsolved 2\nparts 1\nseconds ",
+            lines: "rounds 2\nopen 0\nsolved 2\nparts 2\npart 0001-2-2 ",
         },
     ),
 ];
@@ -204,6 +204,25 @@ static GATHERED: [Step; 10] = [
 fn gathering_says_what_is_missing(rt: HostRuntime) -> Result<(), Fail> {
     begin(&rt, RUN, FORMULA, FOUR)?;
     check_steps(&rt, &GATHERED);
+    Ok(())
+}
+
+/// A part has begun and not ended while the next round is written.
+static AT_WORK: [Step; 3] = [
+    MADE,
+    Step::Put("spread_standing/parts/0001-2-2", ""),
+    Step::Ends(Row {
+        words: &["cubesat", "divide", "--into", RUN],
+        status: 0,
+        answer: "2\n",
+        faults: "cubesat: spread_standing: parts at work, or killed: 1, whose last words came ",
+    }),
+];
+
+#[test]
+fn parts_at_work_are_named(rt: HostRuntime) -> Result<(), Fail> {
+    begin(&rt, RUN, FORMULA, FOUR)?;
+    check_steps(&rt, &AT_WORK);
     Ok(())
 }
 
