@@ -13,4 +13,4 @@ input_remaining of_file of_standard (Standard i) = of_standard i
 -- of a formula's text
 abbrev pub text_remaining : {I : Type 0} → (I → Option (List ℕ)) → FormulaText I → Option (List ℕ)
 text_remaining of_input (AsItIs i) = of_input i
-text_remaining of_input (Strict c) = cursor_remaining (λ v. Some v.items) c
+text_remaining of_input (Strict c lines) = cursor_remaining (λ v. Some v.items) c

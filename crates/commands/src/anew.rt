@@ -2,8 +2,9 @@
 
 use cnf::Place;
 use command_line::STANDARD_INPUT;
+use lenient::Counts;
 use lrat_forms::{Form, ProofText};
-use messages::Excerpt;
+use messages::{Excerpt, header_in};
 use std::fs;
 use std::fs::Files;
 use std::io::Read;
@@ -42,6 +43,14 @@ fn excerpt_in<I: Read + Drop>(mut input: I, place: Place) -> Option<Excerpt> {
 /// The text of a file around a place, where it can be read anew.
 pub(crate) fn excerpt_of<R: Files>(rt: &R, file: &str, place: Place) -> Option<Excerpt> {
     excerpt_in(opened_anew(rt, file)?, place)
+}
+
+/// What the header of a file counts, where the file can be read anew and has few comments before it.
+pub(crate) fn header_of<R: Files>(rt: &R, file: &str) -> Option<Counts> {
+    let mut input = opened_anew(rt, file)?;
+    let mut chunk = [0u8; CHUNK];
+    let count = input.read(&mut chunk).ok()?;
+    header_in(&chunk[..count])
 }
 
 /// The text that a proof's file is read as, around a place, where it can be read anew.

@@ -204,6 +204,7 @@ fn check_files<
     ensures end { IsCheckEnd (limits_of rules.limits) rules.variables (F.remaining formula.entry.file) (read_as (P.remaining proof.entry.file)) result }
     ensures says { CheckEnds (limits_of rules.limits) rules.variables (F.remaining formula.entry.file) (read_as (P.remaining proof.entry.file)) (⟦<NoticedWriter<W> as Write>⟧.contents answer.old) (⟦<NoticedWriter<W> as Write>⟧.contents answer.new) result }
 {
+    let added_lines = formula.added_lines;
     let mut text = NoticedReader::of(formula.file);
     let steps = ProofText::of(NoticedReader::of(proof.file));
     let Ok(mut steps) = Uncommented::of(alloc, steps) else {
@@ -216,6 +217,7 @@ fn check_files<
     let known = Known {
         formula: formula.path,
         proof: proof.path,
+        added_lines,
         beginning: text.beginning(),
         formula_error: text.error(),
         proof_error: steps.inner().inner().error(),
@@ -280,13 +282,18 @@ pub fn check<R: Files + Threads + Wait + Clock + Sync, I: Read + Drop, W: Write,
     };
     let formula = Opened {
         path: file,
+        added_lines: text.added_lines(),
         file: text,
     };
     let size = match size_of(&proof) {
         Some(_) if shown.progress && is_seen_in_binary(rt, path) => None,
         size => size,
     };
-    let proof = Opened { path, file: proof };
+    let proof = Opened {
+        path,
+        file: proof,
+        added_lines: 0,
+    };
     let mut answer = NoticedWriter::of(answer);
     let answer = &mut answer;
     check_files(

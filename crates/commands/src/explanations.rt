@@ -71,7 +71,10 @@ fn of_steps(number: u32) -> Option<&'static str> {
             "No empty clause: each step is right, but none adds the empty clause, so nothing was refuted. The proof may have been cut off.",
         ),
         31 => Some(
-            "Literal out of range: an added clause has a variable that is greater than the formula's number of variables. Proofs with extended resolution have such variables; with --extended they may go up to 262,143, and with --large too up to 100,000,000.",
+            "Literal out of range: an added clause has a variable that is greater than the formula's number of variables. Proofs with extended resolution have such variables; with --extended they may go up to 262,143, and with --large too up to 100,000,000. Any other such proof is most likely that of another formula.",
+        ),
+        32 => Some(
+            "Out of memory while the proof was checked. The program says fault 52 of it; free some memory and check again.",
         ),
         _ => None,
     }
@@ -89,6 +92,9 @@ fn of_text(number: u32) -> Option<&'static str> {
         43 => Some(
             "Bad shape: a line is no addition `NUMBER LITERALS 0 HINTS 0` and no deletion `NUMBER d NUMBERS 0`: a number has the wrong sign, a `0` is missing or stands where none may, or something follows the last `0`.",
         ),
+        44 => Some(
+            "Out of memory while the proof was read. The program says fault 52 of it; free some memory and check again.",
+        ),
         45 => Some(
             "Too long: the proof has more than 4,294,967,296 bytes, or with --large more than 4,611,686,018,427,387,904.",
         ),
@@ -100,7 +106,7 @@ fn of_text(number: u32) -> Option<&'static str> {
 fn of_run(number: u32) -> Option<&'static str> {
     match number {
         51 => Some(
-            "The formula wasn't read; the refusal behind it says why, with line and column, both counted from 1. Nothing was written: the proof's file is as it was. `cubesat explain 51 NUMBER` explains the refusal.",
+            "The formula wasn't read; the refusal after it says why, with line and column, both counted from 1. Nothing was written: the proof's file is as it was. `cubesat explain 51 NUMBER` explains the refusal.",
         ),
         52 => Some(
             "Out of memory. Nothing was written: the proof's file is as it was. Free some memory, or use fewer hands: each has its own copy of the clauses.",

@@ -3,7 +3,7 @@ ghost use Rattle.std.specs.Prelude.{◌≡◌};
 
 use crate::input::shown_name;
 use crate::notes::{note_file, note_files, note_number};
-use crate::worded::{Known, say_fault};
+use crate::worded::{Known, run_fault_in_file, say_fault};
 use messages::{
     Command, say_no_memory, say_not_created, say_not_read, say_part_in_use, say_part_not_created,
 };
@@ -76,6 +76,7 @@ pub(crate) fn print_fault_by<R: Files, E: Write>(
 ) -> u8
     ensures { result ≡ 1 }
 {
+    let fault = run_fault_in_file(fault, known);
     print_fault(faults, fault);
     say_fault(rt, faults, fault, known, command);
     if is_explained {

@@ -22,7 +22,18 @@ const NO_PATH: &str = "none";
 #[derive(Drop)]
 pub(crate) enum FormulaText<I> {
     AsItIs(I),
-    Strict(Cursor<Vec<u8>>),
+    /// The strict text, and how many lines it has before those of the file.
+    Strict(Cursor<Vec<u8>>, u64),
+}
+
+impl<I> FormulaText<I> {
+    /// How many lines the text has before those of the file.
+    pub(crate) fn added_lines(&self) -> u64 {
+        match self {
+            FormulaText::AsItIs(_) => 0,
+            FormulaText::Strict(_, lines) => *lines,
+        }
+    }
 }
 
 impl<I: Read> Read for FormulaText<I> {
@@ -31,7 +42,7 @@ impl<I: Read> Read for FormulaText<I> {
     fn read(&mut self, buf: &mut [u8]) -> io::Result<usize> {
         match self {
             FormulaText::AsItIs(input) => input.read(buf),
-            FormulaText::Strict(text) => text.read(buf),
+            FormulaText::Strict(text, _) => text.read(buf),
         }
     }
 }
@@ -56,6 +67,7 @@ fn read_all<R: Files, I: Read + Drop, E: Write>(
             let known = Known {
                 formula: file,
                 proof: NO_PATH,
+                added_lines: 0,
                 beginning: noticed.beginning(),
                 formula_error: noticed.error(),
                 proof_error: None,
@@ -97,7 +109,8 @@ pub(crate) fn formula_text<R: Files, I: Read + Drop, E: Write>(
     match lenient_text(alloc, text, limits) {
         Ok(lenient) => {
             say_passed_over(faults, shown_name(file.path), &lenient.passed);
-            Ok(FormulaText::Strict(Cursor::new(lenient.text)))
+            let lines = lenient.passed.added_lines();
+            Ok(FormulaText::Strict(Cursor::new(lenient.text), lines))
         }
         Err(_) => Err(print_no_memory(faults, file.path, is_explained)),
     }

@@ -291,6 +291,7 @@ fn solve_opened<
         path: formula.path,
         is_lenient,
     };
+    let added_lines = formula.added_lines;
     let mut input = NoticedReader::of(formula.file);
     let mut output = noticed_proof(proof);
     let answered = run_opened(
@@ -308,6 +309,7 @@ fn solve_opened<
     let known = Known {
         formula: formula.path,
         proof: path,
+        added_lines,
         beginning: input.beginning(),
         formula_error: input.error(),
         proof_error: output.as_ref().and_then(|output| output.error()),
@@ -376,7 +378,11 @@ pub fn solve<
     };
     let proof = match proof {
         Some(path) => match begin_proof(rt, alloc, path, &input, locks) {
-            Ok(placed) => Some(Opened { path, file: placed }),
+            Ok(placed) => Some(Opened {
+                path,
+                file: placed,
+                added_lines: 0,
+            }),
             Err(why) => return print_not_begun(faults, why, file, path, shown.verbose),
         },
         None => None,
@@ -397,6 +403,7 @@ pub fn solve<
     };
     let formula = Opened {
         path: file,
+        added_lines: text.added_lines(),
         file: text,
     };
     let mut answer = NoticedWriter::of(answer);

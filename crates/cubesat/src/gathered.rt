@@ -156,6 +156,7 @@ fn gather_once<R: Files + Threads + Wait + Clock + Sync, W: Write, E: Write>(
     let known = Known {
         formula: run.formula,
         proof: run.proof,
+        added_lines: 0,
         beginning: input.beginning(),
         formula_error: input.error(),
         proof_error: output.error(),
@@ -200,6 +201,7 @@ fn gather_twice<R: Files + Threads + Wait + Clock + Sync, W: Write, E: Write>(
     let known = Known {
         formula: run.formula,
         proof: run.proof,
+        added_lines: 0,
         beginning: input.beginning(),
         formula_error: input.error(),
         proof_error: output.error(),

@@ -1,6 +1,7 @@
 //! How far a run is that is spread over machines, as it is printed.
 
 use commands::{FAILED, SATISFIABLE, UNSATISFIABLE};
+use messages::say_not_printed;
 use spread::{Folder, PartNote, Progress, Said, Standing, standing_in};
 use std::alloc::Global;
 use std::fs::Files;
@@ -25,7 +26,7 @@ pub(crate) fn status_printed<E: Write>(faults: &mut E, written: io::Result<()>, 
     match written {
         Ok(()) => status,
         Err(error) => {
-            let _ = writeln!(faults, "cubesat: standard output: {error}");
+            say_not_printed(faults, error);
             FAILED
         }
     }

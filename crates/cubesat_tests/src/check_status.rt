@@ -84,7 +84,7 @@ static ROWS: [Row; 12] = [
         wanted: Wanted {
             status: 1,
             answer: "refused 21 step 1\n",
-            faults: "c |PROOF|: the number of clause 4 isn't above all numbers before it (line 1)\n",
+            faults: "c |PROOF|: the number of clause 4 isn't above all numbers before it (line 1)\nc does the proof belong to this formula?\n",
         },
         ..REFUSED
     },
@@ -104,7 +104,7 @@ static ROWS: [Row; 12] = [
         wanted: Wanted {
             status: 1,
             answer: "",
-            faults: "fault 51: refusal 5 at line 2, column 3\nc |FORMULA|: a variable above the header's number of variables (line 2, column 3)\nc   1 3 0\nc     ^\n",
+            faults: "fault 51: refusal 5 at line 2, column 3\nc |FORMULA|: a variable above the header's number of variables, 2 (line 2, column 3)\nc   1 3 0\nc     ^\n",
         },
         ..FAULT
     },

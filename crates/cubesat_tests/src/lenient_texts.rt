@@ -45,7 +45,7 @@ const CHECKED: Row = Row {
     after: "5 1 0 1 2 0\n6 0 5 3 4 0\n",
 };
 
-static ROWS: [Row; 10] = [
+static ROWS: [Row; 18] = [
     ALL,
     STRICT,
     CHECKED,
@@ -98,12 +98,94 @@ static ROWS: [Row; 10] = [
         after: "",
         ..STRICT
     },
+    // a header whose counts are wrong, and a word behind that can't be read
+    Row {
+        formula: "p cnf 1 1\n1 2 0\n3 x 0\n",
+        wanted: Wanted {
+            status: 1,
+            answer: "",
+            faults: "c |FORMULA|: passed over: the header's counts, 1 variables and 1 clauses, where the text has 3 and 2\nfault 51: refusal 4 at line 3, column 3\nc |FORMULA|: a word is no whole number in plain digits (line 3, column 3)\nc   3 x 0\nc     ^\n",
+        },
+        after: "",
+        ..STRICT
+    },
+    // no header
     Row {
         formula: "1 0\n",
+        wanted: Wanted {
+            status: 10,
+            answer: "s SATISFIABLE\nv 1 0\n",
+            faults: "c |FORMULA|: passed over: the header is missing; the text has 1 variables and 1 clauses\n",
+        },
+        after: "",
+        ..STRICT
+    },
+    Row {
+        formula: "  c one\n\x0b1 -2 0\n\x0c2 0 -1\n0\n",
+        wanted: Wanted {
+            status: 0,
+            answer: "p cnf 2 3\n1 -2 0\n2 0\n-1 0\n",
+            faults: "c |FORMULA|: passed over: the header is missing; the text has 2 variables and 3 clauses\nc |FORMULA|: passed over: 1 comments that don't begin their line\n",
+        },
+        ..ALL
+    },
+    Row {
+        formula: "c nothing\n",
+        wanted: Wanted {
+            status: 0,
+            answer: "p cnf 0 0\n",
+            faults: "c |FORMULA|: passed over: the header is missing; the text has 0 variables and 0 clauses\n",
+        },
+        ..ALL
+    },
+    // faults of such a text have their places in the file
+    Row {
+        formula: "1 0\n2 y 0\n",
+        wanted: Wanted {
+            status: 1,
+            answer: "",
+            faults: "c |FORMULA|: passed over: the header is missing; the text has 2 variables and 2 clauses\nfault 51: refusal 4 at line 2, column 3\nc |FORMULA|: a word is no whole number in plain digits (line 2, column 3)\nc   2 y 0\nc     ^\n",
+        },
+        after: "",
+        ..STRICT
+    },
+    Row {
+        formula: "1 0 2",
+        words: &["cubesat", "tidy", "--lenient", "FORMULA"],
+        wanted: Wanted {
+            status: 1,
+            answer: "",
+            faults: "c |FORMULA|: passed over: the header is missing; the text has 2 variables and 2 clauses\nfault 51: refusal 8 at line 1, column 6\nc |FORMULA|: the text ends inside a clause, without its 0 (line 1, column 6)\nc   1 0 2\nc        ^\n",
+        },
+        ..ALL
+    },
+    // a header behind clauses
+    Row {
+        formula: "1 0\np cnf 1 1\n",
         wanted: Wanted {
             status: 1,
             answer: "",
             faults: "fault 51: refusal 1 at line 1, column 1\nc |FORMULA|: the header `p cnf VARIABLES CLAUSES` is missing (line 1, column 1)\nc   1 0\nc   ^\n",
+        },
+        after: "",
+        ..STRICT
+    },
+    // a comment behind blanks, inside a clause, and a clause on the header's line
+    Row {
+        formula: "p cnf 2 2\n1\n  c in\n 2 0\n-1 0\n",
+        wanted: Wanted {
+            status: 0,
+            answer: "p cnf 2 2\n1 2 0\n-1 0\n",
+            faults: "c |FORMULA|: passed over: 1 comments that don't begin their line\n",
+        },
+        ..ALL
+    },
+    Row {
+        formula: "p cnf 2 1 1 2 0\n",
+        wanted: Wanted {
+            status: 1,
+            answer: "",
+            faults: "fault 51: refusal 2 at line 1, column 11\nc |FORMULA|: the header is `p cnf VARIABLES CLAUSES`, both numbers in plain digits (line 1, column 11)\nc   p cnf 2 1 1 2 0\nc             ^\n",
         },
         after: "",
         ..STRICT

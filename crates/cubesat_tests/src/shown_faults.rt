@@ -19,7 +19,7 @@ const BAD: &str = "p cnf 2 1\n1 3 0\n";
 const CUT: &str = "5 3 1 0 0\n6 -3 0 0\n";
 
 const READ: &str =
-    "fault 51: refusal 5 at line 2, column 3\nc |FORMULA|: a variable above the header's number of variables (line 2, column 3)\nc   1 3 0\nc     ^\n";
+    "fault 51: refusal 5 at line 2, column 3\nc |FORMULA|: a variable above the header's number of variables, 2 (line 2, column 3)\nc   1 3 0\nc     ^\n";
 
 /// The texts of the formula's and the proof's file, a command line, what it answers, and what is
 /// shown: in pieces what comes before a fault, the fault's lines, the numbers that are explained,

@@ -91,7 +91,7 @@ static ROWS: [Row; 10] = [
         wanted: Wanted {
             status: 1,
             answer: "",
-            faults: "fault 51: refusal 5 at line 2, column 3\nc standard input: a variable above the header's number of variables (line 2, column 3)\n",
+            faults: "fault 51: refusal 5 at line 2, column 3\nc standard input: a variable above the header's number of variables, 2 (line 2, column 3)\n",
         },
         after: "",
     },

@@ -134,17 +134,17 @@ static FORMULAS: [Row; 18] = [
     },
     Row {
         formula: b"p cnf 2 1\n1 3 0\n",
-        faults: "fault 51: refusal 5 at line 2, column 3\nc |FORMULA|: a variable above the header's number of variables (line 2, column 3)\nc   1 3 0\nc     ^\n",
+        faults: "fault 51: refusal 5 at line 2, column 3\nc |FORMULA|: a variable above the header's number of variables, 2 (line 2, column 3)\nc   1 3 0\nc     ^\n",
         ..SOLVED
     },
     Row {
         formula: b"p cnf 2 1\n1 0 2 0\n",
-        faults: "fault 51: refusal 6 at line 2, column 5\nc |FORMULA|: more clauses than the header counts (line 2, column 5)\nc   1 0 2 0\nc       ^\n",
+        faults: "fault 51: refusal 6 at line 2, column 5\nc |FORMULA|: more clauses than the header's number of clauses, 1 (line 2, column 5)\nc   1 0 2 0\nc       ^\n",
         ..SOLVED
     },
     Row {
         formula: b"p cnf 2 2\n1 2 0\n",
-        faults: "fault 51: refusal 7 at line 3, column 1\nc |FORMULA|: the text ends with fewer clauses than the header counts (line 3, column 1)\n",
+        faults: "fault 51: refusal 7 at line 3, column 1\nc |FORMULA|: the text ends with fewer clauses than the header's number of clauses, 2 (line 3, column 1)\n",
         ..SOLVED
     },
     Row {
@@ -213,7 +213,7 @@ static PROOFS: [Row; 27] = [
     Row {
         proof: b"4 1 0 1 2 0\n",
         answer: "refused 21 step 1\n",
-        faults: "c |PROOF|: the number of clause 4 isn't above all numbers before it (line 1)\n",
+        faults: "c |PROOF|: the number of clause 4 isn't above all numbers before it (line 1)\nc does the proof belong to this formula?\n",
         ..CHECKED
     },
     Row {
@@ -233,14 +233,14 @@ static PROOFS: [Row; 27] = [
     Row {
         proof: b"5 1 0 9 0\n",
         answer: "refused 23 step 1\n",
-        faults: "c |PROOF|: clause 5 names clause 9, which isn't there (line 1)\n",
+        faults: "c |PROOF|: clause 5 names clause 9, which isn't there (line 1)\nc does the proof belong to this formula?\n",
         ..CHECKED
     },
     Row {
         formula: WIDE,
         proof: b"5 3 1 0 -8 0\n",
         answer: "refused 23 step 1\n",
-        faults: "c |PROOF|: clause 5 names clause 8, which isn't there (line 1)\n",
+        faults: "c |PROOF|: clause 5 names clause 8, which isn't there (line 1)\nc does the proof belong to this formula?\n",
         ..CHECKED
     },
     Row {
@@ -258,7 +258,7 @@ static PROOFS: [Row; 27] = [
     Row {
         proof: b"5 0 0\n",
         answer: "refused 26 step 1\n",
-        faults: "c |PROOF|: the hints of clause 5 end without a conflict (line 1)\n",
+        faults: "c |PROOF|: the hints of clause 5 end without a conflict (line 1)\nc does the proof belong to this formula?\n",
         ..CHECKED
     },
     Row {
@@ -289,7 +289,7 @@ static PROOFS: [Row; 27] = [
     Row {
         proof: b"5 3 0 0\n",
         answer: "refused 31 step 1\n",
-        faults: "c |PROOF|: clause 5 has a variable that the formula doesn't have; --extended allows that (line 1)\n",
+        faults: "c |PROOF|: clause 5 has a variable that the formula doesn't have (line 1)\nc does the proof belong to this formula?\n",
         ..CHECKED
     },
     Row {
@@ -327,7 +327,7 @@ static PROOFS: [Row; 27] = [
     Row {
         proof: b"a\x02\x00a\x00",
         answer: "refused 21 step 1\n",
-        faults: "c |PROOF|: the number of clause 2 isn't above all numbers before it (step 1)\nc it begins as DRAT does, which has no hints; drat-trim FORMULA FILE -L NEW makes LRAT of that, and cadical --lrat FORMULA NEW writes LRAT\n",
+        faults: "c |PROOF|: the number of clause 2 isn't above all numbers before it (step 1)\nc does the proof belong to this formula?\nc it begins as DRAT does, which has no hints; drat-trim FORMULA FILE -L NEW makes LRAT of that, and cadical --lrat FORMULA NEW writes LRAT\n",
         ..CHECKED
     },
     // in binary the clause 5 and no empty clause, then clause 212, which doesn't follow

@@ -7,5 +7,5 @@ mod passed;
 mod scan;
 mod text;
 
-pub use passed::{Counts, PassedOver};
+pub use passed::{Counts, PassedHeader, PassedOver};
 pub use text::{LenientText, lenient_text};

@@ -16,11 +16,21 @@ impl Counts {
     }
 }
 
+/// What is wrong with the header of a text.
+#[derive(Clone, Copy, Debug, PartialEq, Eq)]
+pub enum PassedHeader {
+    /// Nothing, or nothing that is passed over.
+    Kept,
+    /// It has other counts than the text.
+    Corrected { header: Counts, text: Counts },
+    /// There is none. A line with the counts of the text is put before the text.
+    Added(Counts),
+}
+
 /// What is passed over in a text.
 #[derive(Clone, Copy, Debug, PartialEq, Eq)]
 pub struct PassedOver {
-    /// The counts of the header and those of the text, where they differ.
-    pub counts: Option<(Counts, Counts)>,
+    pub header: PassedHeader,
     /// How many numbers aren't in plain digits.
     pub numbers: u64,
     /// How many comments don't begin a line.
@@ -33,10 +43,18 @@ impl PassedOver {
     /// Nothing is passed over.
     pub fn nothing() -> PassedOver {
         PassedOver {
-            counts: None,
+            header: PassedHeader::Kept,
             numbers: 0,
             comments: 0,
             end: None,
+        }
+    }
+
+    /// How many lines the strict text has before those of the text.
+    pub fn added_lines(&self) -> u64 {
+        match self.header {
+            PassedHeader::Added(_) => 1,
+            PassedHeader::Kept | PassedHeader::Corrected { .. } => 0,
         }
     }
 }

@@ -1,8 +1,9 @@
 //! A text, word by word: what is passed over, and the strict text. What stays keeps its line and its
-//! column, but for what stands behind the header's numbers.
+//! column, but for what stands behind the header's numbers; where the header is missing, a line with
+//! one stands before all others.
 
 use crate::number::Number;
-use crate::passed::{Counts, PassedOver};
+use crate::passed::{Counts, PassedHeader, PassedOver};
 use crate::text::LenientText;
 use std::alloc::{AllocError, Global};
 
@@ -41,15 +42,22 @@ pub(crate) struct Scan {
     head: Vec<u8>,
     numbers: Vec<u8>,
     body: Vec<u8>,
+    /// Whether a word of the line was read.
+    is_line_begun: bool,
     /// Whether a clause is begun and not ended.
     is_inside: bool,
-    header: Counts,
+    /// The header's number of variables, once it is read, and its counts, once both are.
+    vars: u64,
+    header: Option<Counts>,
+    /// Whether the clauses began without a header.
+    is_headless: bool,
     found: Counts,
     passed: PassedOver,
 }
 
+/// Vertical tabs and form feeds are blanks to C's `isspace`, and so to MiniSat.
 fn is_blank(byte: u8) -> bool {
-    matches!(byte, b' ' | b'\t' | b'\r')
+    matches!(byte, b' ' | b'\t' | b'\r' | b'\x0b' | b'\x0c')
 }
 
 impl Scan {
@@ -61,8 +69,11 @@ impl Scan {
             head: Vec::new(alloc),
             numbers: Vec::new(alloc),
             body: Vec::new(alloc),
+            is_line_begun: false,
             is_inside: false,
-            header: Counts::none(),
+            vars: 0,
+            header: None,
+            is_headless: false,
             found: Counts::none(),
             passed: PassedOver::nothing(),
         }
@@ -100,6 +111,25 @@ impl Scan {
         Ok(Next::Word)
     }
 
+    /// Passes over a comment that doesn't begin its line.
+    fn pass_comment(&mut self) -> Next {
+        self.passed.comments = self.passed.comments.saturating_add(1);
+        Next::Line
+    }
+
+    /// Takes the first word of all: the header's `p`, or a number where the header is missing.
+    fn take_first(&mut self, word: &[u8]) -> Result<Next, AllocError> {
+        if word.starts_with(b"c") {
+            return Ok(self.pass_comment());
+        }
+        if Number::of(word).is_none() {
+            return self.take_mark(word, b"p", Part::Format);
+        }
+        self.is_headless = true;
+        self.part = Part::Body;
+        self.take_body(word)
+    }
+
     /// Takes the header's `p` or `cnf`, before that part.
     fn take_mark(&mut self, word: &[u8], mark: &[u8], next: Part) -> Result<Next, AllocError> {
         if word != mark {
@@ -122,10 +152,13 @@ impl Scan {
         self.part = Part::Clauses;
         self.put_number(&number, word)?;
         if is_last {
-            self.header.clauses = number.size();
+            self.header = Some(Counts {
+                vars: self.vars,
+                clauses: number.size(),
+            });
             self.part = Part::Body;
         } else {
-            self.header.vars = number.size();
+            self.vars = number.size();
         }
         Ok(Next::Word)
     }
@@ -142,16 +175,18 @@ impl Scan {
         Ok(Next::Word)
     }
 
-    /// Takes a word behind the header. A comment and a `%` may stand where a clause may begin.
+    /// Takes a word behind the header. A comment may stand at a line's beginning, and it and a `%`
+    /// where a clause may begin. A header behind clauses isn't read, so that it is missing.
     fn take_body(&mut self, word: &[u8]) -> Result<Next, AllocError> {
         match word {
-            [b'c', ..] if !self.is_inside => {
-                self.passed.comments = self.passed.comments.saturating_add(1);
-                Ok(Next::Line)
-            }
+            [b'c', ..] if !self.is_inside || !self.is_line_begun => Ok(self.pass_comment()),
             [b'%', ..] if !self.is_inside => {
                 self.passed.end = Some(self.line);
                 Ok(Next::Nothing)
+            }
+            [b'p'] if self.is_headless => {
+                self.is_headless = false;
+                self.give_up(word)
             }
             _ => match Number::of(word) {
                 Some(number) => self.take_literal(&number, word),
@@ -165,7 +200,7 @@ impl Scan {
             return Ok(Next::Word);
         }
         match self.part {
-            Part::Mark => self.take_mark(word, b"p", Part::Format),
+            Part::Mark => self.take_first(word),
             Part::Format => self.take_mark(word, b"cnf", Part::Vars),
             Part::Vars | Part::Clauses => self.take_count(word),
             Part::Body => self.take_body(word),
@@ -175,6 +210,7 @@ impl Scan {
 
     /// Takes the words of a line. A header that isn't whole at its line's end ends the reading.
     fn take_words(&mut self, line: &[u8]) -> Result<Next, AllocError> {
+        self.is_line_begun = false;
         let mut is_first = true;
         for word in line.split(|byte| is_blank(*byte)) {
             if !is_first {
@@ -182,6 +218,7 @@ impl Scan {
             }
             is_first = false;
             let next = self.take_word(word)?;
+            self.is_line_begun = self.is_line_begun || !word.is_empty();
             if next != Next::Word {
                 return Ok(next);
             }
@@ -215,23 +252,51 @@ impl Scan {
         Ok(())
     }
 
+    /// The counts that the text needs in its header, if that counts so many: variables that no clause
+    /// has are kept. Behind a word that can't be read there may be more clauses.
+    fn counts_needed(&self, header: Counts) -> Counts {
+        let begun = u64::from(self.is_inside);
+        let clauses = self.found.clauses.saturating_add(begun);
+        let least = if self.part == Part::Rest {
+            header.clauses
+        } else {
+            0
+        };
+        Counts {
+            vars: header.vars.max(self.found.vars),
+            clauses: clauses.max(least),
+        }
+    }
+
+    /// The header of a text that has none; else nothing.
+    fn missing_header(&mut self, alloc: Global) -> Result<Vec<u8>, AllocError> {
+        if !self.is_headless && self.part != Part::Mark {
+            return Ok(Vec::new(alloc));
+        }
+        let counts = self.counts_needed(Counts::none());
+        self.passed.header = PassedHeader::Added(counts);
+        let (vars, clauses) = (counts.vars, counts.clauses);
+        Ok(format!(in alloc; "p cnf {vars} {clauses}\n")?.into_bytes())
+    }
+
     /// Writes the header's numbers anew where they aren't those of the text.
     fn correct_counts(&mut self, alloc: Global) -> Result<(), AllocError> {
-        let counts = Counts {
-            vars: self.header.vars.max(self.found.vars),
-            clauses: self.found.clauses.saturating_add(u64::from(self.is_inside)),
+        let Some(header) = self.header else {
+            return Ok(());
         };
-        if self.part != Part::Body || counts == self.header {
+        let text = self.counts_needed(header);
+        if text == header {
             return Ok(());
         }
-        self.passed.counts = Some((self.header, counts));
-        let (vars, clauses) = (counts.vars, counts.clauses);
+        self.passed.header = PassedHeader::Corrected { header, text };
+        let (vars, clauses) = (text.vars, text.clauses);
         self.numbers = format!(in alloc; "{vars} {clauses}")?.into_bytes();
         Ok(())
     }
 
     /// The strict text, and what was passed over.
     pub(crate) fn finish(mut self, alloc: Global) -> Result<LenientText, AllocError> {
+        let mut text = self.missing_header(alloc)?;
         self.correct_counts(alloc)?;
         let Scan {
             part: _,
@@ -239,12 +304,15 @@ impl Scan {
             head,
             numbers,
             body,
+            is_line_begun: _,
             is_inside: _,
+            vars: _,
             header: _,
+            is_headless: _,
             found: _,
             passed,
         } = self;
-        let mut text = head;
+        text.extend_from_slice(&head)?;
         text.extend_from_slice(&numbers)?;
         text.extend_from_slice(&body)?;
         Ok(LenientText { text, passed })

@@ -24,8 +24,10 @@ fn scanned(alloc: Global, text: &[u8]) -> Result<LenientText, AllocError> {
 }
 
 /// The strict text of a formula: this one if it is one within the limits. Else wrong counts in its
-/// header are set right, numbers get plain digits, and comments that stand where a clause may begin
-/// are left out, and so is all from a word on that begins with `%` there. It takes memory by the text.
+/// header are set right, or a header is put before a text that begins with clauses, numbers get plain
+/// digits, comments that stand where a clause may begin, or behind blanks at a line's beginning, are
+/// left out, and so is all from a word on that begins with `%` where a clause may begin. It takes
+/// memory by the text.
 pub fn lenient_text(alloc: Global, text: Vec<u8>, limits: Limits) -> Result<LenientText, AllocError>
     ensures { IfOk result (λ t. (F : Formula) → ReadsWithin (limits_of limits) text.items (formula F) → t.text.items ≡ text.items) }
 {

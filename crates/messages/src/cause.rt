@@ -7,10 +7,15 @@ use std::{fmt, io};
 /// Why the system refused something.
 #[derive(Clone, Copy)]
 pub(crate) enum Cause {
+    /// A standard file is closed, or open for the other use alone.
+    Closed,
     Worded(&'static str),
     /// There are no better words than the system's.
     System(io::Error),
 }
+
+/// The system's number for a file that is closed, or open for the other use alone.
+const BAD_DESCRIPTOR: i32 = 9;
 
 /// The words for what goes wrong with files of any use.
 fn words_of_any(kind: ErrorKind) -> Option<&'static str> {
@@ -57,8 +62,13 @@ impl Cause {
     fn of(words: Option<&'static str>, error: io::Error) -> Cause {
         match words {
             Some(words) => Cause::Worded(words),
+            None if error.raw_os_error() == Some(BAD_DESCRIPTOR) => Cause::Closed,
             None => Cause::System(error),
         }
+    }
+
+    pub(crate) fn is_closed(&self) -> bool {
+        matches!(self, Cause::Closed)
     }
 
     /// Why a file can't be opened or read.
@@ -78,6 +88,7 @@ impl Cause {
 impl Display for Cause {
     fn fmt<W: fmt::Write>(&self, f: &mut Formatter<W>) -> fmt::Result {
         match self {
+            Cause::Closed => write!(f, "it is closed"),
             Cause::Worded(words) => write!(f, "{words}"),
             Cause::System(error) => write!(f, "{error}"),
         }

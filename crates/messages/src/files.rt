@@ -81,11 +81,26 @@ pub fn say_unproved<E: Write>(out: &mut E, error: Option<io::Error>) {
     let _ = writeln!(out, "c s UNSATISFIABLE (without a proof: {cause})");
 }
 
-/// Says why the answer wasn't written whole. Without an error, a write took nothing.
+/// Says why the answer, which goes to standard output, wasn't written whole. Without an error, a
+/// write took nothing.
 pub fn say_answer_not_written<E: Write>(out: &mut E, error: Option<io::Error>) {
     let cause = Cause::of_writing(error);
-    let _ = writeln!(
-        out,
-        "c the answer: {cause}\nc what was printed is only a beginning of it"
-    );
+    let _ = if cause.is_closed() {
+        writeln!(out, "c standard output is closed")
+    } else {
+        writeln!(
+            out,
+            "c the answer: {cause}\nc what was printed is only a beginning of it"
+        )
+    };
+}
+
+/// Says why what goes to standard output wasn't written.
+pub fn say_not_printed<E: Write>(out: &mut E, error: io::Error) {
+    let cause = Cause::of_writing(Some(error));
+    let _ = if cause.is_closed() {
+        writeln!(out, "cubesat: standard output is closed")
+    } else {
+        writeln!(out, "cubesat: standard output: {cause}")
+    };
 }

@@ -60,8 +60,7 @@ impl Display for Added {
 /// The words for a clause with a variable that none may have within these limits.
 fn words_of_variable(limits: Limits, is_extended: bool) -> &'static str {
     match limits {
-        _ if !is_extended =>
-            " has a variable that the formula doesn't have; --extended allows that",
+        _ if !is_extended => " has a variable that the formula doesn't have",
         Limits::Standard => " has a variable above the limit, 262,143; --large has a higher one",
         Limits::Large => " has a variable above the limit, 100,000,000",
     }
@@ -227,6 +226,16 @@ fn say_why<E: Write>(
     }
 }
 
+/// Whether a refusal looks like that of another formula's proof: the first step doesn't fit, or a
+/// variable isn't the formula's.
+fn looks_foreign(refused: Refused, is_extended: bool) -> bool {
+    match refused.number {
+        21 | 23 | 24 | 26 | 27 => refused.line == Some(1),
+        31 => !is_extended,
+        _ => false,
+    }
+}
+
 /// Says why a proof was refused within these limits, with the number of the clause at fault where the text at its line
 /// is known, and with that of the one that it names wrongly; where it looks like DRAT, also what
 /// makes LRAT of that. Of a compressed file it says what it is. A failed write changes nothing.
@@ -243,6 +252,9 @@ pub fn say_proof_refused<E: Write>(
         return;
     }
     say_why(out, Name::of(file), refused, limits, source, excerpt);
+    if looks_foreign(refused, source.is_extended) {
+        let _ = writeln!(out, "c does the proof belong to this formula?");
+    }
     if is_drat(source.beginning) {
         let _ = writeln!(
             out,

@@ -16,7 +16,7 @@ static REFUSED: [Row; 17] = [
         21,
         Some(1),
         None,
-        "c p.lrat: the number of clause 5 isn't above all numbers before it (line 1)\n",
+        "c p.lrat: the number of clause 5 isn't above all numbers before it (line 1)\nc does the proof belong to this formula?\n",
     ),
     (
         22,
@@ -64,7 +64,7 @@ static REFUSED: [Row; 17] = [
         27,
         Some(1),
         None,
-        "c p.lrat: clause 5 has no hints for one of its candidates (line 1)\n",
+        "c p.lrat: clause 5 has no hints for one of its candidates (line 1)\nc does the proof belong to this formula?\n",
     ),
     (
         28,
@@ -88,7 +88,7 @@ static REFUSED: [Row; 17] = [
         31,
         Some(1),
         None,
-        "c p.lrat: clause 5 has a variable that the formula doesn't have; --extended allows that (line 1)\n",
+        "c p.lrat: clause 5 has a variable that the formula doesn't have (line 1)\nc does the proof belong to this formula?\n",
     ),
     (
         41,
