@@ -9,7 +9,7 @@ use runs::{
     CheckRules, Limit, Options, RunFault, TimeLimit, Told, Verdict, answer_with, check_with,
     run_with,
 };
-use statistics::{Board, CountedReader, CountedWriter, TextWatch, Watch};
+use statistics::{Board, CountedReader, CountedWriter, NotedLimit, TextWatch, Watch};
 use std::alloc::Global;
 use std::fs::Files;
 use std::io::{Read, Write};
@@ -76,7 +76,12 @@ pub(crate) fn run_counted<
 {
     let watch = Watch { rt, alloc, board };
     let limit = TimeLimit::begin(rt, effort.seconds);
-    let result = run_watched(&watch, &limit, effort, input, answer, proof);
+    let noted = NotedLimit {
+        rt,
+        board,
+        limit: &limit,
+    };
+    let result = run_watched(&watch, &noted, effort, input, answer, proof);
     board.end_progress(rt);
     result
 }

@@ -107,6 +107,8 @@ pub struct Figures {
     pub(crate) may_divide: bool,
     /// How far the beginning of the plan's search is, once it has begun.
     pub beginning: Option<BeginningCounts>,
+    /// Whether a limit was reached before the formula was solved.
+    is_out_of_time: bool,
     /// Whether no more progress is to be shown.
     pub(crate) is_ended: bool,
     /// Whether a line of progress stands on the terminal.
@@ -158,6 +160,7 @@ impl Figures {
             first: None,
             may_divide: false,
             beginning: None,
+            is_out_of_time: false,
             is_ended: false,
             is_drawn: false,
             formula: None,
@@ -263,6 +266,17 @@ impl Figures {
         sum
     }
 
+    /// What the search has done that decides the formula: that of hands, or the one that says whether
+    /// the formula is simplified, where that has decided it.
+    pub(crate) fn deciding(&self) -> Counts {
+        if let Some(beginning) = self.beginning {
+            if beginning.has_decided() {
+                return beginning.search();
+            }
+        }
+        self.counts.sum()
+    }
+
     /// Whether it is asked when each cube begins and ends: for the time of looks, and for the time
     /// that hands wait.
     pub(crate) fn times_cubes(&self) -> bool {
@@ -275,9 +289,11 @@ impl Figures {
         self.times.begin(hand, now);
     }
 
-    /// A hand is done with a cube of so many literals.
+    /// A hand is done with a cube of so many literals; it has left it unsolved where the time is over.
     pub(crate) fn end_cube(&mut self, hand: usize, depth: usize, now: u64) {
-        self.cubes.end(hand, depth);
+        if !self.is_out_of_time {
+            self.cubes.end(hand, depth);
+        }
         self.times.end(hand, now);
         if self.division.looks_at(depth) {
             self.division.add_look(self.times.began(hand), now);
@@ -369,6 +385,11 @@ impl Figures {
         let whole = self.whole?;
         let read = (self.proof.bytes as u64).saturating_mul(100);
         Some(read.checked_div(whole)?.min(100))
+    }
+
+    /// A limit is reached.
+    pub(crate) fn end_time(&mut self) {
+        self.is_out_of_time = true;
     }
 
     pub(crate) fn end_progress(&mut self) {

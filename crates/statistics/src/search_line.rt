@@ -4,9 +4,43 @@ use crate::cube_counts::CubeCounts;
 use crate::division::Done;
 use crate::figures::Figures;
 use crate::search_counts::a_second;
-use cdcl::Search;
+use cdcl::{Counts, Search};
 use std::fmt;
 use std::fmt::{Display, Formatter};
+
+/// How far the focused search of a formula is that isn't divided.
+#[derive(Clone, Copy)]
+struct Progressed {
+    rounds: u64,
+    /// Learnt clauses that aren't forgotten.
+    held: u64,
+    /// Literals of level 0.
+    fixed: u64,
+}
+
+impl Progressed {
+    fn of(counts: Counts) -> Progressed {
+        Progressed {
+            rounds: counts.rounds,
+            held: counts.learnt.saturating_sub(counts.forgotten),
+            fixed: counts.units,
+        }
+    }
+}
+
+impl Display for Progressed {
+    fn fmt<W: fmt::Write>(&self, f: &mut Formatter<W>) -> fmt::Result {
+        let Progressed {
+            rounds,
+            held,
+            fixed,
+        } = self;
+        write!(
+            f,
+            "{rounds} rounds, {held} learnt clauses, {fixed} variables fixed"
+        )
+    }
+}
 
 /// What is shown of hands' search that goes on. Its conflicts come first: by the focused search most
 /// formulas are one cube for long, of which the cubes say nothing.
@@ -20,6 +54,7 @@ pub(crate) struct HandsLine {
     cubes: CubeCounts,
     /// The cubes that are done, where the formula is divided.
     done: Option<Done>,
+    progressed: Progressed,
 }
 
 impl HandsLine {
@@ -31,6 +66,7 @@ impl HandsLine {
             speed: a_second(conflicts, now.saturating_sub(figures.began_solving())),
             cubes: figures.cubes,
             done: figures.division.done(),
+            progressed: Progressed::of(figures.deciding()),
         }
     }
 }
@@ -48,8 +84,12 @@ impl Display for HandsLine {
         if let Some(done) = self.done {
             return write!(f, "{done}");
         }
-        let solved = cubes.solved();
-        write!(f, "{solved} cubes solved")
+        let (solved, progressed) = (cubes.solved(), self.progressed);
+        write!(f, "{progressed}")?;
+        if solved > 0 {
+            write!(f, ", {solved} cubes solved")?;
+        }
+        Ok(())
     }
 }
 
@@ -66,6 +106,8 @@ pub(crate) struct LoweringLine {
 pub(crate) enum SearchLine {
     /// The search that is made first has had so many conflicts, and hands haven't begun.
     First(u64),
+    /// The short focused search has had so many, which says whether the formula is simplified.
+    Short(u64),
     /// The formula is simplified; so many literals were looked at.
     Simplifies(u64),
     Hands(HandsLine),
@@ -91,7 +133,7 @@ impl SearchLine {
         }
         if let Some(beginning) = figures.beginning {
             if let Some(conflicts) = beginning.tries() {
-                return SearchLine::First(conflicts);
+                return SearchLine::Short(conflicts);
             }
             if let Some(literals) = beginning.literals() {
                 return SearchLine::Simplifies(literals);
@@ -105,6 +147,9 @@ impl Display for SearchLine {
     fn fmt<W: fmt::Write>(&self, f: &mut Formatter<W>) -> fmt::Result {
         match self {
             SearchLine::First(conflicts) => write!(f, "first search, {conflicts} conflicts"),
+            SearchLine::Short(conflicts) => {
+                write!(f, "short focused search, {conflicts} conflicts")
+            }
             SearchLine::Simplifies(literals) => {
                 write!(f, "simplifying, {literals} literals looked at")
             }

@@ -33,7 +33,7 @@ fn print_stages<E: Write>(out: &mut E, figures: &Figures) {
 }
 
 /// Prints what is known of the cubes. Of a tree without a model that is all; of another one a gate
-/// isn't told which cubes were split and skipped.
+/// isn't told which cubes were split or skipped, but for those whose halves were begun.
 fn print_cubes<E: Write>(out: &mut E, figures: &Figures) {
     let _ = match figures.tree {
         Some(tree) => {
@@ -44,13 +44,12 @@ fn print_cubes<E: Write>(out: &mut E, figures: &Figures) {
                 tree.learnt, tree.bytes
             )
         }
-        None => {
-            let (splits, solved) = (figures.cubes.splits(), figures.cubes.solved());
-            writeln!(
-                out,
-                "c cubes: {solved} solved, at least {splits} split, skipped unknown"
-            )
-        }
+        None => match (figures.cubes.solved(), figures.cubes.splits()) {
+            (solved, 0) => writeln!(out, "c cubes: {solved} solved"),
+            (solved, splits) => {
+                writeln!(out, "c cubes: {solved} solved, at least {splits} split")
+            }
+        },
     };
 }
 

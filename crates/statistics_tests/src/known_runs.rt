@@ -64,7 +64,7 @@ c hands: 16
 c search: 350000 conflicts, 1600000 decisions, 20000000 propagations, 750 restarts
 c clauses: 338000 learnt, 80000 forgotten
 c focused search: 36 rounds, 12 changes of mode, 400000 literals removed, 200 units
-c cubes: 4 solved, at least 3 split, skipped unknown
+c cubes: 4 solved, at least 3 split
 c solved by each hand: 3 1 0 0 0 0 0 0 0 0 0 0 0 0 0 0
 c hands waited: 169.600 s in all, 88.3 % of the hands' time
 c proof: 2 lines, 7 bytes
@@ -112,7 +112,7 @@ c hands: 1
 c search: 350000 conflicts, 1600000 decisions, 20000000 propagations, 750 restarts
 c clauses: 338000 learnt, 80000 forgotten
 c focused search: 36 rounds, 12 changes of mode, 400000 literals removed, 200 units
-c cubes: 4 solved, at least 3 split, skipped unknown
+c cubes: 4 solved, at least 3 split
 c solved by each hand: 3
 c proof: 2 lines, 7 bytes
 c reading: 0.500 s
@@ -134,7 +134,7 @@ c hands: 1
 c first search: ordered, 1000 conflicts, decided
 c search: 351000 conflicts, 1603000 decisions, 20040000 propagations, 750 restarts
 c clauses: 338800 learnt, 80000 forgotten
-c cubes: 4 solved, at least 3 split, skipped unknown
+c cubes: 4 solved, at least 3 split
 c solved by each hand: 3
 c proof: 2 lines, 7 bytes
 c reading: 0.500 s
@@ -156,7 +156,7 @@ c first search: ordered, 1000 conflicts, undecided
 c search: 351000 conflicts, 1603000 decisions, 20040000 propagations, 750 restarts
 c clauses: 338800 learnt, 80000 forgotten
 c focused search: 36 rounds, 12 changes of mode, 400000 literals removed, 200 units
-c cubes: 4 solved, at least 3 split, skipped unknown
+c cubes: 4 solved, at least 3 split
 c solved by each hand: 3
 c proof: 2 lines, 7 bytes
 c reading: 0.500 s
@@ -176,7 +176,7 @@ c first search: ordered, 1000 conflicts, undecided
 c search: 351500 conflicts, 1606000 decisions, 20080000 propagations, 750 restarts
 c clauses: 339600 learnt, 80000 forgotten
 c focused search: 36 rounds, 12 changes of mode, 400000 literals removed, 200 units
-c cubes: 4 solved, at least 3 split, skipped unknown
+c cubes: 4 solved, at least 3 split
 c solved by each hand: 3 1
 c hands waited: 0.500 s in all, 25.0 % of the hands' time
 c lowering: 3 questions, 1 with a model, 2 without, 500 conflicts

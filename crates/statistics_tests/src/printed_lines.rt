@@ -1,10 +1,10 @@
 //! The lines of `--progress` of known figures, at each stage, as a list has them and a terminal.
 use crate::figures::{put_first, put_lowering, some_figures};
-use cdcl::Search;
+use cdcl::{Counts, Search};
 use cnf::read_formula;
 use cubes::{FirstAnswer, FirstSearch};
 use samples::FOUR;
-use statistics::{Figures, FormulaSize, Manner, Stage, StageEnd, print_line};
+use statistics::{BeginningCounts, Figures, FormulaSize, Manner, Stage, StageEnd, print_line};
 use std::alloc::Global;
 use std::test::Fail;
 
@@ -18,6 +18,8 @@ enum Beside {
     Read(u64),
     /// How many cubes are wanted, and how many literals each refuted cube has.
     Divided(u32, &'static [usize]),
+    /// The search goes on that says whether the formula is simplified.
+    Short,
     /// A search was made first, and decided the formula or not, if it has ended.
     First(Option<bool>),
     /// It didn't, and a model is lowered.
@@ -27,7 +29,7 @@ enum Beside {
 /// A stage, a search, what is known beside some figures, how many seconds a run takes, and its line.
 type Row = (Stage, Search, Beside, u64, &'static str);
 
-static ROWS: [Row; 29] = [
+static ROWS: [Row; 30] = [
     (
         Stage::Reading,
         Search::Ordered,
@@ -47,7 +49,7 @@ static ROWS: [Row; 29] = [
         Search::Focused,
         Beside::Nothing,
         12,
-        "c 12 s: 350000 conflicts, 29166 a second, 4 cubes solved",
+        "c 12 s: 350000 conflicts, 29166 a second, 36 rounds, 258000 learnt clauses, 200 variables fixed, 4 cubes solved",
     ),
     (
         Stage::Cubes,
@@ -112,7 +114,7 @@ static ROWS: [Row; 29] = [
         Search::Focused,
         Beside::Nothing,
         0,
-        "c 0 s: 350000 conflicts, 4 cubes solved",
+        "c 0 s: 350000 conflicts, 36 rounds, 258000 learnt clauses, 200 variables fixed, 4 cubes solved",
     ),
     // ten of twelve seconds are of solving
     (
@@ -120,7 +122,7 @@ static ROWS: [Row; 29] = [
         Search::Focused,
         Beside::Read(2000),
         12,
-        "c 12 s: 350000 conflicts, 35000 a second, 4 cubes solved",
+        "c 12 s: 350000 conflicts, 35000 a second, 36 rounds, 258000 learnt clauses, 200 variables fixed, 4 cubes solved",
     ),
     (
         Stage::Solving,
@@ -221,13 +223,20 @@ static ROWS: [Row; 29] = [
         12,
         "c 12 s: first search, 1000 conflicts",
     ),
+    (
+        Stage::Solving,
+        Search::Focused,
+        Beside::Short,
+        12,
+        "c 12 s: short focused search, 300 conflicts",
+    ),
     // its conflicts count among those of hands
     (
         Stage::Solving,
         Search::Focused,
         Beside::First(Some(false)),
         12,
-        "c 12 s: 351000 conflicts, 29250 a second, 4 cubes solved",
+        "c 12 s: 351000 conflicts, 29250 a second, 36 rounds, 258000 learnt clauses, 200 variables fixed, 4 cubes solved",
     ),
     (
         Stage::Reading,
@@ -271,6 +280,16 @@ fn divide(figures: &mut Figures, cubes: u32, refuted: &[usize]) {
     }
 }
 
+/// What a short search has done.
+fn short_search() -> BeginningCounts {
+    let mut beginning = BeginningCounts::none();
+    beginning.count_try(Counts {
+        conflicts: 300,
+        ..Counts::none()
+    });
+    beginning
+}
+
 /// The figures of a row.
 fn figures_of(alloc: Global, row: &Row) -> Result<Figures, Fail> {
     let mut figures = some_figures(row.0, row.1);
@@ -280,6 +299,7 @@ fn figures_of(alloc: Global, row: &Row) -> Result<Figures, Fail> {
         Beside::Read(millis) => end_reading(alloc, &mut figures, millis)?,
         Beside::Divided(cubes, refuted) => divide(&mut figures, cubes, refuted),
         Beside::First(is_decided) => put_first(&mut figures, is_decided),
+        Beside::Short => figures.beginning = Some(short_search()),
         Beside::Lowered => {
             end_reading(alloc, &mut figures, 0)?;
             put_first(&mut figures, Some(false));

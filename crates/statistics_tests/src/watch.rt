@@ -60,7 +60,7 @@ const STATISTICS: &str = "c formula: 2 variables, 4 clauses, 8 literals
 c hands: 2
 c search: 15 conflicts, 6 decisions, 40 propagations, 0 restarts
 c clauses: 4 learnt, 0 forgotten
-c cubes: 3 solved, at least 2 split, skipped unknown
+c cubes: 3 solved, at least 2 split
 c solved by each hand: 1 2
 c proof: 0 lines, 0 bytes
 c reading: 0.000 s
@@ -117,7 +117,7 @@ c hands: 2
 c search: 0 conflicts, 0 decisions, 0 propagations, 0 restarts
 c clauses: 0 learnt, 0 forgotten
 c focused search: 0 rounds, 0 changes of mode, 0 literals removed, 0 units
-c cubes: 3 solved, at least 1 split, skipped unknown
+c cubes: 3 solved, at least 1 split
 c solved by each hand: 2 1
 c hands waited: 6.600 s in all, 38.8 % of the hands' time
 c reading: 0.500 s
@@ -171,7 +171,7 @@ c first search: ordered, 10 conflicts, undecided
 c search: 17 conflicts, 9 decisions, 60 propagations, 0 restarts
 c clauses: 6 learnt, 0 forgotten
 c focused search: 0 rounds, 0 changes of mode, 0 literals removed, 0 units
-c cubes: 1 solved, at least 0 split, skipped unknown
+c cubes: 1 solved
 c solved by each hand: 1
 c lowering: 1 questions, 1 with a model, 0 without, 2 conflicts
 c reading: 0.500 s

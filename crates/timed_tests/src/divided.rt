@@ -132,7 +132,7 @@ c focused search: 3 rounds, 1 changes of mode, 2521 literals removed, 7 units
 c divided: 43 decisions in 40 conflicts of stable mode, into at most 64 cubes
 c looked at: 7 cubes, 2 failed literals, 1.450 s
 c searched: 0 cubes
-c cubes: 7 solved, at least 3 split, skipped unknown
+c cubes: 7 solved, at least 3 split
 c solved by each hand: 7
 c reading: 1.234 s
 c solving: 2.050 s
@@ -164,7 +164,7 @@ c search: 5 conflicts, 4 decisions, 13 propagations, 0 restarts
 c clauses: 4 learnt, 0 forgotten
 c focused search: 0 rounds, 0 changes of mode, 0 literals removed, 2 units
 c not divided: 0 decisions in 0 conflicts of stable mode
-c cubes: 3 solved, at least 1 split, skipped unknown
+c cubes: 3 solved, at least 1 split
 c solved by each hand: 3
 c reading: 1.234 s
 c solving: 2.050 s
@@ -191,7 +191,7 @@ c search: 2 conflicts, 1 decisions, 4 propagations, 0 restarts
 c clauses: 2 learnt, 0 forgotten
 c focused search: 0 rounds, 0 changes of mode, 0 literals removed, 1 units
 c not divided: the focused search ended after 2 conflicts
-c cubes: 1 solved, at least 0 split, skipped unknown
+c cubes: 1 solved
 c solved by each hand: 1
 c reading: 1.234 s
 c solving: 2.050 s

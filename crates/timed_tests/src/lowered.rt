@@ -43,7 +43,7 @@ c search: 2 conflicts, 6 decisions, 15 propagations, 0 restarts
 c clauses: 1 learnt, 0 forgotten
 c focused search: 0 rounds, 0 changes of mode, 0 literals removed, 1 units
 c not divided: the focused search ended after 0 conflicts
-c cubes: 1 solved, at least 0 split, skipped unknown
+c cubes: 1 solved
 c solved by each hand: 1
 c lowering: 3 questions, 2 with a model, 1 without, 1 conflicts
 c reading: 1.234 s
@@ -74,7 +74,7 @@ c search: 1 conflicts, 5 decisions, 6 propagations, 0 restarts
 c clauses: 0 learnt, 0 forgotten
 c focused search: 0 rounds, 0 changes of mode, 0 literals removed, 0 units
 c not divided: the focused search ended after 0 conflicts
-c cubes: 1 solved, at least 0 split, skipped unknown
+c cubes: 1 solved
 c solved by each hand: 1
 c reading: 1.234 s
 c solving: 2.050 s
@@ -125,7 +125,7 @@ c search: 1 conflicts, 6 decisions, 9 propagations, 0 restarts
 c clauses: 0 learnt, 0 forgotten
 c focused search: 0 rounds, 0 changes of mode, 0 literals removed, 0 units
 c not divided: the focused search ended after 0 conflicts
-c cubes: 1 solved, at least 0 split, skipped unknown
+c cubes: 1 solved
 c solved by each hand: 1
 c lowering: 1 questions, 1 with a model, 0 without, 0 conflicts
 c proof: 0 lines, 0 bytes

@@ -100,7 +100,7 @@ static RUNS: [SlowRun; 24] = [
             "PROOF",
             "FORMULA",
         ],
-        log: "c 1 s: reading\nc 2 s: 5 conflicts, 2 a second, 3 cubes solved\nc 3 s: joining\nc 4 s: 9 lines, 136 bytes of the proof written\ns UNSATISFIABLE\n",
+        log: "c 1 s: reading\nc 2 s: 5 conflicts, 2 a second, 0 rounds, 4 learnt clauses, 2 variables fixed, 3 cubes solved\nc 3 s: joining\nc 4 s: 9 lines, 136 bytes of the proof written\ns UNSATISFIABLE\n",
         ..SOLVED
     },
     // 1840 conflicts before the formula is divided, one in each look at a half, and one in each of four
@@ -214,7 +214,7 @@ static RUNS: [SlowRun; 24] = [
             "1",
             "FORMULA",
         ],
-        log: "c 1 s: reading\nc 2 s: 3 conflicts, 1 a second, 1 cubes solved\ns UNSATISFIABLE\n",
+        log: "c 1 s: reading\nc 2 s: 3 conflicts, 1 a second, 0 rounds, 2 learnt clauses, 1 variables fixed, 1 cubes solved\ns UNSATISFIABLE\n",
         ..UNPROVED
     },
     LOWERED,
@@ -236,7 +236,7 @@ static RUNS: [SlowRun; 24] = [
             "--any-model",
             "FORMULA",
         ],
-        log: "c 1 s: reading\nc 2 s: 1 conflicts, 0 a second, 1 cubes solved\ns SATISFIABLE\nv 1 2 3 0\n",
+        log: "c 1 s: reading\nc 2 s: 1 conflicts, 0 a second, 0 rounds, 0 learnt clauses, 0 variables fixed, 1 cubes solved\ns SATISFIABLE\nv 1 2 3 0\n",
         ..LOWERED
     },
     CHECKED,

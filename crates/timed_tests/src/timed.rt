@@ -98,7 +98,7 @@ c conflicts a second: 1
 };
 
 /// The root is split after one conflict, as `SPLIT` says of it, and the limit reached before its
-/// first half is solved, which counts as solved by the hand that was at it.
+/// first half is solved, which the hand leaves that is at it.
 const CUT_OFF: Row = Row {
     words: &[
         "cubesat",
@@ -118,8 +118,8 @@ const CUT_OFF: Row = Row {
 c hands: 1
 c search: 1 conflicts, 2 decisions, 3 propagations, 0 restarts
 c clauses: 0 learnt, 0 forgotten
-c cubes: 2 solved, at least 1 split, skipped unknown
-c solved by each hand: 2
+c cubes: 1 solved, at least 1 split
+c solved by each hand: 1
 c proof: 0 lines, 0 bytes
 c reading: 1.234 s, peak memory 4321 KiB
 ",
@@ -133,7 +133,7 @@ const UNPROVED: Row = Row {
 c hands: 1
 c search: 5 conflicts, 4 decisions, 13 propagations, 0 restarts
 c clauses: 2 learnt, 0 forgotten
-c cubes: 3 solved, at least 1 split, skipped unknown
+c cubes: 3 solved, at least 1 split
 c solved by each hand: 3
 c reading: 1.234 s, peak memory 4321 KiB
 c solving: 2.050 s, peak memory 4321 KiB
@@ -245,7 +245,7 @@ c conflicts a second: 2
 c hands: 1
 c search: 0 conflicts, 1 decisions, 2 propagations, 0 restarts
 c clauses: 0 learnt, 0 forgotten
-c cubes: 1 solved, at least 0 split, skipped unknown
+c cubes: 1 solved
 c solved by each hand: 1
 c proof: 0 lines, 0 bytes
 c reading: 1.234 s
@@ -278,8 +278,8 @@ c conflicts a second: 0
 c hands: 1
 c search: 1 conflicts, 2 decisions, 3 propagations, 0 restarts
 c clauses: 0 learnt, 0 forgotten
-c cubes: 2 solved, at least 1 split, skipped unknown
-c solved by each hand: 2
+c cubes: 1 solved, at least 1 split
+c solved by each hand: 1
 c reading: 1.234 s, peak memory 4321 KiB
 ",
         ..CUT_OFF
@@ -306,7 +306,7 @@ c reading: 1.234 s, peak memory 4321 KiB
 c hands: 1
 c search: 0 conflicts, 1 decisions, 2 propagations, 0 restarts
 c clauses: 0 learnt, 0 forgotten
-c cubes: 1 solved, at least 0 split, skipped unknown
+c cubes: 1 solved
 c solved by each hand: 1
 c reading: 1.234 s
 c solving: 2.050 s
