@@ -3,10 +3,33 @@
 
 use cubesat::{Console, Screen, SystemLocks, command_in_folders};
 use std::alloc::{AllocError, Global};
+use std::fs::{File, Files, OpenOptions};
 use std::io::IsTerminal;
+use std::os::fd::AsRawFd;
 use std::process::ExitCode;
 use std::rt::Env;
-use std::{env, io};
+use std::{env, fs, io};
+
+/// The file that stands in for a standard file that is closed.
+const NOTHING: &str = "/dev/null";
+
+/// The number of standard input.
+const INPUT: i32 = 0;
+
+/// Takes the number of standard input where that is closed. It can't be read then.
+fn held_input<R: Files<File = File>>(rt: &R) -> Option<File> {
+    let file = OpenOptions::new().write(true).open(rt, NOTHING).ok()?;
+    if file.as_raw_fd() == INPUT {
+        Some(file)
+    } else {
+        None
+    }
+}
+
+/// Takes a number that is free, the least one. The file can't be written.
+fn held_output<R: Files<File = File>>(rt: &R) -> Option<File> {
+    fs::open(rt, NOTHING).ok()
+}
 
 /// The words of the command line.
 fn words<R: Env + AllocGlobal>(rt: &R, alloc: Global) -> io::Result<Vec<String>> {
@@ -31,6 +54,11 @@ fn line_of(error: &io::Error) -> &'static str {
 }
 
 fn main(rt: HostRuntime) -> ExitCode {
+    // The least number that is free is that of the next file: where a standard file is closed, the
+    // proof would get its number, and the answer would go into the proof. So what is closed is taken
+    // before, by a file that stays open, and can't be used for what the standard file is for.
+    let _input = held_input(&rt);
+    let _outputs = [held_output(&rt), held_output(&rt)];
     let alloc = rt.alloc();
     let words = match words(&rt, alloc) {
         Ok(words) => words,
