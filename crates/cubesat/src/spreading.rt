@@ -1,12 +1,13 @@
 //! `divide`, `conquer`, `gather` and `status`: the calls that do what is asked for, and their statuses.
 
 use crate::gathered::gather;
+use crate::open_lines::OpenLines;
 use crate::standing_lines::{DONE, print_progress, print_standing};
 use cnf::Limits;
 use command_line::{Choice, MAX_DIVIDE, Part, SPREAD_BUDGET, Spread, greatest_budget, strategy_of};
 use commands::{FAILED, Locks};
 use cubes::{HandCount, OpenGate};
-use spread::{Ended, Folder, Progress, Said, Slice, conquer, divide, divide_again};
+use spread::{Ended, Folder, OpenCount, Progress, Said, Slice, conquer, divide, divide_again};
 use statistics::{Board, Manner, Stage, Watch, show_progress};
 use std::alloc::Global;
 use std::fs::Files;
@@ -60,15 +61,32 @@ fn divide_counted<R: Files + Wait + Clock>(
     strategy: Strategy,
     limits: Limits,
     wanted: usize,
+    open: &OpenCount,
     said: &mut Vec<u8>,
 ) -> Result<Progress, Said> {
     let watch = Watch { rt, alloc, board };
     let folder = Folder { path: into };
     let progress = divide(
-        rt, alloc, folder, formula, strategy, limits, wanted, &watch, said,
+        rt, alloc, folder, formula, strategy, limits, wanted, open, &watch, said,
     );
     board.end_progress(rt);
     progress
+}
+
+/// Shows how far a run is that is made, and how many of the wanted cubes are open.
+fn show_open<R: Wait + Clock, E: Write>(
+    rt: &R,
+    board: &Board,
+    open: &OpenCount,
+    wanted: usize,
+    faults: &mut E,
+) {
+    let mut lines = OpenLines {
+        lines: faults,
+        open,
+        wanted,
+    };
+    show_progress(rt, board, &mut lines, Manner::Listed);
 }
 
 /// `divide`, with its progress shown by a thread beside it. What it says is printed behind that.
@@ -81,15 +99,16 @@ fn divide_beside<R: Files + Threads + Wait + Clock + Sync, E: Write + Send>(
     strategy: Strategy,
     limits: Limits,
     wanted: usize,
+    open: &OpenCount,
     faults: &mut E,
 ) -> Result<Progress, Said> {
     let mut said = Vec::new(alloc);
     let (_, progress) = thread::join_mut(
         rt,
-        &mut || show_progress(rt, board, faults, Manner::Listed),
+        &mut || show_open(rt, board, open, wanted, faults),
         &mut || {
             divide_counted(
-                rt, alloc, board, into, formula, strategy, limits, wanted, &mut said,
+                rt, alloc, board, into, formula, strategy, limits, wanted, open, &mut said,
             )
         },
     );
@@ -114,15 +133,16 @@ fn begin<R: Files + Threads + Wait + Clock + Sync, W: Write, E: Write + Send>(
         return FAILED;
     };
     let wanted = wanted as usize;
+    let open = OpenCount::new();
     let progress = if shows {
         let board = Board::new(rt, Stage::Cubes);
         divide_beside(
-            rt, alloc, &board, into, formula, strategy, limits, wanted, faults,
+            rt, alloc, &board, into, formula, strategy, limits, wanted, &open, faults,
         )
     } else {
         let folder = Folder { path: into };
         divide(
-            rt, alloc, folder, formula, strategy, limits, wanted, &OpenGate, faults,
+            rt, alloc, folder, formula, strategy, limits, wanted, &open, &OpenGate, faults,
         )
     };
     print_progress(answer, faults, progress)

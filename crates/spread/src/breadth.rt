@@ -1,5 +1,5 @@
 //! Solving cubes by breadth, until so many are open.
-ghost use Rattle.std.specs.Prelude.{◌≡◌, ℕ, [], ◌∷◌, ◌++◌, Bool, true, if◌then◌else◌, List, All, IfOk, OnOk};
+ghost use Rattle.std.specs.Prelude.{◌≡◌, ℕ, [], ◌∷◌, ◌++◌, Bool, true, if◌then◌else◌, List, All, IfOk, IfSome, IsSome, MatchOption, OnOk};
 ghost use Rattle.theory.specs.Plans.{Plan};
 ghost use Rattle.theory.specs.Beginnings.{begun_by};
 ghost use Rattle.theory.specs.Checked.{IsFitSplit};
@@ -8,8 +8,10 @@ ghost use Rattle.packs.specs.declared.fact.Claim.TheVariants.{Split};
 ghost use Rattle.packs.specs.declared.fact.Fact as facts;
 ghost use Rattle.gathering.specs.Facts.{IsTrueFact};
 ghost use Rattle.spread.specs.Dividing.{from_longer, longer_first, IsBreadth, Divides};
-ghost use Rattle.spread.specs.Solving.{IsOfTree};
+ghost use Rattle.spread.specs.Solving.{IsOfTree, IsSaidOf};
 
+use crate::bound::BoundedGate;
+use crate::open_count::OpenCount;
 use crate::solving::solve;
 use cdcl::{Plan, split};
 use cnf::Formula;
@@ -26,6 +28,8 @@ pub(crate) struct Division {
     pub(crate) waiting: VecDeque<Cube>,
     /// Whether a model was found right of the open cubes.
     pub(crate) has_model: bool,
+    /// Whether it ended at a cube that was searched up to the bound.
+    pub(crate) is_bounded: bool,
 }
 
 // written out, so that proofs of its owners stay short (docs/PROVING.md)
@@ -35,6 +39,7 @@ impl Drop for Division {
             facts: _,
             waiting: _,
             has_model: _,
+            is_bounded: _,
         } = self;
     }
 }
@@ -100,7 +105,29 @@ fn take_up(formula: &Formula, queue: &mut VecDeque<Cube>, fact: &Fact) -> Result
     }
 }
 
-/// Solves a cube, and takes up what is said of it; whether it has a model.
+/// Solves a cube, and answers what is said of it; nothing where the bound ends its search, or it isn't
+/// over the formula's variables.
+fn attempt<G: Gate>(
+    formula: &Formula,
+    plan: Plan,
+    solver: &mut CubeSolver,
+    cube: Cube,
+    gate: &BoundedGate<'_, G>,
+) -> Result<Option<Fact>, AllocError>
+    requires { IsSolverOf (begun_by plan.search formula.now) plan solver.old }
+    ensures solver { IfOk result (λ said. IsSome said → IsSolverOf (begun_by plan.search formula.now) plan solver.new) }
+    ensures said { IfOk result (λ said. IfSome said (IsSaidOf formula.now plan cube)) }
+{
+    let watched = Watched { gate, hand: 0 };
+    match solve(formula, plan, solver, cube, &watched) {
+        Ok(Some(fact)) => Ok(Some(fact)),
+        Err(error) if !gate.is_reached() => Err(error),
+        Ok(None) | Err(_) => Ok(None),
+    }
+}
+
+/// Solves a cube, and takes up what is said of it; whether it has a model. Nothing where the bound ends
+/// its search: then it waits before the others again.
 fn step<G: Gate>(
     formula: &Formula,
     plan: Plan,
@@ -108,60 +135,71 @@ fn step<G: Gate>(
     cube: Cube,
     queue: &mut VecDeque<Cube>,
     facts: &mut Vec<Fact>,
-    watched: &Watched<'_, G>,
-) -> Result<bool, AllocError>
+    gate: &BoundedGate<'_, G>,
+) -> Result<Option<bool>, AllocError>
     requires solver { IsSolverOf (begun_by plan.search formula.now) plan solver.old }
     requires facts { All (IsTrueFact formula.now plan) facts.old.items }
-    ensures solver { OnOk result (IsSolverOf (begun_by plan.search formula.now) plan solver.new) }
+    ensures solver { IfOk result (λ found. IsSome found → IsSolverOf (begun_by plan.search formula.now) plan solver.new) }
     ensures facts { OnOk result (All (IsTrueFact formula.now plan) facts.new.items) }
     ensures cubes { IsOfTree formula.now plan cube → All (IsOfTree formula.now plan) queue.old.items → OnOk result (All (IsOfTree formula.now plan) queue.new.items) }
     ensures waits { (known : Bool) → IsOfTree formula.now plan cube → IsBreadth formula.now plan facts.old.items (cube ∷ queue.old.items) known →
-        IfOk result (λ found. IsBreadth formula.now plan facts.new.items queue.new.items (if found then true else known)) }
+        IfOk result (λ found. MatchOption found (IsBreadth formula.now plan facts.new.items queue.new.items known) (λ found. IsBreadth formula.now plan facts.new.items queue.new.items (if found then true else known))) }
 {
-    let Some(fact) = solve(formula, plan, solver, cube, watched)? else {
-        return Ok(false);
+    let kept = cube.copied()?;
+    let Some(fact) = attempt(formula, plan, solver, cube, gate)? else {
+        queue.push_front(kept)?;
+        return Ok(None);
     };
     let has_model = take_up(formula, queue, &fact)?;
     facts.push(fact)?;
-    Ok(has_model)
+    Ok(Some(has_model))
 }
 
 /// Solves the cubes of a formula by breadth, from the one without literals on, until at least so
-/// many are open or none is. What is said of them is true, and those that wait are just the cubes
-/// that it leaves open. It fails where a request for memory is refused.
+/// many are open, none is, or the search of one comes to its bound. What is said of them is true, and
+/// those that wait are just the cubes that it leaves open, which are counted on the way. It fails where a
+/// request for memory is refused.
 pub(crate) fn by_breadth<G: Gate>(
     alloc: Global,
     formula: &Formula,
     plan: Plan,
     wanted: usize,
+    open: &OpenCount,
     gate: &G,
 ) -> Result<Division, AllocError>
     ensures facts { IfOk result (λ d. All (IsTrueFact formula.now plan) d.facts.items) }
     ensures cubes { IfOk result (λ d. All (IsOfTree formula.now plan) d.waiting.items) }
     ensures divides { IfOk result (λ d. Divides formula.now plan d.facts.items d.waiting.items d.has_model) }
 {
-    let watched = Watched { gate, hand: 0 };
+    let gate = BoundedGate::of(gate);
     let mut solver = CubeSolver::open(alloc, formula, plan, Root::Unknown)?;
     let mut facts = Vec::new(alloc);
     let mut has_model = false;
+    let mut is_bounded = false;
     let mut queue = VecDeque::new(alloc);
     queue.push_back(Cube::root(alloc))?;
     'cubes: for _ in 0..u64::MAX {
+        open.set(queue.len());
         if queue.len() >= wanted {
             break;
         }
         let Some(cube) = queue.pop_front() else {
             break;
         };
-        if step(
+        let Some(found) = step(
             formula,
             plan,
             &mut solver,
             cube,
             &mut queue,
             &mut facts,
-            &watched,
-        )? {
+            &gate,
+        )?
+        else {
+            is_bounded = true;
+            break;
+        };
+        if found {
             has_model = true;
         }
     }
@@ -170,5 +208,6 @@ pub(crate) fn by_breadth<G: Gate>(
         facts,
         waiting: queue,
         has_model,
+        is_bounded,
     })
 }

@@ -5,10 +5,12 @@ ghost use Rattle.spread.specs.Progress.{progress_by};
 ghost use Rattle.spread.specs.RunFiles.{IsSettled};
 
 use crate::begun::begun_for;
+use crate::bound::MOST_CONFLICTS;
 use crate::breadth::{Division, by_breadth};
 use crate::folder::{Folder, read_file, sum_of, write_file};
 use crate::left_open::open_in;
 use crate::notes::{PartNote, parts_at_work};
+use crate::open_count::OpenCount;
 use crate::pack_file::write_pack;
 use crate::round_file::{next_round, write_round};
 use crate::run_file::{RunFile, formula_in, formula_of, run_in, run_of, run_text};
@@ -144,8 +146,17 @@ fn check_free<R: Files, E: Write>(
     }
 }
 
-/// Solves the cubes of what a run's search begins with by breadth until at least `wanted` are open,
-/// and writes what that came to. The run's formula is the one at this path.
+/// Says that a division ended at its bound, with how many cubes open, and what to change.
+fn say_bounded<E: Write>(faults: &mut E, folder: Folder, open: usize, wanted: usize) {
+    let path = folder.path;
+    let _ = writeln!(
+        faults,
+        "cubesat: {path}: {open} of {wanted} cubes are open, and the next one takes more than {MOST_CONFLICTS} conflicts, which are left to `cubesat conquer`; for more cubes make another run with a smaller --budget"
+    );
+}
+
+/// Solves the cubes of what a run's search begins with by breadth until at least `wanted` are open, or
+/// one comes to the bound, and writes what that came to. The run's formula is the one at this path.
 fn write_division<R: Files, E: Write, G: Gate>(
     rt: &R,
     alloc: Global,
@@ -155,12 +166,16 @@ fn write_division<R: Files, E: Write, G: Gate>(
     text: &str,
     formula: &Formula,
     wanted: usize,
+    open: &OpenCount,
     gate: &G,
     faults: &mut E,
 ) -> Result<Progress, Said> {
-    let Ok(mut division) = by_breadth(alloc, formula, run.plan, wanted, gate) else {
+    let Ok(mut division) = by_breadth(alloc, formula, run.plan, wanted, open, gate) else {
         return Err(say_no_memory(faults, path));
     };
+    if division.is_bounded {
+        say_bounded(faults, folder, division.waiting.len(), wanted);
+    }
     write_run(rt, alloc, folder, run, text, formula, &mut division, faults)
 }
 
@@ -174,7 +189,9 @@ fn settled(alloc: Global, formula: &Formula, strategy: Strategy) -> Result<Strat
 
 /// Makes the run of a formula: finds the plan that decides it by the strategy, solves its cubes by
 /// breadth until at least `wanted` are open, and writes what was found, the formula and the open
-/// cubes into the folder. The gate is told of these cubes as of a hand's.
+/// cubes into the folder. It ends before, and says so, at a cube that has had 20,000 conflicts, which stays
+/// open: what machines solve is the same. The open cubes are counted on the way, and the gate is told of those
+/// that are solved as of a hand's.
 pub fn divide<R: Files, E: Write, G: Gate>(
     rt: &R,
     alloc: Global,
@@ -183,6 +200,7 @@ pub fn divide<R: Files, E: Write, G: Gate>(
     strategy: Strategy,
     limits: Limits,
     wanted: usize,
+    open: &OpenCount,
     gate: &G,
     faults: &mut E,
 ) -> Result<Progress, Said> {
@@ -205,7 +223,7 @@ pub fn divide<R: Files, E: Write, G: Gate>(
     let searched = begun.formula(&formula);
     let text = text.as_str();
     write_division(
-        rt, alloc, folder, path, &run, text, searched, wanted, gate, faults,
+        rt, alloc, folder, path, &run, text, searched, wanted, open, gate, faults,
     )
 }
 

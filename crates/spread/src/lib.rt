@@ -2,6 +2,7 @@
 #![tactic(auto)]
 
 mod begun;
+mod bound;
 mod breadth;
 mod conquering;
 mod dividing;
@@ -11,6 +12,7 @@ mod hands;
 mod heartbeat;
 mod left_open;
 mod notes;
+mod open_count;
 mod open_cubes;
 mod pack_file;
 mod pack_store;
@@ -28,6 +30,7 @@ pub use conquering::Ended;
 pub use dividing::{Progress, divide, divide_again};
 pub use folder::Folder;
 pub use notes::PartNote;
+pub use open_count::OpenCount;
 pub use pack_store::{PackStore, StoreCounts, store_in};
 pub use parts::conquer;
 pub use run_file::{RunFile, formula_bytes_in, run_in};
