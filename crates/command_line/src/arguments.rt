@@ -62,6 +62,12 @@ const SOLVE_BUDGET: &str =
 const BUDGET_TOO_GREAT: &str =
     "only the focused search has budgets above 100000; give --search focused too, or a smaller budget";
 
+/// How the names of formulas end.
+static FORMULA_ENDINGS: [&str; 4] = [".cnf", ".dimacs", ".cnf.gz", ".cnf.xz"];
+
+const PROOF_OVER_FORMULA: &str =
+    "the second file is where the proof is written, and its name is that of a formula; give it by --proof if it is meant so";
+
 const LENIENT: &str =
     "Read the formula as MiniSat does: whatever its header counts, with `+` and leading zeros, comments behind clauses, and up to a `%`";
 
@@ -157,6 +163,13 @@ fn proof_option<'a>(alloc: Global) -> Arg<'a> {
         )
 }
 
+/// The same behind the formula, as CaDiCaL and Kissat take it.
+fn placed_proof<'a>(alloc: Global) -> Result<Arg<'a>, AllocError> {
+    Arg::new(alloc, "PROOF")
+        .help("The same as --proof PROOF")
+        .conflicts_with("proof")
+}
+
 /// A word without an option before it, which must be given.
 pub(crate) fn word<'a>(alloc: Global, name: &'a str, help: &'a str) -> Arg<'a> {
     Arg::new(alloc, name).required(true).help(help)
@@ -197,7 +210,9 @@ fn solve_command<'a>(alloc: Global) -> Result<Command<'a>, AllocError> {
     );
     let command = with_search(alloc, command)?;
     let command = with_flags(alloc, command, SOLVE_LARGE, SOLVE_STATS, SOLVE_PROGRESS)?;
-    command.arg(word(alloc, "FILE", FORMULA_FILE))
+    command
+        .arg(word(alloc, "FILE", FORMULA_FILE))?
+        .arg(placed_proof(alloc)?)
 }
 
 fn check_command<'a>(alloc: Global) -> Result<Command<'a>, AllocError> {
@@ -268,16 +283,27 @@ fn explain_command<'a>(alloc: Global) -> Result<Command<'a>, AllocError> {
 const VERSION: &str = "0.5.0 (logic dac8208d650f15bf)";
 
 const EXAMPLES: &str = "Examples:
-  cubesat solve --proof f.lrat f.cnf                     decide f.cnf, with its first model
-  cubesat solve --any-model --proof f.lrat f.cnf         sooner, with one of its models
-  cubesat solve --hands 4 f.cnf                          the same bytes as with one, by four threads
-  cubesat solve --stats --proof f.lrat f.cnf             and what it took
-  xz -dc f.cnf.xz | cubesat solve -                      standard input, and no proof
-  cubesat check f.cnf f.lrat                             check the proof
-  cubesat tidy f.cnf                                     write the formula without what repeats
-  cubesat session < questions                            answer questions of a growing formula
-  cubesat divide --into RUN f.cnf                        begin a run on many machines
-  cubesat explain 51 5                                   what `fault 51: refusal 5` means";
+  cubesat f.cnf                       the same as `cubesat solve f.cnf`
+  cubesat solve --proof f.lrat f.cnf  decide f.cnf, with its first model
+  cubesat solve --any-model f.cnf     sooner, with one of its models
+  cubesat solve --hands 4 f.cnf       the same bytes, by four threads
+  cubesat solve --stats f.cnf         and what it took
+  xz -dc f.cnf.xz | cubesat solve -   standard input
+  cubesat check f.cnf f.lrat          check the proof
+  cubesat tidy f.cnf                  write the formula without what repeats
+  cubesat session < questions         answer questions of a growing formula
+  cubesat divide --into RUN f.cnf     begin a run on many machines
+  cubesat explain 51 5                what `fault 51: refusal 5` means";
+
+/// The commands, and the parser's own.
+static COMMANDS: [&str; 10] = [
+    "solve", "check", "tidy", "session", "divide", "conquer", "gather", "status", "explain", "help",
+];
+
+/// Whether a word is a command's name.
+pub fn is_command(word: &str) -> bool {
+    COMMANDS.iter().any(|name| *name == word)
+}
 
 /// The command with a subcommand, if there was memory for that one.
 fn with_subcommand<'a>(
@@ -390,7 +416,7 @@ fn solve_request<'a>(matches: &ArgMatches<'a>) -> Option<Request<'a>> {
     let formula = formula_in(matches, "FILE")?;
     Some(Request::Solve {
         asked,
-        proof: matches.get_str("proof"),
+        proof: matches.get_str("proof").or(matches.get_str("PROOF")),
         formula,
         shown: shown_of(matches),
     })
@@ -459,6 +485,18 @@ fn is_budget_too_great(matches: &ArgMatches<'_>) -> bool {
     }
 }
 
+/// Whether what matched the words has a proof behind the formula whose name is that of a formula: two
+/// formulas were given, one of which the proof would replace.
+fn is_proof_over_formula(matches: &ArgMatches<'_>) -> bool {
+    let Some(("solve", matches)) = matches.subcommand() else {
+        return false;
+    };
+    match matches.get_str("PROOF") {
+        Some(path) => FORMULA_ENDINGS.iter().any(|ending| path.ends_with(*ending)),
+        None => false,
+    }
+}
+
 /// The request that these words make of the command, or why they make none.
 fn parsed<'a>(
     command: &mut Command<'a>,
@@ -467,6 +505,9 @@ fn parsed<'a>(
     let matches = command.try_get_matches_from_mut(words)?;
     if is_budget_too_great(&matches) {
         return Ok(Err(BUDGET_TOO_GREAT));
+    }
+    if is_proof_over_formula(&matches) {
+        return Ok(Err(PROOF_OVER_FORMULA));
     }
     Ok(request_in(&matches).ok_or("no request"))
 }

@@ -4,9 +4,13 @@
 
 mod gathered;
 mod gathered_store;
+mod implied;
+mod open_lines;
+mod other_options;
 mod program;
 mod spreading;
 mod standing_lines;
+mod wrapped;
 
 pub use cdcl::Plan;
 pub use cnf::Limits;

@@ -1,6 +1,9 @@
 //! The program: a command line, and what is done for it.
 
+use crate::implied::with_command;
+use crate::other_options::option_elsewhere;
 use crate::spreading::work_on;
+use crate::wrapped::write_wrapped;
 use asking::session;
 use clap::Error;
 use clap::error::ErrorKind;
@@ -10,7 +13,7 @@ use commands::{
     CheckRules, FAILED, Locks, NoLocks, Screen, check, explanation, print_fault, solve, tidy,
 };
 use lrat::Variables;
-use messages::say_no_memory;
+use messages::{say_no_memory, say_not_printed};
 use runs::RunFault;
 use std::alloc::Global;
 use std::fs::Files;
@@ -23,20 +26,24 @@ use std::time::Clock;
 /// The status of a request for help, for the version or for an explanation.
 const SHOWN: u8 = 0;
 
-/// Prints the explanation of a number; whether there is one.
-fn print_explanation<W: Write, E: Write>(number: u32, answer: &mut W, faults: &mut E) -> bool {
-    match explanation(number) {
-        Some(text) => {
-            let _ = writeln!(answer, "{number}: {text}");
-            true
-        }
-        None => {
-            let _ = writeln!(
-                faults,
-                "cubesat: no fault or refusal has the number {number}"
-            );
-            false
-        }
+/// Prints that what goes to standard output wasn't written; the status.
+fn print_not_written<E: Write>(faults: &mut E, error: io::Error) -> u8 {
+    say_not_printed(faults, error);
+    FAILED
+}
+
+/// Prints the explanation of a number; the status.
+fn print_explanation<W: Write, E: Write>(number: u32, answer: &mut W, faults: &mut E) -> u8 {
+    let Some(text) = explanation(number) else {
+        let _ = writeln!(
+            faults,
+            "cubesat: no fault or refusal has the number {number}"
+        );
+        return FAILED;
+    };
+    match writeln!(answer, "{number}: {text}") {
+        Ok(()) => SHOWN,
+        Err(error) => print_not_written(faults, error),
     }
 }
 
@@ -47,26 +54,68 @@ fn explain<W: Write, E: Write>(
     answer: &mut W,
     faults: &mut E,
 ) -> u8 {
-    let mut is_known = print_explanation(number, answer, faults);
-    if let Some(behind) = behind {
-        is_known = print_explanation(behind, answer, faults) && is_known;
+    let status = print_explanation(number, answer, faults);
+    match behind {
+        Some(behind) => status.max(print_explanation(behind, answer, faults)),
+        None => status,
     }
-    if is_known { SHOWN } else { FAILED }
 }
 
-/// Prints what the parser answered in place of a request, help or the version or what is wrong, and
-/// answers the exit status.
-fn print_unparsed<W: Write, E: Write>(error: Error, answer: &mut W, faults: &mut E) -> u8 {
+/// Prints that memory didn't suffice for the command line; the status.
+fn print_no_words<E: Write>(faults: &mut E) -> u8 {
+    print_fault(faults, RunFault::NoMemory);
+    say_no_memory(faults, "the command line");
+    FAILED
+}
+
+/// Prints what is wrong with these words, by the parser's message, or by what there is in the place of
+/// an option of another solver; the status.
+fn print_wrong<E: Write>(error: &Error, words: &[&str], faults: &mut E) -> u8 {
+    let elsewhere = match error.kind() {
+        ErrorKind::UnknownArgument => option_elsewhere(words),
+        _ => None,
+    };
+    let _ = match elsewhere {
+        Some((option, hint)) => writeln!(
+            faults,
+            "error: unexpected argument '{option}' found: {hint}\n\nFor more information, try '--help'."
+        ),
+        None => write!(faults, "{error}"),
+    };
+    FAILED
+}
+
+/// Prints help or the version; the status.
+fn print_help<W: Write, E: Write>(
+    alloc: Global,
+    error: &Error,
+    answer: &mut W,
+    faults: &mut E,
+) -> u8 {
+    let Ok(text) = format!(in alloc; "{error}") else {
+        return print_no_words(faults);
+    };
+    match write_wrapped(answer, text.as_str()) {
+        Ok(()) => SHOWN,
+        Err(error) => print_not_written(faults, error),
+    }
+}
+
+/// Prints what the parser answered of these words in place of a request, help or the version or what
+/// is wrong; the status.
+fn print_unparsed<W: Write, E: Write>(
+    alloc: Global,
+    error: Error,
+    words: &[&str],
+    answer: &mut W,
+    faults: &mut E,
+) -> u8 {
     if error.kind() == ErrorKind::OutOfMemory {
-        print_fault(faults, RunFault::NoMemory);
-        say_no_memory(faults, "the command line");
-        FAILED
+        print_no_words(faults)
     } else if error.use_stderr() {
-        let _ = write!(faults, "{error}");
-        FAILED
+        print_wrong(&error, words, faults)
     } else {
-        let _ = write!(answer, "{error}");
-        SHOWN
+        print_help(alloc, &error, answer, faults)
     }
 }
 
@@ -149,17 +198,26 @@ pub struct Console<I, W, E> {
 /// name: reads and writes its files, reads and prints at the console, and answers the exit
 /// status: 10 satisfiable, 20 unsatisfiable, 0 for a formula that isn't decided in time, or that is
 /// written, for a proof that is accepted, for help and for an explanation, 1 for a proof that is
-/// refused, on a fault or a wrong command line. A failed write to `faults` changes nothing else.
-/// Of two runs for one proof the later is refused.
+/// refused, on a fault or a wrong command line. Words without a command are those of `solve`. A failed
+/// write to `faults` changes nothing else. Of two runs for one proof the later is refused.
 pub fn command_with_input<
     R: Files + Threads + Wait + Clock + Sync,
     I: Read + Drop,
     W: Write,
     E: Write + Send,
 >(rt: &R, alloc: Global, words: &[&str], console: &mut Console<I, W, E>) -> u8 {
-    match request_of(alloc, words) {
+    let Ok(words) = with_command(rt, alloc, words) else {
+        return print_no_words(&mut console.faults);
+    };
+    match request_of(alloc, &words) {
         Ok(request) => serve(rt, alloc, request, console, &NoLocks),
-        Err(error) => print_unparsed(error, &mut console.answer, &mut console.faults),
+        Err(error) => print_unparsed(
+            alloc,
+            error,
+            &words,
+            &mut console.answer,
+            &mut console.faults,
+        ),
     }
 }
 
@@ -182,13 +240,22 @@ where
     R::Dir: Send,
     R::A: Send,
 {
-    match request_of(alloc, words) {
+    let Ok(words) = with_command(rt, alloc, words) else {
+        return print_no_words(&mut console.faults);
+    };
+    match request_of(alloc, &words) {
         Ok(Request::Spread(asked)) => {
             let (answer, faults) = (&mut console.answer, &mut console.faults);
             work_on(rt, alloc, asked, answer, faults, locks)
         }
         Ok(request) => serve(rt, alloc, request, console, locks),
-        Err(error) => print_unparsed(error, &mut console.answer, &mut console.faults),
+        Err(error) => print_unparsed(
+            alloc,
+            error,
+            &words,
+            &mut console.answer,
+            &mut console.faults,
+        ),
     }
 }
 

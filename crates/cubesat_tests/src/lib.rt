@@ -11,6 +11,8 @@ mod divide;
 #[cfg(test)]
 mod focused;
 #[cfg(test)]
+mod implied;
+#[cfg(test)]
 mod kept_proof;
 #[cfg(test)]
 mod lenient_texts;

@@ -73,7 +73,7 @@ static ROWS: [Row; 8] = [
         wanted: Wanted {
             status: 1,
             answer: "",
-            faults: "fault 51: refusal 5 at line 2, column 3\nc |FORMULA|: a variable above the header's number of variables (line 2, column 3)\nc   1 3 0\nc     ^\n",
+            faults: "fault 51: refusal 5 at line 2, column 3\nc |FORMULA|: a variable above the header's number of variables, 2 (line 2, column 3)\nc   1 3 0\nc     ^\n",
         },
         ..UNOPENED
     },
@@ -104,13 +104,19 @@ fn runs_and_checks(rt: HostRuntime) -> Result<(), Fail> {
     check_rows(&rt, "program.cnf", &ROWS)
 }
 
-static WRONG: [&[&str]; 29] = [
+static WRONG: [&[&str]; 33] = [
     // no subcommand
     &["cubesat"],
     // no words
     &[],
     // another subcommand
     &["cubesat", "guess"],
+    // one that is misspelt, and an option before a command
+    &["cubesat", "slove", "x.cnf"],
+    &["cubesat", "--stats", "solve", "x.cnf"],
+    // two formulas, and two proofs
+    &["cubesat", "x.cnf", "y.cnf"],
+    &["cubesat", "x.cnf", "x.lrat", "--proof", "y.lrat"],
     // no proof's path
     &["cubesat", "solve", "x.cnf", "--proof"],
     // a proof where the answer goes
