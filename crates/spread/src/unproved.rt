@@ -12,11 +12,12 @@ use crate::round_file::read_round;
 use crate::run_file::RunFile;
 use crate::said::{Said, say_no_memory};
 use cdcl::{Plan, Search};
-use cnf::Formula;
+use cnf::{Formula, Lit};
 use cubes::OpenGate;
 use kernel::Cube;
 use packs::{Claim, Fact, FactChecker};
 use std::alloc::{AllocError, Global};
+use std::collections::HashMap;
 use std::fs::Files;
 use std::io::Write;
 
@@ -168,22 +169,67 @@ fn is_doubtful<R: Files>(
     Ok(count > 0)
 }
 
-/// Those of some cubes that have no fact that is so, or one below them hasn't.
+/// By which variable each cube is split above some cubes, by its literals.
+fn splits_above(alloc: Global, cubes: &[Cube]) -> Result<HashMap<Vec<Lit>, u32>, AllocError> {
+    let mut splits = HashMap::new(alloc);
+    for cube in cubes {
+        put_splits(alloc, &mut splits, cube)?;
+    }
+    Ok(splits)
+}
+
+fn put_splits(
+    alloc: Global,
+    splits: &mut HashMap<Vec<Lit>, u32>,
+    cube: &Cube,
+) -> Result<(), AllocError> {
+    let lits = cube.lits();
+    for (count, lit) in lits.iter().enumerate() {
+        splits.insert(Vec::from_slice(alloc, &lits[..count])?, lit.var())?;
+    }
+    Ok(())
+}
+
+/// The leaves of the least tree that has these cubes: the cubes themselves, and the halves beside the ways
+/// to them. Of the tree that a division grew these others are refuted, or all that lies below them is.
+fn leaves_around(
+    alloc: Global,
+    formula: &Formula,
+    cubes: &[Cube],
+) -> Result<Vec<Cube>, AllocError> {
+    let splits = splits_above(alloc, cubes)?;
+    let mut leaves = Vec::new(alloc);
+    let mut way = root_alone(alloc)?;
+    'cubes: for _ in 0..u64::MAX {
+        let Some(cube) = way.pop() else {
+            return Ok(leaves);
+        };
+        if let Some(var) = splits.get(cube.lits()).copied() {
+            if put_halves(formula, &mut way, &cube, var)? {
+                continue 'cubes;
+            }
+        }
+        leaves.push(cube)?;
+    }
+    Err(AllocError) // no memory holds so many cubes
+}
+
+/// Those of the leaves around some cubes that have no fact that is so, or one below them hasn't.
 fn doubtful_of<R: Files>(
     alloc: Global,
     store: &mut PackStore<'_, R>,
     formula: &Formula,
     plan: Plan,
-    cubes: Vec<Cube>,
-) -> Result<Vec<Cube>, AllocError> {
+    cubes: &[Cube],
+) -> Result<Tops, AllocError> {
     let mut checker = open_checker(alloc, formula, plan)?;
     let mut doubtful = Vec::new(alloc);
-    'cubes: for cube in cubes {
+    'cubes: for cube in leaves_around(alloc, formula, cubes)? {
         if is_doubtful(alloc, store, &mut checker, formula, &cube)? {
             doubtful.push(cube)?;
         }
     }
-    Ok(doubtful)
+    Tops::of(alloc, &doubtful)
 }
 
 /// Of how many cubes of the whole tree there is no fact that is so.
@@ -236,9 +282,9 @@ fn divided_cubes<R: Files>(
     }
 }
 
-/// Withholds the splits that packs claim in those cubes of a run's first round in which a cube will be
-/// solved: there the tree grows by the plan alone, however many splits the packs claim. Or that memory
-/// was refused, which is said. It checks all facts of the round's cubes, in one thread.
+/// Withholds the splits that packs claim in the cubes that a run's division left, open or refuted, and in
+/// which a cube will be solved: there the tree grows by the plan alone, however many splits the packs
+/// claim. Or that memory was refused, which is said. It checks all facts below these cubes, in one thread.
 pub fn withhold_splits<R: Files, E: Write>(
     rt: &R,
     alloc: Global,
@@ -253,11 +299,7 @@ pub fn withhold_splits<R: Files, E: Write>(
     };
     let begun = begun_for(alloc, folder.path, formula, run.plan, &OpenGate, faults)?;
     let searched = begun.formula(formula);
-    let doubtful = match doubtful_of(alloc, store, searched, run.plan, cubes) {
-        Ok(doubtful) => doubtful,
-        Err(_) => return Err(say_no_memory(faults, folder.path)),
-    };
-    match Tops::of(alloc, &doubtful) {
+    match doubtful_of(alloc, store, searched, run.plan, &cubes) {
         Ok(tops) => store.doubt(tops),
         Err(_) => return Err(say_no_memory(faults, folder.path)),
     }
