@@ -1,13 +1,24 @@
 //! The bound of what is searched while a run is made.
 
 use cdcl::Counts;
-use cubes::{FirstSearch, Gate};
+use cubes::{FirstAnswer, FirstSearch, Gate};
 use kernel::Cube;
-use std::sync::atomic::{AtomicU64, Ordering};
+use std::sync::atomic::{AtomicBool, AtomicU64, Ordering};
 
 /// After so many conflicts in one cube the division of a run ends. By then the focused search has told
 /// whether the formula is divided.
 pub(crate) const MOST_CONFLICTS: u64 = 20_000;
+
+/// How a division ended.
+#[derive(Clone, Copy, Debug, PartialEq, Eq)]
+pub(crate) enum End {
+    /// As many cubes were open as were wanted, or none was.
+    Done,
+    /// The search of a cube came to the bound.
+    AtBound,
+    /// That of the whole formula did, which isn't divided.
+    Whole,
+}
 
 /// A gate that also stops the search of a cube at that bound.
 #[derive(Drop)]
@@ -17,6 +28,8 @@ pub(crate) struct BoundedGate<'a, G> {
     conflicts: AtomicU64,
     /// And before the one that is searched.
     before: AtomicU64,
+    /// Whether it turned out that the formula isn't divided.
+    is_whole: AtomicBool,
 }
 
 impl<'a, G> BoundedGate<'a, G> {
@@ -25,21 +38,35 @@ impl<'a, G> BoundedGate<'a, G> {
             gate,
             conflicts: AtomicU64::new(0),
             before: AtomicU64::new(0),
+            is_whole: AtomicBool::new(false),
+        }
+    }
+
+    pub(crate) fn conflicts(&self) -> u64 {
+        self.conflicts.load(Ordering::SeqCst)
+    }
+
+    /// How a division ended whose last cube came to the bound or didn't.
+    pub(crate) fn end(&self, is_bounded: bool) -> End {
+        if !is_bounded {
+            End::Done
+        } else if self.is_whole.load(Ordering::SeqCst) {
+            End::Whole
+        } else {
+            End::AtBound
         }
     }
 
     /// Whether the cube that is searched has had as many conflicts.
     pub(crate) fn is_reached(&self) -> bool {
-        let all = self.conflicts.load(Ordering::SeqCst);
         let before = self.before.load(Ordering::SeqCst);
-        all.saturating_sub(before) >= MOST_CONFLICTS
+        self.conflicts().saturating_sub(before) >= MOST_CONFLICTS
     }
 }
 
 impl<G: Gate> Gate for BoundedGate<'_, G> {
     fn before(&self, hand: usize, cube: &Cube) {
-        let all = self.conflicts.load(Ordering::SeqCst);
-        self.before.store(all, Ordering::SeqCst);
+        self.before.store(self.conflicts(), Ordering::SeqCst);
         self.gate.before(hand, cube);
     }
 
@@ -57,6 +84,8 @@ impl<G: Gate> Gate for BoundedGate<'_, G> {
     }
 
     fn asked(&self, first: FirstSearch) {
+        let is_whole = first.answer == FirstAnswer::Whole;
+        self.is_whole.store(is_whole, Ordering::SeqCst);
         self.gate.asked(first);
     }
 

@@ -10,7 +10,7 @@ ghost use Rattle.gathering.specs.Facts.{IsTrueFact};
 ghost use Rattle.spread.specs.Dividing.{from_longer, longer_first, IsBreadth, Divides};
 ghost use Rattle.spread.specs.Solving.{IsOfTree, IsSaidOf};
 
-use crate::bound::BoundedGate;
+use crate::bound::{BoundedGate, End};
 use crate::open_count::OpenCount;
 use crate::solving::solve;
 use cdcl::{Plan, split};
@@ -28,8 +28,9 @@ pub(crate) struct Division {
     pub(crate) waiting: VecDeque<Cube>,
     /// Whether a model was found right of the open cubes.
     pub(crate) has_model: bool,
-    /// Whether it ended at a cube that was searched up to the bound.
-    pub(crate) is_bounded: bool,
+    pub(crate) end: End,
+    /// How many conflicts were met.
+    pub(crate) conflicts: u64,
 }
 
 // written out, so that proofs of its owners stay short (docs/PROVING.md)
@@ -39,7 +40,8 @@ impl Drop for Division {
             facts: _,
             waiting: _,
             has_model: _,
-            is_bounded: _,
+            end: _,
+            conflicts: _,
         } = self;
     }
 }
@@ -208,6 +210,7 @@ pub(crate) fn by_breadth<G: Gate>(
         facts,
         waiting: queue,
         has_model,
-        is_bounded,
+        end: gate.end(is_bounded),
+        conflicts: gate.conflicts(),
     })
 }

@@ -5,7 +5,7 @@ ghost use Rattle.spread.specs.Progress.{progress_by};
 ghost use Rattle.spread.specs.RunFiles.{IsSettled};
 
 use crate::begun::begun_for;
-use crate::bound::MOST_CONFLICTS;
+use crate::bound::{End, MOST_CONFLICTS};
 use crate::breadth::{Division, by_breadth};
 use crate::folder::{Folder, read_file, sum_of, write_file};
 use crate::left_open::open_in;
@@ -18,6 +18,7 @@ use crate::said::{Said, say, say_error, say_no_memory};
 use cnf::{Formula, Limits};
 use cubes::{Gate, OpenGate};
 use kernel::Cube;
+use packs::{Claim, Fact};
 use std::alloc::{AllocError, Global};
 use std::fs::Files;
 use std::io::{ErrorKind, Write};
@@ -146,13 +147,37 @@ fn check_free<R: Files, E: Write>(
     }
 }
 
-/// Says that a division ended at its bound, with how many cubes open, and what to change.
-fn say_bounded<E: Write>(faults: &mut E, folder: Folder, open: usize, wanted: usize) {
-    let path = folder.path;
-    let _ = writeln!(
-        faults,
-        "cubesat: {path}: {open} of {wanted} cubes are open, and the next one takes more than {MOST_CONFLICTS} conflicts, which are left to `cubesat conquer`; for more cubes make another run with a smaller --budget"
-    );
+/// Says so where a division met many conflicts and yet refuted no cube: with so small a budget the run may
+/// come to no end.
+fn say_unrefuted<E: Write>(faults: &mut E, path: &str, division: &Division, budget: u32) {
+    let is_split = |fact: &Fact| matches!(fact.claim, Claim::Split(_));
+    let conflicts = division.conflicts;
+    if conflicts >= MOST_CONFLICTS && division.facts.iter().all(is_split) {
+        let _ = writeln!(
+            faults,
+            "cubesat: {path}: no cube was refuted in {conflicts} conflicts; unless later rounds leave fewer cubes open, make another run with a --budget above {budget}"
+        );
+    }
+}
+
+/// Says why a division that ended early did so, or may come to nothing, and what to change.
+fn say_end<E: Write>(faults: &mut E, path: &str, division: &Division, wanted: usize, budget: u32) {
+    let open = division.waiting.len();
+    match division.end {
+        End::Done => say_unrefuted(faults, path, division, budget),
+        End::AtBound => {
+            let _ = writeln!(
+                faults,
+                "cubesat: {path}: {open} of {wanted} cubes are open, and the next one takes more than {MOST_CONFLICTS} conflicts, which are left to `cubesat conquer`; for more cubes make another run with a smaller --budget"
+            );
+        }
+        End::Whole => {
+            let _ = writeln!(
+                faults,
+                "cubesat: {path}: {open} of {wanted} cubes are open: the formula isn't divided, since by its first conflicts cubes would take longer, so `cubesat solve` on one machine is as fast; a smaller --budget splits it all the same"
+            );
+        }
+    }
 }
 
 /// Solves the cubes of what a run's search begins with by breadth until at least `wanted` are open, or
@@ -173,9 +198,7 @@ fn write_division<R: Files, E: Write, G: Gate>(
     let Ok(mut division) = by_breadth(alloc, formula, run.plan, wanted, open, gate) else {
         return Err(say_no_memory(faults, path));
     };
-    if division.is_bounded {
-        say_bounded(faults, folder, division.waiting.len(), wanted);
-    }
+    say_end(faults, folder.path, &division, wanted, run.plan.budget());
     write_run(rt, alloc, folder, run, text, formula, &mut division, faults)
 }
 
