@@ -252,13 +252,12 @@ pub fn say_proof_refused<E: Write>(
         return;
     }
     say_why(out, Name::of(file), refused, limits, source, excerpt);
-    if looks_foreign(refused, source.is_extended) {
-        let _ = writeln!(out, "c does the proof belong to this formula?");
-    }
     if is_drat(source.beginning) {
         let _ = writeln!(
             out,
             "c it begins as DRAT does, which has no hints; drat-trim FORMULA FILE -L NEW makes LRAT of that, and cadical --lrat FORMULA NEW writes LRAT"
         );
+    } else if looks_foreign(refused, source.is_extended) {
+        let _ = writeln!(out, "c does the proof belong to this formula?");
     }
 }
