@@ -1,5 +1,4 @@
 //! What each number that the program prints means, and what to change, in plain sentences.
-//! `docs/FORMATS.md` lists how each text begins: `bin/compare_texts` compares the two.
 
 /// What a refusal of a formula means.
 fn of_formula(number: u32) -> Option<&'static str> {
