@@ -1,44 +1,20 @@
-//! Command lines as rows: the program by both searches, its options, its files and standard input;
-//! and what it says of faults, also where it can't write what it is to.
+//! Command lines that no shell gives, or whose system, standard input, answer or faults are the test's
+//! own. All others are cases of `tests/cases`.
 #![tactic(auto)]
 
 #[cfg(test)]
-mod check_status;
+mod calls;
 #[cfg(test)]
 mod command_lines;
 #[cfg(test)]
-mod divide;
-#[cfg(test)]
-mod focused;
-#[cfg(test)]
-mod implied;
-#[cfg(test)]
 mod kept_proof;
-#[cfg(test)]
-mod lenient_texts;
-#[cfg(test)]
-mod options;
-#[cfg(test)]
-mod program;
 #[cfg(test)]
 mod same_file;
 #[cfg(test)]
-mod sessions_told;
-#[cfg(test)]
 mod shown;
 #[cfg(test)]
-mod shown_faults;
-#[cfg(test)]
-mod simplified;
-#[cfg(test)]
 mod standard_input;
-#[cfg(test)]
-mod tidied;
-#[cfg(test)]
-mod told;
 #[cfg(test)]
 mod two_runs;
 #[cfg(test)]
 mod unwritten;
-#[cfg(test)]
-mod worded;

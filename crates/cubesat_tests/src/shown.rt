@@ -1,5 +1,4 @@
 //! Where what is shown of a run can't be printed, all else stays as it is.
-use crate::options::SPLIT;
 use cubesat::{Screen, command_on};
 use samples::EIGHT;
 use samples::faulty::{Limited, Limits};
@@ -10,6 +9,10 @@ use std::sync::Wait;
 use std::test::Fail;
 use std::thread::Threads;
 use std::time::Clock;
+
+/// The proof of the eight clauses at budgets that exhaust the root.
+const SPLIT: &str =
+    "9 2 1 0 1 2 0\n10 1 0 9 3 4 0\n10 d 9 0\n11 2 -1 0 5 6 0\n12 -1 0 11 7 8 0\n12 d 11 0\n13 0 10 12 0\n";
 
 static WITH_ALL: [&str; 10] = [
     "cubesat",

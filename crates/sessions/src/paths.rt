@@ -39,13 +39,12 @@ impl Paths {
         })
     }
 
-    /// The path that a word of a row stands for, or the word; `PIPE` stands for a bar.
+    /// The path that a word of a row stands for, or the word.
     pub fn word<'a>(&'a self, word: &'a str) -> &'a str {
         match word {
             "FORMULA" => self.formula.as_str(),
             "PROOF" => self.proof.as_str(),
             "MISSING" => self.missing.as_str(),
-            "PIPE" => "|",
             _ => word,
         }
     }

@@ -57,10 +57,6 @@ pub fn is_filled(
 pub enum Known<'a> {
     All(&'a str),
     Beginning(&'a str),
-    /// Its beginning and its end.
-    Ends(&'a str, &'a str),
-    /// What stands somewhere in it.
-    Piece(&'a str),
     /// What stands behind the first place of a piece.
     Behind(&'a str, &'a str),
 }
@@ -70,8 +66,6 @@ impl Known<'_> {
         match self {
             Known::All(all) => text == *all,
             Known::Beginning(beginning) => text.starts_with(*beginning),
-            Known::Ends(beginning, end) => text.starts_with(*beginning) && text.ends_with(*end),
-            Known::Piece(piece) => text.contains(*piece),
             Known::Behind(piece, wanted) => match text.split_once(*piece) {
                 Some((_, behind)) => behind.starts_with(*wanted),
                 None => false,

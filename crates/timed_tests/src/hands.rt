@@ -50,7 +50,7 @@ fn told_in(faults: &[u8]) -> Option<Told> {
     Some(told)
 }
 
-/// A command line without its number of hands.
+/// A command line.
 type Line = &'static [&'static str];
 
 /// What the command line that the words of a row stand for tells of the eight clauses' hands.
@@ -65,125 +65,6 @@ fn told_by<R: Files + AllocGlobal + Threads + Wait + Clock + Sync>(
     let mut faults = Vec::new(rt.alloc());
     let _ = command(rt, rt.alloc(), &words, &mut answer, &mut faults);
     Ok(told_in(&faults))
-}
-
-/// Each number of hands.
-static NUMBERED: [(Line, u64); 16] = [
-    (
-        &[
-            "cubesat", "solve", "--stats", "--budget", "1", "--hands", "1", "FORMULA",
-        ],
-        1,
-    ),
-    (
-        &[
-            "cubesat", "solve", "--stats", "--budget", "1", "--hands", "2", "FORMULA",
-        ],
-        2,
-    ),
-    (
-        &[
-            "cubesat", "solve", "--stats", "--budget", "1", "--hands", "3", "FORMULA",
-        ],
-        3,
-    ),
-    (
-        &[
-            "cubesat", "solve", "--stats", "--budget", "1", "--hands", "4", "FORMULA",
-        ],
-        4,
-    ),
-    (
-        &[
-            "cubesat", "solve", "--stats", "--budget", "1", "--hands", "5", "FORMULA",
-        ],
-        5,
-    ),
-    (
-        &[
-            "cubesat", "solve", "--stats", "--budget", "1", "--hands", "6", "FORMULA",
-        ],
-        6,
-    ),
-    (
-        &[
-            "cubesat", "solve", "--stats", "--budget", "1", "--hands", "7", "FORMULA",
-        ],
-        7,
-    ),
-    (
-        &[
-            "cubesat", "solve", "--stats", "--budget", "1", "--hands", "8", "FORMULA",
-        ],
-        8,
-    ),
-    (
-        &[
-            "cubesat", "solve", "--stats", "--budget", "1", "--hands", "9", "FORMULA",
-        ],
-        9,
-    ),
-    (
-        &[
-            "cubesat", "solve", "--stats", "--budget", "1", "--hands", "10", "FORMULA",
-        ],
-        10,
-    ),
-    (
-        &[
-            "cubesat", "solve", "--stats", "--budget", "1", "--hands", "11", "FORMULA",
-        ],
-        11,
-    ),
-    (
-        &[
-            "cubesat", "solve", "--stats", "--budget", "1", "--hands", "12", "FORMULA",
-        ],
-        12,
-    ),
-    (
-        &[
-            "cubesat", "solve", "--stats", "--budget", "1", "--hands", "13", "FORMULA",
-        ],
-        13,
-    ),
-    (
-        &[
-            "cubesat", "solve", "--stats", "--budget", "1", "--hands", "14", "FORMULA",
-        ],
-        14,
-    ),
-    (
-        &[
-            "cubesat", "solve", "--stats", "--budget", "1", "--hands", "15", "FORMULA",
-        ],
-        15,
-    ),
-    (
-        &[
-            "cubesat", "solve", "--stats", "--budget", "1", "--hands", "16", "FORMULA",
-        ],
-        16,
-    ),
-];
-
-/// Whether so many hands are told of, which have solved three cubes: the root of the eight clauses and
-/// its halves.
-fn is_named(told: Option<Told>, hands: u64) -> bool {
-    match told {
-        Some(told) => told.hands == hands && told.cubes == 3,
-        None => false,
-    }
-}
-
-#[test]
-fn each_number_of_hands_is_the_one_named(rt: HostRuntime) -> Result<(), Fail> {
-    let paths = Paths::of(&rt, "hands_named.cnf")?;
-    for (line, hands) in &NUMBERED {
-        let told = told_by(&rt, &paths, line)?;
-        assert!(rt; is_named(told, *hands), "{line:?}");
-    }
-    Ok(())
 }
 
 /// Command lines with a limit of time, how many hands they name, and which reading of the clock is the
