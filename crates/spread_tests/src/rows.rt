@@ -1,13 +1,13 @@
 //! Command lines one after the other, what each prints, and its status.
 use cubesat::{Console, NoLocks, Screen, command_in_folders};
 use std::alloc::Global;
+use std::fs;
 use std::fs::Files;
 use std::io::empty;
 use std::sync::Wait;
 use std::test::Fail;
 use std::thread::Threads;
 use std::time::Clock;
-use std::{fs, io};
 
 /// A command line.
 #[derive(Clone, Copy)]
@@ -21,7 +21,7 @@ pub struct Row<'a> {
 }
 
 /// Whether the command line ends and prints as it is to.
-pub fn is_so<R: Files + AllocGlobal + Threads + Wait + Clock + Sync + Clone + Drop>(
+fn is_so<R: Files + AllocGlobal + Threads + Wait + Clock + Sync + Clone + Drop>(
     rt: &R,
     alloc: Global,
     row: &Row,
@@ -72,10 +72,4 @@ pub fn begin<R: Files + AllocGlobal>(
     let _ = fs::remove_dir_all(rt, run);
     fs::write(rt, path, text)?;
     Ok(())
-}
-
-/// Whether a file holds this text.
-pub fn holds<R: Files + AllocGlobal>(rt: &R, path: &str, text: &str) -> io::Result<bool> {
-    let bytes = fs::read(rt, path)?;
-    Ok(bytes.as_slice() == text.as_bytes())
 }

@@ -1,10 +1,10 @@
 //! What is said where a run's files, or what a command prints, can't be written.
 use crate::rows::{Row, begin, first_other};
-use crate::steps::{Step, check_steps};
 use cubesat::{Console, NoLocks, Screen, command_in_folders};
 use samples::FOUR;
 use samples::faulty::{Limited, Limits};
 use sessions::fake::{Call, Fake};
+use std::fs;
 use std::fs::Files;
 use std::io::empty;
 use std::sync::Wait;
@@ -87,21 +87,18 @@ static REFUSED: [(Row, bool, Call); 11] = [
     (UNGATHERED, true, Call::Rename),
 ];
 
-/// There is no run yet.
-static NO_RUN: [Step; 1] = [Step::Missing("spread_unwritten/run")];
-
-/// What was solved isn't there.
-static NOT_SOLVED: [Step; 1] = [Step::Ends(Row {
+/// Nothing that was solved is there: both cubes are open.
+const NOT_SOLVED: Row = Row {
     words: &["cubesat", "divide", "--into", RUN],
     ..MADE
-})];
+};
 
 #[test]
 fn files_that_are_not_written_are_said(rt: HostRuntime) -> Result<(), Fail> {
     for (row, is_made, call) in &REFUSED {
         begin(&rt, RUN, FORMULA, FOUR)?;
         if *is_made {
-            check_steps(&rt, &[Step::Ends(MADE)]);
+            assert!(rt; first_other(&rt, &[MADE]).is_none());
         }
         let fake = Fake::refusing(&rt, &rt, *call);
         assert!(rt;
@@ -110,9 +107,9 @@ fn files_that_are_not_written_are_said(rt: HostRuntime) -> Result<(), Fail> {
             row.words
         );
         if *is_made {
-            check_steps(&rt, &NOT_SOLVED);
+            assert!(rt; first_other(&rt, &[NOT_SOLVED]).is_none());
         } else {
-            check_steps(&rt, &NO_RUN);
+            assert!(rt; !fs::exists(&rt, "spread_unwritten/run")?);
         }
     }
     Ok(())
