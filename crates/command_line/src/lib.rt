@@ -2,12 +2,16 @@
 #![tactic(auto)]
 
 mod arguments;
+mod commands;
 mod effort;
+mod options;
 mod refusals;
 mod request;
 mod spread_arguments;
 
-pub use arguments::{MAX_DIVIDE, STANDARD_INPUT, is_command, request_of};
+pub use arguments::{MAX_DIVIDE, request_of};
+pub use commands::is_command;
 pub use effort::{Asked, Choice, Effort, SPREAD_BUDGET, greatest_budget, strategy_of};
+pub use options::STANDARD_INPUT;
 pub use request::{FormulaFile, Request, Shown};
 pub use spread_arguments::{Part, Spread};

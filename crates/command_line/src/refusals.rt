@@ -1,7 +1,7 @@
 //! Command lines that are refused, though each of their words is right by itself.
 
-use crate::arguments::STANDARD_INPUT;
 use crate::effort::{Asked, Choice};
+use crate::options::STANDARD_INPUT;
 use crate::request::Request;
 use crate::spread_arguments::Spread;
 

@@ -1,26 +1,9 @@
 //! The command lines of runs that are spread over machines.
 
-use crate::arguments::{
-    any_model_flag, budget_option, choice_in, flag, limits_of, search_option, simplify_in,
-    simplify_option, word,
-};
+use crate::arguments::{choice_in, limits_of, simplify_in};
 use crate::effort::{Choice, SPREAD_BUDGET};
-use clap::{Arg, ArgMatches, Command};
+use clap::ArgMatches;
 use cnf::Limits;
-use std::alloc::{AllocError, Global};
-
-const LARGE: &str =
-    "Read a formula of up to 100,000,000 variables, 1,000,000,000 clauses and 1 TiB of text";
-
-const DIVIDE_BUDGET: &str =
-    "Conflicts that the first cube may have before it is split, 1 to 100000, or 1000000000 with the focused search; a cube of d literals has d + 1 times as many, at most 1000000, or 1000000000; with the automatic search, those of the ordered search that it tries first [default: 1000, or 100000 with the focused search]";
-
-const RUN: &str = "The folder of the run";
-
-const PROGRESS: &str = "Print to standard error about once a second how many cubes are solved";
-
-const GATHER_PROGRESS: &str =
-    "Print to standard error about once a second how much of the proof is written";
 
 /// What is asked for of a run that is spread over machines.
 #[derive(Clone, Copy)]
@@ -71,123 +54,6 @@ pub enum Spread<'a> {
     Status {
         run: &'a str,
     },
-}
-
-fn into_option<'a>(alloc: Global) -> Arg<'a> {
-    Arg::new(alloc, "into")
-        .long("into")
-        .value_name("RUN")
-        .required(true)
-        .help(RUN)
-}
-
-fn wanted_option<'a>(alloc: Global) -> Arg<'a> {
-    Arg::new(alloc, "divide")
-        .long("divide")
-        .value_name("N")
-        .value_parser(clap::value_parser!(u32).range(1..=65_536))
-        .default_value("1024")
-        .help("Cubes that are to be open for the machines, 1 to 65536")
-}
-
-fn round_option<'a>(alloc: Global) -> Arg<'a> {
-    Arg::new(alloc, "round")
-        .long("round")
-        .value_name("R")
-        .value_parser(clap::value_parser!(u32).range(1..=9999))
-        .required(true)
-        .help("The round, from 1 on")
-}
-
-fn part_option<'a>(alloc: Global) -> Arg<'a> {
-    Arg::new(alloc, "part")
-        .long("part")
-        .value_name("K/M")
-        .required(true)
-        .help("Solve each M-th cube of the round, from the K-th on")
-}
-
-fn minutes_option<'a>(alloc: Global) -> Arg<'a> {
-    Arg::new(alloc, "minutes")
-        .long("minutes")
-        .value_name("T")
-        .value_parser(clap::value_parser!(u32).range(1..=1_000_000))
-        .help("End with status 75 after so many minutes; the cubes that are left stay open")
-}
-
-fn hands_option<'a>(alloc: Global, help: &'a str) -> Arg<'a> {
-    Arg::new(alloc, "hands")
-        .long("hands")
-        .value_name("H")
-        .value_parser(clap::value_parser!(u32).range(1..=16))
-        .default_value("1")
-        .help(help)
-}
-
-fn proof_option<'a>(alloc: Global) -> Arg<'a> {
-    Arg::new(alloc, "proof")
-        .long("proof")
-        .value_name("PATH")
-        .required(true)
-        .help("Where the LRAT proof is written, in PATH.part until it is whole")
-}
-
-fn formula_word<'a>(alloc: Global) -> Arg<'a> {
-    Arg::new(alloc, "FORMULA").help(
-        "The formula, in DIMACS CNF; without it the next round of the run is written",
-    )
-}
-
-pub(crate) fn divide_command<'a>(alloc: Global) -> Result<Command<'a>, AllocError> {
-    Command::new(alloc, "divide")
-        .about(
-            "Begin a run on many machines, or its next round: status 0 and how many cubes are open, or the answer",
-        )
-        .arg(into_option(alloc))?
-        .arg(search_option(alloc))?
-        .arg(budget_option(alloc, DIVIDE_BUDGET))?
-        .arg(wanted_option(alloc))?
-        .arg(simplify_option(alloc))?
-        .arg(any_model_flag(alloc))?
-        .arg(flag(alloc, "large", LARGE))?
-        .arg(flag(alloc, "progress", PROGRESS))?
-        .arg(formula_word(alloc))
-}
-
-pub(crate) fn conquer_command<'a>(alloc: Global) -> Result<Command<'a>, AllocError> {
-    Command::new(alloc, "conquer")
-        .about("Solve a part of a round's cubes: status 0, or 75 where the time is over")
-        .arg(round_option(alloc))?
-        .arg(part_option(alloc))?
-        .arg(minutes_option(alloc))?
-        .arg(hands_option(
-            alloc,
-            "Threads that solve cubes of the part side by side, 1 to 16",
-        ))?
-        .arg(flag(alloc, "progress", PROGRESS))?
-        .arg(word(alloc, "RUN", RUN))
-}
-
-pub(crate) fn gather_command<'a>(alloc: Global) -> Result<Command<'a>, AllocError> {
-    Command::new(alloc, "gather")
-        .about(
-            "Check what a run has found, and write proof and answer: `s UNKNOWN`, status 0, where cubes are missing",
-        )
-        .arg(proof_option(alloc))?
-        .arg(hands_option(
-            alloc,
-            "Threads that check what was found side by side, 1 to 16",
-        ))?
-        .arg(flag(alloc, "solve", "Solve the cubes that are missing, too"))?
-        .arg(flag(alloc, "stats", "Print to standard error what the packs had"))?
-        .arg(flag(alloc, "progress", GATHER_PROGRESS))?
-        .arg(word(alloc, "RUN", RUN))
-}
-
-pub(crate) fn status_command<'a>(alloc: Global) -> Result<Command<'a>, AllocError> {
-    Command::new(alloc, "status")
-        .about("Say how far a run is: status 0, or that of `divide` where no cube is open")
-        .arg(word(alloc, "RUN", RUN))
 }
 
 pub(crate) fn divide_request<'a>(matches: &ArgMatches<'a>) -> Option<Spread<'a>> {
