@@ -1,14 +1,14 @@
 #!/usr/bin/env bash
 # loop.sh RUN [ROUND]
-# Solves the open cubes of a run by any scheduler, round after round, until its packs decide the formula.
+# Solves the open cubes of a run by any scheduler, round after round, until none is open.
 # START is what starts a command as a job and waits for its end, as 'bsub -K', 'qsub -sync y -b y' or
 # 'srun -n 1'; without it all parts run here at once. The folder RUN is one that all machines see under the
 # same path, made by
 #     cubesat divide --into RUN --search focused FORMULA
 # PARTS is how many jobs a round has (64, without START a processor each), MINUTES how long one may take
-# (60), HANDS by how many threads it is solved (1), CUBESAT the program (cubesat). The status is that of
-# `cubesat divide`: 10 satisfiable, 20 unsatisfiable; `cubesat gather --proof PATH RUN` writes the proof and
-# the answer then. It is 3 where no job of a round ended well and no pack came, twice.
+# (60), HANDS by how many threads it is solved (1), CUBESAT the program (cubesat). The status is 0 then:
+# `cubesat gather --proof PATH RUN` checks the packs, and writes the proof and the answer. It is 3 where no job
+# of a round ended well and no pack came, twice.
 set -eu
 run=$1
 round=${2:-$(ls "$run/rounds" | tail -n 1)}
@@ -35,8 +35,7 @@ while true; do
         exit 3
     fi
     failed=0
-    status=0
-    "$program" divide --into "$run" || status=$?
-    [ "$status" = 0 ] || exit "$status"
+    open=$("$program" divide --into "$run") || exit
+    [ "$open" != 0 ] || exit 0
     round=$(ls "$run/rounds" | tail -n 1)
 done

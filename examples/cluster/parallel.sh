@@ -1,14 +1,13 @@
 #!/usr/bin/env bash
 # parallel.sh RUN [ROUND]
-# Solves the open cubes of a run on machines that GNU parallel reaches, round after round, until its
-# packs decide the formula. The folder RUN is one that all machines see under the same path, made by
+# Solves the open cubes of a run on machines that GNU parallel reaches, round after round, until none
+# is open. The folder RUN is one that all machines see under the same path, made by
 #     cubesat divide --into RUN --search focused FORMULA
 # LOGINS is a file for --sshloginfile, a line a machine, as 16/node1 for 16 jobs there; without it all
 # runs here. PARTS is how many parts a round has (64), MINUTES how long a part may take (60), HANDS by
-# how many threads each is solved (1), CUBESAT the program (cubesat). The status is that of `cubesat
-# divide`: 10 satisfiable, 20 unsatisfiable; `cubesat gather --proof PATH RUN` writes the proof and
-# the answer then. It is 3 where no part of a round ended well and no pack came, twice: RUN/joblog.ROUND
-# has the status of each part.
+# how many threads each is solved (1), CUBESAT the program (cubesat). The status is 0 then: `cubesat
+# gather --proof PATH RUN` checks the packs, and writes the proof and the answer. It is 3 where no part
+# of a round ended well and no pack came, twice: RUN/joblog.ROUND has the status of each part.
 set -eu
 fail() {
     echo "parallel.sh: $1" >&2
@@ -49,8 +48,7 @@ while true; do
         exit 3
     fi
     failed=0
-    status=0
-    "$program" divide --into "$run" || status=$?
-    [ "$status" = 0 ] || exit "$status"
+    open=$("$program" divide --into "$run") || exit
+    [ "$open" != 0 ] || exit 0
     round=$(ls "$run/rounds" | tail -n 1)
 done

@@ -4,8 +4,8 @@
 # nodes see, made by
 #     cubesat divide --into RUN --search focused FORMULA
 # The first task of a round also submits what comes behind it: once all tasks of the array have ended,
-# however they did, the next round is written, and its array submitted, until the packs decide the
-# formula. `cubesat gather --proof PATH RUN` writes the proof and the answer then. Where no task of a
+# however they did, the next round is written, and its array submitted, until no cube is open. `cubesat
+# gather --proof PATH RUN` checks the packs then, and writes the proof and the answer. Where no task of a
 # round ended well and no pack came, the round is tried once more; then the last job ends with
 # status 3. CUBESAT is the program (cubesat); with --cpus-per-task=H each part is solved by H threads.
 # Slurm has at most 1001 tasks in an array unless the cluster says otherwise, so a task takes a slice
@@ -27,7 +27,7 @@ if [ -n "${NEXT:-}" ]; then
             exit 3
         fi
         NEXT='' AGAIN=1 sbatch --export=ALL --array="$PARTS" "$0" "$run" "$round"
-    elif "$program" divide --into "$run"; then
+    elif open=$("$program" divide --into "$run") && [ "$open" != 0 ]; then
         NEXT='' AGAIN='' sbatch --export=ALL --array="$PARTS" "$0" "$run"
     fi
     exit 0

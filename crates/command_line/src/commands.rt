@@ -85,7 +85,7 @@ static COMMANDS: [CommandRow; 9] = [
     },
     CommandRow {
         name: "divide",
-        about: "Begin a run on many machines, or its next round: status 0 and how many cubes are open, or the answer",
+        about: "Begin a run on many machines, or its next round, and print how many cubes are open",
         args: &[
             INTO,
             SEARCH,
@@ -117,7 +117,7 @@ static COMMANDS: [CommandRow; 9] = [
     },
     CommandRow {
         name: "status",
-        about: "Say how far a run is: status 0, or that of `divide` where no cube is open",
+        about: "Say how far a run is",
         args: &[RUN],
     },
     CommandRow {

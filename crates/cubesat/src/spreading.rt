@@ -145,7 +145,7 @@ fn begin<R: Files + Threads + Wait + Clock + Sync, W: Write, E: Write + Send>(
             rt, alloc, folder, formula, strategy, limits, wanted, &open, &OpenGate, faults,
         )
     };
-    print_progress(answer, faults, progress)
+    print_progress(answer, faults, into, progress)
 }
 
 /// `conquer`, counted on a board; then no more progress is shown.
@@ -271,7 +271,7 @@ where
         }
         Spread::Next { into } => {
             let progress = divide_again(rt, alloc, Folder { path: into }, faults);
-            print_progress(answer, faults, progress)
+            print_progress(answer, faults, into, progress)
         }
         Spread::Conquer {
             run,

@@ -1,6 +1,6 @@
 //! How far a run is that is spread over machines, as it is printed.
 
-use commands::{FAILED, SATISFIABLE, UNSATISFIABLE};
+use commands::FAILED;
 use messages::say_not_printed;
 use spread::{Folder, PartNote, Progress, Said, Standing, standing_in};
 use std::alloc::Global;
@@ -9,17 +9,9 @@ use std::io;
 use std::io::Write;
 use std::time::Clock;
 
-/// The status where cubes are open, and where a part is solved.
+/// The status of a command that did what it is to do for a run, and where a part is solved. What packs
+/// say of its formula is no verdict.
 pub(crate) const DONE: u8 = 0;
-
-/// The status of what is known of a run's formula.
-fn status_by(progress: Progress) -> u8 {
-    match progress {
-        Progress::Open(_) => DONE,
-        Progress::Satisfiable => SATISFIABLE,
-        Progress::Unsatisfiable => UNSATISFIABLE,
-    }
-}
 
 /// The status of a command whose answer is printed, unless that failed.
 pub(crate) fn status_printed<E: Write>(faults: &mut E, written: io::Result<()>, status: u8) -> u8 {
@@ -32,29 +24,39 @@ pub(crate) fn status_printed<E: Write>(faults: &mut E, written: io::Result<()>, 
     }
 }
 
-/// Prints how far a run is; the status.
-pub(crate) fn print_progress<W: Write, E: Write>(
-    answer: &mut W,
-    faults: &mut E,
-    progress: Result<Progress, Said>,
-) -> u8 {
-    let Ok(progress) = progress else {
-        return FAILED;
-    };
-    let written = match progress {
-        Progress::Open(count) => writeln!(answer, "{count}"),
-        Progress::Satisfiable => writeln!(answer, "s SATISFIABLE"),
-        Progress::Unsatisfiable => writeln!(answer, "s UNSATISFIABLE"),
-    };
-    status_printed(faults, written, status_by(progress))
-}
-
 /// How many cubes are open.
 pub(crate) fn open_of(progress: Progress) -> usize {
     match progress {
         Progress::Open(count) => count,
         Progress::Satisfiable | Progress::Unsatisfiable => 0,
     }
+}
+
+/// Says what packs claim of a run of which no cube is open, and which command checks that.
+fn say_claim<E: Write>(faults: &mut E, progress: Progress, run: &str) {
+    let claim = match progress {
+        Progress::Open(_) => return,
+        Progress::Satisfiable =>
+            "a pack claims a model, and every cube before it is refuted by a pack",
+        Progress::Unsatisfiable => "every cube is refuted by a pack",
+    };
+    let _ = writeln!(faults, "c {claim}: cubesat gather --proof PATH {run}");
+}
+
+/// Prints how many cubes of a run are open; the status.
+pub(crate) fn print_progress<W: Write, E: Write>(
+    answer: &mut W,
+    faults: &mut E,
+    run: &str,
+    progress: Result<Progress, Said>,
+) -> u8 {
+    let Ok(progress) = progress else {
+        return FAILED;
+    };
+    let open = open_of(progress);
+    let written = writeln!(answer, "{open}");
+    say_claim(faults, progress, run);
+    status_printed(faults, written, DONE)
 }
 
 /// Writes the name of a part that is at work, and how old its last word is.
@@ -100,5 +102,6 @@ pub(crate) fn print_standing<R: Files + Clock + Alloc + Clone + Drop, W: Write, 
         return FAILED;
     };
     let written = write_standing(answer, &standing);
-    status_printed(faults, written, status_by(standing.progress))
+    say_claim(faults, standing.progress, folder.path);
+    status_printed(faults, written, DONE)
 }

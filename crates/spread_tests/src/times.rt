@@ -23,7 +23,7 @@ static HALVES: [Row; 1] = [Row {
 }];
 
 /// The command line of a part, what the clock shows in milliseconds, the status, and what is open
-/// behind it, with its status. The clock is read twice as a hand begins, and twice before each cube:
+/// behind it, with what is said of that. The clock is read twice as a hand begins, and twice before each cube:
 /// whether the time is over, and whether a pack is due.
 #[derive(Clone, Copy)]
 struct Timed<'a> {
@@ -31,7 +31,7 @@ struct Timed<'a> {
     clock: &'a [u64],
     status: u8,
     open: &'a str,
-    status_of_open: u8,
+    claim: &'a str,
 }
 
 /// The time is over before the first cube.
@@ -50,15 +50,15 @@ const ENDED: Timed = Timed {
     clock: &[5_000, 5_000, 65_000],
     status: 75,
     open: "2\n",
-    status_of_open: 0,
+    claim: "",
 };
 
 /// It isn't.
 const SOLVED: Timed = Timed {
     clock: &[5_000, 5_000, 64_999],
     status: 0,
-    open: "s UNSATISFIABLE\n",
-    status_of_open: 20,
+    open: "0\n",
+    claim: "c every cube is refuted by a pack: cubesat gather --proof PATH spread_times\n",
     ..ENDED
 };
 
@@ -126,9 +126,9 @@ fn parts_end_in_time(rt: HostRuntime) -> Result<(), Fail> {
         };
         let open = Row {
             words: &["cubesat", "divide", "--into", RUN],
-            status: row.status_of_open,
+            status: 0,
             answer: row.open,
-            faults: "",
+            faults: row.claim,
         };
         assert!(rt; first_other(&fake, &[part]).is_none(), "{:?}", row.clock);
         assert!(rt; first_other(&rt, &[open]).is_none(), "{:?}", row.clock);
