@@ -58,13 +58,22 @@ fn make_folder<R: Files>(rt: &R, path: &str) -> io::Result<()> {
     }
 }
 
+/// The folders in that of a run.
+static FOLDERS: [&str; 4] = ["packs", "rounds", "models", "parts"];
+
+/// Makes the folder of a run and those in it.
+fn make_folders<R: Files>(rt: &R, alloc: Global, folder: Folder) -> io::Result<()> {
+    let path = folder.path;
+    make_folder(rt, path)?;
+    for name in &FOLDERS {
+        make_folder(rt, format!(in alloc; "{path}/{name}")?.as_str())?;
+    }
+    Ok(())
+}
+
 /// Makes the folders of a run, and copies its formula there.
-fn make_folders<R: Files>(rt: &R, alloc: Global, folder: Folder, bytes: &[u8]) -> io::Result<()> {
-    make_folder(rt, folder.path)?;
-    make_folder(rt, folder.packs(alloc)?.as_str())?;
-    make_folder(rt, folder.rounds(alloc)?.as_str())?;
-    make_folder(rt, folder.models(alloc)?.as_str())?;
-    make_folder(rt, folder.parts(alloc)?.as_str())?;
+fn put_formula<R: Files>(rt: &R, alloc: Global, folder: Folder, bytes: &[u8]) -> io::Result<()> {
+    make_folders(rt, alloc, folder)?;
     write_file(rt, alloc, folder.formula(alloc)?.as_str(), bytes)
 }
 
@@ -210,6 +219,40 @@ fn settled(alloc: Global, formula: &Formula, strategy: Strategy) -> Result<Strat
     Ok(strategy.chosen(plan))
 }
 
+/// Reads the formula at a path, and puts its bytes, which are given too, into the folder of a run that is
+/// made.
+fn begin_run<R: Files, E: Write>(
+    rt: &R,
+    alloc: Global,
+    folder: Folder,
+    path: &str,
+    limits: Limits,
+    faults: &mut E,
+) -> Result<(Vec<u8>, Formula), Said> {
+    check_free(rt, alloc, folder, faults)?;
+    let bytes = match read_file(rt, alloc, path) {
+        Ok(bytes) => bytes,
+        Err(error) => return Err(say_error(faults, path, error)),
+    };
+    let formula = formula_of(alloc, path, &bytes, limits, faults)?;
+    match put_formula(rt, alloc, folder, &bytes) {
+        Ok(()) => Ok((bytes, formula)),
+        Err(error) => Err(say_error(faults, folder.path, error)),
+    }
+}
+
+/// The run of a formula by the plan that the strategy chooses, with its text.
+fn chosen_run(
+    alloc: Global,
+    formula: &Formula,
+    strategy: Strategy,
+    limits: Limits,
+    bytes: &[u8],
+) -> Result<Option<(RunFile, String)>, AllocError> {
+    let strategy = settled(alloc, formula, strategy)?;
+    new_run(alloc, strategy, limits, bytes)
+}
+
 /// Makes the run of a formula: finds the plan that decides it by the strategy, solves its cubes by
 /// breadth until at least `wanted` are open, and writes what was found, the formula and the open
 /// cubes into the folder. It ends before, and says so, at a cube that has had 20,000 conflicts, which stays
@@ -227,19 +270,8 @@ pub fn divide<R: Files, E: Write, G: Gate>(
     gate: &G,
     faults: &mut E,
 ) -> Result<Progress, Said> {
-    check_free(rt, alloc, folder, faults)?;
-    let bytes = match read_file(rt, alloc, path) {
-        Ok(bytes) => bytes,
-        Err(error) => return Err(say_error(faults, path, error)),
-    };
-    let formula = formula_of(alloc, path, &bytes, limits, faults)?;
-    if let Err(error) = make_folders(rt, alloc, folder, &bytes) {
-        return Err(say_error(faults, folder.path, error));
-    }
-    let Ok(strategy) = settled(alloc, &formula, strategy) else {
-        return Err(say_no_memory(faults, path));
-    };
-    let Ok(Some((run, text))) = new_run(alloc, strategy, limits, &bytes) else {
+    let (bytes, formula) = begin_run(rt, alloc, folder, path, limits, faults)?;
+    let Ok(Some((run, text))) = chosen_run(alloc, &formula, strategy, limits, &bytes) else {
         return Err(say_no_memory(faults, folder.path));
     };
     let begun = begun_for(alloc, path, &formula, run.plan, gate, faults)?;

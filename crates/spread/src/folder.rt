@@ -58,14 +58,6 @@ impl<'a> Folder<'a> {
         format!(in alloc; "{path}/models/{name}")
     }
 
-    /// The folder of the cubes that were open.
-    pub fn rounds(self, alloc: Global) -> Result<String, AllocError>
-        ensures { IfOk result (λ path. string_bytes path ≡ self.entry.path.now ++ codes "/rounds") }
-    {
-        let path = self.path;
-        format!(in alloc; "{path}/rounds")
-    }
-
     /// The cubes that were open when a round began.
     pub fn round(self, alloc: Global, number: u32) -> Result<String, AllocError> {
         let path = self.path;
