@@ -1,9 +1,9 @@
 //! The bound of what is searched while a run is made.
 
 use cdcl::Counts;
-use cubes::{FirstAnswer, FirstSearch, Gate};
+use cubes::{FirstSearch, Gate};
 use kernel::Cube;
-use std::sync::atomic::{AtomicBool, AtomicU64, Ordering};
+use std::sync::atomic::{AtomicU64, Ordering};
 
 /// After so many conflicts in one cube the division of a run ends. By then the focused search has told
 /// whether the formula is divided.
@@ -16,7 +16,8 @@ pub(crate) enum End {
     Done,
     /// The search of a cube came to the bound.
     AtBound,
-    /// That of the whole formula did, which isn't divided.
+    /// That of the whole formula did, which the focused search doesn't divide: else it would have been
+    /// split before.
     Whole,
 }
 
@@ -28,8 +29,6 @@ pub(crate) struct BoundedGate<'a, G> {
     conflicts: AtomicU64,
     /// And before the one that is searched.
     before: AtomicU64,
-    /// Whether it turned out that the formula isn't divided.
-    is_whole: AtomicBool,
 }
 
 impl<'a, G> BoundedGate<'a, G> {
@@ -38,23 +37,11 @@ impl<'a, G> BoundedGate<'a, G> {
             gate,
             conflicts: AtomicU64::new(0),
             before: AtomicU64::new(0),
-            is_whole: AtomicBool::new(false),
         }
     }
 
     pub(crate) fn conflicts(&self) -> u64 {
         self.conflicts.load(Ordering::SeqCst)
-    }
-
-    /// How a division ended whose last cube came to the bound or didn't.
-    pub(crate) fn end(&self, is_bounded: bool) -> End {
-        if !is_bounded {
-            End::Done
-        } else if self.is_whole.load(Ordering::SeqCst) {
-            End::Whole
-        } else {
-            End::AtBound
-        }
     }
 
     /// Whether the cube that is searched has had as many conflicts.
@@ -84,8 +71,6 @@ impl<G: Gate> Gate for BoundedGate<'_, G> {
     }
 
     fn asked(&self, first: FirstSearch) {
-        let is_whole = first.answer == FirstAnswer::Whole;
-        self.is_whole.store(is_whole, Ordering::SeqCst);
         self.gate.asked(first);
     }
 

@@ -13,7 +13,7 @@ ghost use Rattle.spread.specs.Solving.{IsOfTree, IsSaidOf};
 use crate::bound::{BoundedGate, End};
 use crate::open_count::OpenCount;
 use crate::solving::solve;
-use cdcl::{Plan, split};
+use cdcl::{Plan, Search, split};
 use cnf::Formula;
 use cubes::{CubeSolver, Gate, Root, Watched};
 use kernel::Cube;
@@ -157,6 +157,19 @@ fn step<G: Gate>(
     Ok(Some(has_model))
 }
 
+/// How a division ended that has these facts, and whose last cube came to the bound or didn't.
+fn end_of(plan: Plan, facts: &[Fact], is_bounded: bool) -> End {
+    if !is_bounded {
+        return End::Done;
+    }
+    if let Search::Focused = plan.search() {
+        if facts.is_empty() {
+            return End::Whole;
+        }
+    }
+    End::AtBound
+}
+
 /// Solves the cubes of a formula by breadth, from the one without literals on, until at least so
 /// many are open, none is, or the search of one comes to its bound. What is said of them is true, and
 /// those that wait are just the cubes that it leaves open, which are counted on the way. It fails where a
@@ -206,11 +219,12 @@ pub(crate) fn by_breadth<G: Gate>(
         }
     }
     put_in_order(&mut queue)?;
+    let end = end_of(plan, &facts, is_bounded);
     Ok(Division {
         facts,
         waiting: queue,
         has_model,
-        end: gate.end(is_bounded),
+        end,
         conflicts: gate.conflicts(),
     })
 }
