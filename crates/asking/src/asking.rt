@@ -1,12 +1,14 @@
 //! `session`: clauses that are added and questions of them, each answered before the next one is read.
 
-ghost use Rattle.std.specs.Prelude.{true};
+ghost use Rattle.std.specs.Prelude.{◌≡◌, ◌⊎◌, ℕ, List, Option, true, IfOk, OnOk};
+ghost use Rattle.asking.specs.declared.asking.TheConstants.{UNKNOWN};
+ghost use Rattle.asking.specs.Questions.{core_text, IsAnswered, IsFollowed, IsModelText, IsSessionStatus};
 
 use crate::fault::{Fault, print_fault_of};
 use cnf::{Formula, Lit};
 use commands::{open_input, print_not_opened};
-use itoa::Buffer;
 use join::answer_bytes;
+use lrat_text::append_literals;
 use questions::{Item, Text};
 use runs::{Limit, TimeLimit};
 use session::{Answer, Interrupt, Session};
@@ -43,20 +45,19 @@ impl<R: Clock> Interrupt for OutOfTime<'_, R> {
 }
 
 /// The line of a core.
-fn core_line(alloc: Global, core: &[Lit]) -> Result<Vec<u8>, AllocError> {
-    let mut line = Vec::from_slice(alloc, b"s UNSATISFIABLE\nc core")?;
-    let mut buffer = Buffer::new();
-    for lit in core {
-        let sign: &[u8] = if lit.positive() { b" " } else { b" -" };
-        line.extend_from_slice(sign)?;
-        line.extend_from_slice(buffer.format(lit.var()).as_bytes())?;
-    }
-    line.extend_from_slice(b" 0\n")?;
+fn core_line(alloc: Global, core: &[Lit]) -> Result<Vec<u8>, AllocError>
+    ensures { IfOk result (λ line. line.items ≡ core_text core.now) }
+{
+    let mut line = Vec::from_slice(alloc, b"s UNSATISFIABLE\nc core ")?;
+    append_literals(core, &mut line)?;
+    line.extend_from_slice(b"0\n")?;
     Ok(line)
 }
 
 /// The lines of a model.
-fn model_lines(alloc: Global, values: &[bool], shows_models: bool) -> Result<Vec<u8>, AllocError> {
+fn model_lines(alloc: Global, values: &[bool], shows_models: bool) -> Result<Vec<u8>, AllocError>
+    ensures { IfOk result (λ lines. IsModelText shows_models values.now lines.items) }
+{
     if !shows_models || values.len() > MOST_VARS {
         return Vec::from_slice(alloc, b"s SATISFIABLE\n");
     }
@@ -78,7 +79,9 @@ struct Asking<'a, R> {
 }
 
 impl<'a, R: Clock> Asking<'a, R> {
-    fn open(rt: &'a R, alloc: Global, shows_models: bool) -> Result<Asking<'a, R>, AllocError> {
+    fn open(rt: &'a R, alloc: Global, shows_models: bool) -> Result<Asking<'a, R>, AllocError>
+        ensures { IfOk result (λ asking. asking.status ≡ UNKNOWN) }
+    {
         Ok(Asking {
             rt,
             alloc,
@@ -91,7 +94,11 @@ impl<'a, R: Clock> Asking<'a, R> {
     }
 
     /// The lines of the answer to a question, of which the assumptions were just read.
-    fn answered(&mut self) -> Result<Vec<u8>, Fault> {
+    fn answered(&mut self) -> Result<Vec<u8>, Fault>
+        ensures answered { IfOk result (λ lines. IsAnswered self.new.session.formula self.old.text.lits.items self.old.shows_models self.new.status lines.items) }
+        ensures clauses { self.new.session.formula.clauses ≡ self.old.session.formula.clauses }
+        ensures same { (self.new.text ≡ self.old.text) × (self.new.shows_models ≡ self.old.shows_models) }
+    {
         let limit = TimeLimit::begin(self.rt, self.seconds);
         self.seconds = None;
         let answer = self.session.solve(self.text.lits(), &OutOfTime { limit })?;
@@ -108,7 +115,9 @@ impl<'a, R: Clock> Asking<'a, R> {
     }
 
     /// Does what was just read.
-    fn follow<W: Write>(&mut self, item: Item, answer: &mut W) -> Result<(), Fault> {
+    fn follow<W: Write>(&mut self, item: Item, answer: &mut W) -> Result<(), Fault>
+        ensures { OnOk result (IsFollowed item self.new.session.formula self.old.text.lits.items self.old.shows_models self.old.status self.new.status (W.contents answer.old) (W.contents answer.new)) }
+    {
         match item {
             Item::Clause => self.session.add_clause(self.text.lits())?,
             Item::Limit(seconds) => self.seconds = Some(seconds),
@@ -122,7 +131,9 @@ impl<'a, R: Clock> Asking<'a, R> {
     }
 
     /// Does what a piece of the text asks for.
-    fn take<W: Write>(&mut self, piece: &[u8], answer: &mut W) -> Result<(), Fault> {
+    fn take<W: Write>(&mut self, piece: &[u8], answer: &mut W) -> Result<(), Fault>
+        ensures { (a : Option (List ℕ)) → IsSessionStatus self.old.status a (W.contents answer.old) → OnOk result (IsSessionStatus self.new.status a (W.contents answer.new)) }
+    {
         for byte in piece {
             if let Some(item) = self.text.take(*byte).map_err(Fault::Text)? {
                 self.follow(item, answer)?;
@@ -132,7 +143,10 @@ impl<'a, R: Clock> Asking<'a, R> {
     }
 
     /// Does what the whole text asks for.
-    fn take_all<I: Read, W: Write>(&mut self, input: &mut I, answer: &mut W) -> Result<(), Fault> {
+    fn take_all<I: Read, W: Write>(&mut self, input: &mut I, answer: &mut W) -> Result<(), Fault>
+        requires { self.old.status ≡ UNKNOWN }
+        ensures { OnOk result (IsSessionStatus self.new.status (W.contents answer.old) (W.contents answer.new)) }
+    {
         let mut chunk = [0u8; CHUNK];
         // no text has so many pieces
         for _ in 0..u64::MAX {
@@ -159,7 +173,9 @@ pub fn session<R: Files + Clock, I: Read + Drop, W: Write, E: Write>(
     standard: I,
     answer: &mut W,
     faults: &mut E,
-) -> u8 {
+) -> u8
+    ensures { (result ≡ 1) ⊎ IsSessionStatus result (W.contents answer.old) (W.contents answer.new) }
+{
     let mut input = match open_input(rt, file, &mut Some(standard)) {
         Ok(input) => input,
         Err(error) => return print_not_opened(faults, file, error, false),

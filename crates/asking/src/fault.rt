@@ -1,4 +1,5 @@
 //! Why a session ends before its text does, and what is said of it.
+ghost use Rattle.std.specs.Prelude.{◌≡◌};
 
 use cnf::ReadFault;
 use command_line::STANDARD_INPUT;
@@ -83,7 +84,9 @@ fn say_refused<E: Write>(faults: &mut E, file: &str, fault: ReadFault) {
 }
 
 /// Prints the line of a fault, and what happened; the status.
-pub(crate) fn print_fault_of<E: Write>(faults: &mut E, file: &str, fault: Fault) -> u8 {
+pub(crate) fn print_fault_of<E: Write>(faults: &mut E, file: &str, fault: Fault) -> u8
+    ensures { result ≡ 1 }
+{
     match fault {
         Fault::Text(ReadFault::NoMemory) | Fault::NoMemory => {
             print_fault(faults, RunFault::NoMemory);

@@ -17,6 +17,8 @@ use Rattle.runs.specs.declared.verdict.Verdict.{Verdict}
 use Rattle.runs.specs.declared.verdict.Verdict.TheVariants.{Satisfiable, Unsatisfiable}
 use Rattle.runs.specs.declared.checked_line.Checked.{Checked}
 use Rattle.runs.specs.declared.checked_line.Checked.TheVariants.{Accepted, Refused}
+use Rattle.theory.specs.Plans.{Search}
+use Rattle.runs.specs.Answer.{IsRight}
 use Rattle.runs.specs.Run.{WritesBoth}
 use Rattle.runs.specs.Answered.{WritesAnswer}
 use Rattle.runs.specs.Limited.{LimitedSays}
@@ -24,9 +26,14 @@ use Rattle.runs.specs.Tidy.{TidySays}
 use Rattle.runs.specs.Check.{checked_of, verdict_of, CheckSays, WritesLine}
 use Rattle.runs.proofs.CheckRuns.{allowed-satisfiable}
 use Rattle.runs.proofs.RightAnswers.{texts-right}
-use Rattle.commands.specs.Status.{solve_status, Answers, IsSolveStatus}
+use Rattle.commands.specs.Status.{solve_status, Answers, IsSolveStatus, IsVerdict}
 use Rattle.commands.specs.CheckStatus.{IsProofOf, AreRead, IsCheckEnd}
 use Rattle.commands.specs.Ends.{end_of}
+
+-- a right answer without its proof
+pub right-verdict : (L : Limits) (how : Search) (F : truth.Formula) (verdict : Verdict) (proof answer : List ℕ) → IsRight L how F verdict proof answer → IsVerdict how F verdict answer
+right-verdict L how F Satisfiable proof answer right = right
+right-verdict L how F Unsatisfiable proof answer right = (right.0, right.2)
 
 -- an answer with its proof, and one without
 both-answers : (L : Limits) (known : Option (List ℕ)) (strategy : Strategy) (p q a b : Option (List ℕ)) (verdict : Verdict) → WritesBoth L known strategy p q a b verdict → Answers L (search_by strategy) known a b verdict
@@ -35,9 +42,8 @@ both-answers L known strategy p q a b verdict w = record {
   are = w.run.are;
   value = w.run.value;
   reads = w.run.reads;
-  proof = w.proof;
   answer = w.answer;
-  right = texts-right L w.run.value strategy verdict w.proof w.answer w.run.texts;
+  right = right-verdict L (search_by strategy) w.run.value verdict w.proof w.answer (texts-right L w.run.value strategy verdict w.proof w.answer w.run.texts);
   written = w.answer_written;
 }
 
@@ -47,9 +53,8 @@ alone-answers L known strategy a b verdict w = record {
   are = w.is_answer.run.are;
   value = w.is_answer.run.value;
   reads = w.is_answer.run.reads;
-  proof = w.is_answer.proof;
   answer = w.answer;
-  right = w.is_answer.right;
+  right = right-verdict L (search_by strategy) w.is_answer.run.value verdict w.is_answer.proof w.answer w.is_answer.right;
   written = w.written;
 }
 

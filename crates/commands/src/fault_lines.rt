@@ -91,7 +91,9 @@ pub(crate) fn print_fault_by<R: Files, E: Write>(
 
 /// Prints that memory was refused before a run began, and what that means where it is to be
 /// explained; the status.
-pub fn print_no_memory<E: Write>(faults: &mut E, formula: &str, is_explained: bool) -> u8 {
+pub fn print_no_memory<E: Write>(faults: &mut E, formula: &str, is_explained: bool) -> u8
+    ensures { result ≡ 1 }
+{
     print_fault(faults, RunFault::NoMemory);
     say_no_memory(faults, shown_name(formula));
     if is_explained {
@@ -101,7 +103,9 @@ pub fn print_no_memory<E: Write>(faults: &mut E, formula: &str, is_explained: bo
 }
 
 /// Explains, where that is asked for, that a file can't be opened or created; the status.
-fn explain_no_file<E: Write>(faults: &mut E, file: &str, is_explained: bool) -> u8 {
+fn explain_no_file<E: Write>(faults: &mut E, file: &str, is_explained: bool) -> u8
+    ensures { result ≡ 1 }
+{
     if is_explained {
         note_number(faults, 56);
         note_file(faults, file);
@@ -115,7 +119,9 @@ pub fn print_not_opened<E: Write>(
     file: &str,
     error: io::Error,
     is_explained: bool,
-) -> u8 {
+) -> u8
+    ensures { result ≡ 1 }
+{
     let _ = writeln!(faults, "fault 56");
     say_not_read(faults, file, error);
     explain_no_file(faults, file, is_explained)
@@ -127,7 +133,9 @@ pub(crate) fn print_not_created<E: Write>(
     file: &str,
     error: io::Error,
     is_explained: bool,
-) -> u8 {
+) -> u8
+    ensures { result ≡ 1 }
+{
     let _ = writeln!(faults, "fault 56");
     say_not_created(faults, file, error);
     explain_no_file(faults, file, is_explained)
@@ -140,7 +148,9 @@ pub(crate) fn print_part_not_created<E: Write>(
     part: &str,
     error: io::Error,
     is_explained: bool,
-) -> u8 {
+) -> u8
+    ensures { result ≡ 1 }
+{
     let _ = writeln!(faults, "fault 56");
     say_part_not_created(faults, file, part, error);
     explain_no_file(faults, file, is_explained)
@@ -152,7 +162,9 @@ pub(crate) fn print_in_use<E: Write>(
     file: &str,
     part: &str,
     is_explained: bool,
-) -> u8 {
+) -> u8
+    ensures { result ≡ 1 }
+{
     let _ = writeln!(faults, "fault 56");
     say_part_in_use(faults, file, part);
     explain_no_file(faults, file, is_explained)

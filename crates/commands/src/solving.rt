@@ -47,7 +47,9 @@ const UNKNOWN: u8 = 0;
 const NO_PATH: &str = "not written";
 
 /// Prints that the proof would be written over the formula; the status.
-fn print_same_file<E: Write>(faults: &mut E, file: &str, proof: &str, is_explained: bool) -> u8 {
+fn print_same_file<E: Write>(faults: &mut E, file: &str, proof: &str, is_explained: bool) -> u8
+    ensures { result ≡ 1 }
+{
     let _ = writeln!(
         faults,
         "fault 57: the proof would be written over the formula"
@@ -327,7 +329,9 @@ pub fn print_not_begun<E: Write>(
     file: &str,
     path: &str,
     is_explained: bool,
-) -> u8 {
+) -> u8
+    ensures { result ≡ 1 }
+{
     match why {
         NotBegun::Formula => print_same_file(faults, file, path, is_explained),
         NotBegun::Answer => {

@@ -1,7 +1,10 @@
 //! `gather`: what is said of cubes that are missing, of packs and faults, and its statuses.
-ghost use Rattle.std.specs.Prelude.{◌≡◌, None};
+ghost use Rattle.std.specs.Prelude.{◌≡◌, ◌⊎◌, IfErr, IfSome, IsNone};
+ghost use Rattle.std.specs.Io.KnownBytes.{Keeps};
+ghost use Rattle.std.specs.Thread.{IsSync};
 ghost use Rattle.commands.specs.Status.{verdict_status};
-ghost use Rattle.cubesat.specs.Ends.{IsEndOf};
+ghost use Rattle.spread.specs.RunFiles.{written_by};
+ghost use Rattle.cubesat.specs.Ends.{IsEndOf, IsGatherEnd, IsGatherStatus};
 
 use crate::gathered_store::{Held, formula_of, held_in, print_missing, store_for};
 use commands::{
@@ -96,7 +99,8 @@ struct GatheredRun<'a, R: Files> {
 impl<R: Files> GatheredRun<'_, R> {
     /// What is gathered, from this store.
     fn over<S>(&self, store: S) -> Gathering<S>
-        ensures { result.strategy.first ≡ None }
+        ensures limits { result.limits ≡ self.now.held.now.run.limits }
+        ensures strategy { result.strategy ≡ written_by self.now.held.now.run }
     {
         Gathering {
             store,
@@ -114,7 +118,9 @@ fn proof_begun<'a, R: Files, E: Write, L: Locks<R::File>>(
     run: &GatheredRun<'_, R>,
     faults: &mut E,
     locks: &L,
-) -> Result<PlacedProof<'a, R>, u8> {
+) -> Result<PlacedProof<'a, R>, u8>
+    ensures { IfErr result (λ status. status ≡ 1) }
+{
     match begin_proof(rt, alloc, run.proof, run.input, locks) {
         Ok(proof) => Ok(proof),
         Err(why) => Err(print_not_begun(faults, why, run.formula, run.proof, false)),
@@ -129,9 +135,12 @@ fn gather_once<R: Files + Threads + Wait + Clock + Sync, W: Write, E: Write>(
     run: &GatheredRun<'_, R>,
     store: &mut PackStore<'_, R>,
     proof: PlacedProof<'_, R>,
-    answer: &mut W,
+    answer: &mut NoticedWriter<W>,
     faults: &mut E,
-) -> Option<End> {
+) -> Option<End>
+    ensures end { IfSome result (IsGatherEnd run.now.held.now (W.contents answer.old.inner) (W.contents answer.new.inner)) }
+    ensures none { IsNone result → Keeps (W.contents answer.old.inner) (W.contents answer.new.inner) }
+{
     let mut input = NoticedReader::of(run.held.formula.as_slice());
     let watch = Watch {
         rt,
@@ -143,13 +152,12 @@ fn gather_once<R: Files + Threads + Wait + Clock + Sync, W: Write, E: Write>(
         counter: &watch,
     };
     let mut output = NoticedWriter::of(counted);
-    let mut answer = NoticedWriter::of(answer);
     let gathered = gather_at_once(
         rt,
         alloc,
         &mut input,
         run.over(&mut *store),
-        &mut answer,
+        &mut *answer,
         &mut output,
     );
     let gathered = gathered.transpose()?;
@@ -175,9 +183,11 @@ fn gather_twice<R: Files + Threads + Wait + Clock + Sync, W: Write, E: Write>(
     run: &GatheredRun<'_, R>,
     store: &mut PackStore<'_, R>,
     proof: PlacedProof<'_, R>,
-    answer: &mut W,
+    answer: &mut NoticedWriter<W>,
     faults: &mut E,
-) -> End {
+) -> End
+    ensures { IsGatherEnd run.now.held.now (W.contents answer.old.inner) (W.contents answer.new.inner) result }
+{
     let mut input = NoticedReader::of(run.held.formula.as_slice());
     let watch = Watch {
         rt,
@@ -189,13 +199,12 @@ fn gather_twice<R: Files + Threads + Wait + Clock + Sync, W: Write, E: Write>(
         counter: &watch,
     };
     let mut output = NoticedWriter::of(counted);
-    let mut answer = NoticedWriter::of(answer);
     let gathered = gather_stored(
         rt,
         alloc,
         &mut input,
         run.over(&mut *store),
-        &mut answer,
+        &mut *answer,
         &mut output,
     );
     let known = Known {
@@ -219,10 +228,12 @@ fn gather_opened<R: Files + Threads + Wait + Clock + Sync, W: Write, E: Write, L
     alloc: Global,
     run: &GatheredRun<'_, R>,
     store: &mut PackStore<'_, R>,
-    answer: &mut W,
+    answer: &mut NoticedWriter<W>,
     faults: &mut E,
     locks: &L,
-) -> End {
+) -> End
+    ensures { IsGatherEnd run.now.held.now (W.contents answer.old.inner) (W.contents answer.new.inner) result }
+{
     let mut proof = match proof_begun(rt, alloc, run, faults, locks) {
         Ok(proof) => proof,
         Err(status) => return End::Status(status),
@@ -247,7 +258,9 @@ fn end_unproved<R: Files, W: Write, E: Write>(
     store: &mut PackStore<'_, R>,
     answer: &mut W,
     faults: &mut E,
-) -> u8 {
+) -> u8
+    ensures { (result ≡ 0) ⊎ (result ≡ 1) }
+{
     let Ok(formula) = formula_of(alloc, held) else {
         return print_no_memory(faults, folder.path, false);
     };
@@ -267,10 +280,12 @@ fn gather_told<R: Files + Threads + Wait + Clock + Sync, W: Write, E: Write, L: 
     folder: Folder<'_>,
     run: &GatheredRun<'_, R>,
     store: &mut PackStore<'_, R>,
-    answer: &mut W,
+    answer: &mut NoticedWriter<W>,
     faults: &mut E,
     locks: &L,
-) -> u8 {
+) -> u8
+    ensures { IsGatherStatus run.now.held.now (W.contents answer.old.inner) (W.contents answer.new.inner) result }
+{
     match gather_opened(rt, alloc, run, store, answer, faults, locks) {
         End::Status(status) => status,
         End::Unproved => end_unproved(alloc, folder, run.held, store, answer, faults),
@@ -290,16 +305,21 @@ fn gather_beside<
     folder: Folder<'_>,
     run: &GatheredRun<'_, R>,
     store: &mut PackStore<'_, R>,
-    answer: &mut W,
+    answer: &mut NoticedWriter<W>,
     faults: &mut E,
     locks: &L,
-) -> u8 {
+) -> u8
+    ensures { IsGatherStatus run.now.held.now (W.contents answer.old.inner) (W.contents answer.new.inner) result }
+{
     let board = run.board;
     let mut said = Vec::new(alloc);
     let (_, status) = thread::join_mut(
         rt,
         &mut || show_progress(rt, board, faults, Manner::Listed),
-        &mut || {
+        &mut || -> u8
+            requires { IsSync R.row }
+            ensures { IsGatherStatus run.entry.now.held.now (W.contents answer.entry.now.inner) (W.contents answer.exit.now.inner) result }
+        {
             let status = gather_told(rt, alloc, folder, run, store, answer, &mut said, locks);
             board.end_progress(rt);
             status
@@ -359,6 +379,8 @@ where
         board: &board,
     };
     let store = &mut store;
+    let mut answer = NoticedWriter::of(answer);
+    let answer = &mut answer;
     if shows {
         gather_beside(rt, alloc, folder, &run, store, answer, faults, locks)
     } else {

@@ -1,6 +1,6 @@
 //! What `gather` is made from: the run that a folder holds, and the facts of its packs; and what is said
 //! where cubes are missing.
-ghost use Rattle.std.specs.Prelude.{OnOk};
+ghost use Rattle.std.specs.Prelude.{◌≡◌, ◌⊎◌, OnOk};
 ghost use Rattle.std.specs.Io.KnownBytes.{Appends};
 ghost use Rattle.runs.specs.Answer.{unknown_text};
 
@@ -82,7 +82,9 @@ pub(crate) fn print_missing<W: Write, E: Write>(
     faults: &mut E,
     path: &str,
     missing: usize,
-) -> u8 {
+) -> u8
+    ensures { (result ≡ 0) ⊎ (result ≡ 1) }
+{
     let cubes = if missing == 1 { "cube is" } else { "cubes are" };
     let _ = writeln!(
         faults,

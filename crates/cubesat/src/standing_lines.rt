@@ -1,4 +1,5 @@
 //! How far a run is that is spread over machines, as it is printed.
+ghost use Rattle.std.specs.Prelude.{◌≡◌, ◌⊎◌, MatchResult};
 
 use commands::FAILED;
 use messages::say_not_printed;
@@ -14,7 +15,9 @@ use std::time::Clock;
 pub(crate) const DONE: u8 = 0;
 
 /// The status of a command whose answer is printed, unless that failed.
-pub(crate) fn status_printed<E: Write>(faults: &mut E, written: io::Result<()>, status: u8) -> u8 {
+pub(crate) fn status_printed<E: Write>(faults: &mut E, written: io::Result<()>, status: u8) -> u8
+    ensures { MatchResult written (λ _. result ≡ status) (λ _. result ≡ 1) }
+{
     match written {
         Ok(()) => status,
         Err(error) => {
@@ -49,7 +52,9 @@ pub(crate) fn print_progress<W: Write, E: Write>(
     faults: &mut E,
     run: &str,
     progress: Result<Progress, Said>,
-) -> u8 {
+) -> u8
+    ensures { (result ≡ 0) ⊎ (result ≡ 1) }
+{
     let Ok(progress) = progress else {
         return FAILED;
     };

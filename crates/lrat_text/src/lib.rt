@@ -21,4 +21,4 @@ pub use size::line_size;
 pub use step::{Addition, Deletion, Group, Step};
 pub use text::Text;
 pub use word::MAX_NUMBER;
-pub use write::{write_clause, write_deletion, write_step};
+pub use write::{append_literals, write_clause, write_deletion, write_step};

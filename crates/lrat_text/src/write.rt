@@ -33,8 +33,9 @@ fn append_literal(lit: Lit, out: &mut Vec<u8>) -> Result<(), AllocError>
     append_number(lit.var() as u64, out)
 }
 
-/// Appends literals, each with a space behind it.
-fn append_literals(lits: &[Lit], out: &mut Vec<u8>) -> Result<(), AllocError>
+/// Appends literals, each with a space behind it. It fails where a request for memory is refused;
+/// then some of them may stand there.
+pub fn append_literals(lits: &[Lit], out: &mut Vec<u8>) -> Result<(), AllocError>
     ensures ok { OnOk result (out.new.items ≡ out.old.items ++ spaced (map literal_text lits.now)) }
     ensures extends { IsBegunBy out.old.items out.new.items }
 {

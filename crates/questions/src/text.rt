@@ -1,4 +1,5 @@
 //! A text of questions, as far as it has been taken.
+ghost use Rattle.std.specs.Prelude.{◌≡◌};
 
 use crate::item::Item;
 use crate::word::{literal_of, number_of, seconds_of};
@@ -55,7 +56,9 @@ impl Text {
     }
 
     /// The literals of the clause or question that ended last.
-    pub fn lits(&self) -> &[Lit] {
+    pub fn lits(&self) -> &[Lit]
+        ensures { result.now ≡ self.now.lits.items }
+    {
         &self.lits
     }
 

@@ -92,6 +92,7 @@ fn gather_at_once_by<R: Read + Drop, S: KeepsFacts + Drop, H: OpensOutcomes<S>, 
 ) -> Result<Option<GatheredFrom>, RunFault>
     requires { H.opens hands.now }
     ensures answer_is_right { IfOk result (λ o. IfSome o (λ g. IsRightAnswer (limits_of limits) plan.search (R.remaining input) (P.contents proof.old) (P.contents proof.new) (W.contents answer.old) (W.contents answer.new) g.verdict)) }
+    ensures refuted { IfOk result (λ o. IfSome o (λ g. g.verdict ≡ Verdict.Unsatisfiable)) }
     ensures none { IfOk result (λ o. IsNone o → HasNoProof (limits_of limits) (R.remaining input) (W.contents answer.old) (W.contents answer.new)) }
     ensures leaves { IfErr result (LeavesAtOnce (limits_of limits) plan.search (R.remaining input) (P.contents proof.old) (P.contents proof.new) (W.contents answer.old) (W.contents answer.new)) }
     ensures says { AreTrueStored S.facts (limits_of limits) (R.remaining input) plan store →
@@ -153,6 +154,7 @@ pub fn gather_at_once<T: Threads + Sync, R: Read + Drop, S: KeepsFacts + Drop, W
     proof: &mut P,
 ) -> Result<Option<GatheredFrom>, RunFault>
     ensures answer_is_right { IfOk result (λ o. IfSome o (λ g. IsRightAnswer (limits_of gathering.limits) gathering.strategy.plan.search (R.remaining input) (P.contents proof.old) (P.contents proof.new) (W.contents answer.old) (W.contents answer.new) g.verdict)) }
+    ensures refuted { IfOk result (λ o. IfSome o (λ g. g.verdict ≡ Verdict.Unsatisfiable)) }
     ensures none { IfOk result (λ o. IsNone o → HasNoProof (limits_of gathering.limits) (R.remaining input) (W.contents answer.old) (W.contents answer.new)) }
     ensures leaves { IfErr result (LeavesAtOnce (limits_of gathering.limits) gathering.strategy.plan.search (R.remaining input) (P.contents proof.old) (P.contents proof.new) (W.contents answer.old) (W.contents answer.new)) }
     ensures says { AreTrueStored S.facts (limits_of gathering.limits) (R.remaining input) gathering.strategy.plan gathering.store →
