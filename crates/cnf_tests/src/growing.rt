@@ -11,7 +11,7 @@ fn lists_that_grow(rt: HostRuntime) -> Result<(), Fail> {
         put_last(&mut numbers, number)?;
         put_literals(&mut literals, &clause)?;
     }
-    assert!(rt; numbers.len() == 100);
-    assert!(rt; literals.len() == 300);
+    assert!(rt; numbers.len() == 100 && numbers.last() == Some(&99));
+    assert!(rt; literals.len() == 300 && literals.last() == clause.last());
     Ok(())
 }

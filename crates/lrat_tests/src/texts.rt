@@ -1,9 +1,6 @@
 //! Worked rows of steps and of the text of proofs.
 use cnf::Lit;
-use lrat::{
-    Addition, Deletion, Group, Step, TextFault, one_reading, read_proof, write_step,
-    written_is_read,
-};
+use lrat::{Addition, Deletion, Group, Step, TextFault, read_proof, write_step};
 use samples::reads;
 use std::alloc::{AllocError, Global};
 use std::process::Abort;
@@ -232,10 +229,4 @@ fn faults_have_numbers_and_lines(rt: HostRuntime) {
     assert!(rt; TextFault::TooLong.number() == 45);
     assert!(rt; TextFault::BadShape(3).line() == Some(3));
     assert!(rt; TextFault::TooLong.line().is_none());
-}
-
-#[test]
-fn laws_are_called() {
-    one_reading();
-    written_is_read();
 }

@@ -206,45 +206,116 @@ fn faults_have_numbers(rt: HostRuntime) {
     }
 }
 
-/// What stands where the proof's writer fails under so many hands.
+/// Whether the proof's writer stops where its room ends, under so many hands.
 fn stops_in_proof<R: Threads + Wait + Clock + Sync>(
     rt: &R,
     alloc: Global,
     hands: HandCount,
+    room: usize,
 ) -> bool {
-    let mut proof = Limited::new(alloc, Limits::of(5));
+    let Some(taken) = FOUR_PROOF.as_bytes().get(..room) else {
+        return false;
+    };
+    let mut proof = Limited::new(alloc, Limits::of(room));
     let mut answer = Limited::new(alloc, ROOMY);
     let text = FOUR.as_bytes();
-    let gate = OpenGate;
     let hands = hands.get();
-    let result = run(rt, alloc, text, &mut answer, &mut proof, 1, hands, &gate);
+    let result = run(
+        rt,
+        alloc,
+        text,
+        &mut answer,
+        &mut proof,
+        1,
+        hands,
+        &OpenGate,
+    );
     result == Err(RunFault::ProofWriteFailed)
-        && proof.taken.as_slice() == b"5 1 0".as_slice()
+        && proof.taken.as_slice() == taken
         && answer.taken.is_empty()
 }
 
-/// What stands where the answer's writer fails under so many hands.
+/// A formula, its proof at budget 1, and its answer.
+struct Written {
+    text: &'static str,
+    proof: &'static str,
+    answer: &'static [u8],
+}
+
+static REFUTED_FOUR: Written = Written {
+    text: FOUR,
+    proof: FOUR_PROOF,
+    answer: REFUTED,
+};
+
+static WITH_MODEL: Written = Written {
+    text: SATISFIABLE,
+    proof: "",
+    answer: b"s SATISFIABLE\nv -1 2 0\n",
+};
+
+/// Whether the answer's writer stops where its room ends, under so many hands, behind the whole proof.
 fn stops_in_answer<R: Threads + Wait + Clock + Sync>(
     rt: &R,
     alloc: Global,
     hands: HandCount,
+    written: &Written,
+    room: usize,
 ) -> bool {
+    let Some(taken) = written.answer.get(..room) else {
+        return false;
+    };
     let mut proof = Limited::new(alloc, ROOMY);
-    let mut answer = Limited::new(alloc, Limits::of(3));
-    let text = SATISFIABLE.as_bytes();
-    let gate = OpenGate;
+    let mut answer = Limited::new(alloc, Limits::of(room));
+    let text = written.text.as_bytes();
     let hands = hands.get();
-    let result = run(rt, alloc, text, &mut answer, &mut proof, 1000, hands, &gate);
+    let result = run(
+        rt,
+        alloc,
+        text,
+        &mut answer,
+        &mut proof,
+        1,
+        hands,
+        &OpenGate,
+    );
     result == Err(RunFault::AnswerWriteFailed)
-        && proof.taken.is_empty()
-        && answer.taken.as_slice() == b"s S".as_slice()
+        && proof.taken.as_slice() == written.proof.as_bytes()
+        && answer.taken.as_slice() == taken
+}
+
+/// Whether the proof's writer stops under so many hands, wherever its room ends.
+fn proof_stops_by<R: Threads + Wait + Clock + Sync>(
+    rt: &R,
+    alloc: Global,
+    hands: HandCount,
+) -> bool {
+    (0..FOUR_PROOF.len()).all(|room| stops_in_proof(rt, alloc, hands, room))
+}
+
+/// Whether the answer's writer stops under so many hands, wherever its room ends.
+fn answer_stops_by<R: Threads + Wait + Clock + Sync>(
+    rt: &R,
+    alloc: Global,
+    hands: HandCount,
+    written: &Written,
+) -> bool {
+    (0..written.answer.len()).all(|room| stops_in_answer(rt, alloc, hands, written, room))
 }
 
 #[test]
 fn writers_that_fail_under_several_hands(rt: HostRuntime) {
     for hands in [1, 2, 8] {
         let count = HandCount::of(hands);
-        assert!(rt; stops_in_proof(&rt, rt.alloc(), count), "{hands} hands");
-        assert!(rt; stops_in_answer(&rt, rt.alloc(), count), "{hands} hands");
+        let alloc = rt.alloc();
+        assert!(rt; proof_stops_by(&rt, alloc, count), "proof, {hands} hands");
+        assert!(rt;
+            answer_stops_by(&rt, alloc, count, &REFUTED_FOUR),
+            "answer, {hands} hands"
+        );
+        assert!(rt;
+            answer_stops_by(&rt, alloc, count, &WITH_MODEL),
+            "model, {hands} hands"
+        );
     }
 }
