@@ -17,5 +17,6 @@ pub mod RoundEndings
 pub mod SameHands
 pub mod FreshHands
 pub mod GoingOn
+pub mod Turns
 pub mod SizeLemmas
 pub mod StreamingLemmas

@@ -5,6 +5,7 @@ pub mod Division
 pub mod Gathering
 pub mod Hands
 pub mod Known
+pub mod Looks
 pub mod Result
 pub mod Preparing
 pub mod Shares

@@ -14,6 +14,7 @@ ghost use Rattle.theory.specs.Results.{IsWhole};
 ghost use Rattle.pool.specs.Hands.{SameHand};
 ghost use Rattle.pool.specs.Pools.{AreAllOf};
 ghost use Rattle.cubes.specs.Hands.{Worked_as, GoesHome};
+ghost use Rattle.cubes.specs.Looks.{TakeTurns};
 ghost use Rattle.cubes.specs.Result.{IsResultOf, Says};
 ghost use Rattle.cubes.specs.Shares.{share_of, AreNumbered};
 ghost use Rattle.cubes.specs.Solved.{AreTrueResults, solved_of};
@@ -50,6 +51,7 @@ pub fn work<R: Wait + Clock, G: Gate>(
     requires vars { hand.vars ≡ formula.now.vars }
     ensures same { SameHand hand result.hand }
     ensures work { Worked_as (searched formula.now) (ordered_within budget) result.short_of_memory hand.ledger result.hand.ledger result.solved.items }
+    ensures looks { result.short_of_memory ≡ false → TakeTurns hand.ledger result.hand.ledger (map solved_of result.solved.items) }
     ensures home { GoesHome result.short_of_memory hand.ledger result.hand.ledger }
 {
     let plan = Plan::ordered(budget);

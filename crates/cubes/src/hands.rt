@@ -12,6 +12,7 @@ ghost use Rattle.theory.specs.Beginnings.{begun_by};
 ghost use Rattle.cubes.specs.Division.{IsRootOf};
 ghost use Rattle.pool.specs.Hands.{SameHand, IsAllTaken};
 ghost use Rattle.cubes.specs.Hands.{Gets, IsWorker, EndsIn, Settles, AddsRound, AddsHandOn, AddsHalves, AddsCarried, GoesOn, GoesHome};
+ghost use Rattle.cubes.specs.Looks.{AddsDone, TakesTurn, TakeTurns};
 ghost use Rattle.cubes.specs.Solved.{results_by};
 
 use crate::cube_walk::CubeWalk;
@@ -134,6 +135,7 @@ impl<L: KeepsLines> Worker<L> {
         ensures worker { OnOk result (IsWorker (begun_by plan.search formula.now) plan self.new) }
         ensures calls { GoesOn self.old.hand.ledger self.new.hand.ledger }
         ensures part { AddsHandOn (begun_by plan.search formula.now) plan (is_ok result) half self.old.hand.ledger self.new.hand.ledger (results_by L.lines self.old.solved.items) (results_by L.lines self.new.solved.items) }
+        ensures done { OnOk result (AddsDone (results_by L.lines self.old.solved.items) (results_by L.lines self.new.solved.items)) }
     {
         if half.lits().len() > DEEPEST {
             return self.carry_on(formula, plan, gate, half);
@@ -165,6 +167,7 @@ impl<L: KeepsLines> Worker<L> {
         ensures worker { OnOk result (IsWorker (begun_by plan.search formula.now) plan self.new) }
         ensures calls { GoesOn self.old.hand.ledger self.new.hand.ledger }
         ensures part { AddsHalves (begun_by plan.search formula.now) plan (is_ok result) cube.now var self.old.hand.ledger self.new.hand.ledger (results_by L.lines self.old.solved.items) (results_by L.lines self.new.solved.items) }
+        ensures done { OnOk result (AddsDone (results_by L.lines self.old.solved.items) (results_by L.lines self.new.solved.items)) }
     {
         let _vars = formula.vars(); // it ensures that there are fewer than 2^31
         let (left, right) = split(cube, var)?;
@@ -187,6 +190,7 @@ impl<L: KeepsLines> Worker<L> {
         ensures worker { OnOk result (IsWorker (begun_by plan.search formula.now) plan self.new) }
         ensures calls { GoesOn self.old.hand.ledger self.new.hand.ledger }
         ensures part { AddsCarried (begun_by plan.search formula.now) plan (is_ok result) half self.old.hand.ledger self.new.hand.ledger (results_by L.lines self.old.solved.items) (results_by L.lines self.new.solved.items) }
+        ensures done { OnOk result (AddsDone (results_by L.lines self.old.solved.items) (results_by L.lines self.new.solved.items)) }
     {
         let _vars = formula.vars(); // it ensures that there are fewer than 2^31
         let _lits = half.lits(); // it ensures that their variables are distinct
@@ -221,6 +225,7 @@ impl<L: KeepsLines> Worker<L> {
         ensures worker { OnOk result (IsWorker (begun_by plan.search formula.now) plan self.new) }
         ensures calls { GoesOn self.old.hand.ledger self.new.hand.ledger }
         ensures part { AddsRound (begun_by plan.search formula.now) plan (is_ok result) cube self.old.hand.ledger self.new.hand.ledger (results_by L.lines self.old.solved.items) (results_by L.lines self.new.solved.items) }
+        ensures turn { OnOk result (TakesTurn cube self.old.hand.ledger self.new.hand.ledger (results_by L.lines self.old.solved.items) (results_by L.lines self.new.solved.items)) }
     {
         let place = place_of(&cube);
         let seen = self.hand.look();
@@ -283,6 +288,7 @@ pub(crate) fn work_in<L: KeepsLines, R: Wait + Clock, G: Gate>(
     requires root { IsRootOf (begun_by plan.search formula.now) plan root }
     ensures same { SameHand hand result.hand }
     ensures work { HasWorked (begun_by plan.search formula.now) plan result.short_of_memory hand.ledger result.hand.ledger (results_by L.lines result.solved.items) }
+    ensures looks { result.short_of_memory ≡ false → TakeTurns hand.ledger result.hand.ledger (results_by L.lines result.solved.items) }
     ensures home { GoesHome result.short_of_memory hand.ledger result.hand.ledger }
 {
     let mut worker = Worker {

@@ -1,12 +1,15 @@
-use Rattle.std.proofs.Common.{◌≡◌, true, false, sym, ap, ◌∙◌, subst, is_ok, rules}
+use Rattle.std.proofs.Common.{◌≡◌, true, false, refl, sym, ap, ◌∙◌, subst, is_ok, rules}
 use Rattle.pool.specs.Hands.{HandView}
 use Rattle.cubes.specs.declared.hands.Worker.{Worker}
 use Rattle.cubes.specs.Solved.{results_by}
 use Rattle.theory.specs.Round.{HasWorked}
-use Rattle.theory.specs.Ledger.{halt}
+use Rattle.theory.specs.Ledger.{halt, halted, still_open}
 use Rattle.theory.specs.Beginnings.{begun_by}
 use Rattle.cubes.specs.Hands.{GoesHome}
+use Rattle.cubes.specs.Looks.{TakeTurns}
 use Rattle.cubes.proofs.GoingOn.{GoesOn-itself, GoesOn-then, GoesOn-same, GoesOn-got, GoesOn-halted, GoesOn-open, GoesHome-at, GoesHome-halted, GoesHome-open, home-as}
+use Rattle.cubes.proofs.OkLemmas.{at_ok}
+use Rattle.cubes.proofs.Turns.{turns-begin, turns-call, turns-same, turns-more, turns-as}
 use Rattle.cubes.proofs.SameHands.{SameHand-itself, SameHand-then, worked-as}
 use Rattle.cubes.proofs.WorkSteps.{loop-begins, loop-round, loop-idle, end-open, end-halted, end-short}
 use Rattle.cubes.proofs.hands.work_in.Goals.{in-None, in-Some+then-is_halted, in-Some+else-is_halted+in-None-next+then-open-eq0}
@@ -18,6 +21,7 @@ turns-init g c = record {
   worker = (c.none.ensures (begun_by c.args.plan.search c.args.formula.now) c.args.plan c.requires.root, c.requires.vars);
   underway = loop-begins (begun_by c.args.plan.search c.args.formula.now) c.args.plan c.args.hand.ledger (results_by g.L.KeepsLines.lines c.new.result.items) (ap (results_by g.L.KeepsLines.lines) c.new.ensures.items);
   onward = GoesOn-itself c.args.hand.ledger;
+  looks = turns-begin c.args.hand.ledger (results_by g.L.KeepsLines.lines c.new.result.items) (ap (results_by g.L.KeepsLines.lines) c.new.ensures.items);
 }
 
 pub returns-then-is_err-clause-work : goal.returns-then-is_err-clause-work
@@ -43,6 +47,12 @@ turns-preserved-else-is_err g c =
           let unhalted = GoesOn-halted first c.turns.worker.hand c.halted-is_halted.new.self c.turns.invariant.onward c.halted-is_halted.result c.if-is_halted.false c.halted-is_halted.ensures.noted in
           let taken = GoesOn-got first c.halted-is_halted.new.self c.next-in-turns.new.hand unhalted c.in-Some-next.cube got in
           GoesOn-then first c.next-in-turns.new.hand.ledger c.round.new.self.hand.ledger taken c.round.ensures.calls;
+      looks =
+          let first = c.args.hand.ledger in
+          let solved = results_by g.L.KeepsLines.lines c.turns.worker.solved.items in
+          turns-more first (begun_by c.args.plan.search c.args.formula.now) c.args.plan (is_ok c.round.result) c.halted-is_halted.new.self.ledger c.next-in-turns.new.hand.ledger c.round.new.self.hand.ledger c.in-Some-next.cube solved (results_by g.L.KeepsLines.lines c.round.new.self.solved.items)
+          (turns-call first c.turns.worker.hand.ledger c.halted-is_halted.new.self.ledger (halted c.halted-is_halted.result) solved c.turns.invariant.looks (ap (λ (h : HandView). h.ledger) c.halted-is_halted.ensures.noted) refl)
+          got c.round.ensures.part (at_ok c.round.result _ ok c.round.ensures.turn);
     }
 
 pub turns-preserved : goal.turns-preserved
@@ -57,6 +67,14 @@ turns-preserved g c = record {
       let unhalted = GoesOn-halted first c.turns.worker.hand c.halted-is_halted.new.self c.turns.invariant.onward c.halted-is_halted.result c.if-is_halted.false c.halted-is_halted.ensures.noted in
       let none = GoesOn-same first c.halted-is_halted.new.self c.next-in-turns.new.hand unhalted (rw c.in-None-next.is at c.next-in-turns.ensures.got) in
       GoesOn-open first c.next-in-turns.new.hand c.still_open-open.new.self none c.still_open-open.result c.if-open-eq0.false c.still_open-open.ensures.noted;
+  looks =
+      let first = c.args.hand.ledger in
+      let solved = results_by g.L.KeepsLines.lines c.turns.worker.solved.items in
+      turns-call first c.next-in-turns.new.hand.ledger c.still_open-open.new.self.ledger (still_open c.still_open-open.result) solved
+      (turns-same first c.halted-is_halted.new.self.ledger c.next-in-turns.new.hand.ledger solved
+      (turns-call first c.turns.worker.hand.ledger c.halted-is_halted.new.self.ledger (halted c.halted-is_halted.result) solved c.turns.invariant.looks (ap (λ (h : HandView). h.ledger) c.halted-is_halted.ensures.noted) refl)
+      (ap (λ (h : HandView). h.ledger) (rw c.in-None-next.is at c.next-in-turns.ensures.got)))
+      (ap (λ (h : HandView). h.ledger) c.still_open-open.ensures.noted) refl;
 }
 
 pub returns-clause-work : goal.returns-clause-work
@@ -112,4 +130,25 @@ returns-clause-home g c =
           (let unhalted = GoesOn-halted first c.turns.worker.hand w.halted-is_halted.new.self c.turns.invariant.onward w.halted-is_halted.result w.if-is_halted.false w.halted-is_halted.ensures.noted in
           let none = GoesOn-same first w.halted-is_halted.new.self w.next-in-turns.new.hand unhalted (rw w.in-None-next.is at w.next-in-turns.ensures.got) in
           GoesHome-open first w.next-in-turns.new.hand w.still_open-open.new.self none w.still_open-open.result w.if-open-eq0.true w.still_open-open.ensures.noted)
+    ])
+
+pub returns-then-is_err-clause-looks : goal.returns-then-is_err-clause-looks
+returns-then-is_err-clause-looks g c = λ long. absurd (let short = c.home.ensures.short_of_memory in cc)
+
+pub returns-clause-looks : goal.returns-clause-looks
+returns-clause-looks g c = λ long.
+    let first = c.args.hand.ledger in
+    let solved = results_by g.L.KeepsLines.lines c.turns.worker.solved.items in
+    turns-as first c.match-next.worker.hand.ledger c.home-2.result.hand.ledger (results_by g.L.KeepsLines.lines c.match-next.worker.solved.items) (results_by g.L.KeepsLines.lines c.home-2.result.solved.items)
+    (ap (λ (h : HandView). h.ledger) c.home-2.ensures.hand) (ap (results_by g.L.KeepsLines.lines) c.home-2.ensures.solved)
+    (elim c.match-next.branch [
+      | in-None w ↦ absurd (search rules)
+      | in-Some+then-is_halted w ↦ subst (λ (v : Worker _). TakeTurns first v.hand.ledger (results_by g.L.KeepsLines.lines v.solved.items)) (sym w.worker-is)
+          (turns-call first c.turns.worker.hand.ledger w.halted-is_halted.new.self.ledger (halted w.halted-is_halted.result) solved c.turns.invariant.looks (ap (λ (h : HandView). h.ledger) w.halted-is_halted.ensures.noted) refl)
+      | in-Some+else-is_halted+in-None-next+then-open-eq0 w ↦ subst (λ (v : Worker _). TakeTurns first v.hand.ledger (results_by g.L.KeepsLines.lines v.solved.items)) (sym w.worker-is)
+          (turns-call first w.next-in-turns.new.hand.ledger w.still_open-open.new.self.ledger (still_open w.still_open-open.result) solved
+          (turns-same first w.halted-is_halted.new.self.ledger w.next-in-turns.new.hand.ledger solved
+          (turns-call first c.turns.worker.hand.ledger w.halted-is_halted.new.self.ledger (halted w.halted-is_halted.result) solved c.turns.invariant.looks (ap (λ (h : HandView). h.ledger) w.halted-is_halted.ensures.noted) refl)
+          (ap (λ (h : HandView). h.ledger) (rw w.in-None-next.is at w.next-in-turns.ensures.got)))
+          (ap (λ (h : HandView). h.ledger) w.still_open-open.ensures.noted) refl)
     ])

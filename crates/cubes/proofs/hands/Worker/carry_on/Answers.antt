@@ -6,6 +6,7 @@ use Rattle.pool.specs.Hands.{HandView}
 use Rattle.cubes.specs.declared.hands.Ending.TheVariants as ending
 use Rattle.cubes.specs.Solved.{results_by}
 use Rattle.cubes.proofs.CarryingSteps.{carrying-first, carrying-over, carrying-short, short-here, short-behind, at-model, carrying-enter, enter-less, carrying-on, carrying-ends, next-less}
+use Rattle.cubes.proofs.Turns.{done-nothing, done-settled}
 use Rattle.cubes.proofs.hands.Worker.carry_on.Goals as goal
 
 pub cubes-init : goal.cubes-init
@@ -13,6 +14,7 @@ cubes-init g c = record {
   hand = search rules;
   worker = c.requires.worker;
   carrying = carrying-first (begun_by c.args.plan.search c.args.formula.now) c.args.plan c.args.half c.from-at.result (results_by g.L.KeepsLines.lines c.args.self.now.solved.items) c.from-at.ensures.cube c.from-at.ensures.walk;
+  done = done-nothing (results_by g.L.KeepsLines.lines c.args.self.now.solved.items);
 }
 
 pub settle-requires-clause-over : goal.settle-requires-clause-over
@@ -38,6 +40,7 @@ cubes-preserved-in_ok-enter-in-Exhausted g c = record {
   hand = c.settle.ensures.hand ∙ c.cubes.invariant.hand;
   worker = c.in_ok-settle.ensures.worker;
   carrying = carrying-enter (begun_by c.args.plan.search c.args.formula.now) c.args.plan c.args.half c.cubes.at (results_by g.L.KeepsLines.lines c.args.self.now.solved.items) (results_by g.L.KeepsLines.lines c.cubes.self.solved.items) c.cubes.invariant.carrying c.in-Exhausted.var c.enter.new.self (results_by g.L.KeepsLines.lines c.settle.new.self.solved.items) (rw c.in-Exhausted.is at c.in_ok-settle.ensures.settles) c.in_ok-enter-in-Exhausted.ensures;
+  done = done-settled (begun_by c.args.plan.search c.args.formula.now) c.args.plan c.cubes.at.cube _ (results_by g.L.KeepsLines.lines c.args.self.now.solved.items) (results_by g.L.KeepsLines.lines c.cubes.self.solved.items) (results_by g.L.KeepsLines.lines c.settle.new.self.solved.items) c.cubes.invariant.done c.in_ok-settle.ensures.settles;
 }
 
 pub returns-in_err-enter-in-Exhausted-clause-part : goal.returns-in_err-enter-in-Exhausted-clause-part
@@ -66,4 +69,13 @@ cubes-preserved g c = record {
   hand = c.settle.ensures.hand ∙ c.cubes.invariant.hand;
   worker = c.in_ok-settle.ensures.worker;
   carrying = carrying-on (begun_by c.args.plan.search c.args.formula.now) c.args.plan c.args.half c.cubes.at (results_by g.L.KeepsLines.lines c.args.self.now.solved.items) (results_by g.L.KeepsLines.lines c.cubes.self.solved.items) c.cubes.invariant.carrying c.go_on.new.self (results_by g.L.KeepsLines.lines c.settle.new.self.solved.items) (rw c.in-Refuted.is at c.in_ok-settle.ensures.settles) (rw c.if-not-branch.false at c.in_ok-go_on-in-Refuted.ensures);
+  done = done-settled (begun_by c.args.plan.search c.args.formula.now) c.args.plan c.cubes.at.cube _ (results_by g.L.KeepsLines.lines c.args.self.now.solved.items) (results_by g.L.KeepsLines.lines c.cubes.self.solved.items) (results_by g.L.KeepsLines.lines c.settle.new.self.solved.items) c.cubes.invariant.done c.in_ok-settle.ensures.settles;
 }
+
+pub returns-in-Model-clause-done : goal.returns-in-Model-clause-done
+returns-in-Model-clause-done g c =
+    done-settled (begun_by c.args.plan.search c.args.formula.now) c.args.plan c.cubes.at.cube _ (results_by g.L.KeepsLines.lines c.args.self.now.solved.items) (results_by g.L.KeepsLines.lines c.cubes.self.solved.items) (results_by g.L.KeepsLines.lines c.settle.new.self.solved.items) c.cubes.invariant.done c.in_ok-settle.ensures.settles
+
+pub returns-then-not-branch-clause-done : goal.returns-then-not-branch-clause-done
+returns-then-not-branch-clause-done g c =
+    done-settled (begun_by c.args.plan.search c.args.formula.now) c.args.plan c.cubes.at.cube _ (results_by g.L.KeepsLines.lines c.args.self.now.solved.items) (results_by g.L.KeepsLines.lines c.cubes.self.solved.items) (results_by g.L.KeepsLines.lines c.settle.new.self.solved.items) c.cubes.invariant.done c.in_ok-settle.ensures.settles

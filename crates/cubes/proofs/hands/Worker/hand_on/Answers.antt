@@ -5,6 +5,7 @@ use Rattle.theory.specs.Ledger.{more, less}
 use Rattle.theory.specs.Beginnings.{begun_by}
 use Rattle.cubes.proofs.GoingOn.{GoesOn-itself, GoesOn-then, GoesOn-call, GoesOn-same}
 use Rattle.cubes.proofs.RoundParts.{put-part, refused-part}
+use Rattle.cubes.proofs.Turns.{done-nothing}
 use Rattle.cubes.proofs.hands.Worker.hand_on.Goals as goal
 
 pub returns-in-Ok-clause-part : goal.returns-in-Ok-clause-part
@@ -27,3 +28,6 @@ returns-in-Err-clause-calls g c =
     let back = GoesOn-same first c.more.new.self c.put.new.self counted refused.1 in
     let uncounted = GoesOn-call first c.put.new.self c.less.new.self back less c.less.ensures.noted tt in
     GoesOn-then first c.less.new.self.ledger c.carry_on-in-Err.new.self.hand.ledger uncounted c.carry_on-in-Err.ensures.calls
+
+pub returns-in-Ok-clause-done : goal.returns-in-Ok-clause-done
+returns-in-Ok-clause-done g c = done-nothing (results_by g.L.KeepsLines.lines c.args.self.now.solved.items)

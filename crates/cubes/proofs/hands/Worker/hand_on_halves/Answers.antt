@@ -5,6 +5,8 @@ use Rattle.cubes.specs.Solved.{results_by}
 use Rattle.cubes.proofs.GoingOn.{GoesOn-then}
 use Rattle.cubes.proofs.HalvesParts.{no-halves, left-half}
 use Rattle.cubes.proofs.RoundParts.{over-half}
+use Rattle.cubes.proofs.OkLemmas.{on_ok}
+use Rattle.cubes.proofs.Turns.{done-then}
 use Rattle.cubes.proofs.hands.Worker.hand_on_halves.Goals as goal
 
 pub returns-in_err-left-clause-part : goal.returns-in_err-left-clause-part
@@ -23,3 +25,8 @@ returns-in_err-hand_on-clause-part g c =
 
 pub returns-clause-calls : goal.returns-clause-calls
 returns-clause-calls g c = GoesOn-then c.args.self.now.hand.ledger c.hand_on.new.self.hand.ledger c.hand_on-2.new.self.hand.ledger c.hand_on.ensures.calls c.hand_on-2.ensures.calls
+
+pub returns-clause-done : goal.returns-clause-done
+returns-clause-done g c =
+    on_ok c.hand_on-2.result _ _ (done-then (results_by g.L.KeepsLines.lines c.args.self.now.solved.items) (results_by g.L.KeepsLines.lines c.hand_on.new.self.solved.items) (results_by g.L.KeepsLines.lines c.hand_on-2.new.self.solved.items) c.in_ok-hand_on.ensures.done)
+    c.hand_on-2.ensures.done

@@ -1,4 +1,4 @@
-use Rattle.std.proofs.Common.{◌≡◌, ◌++◌, ◌∷◌, [], is_ok, true, sym, ap, ◌∙◌, subst, rules, arith}
+use Rattle.std.proofs.Common.{◌≡◌, ◌++◌, ◌∷◌, [], is_ok, true, refl, sym, ap, ◌∙◌, subst, rules, arith}
 use Rattle.std.proofs.lemmas.List.{map-append}
 use Rattle.theory.specs.Ledger.{joined, calling, offer, look, less}
 use Rattle.theory.specs.Places.{place_of}
@@ -12,6 +12,8 @@ use Rattle.cubes.specs.Hands.{AddsRound, GoesOn}
 use Rattle.cubes.proofs.GoingOn.{GoesOn-itself, GoesOn-then, GoesOn-call, GoesOn-same}
 use Rattle.cubes.proofs.RoundParts.{look-part, skip-part, not-below-some, not-below-none}
 use Rattle.cubes.proofs.RoundEndings.{ends-refuted, ends-model, ends-exhausted, ends-short}
+use Rattle.cubes.specs.Looks.{AddsDone, looks_of}
+use Rattle.cubes.proofs.Turns.{looks-call, looks-halves, done-nothing, turn-skipped, turn-done}
 use Rattle.cubes.proofs.hands.Worker.round.Goals.{in-Some+else-least-place, in_default, in-Model, in-Refuted, in-Exhausted+in_ok-hand_on_halves-in-Exhausted}
 use Rattle.cubes.proofs.hands.Worker.round.Goals as goal
 
@@ -76,3 +78,41 @@ returns-clause-calls g c =
           (GoesOn-then first c.settle-ending.new.self.hand.ledger w.hand_on_halves.new.self.hand.ledger settled w.hand_on_halves.ensures.calls)
     ] in
     GoesOn-call first c.match-branch-3.self.hand c.less-2.new.self ended less c.less-2.ensures.noted tt
+
+pub returns-then-least-place-clause-turn : goal.returns-then-least-place-clause-turn
+returns-then-least-place-clause-turn g c =
+    let items : c.push.new.self.items ≡ c.args.self.now.solved.items ++ record { cube = c.args.cube; what = Skipped c.in-Some.least } ∷ [] = search rules in
+    turn-skipped c.args.cube c.args.self.now.hand.ledger c.look-seen.new.self.ledger c.less.new.self.ledger (results_by g.L.KeepsLines.lines c.args.self.now.solved.items)
+    (results_by g.L.KeepsLines.lines c.push.new.self.items) c.look-seen.result c.in-Some.least (ap (λ (h : HandView). h.ledger) c.look-seen.ensures.noted) c.in-Some.is (let p = c.place_of-place.ensures.place in let l = c.if-least-place.true in omega arith)
+    (ap (λ (h : HandView). h.ledger) c.less.ensures.noted) (ap (results_by g.L.KeepsLines.lines) items ∙ map-append (solved_by g.L.KeepsLines.lines) c.args.self.now.solved.items _)
+
+pub returns-clause-turn : goal.returns-clause-turn
+returns-clause-turn g c =
+    turn-done (begun_by c.args.plan.search c.args.formula.now) c.args.plan c.args.cube _ c.args.self.now.hand.ledger c.look-seen.new.self.ledger c.match-branch-3.self.hand.ledger c.less-2.new.self.ledger
+    (results_by g.L.KeepsLines.lines c.args.self.now.solved.items) (results_by g.L.KeepsLines.lines c.settle-ending.new.self.solved.items) (results_by g.L.KeepsLines.lines c.match-branch-3.self.solved.items) c.look-seen.result
+    (ap (λ (h : HandView). h.ledger) c.look-seen.ensures.noted) below c.in_ok-ending.ensures.settles
+    (elim c.match-branch-3.branch [
+      | in-Model w ↦ subst (λ (v : Worker _). looks_of v.hand.ledger.calls ≡ looks_of c.look-seen.new.self.ledger.calls) (sym w.self-is)
+          (looks-call c.look-seen.new.self.ledger w.offer.new.self.ledger (offer c.place_of-place.result)
+          (ap (λ (h : HandView). h.ledger) w.offer.ensures.noted ∙ ap (λ (h : HandView). joined h.ledger (calling (offer c.place_of-place.result))) c.settle-ending.ensures.hand) refl)
+      | in-Refuted w ↦ subst (λ (v : Worker _). looks_of v.hand.ledger.calls ≡ looks_of c.look-seen.new.self.ledger.calls) (sym w.self-is)
+          (ap (λ (h : HandView). looks_of h.ledger.calls) c.settle-ending.ensures.hand)
+      | in-Exhausted+in_ok-hand_on_halves-in-Exhausted w ↦ subst (λ (v : Worker _). looks_of v.hand.ledger.calls ≡ looks_of c.look-seen.new.self.ledger.calls) (sym w.self-is)
+          (looks-halves (begun_by c.args.plan.search c.args.formula.now) c.args.plan (is_ok w.hand_on_halves.result) c.args.cube w.in-Exhausted.var c.look-seen.new.self.ledger w.hand_on_halves.new.self.hand.ledger
+          (results_by g.L.KeepsLines.lines c.settle-ending.new.self.solved.items) (results_by g.L.KeepsLines.lines w.hand_on_halves.new.self.solved.items) (rw c.settle-ending.ensures.hand at w.hand_on_halves.ensures.part))
+    ])
+    (elim c.match-branch-3.branch [
+      | in-Model w ↦ subst (λ (v : Worker _). AddsDone (results_by g.L.KeepsLines.lines c.settle-ending.new.self.solved.items) (results_by g.L.KeepsLines.lines v.solved.items)) (sym w.self-is)
+          (done-nothing (results_by g.L.KeepsLines.lines c.settle-ending.new.self.solved.items))
+      | in-Refuted w ↦ subst (λ (v : Worker _). AddsDone (results_by g.L.KeepsLines.lines c.settle-ending.new.self.solved.items) (results_by g.L.KeepsLines.lines v.solved.items)) (sym w.self-is)
+          (done-nothing (results_by g.L.KeepsLines.lines c.settle-ending.new.self.solved.items))
+      | in-Exhausted+in_ok-hand_on_halves-in-Exhausted w ↦ subst (λ (v : Worker _). AddsDone (results_by g.L.KeepsLines.lines c.settle-ending.new.self.solved.items) (results_by g.L.KeepsLines.lines v.solved.items)) (sym w.self-is)
+          w.in_ok-hand_on_halves-in-Exhausted.ensures.done
+    ])
+    (ap (λ (h : HandView). h.ledger) c.less-2.ensures.noted)
+  where
+    below : IsNotBelow c.look-seen.result (place_of c.args.cube)
+    below = elim c.match-seen.branch [
+      | in-Some+else-least-place w ↦ not-below-some c.look-seen.result w.in-Some.least c.place_of-place.result (place_of c.args.cube) w.in-Some.is (let l = w.if-least-place.false in omega arith) c.place_of-place.ensures.place
+      | in_default w ↦ not-below-none c.look-seen.result (place_of c.args.cube) w.in_default.is
+    ]
