@@ -15,7 +15,7 @@ use Rattle.pool.specs.Pools.{PoolView, AreNew, AreAllOf, IsHandOf, new_ledger, n
 use Rattle.theory.specs.Learning.{Line}
 use Rattle.cubes.specs.declared.hands.Worked.{Worked}
 use Rattle.cubes.specs.Solved.{results_by}
-use Rattle.cubes.specs.Shares.{AreNumbered, HasDone, HaveDone}
+use Rattle.cubes.specs.Shares.{HasDone, HaveDone}
 
 none-got : (n : ℕ) → all_got (new_ledger n) ≡ []
 none-got zero = refl
@@ -78,9 +78,6 @@ module _ {L : Type 0} (lines : L → List Line) (F : Formula) (plan : Plan) (poo
       let here = get-some works place w h in
       let at = at_place place w.hand w here.0 in
       subst (λ v. SameHand (new_hand pool F.vars new.deques place) v.hand) (here.1 w) (subst (λ g. SameHand g (slice_index_or works place w).hand) at.0 at.1.0)
-
-  pub home-in_order : AreNumbered works
-  home-in_order place w h = (at_work place w h).0
 
   pub home-all : AreAllOf pool (map (λ (w : Worked L). w.hand) works)
   home-all = record {

@@ -10,6 +10,7 @@ pub mod WholeWalks
 pub mod Carrying
 pub mod RoundParts
 pub mod WorkSteps
+pub mod Numbering
 pub mod HarvestParts
 pub mod CarryingSteps
 pub mod HalvesParts

@@ -1,5 +1,5 @@
 -- What each hand has in the harvest.
-use Rattle.std.specs.Prelude.{◌≡◌, ◌<◌, ◌≤◌, ℕ, List, [], map, flat_map, length, All, Option, Some, slice_get, slice_index_or}
+use Rattle.std.specs.Prelude.{◌≡◌, ◌<◌, ◌≤◌, ℕ, List, [], map, flat_map, length, All, IsPermutation, Option, Some, slice_get, slice_index_or}
 use Rattle.theory.specs.Literals.{Literal}
 use Rattle.theory.specs.Truth.{Formula}
 use Rattle.theory.specs.Plans.{Plan}
@@ -42,10 +42,14 @@ HaveDone {L} lines F plan hands works = (i : ℕ) (d : HandView) (e : Worked L) 
 abbrev pub HaveWorked : {L : Type 0} → (L → List Line) → Formula → Plan → List (Worked L) → Type 0
 HaveWorked lines F plan works = All (λ w. IsWork F plan w.short_of_memory w.hand.ledger (results_by lines w.solved.items)) works
 
--- once the pool is closed: no cube was left and none to be done, none was got twice, and the
--- results are enough
+-- and these are the same hands in that order
+abbrev pub AreByNumber : {L : Type 0} → List (Worked L) → List (Worked L) → Type 0
+AreByNumber works sorted = IsPermutation works sorted × AreNumbered sorted
+
+-- Once the pool is closed: no cube was left and none to be done, none was got twice, and the
+-- results are enough. A pool tells its hands by their numbers, in whatever order they come home.
 pub record AreHarvested {L : Type 0} (lines : L → List Line) (F : Formula) (plan : Plan) (works : List (Worked L)) (results : List (Solved L)) : Type 0 where
   pub least : Option ℕ
-  pub closed : IsClosed F plan (map (share_by lines) works) [] least 0
+  pub closed : (sorted : List (Worked L)) → AreByNumber works sorted → IsClosed F plan (map (share_by lines) sorted) [] least 0
   pub once : (Q : List Literal) → times Q (flat_map all_got (ledgers_of (map (share_by lines) works))) ≤ 1
   pub whole : IsWhole F plan (results_by lines results)

@@ -1,9 +1,9 @@
 //! What all hands have done, once they are home.
-ghost use Rattle.std.specs.Prelude.{◌≡◌, ◌≤◌, false, [], map, flat_map, length, All, IfOk};
+ghost use Rattle.std.specs.Prelude.{◌≡◌, false, [], map, flat_map, All, IfOk};
 ghost use Rattle.theory.specs.Plans.{Plan};
 ghost use Rattle.theory.specs.Beginnings.{begun_by};
 ghost use Rattle.pool.specs.Pools.{AreAllOf};
-ghost use Rattle.cubes.specs.Shares.{AreNumbered, HaveWorked, AreHarvested};
+ghost use Rattle.cubes.specs.Shares.{HaveWorked, AreHarvested};
 
 use crate::hands::Worked;
 use crate::solved::Solved;
@@ -35,7 +35,7 @@ fn parted<L: Drop>(
 }
 
 /// The results of these hands of the pool, one list after the other, once it is closed: what holds
-/// of them by whatever plan the hands worked.
+/// of them by whatever plan the hands worked. They come in any order.
 pub(crate) fn close_all<L: KeepsLines>(
     alloc: Global,
     formula: &Formula,
@@ -43,8 +43,6 @@ pub(crate) fn close_all<L: KeepsLines>(
     works: Vec<Worked<L>>,
 ) -> Result<Vec<Solved<L>>, AllocError>
     requires pool { AreAllOf pool (map (λ w. w.hand) works.items) }
-    requires some { 1 ≤ length works.items }
-    requires in_order { AreNumbered works.items }
     requires root { pool.root ≡ [] }
     requires long { All (λ w. w.short_of_memory ≡ false) works.items }
     ensures results { IfOk result (λ r. r.items ≡ flat_map (λ w. w.solved.items) works.items) }

@@ -1,7 +1,7 @@
 //! Calls that the program doesn't need and others may make: each is by the ordered search, with a
 //! budget of 1 to 100,000 conflicts for the root in place of a plan, and keeps each line of a
 //! refuted cube in memory of its own.
-ghost use Rattle.std.specs.Prelude.{◌≡◌, ℕ, ◌≤◌, ◌<◌, ◌^◌, false, List, [], map, flat_map, length, All, Option, IfOk};
+ghost use Rattle.std.specs.Prelude.{◌≡◌, ℕ, ◌≤◌, ◌<◌, ◌^◌, false, List, [], map, flat_map, All, Option, IfOk};
 ghost use Rattle.theory.specs.Literals.{Literal};
 ghost use Rattle.theory.specs.Truth.{Formula};
 ghost use Rattle.theory.specs.Pure.{searched};
@@ -16,7 +16,7 @@ ghost use Rattle.pool.specs.Pools.{AreAllOf};
 ghost use Rattle.cubes.specs.Hands.{Worked_as, GoesHome};
 ghost use Rattle.cubes.specs.Looks.{TakeTurns};
 ghost use Rattle.cubes.specs.Result.{IsResultOf, Says};
-ghost use Rattle.cubes.specs.Shares.{share_of, AreNumbered};
+ghost use Rattle.cubes.specs.Shares.{LinesWorked, share_of, AreByNumber};
 ghost use Rattle.cubes.specs.Solved.{AreTrueResults, solved_of};
 
 use crate::closing::close_all;
@@ -59,8 +59,8 @@ pub fn work<R: Wait + Clock, G: Gate>(
 }
 
 /// The results of all hands of a pool, one list after the other, once the pool is closed. The hands
-/// come in the order of their numbers; each did its work for this formula and this budget, and none
-/// is short of memory. At the close no cube was left and none to be done, and the results are
+/// come in any order; each did its work for this formula and this budget, and none is short of
+/// memory. At the close no cube was left and none to be done, and the results are
 /// enough for the whole tree. It waits for nothing, and fails only where a request for memory is
 /// refused.
 pub fn harvest(
@@ -71,13 +71,11 @@ pub fn harvest(
     works: Vec<Worked>,
 ) -> Result<Vec<Solved>, AllocError>
     requires pool { AreAllOf pool (map (λ w. w.hand) works.items) }
-    requires some { 1 ≤ length works.items }
-    requires in_order { AreNumbered works.items }
     requires root { pool.root ≡ [] }
     requires works { All (λ w. IsWork (searched formula.now) (ordered_within budget) w.short_of_memory w.hand.ledger (map solved_of w.solved.items)) works.items }
     requires long { All (λ w. w.short_of_memory ≡ false) works.items }
     ensures results { IfOk result (λ r. r.items ≡ flat_map (λ w. w.solved.items) works.items) }
-    ensures closed { IfOk result (λ _. (least : Option ℕ) × IsClosed (searched formula.now) (ordered_within budget) (map share_of works.items) [] least 0) }
+    ensures closed { IfOk result (λ _. (least : Option ℕ) × ((sorted : List LinesWorked) → AreByNumber works.items sorted → IsClosed (searched formula.now) (ordered_within budget) (map share_of sorted) [] least 0)) }
     ensures once { IfOk result (λ _. (Q : List Literal) → times Q (flat_map all_got (ledgers_of (map share_of works.items))) ≤ 1) }
     ensures whole { IfOk result (λ r. IsWhole (searched formula.now) (ordered_within budget) (map solved_of r.items)) }
 {

@@ -1,5 +1,5 @@
 //! The result of a formula, by several hands in threads of their own.
-ghost use Rattle.std.specs.Prelude.{◌≡◌, ◌≤◌, [], false, length, All, IfOk};
+ghost use Rattle.std.specs.Prelude.{◌≡◌, [], false, length, All, IfOk};
 ghost use Rattle.theory.specs.Results.{IsWhole};
 ghost use Rattle.pool.specs.Pools.{AreNew};
 ghost use Rattle.theory.specs.Beginnings.{begun_by};
@@ -77,7 +77,6 @@ fn results_in<L: KeepsLines + Send, R: Threads + Wait + Clock + Sync, G: Gate + 
     pool: Pool,
     hands: Vec<Hand>,
 ) -> Result<Vec<Solved<L>>, AllocError>
-    requires some { 1 ≤ pool.hands }
     requires root { pool.root ≡ [] }
     requires hands { AreNew pool formula.now.vars hands.items }
     requires known { IsRootOf (begun_by plan.search formula.now) plan known }
@@ -101,7 +100,6 @@ fn solve_by_hands<L: KeepsLines + Send, R: Threads + Wait + Clock + Sync, G: Gat
     pool: Pool,
     hands: Vec<Hand>,
 ) -> Result<Tree<L>, AllocError>
-    requires some { 1 ≤ pool.hands }
     requires root { pool.root ≡ [] }
     requires hands { AreNew pool formula.now.vars hands.items }
     requires known { IsRootOf (begun_by plan.search formula.now) plan known }

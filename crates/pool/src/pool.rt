@@ -39,7 +39,7 @@ pub struct Pool {
 }
 
 impl Model for Pool {
-    ghost use Rattle.std.specs.Prelude.{◌≡◌};
+    ghost use Rattle.std.specs.Prelude.{◌≡◌, ◌≤◌};
     ghost use Rattle.pool.specs.SeatNotes.{first_notes};
     ghost use Rattle.pool.specs.Pools.{PoolView};
 
@@ -47,7 +47,7 @@ impl Model for Pool {
 
     ghost view = { λ p. record { hands = p.hands; table = p.words.table; root = p.root.value } };
 
-    ghost invariant = { λ p. p.words.notes ≡ first_notes p.hands };
+    ghost invariant = { λ p. (1 ≤ p.hands) × (p.words.notes ≡ first_notes p.hands) };
 }
 
 /// A pool of 1 to 16 hands for cubes over this many variables, and its hands in the order of their
@@ -92,6 +92,7 @@ impl Pool {
     /// hands. It fails where a request for memory is refused; all is let go then.
     pub fn close(self, hands: Vec<Hand>) -> Result<Closing, AllocError>
         requires { AreAllOf self hands.items }
+        ensures some { IfOk result (λ _. 1 ≤ self.hands) }
         ensures once { IfOk result (λ c. (ledgers : List Ledger) → AreLedgersOf hands.items ledgers → IsAllOnce self.root ledgers c.left.items) }
         ensures order { IfOk result (λ c. (ledgers : List Ledger) → AreLedgersOf hands.items ledgers → IsInOrder ledgers c.least c.undone) }
     {

@@ -1,5 +1,5 @@
 use Rattle.theory.specs.Beginnings.{begun_by}
-use Rattle.cubes.proofs.FreshHands.{new-vars, home-in_order, home-all, home-works}
+use Rattle.cubes.proofs.FreshHands.{new-vars, home-all, home-works}
 use Rattle.cubes.proofs.OkLemmas.{if_ok}
 use Rattle.cubes.proofs.threads.results_in.Goals as goal
 
@@ -9,10 +9,6 @@ all_work-requires-clause-vars g c = λ κs bounds. new-vars c.args.formula.now.v
 pub close_all-requires-clause-pool : goal.close_all-requires-clause-pool
 close_all-requires-clause-pool g c =
     home-all g.L.KeepsLines.lines (begun_by c.args.plan.search c.args.formula.now) c.args.plan c.args.pool c.args.hands.items c.in_ok-works.works.items c.requires.hands c.in_ok-works.ensures.len c.in_ok-works.ensures.each
-
-pub close_all-requires-clause-in_order : goal.close_all-requires-clause-in_order
-close_all-requires-clause-in_order g c =
-    home-in_order g.L.KeepsLines.lines (begun_by c.args.plan.search c.args.formula.now) c.args.plan c.args.pool c.args.hands.items c.in_ok-works.works.items c.requires.hands c.in_ok-works.ensures.len c.in_ok-works.ensures.each
 
 pub returns : goal.returns
 returns g c =

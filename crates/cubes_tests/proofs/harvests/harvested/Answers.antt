@@ -1,7 +1,7 @@
 use Rattle.std.proofs.Common.{rules}
 use Rattle.theory.specs.Plans.{ordered_within}
 use Rattle.theory.specs.Pure.{searched}
-use Rattle.cubes.proofs.FreshHands.{new-vars, home-in_order, home-all, home-works}
+use Rattle.cubes.proofs.FreshHands.{new-vars, home-all, home-works}
 use Rattle.cubes_tests.proofs.harvests.harvested.Goals as goal
 
 pub all_work-requires : goal.all_work-requires
@@ -10,10 +10,6 @@ all_work-requires g c = (search rules, new-vars c.args.formula.now.vars c.in_ok-
 pub harvest-requires-clause-pool : goal.harvest-requires-clause-pool
 harvest-requires-clause-pool g c =
     home-all (λ lines. lines) (searched c.args.formula.now) (ordered_within 1) c.in_ok-pool.pool c.in_ok-pool.all.items c.in_ok-works.works.items (rw c.vars.ensures.vars at c.in_ok-pool.ensures.hands) c.in_ok-works.ensures.len c.in_ok-works.ensures.each
-
-pub harvest-requires-clause-in_order : goal.harvest-requires-clause-in_order
-harvest-requires-clause-in_order g c =
-    home-in_order (λ lines. lines) (searched c.args.formula.now) (ordered_within 1) c.in_ok-pool.pool c.in_ok-pool.all.items c.in_ok-works.works.items (rw c.vars.ensures.vars at c.in_ok-pool.ensures.hands) c.in_ok-works.ensures.len c.in_ok-works.ensures.each
 
 pub harvest-requires-clause-works : goal.harvest-requires-clause-works
 harvest-requires-clause-works g c =

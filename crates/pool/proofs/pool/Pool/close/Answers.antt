@@ -1,4 +1,4 @@
-use Rattle.std.proofs.Common.{◌≡◌, ℕ, ◌<◌, length, subst, ap, sym, ◌∙◌, arith, rules, List}
+use Rattle.std.proofs.Common.{◌≡◌, ℕ, ◌<◌, ◌≤◌, length, subst, ap, sym, ◌∙◌, arith, rules, List}
 use Rattle.std.specs.Prelude.{vec_len}
 use Rattle.theory.specs.Ledger.{Ledger}
 use Rattle.theory.specs.Order.{IsAllOnce, IsInOrder}
@@ -40,7 +40,7 @@ ends-least-requires-clause-whole c =
     let sorted = c.in_ok-sorted.sorted.items in
     let n : c.self.inside.hands ≡ length sorted = ap (λ (p : PoolView). p.hands) c.self.view_is ∙ sym c.requires.as_many ∙ sym s.as_many in
     let notes : c.take_apart.new.words.notes ≡ record (first_notes (length sorted)) { calls = calls_of sorted } =
-    c.in_ok-owners.ensures.seats.1 ∙ ap (λ (k : SeatNotes). record k { calls = calls_of sorted }) (c.self.invariant ∙ ap first_notes n) in
+    c.in_ok-owners.ensures.seats.1 ∙ ap (λ (k : SeatNotes). record k { calls = calls_of sorted }) (c.self.invariant.1 ∙ ap first_notes n) in
     subst AllHere (sym notes) (all_here c.args.self.table sorted c.in_ok-owners.owners.items c.in_ok-owners.rows.items c.gather.new.owners.items (numbered c.args.self c.args.hands.items sorted c.requires s.hands s.as_many) c.in_ok-owners.ensures.parts c.gather.ensures)
 
 pub returns-clause-once : goal.returns-clause-once
@@ -61,8 +61,11 @@ returns-clause-order c ledgers are =
     let sorted = c.in_ok-sorted.sorted.items in
     let n : c.self.inside.hands ≡ length sorted = ap (λ (p : PoolView). p.hands) c.self.view_is ∙ sym c.requires.as_many ∙ sym s.as_many in
     let notes : c.take_apart.new.words.notes ≡ record (first_notes (length sorted)) { calls = calls_of sorted } =
-    c.in_ok-owners.ensures.seats.1 ∙ ap (λ (k : SeatNotes). record k { calls = calls_of sorted }) (c.self.invariant ∙ ap first_notes n) in
+    c.in_ok-owners.ensures.seats.1 ∙ ap (λ (k : SeatNotes). record k { calls = calls_of sorted }) (c.self.invariant.1 ∙ ap first_notes n) in
     let e = c.ends-least.ensures in
     subst (λ (l : List Ledger). IsInOrder l c.ends-least.result.0 c.ends-least.result.1) (sym (ledgers_same hands sorted ledgers are s.hands s.as_many))
     (in_order c.args.self.table sorted c.in_ok-owners.owners.items c.in_ok-owners.rows.items c.gather.new.owners.items (numbered c.args.self hands sorted c.requires s.hands s.as_many) c.in_ok-owners.ensures.parts c.gather.ensures
     e.0 c.ends-least.result.0 c.ends-least.result.1 e.1 e.2 (subst (λ (k : SeatNotes). Closes k.made k.calls e.0) notes e.3))
+
+pub returns-clause-some : goal.returns-clause-some
+returns-clause-some c = subst (λ (p : PoolView). 1 ≤ p.hands) c.self.view_is c.self.invariant.0
