@@ -61,7 +61,7 @@ abbrev pub Marked : DequeNotes → List Task → DequeNotes → Type 0
 Marked v [] w = Unit {0}
 Marked v (x ∷ xs) w = w ≡ owner_notes x.vars 0 (cubes (x ∷ xs))
 
--- the same of a deque of which only these notes are known
+-- the same of a deque of which only these notes are known, and not what was put
 abbrev pub EmptyThen : DequeNotes → Type 0
 EmptyThen v = (put : List Cube) × (order : List (ℕ × Cube)) × (map (λ e. e.1) order ≡ put) × ((i : ℕ) (n : ℕ × List Cube) → get_elem? v.got i ≡ some n → entries_of n.0 order ≡ n.1)
 

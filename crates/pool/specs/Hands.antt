@@ -46,8 +46,9 @@ pub record IsFront (h : HandView) (Q : Cube) : Type 0 where
   pub of_own : entries_of h.number order ≡ got_from h.number h.ledger
   pub no_other : (hand : ℕ) → h.hands ≤ hand → entries_of hand order ≡ []
 
--- at a moment all that had been put into the deque d had been taken from it. Only what this hand
--- took from it is known here.
+-- What a hand knows that found the deque d empty: what it took from d itself may be, in some order
+-- with what others took, all that was put there. Neither what was put nor what others took is known
+-- here, so this doesn't show that the hand looked (docs/DECISIONS.md, 53).
 pub record IsAllStolen (h : HandView) (d : ℕ) : Type 0 where
   pub put : List Cube
   pub order : List (ℕ × Cube)

@@ -134,8 +134,9 @@ impl Hand {
         self.owner.take()
     }
 
-    /// The front of another hand's deque. It is found empty only where it was so at a moment of the
-    /// call. Nothing says that a steal ever succeeds.
+    /// The front of another hand's deque. `Empty` is answered where the deque was found so at a moment
+    /// of the call, but the contract says of it only that what this hand took from there may be all
+    /// that was put. Nothing says that a steal ever succeeds.
     pub fn steal(&mut self, from: usize) -> Taken
         requires other { from ≢ self.old.number }
         requires hand { from < self.old.hands }
