@@ -56,7 +56,7 @@ fn ran_out_of_memory(works: &[Worked]) -> bool
     false
 }
 
-/// The results of so many hands.
+/// The results of so many hands, the last one first: `harvest` takes them in any order.
 fn harvested<R: Threads + Wait + Clock + Sync>(
     rt: &R,
     alloc: Global,
@@ -66,7 +66,8 @@ fn harvested<R: Threads + Wait + Clock + Sync>(
     ensures { IfOk result (λ r. IsWhole (searched formula.now) (ordered_within 1) (map solved_of r.items)) }
 {
     let (pool, all) = pool::open(alloc, hands.get(), formula.vars(), Cube::root(alloc))?;
-    let works = all_work(rt, alloc, formula, all)?;
+    let mut works = all_work(rt, alloc, formula, all)?;
+    works.reverse();
     if ran_out_of_memory(&works) {
         return Err("short of memory".into());
     }
