@@ -4,3 +4,4 @@ pub mod CheckStatus
 pub mod Ends
 pub mod Inputs
 pub mod TidyEnds
+pub mod Questions

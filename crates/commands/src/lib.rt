@@ -1,5 +1,5 @@
-//! The commands that decide a formula, check a proof and tidy a formula: their files, statuses,
-//! words and figures.
+//! The commands that decide a formula, check a proof, tidy a formula and answer questions: their
+//! files, statuses, words and figures.
 #![tactic(auto)]
 
 mod anew;
@@ -10,6 +10,7 @@ mod formula_text;
 mod input;
 mod notes;
 mod placed_proof;
+mod questions;
 mod same_file;
 mod solving;
 mod tidied;
@@ -23,6 +24,7 @@ pub use fault_lines::{
 };
 pub use input::{Input, open_input};
 pub use placed_proof::{NotBegun, PlacedProof, begin_proof};
+pub use questions::asking::session;
 pub use runs::CheckRules;
 pub use solving::{SATISFIABLE, UNSATISFIABLE, print_not_begun, solve};
 pub use tidied::tidy;

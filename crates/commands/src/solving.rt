@@ -40,8 +40,9 @@ pub const SATISFIABLE: u8 = 10;
 /// The status of an unsatisfiable formula.
 pub const UNSATISFIABLE: u8 = 20;
 
-/// The status of a formula that isn't decided within the limit of time.
-const UNKNOWN: u8 = 0;
+/// The status of a formula that isn't decided within the limit of time, and of a session without an
+/// answer.
+pub(crate) const UNKNOWN: u8 = 0;
 
 /// What stands for the proof's path where no proof is asked for.
 const NO_PATH: &str = "not written";

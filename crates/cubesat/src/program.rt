@@ -4,13 +4,13 @@ use crate::implied::with_command;
 use crate::other_options::option_elsewhere;
 use crate::spreading::work_on;
 use crate::wrapped::write_wrapped;
-use asking::session;
 use clap::Error;
 use clap::error::ErrorKind;
 use cnf::Limits;
 use command_line::{Request, request_of};
 use commands::{
-    CheckRules, FAILED, Locks, NoLocks, Screen, check, explanation, print_fault, solve, tidy,
+    CheckRules, FAILED, Locks, NoLocks, Screen, check, explanation, print_fault, session, solve,
+    tidy,
 };
 use lrat::Variables;
 use messages::{say_no_memory, say_not_printed};

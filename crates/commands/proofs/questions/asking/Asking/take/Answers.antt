@@ -1,6 +1,6 @@
-use Rattle.asking.proofs.StatusLemmas.{followed-status}
-use Rattle.asking.proofs.asking.Asking.take.Goals.{in-Some+in_ok-follow, in_default}
-use Rattle.asking.proofs.asking.Asking.take.Goals as goal
+use Rattle.commands.proofs.SessionLemmas.{followed-status}
+use Rattle.commands.proofs.questions.asking.Asking.take.Goals.{in-Some+in_ok-follow, in_default}
+use Rattle.commands.proofs.questions.asking.Asking.take.Goals as goal
 
 pub loop-byte-preserved : goal.loop-byte-preserved
 loop-byte-preserved g c = λ a s. elim c.match-branch-2.branch [

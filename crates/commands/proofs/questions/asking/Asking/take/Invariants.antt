@@ -1,6 +1,6 @@
 use Rattle.std.proofs.Common.{ℕ, List, Option}
-use Rattle.asking.specs.Questions.{IsSessionStatus}
-use Rattle.asking.proofs.asking.Asking.take.Given as goal
+use Rattle.commands.specs.Questions.{IsSessionStatus}
+use Rattle.commands.proofs.questions.asking.Asking.take.Given as goal
 
 -- the status is that of the last answer so far
 abbrev pub invariant-loop-byte : goal.invariant-loop-byte

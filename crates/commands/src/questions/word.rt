@@ -3,7 +3,7 @@
 use cnf::Lit;
 
 /// A formula has variables up to this one.
-const MOST_VARS: u32 = 100_000_000;
+pub(crate) const MOST_VARS: u32 = 100_000_000;
 
 /// Whether a word is digits that don't begin with 0, so that a number has one text.
 fn is_plain(digits: &[u8]) -> bool {

@@ -1,15 +1,19 @@
-//! `session`: clauses that are added and questions of them, each answered before the next one is read.
+//! Clauses that are added and questions of them, each answered before the next one is read.
 
 ghost use Rattle.std.specs.Prelude.{◌≡◌, ◌⊎◌, ℕ, List, Option, true, IfOk, OnOk};
-ghost use Rattle.asking.specs.declared.asking.TheConstants.{UNKNOWN};
-ghost use Rattle.asking.specs.Questions.{core_text, IsAnswered, IsFollowed, IsModelText, IsSessionStatus};
+ghost use Rattle.commands.specs.declared.solving.TheConstants.{UNKNOWN};
+ghost use Rattle.commands.specs.Questions.{core_text, IsAnswered, IsFollowed, IsModelText, IsSessionStatus};
 
-use crate::fault::{Fault, print_fault_of};
+use crate::fault_lines::print_not_opened;
+use crate::input::open_input;
+use crate::questions::fault::{Fault, print_fault_of};
+use crate::questions::item::Item;
+use crate::questions::text::Text;
+use crate::questions::word::MOST_VARS;
+use crate::solving::{SATISFIABLE, UNKNOWN, UNSATISFIABLE};
 use cnf::{Formula, Lit};
-use commands::{open_input, print_not_opened};
 use join::answer_bytes;
 use lrat_text::append_literals;
-use questions::{Item, Text};
 use runs::{Limit, TimeLimit};
 use session::{Answer, Interrupt, Session};
 use std::alloc::{AllocError, Global};
@@ -19,16 +23,6 @@ use std::time::Clock;
 
 /// So many bytes are read at most before the questions among them are answered.
 const CHUNK: usize = 4096;
-
-/// The greatest number of variables.
-const MOST_VARS: usize = 100_000_000;
-
-/// The statuses of a session by its last answer; it has that of no answer without one.
-const SATISFIABLE: u8 = 10;
-
-const UNSATISFIABLE: u8 = 20;
-
-const UNKNOWN: u8 = 0;
 
 /// Interrupts a question once its time is over.
 #[derive(Drop)]
@@ -58,7 +52,7 @@ fn core_line(alloc: Global, core: &[Lit]) -> Result<Vec<u8>, AllocError>
 fn model_lines(alloc: Global, values: &[bool], shows_models: bool) -> Result<Vec<u8>, AllocError>
     ensures { IfOk result (λ lines. IsModelText shows_models values.now lines.items) }
 {
-    if !shows_models || values.len() > MOST_VARS {
+    if !shows_models || values.len() > MOST_VARS as usize {
         return Vec::from_slice(alloc, b"s SATISFIABLE\n");
     }
     let formula = Formula::without_clauses(alloc, values.len() as u32);

@@ -1,5 +1,5 @@
-use Rattle.asking.specs.Questions.{IsSessionStatus}
-use Rattle.asking.proofs.asking.Asking.take_all.Given as goal
+use Rattle.commands.specs.Questions.{IsSessionStatus}
+use Rattle.commands.proofs.questions.asking.Asking.take_all.Given as goal
 
 -- the status is that of the last answer so far
 abbrev pub invariant-loop : goal.invariant-loop

@@ -7,9 +7,9 @@ use Rattle.std.specs.Io.KnownBytes.{Keeps}
 use Rattle.std.proofs.KnownBytes.{Appends-kept, Appends-nil, Appends-trans}
 use Rattle.theory.specs.Literals.{Literal}
 use Rattle.theory.specs.Truth.{Formula, Assignment}
-use Rattle.questions.specs.declared.item.Item.{Item}
-use Rattle.questions.specs.declared.item.Item.TheVariants.{Clause, Question, Limit}
-use Rattle.asking.specs.Questions.{satisfiable_line, unsatisfiable_line, IsModelText, IsAnswered, IsFollowed, IsLast, IsSessionStatus}
+use Rattle.commands.specs.declared.questions.item.Item.{Item}
+use Rattle.commands.specs.declared.questions.item.Item.TheVariants.{Clause, Question, Limit}
+use Rattle.commands.specs.Questions.{satisfiable_line, unsatisfiable_line, IsModelText, IsAnswered, IsFollowed, IsLast, IsSessionStatus}
 
 model-line : (shows : Bool) (M : Assignment) (lines : List ℕ) → IsModelText shows M lines → StartsWith lines satisfiable_line
 model-line shows M lines (inl shown) = starts_with_of_append lines satisfiable_line _ shown.1

@@ -1,9 +1,9 @@
 //! Why a session ends before its text does, and what is said of it.
 ghost use Rattle.std.specs.Prelude.{◌≡◌};
 
+use crate::fault_lines::{FAILED, print_fault};
+use crate::input::shown_name;
 use cnf::ReadFault;
-use command_line::STANDARD_INPUT;
-use commands::{FAILED, print_fault};
 use messages::{say_answer_not_written, say_no_memory, say_not_read};
 use runs::RunFault;
 use std::alloc::AllocError;
@@ -23,15 +23,6 @@ pub(crate) enum Fault {
 impl From<AllocError> for Fault {
     fn from(_error: AllocError) -> Fault {
         Fault::NoMemory
-    }
-}
-
-/// What a file is called.
-fn name_of(file: &str) -> &str {
-    if file == STANDARD_INPUT {
-        "standard input"
-    } else {
-        file
     }
 }
 
@@ -73,7 +64,7 @@ fn say_refused<E: Write>(faults: &mut E, file: &str, fault: ReadFault) {
     print_fault(faults, RunFault::Read(fault));
     let (name, words) = (
         Shown {
-            name: name_of(file),
+            name: shown_name(file),
         },
         words_of(fault),
     );
@@ -90,12 +81,12 @@ pub(crate) fn print_fault_of<E: Write>(faults: &mut E, file: &str, fault: Fault)
     match fault {
         Fault::Text(ReadFault::NoMemory) | Fault::NoMemory => {
             print_fault(faults, RunFault::NoMemory);
-            say_no_memory(faults, name_of(file));
+            say_no_memory(faults, shown_name(file));
         }
         Fault::Text(fault) => say_refused(faults, file, fault),
         Fault::NotRead(error) => {
             print_fault(faults, RunFault::Read(ReadFault::ReadFailed));
-            say_not_read(faults, name_of(file), error);
+            say_not_read(faults, shown_name(file), error);
         }
         Fault::NotWritten(error) => {
             print_fault(faults, RunFault::AnswerWriteFailed);

@@ -1,8 +1,8 @@
 //! A text of questions, as far as it has been taken.
 ghost use Rattle.std.specs.Prelude.{◌≡◌};
 
-use crate::item::Item;
-use crate::word::{literal_of, number_of, seconds_of};
+use crate::questions::item::Item;
+use crate::questions::word::{literal_of, number_of, seconds_of};
 use cnf::{Lit, Place, ReadFault};
 use std::alloc::Global;
 

@@ -1,7 +1,7 @@
-use Rattle.asking.specs.Questions.{IsSessionStatus}
-use Rattle.asking.proofs.StatusLemmas.{always-ok, followed-status}
-use Rattle.asking.proofs.asking.Asking.take_all.Goals.{in-Some+in_ok-follow, in_default}
-use Rattle.asking.proofs.asking.Asking.take_all.Goals as goal
+use Rattle.commands.specs.Questions.{IsSessionStatus}
+use Rattle.commands.proofs.SessionLemmas.{always-ok, followed-status}
+use Rattle.commands.proofs.questions.asking.Asking.take_all.Goals.{in-Some+in_ok-follow, in_default}
+use Rattle.commands.proofs.questions.asking.Asking.take_all.Goals as goal
 
 pub returns : goal.returns
 returns g c =

@@ -8,9 +8,9 @@ use Rattle.theory.specs.Truth.{Formula, Assignment, Satisfies, AreTrue, value}
 use Rattle.theory.specs.Texts.{literal_text, answer_text}
 use Rattle.lrat_text.specs.Words.{spaced}
 use Rattle.session.specs.Answers.{IsCore}
-use Rattle.questions.specs.declared.item.Item.{Item}
-use Rattle.questions.specs.declared.item.Item.TheVariants.{Clause, Question, Limit}
-use Rattle.asking.specs.declared.asking.TheConstants.{MOST_VARS}
+use Rattle.commands.specs.declared.questions.item.Item.{Item}
+use Rattle.commands.specs.declared.questions.item.Item.TheVariants.{Clause, Question, Limit}
+use Rattle.commands.specs.declared.questions.word.TheConstants.{MOST_VARS}
 
 abbrev pub satisfiable_line : List ℕ
 satisfiable_line = codes "s SATISFIABLE\n"
