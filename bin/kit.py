@@ -35,6 +35,17 @@ def crates_named(names):
     return [it for it in crates if not names or it.name in names]
 
 
+def sums_of(crates):
+    """The kit's sum of all that each crate is made from. By itself the kit reads a crate anew on each way that leads down to it: over two minutes for all
+    crates of the program (2026-12-01)."""
+    sums, sum_of = {}, rt.rtlib.Crate.stamp
+    rt.rtlib.Crate.stamp = lambda crate: sums.get(crate.name) or sums.setdefault(crate.name, sum_of(crate))
+    try:
+        return {it.name: it.stamp() for it in crates}
+    finally:
+        rt.rtlib.Crate.stamp = sum_of
+
+
 @contextlib.contextmanager
 def kept_copy(crate):
     """A copy of what checks of the crate kept, whose files are links: the prover never writes into a file that stands, it puts a new one in its
