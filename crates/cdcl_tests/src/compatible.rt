@@ -2,9 +2,9 @@
 use cdcl::{Line, Outcome, solve_cube};
 use cnf::read_formula;
 use kernel::Cube;
-use samples::{FOUR, reads};
 use std::alloc::Global;
 use std::test::Fail;
+use test_samples::{FOUR, reads};
 
 fn is_line(line: &Line, clause: &[i32], hints: &[u64]) -> bool {
     reads(line.clause(), clause) && line.hints() == hints && line.forgets().is_empty()

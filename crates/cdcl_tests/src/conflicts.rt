@@ -1,9 +1,9 @@
 //! Worked conflicts: the clause that each teaches, its hints, and the level to go back to.
 use crate::kernels::{says, taught};
 use crate::outcomes::LEVEL_LEFT_OUT;
-use samples::{EIGHT, FOUR};
 use std::alloc::Global;
 use std::test::Fail;
+use test_samples::{EIGHT, FOUR};
 
 const FIVE: &str = "p cnf 2 5\n1 2 0\n1 -2 0\n-1 2 0\n-1 -2 0\n1 0\n";
 

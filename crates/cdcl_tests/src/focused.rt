@@ -5,9 +5,9 @@ ghost use Rattle.std.specs.Prelude.{◌≤◌};
 use crate::outcomes::{Wanted, cube_in, is_wanted, outcome_by};
 use cdcl::Plan;
 use heuristics::Constants;
-use samples::{EIGHT, FOUR};
 use std::alloc::Global;
 use std::test::Fail;
+use test_samples::{EIGHT, FOUR};
 
 /// A name, a formula, the root's budget, and what the root is to come to. Long texts are bytes: that
 /// one is text is checked by a prover's step a byte.

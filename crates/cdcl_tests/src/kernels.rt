@@ -6,9 +6,9 @@ ghost use Rattle.theory.specs.Trails.{literals};
 use cdcl::{Learnt, analyze};
 use cnf::{Lit, read_formula};
 use kernel::{Closed, Kernel};
-use samples::{cube_of, reads};
 use std::alloc::{AllocError, Global};
 use std::test::Fail;
+use test_samples::{cube_of, reads};
 
 /// The literal that makes the least free variable false.
 fn next_literal(kernel: &Kernel) -> Option<Lit>

@@ -2,9 +2,9 @@
 use cdcl::{Outcome, Plan, Solver};
 use cnf::read_formula;
 use lines::Row as LineRow;
-use samples::{cube_of, reads};
 use std::alloc::{AllocError, Global};
 use std::test::Fail;
+use test_samples::{cube_of, reads};
 
 // the first conflict leaves out a level
 pub const LEVEL_LEFT_OUT: &str = "p cnf 4 2\n1 3 4 0\n1 3 -4 0\n";

@@ -1,7 +1,7 @@
 //! Worked searches of formulas with pure variables: their unit clauses stand behind the formula's
 //! own, and before what is learnt.
 use crate::outcomes::{Row, Wanted};
-use samples::{FOUR_PURE, FOUR_UNUSED};
+use test_samples::{FOUR_PURE, FOUR_UNUSED};
 
 pub static ROWS: [Row; 11] = [
     (

@@ -5,10 +5,10 @@ use crate::outcomes::{LEVEL_LEFT_OUT, Row, Wanted, WantedLine, comes, is_wanted}
 use crate::pure;
 use cdcl::{Plan, Search, Solver, split};
 use cnf::{Formula, read_formula};
-use samples::{EIGHT, FOUR, TWO_MODELS, cube_of, has_var, reads};
 use std::alloc::{AllocError, Global};
 use std::process::Abort;
 use std::test::Fail;
+use test_samples::{EIGHT, FOUR, TWO_MODELS, cube_of, has_var, reads};
 
 // without the last clause the second variable would be pure, and no level left out
 const NO_PURE_VARIABLE: &str = "p cnf 4 3\n1 3 4 0\n1 3 -4 0\n2 -2 0\n";

@@ -22,11 +22,11 @@ pub use explanations::explanation;
 pub use fault_lines::{
     FAILED, Screen, print_fault, print_fault_of, print_no_memory, print_not_opened,
 };
+pub use files::{Locks, NoLocks, SystemLocks};
 pub use input::{Input, open_input};
 pub use placed_proof::{NotBegun, PlacedProof, begin_proof};
 pub use questions::asking::session;
 pub use runs::CheckRules;
 pub use solving::{SATISFIABLE, UNSATISFIABLE, print_not_begun, solve};
 pub use tidied::tidy;
-pub use whole_file::{Locks, NoLocks, SystemLocks};
 pub use worded::Known;

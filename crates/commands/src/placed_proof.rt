@@ -2,11 +2,11 @@
 
 use crate::input::Input;
 use crate::same_file::{leads_to_input, leads_to_output};
+use files::{Destination, Locks, NotMade, WholeFile};
 use std::alloc::Global;
 use std::fs::Files;
 use std::io;
 use std::io::{ErrorKind, Write};
-use whole_file::{Destination, Locks, NotMade, WholeFile};
 
 /// Why the file of a proof isn't begun.
 #[derive(Drop)]

@@ -20,8 +20,8 @@ use crate::worded::{Known, Opened};
 use cnf::Limits;
 use command_line::{Effort, FormulaFile, Shown};
 use cubes::OpenGate;
+use files::{Locks, NoticedReader, NoticedWriter};
 use messages::{Command, say_repeats, say_same_file, say_unproved};
-use noticed::{NoticedReader, NoticedWriter};
 use runs::{Options, RunFault, TimeLimit, Verdict, answer_with};
 use statistics::{Board, Manner, print_statistics, show_progress};
 use std::alloc::Global;
@@ -32,7 +32,6 @@ use std::thread;
 use std::thread::Threads;
 use std::time::Clock;
 use strategies::Unobserved;
-use whole_file::Locks;
 
 /// The status of a satisfiable formula.
 pub const SATISFIABLE: u8 = 10;

@@ -3,9 +3,9 @@ use crate::results::{NODES, NODES_OF_SIXTEEN, Wanted, WantedTree, is_tree};
 use cdcl::Plan;
 use cnf::read_formula;
 use cubes::solve_one_by_plan;
-use samples::{EIGHT, FOUR, FOUR_PURE, FOUR_UNUSED, SIXTEEN};
 use std::alloc::Global;
 use std::test::Fail;
+use test_samples::{EIGHT, FOUR, FOUR_PURE, FOUR_UNUSED, SIXTEEN};
 
 /// A text, a budget and its tree.
 type Row = (&'static str, u32, WantedTree);

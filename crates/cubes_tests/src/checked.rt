@@ -10,9 +10,9 @@ use cdcl::Plan;
 use cnf::{Formula, read_formula};
 use cubes::{Solved, Tree, What, gather_by_plan};
 use lines::Row as LineRow;
-use samples::{EIGHT, SIXTEEN, cube_of};
 use std::alloc::{AllocError, Global};
 use std::test::Fail;
+use test_samples::{EIGHT, SIXTEEN, cube_of};
 
 /// A text, the cubes that are solved before, and how many nodes the tree then has.
 type Row = (&'static str, &'static [&'static [i32]], usize);

@@ -5,12 +5,12 @@ use crate::results::{OF_EIGHT, is_tree};
 use cdcl::solve_cube;
 use cnf::{Formula, read_formula};
 use cubes::{OpenGate, Solved, Tree, What, gather, solve_one, solve_with};
-use samples::{EIGHT, cube_of};
 use std::alloc::{AllocError, Global};
 use std::sync::Wait;
 use std::test::Fail;
 use std::thread::Threads;
 use std::time::Clock;
+use test_samples::{EIGHT, cube_of};
 
 /// The tree that is gathered from the result of one of its cubes.
 fn gathered(alloc: Global, formula: &Formula) -> Result<Tree, AllocError> {

@@ -5,12 +5,12 @@ use cdcl::{Counts, Plan, Search};
 use cnf::{Formula, read_formula};
 use cubes::{Gate, HandCount, solve_by_plan};
 use kernel::Cube;
-use samples::{EIGHT, FIVE, FOUR};
 use std::alloc::Global;
 use std::sync::{Mutex, Wait};
 use std::test::Fail;
 use std::thread::Threads;
 use std::time::Clock;
+use test_samples::{EIGHT, FIVE, FOUR};
 
 /// What hands do: conflicts, decisions, propagations, learnt clauses, looks, failed literals. None of
 /// these small formulas makes them restart or forget.

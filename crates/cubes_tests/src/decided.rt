@@ -4,12 +4,12 @@
 use cdcl::Plan;
 use cnf::{Formula, read_formula};
 use cubes::{HandCount, OpenGate, Tree, decide_by_plan, solve_by_plan};
-use samples::{EIGHT, FOUR_PURE, SIXTEEN, TWO_MODELS};
 use std::alloc::Global;
 use std::sync::Wait;
 use std::test::Fail;
 use std::thread::Threads;
 use std::time::Clock;
+use test_samples::{EIGHT, FOUR_PURE, SIXTEEN, TWO_MODELS};
 
 /// A text, and the model that the ordered search finds, if there is one.
 type Row = (&'static str, Option<&'static [bool]>);

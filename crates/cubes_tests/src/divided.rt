@@ -10,9 +10,9 @@ use cnf::{Formula, read_formula};
 use cubes::{CubeSolver, Root};
 use kernel::Cube;
 use lines::Row as LineRow;
-use samples::{FIVE, FOUR, cube_of, soon_stable};
 use std::alloc::{AllocError, Global};
 use std::test::Fail;
+use test_samples::{FIVE, FOUR, cube_of, soon_stable};
 
 /// What a cube is to come to.
 #[derive(Clone, Copy)]

@@ -5,13 +5,13 @@ use cdcl::{Plan, Search};
 use cnf::{Formula, read_formula};
 use cubes::{Gate, HandCount, solve_by_plan};
 use kernel::Cube;
-use samples::{EIGHT, FOUR, SIXTEEN, reads};
 use std::alloc::Global;
 use std::sync::Wait;
 use std::sync::atomic::{AtomicU64, Ordering};
 use std::test::Fail;
 use std::thread::Threads;
 use std::time::Clock;
+use test_samples::{EIGHT, FOUR, SIXTEEN, reads};
 
 /// The cubes of a tree, from the root on.
 type Cubes = &'static [&'static [i32]];

@@ -3,11 +3,11 @@ use crate::results::{Given, is_given};
 use cnf::{Formula, read_formula};
 use cubes::{Gate, OpenGate, Solved, What, Worked, work};
 use kernel::Cube;
-use samples::{EIGHT, SIXTEEN, TWO_MODELS, reads};
 use std::alloc::Global;
 use std::sync::Wait;
 use std::test::Fail;
 use std::time::Clock;
+use test_samples::{EIGHT, SIXTEEN, TWO_MODELS, reads};
 
 /// What the one hand of a pool leaves behind.
 fn worked_alone<R: Wait + Clock, G: Gate>(

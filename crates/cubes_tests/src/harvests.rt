@@ -13,13 +13,13 @@ use cnf::{Formula, read_formula};
 use cubes::{HandCount, OpenGate, Solved, Tree, Worked, assemble, harvest, work};
 use kernel::Cube;
 use pool::Hand;
-use samples::{EIGHT, SIXTEEN, TWO_MODELS};
 use std::alloc::{AllocError, Global};
 use std::sync::Wait;
 use std::test::Fail;
 use std::thread;
 use std::thread::Threads;
 use std::time::Clock;
+use test_samples::{EIGHT, SIXTEEN, TWO_MODELS};
 
 /// A cube, and what it comes to.
 type Row = (&'static [i32], Given);

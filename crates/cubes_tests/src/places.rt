@@ -1,8 +1,8 @@
 //! Worked rows: places of cubes.
 use cubes::place_of;
-use samples::cube_of;
 use std::alloc::{AllocError, Global};
 use std::test::Fail;
+use test_samples::cube_of;
 
 /// How many variables a cube is over, its numbers, and its place.
 type Row = (u32, &'static [i32], u64);

@@ -1,6 +1,6 @@
 //! The plans of rows.
 use cdcl::{Plan, Search};
-use samples::soon_stable;
+use test_samples::soon_stable;
 
 /// The plan of a search that wants so many cubes, with this budget for the root; where more than one
 /// is wanted, by numbers that divide small formulas. A number outside its range is taken for the

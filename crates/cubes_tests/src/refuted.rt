@@ -5,12 +5,12 @@ use cdcl::{Plan, Search};
 use cnf::{Formula, read_formula};
 use cubes::{FirstAnswer, FirstSearch, Gate, HandCount, solve_by_plan};
 use kernel::Cube;
-use samples::{EIGHT, FIVE, FOUR};
 use std::alloc::Global;
 use std::sync::{Mutex, Wait};
 use std::test::Fail;
 use std::thread::Threads;
 use std::time::Clock;
+use test_samples::{EIGHT, FIVE, FOUR};
 
 /// All of a tree; a cube of d literals is one part in 2^d of it.
 const WHOLE: u64 = 1024;

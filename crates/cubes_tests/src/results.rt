@@ -15,8 +15,8 @@ use cnf::Formula;
 use cubes::{CubeSolver, Node, Root, Solved, Tree, What, gather_by_plan};
 use kernel::Cube;
 use lines::Row as LineRow;
-use samples::{cube_of, reads};
 use std::alloc::{AllocError, Global};
+use test_samples::{cube_of, reads};
 
 /// What a cube comes to.
 #[derive(Clone, Copy)]

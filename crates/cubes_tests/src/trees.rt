@@ -5,12 +5,12 @@ use crate::results::{Given, OF_EIGHT, WantedTree, gathered, is_tree};
 use cdcl::Plan;
 use cnf::read_formula;
 use cubes::{HandCount, OpenGate, solve_by_plan};
-use samples::EIGHT;
 use std::alloc::Global;
 use std::sync::Wait;
 use std::test::Fail;
 use std::thread::Threads;
 use std::time::Clock;
+use test_samples::EIGHT;
 
 /// A text, the results that are given, and the tree that is gathered from them.
 type Row = (&'static str, &'static [(&'static [i32], Given)], WantedTree);

@@ -12,7 +12,7 @@ use commands::{
     print_fault_of, print_no_memory, print_not_begun, print_not_opened,
 };
 use cubes::HandCount;
-use noticed::{NoticedReader, NoticedWriter};
+use files::{NoticedReader, NoticedWriter};
 use runs::{GatheredFrom, Gathering, RunFault, Verdict, gather_at_once, gather_stored};
 use spread::{Folder, PackStore, Said, StoreCounts, unproved_in};
 use statistics::{Board, CountedWriter, Manner, Stage, Watch, show_progress};

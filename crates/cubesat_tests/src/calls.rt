@@ -1,13 +1,13 @@
 //! Calls that the program doesn't make: without a word, and of commands that need folders where none
 //! are listed.
 use crate::command_lines::{run, run_words};
-use sessions::{Paths, Wanted, is_printed, put_texts};
 use std::fs;
 use std::rt::Files;
 use std::sync::Wait;
 use std::test::Fail;
 use std::thread::Threads;
 use std::time::Clock;
+use test_console::{Paths, Wanted, is_printed, put_texts};
 
 #[test]
 fn no_word_is_refused(rt: HostRuntime) {

@@ -1,11 +1,11 @@
 //! What a command line prints.
 use cubesat::command;
-use sessions::{Paths, Printed, Wanted};
 use std::rt::Files;
 use std::sync::Wait;
 use std::test::Fail;
 use std::thread::Threads;
 use std::time::Clock;
+use test_console::{Paths, Printed, Wanted};
 
 /// What a command line prints.
 pub fn run<R: Files + AllocGlobal + Threads + Wait + Clock + Sync>(

@@ -1,7 +1,5 @@
 //! An answer comes only behind its proof.
 use cubesat::command;
-use samples::{FOUR, FOUR_PROOF};
-use sessions::Parts;
 use std::io;
 use std::io::Write;
 use std::rt::Files;
@@ -9,6 +7,8 @@ use std::sync::Wait;
 use std::test::Fail;
 use std::thread::Threads;
 use std::time::Clock;
+use test_console::Parts;
+use test_samples::{FOUR, FOUR_PROOF};
 
 /// A writer of an answer that looks, as each piece comes, whether the proof is in its place.
 struct Looking<'a, R> {

@@ -1,14 +1,14 @@
 //! A proof that would be written over the answer.
 use crate::command_lines::run;
-use samples::FOUR;
-use sessions::fake::Fake;
-use sessions::{Wanted, is_printed, path_of};
 use std::fs;
 use std::rt::Files;
 use std::sync::Wait;
 use std::test::Fail;
 use std::thread::Threads;
 use std::time::Clock;
+use test_console::fake::Fake;
+use test_console::{Wanted, is_printed, path_of};
+use test_samples::FOUR;
 
 /// Whether `solve` refuses to write the proof to this file, where the answer goes, and leaves it.
 fn keeps_answer<R: Files + AllocGlobal + Threads + Wait + Clock + Sync>(

@@ -1,14 +1,14 @@
 //! Where what is shown of a run can't be printed, all else stays as it is.
 use cubesat::{Screen, command_on};
-use samples::EIGHT;
-use samples::faulty::{Limited, Limits};
-use sessions::{Paths, put_texts};
 use std::fs;
 use std::rt::Files;
 use std::sync::Wait;
 use std::test::Fail;
 use std::thread::Threads;
 use std::time::Clock;
+use test_console::{Paths, put_texts};
+use test_samples::EIGHT;
+use test_samples::faulty::{Limited, Limits};
 
 /// The proof of the eight clauses at budgets that exhaust the root.
 const SPLIT: &str =

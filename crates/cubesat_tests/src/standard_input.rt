@@ -1,15 +1,15 @@
 //! A formula of standard input that comes byte after byte, and of one that fails.
 use crate::command_lines::REFUTED;
 use cubesat::{Console, Screen, command_with_input};
-use samples::faulty::Trickle;
-use samples::{FOUR, FOUR_PROOF};
-use sessions::{Paths, Printed, is_printed, put_texts};
 use std::fs;
 use std::rt::Files;
 use std::sync::Wait;
 use std::test::Fail;
 use std::thread::Threads;
 use std::time::Clock;
+use test_console::{Paths, Printed, is_printed, put_texts};
+use test_samples::faulty::Trickle;
+use test_samples::{FOUR, FOUR_PROOF};
 
 /// What a command line prints that reads this input.
 fn run_with<R: Files + AllocGlobal + Threads + Wait + Clock + Sync>(

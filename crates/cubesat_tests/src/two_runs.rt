@@ -2,8 +2,6 @@
 //! of one that was killed.
 use crate::command_lines::REFUTED;
 use cubesat::{Console, Locks, Screen, SystemLocks, command_in_folders};
-use samples::{FOUR, FOUR_PROOF};
-use sessions::{Parts, Printed, Wanted, is_filled};
 use std::fs;
 use std::io::empty;
 use std::rt::Files;
@@ -11,6 +9,8 @@ use std::sync::Wait;
 use std::test::Fail;
 use std::thread::Threads;
 use std::time::Clock;
+use test_console::{Parts, Printed, Wanted, is_filled};
+use test_samples::{FOUR, FOUR_PROOF};
 
 /// What the program prints of a run that writes the proof.
 fn run<R: Files + AllocGlobal + Threads + Wait + Clock + Sync + Clone + Drop, L: Locks<R::File>>(

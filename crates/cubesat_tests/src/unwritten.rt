@@ -2,15 +2,15 @@
 //! flushed, whatever is shown of the run; and what is left in the proof's file.
 use crate::command_lines::run_words;
 use cubesat::command;
-use samples::faulty::{Full, Limited, Limits, UNFLUSHED};
-use samples::{FOUR, FOUR_PROOF};
-use sessions::fake::{Call, Fake};
-use sessions::{Known, Parts, Paths, put_texts};
 use std::rt::Files;
 use std::sync::Wait;
 use std::test::Fail;
 use std::thread::Threads;
 use std::time::Clock;
+use test_console::fake::{Call, Fake};
+use test_console::{Known, Parts, Paths, put_texts};
+use test_samples::faulty::{Full, Limited, Limits, UNFLUSHED};
+use test_samples::{FOUR, FOUR_PROOF};
 
 /// The proof's text before and behind a command line over the four clauses, what the writer of its
 /// answer refuses, the status, and what is known of what is said.

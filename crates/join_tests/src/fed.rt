@@ -10,9 +10,9 @@ use cubes::{Node, Tree, solve_one_by_plan};
 use join::{Joiner, Kind, ProofLine};
 use lines::Row;
 use lrat::{write_clause, write_deletion};
-use samples::{EIGHT, FOUR, FOUR_UNUSED, SIXTEEN};
 use std::alloc::{AllocError, Global};
 use std::test::Fail;
+use test_samples::{EIGHT, FOUR, FOUR_UNUSED, SIXTEEN};
 
 /// A formula, a budget, and the lines; a line `node` stands where one is taken.
 type Case = (&'static str, u32, &'static [u8]);

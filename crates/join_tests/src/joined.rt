@@ -7,9 +7,9 @@ use cnf::{Formula, read_formula};
 use cubes::{solve_one, solve_one_by_plan};
 use join::{Lines, ProofLine, join, proof_bytes};
 use lrat::read_proof;
-use samples::{EIGHT, FOUR, FOUR_PURE, FOUR_UNUSED, SIXTEEN};
 use std::alloc::{AllocError, Global};
 use std::test::Fail;
+use test_samples::{EIGHT, FOUR, FOUR_PURE, FOUR_UNUSED, SIXTEEN};
 
 // all eight clauses over three variables, with a fourth that no clause has
 const EIGHT_UNUSED: &str =

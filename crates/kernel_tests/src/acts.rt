@@ -7,9 +7,9 @@ ghost use Rattle.theory.specs.Trails.{literals, entry_of};
 use crate::forgetting::forget;
 use cnf::{Lit, read_formula};
 use kernel::{Closed, Cube, Entry, Order, SearchKernel};
-use samples::cube_of;
 use std::alloc::{AllocError, Global};
 use std::test::Fail;
+use test_samples::cube_of;
 
 pub fn opened(alloc: Global, text: &[u8], numbers: &[i32]) -> Result<SearchKernel, Fail> {
     let formula = read_formula(alloc, text)?;

@@ -11,9 +11,9 @@ use crate::scan::Scan;
 use crate::visits::thousand;
 use cnf::{Formula, Lit, read_formula};
 use kernel::{Closed, Cube, Order, SearchKernel};
-use samples::cube_of;
 use std::alloc::{AllocError, Global};
 use std::test::Fail;
+use test_samples::cube_of;
 
 /// An operation of a run.
 #[derive(Clone, Copy)]

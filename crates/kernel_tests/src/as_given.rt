@@ -7,9 +7,9 @@ use crate::acts;
 use crate::acts::is_entry;
 use cnf::{Lit, read_formula};
 use kernel::{Closed, Cube, Entry, Kernel};
-use samples::{cube_of, reads};
 use std::alloc::{AllocError, Global};
 use std::test::Fail;
+use test_samples::{cube_of, reads};
 
 /// A kernel at the root, with these units behind the clauses.
 fn opened(alloc: Global, text: &[u8], units: &[i32]) -> Result<Kernel, Fail> {

@@ -1,9 +1,9 @@
 //! Worked look-ups: values, entries, levels and the least free variable; and cubes.
 use crate::acts::{Act, acts, decide, opened};
 use kernel::{Closed, Cube, SearchKernel};
-use samples::{cube_of, reads};
 use std::alloc::{AllocError, Global};
 use std::test::Fail;
+use test_samples::{cube_of, reads};
 
 /// What look-ups answer after propagation came to rest: the level, the least free variable, and the
 /// values of the numbers from 0 on.

@@ -2,7 +2,7 @@
 //! with what was learnt before where that is kept.
 use crate::acts::{Act, Case, Opening, Row};
 use kernel::Closed;
-use samples::FOUR;
+use test_samples::FOUR;
 
 pub static CASES: [Case; 4] = [
     // The search of the root, a decision, a conflict, and a clause learnt as the fifth; the two

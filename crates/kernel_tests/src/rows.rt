@@ -2,10 +2,10 @@
 use crate::acts::{Act, Case, Opening, Row, failed_row};
 use crate::{entry_units, forgetting, restarts, units};
 use kernel::Closed;
-use samples::{EIGHT, FOUR};
 use std::alloc::Global;
 use std::process::Abort;
 use std::test::Fail;
+use test_samples::{EIGHT, FOUR};
 
 static DECISIONS: [Case; 5] = [
     Case {

@@ -11,9 +11,9 @@ use crate::forgetting::{forget, is_reason};
 use crate::scan::Scan;
 use cnf::{Formula, Lit, read_formula};
 use kernel::{Closed, Cube, Order, SearchKernel};
-use samples::cube_of;
 use std::alloc::{AllocError, Global};
 use std::test::Fail;
+use test_samples::cube_of;
 
 /// A kernel, and the scan that goes along with it.
 #[derive(Drop)]

@@ -1,10 +1,10 @@
 //! Worked rows of the checker, each from the bytes of a formula and of a proof.
 use cnf::read_formula;
 use lrat::{CheckFault, check, read_proof};
-use samples::{FOUR, WIDE};
 use std::alloc::Global;
 use std::process::Abort;
 use std::test::Fail;
+use test_samples::{FOUR, WIDE};
 
 /// A name, a formula, a proof, and what checking comes to: the number of the fault and its step, or
 /// 0 and 0.

@@ -2,10 +2,10 @@
 //! comes of a worked one by another byte at one place.
 use cnf::{Formula, Lit, read_formula};
 use lrat::{Addition, Group, Step, check, read_proof};
-use samples::FOUR_UNUSED;
 use std::alloc::{AllocError, Global};
 use std::process::Abort;
 use std::test::Fail;
+use test_samples::FOUR_UNUSED;
 
 /// A number and its clause.
 #[derive(Drop)]

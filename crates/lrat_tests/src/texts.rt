@@ -1,10 +1,10 @@
 //! Worked rows of steps and of the text of proofs.
 use cnf::Lit;
 use lrat::{Addition, Deletion, Group, Step, TextFault, read_proof, write_step};
-use samples::reads;
 use std::alloc::{AllocError, Global};
 use std::process::Abort;
 use std::test::Fail;
+use test_samples::reads;
 
 /// What a text's fault is, if it has one.
 fn fault_of(alloc: Global, text: &[u8]) -> Option<TextFault> {

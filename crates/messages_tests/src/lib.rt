@@ -1,5 +1,4 @@
-//! The words of faults, byte for byte, what is kept of readers and writers that are looked at, and
-//! the text that proofs are read as.
+//! The words of faults, byte for byte, and the text that proofs are read as.
 #![tactic(auto)]
 
 #[cfg(test)]
@@ -10,7 +9,5 @@ mod files;
 mod forms;
 #[cfg(test)]
 mod formulas;
-#[cfg(test)]
-mod kept;
 #[cfg(test)]
 mod proofs;

@@ -7,8 +7,8 @@ use Rattle.theory.specs.Pure.{searched}
 use Rattle.theory.specs.Beginnings.{begun_by}
 use Rattle.theory.specs.Learning.{Line}
 use Rattle.theory.specs.Checked.{IsLeastSplit, IsCheckedSplit, AreCheckedLines}
-use Rattle.replay.specs.declared.splits.LeastSplits.{LeastSplits}
-use Rattle.replay.specs.Opened.{with_units}
+use Rattle.packs.specs.declared.replay.splits.LeastSplits.{LeastSplits}
+use Rattle.packs.specs.Opened.{with_units}
 use Rattle.packs.specs.Checking.{units_by, IsSplitting}
 
 -- where least splits are looked for, the search is the ordered one

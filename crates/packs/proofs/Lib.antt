@@ -1,3 +1,9 @@
+pub mod ForgottenLemmas
+pub mod KnownLemmas
+pub mod HoldingLemmas
+pub mod PastLines
+pub mod ReplayedLemmas
+pub mod SplitLemmas
 pub mod FrameLemmas
 pub mod FactLemmas
 pub mod PackLemmas

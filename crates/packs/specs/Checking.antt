@@ -6,9 +6,9 @@ use Rattle.theory.specs.Plans.{Search, ordered, focused}
 use Rattle.theory.specs.Pure.{pure_literals}
 use Rattle.theory.specs.Beginnings.{begun_by}
 use Rattle.theory.specs.Checked.{IsCheckedSplit, AreCheckedLines}
-use Rattle.replay.specs.Opened.{opened}
-use Rattle.replay.specs.Splits.{IsReady}
-use Rattle.replay.specs.declared.splits.LeastSplits.{LeastSplits}
+use Rattle.packs.specs.Opened.{opened}
+use Rattle.packs.specs.Splits.{IsReady}
+use Rattle.packs.specs.declared.replay.splits.LeastSplits.{LeastSplits}
 use Rattle.packs.specs.declared.fact.Claim.{Claim}
 use Rattle.packs.specs.declared.fact.Claim.TheVariants.{Split, Refuted, Model}
 use Rattle.packs.specs.declared.fact.Fact.{Fact}

@@ -4,14 +4,16 @@ ghost use Rattle.theory.specs.Truth.{IsOver};
 ghost use Rattle.theory.specs.Plans.{Search, Constants, ordered, focused};
 ghost use Rattle.theory.specs.Beginnings.{begun_by};
 ghost use Rattle.theory.specs.Checked.{IsCheckedSplit, AreCheckedLines};
-ghost use Rattle.replay.specs.Opened.{opened};
+ghost use Rattle.packs.specs.Opened.{opened};
 ghost use Rattle.packs.specs.Checking.{IsCheckedFact, IsSplitting, IsChecking, units_by};
 
 use crate::fact::{Claim, Fact};
+use crate::replay::holding::is_over;
+use crate::replay::replayer::Replayer;
+use crate::replay::splits::{LeastSplits, is_fit_split};
 use cnf::Formula;
 use kernel::Cube;
 use lines::Row;
-use replay::{LeastSplits, Replayer, is_fit_split, is_over};
 use std::alloc::{AllocError, Global};
 
 /// Checks facts of a formula's cubes, one after the other. It takes memory by the formula's

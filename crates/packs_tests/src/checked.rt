@@ -3,9 +3,9 @@
 use cnf::{Formula, Lit, read_formula};
 use lines::Row;
 use packs::{Claim, Fact, FactChecker};
-use samples::cube_of;
 use std::alloc::{AllocError, Global};
 use std::test::Fail;
+use test_samples::cube_of;
 
 /// All four clauses over two variables.
 static FOUR: &str = "p cnf 2 4\n1 2 0\n1 -2 0\n-1 2 0\n-1 -2 0\n";

@@ -3,10 +3,10 @@ ghost use Rattle.std.specs.Prelude.{◌≡◌};
 
 use cnf::{Formula, Lit, read_formula};
 use lines::Row;
-use replay::Replayer;
-use samples::cube_of;
+use packs::Replayer;
 use std::alloc::{AllocError, Global};
 use std::test::Fail;
+use test_samples::cube_of;
 
 /// A line's clause, its hints, and what it forgets.
 type Line<'a> = (&'a [i32], &'a [u64], &'a [u64]);

@@ -1,11 +1,11 @@
 //! Splits of cubes: which are the least ones, and which are fit.
-ghost use Rattle.replay.specs.Splits.{IsReady};
+ghost use Rattle.packs.specs.Splits.{IsReady};
 
 use cnf::{Formula, read_formula};
-use replay::{LeastSplits, is_fit_split};
-use samples::cube_of;
+use packs::{LeastSplits, is_fit_split};
 use std::alloc::Global;
 use std::test::Fail;
+use test_samples::cube_of;
 
 /// No variable is pure.
 static FORMULA: &str = "p cnf 4 3\n1 2 0\n-1 3 0\n4 1 0\n";

@@ -3,9 +3,9 @@
 use cnf::Lit;
 use lines::Row;
 use packs::{Claim, Fact, Pack, read_pack, write_fact};
-use samples::{cube_of, reads};
 use std::alloc::{AllocError, Global};
 use std::test::Fail;
+use test_samples::{cube_of, reads};
 
 /// A split on 2, a refutation by two lines, and a model.
 static BYTES: [u8; 51] = [

@@ -10,12 +10,12 @@ use crate::diary::{Diary, Home, SameAs};
 use cnf::Lit;
 use kernel::Cube;
 use pool::{Closing, Hand, Pool, Taken, open};
-use samples::has_var;
 use std::alloc::{AllocError, Global};
 use std::snapshot::Snapshot;
 use std::test::*;
 use std::thread;
 use std::thread::{PromisedHandle, Threads};
+use test_samples::has_var;
 
 // how many calls a hand makes
 const TURNS: usize = 25_000;

@@ -4,8 +4,8 @@ ghost use Rattle.theory.specs.Ledger.{IsFit};
 
 use cnf::Lit;
 use kernel::Cube;
-use samples::has_var;
 use std::alloc::{AllocError, Global};
+use test_samples::has_var;
 
 /// The cube of these numbers, without those that aren't of a new variable of 1 to `vars`, and of 32
 /// at most.

@@ -5,12 +5,12 @@ use crate::plainly::gathering_of;
 use cdcl::Plan;
 use cubes::HandCount;
 use runs::{RunFault, gather_at_once, run_one};
-use samples::faulty::{Limited, Limits, ROOMY, UNFLUSHED};
-use samples::{FOUR, FOUR_PROOF};
 use std::alloc::{AllocError, Global};
 use std::fmt::Write;
 use std::test::Fail;
 use std::thread::Threads;
+use test_samples::faulty::{Limited, Limits, ROOMY, UNFLUSHED};
+use test_samples::{FOUR, FOUR_PROOF};
 
 const REFUTED: &[u8] = b"s UNSATISFIABLE\n";
 

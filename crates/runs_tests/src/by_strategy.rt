@@ -6,13 +6,13 @@ use cdcl::Plan;
 use cnf::{Limits, read_formula};
 use cubes::{HandCount, OpenGate};
 use runs::{Gathering, Options, RunFault, TimeLimit, answer_with, gather_stored, run_with};
-use samples::{FOUR, FOUR_PROOF};
 use std::alloc::Global;
 use std::sync::Wait;
 use std::test::Fail;
 use std::thread::Threads;
 use std::time::Clock;
 use strategies::{Strategy, Unobserved, chosen};
+use test_samples::{FOUR, FOUR_PROOF};
 
 /// Two clauses and more that make variable 1 true: the ordered search has a conflict before it finds
 /// the first model.

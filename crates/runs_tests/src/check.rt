@@ -2,11 +2,11 @@
 use cnf::Limits;
 use lrat::Variables;
 use runs::{CheckRules, Checked, check_run, check_with};
-use samples::faulty::Trickle;
-use samples::{FOUR, FOUR_PROOF, WIDE, WIDE_PROOF};
 use std::alloc::Global;
 use std::test::Fail;
 use strategies::Unobserved;
+use test_samples::faulty::Trickle;
+use test_samples::{FOUR, FOUR_PROOF, WIDE, WIDE_PROOF};
 
 const ACCEPTED: &str = "accepted\n";
 

@@ -1,9 +1,9 @@
 //! What stands after a fault of checking: readers and writers that fail at each place.
 use cnf::{Place, ReadFault};
 use runs::{Checked, RunFault, check_run};
-use samples::faulty::{Full, Limited, Limits, ROOMY, Trickle, UNFLUSHED};
-use samples::{FOUR, FOUR_PROOF, WIDE_PROOF};
 use std::alloc::Global;
+use test_samples::faulty::{Full, Limited, Limits, ROOMY, Trickle, UNFLUSHED};
+use test_samples::{FOUR, FOUR_PROOF, WIDE_PROOF};
 
 /// A proof over the four clauses, with its line and verdict.
 type Row = (&'static str, &'static str, Checked);

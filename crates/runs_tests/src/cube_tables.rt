@@ -1,9 +1,9 @@
 //! Items of cubes, looked up by cube and in the order of a tree.
 
 use gathering::CubeTable;
-use samples::cube_of;
 use std::alloc::{AllocError, Global};
 use std::test::Fail;
+use test_samples::cube_of;
 
 /// The cubes of the items 0 to 3, in the order in which they are put in.
 static CUBES: [&[i32]; 4] = [&[], &[-1], &[1], &[-1]];

@@ -5,12 +5,12 @@ use crate::plainly::run_plainly;
 use cdcl::Plan;
 use cubes::HandCount;
 use runs::RunFault;
-use samples::{EIGHT, FIVE, soon_stable};
 use std::alloc::Global;
 use std::sync::Wait;
 use std::test::Fail;
 use std::thread::Threads;
 use std::time::Clock;
+use test_samples::{EIGHT, FIVE, soon_stable};
 
 /// A formula, a plan, and what a run writes.
 struct Row {

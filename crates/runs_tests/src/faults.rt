@@ -3,12 +3,12 @@
 use cnf::{Place, ReadFault};
 use cubes::{HandCount, OpenGate};
 use runs::{RunFault, Verdict, run, run_one};
-use samples::faulty::{Full, Limited, Limits, ROOMY, Trickle, UNFLUSHED};
-use samples::{FOUR, FOUR_PROOF};
 use std::alloc::Global;
 use std::sync::Wait;
 use std::thread::Threads;
 use std::time::Clock;
+use test_samples::faulty::{Full, Limited, Limits, ROOMY, Trickle, UNFLUSHED};
+use test_samples::{FOUR, FOUR_PROOF};
 
 const REFUTED: &[u8] = b"s UNSATISFIABLE\n";
 

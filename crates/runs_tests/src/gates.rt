@@ -3,7 +3,6 @@
 use cubes::Gate;
 use kernel::Cube;
 use runs::{RunFault, Verdict, run};
-use samples::{FOUR, FOUR_PROOF};
 use std::alloc::Global;
 use std::sync::Wait;
 use std::sync::atomic::{AtomicU64, Ordering};
@@ -11,6 +10,7 @@ use std::test::Fail;
 use std::thread;
 use std::thread::Threads;
 use std::time::Clock;
+use test_samples::{FOUR, FOUR_PROOF};
 
 /// How often a hand that is held looks. Then the gate lets it go, and the test fails.
 const TURNS: u32 = 1 << 24;

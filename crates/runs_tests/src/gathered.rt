@@ -9,10 +9,10 @@ use cnf::read_formula;
 use cubes::HandCount;
 use packs::{Fact, read_pack};
 use runs::{gather_at_once, gather_stored};
-use samples::{FOUR, FOUR_PROOF};
 use std::alloc::{AllocError, Global};
 use std::test::Fail;
 use std::thread::Threads;
+use test_samples::{FOUR, FOUR_PROOF};
 
 /// The cube without literals is split on 1, or on 2, or on 3.
 const SPLIT_1: &[u8] = &[0, 2, 1, 0, 0];

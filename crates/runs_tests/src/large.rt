@@ -7,13 +7,13 @@ use runs::{
     CheckRules, Checked, Options, RunFault, TimeLimit, Verdict, answer_with, check_run, check_with,
     run_with,
 };
-use samples::{FOUR, FOUR_PROOF};
 use std::alloc::Global;
 use std::sync::Wait;
 use std::test::Fail;
 use std::thread::Threads;
 use std::time::Clock;
 use strategies::{Strategy, Unobserved};
+use test_samples::{FOUR, FOUR_PROOF};
 
 /// One more variable than the standard limits allow, and two clauses that refute it.
 const WIDE: &[u8] = b"p cnf 262144 2\n1 0\n-1 0\n";

@@ -6,14 +6,14 @@ use cdcl::Plan;
 use cnf::{Place, ReadFault};
 use cubes::{HandCount, OpenGate};
 use runs::{Limit, Options, RunFault, Verdict, run_with};
-use samples::faulty::{Limited, Limits};
-use samples::{FOUR, FOUR_PROOF};
 use std::alloc::Global;
 use std::sync::Wait;
 use std::sync::atomic::{AtomicU64, Ordering};
 use std::thread::Threads;
 use std::time::Clock;
 use strategies::{Strategy, Unobserved};
+use test_samples::faulty::{Limited, Limits};
+use test_samples::{FOUR, FOUR_PROOF};
 
 /// A limit that is reached once it was asked so often.
 #[derive(Drop)]

@@ -7,13 +7,13 @@ ghost use Rattle.std.specs.Prelude.{◌≤◌};
 
 use cubes::OpenGate;
 use runs::{RunFault, Verdict, run, run_one};
-use samples::faulty::{Limited, Limits};
 use std::alloc::{AllocError, Global};
 use std::fmt::Write;
 use std::sync::Wait;
 use std::test::Fail;
 use std::thread::Threads;
 use std::time::Clock;
+use test_samples::faulty::{Limited, Limits};
 
 const PIGEONS: u32 = 7;
 

@@ -3,11 +3,11 @@
 use cnf::{Formula, read_formula};
 use lrat::{check, read_proof};
 use runs::check_run;
-use samples::faulty::Trickle;
-use samples::{FOUR, WIDE, WIDE_PROOF};
 use std::alloc::{AllocError, Global};
 use std::process::Abort;
 use std::test::Fail;
+use test_samples::faulty::Trickle;
+use test_samples::{FOUR, WIDE, WIDE_PROOF};
 
 /// A step without consequences, a deletion and a conflict.
 const THREE_STEPS: &str = "5 1 0 -3 1 -4 2 0\n5 d 1 2 0\n6 0 5 3 4 0\n";

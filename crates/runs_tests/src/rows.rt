@@ -3,12 +3,12 @@ ghost use Rattle.std.specs.Prelude.{◌≤◌};
 
 use cubes::{HandCount, OpenGate};
 use runs::{RunFault, Verdict, run, run_one, runs_write_the_same};
-use samples::{EIGHT, FOUR, FOUR_PROOF};
 use std::alloc::Global;
 use std::sync::Wait;
 use std::test::Fail;
 use std::thread::Threads;
 use std::time::Clock;
+use test_samples::{EIGHT, FOUR, FOUR_PROOF};
 
 /// A formula, a budget, its proof and its answer.
 #[derive(Clone, Copy)]

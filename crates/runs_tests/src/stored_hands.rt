@@ -10,10 +10,10 @@ use cubes::HandCount;
 use lines::Row;
 use packs::{Claim, Fact, read_pack};
 use runs::{GatheredFrom, RunFault, gather_stored};
-use samples::{EIGHT, SIXTEEN, TWO_MODELS};
 use std::alloc::{AllocError, Global};
 use std::test::Fail;
 use std::thread::Threads;
+use test_samples::{EIGHT, SIXTEEN, TWO_MODELS};
 
 /// What becomes of the facts of a whole tree.
 #[derive(Clone, Copy)]

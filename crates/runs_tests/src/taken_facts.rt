@@ -9,10 +9,10 @@ use cubes::HandCount;
 use lines::Row;
 use packs::{Claim, Fact};
 use runs::{GatheredFrom, RunFault, gather_at_once, gather_stored};
-use samples::{FOUR, cube_of};
 use std::alloc::{AllocError, Global};
 use std::test::Fail;
 use std::thread::Threads;
+use test_samples::{FOUR, cube_of};
 
 /// What is said of a cube; where it is refuted, by an empty clause with these hints.
 #[derive(Clone, Copy)]

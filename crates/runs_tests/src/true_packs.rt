@@ -9,12 +9,12 @@ use cubes::HandCount;
 use gathering::fact_of;
 use packs::{Claim, read_pack, write_fact};
 use runs::{GatheredFrom, RunFault, Verdict, gather_at_once, gather_stored};
-use samples::{EIGHT, SIXTEEN, TWO_MODELS, cube_of};
 use std::alloc::{AllocError, Global};
 use std::sync::Wait;
 use std::test::Fail;
 use std::thread::Threads;
 use std::time::Clock;
+use test_samples::{EIGHT, SIXTEEN, TWO_MODELS, cube_of};
 
 /// Puts what is so of a cube behind a pack. It answers the variable that the cube is split on.
 fn put_fact(

@@ -4,12 +4,12 @@ ghost use Rattle.std.specs.Prelude.{◌≡◌, ◌++◌, IfOk, string_bytes, cod
 ghost use Rattle.spread.specs.Sums.{sum_of};
 
 use crate::slice::Slice;
+use files::{Destination, WholeFile};
 use sha2::{Digest, Sha256};
 use std::alloc::{AllocError, Global};
 use std::fs::Files;
 use std::io::{Read, Write};
 use std::{fs, io};
-use whole_file::{Destination, WholeFile};
 
 /// The folder of a run.
 #[derive(Clone, Copy)]

@@ -9,8 +9,7 @@ ghost use Rattle.spread.specs.OpenCubes.{said_in, word_by, is_solved, said_behin
 use cdcl::split;
 use cnf::{Formula, Lit};
 use kernel::Cube;
-use packs::{Claim, Fact};
-use replay::is_fit_split;
+use packs::{Claim, Fact, is_fit_split};
 use std::alloc::{AllocError, Global};
 use std::collections::{HashMap, HashSet};
 

@@ -6,7 +6,7 @@ use crate::folder::{Folder, read_file, write_file};
 use crate::said::{Said, say, say_error, say_no_memory};
 use cnf::{Formula, Lit};
 use kernel::Cube;
-use replay::is_fit_split;
+use packs::is_fit_split;
 use std::alloc::{AllocError, Global};
 use std::fmt::Write as _;
 use std::fs::Files;

@@ -10,8 +10,7 @@ use cnf::Formula;
 use cubes::{CubeSolver, Gate, Watched};
 use gathering::fact_of;
 use kernel::Cube;
-use packs::Fact;
-use replay::is_over;
+use packs::{Fact, is_over};
 use std::alloc::AllocError;
 
 /// Solves a cube, and answers what is said of it: of one that isn't over the formula's variables,

@@ -2,12 +2,12 @@
 use crate::rows::{Row, begin, first_other};
 use cubes::HandCount;
 use runs::{Gathering, Verdict, gather_stored};
-use samples::{FOUR, FOUR_PROOF};
 use spread::{Folder, run_in, store_in};
 use std::fs::Files;
 use std::test::Fail;
 use std::thread::Threads;
 use std::{fs, io};
+use test_samples::{FOUR, FOUR_PROOF};
 
 const RUN: &str = "spread_changed";
 

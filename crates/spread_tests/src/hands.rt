@@ -1,14 +1,14 @@
 //! What several hands read of the packs of a run that they gather.
 use crate::rows::{Row, begin, first_other};
-use samples::FOUR;
-use sessions::clocks::Pace;
-use sessions::fake::Fake;
 use std::fs;
 use std::fs::Files;
 use std::sync::Wait;
 use std::test::Fail;
 use std::thread::Threads;
 use std::time::Clock;
+use test_console::clocks::Pace;
+use test_console::fake::Fake;
+use test_samples::FOUR;
 
 const AHEAD: &str = "spread_ahead";
 

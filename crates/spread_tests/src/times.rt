@@ -1,12 +1,12 @@
 //! Parts by a clock that jumps: when they end, when they write what they found, and how many hands
 //! are at work.
 use crate::rows::{Row, begin, first_other};
-use samples::{FOUR, SIXTEEN};
-use sessions::clocks::{LONG, Meeting, Readings, SHORT, UNREAD};
-use sessions::fake::Fake;
 use std::fs::Files;
 use std::test::Fail;
 use std::{fs, io};
+use test_console::clocks::{LONG, Meeting, Readings, SHORT, UNREAD};
+use test_console::fake::Fake;
+use test_samples::{FOUR, SIXTEEN};
 
 const RUN: &str = "spread_times";
 

@@ -1,9 +1,6 @@
 //! What is said where a run's files, or what a command prints, can't be written.
 use crate::rows::{Row, begin, first_other};
 use cubesat::{Console, NoLocks, Screen, command_in_folders};
-use samples::FOUR;
-use samples::faulty::{Limited, Limits};
-use sessions::fake::{Call, Fake};
 use std::fs;
 use std::fs::Files;
 use std::io::empty;
@@ -11,6 +8,9 @@ use std::sync::Wait;
 use std::test::Fail;
 use std::thread::Threads;
 use std::time::Clock;
+use test_console::fake::{Call, Fake};
+use test_samples::FOUR;
+use test_samples::faulty::{Limited, Limits};
 
 const RUN: &str = "spread_unwritten";
 

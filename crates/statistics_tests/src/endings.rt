@@ -1,12 +1,12 @@
 //! A run that ends between a look at its figures and the line that is due: a terminal doesn't show
 //! it any more.
-use sessions::fake::Fake;
 use statistics::{Board, Manner, Stage, show_progress};
 use std::alloc::Global;
 use std::io;
 use std::io::ErrorKind;
 use std::sync::Wait;
 use std::time::{Clock, Duration};
+use test_console::fake::Fake;
 
 /// A clock that shows a time at which each line is due, and ends the run as it is read.
 #[derive(Drop)]

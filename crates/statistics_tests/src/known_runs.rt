@@ -2,10 +2,10 @@
 use crate::figures::{put_first, put_lowering, some_figures};
 use cdcl::Search;
 use cnf::{Formula, read_formula};
-use samples::FOUR;
 use statistics::{Figures, FormulaSize, Stage, StageEnd, TreeSize, print_statistics};
 use std::alloc::Global;
 use std::test::Fail;
+use test_samples::FOUR;
 
 /// Without a model: five splits and six leaves, with 40 lines in 900 bytes.
 const TREE: TreeSize = TreeSize {

@@ -1,6 +1,4 @@
 //! Between two lines of progress a second passes, also where a look comes late.
-use sessions::clocks::Readings;
-use sessions::fake::Fake;
 use statistics::{Board, Manner, Stage, show_progress};
 use std::alloc::Global;
 use std::io;
@@ -8,6 +6,8 @@ use std::io::Write;
 use std::sync::Wait;
 use std::test::Fail;
 use std::time::Clock;
+use test_console::clocks::Readings;
+use test_console::fake::Fake;
 
 /// What lines of progress are printed to, which ends with so many of them the run that they tell of.
 #[derive(Drop)]

@@ -3,10 +3,10 @@ use crate::figures::{put_first, put_lowering, some_figures};
 use cdcl::{Counts, Search};
 use cnf::read_formula;
 use cubes::{FirstAnswer, FirstSearch};
-use samples::FOUR;
 use statistics::{BeginningCounts, Figures, FormulaSize, Manner, Stage, StageEnd, print_line};
 use std::alloc::Global;
 use std::test::Fail;
+use test_samples::FOUR;
 
 /// What is known of a run beside some figures.
 #[derive(Clone, Copy)]

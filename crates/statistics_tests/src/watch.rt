@@ -3,9 +3,6 @@
 use cdcl::{Counts, Plan};
 use cnf::read_formula;
 use cubes::Gate;
-use samples::{FOUR, cube_of};
-use sessions::clocks::Readings;
-use sessions::fake::Fake;
 use statistics::{
     Board, FormulaSize, Manner, Stage, StageEnd, Watch, print_line, print_statistics,
 };
@@ -15,6 +12,9 @@ use std::sync::Wait;
 use std::test::Fail;
 use std::time::Clock;
 use strategies::{LoweringCounts, Observer, Strategy};
+use test_console::clocks::Readings;
+use test_console::fake::Fake;
+use test_samples::{FOUR, cube_of};
 
 /// What a hand has done in all, with so many conflicts.
 fn counts_of(conflicts: u64) -> Counts {

@@ -1,6 +1,6 @@
 //! `check --stats` by a known clock and a known size of the process.
 use crate::timed::{Row, TIMES};
-use samples::{FOUR, FOUR_PROOF};
+use test_samples::{FOUR, FOUR_PROOF};
 
 /// A check of the proof of the four clauses.
 const CHECKED: Row = Row {

@@ -1,12 +1,12 @@
 //! `--stats` of runs that divide a formula, by a clock that a test sets. What the looks do is worked
 //! out in the tests of `cubes`, and what the searches do is from a program of its own.
 use crate::timed::{PROCESS, Row, SPLIT, holds, told_by};
-use samples::{EIGHT, FOUR, HARD_EIGHT, HARD_FOUR};
-use sessions::clocks::{Readings, UNREAD};
-use sessions::fake::Fake;
-use sessions::{Paths, path_of};
 use std::fs;
 use std::test::Fail;
+use test_console::clocks::{Readings, UNREAD};
+use test_console::fake::Fake;
+use test_console::{Paths, path_of};
+use test_samples::{EIGHT, FOUR, HARD_EIGHT, HARD_FOUR};
 
 /// At a run's beginning, at the end of reading, when the first search is asked and when the look at
 /// the first cube ends; before and after the first cube and its halves, which hands take; and at the

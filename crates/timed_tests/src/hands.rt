@@ -1,15 +1,15 @@
 //! As many hands are at work as are asked for, with a proof and without one.
 use cubesat::command;
-use samples::EIGHT;
-use sessions::Paths;
-use sessions::clocks::{LONG, Meeting, SHORT};
-use sessions::fake::Fake;
 use std::fs;
 use std::rt::Files;
 use std::sync::Wait;
 use std::test::Fail;
 use std::thread::Threads;
 use std::time::Clock;
+use test_console::Paths;
+use test_console::clocks::{LONG, Meeting, SHORT};
+use test_console::fake::Fake;
+use test_samples::EIGHT;
 
 /// What `--stats` tells of hands: how many there are, how many of them solved a cube, and how many
 /// cubes were solved.

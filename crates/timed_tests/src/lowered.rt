@@ -1,9 +1,9 @@
 //! `solve --stats` of runs that lower a model, by a clock that a test sets.
 use crate::timed::{FOCUSED_TIMES, Row, SPLIT, holds};
-use sessions::Paths;
-use sessions::clocks::Readings;
-use sessions::fake::Fake;
 use std::test::Fail;
+use test_console::Paths;
+use test_console::clocks::Readings;
+use test_console::fake::Fake;
 
 /// At a run's beginning, when its limit of ten seconds begins, at the end of reading, before the search
 /// that is made first, the focused one, the first question and the second.

@@ -3,11 +3,11 @@
 use crate::lowered::HIGHER;
 use crate::slow_runs::{SOLVED, SlowRun, holds};
 use cubesat::Screen;
-use samples::{EIGHT, FOUR, FOUR_PROOF, HARD_EIGHT};
-use sessions::Paths;
-use sessions::clocks::{LONG, Pace};
-use sessions::fake::Fake;
 use std::test::Fail;
+use test_console::Paths;
+use test_console::clocks::{LONG, Pace};
+use test_console::fake::Fake;
+use test_samples::{EIGHT, FOUR, FOUR_PROOF, HARD_EIGHT};
 
 /// No proof is asked for.
 const UNPROVED: SlowRun = SlowRun {

@@ -1,10 +1,5 @@
 //! `--seconds`: a run by a clock that jumps ends where the limit is reached, and nowhere else.
 use cubesat::command;
-use samples::faulty::{Full, Limited, Limits, ROOMY, UNFLUSHED};
-use samples::{FOUR, FOUR_PROOF};
-use sessions::clocks::{Readings, UNREAD};
-use sessions::fake::Fake;
-use sessions::{Parts, put_texts};
 use std::alloc::{AllocError, Global};
 use std::fmt::Write;
 use std::rt::Files;
@@ -12,6 +7,11 @@ use std::sync::Wait;
 use std::test::Fail;
 use std::thread::Threads;
 use std::time::Clock;
+use test_console::clocks::{Readings, UNREAD};
+use test_console::fake::Fake;
+use test_console::{Parts, put_texts};
+use test_samples::faulty::{Full, Limited, Limits, ROOMY, UNFLUSHED};
+use test_samples::{FOUR, FOUR_PROOF};
 
 /// A formula, or all clauses over twelve variables, a command line but for its hands, what the clock shows in milliseconds, what the
 /// writer of the answer refuses, the status, the answer, and the text of the proof's file behind a

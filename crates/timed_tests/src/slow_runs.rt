@@ -1,10 +1,6 @@
 //! Runs by a clock that goes on only while a read waits for lines of progress. So they take seconds
 //! by their clock and no time, and print the same each time.
 use cubesat::{Console, Screen, command_with_input};
-use samples::FOUR;
-use sessions::Paths;
-use sessions::clocks::{LONG, Pace};
-use sessions::fake::{FakeFile, STATUS};
 use std::alloc::Global;
 use std::io::{ErrorKind, Write};
 use std::rt::Files;
@@ -13,6 +9,10 @@ use std::test::Fail;
 use std::thread::Threads;
 use std::time::Clock;
 use std::{fs, io, thread};
+use test_console::Paths;
+use test_console::clocks::{LONG, Pace};
+use test_console::fake::{FakeFile, STATUS};
+use test_samples::FOUR;
 
 /// What answers and faults are printed to, one behind the other. A pace is told of each line that
 /// ends, by a line feed or by the letter that ends the order to erase the rest of a line.

@@ -2,17 +2,17 @@
 //! runs that fail.
 use crate::checks;
 use cubesat::command;
-use samples::faulty::{Limited, Limits};
-use samples::{EIGHT, FOUR};
-use sessions::clocks::{Readings, UNREAD};
-use sessions::fake::Fake;
-use sessions::{Paths, path_of};
 use std::fs;
 use std::rt::Files;
 use std::sync::Wait;
 use std::test::Fail;
 use std::thread::Threads;
 use std::time::Clock;
+use test_console::clocks::{Readings, UNREAD};
+use test_console::fake::Fake;
+use test_console::{Paths, path_of};
+use test_samples::faulty::{Limited, Limits};
+use test_samples::{EIGHT, FOUR};
 
 /// What the clock shows at a run's beginning and at the end of each stage, in milliseconds.
 pub(crate) const TIMES: [u64; 6] = [5_000, 6_234, 8_284, 8_291, 69_291, UNREAD];

@@ -1,14 +1,14 @@
 //! No progress is shown where that isn't asked for.
 use crate::slow_runs::{SOLVED, SlowRun, printed};
 use cubesat::Screen;
-use sessions::Paths;
-use sessions::clocks::{Pace, SHORT};
-use sessions::fake::Fake;
 use std::rt::Files;
 use std::sync::Wait;
 use std::test::Fail;
 use std::thread::Threads;
 use std::time::Clock;
+use test_console::Paths;
+use test_console::clocks::{Pace, SHORT};
+use test_console::fake::Fake;
 
 /// More lines than come in any of these runs.
 const MANY: u64 = 100;

@@ -1,5 +1,5 @@
 use Rattle.std.proofs.Common.{ap}
-use Rattle.replay.specs.Opened.{Opened}
+use Rattle.packs.specs.Opened.{Opened}
 use Rattle.packs.proofs.CheckedSplits.{lines-answer}
 use Rattle.packs.proofs.checker.are_checked_lines.Goals as goal
 

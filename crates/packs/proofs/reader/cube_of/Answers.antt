@@ -6,8 +6,8 @@ use Rattle.theory.specs.Truth.{IsOver}
 use Rattle.trail.proofs.Cubes.{IsCube-push}
 use Rattle.lrat.specs.Held.{value_in}
 use Rattle.lrat.proofs.Values.{value-none}
-use Rattle.replay.specs.Known.{IsHolding}
-use Rattle.replay.proofs.HoldingLemmas.{cube-free, IsHolding-more, free-same}
+use Rattle.packs.specs.Known.{IsHolding}
+use Rattle.packs.proofs.HoldingLemmas.{cube-free, IsHolding-more, free-same}
 use Rattle.packs.proofs.UnheldVariables.{unheld}
 use Rattle.packs.proofs.reader.cube_of.Goals as goal
 

@@ -1,7 +1,7 @@
 use Rattle.std.proofs.Common.{◌≡◌, take}
 use Rattle.theory.specs.Literals.{IsCube}
 use Rattle.theory.specs.Truth.{IsOver}
-use Rattle.replay.specs.Known.{IsHolding}
+use Rattle.packs.specs.Known.{IsHolding}
 use Rattle.packs.proofs.reader.cube_of.Given as goal
 
 -- the literals so far are a cube, and are held

@@ -1,4 +1,4 @@
-use Rattle.replay.specs.Splits.{IsReady}
+use Rattle.packs.specs.Splits.{IsReady}
 use Rattle.packs_tests.proofs.splits.first_of.Given as goal
 
 -- it stays open for the formula

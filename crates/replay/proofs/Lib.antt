@@ -1,6 +1,0 @@
-pub mod ForgottenLemmas
-pub mod KnownLemmas
-pub mod HoldingLemmas
-pub mod PastLines
-pub mod ReplayedLemmas
-pub mod SplitLemmas
