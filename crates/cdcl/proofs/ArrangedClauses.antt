@@ -10,7 +10,7 @@ use Rattle.theory.proofs.literals.RisingSets.{IsRising, IsOneSigned, IsRising-fi
 use Rattle.theory.proofs.trails.TrailEntries.{literals-distinct}
 use Rattle.kernel.specs.State.{State}
 use Rattle.kernel.proofs.Arranged.{has-permuted}
-use Rattle.cdcl.specs.declared.marks.Marks.{Marks}
+use Rattle.cdcl.specs.declared.analysis.marks.Marks.{Marks}
 use Rattle.cdcl.specs.Marks.{IsSet, CanResolve}
 use Rattle.cdcl.proofs.PlaceLemmas.{false-below}
 

@@ -12,8 +12,8 @@ use Rattle.theory.proofs.literals.OverVariables.{AreOver-from_IsOver}
 use Rattle.theory.proofs.literals.LiteralLemmas.{and-right, or-cases, or-left}
 use Rattle.theory.proofs.literals.LiteralSets.{true_false, false_unless, and-true, literal_of_var, has_var-has}
 use Rattle.kernel.specs.State.{State}
-use Rattle.cdcl.specs.declared.marks.Marks.{Marks}
-use Rattle.cdcl.specs.declared.removing.Removing.{Removing}
+use Rattle.cdcl.specs.declared.analysis.marks.Marks.{Marks}
+use Rattle.cdcl.specs.declared.analysis.minimize.Minimizer.{Minimizer}
 use Rattle.cdcl.specs.Marks.{IsSet, IsMarked, is_open, latest_from}
 use Rattle.cdcl.specs.Numbers.{is_one_of, StandOnce}
 use Rattle.cdcl.specs.Removing.{removable_of, IsBetween, IsKnown, KnowsAll, is_awaited, WaitsFor}
@@ -99,7 +99,7 @@ once-fresh xs i d once less = false_unless (is_one_of (take i xs) (get_or xs i d
     omega (arith, one, parts, first, more, here)))
 
 -- a variable of the set is removable where it is known to be
-knows-removable : (k : State) (S : Clause) (marked : List Bool) (n : ℕ) (a : Removing) (d : Entry) → IsLawful k.clauses k.trail → IsMarked k S marked n → IsKnown k S a → KnowsAll k S a
+knows-removable : (k : State) (S : Clause) (marked : List Bool) (n : ℕ) (a : Minimizer) (d : Entry) → IsLawful k.clauses k.trail → IsMarked k S marked n → IsKnown k S a → KnowsAll k S a
     → entry_of k.trail d.lit.var ≡ Some d → has_var S d.lit.var ≡ true → has_var (removable_of k S) d.lit.var ≡ is_one_of a.removable.numbers d.lit.var
 knows-removable k S marked n a d lawful m known all there is_in = go (is_one_of a.removable.numbers d.lit.var) refl
   where
@@ -114,7 +114,7 @@ knows-removable k S marked n a d lawful m known all there is_in = go (is_one_of 
         ]))
 
 -- so all places wait where the set is resolved below the current level
-pub IsSet-awaited : (k : State) (S : Clause) (a : Removing) (old new : Marks) → IsLawful k.clauses k.trail → 1 ≤ current_level k.trail → IsSet k [] S (latest_from k.trail) old → IsKnown k S a → KnowsAll k S a
+pub IsSet-awaited : (k : State) (S : Clause) (a : Minimizer) (old new : Marks) → IsLawful k.clauses k.trail → 1 ≤ current_level k.trail → IsSet k [] S (latest_from k.trail) old → IsKnown k S a → KnowsAll k S a
     → new.marked ≡ old.marked → new.current ≡ old.current → new.seen ≡ old.seen → WaitFor k.trail old.marked.items a.removable.numbers old.pending new.pending → IsSet k (removable_of k S) S (latest_from k.trail) new
 IsSet-awaited k S a old new lawful above h known all marked current seen waits = record {
   is = rw (marked, current) h.is;
@@ -167,7 +167,7 @@ IsSet-awaited k S a old new lawful above h known all marked current seen waits =
         cases true s = rw (h.is.marks d.lit.var ∙ s) (removed s (is_one_of a.removable.numbers d.lit.var) refl)
 
 -- what is known to be removable is one of the variables
-pub known-variable : (k : State) (S : Clause) (a : Removing) (v : ℕ) → IsOver k.vars (literals k.trail) → IsKnown k S a → is_one_of a.removable.numbers v ≡ true → v ≤ k.vars
+pub known-variable : (k : State) (S : Clause) (a : Minimizer) (v : ℕ) → IsOver k.vars (literals k.trail) → IsKnown k S a → is_one_of a.removable.numbers v ≡ true → v ≤ k.vars
 known-variable k S a v over known t =
     let m = literal_of_var (removable_of k S) v (known.removable v t) in
     elim (removable-from k.clauses k.trail S k.trail [] m.0 m.1) [

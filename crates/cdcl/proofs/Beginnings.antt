@@ -17,7 +17,7 @@ use Rattle.kernel.specs.State.{State}
 use Rattle.kernel.specs.declared.order.Order.{Order}
 use Rattle.kernel.specs.declared.order.Order.TheVariants.{ByNumber}
 use Rattle.cdcl.specs.Searching.{IsReady, IsSearching, Begins, search_of}
-use Rattle.cdcl.specs.declared.ordered.OrderedSearch.{OrderedSearch}
+use Rattle.cdcl.specs.declared.search.ordered.OrderedSearch.{OrderedSearch}
 use Rattle.theory.proofs.literals.CubeLiterals.{IsCube-from}
 use Rattle.lookahead.proofs.TrailLengths.{IsDistinctFrom-lawful}
 

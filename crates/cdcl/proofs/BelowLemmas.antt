@@ -14,7 +14,7 @@ use Rattle.theory.proofs.searching.Walks.{entry-place}
 use Rattle.theory.proofs.trails.TrailLevels.{level_of-before}
 use Rattle.kernel.specs.State.{State}
 use Rattle.kernel.proofs.Arranged.{has-permuted}
-use Rattle.cdcl.specs.declared.marks.Marks.{Marks}
+use Rattle.cdcl.specs.declared.analysis.marks.Marks.{Marks}
 use Rattle.cdcl.specs.Marks.{IsSet, Resolves, is_open, is_resolvable, latest_from}
 use Rattle.cdcl.specs.Removing.{removable_of, HasSettled, AreSettled, is_settled}
 use Rattle.cdcl.proofs.PlaceLemmas.{place-found, place-new, place-split, entry_of-placed}

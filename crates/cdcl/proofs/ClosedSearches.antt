@@ -25,9 +25,9 @@ use Rattle.theory.proofs.searching.Invariants.{Kept, IsInvariant}
 use Rattle.theory.proofs.searching.FocusedRuns.{Keeps, step-goes}
 use Rattle.lookahead.proofs.TrailLengths.{length-Propagates}
 use Rattle.kernel.specs.State.{State}
-use Rattle.cdcl.specs.declared.focused.FocusedSearch.{FocusedSearch}
-use Rattle.cdcl.specs.declared.focused.Stop.{Stop}
-use Rattle.cdcl.specs.declared.focused.Stop.TheVariants.{Ended, Spent}
+use Rattle.cdcl.specs.declared.search.focused.FocusedSearch.{FocusedSearch}
+use Rattle.cdcl.specs.declared.search.focused.Stop.{Stop}
+use Rattle.cdcl.specs.declared.search.focused.Stop.TheVariants.{Ended, Spent}
 use Rattle.cdcl.specs.Saving.{AgreeOutside}
 use Rattle.cdcl.specs.Searching.{formula_of}
 use Rattle.cdcl.specs.Focusing.{state_of, stable_at, HasSaved, HasUnits, IsFocusing, StepsAs, Answers, IsSettled, Closes, Continues, Follows, Onward, IsFocusedSearchStep, next_of}

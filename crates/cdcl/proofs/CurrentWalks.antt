@@ -13,7 +13,7 @@ use Rattle.theory.proofs.trails.TrailEntries.{level-at}
 use Rattle.theory.proofs.searching.WalkParts.{AreOfLevel, walk-append, walk-latest, split-latest}
 use Rattle.theory.proofs.searching.Walks.{at-place}
 use Rattle.kernel.specs.State.{State}
-use Rattle.cdcl.specs.declared.marks.Marks.{Marks}
+use Rattle.cdcl.specs.declared.analysis.marks.Marks.{Marks}
 use Rattle.cdcl.specs.Marks.{IsSet, ArePending, CanLookAt, Resolves, is_open, latest_from}
 use Rattle.cdcl.proofs.PlaceLemmas.{placed-inside, placed-there, entry-read, place-split, reason_used-closed}
 use Rattle.cdcl.proofs.Pending.{IsTop, times-pushed, times-popped, pending-top, pending-none}

@@ -13,8 +13,8 @@ use Rattle.heuristics.specs.Rankings.{Ranking, vars_of}
 use Rattle.heuristics.specs.Averages.{Averages, first_averages}
 use Rattle.kernel.specs.State.{State}
 use Rattle.kernel.specs.declared.order.Order.TheVariants.{ByPlace}
-use Rattle.cdcl.specs.declared.focused.FocusedSearch.{FocusedSearch}
-use Rattle.cdcl.specs.declared.decisions.Decisions.{Decisions}
+use Rattle.cdcl.specs.declared.search.focused.FocusedSearch.{FocusedSearch}
+use Rattle.cdcl.specs.declared.search.decisions.Decisions.{Decisions}
 use Rattle.cdcl.specs.Forgetful.{IsPlain}
 use Rattle.cdcl.specs.Saving.{AreWaiting, AreKept}
 use Rattle.cdcl.specs.Searching.{formula_of, IsReady}

@@ -22,10 +22,10 @@ use Rattle.theory.proofs.searching.SplitSoundness.{Propagates-more, has_var-fron
 use Rattle.theory.proofs.trails.TrailLists.{literals-append}
 use Rattle.kernel.specs.State.{State}
 use Rattle.kernel.specs.declared.order.Order.TheVariants.{ByPlace}
-use Rattle.cdcl.specs.declared.focused.FocusedSearch.{FocusedSearch}
-use Rattle.cdcl.specs.declared.focused.Stop.{Stop}
-use Rattle.cdcl.specs.declared.focused.Stop.TheVariants.{Ended, Spent}
-use Rattle.cdcl.specs.declared.decisions.Decisions.{Decisions}
+use Rattle.cdcl.specs.declared.search.focused.FocusedSearch.{FocusedSearch}
+use Rattle.cdcl.specs.declared.search.focused.Stop.{Stop}
+use Rattle.cdcl.specs.declared.search.focused.Stop.TheVariants.{Ended, Spent}
+use Rattle.cdcl.specs.declared.search.decisions.Decisions.{Decisions}
 use Rattle.cdcl.specs.Outcome.{LinesOutcome, outcome_of}
 use Rattle.cdcl.specs.Saving.{AreWaiting}
 use Rattle.cdcl.specs.Searching.{formula_of}

@@ -15,7 +15,7 @@ use Rattle.theory.specs.Learning.{with_literal}
 use Rattle.theory.proofs.literals.LiteralSets.{Refutes-from_is_false}
 use Rattle.theory.proofs.literals.OverVariables.{AreOver-from_IsOver}
 use Rattle.kernel.specs.State.{State}
-use Rattle.cdcl.specs.declared.marks.Marks.{Marks}
+use Rattle.cdcl.specs.declared.analysis.marks.Marks.{Marks}
 use Rattle.cdcl.specs.Marks.{AreSeen, IsSet, IsClear, CanJoin, CanResolve, is_resolvable}
 use Rattle.cdcl.proofs.PlaceLemmas.{entry_of-placed}
 use Rattle.cdcl.proofs.Pending.{IsTop, pending-more, pending-less, pending-empty, pending-done}

@@ -28,9 +28,9 @@ use Rattle.heuristics.specs.Rankings.{Ranking, after_conflict, vars_of}
 use Rattle.heuristics.specs.Averages.{Averages}
 use Rattle.lookahead.proofs.TrailLengths.{length-lawful}
 use Rattle.kernel.specs.State.{State}
-use Rattle.cdcl.specs.declared.focused.FocusedSearch.{FocusedSearch}
-use Rattle.cdcl.specs.declared.decisions.Decisions.{Decisions}
-use Rattle.cdcl.specs.declared.lesson.Analysis.{Analysis}
+use Rattle.cdcl.specs.declared.search.focused.FocusedSearch.{FocusedSearch}
+use Rattle.cdcl.specs.declared.search.decisions.Decisions.{Decisions}
+use Rattle.cdcl.specs.declared.analysis.analyze.Analysis.{Analysis}
 use Rattle.cdcl.specs.Forgetful.{IsPlain, late_numbers}
 use Rattle.cdcl.specs.Numbers.{is_one_of}
 use Rattle.cdcl.specs.Saving.{AgreeOutside, AreWaiting}

@@ -16,8 +16,8 @@ use Rattle.theory.specs.Rephasing.{Turn, is_over, next_turn, rephased}
 use Rattle.theory.specs.Focused.{saved_after}
 use Rattle.heuristics.specs.Averages.{with_next}
 use Rattle.kernel.specs.State.{State}
-use Rattle.cdcl.specs.declared.focused.FocusedSearch.{FocusedSearch}
-use Rattle.cdcl.specs.declared.lesson.Analysis.{Analysis}
+use Rattle.cdcl.specs.declared.search.focused.FocusedSearch.{FocusedSearch}
+use Rattle.cdcl.specs.declared.analysis.analyze.Analysis.{Analysis}
 use Rattle.cdcl.specs.Forgetful.{late_numbers}
 use Rattle.cdcl.specs.Learnt.{line_of}
 use Rattle.cdcl.specs.Numbers.{is_one_of}

@@ -12,7 +12,7 @@ use Rattle.theory.specs.Lawful.{IsLawful}
 use Rattle.theory.specs.Learning.{walk, with_literals, resolved_by, reason_used, is_of_cube}
 use Rattle.theory.specs.Removing.{first_walk, removable}
 use Rattle.kernel.specs.State.{State}
-use Rattle.cdcl.specs.declared.marks.Marks.{Marks}
+use Rattle.cdcl.specs.declared.analysis.marks.Marks.{Marks}
 use Rattle.cdcl.specs.Marks.{IsSet, latest_from}
 use Rattle.cdcl.proofs.CurrentWalks.{walk-front}
 use Rattle.cdcl.proofs.Pending.{pending-done}

@@ -13,7 +13,7 @@ use Rattle.theory.specs.Scores.{best_outside}
 use Rattle.theory.specs.Focused.{FocusedState, IsFocusedStep, settled, on_quiet, on_conflict, after, decided_next, learnt_next, splits_on}
 use Rattle.theory.specs.Dividing.{LeadsTo, stays, moves}
 use Rattle.theory.proofs.literals.LiteralSets.{true_false}
-use Rattle.cdcl.specs.declared.focused.FocusedSearch.{FocusedSearch}
+use Rattle.cdcl.specs.declared.search.focused.FocusedSearch.{FocusedSearch}
 use Rattle.cdcl.specs.Focusing.{state_of, HasSaved, RunsTo, Reaches}
 use Rattle.cdcl.proofs.NextStates.{learnt_next-flat}
 use Rattle.cdcl.proofs.SettledSearches.{settled-of}

@@ -18,7 +18,7 @@ use Rattle.theory.proofs.trails.TrailLevels.{level_of-before}
 use Rattle.theory.proofs.searching.Walks.{entry-place}
 use Rattle.kernel.specs.State.{State}
 use Rattle.kernel.proofs.Arranged.{has-permuted}
-use Rattle.cdcl.specs.declared.removing.Removing.{Removing}
+use Rattle.cdcl.specs.declared.analysis.minimize.Minimizer.{Minimizer}
 use Rattle.cdcl.specs.Marks.{IsMarked}
 use Rattle.cdcl.specs.Numbers.{NumberSet, is_one_of}
 use Rattle.cdcl.specs.Removing.{removable_of, IsBetween, IsKnown, IsClosed, HasParent, IsAsking, HasRoomFor, IsReasonOf, IsAnswered, Reaches, KnowsStill, reason_at, is_covered_by}
@@ -109,7 +109,7 @@ pub reasonless-kept : (k : State) (S : Clause) (v : ℕ) (e : Entry) → IsLawfu
 reasonless-kept k S v e lawful there none = false_unless (has_var (removable_of k S) v) (λ h. (let r = removable-between k S v e lawful there h in let clash : None ≡ Some r.number = sym none ∙ r.reason in absurd (cc)))
 
 -- more is reached, so more is covered
-covered-by-more : (T : Trail) (marked : List Bool) (a b : Removing) (l : Literal) → b.removable ≡ a.removable → (is_one_of a.reached.numbers l.var ≡ true → is_one_of b.reached.numbers l.var ≡ true)
+covered-by-more : (T : Trail) (marked : List Bool) (a b : Minimizer) (l : Literal) → b.removable ≡ a.removable → (is_one_of a.reached.numbers l.var ≡ true → is_one_of b.reached.numbers l.var ≡ true)
     → is_covered_by T marked a l ≡ true → is_covered_by T marked b l ≡ true
 covered-by-more T marked a b l same more h = rw same (elim (or-cases zeroth _ h) [
   | inl z ↦ or-left zeroth (mark || (known || is_one_of b.reached.numbers l.var)) z
@@ -132,14 +132,14 @@ covered-by-more T marked a b l same more h = rw same (elim (or-cases zeroth _ h)
     known = is_one_of a.removable.numbers l.var
 
 -- one variable more is reached, by the reason of the one at a place
-pub record IsReachedBy (at v : ℕ) (a b : Removing) : Type 0 where
+pub record IsReachedBy (at v : ℕ) (a b : Minimizer) : Type 0 where
   pub reached : b.reached.numbers ≡ a.reached.numbers ++ v ∷ []
   pub parents : b.parents.items ≡ a.parents.items ++ at ∷ []
   pub removable : b.removable ≡ a.removable
   pub kept : b.kept ≡ a.kept
   pub bound : b.reached.bound ≡ a.reached.bound
 
-module _ (at v : ℕ) (a b : Removing) (h : IsReachedBy at v a b) where
+module _ (at v : ℕ) (a b : Minimizer) (h : IsReachedBy at v a b) where
   reached-before : (i : ℕ) → i < length a.reached.numbers → get_or b.reached.numbers i 0 ≡ get_or a.reached.numbers i 0
   reached-before i less = ap (λ (xs : List ℕ). get_or xs i 0) h.reached ∙ get_or-append a.reached.numbers (v ∷ []) 0 i less
 
@@ -156,12 +156,12 @@ module _ (at v : ℕ) (a b : Removing) (h : IsReachedBy at v a b) where
   Reaches-reached = record { many = let long = ap length h.reached ∙ length-append a.reached.numbers (v ∷ []) in omega (arith, long); same = reached-before; bound = h.bound }
 
 -- what is closed stays so
-closed-more : (k : State) (marked : List Bool) (a b : Removing) (v : ℕ) → b.removable ≡ a.removable → ((w : ℕ) → is_one_of a.reached.numbers w ≡ true → is_one_of b.reached.numbers w ≡ true)
+closed-more : (k : State) (marked : List Bool) (a b : Minimizer) (v : ℕ) → b.removable ≡ a.removable → ((w : ℕ) → is_one_of a.reached.numbers w ≡ true → is_one_of b.reached.numbers w ≡ true)
     → IsClosed k marked a v → IsClosed k marked b v
 closed-more k marked a b v same more h = record { between = h.between; others = λ l t. covered-by-more k.trail marked a b l same (more l.var) (h.others l t) }
 
 -- a literal that isn't covered is reached
-pub IsAsking-reached : (k : State) (S : Clause) (marked : List Bool) (n at : ℕ) (a b : Removing) (r : IsBetween k (get_or a.reached.numbers at 0)) (l : Literal) → IsLawful k.clauses k.trail → IsMarked k S marked n
+pub IsAsking-reached : (k : State) (S : Clause) (marked : List Bool) (n at : ℕ) (a b : Minimizer) (r : IsBetween k (get_or a.reached.numbers at 0)) (l : Literal) → IsLawful k.clauses k.trail → IsMarked k S marked n
     → at < length a.reached.numbers → has (without (clause_at k.clauses r.number) r.entry.lit) l ≡ true → nat_eq (level_of k.trail l) 0 ≡ false → slice_index_or marked l.var false ≡ false
     → IsBetween k l.var → IsReachedBy at l.var a b → IsAsking k S marked a at → IsAsking k S marked b at
 IsAsking-reached k S marked n at a b r l lawful m inside other level unmarked between h q = record {
@@ -213,7 +213,7 @@ other-literal k v b c reached l p there a new =
     true_false (is_one_of reached l.var) (ap (is_one_of reached) var ∙ there) new)))
 
 -- one more is closed
-pub IsAsking-closed : (k : State) (S : Clause) (marked : List Bool) (at : ℕ) (a : Removing) (c : Clause) → at < length a.reached.numbers → IsReasonOf k (get_or a.reached.numbers at 0) c
+pub IsAsking-closed : (k : State) (S : Clause) (marked : List Bool) (at : ℕ) (a : Minimizer) (c : Clause) → at < length a.reached.numbers → IsReasonOf k (get_or a.reached.numbers at 0) c
     → ((l : Literal) → has c l ≡ true → is_covered_by k.trail marked a l ≡ true) → IsAsking k S marked a at → IsAsking k S marked a (at + 1)
 IsAsking-closed k S marked at a c inside r covered q = record {
   known = q.known;
@@ -234,7 +234,7 @@ IsAsking-closed k S marked at a c inside r covered q = record {
     go i less (inr high) = let same : i ≡ at = omega (arith, less, high) in subst (λ j. IsClosed k marked a (get_or a.reached.numbers j 0)) (sym same) here
 
 -- where all that was reached is closed, it is removable: what comes first on the trail first
-pub closed-removable : (k : State) (S : Clause) (marked : List Bool) (n : ℕ) (a : Removing) → IsLawful k.clauses k.trail → IsMarked k S marked n → IsAsking k S marked a (length a.reached.numbers)
+pub closed-removable : (k : State) (S : Clause) (marked : List Bool) (n : ℕ) (a : Minimizer) → IsLawful k.clauses k.trail → IsMarked k S marked n → IsAsking k S marked a (length a.reached.numbers)
     → (v : ℕ) → is_one_of a.reached.numbers v ≡ true → has_var (removable_of k S) v ≡ true
 closed-removable k S marked n a lawful m q v t = below (length k.trail) v t (λ e p at var. placed-inside k.trail p e at)
   where
@@ -299,7 +299,7 @@ has-take c i d k less a = elim (has-append_cases (take i c) (get_or c i d ∷ []
   | inr h ↦ elim (has-cases (get_or c i d) k [] h) [ inl e ↦ inr e | inr z ↦ absurd (cc) ]
 ]
 
-pub Reaches-trans : (a b c : Removing) → Reaches a b → Reaches b c → Reaches a c
+pub Reaches-trans : (a b c : Minimizer) → Reaches a b → Reaches b c → Reaches a c
 Reaches-trans a b c h g = record {
   many = let one = h.many in let two = g.many in omega (arith, one, two);
   same = λ i less. (let one = h.many in g.same i (omega (arith, one, less)) ∙ h.same i less);
@@ -307,14 +307,14 @@ Reaches-trans a b c h g = record {
 }
 
 -- what is known of a question goes on with a literal that is covered, and with one that is reached
-pub record GoesThrough (k : State) (marked : List Bool) (n at i : ℕ) (c : Clause) (old now : Removing) : Type 0 where
+pub record GoesThrough (k : State) (marked : List Bool) (n at i : ℕ) (c : Clause) (old now : Minimizer) : Type 0 where
   pub asking : (S : Clause) → IsMarked k S marked n → IsAsking k S marked old at → IsAsking k S marked now at
   pub covered : (l : Literal) → has (take i c) l ≡ true → is_covered_by k.trail marked now l ≡ true
   pub reaches : Reaches old now
   pub known : KnowsStill old now
   pub room : HasRoomFor k.vars now
 
-pub GoesThrough-covered : (k : State) (marked : List Bool) (n at i : ℕ) (c : Clause) (old now : Removing) (l : Literal) → i < length c → l ≡ get_or c i l → is_covered_by k.trail marked now l ≡ true
+pub GoesThrough-covered : (k : State) (marked : List Bool) (n at i : ℕ) (c : Clause) (old now : Minimizer) (l : Literal) → i < length c → l ≡ get_or c i l → is_covered_by k.trail marked now l ≡ true
     → GoesThrough k marked n at i c old now → GoesThrough k marked n at (i + 1) c old now
 GoesThrough-covered k marked n at i c old now l less is covered h = record {
   asking = h.asking;
@@ -324,7 +324,7 @@ GoesThrough-covered k marked n at i c old now l less is covered h = record {
   room = h.room;
 }
 
-pub GoesThrough-reached : (k : State) (marked : List Bool) (n at i : ℕ) (c : Clause) (old now next : Removing) (l : Literal) (e : Entry) (m : ℕ) → IsLawful k.clauses k.trail → at < length old.reached.numbers
+pub GoesThrough-reached : (k : State) (marked : List Bool) (n at i : ℕ) (c : Clause) (old now next : Minimizer) (l : Literal) (e : Entry) (m : ℕ) → IsLawful k.clauses k.trail → at < length old.reached.numbers
     → IsReasonOf k (get_or old.reached.numbers at 0) c → i < length c → l ≡ get_or c i l → has c l ≡ true → is_one_of now.reached.numbers l.var ≡ false → nat_eq (level_of k.trail l) 0 ≡ false
     → slice_index_or marked l.var false ≡ false → entry_of k.trail l.var ≡ Some e → 1 ≤ e.level → e.reason ≡ Some m → IsReachedBy at l.var now next
     → GoesThrough k marked n at i c old now → GoesThrough k marked n at (i + 1) c old next
@@ -361,7 +361,7 @@ GoesThrough-reached k marked n at i c old now next l e m lawful inside reason le
         or-right (nat_eq (level_of k.trail l) 0) _ (or-right (slice_index_or marked l.var false) _ in_reached)
 
 -- a literal that isn't removable
-pub GoesThrough-kept : (k : State) (S : Clause) (marked : List Bool) (n at i : ℕ) (c : Clause) (old now : Removing) (l : Literal) → IsLawful k.clauses k.trail → IsMarked k S marked n → at < length old.reached.numbers
+pub GoesThrough-kept : (k : State) (S : Clause) (marked : List Bool) (n at i : ℕ) (c : Clause) (old now : Minimizer) (l : Literal) → IsLawful k.clauses k.trail → IsMarked k S marked n → at < length old.reached.numbers
     → IsReasonOf k (get_or old.reached.numbers at 0) c → has c l ≡ true → is_one_of now.reached.numbers l.var ≡ false → nat_eq (level_of k.trail l) 0 ≡ false → slice_index_or marked l.var false ≡ false
     → (is_one_of now.kept.numbers l.var ≡ true) ⊎ ((e : Entry) × (entry_of k.trail l.var ≡ Some e) × (e.reason ≡ None)) → GoesThrough k marked n at i c old now → IsAsking k S marked old at
     → IsAnswered k S marked at false now
@@ -387,7 +387,7 @@ GoesThrough-kept k S marked n at i c old now l lawful w inside reason a new leve
     kept (inr r) = reasonless-kept k S l.var r.0 lawful r.1 r.2
 
 -- all literals are covered
-pub GoesThrough-all : (k : State) (S : Clause) (marked : List Bool) (n at i : ℕ) (c : Clause) (old now : Removing) → IsMarked k S marked n → at < length old.reached.numbers
+pub GoesThrough-all : (k : State) (S : Clause) (marked : List Bool) (n at i : ℕ) (c : Clause) (old now : Minimizer) → IsMarked k S marked n → at < length old.reached.numbers
     → IsReasonOf k (get_or old.reached.numbers at 0) c → length c ≤ i → GoesThrough k marked n at i c old now → IsAsking k S marked old at → IsAnswered k S marked at true now
 GoesThrough-all k S marked n at i c old now w inside reason end h q =
     IsAsking-closed k S marked at now c (let many = h.reaches.many in omega (arith, many, inside)) (subst (λ v. IsReasonOf k v c) (sym (h.reaches.same at inside)) reason)
@@ -406,7 +406,7 @@ pub IsReasonOf-arranged : (k : State) (v : ℕ) (b : IsBetween k v) (n : ℕ) (c
 IsReasonOf-arranged k v b n c h p = record { between = b; permuted = subst (λ m. IsPermutation (clause_at k.clauses m) c) (reason-read k v b n h) p }
 
 -- a question that is refused
-pub IsKnown-refused : (k : State) (S : Clause) (marked : List Bool) (at : ℕ) (old new : Removing) → IsAnswered k S marked at false old → new.removable ≡ old.removable
+pub IsKnown-refused : (k : State) (S : Clause) (marked : List Bool) (at : ℕ) (old new : Minimizer) → IsAnswered k S marked at false old → new.removable ≡ old.removable
     → ((p : ℕ → Bool) → p (get_or old.reached.numbers at 0) ≡ false → ((i : ℕ) → 1 ≤ i → i < length old.reached.numbers → p (get_or old.reached.numbers i 0) ≡ false → p (get_or old.reached.numbers (get_or old.parents.items i 0) 0) ≡ false)
     → ((v : ℕ) → is_one_of old.kept.numbers v ≡ true → p v ≡ false) → (v : ℕ) → is_one_of new.kept.numbers v ≡ true → p v ≡ false) → IsKnown k S new
 IsKnown-refused k S marked at old new h removable kept = record {
@@ -415,7 +415,7 @@ IsKnown-refused k S marked at old new h removable kept = record {
 }
 
 -- a question that is accepted
-pub IsKnown-accepted : (k : State) (S : Clause) (marked : List Bool) (n at : ℕ) (old new : Removing) → IsLawful k.clauses k.trail → IsMarked k S marked n → IsAsking k S marked old at → length old.reached.numbers ≤ at
+pub IsKnown-accepted : (k : State) (S : Clause) (marked : List Bool) (n at : ℕ) (old new : Minimizer) → IsLawful k.clauses k.trail → IsMarked k S marked n → IsAsking k S marked old at → length old.reached.numbers ≤ at
     → at ≤ length old.reached.numbers → new.kept ≡ old.kept → ((v : ℕ) → is_one_of new.removable.numbers v ≡ (is_one_of old.reached.numbers v || is_one_of old.removable.numbers v)) → IsKnown k S new
 IsKnown-accepted k S marked n at old new lawful w h end most kept removable = record {
   removable = λ v t. elim (or-cases (is_one_of old.reached.numbers v) (is_one_of old.removable.numbers v) (sym (removable v) ∙ t)) [

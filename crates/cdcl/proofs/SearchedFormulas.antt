@@ -13,8 +13,8 @@ use Rattle.kernel.specs.State.{State}
 use Rattle.kernel.specs.declared.order.Order.{Order}
 use Rattle.cdcl.specs.Plans.{beginning_of}
 use Rattle.cdcl.specs.Searching.{formula_of, IsReady, GoesOn}
-use Rattle.cdcl.specs.declared.plan.Search as declared
-use Rattle.cdcl.specs.declared.plan.Search.TheVariants.{Ordered, Focused}
+use Rattle.cdcl.specs.declared.api.plan.Search as declared
+use Rattle.cdcl.specs.declared.api.plan.Search.TheVariants.{Ordered, Focused}
 
 pub formula-ready : (order : Order) (F : Formula) (k : State) → IsReady order F k → formula_of k ≡ F
 formula-ready order F k h =

@@ -15,9 +15,9 @@ use Rattle.theory.specs.Results.{OutcomeSays}
 use Rattle.theory.proofs.searching.OutcomeLemmas.{RunsBy-says, IsLookedAt-search}
 use Rattle.kernel.specs.State.{State}
 use Rattle.kernel.specs.declared.order.Order.TheVariants.{ByNumber, ByPlace}
-use Rattle.cdcl.specs.declared.ordered.OrderedSearch.{OrderedSearch}
-use Rattle.cdcl.specs.declared.focused.FocusedSearch.{FocusedSearch}
-use Rattle.cdcl.specs.declared.searcher.Searcher.TheVariants.{Ordered, Focused}
+use Rattle.cdcl.specs.declared.search.ordered.OrderedSearch.{OrderedSearch}
+use Rattle.cdcl.specs.declared.search.focused.FocusedSearch.{FocusedSearch}
+use Rattle.cdcl.specs.declared.search.searcher.Searcher.TheVariants.{Ordered, Focused}
 use Rattle.cdcl.specs.Outcome.{LinesOutcome, outcome_of}
 use Rattle.cdcl.specs.Searching.{formula_of, IsReady, search_of}
 use Rattle.cdcl.specs.Searching as ordered_search

@@ -22,7 +22,7 @@ use Rattle.kernel.specs.declared.order.Order.{Order}
 use Rattle.kernel.specs.declared.order.Order.TheVariants.{ByNumber, ByPlace}
 use Rattle.cdcl.specs.Searching.{IsSearching, IsSearchStep, GoesOn, search_of, next_of}
 use Rattle.cdcl.specs.Outcome.{LinesOutcome}
-use Rattle.cdcl.specs.declared.ordered.OrderedSearch.{OrderedSearch}
+use Rattle.cdcl.specs.declared.search.ordered.OrderedSearch.{OrderedSearch}
 
 -- propagation keeps it
 pub IsRule-of : (order : Order) → IsRule (rule_of order)

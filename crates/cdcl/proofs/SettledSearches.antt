@@ -20,8 +20,8 @@ use Rattle.theory.proofs.searching.Invariants.{Kept, KeepsUnits}
 use Rattle.theory.proofs.searching.UnitWalks.{units-keep, literals-units, clauses-units, conflict-units, rests-units}
 use Rattle.lookahead.proofs.TrailLengths.{length-lawful}
 use Rattle.kernel.specs.State.{State}
-use Rattle.cdcl.specs.declared.focused.FocusedSearch.{FocusedSearch}
-use Rattle.cdcl.specs.declared.decisions.Decisions.{Decisions}
+use Rattle.cdcl.specs.declared.search.focused.FocusedSearch.{FocusedSearch}
+use Rattle.cdcl.specs.declared.search.decisions.Decisions.{Decisions}
 use Rattle.cdcl.specs.Forgetful.{IsPlain}
 use Rattle.cdcl.specs.Removing.{HasRoomFor}
 use Rattle.cdcl.specs.Saving.{AreWaiting}

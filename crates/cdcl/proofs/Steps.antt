@@ -19,7 +19,7 @@ use Rattle.kernel.specs.declared.order.Order.TheVariants.{ByNumber}
 use Rattle.cdcl.specs.Outcome.{outcome_of}
 use Rattle.cdcl.specs.Searching.{IsSearching, IsSearchStep, GoesOn, search_of}
 use Rattle.cdcl.specs.Outcome.{LinesOutcome}
-use Rattle.cdcl.specs.declared.ordered.OrderedSearch.{OrderedSearch}
+use Rattle.cdcl.specs.declared.search.ordered.OrderedSearch.{OrderedSearch}
 use Rattle.lookahead.proofs.TrailLengths.{length-Propagates}
 use Rattle.cdcl.proofs.Progress.{Progresses, after-Progresses, remaining}
 

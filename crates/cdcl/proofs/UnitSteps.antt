@@ -9,8 +9,8 @@ use Rattle.theory.specs.Units.{Units, unit_line, wide_reason, with_reason, with_
 use Rattle.theory.proofs.searching.KeptUnits.{current_level-replaced}
 use Rattle.theory.proofs.searching.UnitWalks.{units-settled}
 use Rattle.kernel.specs.State.{State}
-use Rattle.cdcl.specs.declared.focused.FocusedSearch.{FocusedSearch}
-use Rattle.cdcl.specs.declared.unit_hints.UnitHints.{UnitHints}
+use Rattle.cdcl.specs.declared.search.focused.FocusedSearch.{FocusedSearch}
+use Rattle.cdcl.specs.declared.analysis.unit_hints.UnitHints.{UnitHints}
 use Rattle.cdcl.specs.Units.{units_before, unit_marks, HasMore, LearnsUnit, SettlesEntry, IsSettling}
 use Rattle.cdcl.proofs.PlaceLemmas.{placed-inside, placed-is, place-split}
 

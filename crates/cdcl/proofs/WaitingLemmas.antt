@@ -19,7 +19,7 @@ use Rattle.theory.proofs.searching.HeldVariables.{held-variable}
 use Rattle.theory.proofs.searching.MappedVariables.{at-variable}
 use Rattle.heuristics.specs.Rankings.{Ranking, vars_of, waits, with_waiting, best_waiting}
 use Rattle.cdcl.specs.Saving.{AgreeOutside, AreWaiting, HoldsAsIn}
-use Rattle.cdcl.specs.declared.decisions.Decisions.{Decisions}
+use Rattle.cdcl.specs.declared.search.decisions.Decisions.{Decisions}
 use Rattle.cdcl.proofs.PlaceLemmas.{placed-there, placed-is, place-below, entry_of-placed}
 use Rattle.cdcl.proofs.TrailFronts.{has_var-last}
 use Rattle.cdcl.proofs.TrailValues.{has-value}

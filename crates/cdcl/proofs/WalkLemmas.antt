@@ -11,7 +11,7 @@ use Rattle.theory.specs.Learning.{walk, resolved, resolved_by, reason_used, with
 use Rattle.theory.proofs.literals.LiteralLemmas.{and-left}
 use Rattle.theory.proofs.searching.Walks.{grounded-place}
 use Rattle.kernel.specs.State.{State}
-use Rattle.cdcl.specs.declared.marks.Marks.{Marks}
+use Rattle.cdcl.specs.declared.analysis.marks.Marks.{Marks}
 use Rattle.cdcl.specs.Marks.{IsSet, CanResolve, CanLookAt, Resolves, is_open, is_resolvable}
 use Rattle.cdcl.proofs.PlaceLemmas.{placed-inside, placed-is, placed-there, entry-read, place-split, reason_used-closed}
 use Rattle.cdcl.proofs.Pending.{IsTop, pending-top, pending-none, top_of, top-below}

@@ -22,9 +22,9 @@ use Rattle.heuristics.specs.Rankings as rankings
 use Rattle.heuristics.specs.Rankings.{after_conflict, vars_of}
 use Rattle.kernel.specs.State.{State}
 use Rattle.kernel.specs.declared.order.Order.TheVariants.{ByPlace}
-use Rattle.cdcl.specs.declared.focused.FocusedSearch.{FocusedSearch}
-use Rattle.cdcl.specs.declared.focused.Stop.{Stop}
-use Rattle.cdcl.specs.declared.focused.Stop.TheVariants.{Ended, Spent}
+use Rattle.cdcl.specs.declared.search.focused.FocusedSearch.{FocusedSearch}
+use Rattle.cdcl.specs.declared.search.focused.Stop.{Stop}
+use Rattle.cdcl.specs.declared.search.focused.Stop.TheVariants.{Ended, Spent}
 use Rattle.cdcl.specs.Forgetful.{IsPlain, late_numbers}
 use Rattle.cdcl.specs.Removing.{HasRoomFor}
 use Rattle.cdcl.specs.Outcome.{LinesOutcome, outcome_of}

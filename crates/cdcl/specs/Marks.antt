@@ -11,7 +11,7 @@ use Rattle.theory.specs.Learning.{IsRising, at_current_level, resolved_by, reaso
 use Rattle.kernel.specs.State.{State}
 use Rattle.theory.specs.Propagation.{clause_at}
 use Rattle.cdcl.specs.Numbers.{is_one_of}
-use Rattle.cdcl.specs.declared.marks.Marks.{Marks}
+use Rattle.cdcl.specs.declared.analysis.marks.Marks.{Marks}
 
 -- the marks and the count of literals of the current level stand for the set S
 pub record IsMarked (k : State) (S : Clause) (marked : List Bool) (current : ℕ) : Type 0 where

@@ -2,8 +2,8 @@
 use Rattle.std.specs.Prelude.{List}
 use Rattle.theory.specs.Learning.{Line}
 use Rattle.theory.specs.Search as search
-use Rattle.cdcl.specs.declared.outcome.Outcome.{Outcome}
-use Rattle.cdcl.specs.declared.outcome.Outcome.TheVariants.{Model, Refuted, Exhausted}
+use Rattle.cdcl.specs.declared.api.outcome.Outcome.{Outcome}
+use Rattle.cdcl.specs.declared.api.outcome.Outcome.TheVariants.{Model, Refuted, Exhausted}
 
 -- a row and a refutation are both seen as the lines that they have, and so the outcomes with them
 -- are of one type

@@ -6,8 +6,8 @@ use Rattle.theory.specs.Pure.{pure_literals}
 use Rattle.theory.specs.Plans as plans
 use Rattle.theory.specs.Plans.{Constants, default_constants}
 use Rattle.theory.specs.Beginnings.{Beginning, as_it_is, by_pure_units}
-use Rattle.cdcl.specs.declared.plan.Search.{Search}
-use Rattle.cdcl.specs.declared.plan.Search.TheVariants.{Ordered, Focused}
+use Rattle.cdcl.specs.declared.api.plan.Search.{Search}
+use Rattle.cdcl.specs.declared.api.plan.Search.TheVariants.{Ordered, Focused}
 
 -- the search with these numbers, as the definitions have it
 abbrev pub search_of : Search → Constants → plans.Search

@@ -12,8 +12,8 @@ use Rattle.theory.specs.Removing.{removable}
 use Rattle.kernel.specs.State.{State}
 use Rattle.cdcl.specs.Numbers.{is_one_of}
 use Rattle.cdcl.specs.Marks.{IsSet, is_open}
-use Rattle.cdcl.specs.declared.marks.Marks.{Marks}
-use Rattle.cdcl.specs.declared.removing.Removing.{Removing}
+use Rattle.cdcl.specs.declared.analysis.marks.Marks.{Marks}
+use Rattle.cdcl.specs.declared.analysis.minimize.Minimizer.{Minimizer}
 
 -- the literals that are removable beside the set S
 abbrev pub removable_of : State → Clause → List Literal
@@ -34,30 +34,30 @@ pub record IsBetween (k : State) (v : ℕ) : Type 0 where
   pub reason : entry.reason ≡ Some number
 
 -- what is known is so, where S is the set
-pub record IsKnown (k : State) (S : Clause) (a : Removing) : Type 0 where
+pub record IsKnown (k : State) (S : Clause) (a : Minimizer) : Type 0 where
   pub removable : (v : ℕ) → is_one_of a.removable.numbers v ≡ true → has_var (removable_of k S) v ≡ true
   pub kept : (v : ℕ) → is_one_of a.kept.numbers v ≡ true → has_var (removable_of k S) v ≡ false
 
 -- whether a variable is known
-abbrev pub is_known : Removing → ℕ → Bool
+abbrev pub is_known : Minimizer → ℕ → Bool
 is_known a v = is_one_of a.removable.numbers v || is_one_of a.kept.numbers v
 
 -- whether a literal is of level 0, marked, removable or reached
-abbrev pub is_covered_by : Trail → List Bool → Removing → Literal → Bool
+abbrev pub is_covered_by : Trail → List Bool → Minimizer → Literal → Bool
 is_covered_by T marked a l = nat_eq (level_of T l) 0 || (slice_index_or marked l.var false || (is_one_of a.removable.numbers l.var || is_one_of a.reached.numbers l.var))
 
 -- the other literals of the variable's reason are
-pub record IsClosed (k : State) (marked : List Bool) (a : Removing) (v : ℕ) : Type 0 where
+pub record IsClosed (k : State) (marked : List Bool) (a : Minimizer) (v : ℕ) : Type 0 where
   pub between : IsBetween k v
   pub others : (l : Literal) → has (without (clause_at k.clauses between.number) between.entry.lit) l ≡ true → is_covered_by k.trail marked a l ≡ true
 
 -- where a variable that was reached isn't removable, its parent isn't
-pub record HasParent (k : State) (S : Clause) (a : Removing) (i : ℕ) : Type 0 where
+pub record HasParent (k : State) (S : Clause) (a : Minimizer) (i : ℕ) : Type 0 where
   pub before : get_or a.parents.items i 0 < i
   pub kept : has_var (removable_of k S) (get_or a.reached.numbers i 0) ≡ false → has_var (removable_of k S) (get_or a.reached.numbers (get_or a.parents.items i 0) 0) ≡ false
 
 -- a question, of which so many of the variables reached are closed
-pub record IsAsking (k : State) (S : Clause) (marked : List Bool) (a : Removing) (done : ℕ) : Type 0 where
+pub record IsAsking (k : State) (S : Clause) (marked : List Bool) (a : Minimizer) (done : ℕ) : Type 0 where
   pub known : IsKnown k S a
   pub between : All (IsBetween k) a.reached.numbers
   pub closed : (i : ℕ) → i < done → IsClosed k marked a (get_or a.reached.numbers i 0)
@@ -65,7 +65,7 @@ pub record IsAsking (k : State) (S : Clause) (marked : List Bool) (a : Removing)
   pub parents : (i : ℕ) → 1 ≤ i → i < length a.reached.numbers → HasParent k S a i
 
 -- there is room for each variable
-pub record HasRoomFor (vars : ℕ) (a : Removing) : Type 0 where
+pub record HasRoomFor (vars : ℕ) (a : Minimizer) : Type 0 where
   pub reached : vars < a.reached.bound
   pub removable : a.removable.bound ≡ a.reached.bound
   pub kept : a.kept.bound ≡ a.reached.bound
@@ -76,22 +76,22 @@ pub record IsReasonOf (k : State) (v : ℕ) (c : Clause) : Type 0 where
   pub permuted : IsPermutation (clause_at k.clauses between.number) c
 
 -- all that the variable at a place needs is covered, or it isn't removable
-abbrev pub IsAnswered : State → Clause → List Bool → ℕ → Bool → Removing → Type 0
+abbrev pub IsAnswered : State → Clause → List Bool → ℕ → Bool → Minimizer → Type 0
 IsAnswered k S marked at true a = IsAsking k S marked a (at + 1)
 IsAnswered k S marked at false a = IsAsking k S marked a at × (has_var (removable_of k S) (get_or a.reached.numbers at 0) ≡ false)
 
 -- the variables reached before stand there still, at their places
-pub record Reaches (old new : Removing) : Type 0 where
+pub record Reaches (old new : Minimizer) : Type 0 where
   pub many : length old.reached.numbers ≤ length new.reached.numbers
   pub same : (i : ℕ) → i < length old.reached.numbers → get_or new.reached.numbers i 0 ≡ get_or old.reached.numbers i 0
   pub bound : new.reached.bound ≡ old.reached.bound
 
 -- what was known is known
-abbrev pub KnowsStill : Removing → Removing → Type 0
+abbrev pub KnowsStill : Minimizer → Minimizer → Type 0
 KnowsStill old new = (v : ℕ) → is_known old v ≡ true → is_known new v ≡ true
 
 -- each variable of the set that may be removable is known
-abbrev pub KnowsAll : State → Clause → Removing → Type 0
+abbrev pub KnowsAll : State → Clause → Minimizer → Type 0
 KnowsAll k S a = (v : ℕ) → has_var S v ≡ true → IsBetween k v → is_known a v ≡ true
 
 -- whether an entry's variable is marked, and one of these

@@ -5,7 +5,7 @@ use Rattle.theory.specs.Truth.{Formula, Assignment, value}
 use Rattle.theory.specs.Trails.{variables}
 use Rattle.theory.specs.Held.{is_held}
 use Rattle.heuristics.specs.Rankings.{AllWait, vars_of}
-use Rattle.cdcl.specs.declared.decisions.Decisions.{Decisions}
+use Rattle.cdcl.specs.declared.search.decisions.Decisions.{Decisions}
 
 -- each of the variables 1 to V that has no literal in P has the same value by both
 abbrev pub AgreeOutside : ℕ → List Literal → Assignment → Assignment → Type 0

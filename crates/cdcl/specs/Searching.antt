@@ -11,7 +11,7 @@ use Rattle.theory.specs.Ordered.{OrderedState, IsOrderedStep, begin}
 use Rattle.kernel.specs.State.{State}
 use Rattle.kernel.specs.declared.order.Order.{Order}
 use Rattle.kernel.specs.declared.order.Order.TheVariants.{ByNumber}
-use Rattle.cdcl.specs.declared.ordered.OrderedSearch.{OrderedSearch}
+use Rattle.cdcl.specs.declared.search.ordered.OrderedSearch.{OrderedSearch}
 use Rattle.cdcl.specs.Outcome.{LinesOutcome, outcome_of}
 
 abbrev pub search_of : OrderedSearch → OrderedState

@@ -3,8 +3,8 @@ use Rattle.std.specs.Prelude.{◌≡◌, Bool}
 use Rattle.theory.specs.Truth.{Formula}
 use Rattle.theory.specs.Plans.{ordered, focused, Plan}
 use Rattle.kernel.specs.declared.order.Order.TheVariants.{ByNumber, ByPlace}
-use Rattle.cdcl.specs.declared.searcher.Searcher.{Searcher}
-use Rattle.cdcl.specs.declared.searcher.Searcher.TheVariants.{Ordered, Focused}
+use Rattle.cdcl.specs.declared.search.searcher.Searcher.{Searcher}
+use Rattle.cdcl.specs.declared.search.searcher.Searcher.TheVariants.{Ordered, Focused}
 use Rattle.cdcl.specs.Searching.{IsReady}
 use Rattle.cdcl.specs.Focusing.{IsEquipped}
 

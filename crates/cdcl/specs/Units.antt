@@ -6,7 +6,7 @@ use Rattle.theory.specs.Learning.{Line}
 use Rattle.theory.specs.Forgetting.{Mark, fresh_mark}
 use Rattle.theory.specs.Units.{Units, with_number, wide_reason, with_entry, with_entries, units_of}
 use Rattle.kernel.specs.State.{State}
-use Rattle.cdcl.specs.declared.focused.FocusedSearch.{FocusedSearch}
+use Rattle.cdcl.specs.declared.search.focused.FocusedSearch.{FocusedSearch}
 use Rattle.cdcl.specs.Removing.{reason_at}
 
 -- whether an entry makes a literal of the clause false

@@ -1,8 +1,8 @@
 -- The plan and the strategy that the command line asks for.
 use Rattle.std.specs.Prelude.{ℕ, Bool, true, false, Option, Some, unwrap_or, if◌then◌else◌}
 use Rattle.theory.specs.Plans.{Plan, default_constants}
-use Rattle.cdcl.specs.declared.plan.Search.{Search}
-use Rattle.cdcl.specs.declared.plan.Search.TheVariants as search
+use Rattle.cdcl.specs.declared.api.plan.Search.{Search}
+use Rattle.cdcl.specs.declared.api.plan.Search.TheVariants as search
 use Rattle.cdcl.specs.Plans.{search_of}
 use Rattle.strategies.specs.Strategies.{Strategy, by_plan}
 use Rattle.command_line.specs.declared.effort.Choice.{Choice}

@@ -2,7 +2,7 @@
 ghost use Rattle.std.specs.Prelude.{◌≡◌, ◌≤◌, IfSome};
 ghost use Rattle.std.proofs.Props.{props};
 ghost use Rattle.command_line.specs.Arguments.{most_asked, plan_asked, strategy_asked};
-ghost use Rattle.cdcl.specs.declared.plan.Search.TheVariants as search;
+ghost use Rattle.cdcl.specs.declared.api.plan.Search.TheVariants as search;
 
 use cdcl::Plan;
 use cnf::Limits;

@@ -11,8 +11,8 @@ use Rattle.theory.specs.Runs.{RunsBy, most_conflicts, cube_budget, Runs, by_sear
 use Rattle.theory.specs.Results.{OutcomeSays}
 use Rattle.theory.proofs.searching.OutcomeLemmas.{IsLookedAt-search}
 use Rattle.kernel.specs.declared.order.Order.TheVariants.{ByPlace}
-use Rattle.cdcl.specs.declared.focused.FocusedSearch.{FocusedSearch}
-use Rattle.cdcl.specs.declared.focused.Stop.{Stop}
+use Rattle.cdcl.specs.declared.search.focused.FocusedSearch.{FocusedSearch}
+use Rattle.cdcl.specs.declared.search.focused.Stop.{Stop}
 use Rattle.cdcl.specs.Outcome.{LinesOutcome, outcome_of}
 use Rattle.cdcl.specs.Searching.{formula_of, IsReady}
 use Rattle.cdcl.specs.Focusing.{state_of, RunsTo, Reaches, Stops, HasSaved, IsKept}

@@ -26,7 +26,7 @@ use Rattle.cubes.specs.declared.division.dividing.Division.{Division}
 use Rattle.cubes.specs.declared.division.dividing.Division.TheVariants.{Unasked, Whole, Divided}
 use Rattle.cubes.specs.declared.division.dividing.First.{First}
 use Rattle.cubes.specs.declared.division.dividing.First.TheVariants.{Ended, FewDecisions, ManyDecisions}
-use Rattle.cdcl.specs.declared.focused.FocusedSearch.{FocusedSearch}
+use Rattle.cdcl.specs.declared.search.focused.FocusedSearch.{FocusedSearch}
 use Rattle.cdcl.specs.Outcome.{outcome_of}
 use Rattle.cdcl.specs.Searching.{IsReady}
 use Rattle.cdcl.specs.Focusing.{state_of, stable_at, RunsTo, Reaches, IsSpent, IsKept}

@@ -13,8 +13,8 @@ use Rattle.theory.specs.Checked.{IsCheckedOutcome, IsCheckedOf, found_here}
 use Rattle.theory.proofs.trees.ResultLemmas.{IsCheckedResult-IsResult, IsCheckedResult-says}
 use Rattle.cdcl.specs.Outcome.{outcome_by}
 use Rattle.theory.specs.Beginnings.{begun_by}
-use Rattle.cdcl.specs.declared.outcome.Outcome.{Outcome}
-use Rattle.cdcl.specs.declared.outcome.Outcome.TheVariants as outcome
+use Rattle.cdcl.specs.declared.api.outcome.Outcome.{Outcome}
+use Rattle.cdcl.specs.declared.api.outcome.Outcome.TheVariants as outcome
 use Rattle.cdcl.proofs.SearchedFormulas.{IsFormula-begun_by, ResultSays-begun_by}
 use Rattle.cubes.specs.declared.gathering.Gathering.{Gathering}
 use Rattle.cubes.specs.declared.tree.Tree.{Tree}

@@ -19,7 +19,7 @@ use Rattle.cnf.specs.contracts.lit.LitPartialEq.TheImpl.{ghosts}
 use Rattle.trail.specs.Cubes.{AreOfVariables}
 use Rattle.trail.proofs.Tables.{code-one}
 use Rattle.cdcl.specs.Outcome.{outcome_by}
-use Rattle.cdcl.specs.declared.outcome.Outcome.{Outcome}
+use Rattle.cdcl.specs.declared.api.outcome.Outcome.{Outcome}
 use Rattle.cubes.specs.declared.known.Known.{Known}
 use Rattle.cubes.specs.declared.solved.Solved as made
 use Rattle.cubes.specs.Solved.{what_by, AreTrueBy, AreCheckedBy}

@@ -7,8 +7,8 @@ use Rattle.theory.specs.Learning.{Line}
 use Rattle.theory.specs.Search as search
 use Rattle.theory.specs.Trees as trees
 use Rattle.cdcl.specs.Outcome.{outcome_of}
-use Rattle.cdcl.specs.declared.outcome.Outcome.{Outcome}
-use Rattle.cdcl.specs.declared.outcome.Outcome.TheVariants as outcome
+use Rattle.cdcl.specs.declared.api.outcome.Outcome.{Outcome}
+use Rattle.cdcl.specs.declared.api.outcome.Outcome.TheVariants as outcome
 use Rattle.cubes.specs.declared.gathering.Gathering.{Gathering}
 use Rattle.cubes.specs.declared.tree.Tree.TheVariants as tree
 use Rattle.cubes.specs.Gathering.{nodes_of, GoesRight, GoesOnWith}

@@ -14,8 +14,8 @@ use Rattle.theory.proofs.literals.Membership.{Contains-none, Contains-cases}
 use Rattle.theory.proofs.trees.Assemblies.{IsComeTo, IsComeTo-root, IsComeTo-left, IsComeTo-right, IsComeTo-outcome, outcome_in-result}
 use Rattle.trail.specs.Cubes.{AreOfVariables}
 use Rattle.cdcl.specs.Outcome.{outcome_by}
-use Rattle.cdcl.specs.declared.outcome.Outcome.{Outcome}
-use Rattle.cdcl.specs.declared.outcome.Outcome.TheVariants as outcome
+use Rattle.cdcl.specs.declared.api.outcome.Outcome.{Outcome}
+use Rattle.cdcl.specs.declared.api.outcome.Outcome.TheVariants as outcome
 use Rattle.cubes.specs.declared.known.Known.{Known}
 use Rattle.cubes.specs.declared.tree.Tree.{Tree}
 use Rattle.cubes.specs.declared.tree.Tree.TheVariants as tree

@@ -8,7 +8,7 @@ use Rattle.theory.specs.Dividing.{first_conflicts, IsDivisible}
 use Rattle.theory.specs.Runs.{Runs}
 use Rattle.kernel.specs.declared.order.Order.TheVariants.{ByPlace}
 use Rattle.lookahead.specs.Rankings.{IsRanking}
-use Rattle.cdcl.specs.declared.focused.FocusedSearch.{FocusedSearch}
+use Rattle.cdcl.specs.declared.search.focused.FocusedSearch.{FocusedSearch}
 use Rattle.cdcl.specs.Searching.{IsReady}
 use Rattle.cdcl.specs.Outcome.{outcome_of}
 use Rattle.cdcl.specs.Focusing.{IsEquipped, RunsTo, IsOwn, Reaches, stable_at}

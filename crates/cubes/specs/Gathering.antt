@@ -3,8 +3,8 @@ use Rattle.std.specs.Prelude.{◌≡◌, ◌≤◌, ◌<◌, ◌^◌, false, Lis
 use Rattle.theory.specs.Literals.{has_var}
 use Rattle.theory.specs.Learning.{Line}
 use Rattle.theory.specs.Trees as trees
-use Rattle.cdcl.specs.declared.outcome.Outcome.{Outcome}
-use Rattle.cdcl.specs.declared.outcome.Outcome.TheVariants as outcome
+use Rattle.cdcl.specs.declared.api.outcome.Outcome.{Outcome}
+use Rattle.cdcl.specs.declared.api.outcome.Outcome.TheVariants as outcome
 use Rattle.cubes.specs.declared.tree.Tree.{Tree}
 use Rattle.cubes.specs.declared.tree.Tree.TheVariants as tree
 use Rattle.cubes.specs.declared.gathering.Gathering.{Gathering}

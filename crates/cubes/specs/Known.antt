@@ -14,7 +14,7 @@ use Rattle.theory.specs.Checked.{IsCheckedOf}
 use Rattle.cnf.specs.contracts.lit.LitPartialEq.TheImpl.{ghosts}
 use Rattle.trail.specs.Cubes.{AreOfVariables}
 use Rattle.cdcl.specs.Outcome.{outcome_by}
-use Rattle.cdcl.specs.declared.outcome.Outcome.{Outcome}
+use Rattle.cdcl.specs.declared.api.outcome.Outcome.{Outcome}
 use Rattle.cubes.specs.declared.known.Known.{Known}
 
 -- the outcome that is known of a cube

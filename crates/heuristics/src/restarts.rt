@@ -14,7 +14,7 @@ use std::marker::Model;
 /// The glues of the lines that a cube learnt in restarting mode: the last ones, at most a window of
 /// them, the sum of all, and how many all are.
 #[derive(Drop)]
-pub struct Glues {
+pub struct GlueAverages {
     constants: Constants,
     // as many fit as the window has
     recent: HeapCircularBuffer<u32>,
@@ -26,7 +26,7 @@ pub struct Glues {
     restarts: u64,
 }
 
-impl Model for Glues {
+impl Model for GlueAverages {
     ghost use Rattle.std.specs.Prelude.{◌≡◌, ◌≤◌, ◌*◌, ◌^◌, length, sum, All};
     ghost use Rattle.heuristics.specs.Averages.{Averages};
     ghost use Rattle.heuristics.specs.Ranges.{AreInRange};
@@ -63,13 +63,13 @@ fn is_above(recent_sum: u64, count: u32, total: u64, above: u32) -> bool
     total * u64::from(above) < recent_sum * u64::from(count)
 }
 
-impl Glues {
+impl GlueAverages {
     /// No glues. It takes four bytes for each place of the window.
-    pub fn open(alloc: Global, constants: Constants) -> Result<Glues, AllocError>
+    pub fn open(alloc: Global, constants: Constants) -> Result<GlueAverages, AllocError>
         ensures { IfOk result (λ g. g ≡ first_averages constants) }
     {
         let window = constants.window as usize;
-        Ok(Glues {
+        Ok(GlueAverages {
             constants,
             recent: HeapCircularBuffer::with_capacity(alloc, window)?,
             recent_sum: 0,

@@ -3,7 +3,7 @@ ghost use Rattle.std.specs.Prelude.{◌≡◌, ◌≤◌, length};
 
 use crate::numbers::small;
 use heuristics::Mode::{Restarting, Stable};
-use heuristics::{Glues, Mode};
+use heuristics::{GlueAverages, Mode};
 use std::test::Fail;
 
 /// The glue of a conflict's line, the mode, and whether the search restarts there.
@@ -43,7 +43,7 @@ static IN_TURN: [Row; 12] = [
 
 /// The first row at which a cube's glues, the first of which come now, restart otherwise than it
 /// says.
-fn first_failed(glues: &mut Glues, rows: &[Row]) -> Option<usize>
+fn first_failed(glues: &mut GlueAverages, rows: &[Row]) -> Option<usize>
     requires { length rows.now ≤ 100 }
 {
     glues.begin_again();
@@ -63,7 +63,7 @@ fn first_failed(glues: &mut Glues, rows: &[Row]) -> Option<usize>
 
 #[test]
 fn restarts_by_averages(rt: HostRuntime) -> Result<(), Fail> {
-    let mut glues = Glues::open(rt.alloc(), small())?;
+    let mut glues = GlueAverages::open(rt.alloc(), small())?;
     assert_eq!(rt; first_failed(&mut glues, &RISING), None);
     assert_eq!(rt; first_failed(&mut glues, &IN_TURN), None);
     assert_eq!(rt; first_failed(&mut glues, &RISING), None);

@@ -19,8 +19,8 @@ use Rattle.theory.proofs.trees.BegunSearches.{checks-begun}
 use Rattle.theory.proofs.searching.PureVariables.{length-first_clauses, length-pure_literals}
 use Rattle.theory.proofs.trees.CheckedTrees.{IsFitSplit-checked}
 use Rattle.cdcl.specs.Plans.{beginning_of, first_units}
-use Rattle.cdcl.specs.declared.plan.Search as declared
-use Rattle.cdcl.specs.declared.plan.Search.TheVariants.{Ordered, Focused}
+use Rattle.cdcl.specs.declared.api.plan.Search as declared
+use Rattle.cdcl.specs.declared.api.plan.Search.TheVariants.{Ordered, Focused}
 use Rattle.join.specs.declared.joiner.Joiner.{Joiner}
 use Rattle.join.specs.Joining.{Joined, on_node, on_nodes, behind, before_nodes, after_nodes}
 use Rattle.join.specs.Numbered.{AreLines, IsNode}

@@ -11,8 +11,8 @@ use Rattle.theory.specs.Learning.{Line}
 use Rattle.theory.specs.Steps.{Step}
 use Rattle.theory.specs.ProofReading.{IsStep}
 use Rattle.cdcl.specs.Plans.{search_of, beginning_of, first_units}
-use Rattle.cdcl.specs.declared.plan.Search as declared
-use Rattle.cdcl.specs.declared.plan.Search.TheVariants.{Ordered, Focused}
+use Rattle.cdcl.specs.declared.api.plan.Search as declared
+use Rattle.cdcl.specs.declared.api.plan.Search.TheVariants.{Ordered, Focused}
 use Rattle.cdcl.proofs.SearchedFormulas.{IsFormula-begun_by}
 use Rattle.cubes.specs.declared.tree.Node.{Node}
 use Rattle.cubes.specs.declared.tree.Tree.TheVariants.{Model, Refuted}

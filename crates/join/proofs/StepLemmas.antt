@@ -33,8 +33,8 @@ use Rattle.join.specs.Numbered.{AreUpTo, AreLines}
 use Rattle.join.proofs.NumberLemmas.{AreOwn-renumbered, AreUpTo-renumbered, IsAddition-line}
 use Rattle.join.proofs.TreeLemmas.{refutation-lines}
 use Rattle.cdcl.specs.Plans.{beginning_of}
-use Rattle.cdcl.specs.declared.plan.Search as declared
-use Rattle.cdcl.specs.declared.plan.Search.TheVariants.{Ordered, Focused}
+use Rattle.cdcl.specs.declared.api.plan.Search as declared
+use Rattle.cdcl.specs.declared.api.plan.Search.TheVariants.{Ordered, Focused}
 
 -- each line of a text has a byte
 pub few-steps : (steps : List Step) → length steps ≤ length (proof_text steps)

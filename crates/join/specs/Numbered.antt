@@ -12,7 +12,7 @@ use Rattle.theory.specs.Checking.{checks, accepted}
 use Rattle.theory.specs.ProofReading.{IsStep, max_proof_bytes}
 use Rattle.theory.specs.Texts.{proof_text}
 use Rattle.cdcl.specs.Plans.{search_of, beginning_of, first_units}
-use Rattle.cdcl.specs.declared.plan.Search.{Search}
+use Rattle.cdcl.specs.declared.api.plan.Search.{Search}
 use Rattle.cubes.specs.Result.{LinesTree, node_of, IsCheckedResultOf}
 use Rattle.cubes.specs.declared.tree.Node.{Node}
 use Rattle.cubes.specs.declared.tree.Tree.TheVariants.{Model, Refuted}

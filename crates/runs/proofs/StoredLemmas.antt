@@ -16,7 +16,7 @@ use Rattle.cnf.specs.declared.fault.ReadFault.{ReadFault}
 use Rattle.cnf.specs.declared.fault.ReadFault.TheVariants as reading
 use Rattle.cnf.specs.Faults.{IsReadOf}
 use Rattle.cdcl.specs.Plans.{search_from, beginning_of, first_units}
-use Rattle.cdcl.specs.declared.plan.Search as declared
+use Rattle.cdcl.specs.declared.api.plan.Search as declared
 use Rattle.packs.specs.declared.fact.Fact.{Fact}
 use Rattle.gathering.specs.Stored.{AreTrueFacts}
 use Rattle.cubes.specs.declared.tree.Tree.{Tree}

@@ -9,7 +9,7 @@ use Rattle.theory.specs.Steps.{Step}
 use Rattle.theory.specs.Texts.{proof_text, answer_text}
 use Rattle.theory.specs.Written.{IsUnsatisfiableText}
 use Rattle.cdcl.specs.Plans.{search_of, search_from, constants_from, beginning_of}
-use Rattle.cdcl.specs.declared.plan.Search as declared
+use Rattle.cdcl.specs.declared.api.plan.Search as declared
 use Rattle.beginnings.specs.declared.begun_formula.Begun.{Begun}
 use Rattle.beginnings.specs.Begun.{formula_in, lines_in, IsBegunBy}
 use Rattle.cubes.specs.declared.tree.Tree.TheVariants.{Model, Refuted}

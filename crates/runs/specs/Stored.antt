@@ -14,7 +14,7 @@ use Rattle.gathering.specs.Stored.{AreTrueFacts}
 use Rattle.beginnings.specs.declared.begun_formula.Begun.{Begun}
 use Rattle.beginnings.specs.Begun.{formula_in, IsBegunBy}
 use Rattle.cdcl.specs.Plans.{first_units}
-use Rattle.cdcl.specs.declared.plan.Search as declared
+use Rattle.cdcl.specs.declared.api.plan.Search as declared
 use Rattle.cubes.specs.declared.tree.Tree.{Tree}
 use Rattle.cubes.specs.declared.tree.Tree.TheVariants.{Model, Refuted}
 use Rattle.join.specs.Joining.{Joined, behind, on_nodes}

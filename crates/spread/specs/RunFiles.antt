@@ -6,8 +6,8 @@ use Rattle.theory.specs.Reading.{ReadsWithin, formula}
 use Rattle.cnf.specs.Limits.{limits_of}
 use Rattle.strategies.specs.Strategies.{Strategy}
 use Rattle.strategies.specs.Choosing.{IsChosen}
-use Rattle.cdcl.specs.declared.plan.Search.{Search}
-use Rattle.cdcl.specs.declared.plan.Search.TheVariants.{Ordered, Focused}
+use Rattle.cdcl.specs.declared.api.plan.Search.{Search}
+use Rattle.cdcl.specs.declared.api.plan.Search.TheVariants.{Ordered, Focused}
 use Rattle.spread.specs.declared.run_file.RunFile.{RunFile}
 use Rattle.spread.specs.Sums.{sum_of}
 

@@ -7,8 +7,8 @@ use Rattle.theory.specs.Beginnings.{begun_by}
 use Rattle.theory.specs.Checked.{IsCheckedResult}
 use Rattle.theory.specs.Trees as trees
 use Rattle.cdcl.specs.Plans.{search_of, search_from}
-use Rattle.cdcl.specs.declared.plan.Search as code
-use Rattle.cdcl.specs.declared.plan.Search.TheVariants.{Ordered, Focused}
+use Rattle.cdcl.specs.declared.api.plan.Search as code
+use Rattle.cdcl.specs.declared.api.plan.Search.TheVariants.{Ordered, Focused}
 use Rattle.cubes.specs.declared.tree.Tree.TheVariants.{Model, Refuted}
 use Rattle.cubes.specs.Result.{LinesNode, LinesTree, IsResultOf, IsCheckedResultOf, Says}
 use Rattle.beginnings.specs.declared.begun_formula.Begun.{Begun}

@@ -6,7 +6,7 @@ use Rattle.theory.specs.Plans.{Plan}
 use Rattle.theory.specs.Beginnings.{Beginning, begun, begun_by, Begins}
 use Rattle.theory.specs.Trees as trees
 use Rattle.cdcl.specs.Plans.{search_from}
-use Rattle.cdcl.specs.declared.plan.Search.{Search}
+use Rattle.cdcl.specs.declared.api.plan.Search.{Search}
 use Rattle.cubes.specs.declared.tree.Tree.TheVariants.{Model, Refuted}
 use Rattle.cubes.specs.Result.{LinesTree, IsResultOf}
 use Rattle.beginnings.specs.declared.begun_formula.Begun.{Begun}

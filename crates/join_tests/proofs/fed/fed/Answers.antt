@@ -1,6 +1,6 @@
 use Rattle.std.proofs.Common.{refl, ap, sym}
 use Rattle.theory.specs.Plans.{default_constants, Plan}
-use Rattle.cdcl.specs.declared.plan.Search.TheVariants.{Ordered}
+use Rattle.cdcl.specs.declared.api.plan.Search.TheVariants.{Ordered}
 use Rattle.cubes.specs.declared.tree.Tree.TheVariants.{Refuted}
 use Rattle.join.proofs.JoinLemmas.{AreChecked-result, few-units, result-nodes}
 use Rattle.join_tests.proofs.fed.fed.Goals as goal

@@ -1,6 +1,6 @@
 use Rattle.std.proofs.Common.{ap, sym}
 use Rattle.theory.specs.Plans.{default_constants, Plan}
-use Rattle.cdcl.specs.declared.plan.Search.TheVariants.{Ordered}
+use Rattle.cdcl.specs.declared.api.plan.Search.TheVariants.{Ordered}
 use Rattle.join.proofs.JoinLemmas.{AreChecked-result}
 use Rattle.join_tests.proofs.joined.has_room.Goals as goal
 

@@ -1,4 +1,4 @@
-use Rattle.cdcl.specs.declared.focused.Stop.TheVariants.{Ended, Spent}
+use Rattle.cdcl.specs.declared.search.focused.Stop.TheVariants.{Ended, Spent}
 use Rattle.cubes.proofs.DividedSearches.{first-stops}
 use Rattle.cubes.proofs.DividingLemmas.{spent-counts}
 use Rattle.cubes.proofs.division.dividing.search_first.Goals as goal
