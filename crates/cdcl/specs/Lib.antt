@@ -10,6 +10,8 @@ pub mod Forgetful
 pub mod Focusing
 pub mod Solving
 pub mod Marks
+pub mod PastLines
+pub mod Unkept
 pub mod Removing
 pub mod Units
 pub mod Taught

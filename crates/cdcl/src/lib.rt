@@ -18,3 +18,4 @@ pub use api::plan::{Plan, Search};
 pub use api::solver::Solver;
 pub use api::unkept::Unkept;
 pub use search::focused::{FocusedSearch, Stop};
+pub use search::line_log::LineLog;

@@ -21,3 +21,5 @@ mod pure;
 mod searches;
 #[cfg(test)]
 mod units;
+#[cfg(test)]
+mod unkept;

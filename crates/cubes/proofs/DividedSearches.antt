@@ -4,6 +4,7 @@ use Rattle.theory.specs.Literals.{Literal}
 use Rattle.theory.specs.Truth.{Formula, Assignment, IsOver}
 use Rattle.theory.specs.Plans.{Constants, focused, Plan}
 use Rattle.theory.specs.Trails.{variables}
+use Rattle.theory.specs.Learning.{Line}
 use Rattle.theory.specs.Search.{Outcome, exhausted, budget_within, max_focused}
 use Rattle.theory.specs.Dividing.{first_conflicts, IsDivisible}
 use Rattle.theory.specs.Focused as definition
@@ -13,7 +14,8 @@ use Rattle.theory.proofs.searching.OutcomeLemmas.{IsLookedAt-search}
 use Rattle.kernel.specs.declared.order.Order.TheVariants.{ByPlace}
 use Rattle.cdcl.specs.declared.search.focused.FocusedSearch.{FocusedSearch}
 use Rattle.cdcl.specs.declared.search.focused.Stop.{Stop}
-use Rattle.cdcl.specs.Outcome.{LinesOutcome, outcome_of}
+use Rattle.cdcl.specs.declared.api.outcome.Outcome as outcomes
+use Rattle.cdcl.specs.Outcome.{LinesOutcome, outcome_of, outcome_by}
 use Rattle.cdcl.specs.Searching.{formula_of, IsReady}
 use Rattle.cdcl.specs.Focusing.{state_of, RunsTo, Reaches, Stops, HasSaved, IsKept}
 use Rattle.cdcl.specs.Focusing as focused_search
@@ -85,12 +87,12 @@ kept-then (Err e) old s t before kept = tt
 kept-then (Ok x) old s t before kept = λ F plan d. kept F plan (before F plan d)
 
 -- the ordered search divides no formula
-pub ordered-runs : {E : Type 0} (plan : Plan) (Q : List Literal) (s : Solving) (r : Result LinesOutcome E) → IfOk r (λ o. RunsBy s.plan.search s.formula s.plan.budget Q (outcome_of o))
-    → IfOk r (λ o. (F : Formula) → IsSolverOf F plan (Ordered s) → Runs F plan Q (outcome_of o))
-ordered-runs plan Q s (Err e) runs = tt
-ordered-runs plan Q s (Ok o) runs = λ F is. by_search (λ l. IsLookedAt-search F plan Q l is.0) (rw (is.1, is.2) at runs)
+pub ordered-runs : {L E : Type 0} (lines : L → List Line) (plan : Plan) (Q : List Literal) (s : Solving) (r : Result (outcomes.Outcome L) E) → IfOk r (λ o. RunsBy s.plan.search s.formula s.plan.budget Q (outcome_by lines o))
+    → IfOk r (λ o. (F : Formula) → IsSolverOf F plan (Ordered s) → Runs F plan Q (outcome_by lines o))
+ordered-runs lines plan Q s (Err e) runs = tt
+ordered-runs lines plan Q s (Ok o) runs = λ F is. by_search (λ l. IsLookedAt-search F plan Q l is.0) (rw (is.1, is.2) at runs)
 
-pub ordered-says : {E : Type 0} (plan : Plan) (Q : List Literal) (s : Solving) (r : Result LinesOutcome E) → IfOk r (λ o. OutcomeSays s.plan.search s.formula Q (outcome_of o))
-    → IfOk r (λ o. (F : Formula) → IsSolverOf F plan (Ordered s) → IsOver F.vars Q → OutcomeSays plan.search F Q (outcome_of o))
-ordered-says plan Q s (Err e) says = tt
-ordered-says plan Q s (Ok o) says = λ F is over. rw (is.1, is.2) at says
+pub ordered-says : {L E : Type 0} (lines : L → List Line) (plan : Plan) (Q : List Literal) (s : Solving) (r : Result (outcomes.Outcome L) E) → IfOk r (λ o. OutcomeSays s.plan.search s.formula Q (outcome_by lines o))
+    → IfOk r (λ o. (F : Formula) → IsSolverOf F plan (Ordered s) → IsOver F.vars Q → OutcomeSays plan.search F Q (outcome_by lines o))
+ordered-says lines plan Q s (Err e) says = tt
+ordered-says lines plan Q s (Ok o) says = λ F is over. rw (is.1, is.2) at says

@@ -3,7 +3,6 @@
 use crate::division::first_search::{DivisionWatcher, FirstSearch};
 use cdcl::{Counts, Outcome, Watcher};
 use kernel::Cube;
-use lines::Row;
 
 /// A gate that all hands share. A hand tells it of each cube from the pool that it solves, by the
 /// hand's number.
@@ -53,7 +52,7 @@ impl Gate for OpenGate {
 }
 
 /// Tells a gate of a cube that a hand has solved, where it is refuted.
-pub(crate) fn tell_refuted<G: Gate>(gate: &G, hand: usize, cube: &Cube, outcome: &Outcome<Row>) {
+pub(crate) fn tell_refuted<L, G: Gate>(gate: &G, hand: usize, cube: &Cube, outcome: &Outcome<L>) {
     if let Outcome::Refuted(_) = outcome {
         gate.refuted(hand, cube);
     }

@@ -7,7 +7,7 @@ ghost use Rattle.theory.specs.Plans as plans;
 ghost use Rattle.theory.specs.Runs.{Runs};
 ghost use Rattle.theory.specs.Ledger.{IsFit};
 ghost use Rattle.theory.specs.Round.{HasWorked};
-ghost use Rattle.cdcl.specs.Outcome.{outcome_of};
+ghost use Rattle.cdcl.specs.Outcome.{outcome_by};
 ghost use Rattle.theory.specs.Beginnings.{begun_by};
 ghost use Rattle.cubes.specs.Division.{IsRootOf};
 ghost use Rattle.pool.specs.Hands.{SameHand, IsAllTaken};
@@ -26,7 +26,6 @@ use crate::tries::Tries;
 use cdcl::{KeepsLines, Outcome, Plan, Refutation, split};
 use cnf::Formula;
 use kernel::Cube;
-use lines::Row;
 use pool::Hand;
 use std::alloc::{AllocError, Global};
 use std::sync::Wait;
@@ -80,8 +79,8 @@ fn next(hand: &mut Hand, tries: &mut Tries) -> Option<Cube>
     None
 }
 
-fn ending_of(outcome: &Outcome<Row>) -> Ending
-    ensures { (F : Formula) (plan : plans.Plan) (Q : List Literal) → Runs F plan Q (outcome_of outcome.now) → EndsIn F Q (outcome_of outcome.now) result }
+fn ending_of<L: KeepsLines>(outcome: &Outcome<L>) -> Ending
+    ensures { (F : Formula) (plan : plans.Plan) (Q : List Literal) → Runs F plan Q (outcome_by L.lines outcome.now) → EndsIn F Q (outcome_by L.lines outcome.now) result }
 {
     match outcome {
         Outcome::Model(_) => Ending::Model,
@@ -110,10 +109,10 @@ impl<L: KeepsLines> Worker<L> {
         let copy = cube.copied()?;
         let hand = self.hand.number();
         let watched = Watched { gate, hand };
-        let outcome = self.solver.solve(alloc, formula, plan, cube, &watched)?;
+        let outcome: Outcome<L> = self.solver.solve(alloc, formula, plan, cube, &watched)?;
         tell_refuted(gate, hand, cube, &outcome);
         let ending = ending_of(&outcome);
-        let what = What::Done(outcome.kept(alloc)?);
+        let what = What::Done(outcome);
         self.solved.push(Solved { cube: copy, what })?;
         Ok(ending)
     }

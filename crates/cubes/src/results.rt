@@ -5,7 +5,7 @@ ghost use Rattle.theory.specs.Plans as plans;
 ghost use Rattle.theory.specs.Runs.{Runs};
 ghost use Rattle.theory.specs.Results.{OutcomeSays, IsWhole, done};
 ghost use Rattle.theory.specs.Checked.{IsCheckedOf};
-ghost use Rattle.cdcl.specs.Outcome.{outcome_of, outcome_by};
+ghost use Rattle.cdcl.specs.Outcome.{outcome_by};
 ghost use Rattle.theory.specs.Beginnings.{begun_by};
 ghost use Rattle.cubes.specs.Division.{IsRootOf};
 ghost use Rattle.cubes.specs.Solved.{AreTrueBy, AreTrueResults, AreCheckedBy, AreCheckedResults, results_by};
@@ -50,25 +50,25 @@ impl LazySolver {
     }
 
     /// The outcome of a cube. A watcher is told what is done. The first call opens the solver, which
-    /// takes memory by the formula; it fails where a request for memory is refused or the watcher
+    /// takes memory by the formula, and keeps lines if this one asks for them; it fails where a request for memory is refused or the watcher
     /// stops it, and the next call opens another solver then.
-    pub fn solve<W: DivisionWatcher>(
+    pub fn solve<L: KeepsLines, W: DivisionWatcher>(
         &mut self,
         alloc: Global,
         formula: &Formula,
         plan: Plan,
         cube: &Cube,
         watcher: &W,
-    ) -> Result<Outcome<Row>, AllocError>
+    ) -> Result<Outcome<L>, AllocError>
         requires over { IsOver formula.now.vars cube.now }
         requires solver { IsLazySolver (begun_by plan.search formula.now) plan self.old }
-        ensures runs { IfOk result (λ o. Runs (begun_by plan.search formula.now) plan cube.now (outcome_of o)) }
-        ensures says { IfOk result (λ o. OutcomeSays plan.search (begun_by plan.search formula.now) cube.now (outcome_of o)) }
+        ensures runs { IfOk result (λ o. Runs (begun_by plan.search formula.now) plan cube.now (outcome_by L.lines o)) }
+        ensures says { IfOk result (λ o. OutcomeSays plan.search (begun_by plan.search formula.now) cube.now (outcome_by L.lines o)) }
         ensures kept { OnOk result (IsLazySolver (begun_by plan.search formula.now) plan self.new) }
     {
         let mut ready = match self.solver.take() {
             Some(solver) => solver,
-            None => CubeSolver::open(alloc, formula, plan, self.root)?,
+            None => CubeSolver::open(alloc, formula, plan, self.root, L::keeps())?,
         };
         let outcome = ready.solve(plan, cube, watcher)?;
         self.solver = Some(ready);
@@ -116,7 +116,7 @@ impl<L: KeepsLines> Source<L> {
                 let watched = Watched { gate, hand: 0 };
                 let outcome = self.solver.solve(alloc, formula, plan, cube, &watched)?;
                 tell_refuted(gate, 0, cube, &outcome);
-                Ok(outcome.kept(alloc)?)
+                Ok(outcome)
             }
         }
     }

@@ -5,7 +5,7 @@ ghost use Rattle.theory.specs.Beginnings.{begun_by};
 ghost use Rattle.cubes.specs.Division.{IsRootOf, IsSolverOf};
 
 use crate::results::{HasLines, WantedLine};
-use cdcl::{Outcome, Plan, Unwatched};
+use cdcl::{Outcome, Plan, Unkept, Unwatched};
 use cnf::{Formula, read_formula};
 use cubes::{CubeSolver, Root};
 use kernel::Cube;
@@ -182,7 +182,7 @@ fn root_of(
     ensures solver { OnOk result (IsSolverOf (begun_by plan.search formula.now) plan solver.new) }
     ensures root { IfOk result (λ r. IfSome r (λ p. IsRootOf (begun_by plan.search formula.now) plan p.1)) }
 {
-    let Outcome::Exhausted(var) = solver.solve(plan, &Cube::root(alloc), &Unwatched)? else {
+    let Outcome::Exhausted(var) = solver.solve::<Unkept, _>(plan, &Cube::root(alloc), &Unwatched)? else {
         return Ok(None);
     };
     let root = solver.root(var);
@@ -201,7 +201,7 @@ fn conflicts_in(
 {
     let before = solver.counts().conflicts;
     let cube = cube_of(alloc, formula.vars(), row.cube)?;
-    solver.solve(plan, &cube, &Unwatched)?;
+    solver.solve::<Unkept, _>(plan, &cube, &Unwatched)?;
     Ok(solver.counts().conflicts.saturating_sub(before))
 }
 
@@ -244,11 +244,11 @@ fn goes_on(
 /// Whether a solver that is told what another one found out of the cube without literals has the
 /// same outcome of it, for nothing, and of this cube, for no more conflicts than that one.
 fn is_told(alloc: Global, formula: &Formula, plan: Plan, row: &Row) -> Result<bool, AllocError> {
-    let mut first = CubeSolver::open(alloc, formula, plan, Root::Unknown)?;
+    let mut first = CubeSolver::open(alloc, formula, plan, Root::Unknown, true)?;
     let Some((var, root)) = root_of(alloc, formula, plan, &mut first)? else {
         return Ok(false);
     };
-    let mut told = CubeSolver::open(alloc, formula, plan, root)?;
+    let mut told = CubeSolver::open(alloc, formula, plan, root, true)?;
     let most = conflicts_in(alloc, formula, plan, &mut first, row)?;
     goes_on(alloc, formula, plan, &mut told, row, (var, most))
 }
@@ -275,7 +275,7 @@ fn comes(alloc: Global, row: &Row) -> Result<bool, Fail> {
         return Ok(false);
     };
     let formula = read_formula(alloc, row.text.as_bytes())?;
-    let mut solver = CubeSolver::open(alloc, &formula, plan, Root::Unknown)?;
+    let mut solver = CubeSolver::open(alloc, &formula, plan, Root::Unknown, true)?;
     Ok(solves(alloc, &formula, plan, &mut solver, row)?)
 }
 
@@ -309,7 +309,7 @@ fn comes_told_at(alloc: Global, place: usize) -> Result<bool, Fail> {
 fn asks_once(alloc: Global) -> Result<bool, Fail> {
     let formula = read_formula(alloc, FIVE.as_bytes())?;
     let plan = Plan::focused_by(2, soon_stable()).divided(2);
-    let mut solver = CubeSolver::open(alloc, &formula, plan, Root::Unknown)?;
+    let mut solver = CubeSolver::open(alloc, &formula, plan, Root::Unknown, true)?;
     let first = root_of(alloc, &formula, plan, &mut solver)?;
     let again = root_of(alloc, &formula, plan, &mut solver)?;
     let same = first == Some((2, Root::LookedAt(2))) && again == first;

@@ -65,7 +65,7 @@ pub fn solved(
     ensures runs { IfOk result (λ o. Runs (begun_by plan.search formula.now) plan cube.now (outcome_of o)) }
     ensures says { IfOk result (λ o. OutcomeSays plan.search (begun_by plan.search formula.now) cube.now (outcome_of o)) }
 {
-    let mut solver = CubeSolver::open(alloc, formula, plan, Root::Unknown)?;
+    let mut solver = CubeSolver::open(alloc, formula, plan, Root::Unknown, true)?;
     solver.solve(plan, cube, &Unwatched)
 }
 

@@ -187,7 +187,7 @@ pub(crate) fn by_breadth<G: Gate>(
     ensures divides { IfOk result (λ d. Divides formula.now plan d.facts.items d.waiting.items d.has_model) }
 {
     let gate = BoundedGate::of(gate);
-    let mut solver = CubeSolver::open(alloc, formula, plan, Root::Unknown)?;
+    let mut solver = CubeSolver::open(alloc, formula, plan, Root::Unknown, true)?;
     let mut facts = Vec::new(alloc);
     let mut has_model = false;
     let mut is_bounded = false;

@@ -210,7 +210,7 @@ pub(crate) fn go_on<R: Files + Clock + Alloc + Clone + Drop, E: Write, G: Gate>(
 ) -> Result<Ended, Said>
     ensures { IfOk result (λ ended. ended ≡ Ended.Done → way.new.own.items ≡ []) }
 {
-    let Ok(mut solver) = CubeSolver::open(alloc, formula, run.plan, Root::Unknown) else {
+    let Ok(mut solver) = CubeSolver::open(alloc, formula, run.plan, Root::Unknown, true) else {
         return Err(say_no_memory(faults, folder.path));
     };
     let mut facts = Vec::new(alloc);

@@ -14,13 +14,15 @@ ghost use Rattle.cdcl.specs.Outcome.{outcome_of};
 
 use crate::analysis::first_uip::{Learnt, analyze_in};
 use crate::analysis::marks::AnalysisScratch;
+use crate::api::counts::Unwatched;
 use crate::api::keeping::KeepsLines;
 use crate::api::outcome::Outcome;
 use crate::api::plan::Plan;
 use crate::api::solver::Solver;
+use crate::search::line_log::LineLog;
 use cnf::{Formula, Lit};
 use kernel::{Cube, Kernel};
-use lines::{Reader, Row};
+use lines::Reader;
 use std::alloc::{AllocError, Global};
 use std::marker::Model;
 
@@ -94,7 +96,12 @@ impl Model for Refutation {
 impl KeepsLines for Refutation {
     ghost lines = { λ refutation. refutation };
 
-    fn keep(alloc: Global, row: Row) -> Result<Refutation, AllocError> {
+    fn keeps() -> bool {
+        true
+    }
+
+    fn keep(alloc: Global, log: LineLog) -> Result<Refutation, AllocError> {
+        let row = log.into_row()?;
         let mut lines = Vec::with_capacity(alloc, row.len())?;
         let mut reader = Reader::of(row);
         'lines: loop {
@@ -130,7 +137,7 @@ pub fn solve_cube(
     ensures says { IfOk result (λ o. OutcomeSays ordered (searched formula.now) cube.now (outcome_of o)) }
 {
     let mut solver = Solver::open(alloc, formula, Plan::ordered(budget))?;
-    let outcome = solver.solve(cube)?.kept(alloc)?;
+    let outcome = solver.solve_as(cube, &Unwatched)?;
     Ok(outcome)
 }
 

@@ -3,11 +3,12 @@ ghost use Rattle.std.specs.Prelude.{◌≡◌, true, false, IfOk, OnOk, OnErr, I
 ghost use Rattle.theory.specs.Truth.{IsOver};
 ghost use Rattle.theory.specs.Runs.{RunsBy};
 ghost use Rattle.theory.specs.Results.{OutcomeSays};
-ghost use Rattle.cdcl.specs.Outcome.{outcome_of};
+ghost use Rattle.cdcl.specs.Outcome.{outcome_of, outcome_by};
 ghost use Rattle.theory.specs.Beginnings.{begun_by};
 
 use crate::api::budget::budget_of;
 use crate::api::counts::{Counts, Unwatched, Watcher};
+use crate::api::keeping::KeepsLines;
 use crate::api::outcome::Outcome;
 use crate::api::plan::Plan;
 use crate::search::searcher::Searcher;
@@ -63,8 +64,21 @@ impl Solver {
     pub fn open(alloc: Global, formula: &Formula, plan: Plan) -> Result<Solver, AllocError>
         ensures { IfOk result (λ s. s ≡ record { formula = begun_by plan.search formula.now; plan = plan; out_of_memory = false }) }
     {
+        Solver::keeping(alloc, formula, plan, true)
+    }
+
+    /// The same, which keeps the lines of a cube while it searches that, or doesn't: then its memory
+    /// doesn't grow by them.
+    pub fn keeping(
+        alloc: Global,
+        formula: &Formula,
+        plan: Plan,
+        keeps: bool,
+    ) -> Result<Solver, AllocError>
+        ensures { IfOk result (λ s. s ≡ record { formula = begun_by plan.search formula.now; plan = plan; out_of_memory = false }) }
+    {
         Ok(Solver {
-            search: Searcher::open(alloc, formula, plan)?,
+            search: Searcher::open(alloc, formula, plan, keeps)?,
             formula: Snapshot::of(formula),
             plan,
             out_of_memory: false,
@@ -108,6 +122,25 @@ impl Solver {
         ensures has_memory { OnOk result (self.new.out_of_memory ≡ false) }
         ensures stays { self.old.out_of_memory ≡ true → IsErr result }
     {
+        let outcome = self.solve_as(cube, watcher)?;
+        Ok(outcome)
+    }
+
+    /// As `solve_watched`, whatever keeps the lines of a refuted cube. Where that keeps some, the
+    /// solver has to be one that does.
+    pub fn solve_as<L: KeepsLines, W: Watcher>(
+        &mut self,
+        cube: &Cube,
+        watcher: &W,
+    ) -> Result<Outcome<L>, AllocError>
+        requires over { IsOver self.old.formula.vars cube.now }
+        ensures runs { IfOk result (λ o. RunsBy self.old.plan.search self.old.formula self.old.plan.budget cube.now (outcome_by L.lines o)) }
+        ensures says { IfOk result (λ o. OutcomeSays self.old.plan.search self.old.formula cube.now (outcome_by L.lines o)) }
+        ensures solves { (self.new.formula ≡ self.old.formula) × (self.new.plan ≡ self.old.plan) }
+        ensures refused { OnErr result (self.new.out_of_memory ≡ true) }
+        ensures has_memory { OnOk result (self.new.out_of_memory ≡ false) }
+        ensures stays { self.old.out_of_memory ≡ true → IsErr result }
+    {
         if self.out_of_memory {
             return Err(AllocError);
         }
@@ -116,7 +149,8 @@ impl Solver {
             return Err(AllocError);
         }
         let conflicts = budget_of(&self.plan, cube.lits().len());
-        let outcome = self.search.solve(cube, conflicts, watcher)?;
+        let found = self.search.solve(cube, conflicts, watcher)?;
+        let outcome = found.kept(self.search.allocator())?;
         watcher.counted(self.search.counts());
         self.out_of_memory = false;
         Ok(outcome)

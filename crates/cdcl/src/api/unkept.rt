@@ -3,25 +3,33 @@
 ghost use Rattle.std.specs.Prelude.{◌≡◌};
 
 use crate::api::keeping::KeepsLines;
+use crate::search::line_log::LineLog;
 use lines::Row;
 use std::alloc::{AllocError, Global};
 use std::marker::Model;
 use std::snapshot::Snapshot;
 
-/// Stands for the lines of a refuted cube, and keeps none of them: it takes no room.
+/// Which lines a cube had; it is no data.
+#[derive(Drop)]
+pub enum Had {
+    InRow(Snapshot<Row>),
+    InLog(Snapshot<LineLog>),
+}
+
+/// Stands for the lines of a refuted cube, and keeps none of them.
 #[derive(Drop)]
 pub struct Unkept {
-    // which lines they were; it is no data
-    lines: Snapshot<Row>,
+    had: Had,
 }
 
 impl Model for Unkept {
     ghost use Rattle.std.specs.Prelude.{List};
     ghost use Rattle.theory.specs.Learning as learning;
+    ghost use Rattle.cdcl.specs.Unkept.{had_lines};
 
     ghost Value = { List learning.Line };
 
-    ghost view = { λ u. u.lines.value };
+    ghost view = { λ u. had_lines u.had };
 }
 
 impl Unkept {
@@ -30,7 +38,7 @@ impl Unkept {
         ensures { result ≡ row.now }
     {
         Unkept {
-            lines: Snapshot::of(row),
+            had: Had::InRow(Snapshot::of(row)),
         }
     }
 }
@@ -38,7 +46,13 @@ impl Unkept {
 impl KeepsLines for Unkept {
     ghost lines = { λ unkept. unkept };
 
-    fn keep(_alloc: Global, row: Row) -> Result<Unkept, AllocError> {
-        Ok(Unkept::of(&row))
+    fn keeps() -> bool {
+        false
+    }
+
+    fn keep(_alloc: Global, log: LineLog) -> Result<Unkept, AllocError> {
+        Ok(Unkept {
+            had: Had::InLog(Snapshot::of(&log)),
+        })
     }
 }

@@ -22,6 +22,7 @@ use crate::api::counts::{Counts, Watcher, tell};
 use crate::api::outcome::Outcome;
 use crate::api::plan::Search;
 use crate::search::decisions::{Decisions, count_up_to};
+use crate::search::line_log::LineLog;
 use crate::search::line_marks::Mark;
 use crate::search::opening::open_kernel;
 use crate::search::tally::Tally;
@@ -29,7 +30,6 @@ use crate::search::values::{refute, values};
 use cnf::Formula;
 use heuristics::{Constants, GlueAverages, Mode, ModeSchedule, Round};
 use kernel::{Closed, Cube, Order, SearchKernel};
-use lines::Row;
 use std::alloc::{AllocError, Global};
 
 /// The state of a search. It can be stopped at a conflict, and resumed.
@@ -44,7 +44,7 @@ pub struct FocusedSearch {
     /// How many literals were decided in stable mode, also those that were taken back.
     pub(crate) decided: u64,
     /// The lines learnt, also those of clauses that were forgotten.
-    pub(crate) lines: Row,
+    pub(crate) lines: LineLog,
     /// The marks of these lines.
     pub(crate) marks: Vec<Mark>,
     /// The decision heuristic.
@@ -92,7 +92,7 @@ impl Drop for FocusedSearch {
 #[derive(Drop)]
 pub enum Stop {
     /// With an outcome, before it has counted as many conflicts as it may.
-    Ended(Outcome<Row>),
+    Ended(Outcome<LineLog>),
     /// At the last conflict that it may count, which isn't learnt from.
     Spent,
 }
@@ -105,11 +105,13 @@ pub(crate) fn if_stable(mode: Mode) -> u32
 }
 
 impl FocusedSearch {
-    /// A search of a formula, before its first cube.
+    /// A search of a formula, before its first cube, which keeps the lines that it learns, or
+    /// doesn't.
     pub fn open(
         alloc: Global,
         formula: &Formula,
         constants: Constants,
+        keeps: bool,
     ) -> Result<FocusedSearch, AllocError>
         ensures ready { IfOk result (λ s. IsReady ByPlace formula.now s.kernel) }
         ensures equipped { IfOk result IsEquipped }
@@ -127,7 +129,7 @@ impl FocusedSearch {
             conflicts: 0,
             stable_conflicts: 0,
             decided: 0,
-            lines: Row::new(alloc),
+            lines: LineLog::new(alloc, keeps),
             marks: Vec::new(alloc),
             decisions,
             averages,
@@ -176,7 +178,7 @@ impl FocusedSearch {
         &mut self,
         budget: u32,
         watcher: &W,
-    ) -> Result<Outcome<Row>, AllocError>
+    ) -> Result<Outcome<LineLog>, AllocError>
         requires focusing { IsFocusing self.old }
         requires units { HasUnits self.old }
         requires counted { (self.old.conflicts < budget) × (budget ≤ max_focused) }
@@ -195,7 +197,7 @@ impl FocusedSearch {
         &mut self,
         budget: u32,
         watcher: &W,
-    ) -> Result<Outcome<Row>, AllocError>
+    ) -> Result<Outcome<LineLog>, AllocError>
         requires focusing { IsFocusing self.old }
         requires units { HasUnits self.old }
         requires counted { (self.old.conflicts < budget) × (budget ≤ max_focused) }
@@ -213,7 +215,7 @@ impl FocusedSearch {
         cube: &Cube,
         budget: u32,
         watcher: &W,
-    ) -> Result<Outcome<Row>, AllocError>
+    ) -> Result<Outcome<LineLog>, AllocError>
         requires over { self.old.kernel.out_of_memory ≡ false → IsOver self.old.kernel.vars cube.now }
         requires equipped { IsEquipped self.old }
         requires ready { (F : Formula) × IsReady ByPlace F self.old.kernel }
@@ -317,7 +319,7 @@ impl FocusedSearch {
     }
 
     /// A conflict at level 0 refutes the cube.
-    pub(crate) fn refuted(&mut self, number: u64) -> Result<Outcome<Row>, AllocError>
+    pub(crate) fn refuted(&mut self, number: u64) -> Result<Outcome<LineLog>, AllocError>
         requires focusing { IsFocusing self.old }
         requires conflict { least_false (literals self.old.kernel.trail) self.old.kernel.clauses ≡ Some number }
         ensures refuted { IfOk result (λ o. outcome_of o

@@ -20,11 +20,11 @@ use crate::analysis::marks::AnalysisScratch;
 use crate::api::counts::{Counts, Watcher, tell};
 use crate::api::outcome::Outcome;
 use crate::api::plan::Search;
+use crate::search::line_log::LineLog;
 use crate::search::opening::open_kernel;
 use crate::search::values::{refute, values};
 use cnf::{Formula, Lit};
 use kernel::{Closed, Cube, Order, SearchKernel};
-use lines::Row;
 use std::alloc::{AllocError, Global};
 
 /// The state of a search.
@@ -35,7 +35,7 @@ pub(crate) struct OrderedSearch {
     /// The first variable that was decided.
     pub(crate) decided: Option<u32>,
     /// The lines learnt.
-    pub(crate) lines: Row,
+    pub(crate) lines: LineLog,
     /// Room for the analysis of conflicts.
     pub(crate) scratch: AnalysisScratch,
     /// What the last conflict taught.
@@ -57,8 +57,13 @@ impl Drop for OrderedSearch {
 }
 
 impl OrderedSearch {
-    /// A search of a formula with the unit clauses of its pure variables, before its first cube.
-    pub(crate) fn open(alloc: Global, formula: &Formula) -> Result<OrderedSearch, AllocError>
+    /// A search of a formula with the unit clauses of its pure variables, before its first cube,
+    /// which keeps the lines that it learns, or doesn't.
+    pub(crate) fn open(
+        alloc: Global,
+        formula: &Formula,
+        keeps: bool,
+    ) -> Result<OrderedSearch, AllocError>
         ensures { IfOk result (λ s. IsReady ByNumber (searched formula.now) s.kernel) }
     {
         let units = Search::Ordered.units(alloc, formula)?;
@@ -66,7 +71,7 @@ impl OrderedSearch {
             kernel: open_kernel(alloc, formula, &units, Order::ByNumber)?,
             conflicts: 0,
             decided: None,
-            lines: Row::new(alloc),
+            lines: LineLog::new(alloc, keeps),
             scratch: AnalysisScratch::new(),
             learnt: Learnt::none(alloc),
         })
@@ -94,7 +99,7 @@ impl OrderedSearch {
         &mut self,
         budget: u32,
         watcher: &W,
-    ) -> Result<Outcome<Row>, AllocError>
+    ) -> Result<Outcome<LineLog>, AllocError>
         requires searching { IsSearching ByNumber self.old.kernel }
         requires counted { self.old.conflicts < budget }
         ensures runs { IfOk result (λ o. RunsFrom (IsOrderedStep self.old.kernel.vars budget) (search_of self.old) (outcome_of o)) }
@@ -110,7 +115,7 @@ impl OrderedSearch {
     }
 
     /// Propagation and what follows its answer.
-    fn step(&mut self, budget: u32) -> Result<Option<Outcome<Row>>, AllocError>
+    fn step(&mut self, budget: u32) -> Result<Option<Outcome<LineLog>>, AllocError>
         requires searching { IsSearching ByNumber self.old.kernel }
         requires counted { self.old.conflicts < budget }
         ensures { IfOk result (λ r. IsSearchStep budget self.old r self.new) }
@@ -123,7 +128,7 @@ impl OrderedSearch {
 
     /// Where propagation came to rest: decides the least free variable to be false, or gives the
     /// model where none is free.
-    fn on_quiet(&mut self) -> Result<Option<Outcome<Row>>, AllocError>
+    fn on_quiet(&mut self) -> Result<Option<Outcome<LineLog>>, AllocError>
         requires searching { IsSearching ByNumber self.old.kernel }
         requires quiet { Propagates by_number self.old.kernel.clauses self.old.kernel.trail quiet self.old.kernel.trail }
         ensures next { IfOk result (λ r. definition.on_quiet self.old.kernel.vars (search_of self.old)
@@ -146,7 +151,11 @@ impl OrderedSearch {
     }
 
     /// A conflict above level 0 is counted; the last one that the budget allows exhausts the cube.
-    fn on_conflict(&mut self, number: u64, budget: u32) -> Result<Option<Outcome<Row>>, AllocError>
+    fn on_conflict(
+        &mut self,
+        number: u64,
+        budget: u32,
+    ) -> Result<Option<Outcome<LineLog>>, AllocError>
         requires searching { IsSearching ByNumber self.old.kernel }
         requires conflict { least_false (literals self.old.kernel.trail) self.old.kernel.clauses ≡ Some number }
         requires counted { self.old.conflicts < budget }
@@ -183,8 +192,9 @@ impl OrderedSearch {
         self.kernel.back_to(self.learnt.level);
         self.kernel.learn(&self.learnt.clause)?;
         self.conflicts += 1;
+        let none = Vec::new(self.lines.allocator());
         self.lines
-            .push(&self.learnt.clause, &self.learnt.hints, &[])?;
+            .push(&self.learnt.clause, &self.learnt.hints, &none)?;
         Ok(())
     }
 }

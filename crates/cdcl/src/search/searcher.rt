@@ -13,10 +13,10 @@ use crate::api::counts::{Counts, Watcher};
 use crate::api::outcome::Outcome;
 use crate::api::plan::{Plan, Search};
 use crate::search::focused::FocusedSearch;
+use crate::search::line_log::LineLog;
 use crate::search::ordered::OrderedSearch;
 use cnf::Formula;
 use kernel::Cube;
-use lines::Row;
 use std::alloc::{AllocError, Global};
 
 /// One of the searches, with all that it keeps from cube to cube.
@@ -27,16 +27,30 @@ pub(crate) enum Searcher {
 }
 
 impl Searcher {
-    /// The plan's search of a formula, before its first cube.
-    pub(crate) fn open(alloc: Global, formula: &Formula, plan: Plan) -> Result<Searcher, AllocError>
+    /// The plan's search of a formula, before its first cube, which keeps the lines that it learns, or
+    /// doesn't.
+    pub(crate) fn open(
+        alloc: Global,
+        formula: &Formula,
+        plan: Plan,
+        keeps: bool,
+    ) -> Result<Searcher, AllocError>
         ensures { IfOk result (IsReadyBy plan (begun_by plan.search formula.now)) }
     {
         match plan.search() {
-            Search::Ordered => Ok(Searcher::Ordered(OrderedSearch::open(alloc, formula)?)),
+            Search::Ordered => Ok(Searcher::Ordered(OrderedSearch::open(alloc, formula, keeps)?)),
             Search::Focused => {
-                let search = FocusedSearch::open(alloc, formula, plan.constants())?;
+                let search = FocusedSearch::open(alloc, formula, plan.constants(), keeps)?;
                 Ok(Searcher::Focused(search))
             }
+        }
+    }
+
+    /// Who gives it memory.
+    pub(crate) fn allocator(&self) -> Global {
+        match self {
+            Searcher::Ordered(search) => search.lines.allocator(),
+            Searcher::Focused(search) => search.allocator(),
         }
     }
 
@@ -54,7 +68,7 @@ impl Searcher {
         cube: &Cube,
         budget: u32,
         watcher: &W,
-    ) -> Result<Outcome<Row>, AllocError>
+    ) -> Result<Outcome<LineLog>, AllocError>
         requires ready { (F : Formula) × (plan : plans.Plan) × IsReadyBy plan F self.old × IsOver F.vars cube.now × (budget ≡ cube_budget plan cube.now) }
         requires budget { (1 ≤ budget) × (budget ≤ max_focused) }
         ensures runs { IfOk result (λ o. (F : Formula) (plan : plans.Plan) → IsReadyBy plan F self.old → budget ≡ cube_budget plan cube.now →

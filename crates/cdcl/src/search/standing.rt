@@ -9,9 +9,9 @@ ghost use Rattle.cdcl.specs.Focusing.{stable_at, IsFocusing, IsRefutedAtOnce, Co
 
 use crate::api::outcome::Outcome;
 use crate::search::focused::{FocusedSearch, if_stable};
+use crate::search::line_log::LineLog;
 use crate::search::values::values;
 use kernel::Closed;
-use lines::Row;
 use std::alloc::{AllocError, Global};
 
 impl FocusedSearch {
@@ -52,7 +52,7 @@ impl FocusedSearch {
 
     /// Propagation of the cube that was begun, and no more: its refutation, or none where it comes
     /// to rest.
-    pub fn propagate(&mut self) -> Result<Option<Outcome<Row>>, AllocError>
+    pub fn propagate(&mut self) -> Result<Option<Outcome<LineLog>>, AllocError>
         requires focusing { IsFocusing self.old }
         requires level { current_level self.old.kernel.trail ≡ 0 }
         ensures refuted { IfOk result (λ r. IfSome r (λ o. IsRefutedAtOnce self.old (outcome_of o))) }
@@ -70,7 +70,7 @@ impl FocusedSearch {
     }
 
     /// A cube was looked at, with this outcome and so many conflicts.
-    pub fn add_look(&mut self, outcome: &Outcome<Row>, conflicts: u64)
+    pub fn add_look(&mut self, outcome: &Outcome<LineLog>, conflicts: u64)
         ensures { self.new ≡ self.old }
     {
         self.tally.add_look(outcome, conflicts);

@@ -2,8 +2,8 @@
 
 use crate::api::counts::Counts;
 use crate::api::outcome::Outcome;
+use crate::search::line_log::LineLog;
 use heuristics::Mode;
-use lines::Row;
 use std::marker::Model;
 
 /// A count that no proof speaks of. It stays once it has come to the greatest number.
@@ -83,7 +83,7 @@ impl Tally {
 
     /// A cube was looked at, with this outcome and so many conflicts. Only that which refutes the
     /// cube is no decision's.
-    pub(crate) fn add_look(&mut self, outcome: &Outcome<Row>, conflicts: u64) {
+    pub(crate) fn add_look(&mut self, outcome: &Outcome<LineLog>, conflicts: u64) {
         self.looks = self.looks.saturating_add(1);
         if let Outcome::Exhausted(_) = outcome {
             self.failed_literals = self.failed_literals.saturating_add(conflicts);

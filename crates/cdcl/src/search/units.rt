@@ -19,7 +19,7 @@ impl FocusedSearch {
         ensures { OnOk result ((e : trails.Entry) → slice_get self.old.kernel.trail place ≡ Some e → LearnsUnit self.old place e self.new) }
     {
         let entry = self.kernel.trail()[place];
-        self.lines.push(&[entry.lit], &self.unit_hints.hints, &[])?;
+        self.lines.push_unit(entry.lit, &self.unit_hints.hints)?;
         self.kernel.learn_unit(place)?;
         self.marks.push(Mark::fresh(0))?;
         self.tally.add_unit();

@@ -10,8 +10,8 @@ ghost use Rattle.cdcl.specs.Outcome.{outcome_of};
 use crate::analysis::first_uip::{Learnt, analyze_in};
 use crate::analysis::marks::AnalysisScratch;
 use crate::api::outcome::Outcome;
+use crate::search::line_log::LineLog;
 use kernel::SearchKernel;
-use lines::Row;
 use std::alloc::{AllocError, Global};
 
 /// The truth values on the trail.
@@ -32,14 +32,15 @@ pub(crate) fn refute(
     kernel: &SearchKernel,
     scratch: &mut AnalysisScratch,
     learnt: &mut Learnt,
-    lines: &mut Row,
+    lines: &mut LineLog,
     number: u64,
-) -> Result<Outcome<Row>, AllocError>
+) -> Result<Outcome<LineLog>, AllocError>
     requires { least_false (literals kernel.now.trail) kernel.now.clauses ≡ Some number }
     ensures { IfOk result (λ o. outcome_of o
         ≡ refuted (lines.old ++ learn kernel.now.clauses kernel.now.trail number ∷ [])) }
 {
     analyze_in(kernel, scratch, number, learnt)?;
-    lines.push(&learnt.clause, &learnt.hints, &[])?;
+    let none = Vec::new(lines.allocator());
+    lines.push(&learnt.clause, &learnt.hints, &none)?;
     Ok(Outcome::Refuted(lines.hand_out()?))
 }

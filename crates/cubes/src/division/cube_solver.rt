@@ -6,16 +6,15 @@ ghost use Rattle.theory.specs.Search.{exhausted};
 ghost use Rattle.theory.specs.Runs.{Runs};
 ghost use Rattle.theory.specs.Results.{OutcomeSays};
 ghost use Rattle.theory.specs.Beginnings.{begun_by};
-ghost use Rattle.cdcl.specs.Outcome.{outcome_of};
+ghost use Rattle.cdcl.specs.Outcome.{outcome_by};
 ghost use Rattle.cubes.specs.Division.{IsRootOf, IsSolverOf};
 
 use crate::division::dividing::DividingSearch;
 use crate::division::first_search::DivisionWatcher;
 use crate::division::root::Root;
-use cdcl::{Counts, Outcome, Plan, Search, Solver, budget_of};
+use cdcl::{Counts, KeepsLines, Outcome, Plan, Search, Solver, budget_of};
 use cnf::Formula;
 use kernel::Cube;
-use lines::Row;
 use std::alloc::{AllocError, Global};
 
 /// Solves cubes of one formula by one plan. Where the plan wants a division, the first cube of few
@@ -29,21 +28,24 @@ pub enum CubeSolver {
 
 impl CubeSolver {
     /// A solver of a formula by a plan, with what is known of the cube without literals: that isn't
-    /// searched again. It takes time and memory by the formula's literals and variables, and fails
+    /// searched again. It keeps the lines of a cube while it searches that, or doesn't. It takes time and memory by the formula's literals and variables, and fails
     /// where that is refused.
     pub fn open(
         alloc: Global,
         formula: &Formula,
         plan: Plan,
         root: Root,
+        keeps: bool,
     ) -> Result<CubeSolver, AllocError>
         requires { IsRootOf (begun_by plan.search formula.now) plan root }
         ensures { IfOk result (IsSolverOf (begun_by plan.search formula.now) plan) }
     {
         match plan.search() {
-            Search::Ordered => Ok(CubeSolver::Ordered(Solver::open(alloc, formula, plan)?)),
+            Search::Ordered => Ok(CubeSolver::Ordered(Solver::keeping(
+                alloc, formula, plan, keeps,
+            )?)),
             Search::Focused => {
-                let search = DividingSearch::open(alloc, formula, plan, root)?;
+                let search = DividingSearch::open(alloc, formula, plan, root, keeps)?;
                 Ok(CubeSolver::Focused(search))
             }
         }
@@ -51,27 +53,28 @@ impl CubeSolver {
 
     /// The outcome of a cube over the formula's variables, by the plan: whatever cubes came before,
     /// it is the same. A watcher is told what is done. It fails where a request for memory is refused
-    /// or the watcher stops it.
-    pub fn solve<W: DivisionWatcher>(
+    /// or the watcher stops it, and where lines are asked for that it doesn't keep.
+    pub fn solve<L: KeepsLines, W: DivisionWatcher>(
         &mut self,
         plan: Plan,
         cube: &Cube,
         watcher: &W,
-    ) -> Result<Outcome<Row>, AllocError>
+    ) -> Result<Outcome<L>, AllocError>
         requires { (F : Formula) × IsSolverOf F plan self.old × IsOver F.vars cube.now }
-        ensures runs { IfOk result (λ o. (F : Formula) → IsSolverOf F plan self.old → Runs F plan cube.now (outcome_of o)) }
-        ensures says { IfOk result (λ o. (F : Formula) → IsSolverOf F plan self.old → IsOver F.vars cube.now → OutcomeSays plan.search F cube.now (outcome_of o)) }
+        ensures runs { IfOk result (λ o. (F : Formula) → IsSolverOf F plan self.old → Runs F plan cube.now (outcome_by L.lines o)) }
+        ensures says { IfOk result (λ o. (F : Formula) → IsSolverOf F plan self.old → IsOver F.vars cube.now → OutcomeSays plan.search F cube.now (outcome_by L.lines o)) }
         ensures kept { OnOk result ((F : Formula) → IsSolverOf F plan self.old → IsSolverOf F plan self.new) }
     {
         match self {
-            CubeSolver::Ordered(solver) => solver.solve_watched(cube, watcher),
+            CubeSolver::Ordered(solver) => solver.solve_as(cube, watcher),
             CubeSolver::Focused(search) => {
                 let _trail = search.search.kernel.trail(); // it ensures what the clauses are over
                 let lits = cube.lits(); // it ensures that they are distinct
                 if watcher.stops() {
                     return Err(AllocError);
                 }
-                let outcome = search.solve(cube, budget_of(&plan, lits.len()), watcher)?;
+                let found = search.solve(cube, budget_of(&plan, lits.len()), watcher)?;
+                let outcome = found.kept(search.search.allocator())?;
                 watcher.counted(search.search.counts());
                 Ok(outcome)
             }

@@ -19,10 +19,9 @@ ghost use Rattle.cubes.specs.Division.{IsKnown, IsDivisionOf, IsRootOf, FirstSay
 use crate::division::first_search::{DivisionWatcher, FirstAnswer, FirstSearch};
 use crate::division::looking::{look, rank};
 use crate::division::root::Root;
-use cdcl::{FocusedSearch, Outcome, Plan, Stop, Watcher};
+use cdcl::{FocusedSearch, LineLog, Outcome, Plan, Stop, Watcher};
 use cnf::Formula;
 use kernel::Cube;
-use lines::Row;
 use lookahead::Ranking;
 use std::alloc::{AllocError, Global};
 
@@ -44,7 +43,7 @@ pub(crate) enum Division {
 #[derive(Drop)]
 pub(crate) enum First {
     /// An outcome before it.
-    Ended(Outcome<Row>),
+    Ended(Outcome<LineLog>),
     /// The conflict, with so few decisions in stable mode that the formula is divided.
     FewDecisions,
     /// The conflict, with more decisions.
@@ -155,18 +154,19 @@ fn division_of(search: &FocusedSearch, root: Root) -> Result<Division, AllocErro
 
 impl DividingSearch {
     /// The plan's search of a formula, before its first cube, with what is known of the cube
-    /// without literals.
+    /// without literals. It keeps the lines of a cube, or doesn't.
     pub(crate) fn open(
         alloc: Global,
         formula: &Formula,
         plan: Plan,
         root: Root,
+        keeps: bool,
     ) -> Result<DividingSearch, AllocError>
         requires search { plan.search ≡ plans.focused (constants_from plan.search) }
         requires root { IsRootOf formula.now plan root }
         ensures { IfOk result (IsDividing plan formula.now) }
     {
-        let search = FocusedSearch::open(alloc, formula, plan.constants())?;
+        let search = FocusedSearch::open(alloc, formula, plan.constants(), keeps)?;
         let division = division_of(&search, root)?;
         Ok(DividingSearch {
             search,
@@ -239,7 +239,7 @@ impl DividingSearch {
         cube: &Cube,
         budget: u32,
         watcher: &W,
-    ) -> Result<Outcome<Row>, AllocError>
+    ) -> Result<Outcome<LineLog>, AllocError>
         requires ready { (F : Formula) × (plan : plans.Plan) × IsDividing plan F self.old × IsOver F.vars cube.now }
         requires budget { (1 ≤ budget) × (budget ≤ max_focused) }
         ensures runs { IfOk result (λ o. (F : Formula) (plan : plans.Plan) → IsDividing plan F self.old → budget ≡ cube_budget plan cube.now →
@@ -255,7 +255,7 @@ impl DividingSearch {
         cube: &Cube,
         budget: u32,
         watcher: &W,
-    ) -> Result<Outcome<Row>, AllocError>
+    ) -> Result<Outcome<LineLog>, AllocError>
         requires ready { (F : Formula) × (plan : plans.Plan) × IsDividing plan F self.old × IsKnown F plan self.old.division × IsOver F.vars cube.now }
         requires budget { (1 ≤ budget) × (budget ≤ max_focused) }
         ensures runs { IfOk result (λ o. (F : Formula) (plan : plans.Plan) → IsDividing plan F self.old → IsKnown F plan self.old.division → 2 ^ length cube.now < plan.divide → budget ≡ cube_budget plan cube.now →
@@ -276,7 +276,7 @@ impl DividingSearch {
         root: &Cube,
         budget: u32,
         watcher: &W,
-    ) -> Result<Outcome<Row>, AllocError>
+    ) -> Result<Outcome<LineLog>, AllocError>
         requires root { root.now ≡ [] }
         requires ready { (F : Formula) × (plan : plans.Plan) × IsDividing plan F self.old × (2 ≤ plan.divide) × (budget ≡ cube_budget plan []) }
         ensures runs { IfOk result (λ o. (F : Formula) (plan : plans.Plan) → IsDividing plan F self.old → 2 ≤ plan.divide → budget ≡ cube_budget plan [] →
@@ -296,7 +296,7 @@ impl DividingSearch {
         cube: &Cube,
         budget: u32,
         watcher: &W,
-    ) -> Result<Outcome<Row>, AllocError>
+    ) -> Result<Outcome<LineLog>, AllocError>
         requires ready { (F : Formula) × (plan : plans.Plan) × IsDividing plan F self.old × IsOver F.vars cube.now × (budget ≡ cube_budget plan cube.now) }
         requires budget { (1 ≤ budget) × (budget ≤ max_focused) }
         ensures runs { IfOk result (λ o. (F : Formula) (plan : plans.Plan) → IsDividing plan F self.old → budget ≡ cube_budget plan cube.now →

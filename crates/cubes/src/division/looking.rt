@@ -12,9 +12,8 @@ ghost use Rattle.cdcl.specs.Outcome.{outcome_of};
 ghost use Rattle.cdcl.specs.Searching.{IsReady};
 ghost use Rattle.cdcl.specs.Focusing.{IsEquipped, IsFocusing, Continues, IsKept};
 
-use cdcl::{FocusedSearch, Outcome};
+use cdcl::{FocusedSearch, LineLog, Outcome};
 use kernel::Cube;
-use lines::Row;
 use lookahead::{Ranking, choose};
 use std::alloc::AllocError;
 
@@ -28,7 +27,10 @@ pub(crate) fn rank(search: &FocusedSearch) -> Result<Ranking, AllocError>
 
 /// Where propagation came to rest: the model where no held variable is free, and else the variable
 /// that the cube is split on.
-fn look_at_rest(search: &mut FocusedSearch, ranking: &Ranking) -> Result<Outcome<Row>, AllocError>
+fn look_at_rest(
+    search: &mut FocusedSearch,
+    ranking: &Ranking,
+) -> Result<Outcome<LineLog>, AllocError>
     requires focusing { IsFocusing search.old }
     requires rest { IsAtRest search.old.kernel }
     requires ranking { IsRanking search.old.kernel.vars search.old.kernel.clauses ranking.now }
@@ -44,7 +46,10 @@ fn look_at_rest(search: &mut FocusedSearch, ranking: &Ranking) -> Result<Outcome
 }
 
 /// A look at the cube that was begun.
-fn look_from_here(search: &mut FocusedSearch, ranking: &Ranking) -> Result<Outcome<Row>, AllocError>
+fn look_from_here(
+    search: &mut FocusedSearch,
+    ranking: &Ranking,
+) -> Result<Outcome<LineLog>, AllocError>
     requires focusing { IsFocusing search.old }
     requires level { current_level search.old.kernel.trail ≡ 0 }
     requires ranking { IsRanking search.old.kernel.vars search.old.kernel.clauses ranking.now }
@@ -63,7 +68,7 @@ pub(crate) fn look(
     search: &mut FocusedSearch,
     cube: &Cube,
     ranking: &Ranking,
-) -> Result<Outcome<Row>, AllocError>
+) -> Result<Outcome<LineLog>, AllocError>
     requires over { search.old.kernel.out_of_memory ≡ false → IsOver search.old.kernel.vars cube.now }
     requires equipped { IsEquipped search.old }
     requires ready { (F : Formula) × IsReady ByPlace F search.old.kernel × IsRanking F.vars F.clauses ranking.now }

@@ -52,13 +52,13 @@ pub(crate) fn prepare<L: KeepsLines, G: Gate>(
     }
     let _vars = formula.vars(); // it ensures what the proof needs of the formula
     let root = Cube::root(alloc);
-    let mut solver = CubeSolver::open(alloc, formula, plan, Root::Unknown)?;
-    match solver.solve(plan, &root, &Prepared { gate })? {
+    let mut solver = CubeSolver::open(alloc, formula, plan, Root::Unknown, L::keeps())?;
+    match solver.solve::<L, _>(plan, &root, &Prepared { gate })? {
         Outcome::Exhausted(var) => Ok(Beginning::Open(solver.root(var))),
         Outcome::Model(values) => Ok(decided(alloc, gate, Tree::Model(values))),
-        Outcome::Refuted(row) => {
+        Outcome::Refuted(lines) => {
             let mut nodes = Vec::new(alloc);
-            nodes.push(Node::Leaf(L::keep(alloc, row)?))?;
+            nodes.push(Node::Leaf(lines))?;
             Ok(decided(alloc, gate, Tree::Refuted(nodes)))
         }
     }

@@ -1,5 +1,4 @@
-use Rattle.std.proofs.Common.{◌∷◌, [], ap, arith}
-use Rattle.theory.specs.Trees.{refuted_leaf}
+use Rattle.std.proofs.Common.{◌∷◌, [], refl, arith}
 use Rattle.theory.specs.Beginnings.{begun_by}
 use Rattle.cubes.specs.declared.tree.Tree.TheVariants.{Model, Refuted}
 use Rattle.cubes.specs.Result.{IsResultBy}
@@ -30,9 +29,9 @@ returns-in-Model-clause-says g c = rw c.decided.ensures (says g.L.KeepsLines.lin
 refuted : (g : Over) (c : goal.After-drop-root-inside-2 g) → IsResultBy g.L.KeepsLines.lines (begun_by c.args.plan.search c.args.formula.now) c.args.plan (Refuted c.push.new.self)
 refuted g c =
     root-result g.L.KeepsLines.lines (begun_by c.args.plan.search c.args.formula.now) c.args.plan (Refuted c.push.new.self) (
-      c.in-Refuted.row,
+      g.L.KeepsLines.lines c.in-Refuted.lines,
       rw (c.root-root.ensures, c.in-Refuted.is) at (c.in_ok-var.ensures.runs (begun_by c.args.plan.search c.args.formula.now) c.in_ok-solver.ensures),
-      rw (c.in_ok-push-in-Refuted.ensures.items, c.new-nodes.ensures.items) (ap (λ row. refuted_leaf row ∷ []) c.in_ok-keep-in-Refuted.ensures),
+      rw (c.in_ok-push-in-Refuted.ensures.items, c.new-nodes.ensures.items) refl,
     )
 
 pub returns-clause-begins : goal.returns-clause-begins

@@ -1,5 +1,4 @@
-use Rattle.std.proofs.Common.{◌≡◌, ◌∙◌, ◌+◌, ◌++◌, ◌∷◌, [], ℕ, List, length, ap, ap₂, sym, subst, refl, if◌then◌else◌}
-use Rattle.theory.specs.Literals.{Clause}
+use Rattle.std.proofs.Common.{◌≡◌, ◌∙◌, ◌+◌, ◌++◌, ◌∷◌, [], ℕ, List, length, ap, sym, subst, refl, if◌then◌else◌}
 use Rattle.theory.specs.Trails.{literals, up_to}
 use Rattle.theory.specs.Forgetting.{Mark, with_used}
 use Rattle.theory.specs.Rephasing.{is_over}
@@ -120,9 +119,7 @@ learning c =
       same_back = refl;
       ends = c.in_ok-forgets.ensures.ends;
       goes_on = c.in_ok-forgets.ensures.goes_on;
-      lines = c.in_ok-push.ensures.ok ∙ (ap₂ (λ (x : Clause) (y : List ℕ). e.lines ++ record { clause = x; hints = y; forgets = c.deref-3.result.now } ∷ []) c.deref.ensures.value c.deref-2.ensures.value
-          ∙ (ap (λ (z : List ℕ). e.lines ++ record { clause = e.analysis.learnt.clause.items; hints = e.analysis.learnt.hints.items; forgets = z } ∷ []) c.deref-3.ensures.value
-          ∙ ap (λ (x : Analysis). e.lines ++ record { clause = x.learnt.clause.items; hints = x.learnt.hints.items; forgets = ns } ∷ []) ended));
+      lines = c.in_ok-push.ensures.ok ∙ ap (λ (x : Analysis). e.lines ++ record { clause = x.learnt.clause.items; hints = x.learnt.hints.items; forgets = ns } ∷ []) ended;
       marks = c.in_ok-push-2.ensures.items ∙ ap (λ (x : Mark). e.marks.items ++ x ∷ []) c.fresh.ensures;
       same = refl;
       lawful = c.trail-trail.ensures.lawful;

@@ -1,4 +1,4 @@
-use Rattle.std.proofs.Common.{◌≡◌, ◌∙◌, ◌++◌, ◌∷◌, [], List, ℕ, refl, ap}
+use Rattle.std.proofs.Common.{◌≡◌, ◌∙◌, ◌++◌, ◌∷◌, [], refl, ap}
 use Rattle.theory.specs.Trails.{Entry}
 use Rattle.cdcl.proofs.PlaceLemmas.{entry-read}
 use Rattle.cdcl.proofs.search.focused.FocusedSearch.learn_unit.Goals as goal
@@ -8,8 +8,8 @@ returns c e at =
     let T = c.args.self.now.kernel.trail in
     let read : c.entry.inside.lit ≡ e.lit = ap (λ (x : Entry). x.lit) (c.entry.view_is ∙ entry-read T c.trail.result.now c.args.place c.index-trail-place.result e c.trail.ensures.trail c.index-trail-place.is at) in
     record {
-      lines = (rw read at c.in_ok-push.ensures.ok) ∙ ap (λ (ns : List ℕ). c.args.self.now.lines ++ record { clause = e.lit ∷ []; hints = ns; forgets = [] } ∷ []) c.deref.ensures.value;
-      marks = c.in_ok-push-2.ensures.items ∙ ap (λ x. c.args.self.now.marks.items ++ x ∷ []) c.fresh.ensures;
+      lines = rw read at c.in_ok-push_unit.ensures.ok;
+      marks = c.in_ok-push.ensures.items ∙ ap (λ x. c.args.self.now.marks.items ++ x ∷ []) c.fresh.ensures;
       kernel = c.in_ok-learn_unit.ensures.learnt e at;
       same = refl;
     }
