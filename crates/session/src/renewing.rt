@@ -187,6 +187,24 @@ impl Search {
         Ok(())
     }
 
+    /// Lets the next search begin with these values, of the numbers from 0 on, once the kernel has all
+    /// clauses.
+    pub(crate) fn prefer(
+        &mut self,
+        formula: &GrowingFormula,
+        loaded: &mut usize,
+        values: &[bool],
+    ) -> Result<(), AllocError>
+        requires { IsLoaded formula.now.clauses (take loaded.old formula.now.clauses) self.old }
+        ensures loaded { OnOk result (IsLoaded formula.now.clauses (take loaded.new formula.now.clauses) self.new) }
+        ensures within { OnOk result (loaded.new ≤ length formula.now.clauses) }
+    {
+        self.load(formula, *loaded)?;
+        *loaded = formula.clause_count();
+        self.choice.take_saved(self.kernel.vars(), values);
+        Ok(())
+    }
+
     /// Whether the kernel has to be opened anew: for want of variables, or since it has too many
     /// clauses; or whether that takes less time than to put in what it lacks, one clause after the
     /// other: each takes a step for each clause of one literal, and opening one for each literal.
@@ -245,6 +263,7 @@ impl Search {
         let mut glues = vec![in alloc; 0; clauses.clause_count()]?;
         put_learnt(&self.kernel, &self.glues, most, &mut clauses, &mut glues)?;
         self.make_room(alloc, room)?;
+        self.before = self.counts();
         self.kernel = open_kernel(alloc, &clauses)?;
         self.glues = glues;
         let count = clauses.clause_count();
@@ -267,7 +286,7 @@ impl Search {
             return Ok(());
         }
         let mut choice = Choice::open(alloc, room)?;
-        choice.take_saved(room, &self.choice);
+        choice.take_saved(room, &self.choice.saved);
         let lessons = Lessons::open(alloc, room)?;
         let marked = vec![in alloc; false; room as usize + 1]?;
         self.lessons = lessons;
