@@ -28,7 +28,8 @@ const GLUES: usize = 64;
 const KEPT_GLUE: u32 = 2;
 
 /// The number of variables that there is room for, where so many more are needed than there is room
-/// for now: twice as many, so that each variable is moved to new room only a few times.
+/// for now: at first just as many, since each model has values of all of them; then twice as many, so
+/// that each variable is moved to new room only a few times.
 fn room_for(room: u32, vars: u32) -> u32
     requires room { room ≤ max_vars large }
     requires vars { vars ≤ max_vars large }
@@ -38,6 +39,9 @@ fn room_for(room: u32, vars: u32) -> u32
 {
     if vars <= room {
         return room;
+    }
+    if room == 0 {
+        return vars;
     }
     (2 * vars).min(Limits::Large.vars())
 }
