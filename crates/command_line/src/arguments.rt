@@ -3,7 +3,7 @@
 use crate::commands::whole_command;
 use crate::effort::{Asked, Choice, FOCUSED_BUDGET, SPREAD_BUDGET, greatest_budget};
 use crate::refusals::refusal_of;
-use crate::request::{FormulaFile, Request, Shown};
+use crate::request::{FormulaFile, ModelsAsked, Request, Shown};
 use crate::spread_arguments::{conquer_request, divide_request, gather_request, status_request};
 use clap::error::ErrorKind;
 use clap::{ArgMatches, Command, Error};
@@ -152,6 +152,16 @@ fn session_request<'a>(matches: &ArgMatches<'a>) -> Option<Request<'a>> {
     })
 }
 
+fn models_request<'a>(matches: &ArgMatches<'a>) -> Option<Request<'a>> {
+    Some(Request::Models(ModelsAsked {
+        formula: formula_in(matches, "FILE")?,
+        limits: limits_of(matches),
+        limit: matches.get_one::<u32>("limit"),
+        projection: matches.get_str("project"),
+        is_counted: matches.get_flag("count"),
+    }))
+}
+
 fn explain_request<'a>(matches: &ArgMatches<'a>) -> Option<Request<'a>> {
     let number = matches.get_one::<u32>("NUMBER")?;
     let behind = matches.get_one::<u32>("REFUSAL");
@@ -165,6 +175,7 @@ fn request_in<'a>(matches: &ArgMatches<'a>) -> Option<Request<'a>> {
         "check" => check_request(matches),
         "tidy" => tidy_request(matches),
         "session" => session_request(matches),
+        "models" => models_request(matches),
         "explain" => explain_request(matches),
         "divide" => Some(Request::Spread(divide_request(matches)?)),
         "conquer" => Some(Request::Spread(conquer_request(matches)?)),

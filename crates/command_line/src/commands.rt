@@ -2,12 +2,13 @@
 
 use crate::options::{
     ANY_MODEL, CHECK_LARGE, CHECK_PROGRESS, CHECK_STATS, CHECKED_FORMULA, CHECKED_PROOF,
-    CONQUER_HANDS, CUBE_PROGRESS, DISTINCT_STATUS, DIVIDE, DIVIDE_BUDGET, DIVIDED_FORMULA,
+    CONQUER_HANDS, COUNT, CUBE_PROGRESS, DISTINCT_STATUS, DIVIDE, DIVIDE_BUDGET, DIVIDED_FORMULA,
     EXTENDED, FORMULA_FILE, GATHER_HANDS, GATHER_PROGRESS, GATHER_PROOF, GATHER_STATS, HANDS, INTO,
-    LARGE, LENIENT, MINUTES, MODEL, NUMBER, PART, PLACED_PROOF, PROOF, QUESTIONS, REFUSAL, ROUND,
-    RUN, Row, SEARCH, SECONDS, SIMPLIFY, SOLVE_BUDGET, SOLVE_PROGRESS, SOLVE_STATS, SOLVES,
-    VERBOSE, WANTED, arg_of,
+    LARGE, LENIENT, LIMIT, MINUTES, MODEL, NUMBER, PART, PLACED_PROOF, PROJECT, PROOF, QUESTIONS,
+    REFUSAL, ROUND, RUN, SEARCH, SECONDS, SIMPLIFY, SOLVE_BUDGET, SOLVE_PROGRESS, SOLVE_STATS,
+    SOLVES, VERBOSE, WANTED,
 };
+use crate::row::{Row, arg_of};
 use clap::Command;
 use std::alloc::{AllocError, Global};
 
@@ -25,6 +26,7 @@ const EXAMPLES: &str = "Examples:
   cubesat check f.cnf f.lrat          check the proof
   cubesat tidy f.cnf                  write the formula without what repeats
   cubesat session < questions         answer questions of a growing formula
+  cubesat models f.cnf                all models of f.cnf
   cubesat divide --into RUN f.cnf     begin a run on many machines
   cubesat explain 51 5                what `fault 51: refusal 5` means";
 
@@ -36,7 +38,7 @@ struct CommandRow {
     args: &'static [Row],
 }
 
-static COMMANDS: [CommandRow; 9] = [
+static COMMANDS: [CommandRow; 10] = [
     CommandRow {
         name: "solve",
         about: "Decide a formula: status 10 satisfiable, 20 unsatisfiable, 0 unknown, 1 on a fault",
@@ -82,6 +84,11 @@ static COMMANDS: [CommandRow; 9] = [
         name: "session",
         about: "Answer questions of a growing formula, each as soon as it is read: `p inccnf`, clauses, and `a LITERALS 0` for a question under assumptions",
         args: &[MODEL, QUESTIONS],
+    },
+    CommandRow {
+        name: "models",
+        about: "Print all models of a formula: status 10, 20 where there is none",
+        args: &[LIMIT, PROJECT, COUNT, LENIENT, LARGE, FORMULA_FILE],
     },
     CommandRow {
         name: "divide",

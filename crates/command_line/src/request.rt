@@ -19,6 +19,19 @@ pub struct Shown {
     pub verbose: bool,
 }
 
+/// Which models of a formula are asked for, and what is printed of them.
+#[derive(Clone, Copy)]
+pub struct ModelsAsked<'a> {
+    pub formula: FormulaFile<'a>,
+    pub limits: Limits,
+    /// The most models, if not all.
+    pub limit: Option<u32>,
+    /// The variables in which they are to differ, as they are typed, if not all.
+    pub projection: Option<&'a str>,
+    /// Whether only their number is printed.
+    pub is_counted: bool,
+}
+
 /// What the command line asks for.
 #[derive(Clone, Copy)]
 pub enum Request<'a> {
@@ -51,6 +64,8 @@ pub enum Request<'a> {
         /// Whether the answer to a question has its model.
         shows_models: bool,
     },
+    /// Print the models of the formula.
+    Models(ModelsAsked<'a>),
     /// Say what a number that the program printed means, and the one behind it.
     Explain {
         number: u32,

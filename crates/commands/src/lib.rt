@@ -1,7 +1,8 @@
-//! The commands that decide a formula, check a proof, tidy a formula and answer questions: their
-//! files, statuses, words and figures.
+//! The commands that decide a formula, check a proof, tidy a formula, answer questions and list
+//! models: their files, statuses, words and figures.
 #![tactic(auto)]
 
+mod all_models;
 mod anew;
 mod checking;
 mod explanations;
@@ -10,6 +11,7 @@ mod formula_text;
 mod input;
 mod notes;
 mod placed_proof;
+mod projection;
 mod questions;
 mod same_file;
 mod solving;
@@ -17,6 +19,7 @@ mod tidied;
 mod watched;
 mod worded;
 
+pub use all_models::list_models;
 pub use checking::{CheckEnd, check};
 pub use explanations::explanation;
 pub use fault_lines::{

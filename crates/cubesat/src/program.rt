@@ -9,8 +9,8 @@ use clap::error::ErrorKind;
 use cnf::Limits;
 use command_line::{Request, request_of};
 use commands::{
-    CheckRules, FAILED, Locks, NoLocks, Screen, check, explanation, print_fault, session, solve,
-    tidy,
+    CheckRules, FAILED, Locks, NoLocks, Screen, check, explanation, list_models, print_fault,
+    session, solve, tidy,
 };
 use lrat::Variables;
 use messages::{say_no_memory, say_not_printed};
@@ -171,6 +171,7 @@ fn serve<
         Request::Session { file, shows_models } => {
             session(rt, alloc, file, shows_models, input, answer, faults)
         }
+        Request::Models(asked) => list_models(rt, alloc, asked, input, answer, faults),
         Request::Explain { number, behind } => explain(number, behind, answer, faults),
         Request::Spread(_) => {
             let _ = writeln!(
