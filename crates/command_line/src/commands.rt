@@ -134,9 +134,14 @@ static COMMANDS: [CommandRow; 10] = [
     },
 ];
 
+/// The commands. Behind a call the table is no part of the proofs of those that go over it.
+fn commands() -> &'static [CommandRow] {
+    &COMMANDS
+}
+
 /// Whether a word is a command's name, or the parser's own command.
 pub fn is_command(word: &str) -> bool {
-    word == "help" || COMMANDS.iter().any(|command| command.name == word)
+    word == "help" || commands().iter().any(|command| command.name == word)
 }
 
 fn with_args<'a>(
@@ -163,7 +168,7 @@ pub(crate) fn whole_command<'a>(alloc: Global) -> Result<Command<'a>, AllocError
         .version(VERSION)
         .after_help(EXAMPLES)
         .subcommand_required(true);
-    for row in &COMMANDS {
+    for row in commands() {
         command = command.subcommand(command_of(alloc, row)?)?;
     }
     Ok(command)
