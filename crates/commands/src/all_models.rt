@@ -162,7 +162,7 @@ pub fn list_models<R: Files, I: Read + Drop, W: Write, E: Write>(
     answer: &mut W,
     faults: &mut E,
 ) -> u8 {
-    let (file, limits, command) = (asked.formula.path, asked.limits, Command::Solve);
+    let (file, limits, command) = (asked.formula.path, asked.limits, Command::Models);
     let input = match open_input(rt, file, &mut Some(standard)) {
         Ok(input) => input,
         Err(error) => return print_not_opened(faults, file, error, false),
