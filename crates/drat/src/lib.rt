@@ -1,0 +1,25 @@
+//! Proofs in DRAT, which has neither numbers nor hints, read as the text of a proof in LRAT: each
+//! step's hints are found by propagation, and whoever reads the text checks them.
+#![tactic(auto)]
+
+mod assignment;
+mod binary;
+mod cells;
+mod clauses;
+mod fault;
+mod finder;
+mod input;
+mod lines;
+mod marks;
+mod occurrences;
+mod propagation;
+mod reader;
+mod step;
+mod table;
+mod text;
+mod units;
+mod watches;
+
+pub use fault::{Fault, FaultPlace, Wrong};
+pub use finder::Passed;
+pub use reader::{Form, HintedProof};
