@@ -13,5 +13,5 @@ pub use arguments::{MAX_DIVIDE, request_of};
 pub use commands::is_command;
 pub use effort::{Asked, Choice, Effort, SPREAD_BUDGET, greatest_budget, strategy_of};
 pub use options::STANDARD_INPUT;
-pub use request::{FormulaFile, Request, Shown};
+pub use request::{DratFile, FormulaFile, Request, Shown};
 pub use spread_arguments::{Part, Spread};

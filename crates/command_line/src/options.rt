@@ -236,6 +236,25 @@ pub(crate) const VERBOSE: Row = Row {
     ..FLAG
 };
 
+pub(crate) const DRAT: Row = Row {
+    name: "drat",
+    help: "The proof is in DRAT, text or binary, as its first bytes tell; hints are found by propagation",
+    ..FLAG
+};
+
+pub(crate) const BINARY: Row = Row {
+    name: "binary",
+    help: "With --drat: the proof is in binary, whatever its first bytes are",
+    ..FLAG
+};
+
+pub(crate) const KEPT_LRAT: Row = Row {
+    name: "lrat",
+    form: Form::Option("PATH"),
+    help: "With --drat: the proof in LRAT that is made goes to this file, once it is accepted",
+    ..FLAG
+};
+
 pub(crate) const EXTENDED: Row = Row {
     name: "extended",
     help: "Let the proof's clauses have variables above the formula's, as extended resolution defines them, up to 262143, or 100000000 with --large",
@@ -316,7 +335,7 @@ pub(crate) const DIVIDED_FORMULA: Row = Row {
 
 pub(crate) const CHECKED_PROOF: Row = Row {
     name: "PROOF",
-    help: "The proof, in LRAT; - is standard input",
+    help: "The proof, in LRAT, or with --drat in DRAT; - is standard input",
     ..WORD
 };
 

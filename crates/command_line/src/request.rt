@@ -19,6 +19,16 @@ pub struct Shown {
     pub verbose: bool,
 }
 
+/// The file of a proof in DRAT.
+#[derive(Clone, Copy)]
+pub struct DratFile<'a> {
+    pub path: &'a str,
+    /// Whether it is in binary, whatever its first bytes are.
+    pub is_binary: bool,
+    /// Where the proof in LRAT goes that is made of it, if that is to be kept.
+    pub kept: Option<&'a str>,
+}
+
 /// What the command line asks for.
 #[derive(Clone, Copy)]
 pub enum Request<'a> {
@@ -37,6 +47,16 @@ pub enum Request<'a> {
         /// Whether the proof's clauses may have variables that the formula doesn't have.
         is_extended: bool,
         /// Whether a fault and a refused proof are to have two exit statuses.
+        distinct_status: bool,
+        shown: Shown,
+    },
+    /// Check the proof in DRAT against the formula.
+    CheckDrat {
+        formula: FormulaFile<'a>,
+        proof: DratFile<'a>,
+        limits: Limits,
+        /// As for `Check`.
+        is_extended: bool,
         distinct_status: bool,
         shown: Shown,
     },

@@ -5,3 +5,4 @@ pub mod Ends
 pub mod Inputs
 pub mod TidyEnds
 pub mod Questions
+pub mod DratEnds

@@ -4,6 +4,8 @@
 
 mod anew;
 mod checking;
+mod drat_checking;
+mod drat_words;
 mod explanations;
 mod fault_lines;
 mod formula_text;
@@ -18,6 +20,7 @@ mod watched;
 mod worded;
 
 pub use checking::{CheckEnd, check};
+pub use drat_checking::check_drat_file;
 pub use explanations::explanation;
 pub use fault_lines::{
     FAILED, Screen, print_fault, print_fault_of, print_no_memory, print_not_opened,

@@ -9,7 +9,7 @@ use clap::error::ErrorKind;
 use cnf::Limits;
 use command_line::{Request, request_of};
 use commands::{
-    CheckRules, FAILED, Locks, NoLocks, Screen, check, explanation, print_fault, session, solve,
+    CheckRules, FAILED, Locks, NoLocks, Screen, check, check_drat_file, explanation, print_fault, session, solve,
     tidy,
 };
 use lrat::Variables;
@@ -162,6 +162,21 @@ fn serve<
             let rules = rules_of(limits, is_extended);
             let end = check(
                 rt, alloc, formula, proof, rules, input, shown, answer, faults, screen,
+            );
+            end.status(distinct_status)
+        }
+        Request::CheckDrat {
+            formula,
+            proof,
+            limits,
+            is_extended,
+            distinct_status,
+            shown,
+        } => {
+            let rules = rules_of(limits, is_extended);
+            let verbose = shown.verbose;
+            let end = check_drat_file(
+                rt, alloc, formula, proof, rules, input, verbose, answer, faults, locks,
             );
             end.status(distinct_status)
         }
