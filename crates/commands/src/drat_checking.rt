@@ -9,7 +9,7 @@ use crate::checking::CheckEnd;
 use crate::drat_words::{say_drat_refused, say_passed_deletions};
 use crate::fault_lines::{print_fault_of, print_not_opened};
 use crate::formula_text::formula_text;
-use crate::input::{open_input, shown_name};
+use crate::input::open_input;
 use crate::notes::{note_check, note_number};
 use crate::placed_proof::begin_proof;
 use crate::solving::print_not_begun;
@@ -31,14 +31,13 @@ fn print_told<E: Write>(faults: &mut E, told: DratTold, known: &Known<'_>, is_ex
         (None, Some(why)) => (Some(why.number), None),
         (None, None) => (None, None),
     };
-    let file = shown_name(known.proof);
     if let Some(number) = number {
-        say_drat_refused(faults, file, number, place, known.limits);
+        say_drat_refused(faults, number, place, known.limits);
         if is_explained {
             note_number(faults, number);
         }
     }
-    say_passed_deletions(faults, file, told.passed);
+    say_passed_deletions(faults, told.passed);
 }
 
 /// How a check ended that answered so. It says what happened unless the proof is accepted.
@@ -114,7 +113,11 @@ fn check_files<R: Files, F: Read + Drop, P: Read + Drop, K: Write + Drop, W: Wri
         added_lines,
         beginning: text.beginning(),
         formula_error: text.error(),
-        proof_error: if is_of_kept { kept_error } else { steps.error() },
+        proof_error: if is_of_kept {
+            kept_error
+        } else {
+            steps.error()
+        },
         answer_error: answer.error(),
         limits: rules.limits,
     };

@@ -48,28 +48,27 @@ fn words_of(number: u32, limits: Limits) -> &'static str {
 /// changes nothing.
 pub(crate) fn say_drat_refused<E: Write>(
     out: &mut E,
-    file: &str,
     number: u32,
     place: Option<FaultPlace>,
     limits: Limits,
 ) {
     let (words, at) = (words_of(number, limits), At(place));
-    let _ = writeln!(out, "c {file}: {words}{at}");
+    let _ = writeln!(out, "c proof: {words}{at}");
 }
 
 /// Says how many deletions were passed over, where any were. A failed write changes nothing.
-pub(crate) fn say_passed_deletions<E: Write>(out: &mut E, file: &str, passed: Passed) {
+pub(crate) fn say_passed_deletions<E: Write>(out: &mut E, passed: Passed) {
     let (of_units, of_missing) = (passed.of_units, passed.of_missing);
     if of_units > 0 {
         let _ = writeln!(
             out,
-            "c {file}: deletions passed over of clauses that are why a literal is true: {of_units}"
+            "c proof: deletions passed over of clauses that are why a literal is true: {of_units}"
         );
     }
     if of_missing > 0 {
         let _ = writeln!(
             out,
-            "c {file}: deletions passed over of clauses that aren't there: {of_missing}"
+            "c proof: deletions passed over of clauses that aren't there: {of_missing}"
         );
     }
 }

@@ -9,8 +9,8 @@ use clap::error::ErrorKind;
 use cnf::Limits;
 use command_line::{Request, request_of};
 use commands::{
-    CheckRules, FAILED, Locks, NoLocks, Screen, check, check_drat_file, explanation, print_fault, session, solve,
-    tidy,
+    CheckRules, FAILED, Locks, NoLocks, Screen, check, check_drat_file, explanation, print_fault,
+    session, solve, tidy,
 };
 use lrat::Variables;
 use messages::{say_no_memory, say_not_printed};

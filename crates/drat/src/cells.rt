@@ -3,7 +3,11 @@
 /// The item at a place, or `or` where there is none.
 #[inline]
 pub(crate) fn at<T: Copy>(items: &[T], place: usize, or: T) -> T {
-    if place < items.len() { items[place] } else { or }
+    if place < items.len() {
+        items[place]
+    } else {
+        or
+    }
 }
 
 /// Puts an item at a place, if there is one.

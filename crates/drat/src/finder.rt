@@ -1,24 +1,17 @@
 //! The finder of hints: the clauses of a formula and of its proof, step by step.
 
 use crate::clauses::NOWHERE;
+use crate::distinct::{greatest_variable, take_distinct};
 use crate::lines::{Hint, Lines};
 use crate::marks::Marks;
 use crate::occurrences::Occurrences;
+use crate::passed::Passed;
 use crate::propagation::{Kept, Propagation};
 use crate::table::{Table, hash_of};
 use crate::units::{derive_units, refute};
 use cnf::{Formula, Lit};
 use std::alloc::{AllocError, Global};
 use std::mem;
-
-/// Deletions that were passed over.
-#[derive(Clone, Copy, Debug, Default, PartialEq, Eq)]
-pub struct Passed {
-    /// Of clauses that are why a literal is true for good.
-    pub of_units: u64,
-    /// Of clauses that aren't there.
-    pub of_missing: u64,
-}
 
 /// What comes of a step's clause under what it assumes.
 #[derive(Clone, Copy)]
@@ -50,32 +43,6 @@ pub(crate) struct Finder {
     base: usize,
     is_refuted: bool,
     passed: Passed,
-}
-
-/// The literals of a clause, each once, in their order; none where it has both signs of a variable.
-/// They are marked then.
-fn take_distinct(
-    marks: &mut Marks,
-    clause: &[Lit],
-    distinct: &mut Vec<Lit>,
-) -> Result<bool, AllocError> {
-    marks.clear();
-    distinct.clear();
-    for lit in clause {
-        if marks.has(lit.negated()) {
-            return Ok(false);
-        }
-        if !marks.has(*lit) {
-            marks.mark(*lit);
-            distinct.push(*lit)?;
-        }
-    }
-    Ok(true)
-}
-
-/// The greatest variable of a clause, or 0.
-fn greatest_variable(clause: &[Lit]) -> u32 {
-    clause.iter().map(|lit| lit.var()).max().unwrap_or(0)
 }
 
 impl Finder {

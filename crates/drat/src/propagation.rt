@@ -168,9 +168,7 @@ impl Propagation {
 
     /// Whether a clause is why one of its literals is true.
     pub(crate) fn is_reason(&self, clause: usize) -> bool {
-        self.clauses
-            .literals(clause)
-            .iter()
-            .any(|lit| self.assignment.is_true(*lit) && self.assignment.reason(*lit) == clause)
+        self.clauses.literals(clause).iter().any(|lit| self.assignment.is_true(*lit)
+            && self.assignment.reason(*lit) == clause)
     }
 }

@@ -3,8 +3,9 @@ ghost use Rattle.std.specs.Prelude.{◌≤◌, length};
 
 use crate::binary::BinarySteps;
 use crate::fault::{Fault, FaultPlace, Wrong};
-use crate::finder::{Finder, Passed};
+use crate::finder::Finder;
 use crate::input::Input;
+use crate::passed::Passed;
 use crate::step::{StepRead, Taken};
 use crate::text::TextSteps;
 use cnf::Formula;
@@ -34,7 +35,7 @@ enum Steps {
 }
 
 /// Reads a proof in DRAT, step by step, and gives it as the text of LRAT up to its first empty
-/// clause or its first fault. What is read is no proof where hints are wrong: the checker of that text decides.
+/// clause or its first fault. Nothing is claimed of the text: whoever reads it checks it.
 #[derive(Drop)]
 pub struct HintedProof<I> {
     inner: I,
@@ -204,7 +205,6 @@ impl<I: Drop> HintedProof<I> {
             fault: None,
         })
     }
-
 }
 
 impl<I: Read> HintedProof<I> {

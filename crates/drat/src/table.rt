@@ -84,11 +84,7 @@ impl Table {
 
     /// The first clause in the chain of a hash, or nowhere.
     pub(crate) fn first(&self, hash: u64) -> usize {
-        at(
-            &self.firsts,
-            chain_of(hash, self.firsts.len()),
-            NOWHERE,
-        )
+        at(&self.firsts, chain_of(hash, self.firsts.len()), NOWHERE)
     }
 
     /// The clause behind this one in its chain, or nowhere.

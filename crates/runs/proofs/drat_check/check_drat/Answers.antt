@@ -31,5 +31,5 @@ returns-in_err-write_text g c =
     let judged = c.in_ok-judged.ensures in
     let r = some_reading L judged.bytes in
     let check = IsDratCheckOf-made L variables (g.R.Read.remaining c.args.formula) F c.in-Ok-drat_line.line.checked c.in-Ok-drat_line.line.text.items c.in-Ok.ensures
-        (c.in-Ok-drat_line.ensures.line L (checked_formula L variables F) judged.bytes r.0 r.1 (judged.says r.0 r.1)) in
+    (c.in-Ok-drat_line.ensures.line L (checked_formula L variables F) judged.bytes r.0 r.1 (judged.says r.0 r.1)) in
     search rules
