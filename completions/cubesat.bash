@@ -14,7 +14,7 @@ _cubesat() {
     else
         case "${COMP_WORDS[1]}" in
             solve) options='--search --budget --divide --simplify --any-model --hands --seconds --proof --lenient --large --stats --progress --verbose -h --help' takes='FILES' ;;
-            check) options='--extended --distinct-status --lenient --large --stats --progress --verbose -h --help' takes='FILES' ;;
+            check) options='--drat --binary --lrat --extended --distinct-status --lenient --large --stats --progress --verbose -h --help' takes='FILES' ;;
             tidy) options='--lenient --large -h --help' takes='FILES' ;;
             session) options='--model -h --help' takes='FILES' ;;
             divide) options='--into --search --budget --divide --simplify --any-model --large --progress -h --help' takes='FILES' ;;
@@ -29,7 +29,7 @@ _cubesat() {
         --search) takes='automatic ordered focused' ;;
         --budget | --divide | --hands | --seconds | --round | --part | --minutes) takes='' ;;
         --simplify | --model) takes='yes no' ;;
-        --proof) takes='FILES' ;;
+        --proof | --lrat) takes='FILES' ;;
         --into) takes='FOLDERS' ;;
         *) [[ "$word" != -* ]] || takes="$options" ;;
     esac
