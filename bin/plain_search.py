@@ -559,13 +559,13 @@ class Tree:
 
 
 class Lowering:
-    """From a model to the first one. The cubes of questions are searched by the focused search,
-    undivided. `model` is the first model; `questions` says of each question whether it had a model."""
+    """From a model to the first one. `model` is the first model; `refuted` is how many questions have
+    none, whichever models the others find."""
 
-    def __init__(self, variables, clauses, budget, model):
-        self.variables, self.clauses, self.budget = variables, clauses, budget
+    def __init__(self, variables, clauses, model):
+        self.variables, self.clauses = variables, clauses
         self.units = pure_units(variables, clauses)
-        self.model, self.questions, self.conflicts = self.with_units(model), [], 0
+        self.model, self.refuted = self.with_units(model), 0
         prefix = []
         for it in range(1, variables + 1):
             if not self.follows(prefix, it):
@@ -583,19 +583,12 @@ class Lowering:
 
     def lowers(self, cube):
         """A question: whether there is a model in the cube, which then is the one at hand."""
-        found = self.model_in(cube)
-        self.questions.append(found is not None)
-        if found is not None:
-            self.model = self.with_units(found)
-        return self.questions[-1]
-
-    def model_in(self, cube):
-        search = Focused(self.variables, self.clauses, cube, budget_of(self.budget, "focused", cube))
-        self.conflicts += search.conflicts
-        kind, found = search.outcome
-        if kind == "exhausted":
-            return self.model_in([*cube, -found]) or self.model_in([*cube, found])
-        return values_of(self.variables, found) if kind == "model" else None
+        kind, found = Focused(self.variables, self.clauses, cube, FOCUSED_BUDGET).outcome
+        if kind != "model":
+            self.refuted += 1
+            return False
+        self.model = self.with_units(values_of(self.variables, found))
+        return True
 
 
 class Automatic:
@@ -612,5 +605,5 @@ class Automatic:
         self.is_divided, self.searched, self.lowering = self.tree.is_divided, self.tree.searched, None
         self.simplification = self.tree.simplification
         if not (self.is_decided or self.model is None or is_any_model):
-            self.lowering = Lowering(variables, clauses, budget, self.model)
+            self.lowering = Lowering(variables, clauses, self.model)
             self.model = self.lowering.model

@@ -3,7 +3,7 @@
 use crate::commands::whole_command;
 use crate::effort::{Asked, Choice, FOCUSED_BUDGET, SPREAD_BUDGET, greatest_budget};
 use crate::refusals::refusal_of;
-use crate::request::{FormulaFile, Request, Shown};
+use crate::request::{DratFile, FormulaFile, ModelsAsked, Request, Shown};
 use crate::spread_arguments::{conquer_request, divide_request, gather_request, status_request};
 use clap::error::ErrorKind;
 use clap::{ArgMatches, Command, Error};
@@ -22,6 +22,8 @@ const BUDGET_TOO_GREAT: &str =
 
 /// How the names of formulas end.
 static FORMULA_ENDINGS: [&str; 4] = [".cnf", ".dimacs", ".cnf.gz", ".cnf.xz"];
+
+const NOT_IN_DRAT: &str = "--binary and --lrat are for proofs in DRAT; give --drat too";
 
 const PROOF_OVER_FORMULA: &str =
     "the second file is where the proof is written, and its name is that of a formula; give it by --proof if it is meant so";
@@ -128,13 +130,31 @@ fn solve_request<'a>(matches: &ArgMatches<'a>) -> Option<Request<'a>> {
 fn check_request<'a>(matches: &ArgMatches<'a>) -> Option<Request<'a>> {
     let formula = formula_in(matches, "FORMULA")?;
     let proof = matches.get_str("PROOF")?;
+    let limits = limits_of(matches);
+    let is_extended = matches.get_flag("extended");
+    let distinct_status = matches.get_flag("distinct-status");
+    let shown = shown_of(matches);
+    if matches.get_flag("drat") {
+        return Some(Request::CheckDrat {
+            formula,
+            proof: DratFile {
+                path: proof,
+                is_binary: matches.get_flag("binary"),
+                kept: matches.get_str("lrat"),
+            },
+            limits,
+            is_extended,
+            distinct_status,
+            shown,
+        });
+    }
     Some(Request::Check {
         formula,
         proof,
-        limits: limits_of(matches),
-        is_extended: matches.get_flag("extended"),
-        distinct_status: matches.get_flag("distinct-status"),
-        shown: shown_of(matches),
+        limits,
+        is_extended,
+        distinct_status,
+        shown,
     })
 }
 
@@ -152,6 +172,16 @@ fn session_request<'a>(matches: &ArgMatches<'a>) -> Option<Request<'a>> {
     })
 }
 
+fn models_request<'a>(matches: &ArgMatches<'a>) -> Option<Request<'a>> {
+    Some(Request::Models(ModelsAsked {
+        formula: formula_in(matches, "FILE")?,
+        limits: limits_of(matches),
+        limit: matches.get_one::<u32>("limit"),
+        projection: matches.get_str("project"),
+        is_counted: matches.get_flag("count"),
+    }))
+}
+
 fn explain_request<'a>(matches: &ArgMatches<'a>) -> Option<Request<'a>> {
     let number = matches.get_one::<u32>("NUMBER")?;
     let behind = matches.get_one::<u32>("REFUSAL");
@@ -165,6 +195,7 @@ fn request_in<'a>(matches: &ArgMatches<'a>) -> Option<Request<'a>> {
         "check" => check_request(matches),
         "tidy" => tidy_request(matches),
         "session" => session_request(matches),
+        "models" => models_request(matches),
         "explain" => explain_request(matches),
         "divide" => Some(Request::Spread(divide_request(matches)?)),
         "conquer" => Some(Request::Spread(conquer_request(matches)?)),
@@ -200,6 +231,15 @@ fn is_proof_over_formula(matches: &ArgMatches<'_>) -> bool {
     }
 }
 
+/// Whether what matched the words has an option for proofs in DRAT, and the proof is none.
+fn is_not_in_drat(matches: &ArgMatches<'_>) -> bool {
+    let Some(("check", matches)) = matches.subcommand() else {
+        return false;
+    };
+    let is_for_drat = matches.get_flag("binary") || matches.get_str("lrat").is_some();
+    is_for_drat && !matches.get_flag("drat")
+}
+
 /// The request that these words make of the command, or why they make none.
 fn parsed<'a>(
     command: &mut Command<'a>,
@@ -211,6 +251,9 @@ fn parsed<'a>(
     }
     if is_proof_over_formula(&matches) {
         return Ok(Err(PROOF_OVER_FORMULA));
+    }
+    if is_not_in_drat(&matches) {
+        return Ok(Err(NOT_IN_DRAT));
     }
     Ok(request_in(&matches).ok_or("no request"))
 }

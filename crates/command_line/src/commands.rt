@@ -1,13 +1,14 @@
 //! The commands, as rows of their options and words.
 
 use crate::options::{
-    ANY_MODEL, CHECK_LARGE, CHECK_PROGRESS, CHECK_STATS, CHECKED_FORMULA, CHECKED_PROOF,
-    CONQUER_HANDS, CUBE_PROGRESS, DISTINCT_STATUS, DIVIDE, DIVIDE_BUDGET, DIVIDED_FORMULA,
-    EXTENDED, FORMULA_FILE, GATHER_HANDS, GATHER_PROGRESS, GATHER_PROOF, GATHER_STATS, HANDS, INTO,
-    LARGE, LENIENT, MINUTES, MODEL, NUMBER, PART, PLACED_PROOF, PROOF, QUESTIONS, REFUSAL, ROUND,
-    RUN, Row, SEARCH, SECONDS, SIMPLIFY, SOLVE_BUDGET, SOLVE_PROGRESS, SOLVE_STATS, SOLVES,
-    VERBOSE, WANTED, arg_of,
+    ANY_MODEL, BINARY, CHECK_LARGE, CHECK_PROGRESS, CHECK_STATS, CHECKED_FORMULA, CHECKED_PROOF,
+    CONQUER_HANDS, COUNT, CUBE_PROGRESS, DISTINCT_STATUS, DIVIDE, DIVIDE_BUDGET, DIVIDED_FORMULA,
+    DRAT, EXTENDED, FORMULA_FILE, GATHER_HANDS, GATHER_PROGRESS, GATHER_PROOF, GATHER_STATS, HANDS,
+    INTO, KEPT_LRAT, LARGE, LENIENT, LIMIT, MINUTES, MODEL, NUMBER, PART, PLACED_PROOF, PROJECT,
+    PROOF, QUESTIONS, REFUSAL, ROUND, RUN, SEARCH, SECONDS, SIMPLIFY, SOLVE_BUDGET, SOLVE_PROGRESS,
+    SOLVE_STATS, SOLVES, VERBOSE, WANTED,
 };
+use crate::row::{Row, arg_of};
 use clap::Command;
 use std::alloc::{AllocError, Global};
 
@@ -25,6 +26,7 @@ const EXAMPLES: &str = "Examples:
   cubesat check f.cnf f.lrat          check the proof
   cubesat tidy f.cnf                  write the formula without what repeats
   cubesat session < questions         answer questions of a growing formula
+  cubesat models f.cnf                all models of f.cnf
   cubesat divide --into RUN f.cnf     begin a run on many machines
   cubesat explain 51 5                what `fault 51: refusal 5` means";
 
@@ -36,7 +38,10 @@ struct CommandRow {
     args: &'static [Row],
 }
 
-static COMMANDS: [CommandRow; 9] = [
+// Two tables, since a proof that sees one of all commands comes to a limit.
+
+/// The commands of one machine.
+static OWN: [CommandRow; 5] = [
     CommandRow {
         name: "solve",
         about: "Decide a formula: status 10 satisfiable, 20 unsatisfiable, 0 unknown, 1 on a fault",
@@ -62,6 +67,9 @@ static COMMANDS: [CommandRow; 9] = [
         name: "check",
         about: "Check a proof: status 0 accepted, 1 refused or on a fault",
         args: &[
+            DRAT,
+            BINARY,
+            KEPT_LRAT,
             EXTENDED,
             DISTINCT_STATUS,
             LENIENT,
@@ -83,6 +91,15 @@ static COMMANDS: [CommandRow; 9] = [
         about: "Answer questions of a growing formula, each as soon as it is read: `p inccnf`, clauses, and `a LITERALS 0` for a question under assumptions",
         args: &[MODEL, QUESTIONS],
     },
+    CommandRow {
+        name: "models",
+        about: "Print all models of a formula: status 10, 20 where there is none",
+        args: &[LIMIT, PROJECT, COUNT, LENIENT, LARGE, FORMULA_FILE],
+    },
+];
+
+/// The commands of many machines, and `explain`.
+static SPREAD: [CommandRow; 5] = [
     CommandRow {
         name: "divide",
         about: "Begin a run on many machines, or its next round, and print how many cubes are open",
@@ -127,9 +144,22 @@ static COMMANDS: [CommandRow; 9] = [
     },
 ];
 
+// Behind calls the tables are no part of the proofs of those that go over them.
+fn own() -> &'static [CommandRow] {
+    &OWN
+}
+
+fn spread() -> &'static [CommandRow] {
+    &SPREAD
+}
+
+fn is_among(commands: &[CommandRow], word: &str) -> bool {
+    commands.iter().any(|command| command.name == word)
+}
+
 /// Whether a word is a command's name, or the parser's own command.
 pub fn is_command(word: &str) -> bool {
-    word == "help" || COMMANDS.iter().any(|command| command.name == word)
+    word == "help" || is_among(own(), word) || is_among(spread(), word)
 }
 
 fn with_args<'a>(
@@ -148,16 +178,25 @@ fn command_of<'a>(alloc: Global, row: &CommandRow) -> Result<Command<'a>, AllocE
     with_args(alloc, command, row.args)
 }
 
+fn with_commands<'a>(
+    alloc: Global,
+    mut command: Command<'a>,
+    rows: &[CommandRow],
+) -> Result<Command<'a>, AllocError> {
+    for row in rows {
+        command = command.subcommand(command_of(alloc, row)?)?;
+    }
+    Ok(command)
+}
+
 /// The program's command, with all that it takes.
 pub(crate) fn whole_command<'a>(alloc: Global) -> Result<Command<'a>, AllocError> {
-    let mut command = Command::new(alloc, "cubesat")
+    let command = Command::new(alloc, "cubesat")
         .bin_name("cubesat")?
         .about("A SAT solver with LRAT proofs")
         .version(VERSION)
         .after_help(EXAMPLES)
         .subcommand_required(true);
-    for row in &COMMANDS {
-        command = command.subcommand(command_of(alloc, row)?)?;
-    }
-    Ok(command)
+    let command = with_commands(alloc, command, own())?;
+    with_commands(alloc, command, spread())
 }

@@ -1,70 +1,9 @@
 //! The options and words of the command line, as rows.
 
-use clap::{Arg, ArgAction};
-use std::alloc::{AllocError, Global};
+use crate::row::{FLAG, Form, Presence, Row, Value, WORD};
 
 /// The name by which a command line asks for standard input.
 pub const STANDARD_INPUT: &str = "-";
-
-/// What is typed for an argument.
-#[derive(Clone, Copy)]
-enum Form {
-    /// `--NAME`.
-    Flag,
-    /// `--NAME` and a value, which has this name in the help.
-    Option(&'static str),
-    /// A word without an option before it.
-    Word,
-}
-
-/// Which values are taken.
-#[derive(Clone, Copy)]
-enum Value {
-    Any,
-    Search,
-    YesOrNo,
-    /// A number from the first to the second.
-    Within(i64, i64),
-}
-
-/// Whether an argument has to be there, and what it is if it isn't.
-#[derive(Clone, Copy)]
-enum Presence {
-    Optional,
-    Required,
-    Default(&'static str),
-}
-
-/// An option or a word.
-#[derive(Clone, Copy)]
-pub(crate) struct Row {
-    name: &'static str,
-    form: Form,
-    value: Value,
-    presence: Presence,
-    /// An argument that can't be there too.
-    rival: Option<&'static str>,
-    help: &'static str,
-}
-
-const FLAG: Row = Row {
-    name: "",
-    form: Form::Flag,
-    value: Value::Any,
-    presence: Presence::Optional,
-    rival: None,
-    help: "",
-};
-
-const WORD: Row = Row {
-    form: Form::Word,
-    presence: Presence::Required,
-    ..FLAG
-};
-
-static SEARCHES: [&str; 3] = ["automatic", "ordered", "focused"];
-
-static YES_OR_NO: [&str; 2] = ["yes", "no"];
 
 pub(crate) const SEARCH: Row = Row {
     name: "search",
@@ -236,6 +175,25 @@ pub(crate) const VERBOSE: Row = Row {
     ..FLAG
 };
 
+pub(crate) const DRAT: Row = Row {
+    name: "drat",
+    help: "The proof is in DRAT, text or binary, as its first bytes tell; hints are found by propagation",
+    ..FLAG
+};
+
+pub(crate) const BINARY: Row = Row {
+    name: "binary",
+    help: "With --drat: the proof is in binary, whatever its first bytes are",
+    ..FLAG
+};
+
+pub(crate) const KEPT_LRAT: Row = Row {
+    name: "lrat",
+    form: Form::Option("PATH"),
+    help: "With --drat: the proof in LRAT that is made goes to this file, once it is accepted",
+    ..FLAG
+};
+
 pub(crate) const EXTENDED: Row = Row {
     name: "extended",
     help: "Let the proof's clauses have variables above the formula's, as extended resolution defines them, up to 262143, or 100000000 with --large",
@@ -254,6 +212,27 @@ pub(crate) const MODEL: Row = Row {
     value: Value::YesOrNo,
     presence: Presence::Default("yes"),
     help: "Whether `v` lines with a model follow `s SATISFIABLE`",
+    ..FLAG
+};
+
+pub(crate) const LIMIT: Row = Row {
+    name: "limit",
+    form: Form::Option("N"),
+    value: Value::Within(1, 4_294_967_295),
+    help: "End once there are so many models, 1 to 4294967295",
+    ..FLAG
+};
+
+pub(crate) const PROJECT: Row = Row {
+    name: "project",
+    form: Form::Option("VARIABLES"),
+    help: "Variables with commas between them, as 1,2,5: models that agree on these are one, of which the literals of these are printed [default: all]",
+    ..FLAG
+};
+
+pub(crate) const COUNT: Row = Row {
+    name: "count",
+    help: "Print how many models there are, and nothing else",
     ..FLAG
 };
 
@@ -316,7 +295,7 @@ pub(crate) const DIVIDED_FORMULA: Row = Row {
 
 pub(crate) const CHECKED_PROOF: Row = Row {
     name: "PROOF",
-    help: "The proof, in LRAT; - is standard input",
+    help: "The proof, in LRAT, or with --drat in DRAT; - is standard input",
     ..WORD
 };
 
@@ -346,42 +325,3 @@ pub(crate) const REFUSAL: Row = Row {
     help: "The number behind `refusal`",
     ..NUMBER
 };
-
-fn with_form<'a>(arg: Arg<'a>, name: &'a str, form: Form) -> Arg<'a> {
-    match form {
-        Form::Flag => arg.long(name).action(ArgAction::SetTrue),
-        Form::Option(value) => arg.long(name).value_name(value),
-        Form::Word => arg,
-    }
-}
-
-fn with_value<'a>(arg: Arg<'a>, value: Value) -> Arg<'a> {
-    match value {
-        Value::Any => arg,
-        Value::Search => arg.value_parser(SEARCHES.as_slice()),
-        Value::YesOrNo => arg.value_parser(YES_OR_NO.as_slice()),
-        Value::Within(least, most) => {
-            arg.value_parser(clap::value_parser!(u32).range(least..=most))
-        }
-    }
-}
-
-fn with_presence<'a>(arg: Arg<'a>, presence: Presence) -> Arg<'a> {
-    match presence {
-        Presence::Optional => arg,
-        Presence::Required => arg.required(true),
-        Presence::Default(value) => arg.default_value(value),
-    }
-}
-
-/// The parser's argument of a row.
-pub(crate) fn arg_of<'a>(alloc: Global, row: &Row) -> Result<Arg<'a>, AllocError> {
-    let arg = Arg::new(alloc, row.name).help(row.help);
-    let arg = with_form(arg, row.name, row.form);
-    let arg = with_value(arg, row.value);
-    let arg = with_presence(arg, row.presence);
-    match row.rival {
-        Some(rival) => arg.conflicts_with(rival),
-        None => Ok(arg),
-    }
-}

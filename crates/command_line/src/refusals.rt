@@ -2,8 +2,21 @@
 
 use crate::effort::{Asked, Choice};
 use crate::options::STANDARD_INPUT;
-use crate::request::Request;
+use crate::request::{DratFile, Request, Shown};
 use crate::spread_arguments::Spread;
+
+/// Why the proof in LRAT that is made of the one at `path` isn't kept at `kept`, if it isn't.
+fn refusal_of_kept(path: &str, kept: &str) -> Option<&'static str> {
+    if kept == STANDARD_INPUT {
+        Some(
+            "the proof in LRAT can't be written to standard output, where the answer goes; give --lrat a file",
+        )
+    } else if kept == path {
+        Some("the proof in LRAT would replace the one in DRAT; give --lrat another file")
+    } else {
+        None
+    }
+}
 
 /// Why a request is refused, if it is. `-` is the name of standard input, and of standard output.
 pub(crate) fn refusal_of(request: &Request) -> Option<&'static str> {
@@ -47,6 +60,22 @@ pub(crate) fn refusal_of(request: &Request) -> Option<&'static str> {
             if formula.path == STANDARD_INPUT && *proof == STANDARD_INPUT => {
             Some("standard input can't be both the formula and the proof")
         }
+        Request::CheckDrat { formula, proof, .. }
+            if formula.path == STANDARD_INPUT && proof.path == STANDARD_INPUT => {
+            Some("standard input can't be both the formula and the proof")
+        }
+        Request::CheckDrat {
+            shown: Shown { stats: true, .. } | Shown { progress: true, .. },
+            ..
+        } => Some("--stats and --progress show nothing of a proof in DRAT; leave them out"),
+        Request::CheckDrat {
+            proof: DratFile {
+                path,
+                kept: Some(kept),
+                ..
+            },
+            ..
+        } => refusal_of_kept(path, kept),
         Request::Spread(Spread::Conquer { part: None, .. }) => {
             Some("a part is K/M, the K-th of M, as --part 3/16 is the third of sixteen")
         }

@@ -19,6 +19,29 @@ pub struct Shown {
     pub verbose: bool,
 }
 
+/// Which models of a formula are asked for, and what is printed of them.
+#[derive(Clone, Copy)]
+pub struct ModelsAsked<'a> {
+    pub formula: FormulaFile<'a>,
+    pub limits: Limits,
+    /// The most models, if not all.
+    pub limit: Option<u32>,
+    /// The variables in which they are to differ, as they are typed, if not all.
+    pub projection: Option<&'a str>,
+    /// Whether only their number is printed.
+    pub is_counted: bool,
+}
+
+/// The file of a proof in DRAT.
+#[derive(Clone, Copy)]
+pub struct DratFile<'a> {
+    pub path: &'a str,
+    /// Whether it is in binary, whatever its first bytes are.
+    pub is_binary: bool,
+    /// Where the proof in LRAT goes that is made of it, if that is to be kept.
+    pub kept: Option<&'a str>,
+}
+
 /// What the command line asks for.
 #[derive(Clone, Copy)]
 pub enum Request<'a> {
@@ -40,6 +63,16 @@ pub enum Request<'a> {
         distinct_status: bool,
         shown: Shown,
     },
+    /// Check the proof in DRAT against the formula.
+    CheckDrat {
+        formula: FormulaFile<'a>,
+        proof: DratFile<'a>,
+        limits: Limits,
+        /// As for `Check`.
+        is_extended: bool,
+        distinct_status: bool,
+        shown: Shown,
+    },
     /// Write the formula again, without what repeats.
     Tidy {
         formula: FormulaFile<'a>,
@@ -51,6 +84,8 @@ pub enum Request<'a> {
         /// Whether the answer to a question has its model.
         shows_models: bool,
     },
+    /// Print the models of the formula.
+    Models(ModelsAsked<'a>),
     /// Say what a number that the program printed means, and the one behind it.
     Explain {
         number: u32,

@@ -1,2 +1,3 @@
 pub mod StatusLemmas
 pub mod SessionLemmas
+pub mod DratLemmas

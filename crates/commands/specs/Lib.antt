@@ -5,3 +5,5 @@ pub mod Ends
 pub mod Inputs
 pub mod TidyEnds
 pub mod Questions
+pub mod ListedModels
+pub mod DratEnds

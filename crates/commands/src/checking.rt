@@ -46,7 +46,7 @@ pub enum CheckEnd {
 
 impl CheckEnd {
     /// The end of a check that answered so.
-    fn of(checked: Checked) -> CheckEnd
+    pub(crate) fn of(checked: Checked) -> CheckEnd
         ensures { result ≡ end_of (Ok checked) }
     {
         match checked {

@@ -72,6 +72,9 @@ fn of_steps(number: u32) -> Option<&'static str> {
         31 => Some(
             "Literal out of range: an added clause has a variable that is greater than the formula's number of variables. Proofs with extended resolution have such variables; with --extended they may go up to 262,143, and with --large too up to 100,000,000. Any other such proof is most likely that of another formula.",
         ),
+        33 => Some(
+            "Not implied: an added clause of a proof in DRAT follows neither by propagation from the clauses that are there, nor, for each clause with the negation of its first literal, by propagation from what the two resolve to. The step begins at the line, or in binary at the byte, that is told.",
+        ),
         32 => Some(
             "Out of memory while the proof was checked. The program says fault 52 of it; free some memory and check again.",
         ),

@@ -182,7 +182,8 @@ fn root_of(
     ensures solver { OnOk result (IsSolverOf (begun_by plan.search formula.now) plan solver.new) }
     ensures root { IfOk result (λ r. IfSome r (λ p. IsRootOf (begun_by plan.search formula.now) plan p.1)) }
 {
-    let Outcome::Exhausted(var) = solver.solve::<Unkept, _>(plan, &Cube::root(alloc), &Unwatched)? else {
+    let Outcome::Exhausted(var) = solver.solve::<Unkept, _>(plan, &Cube::root(alloc), &Unwatched)?
+    else {
         return Ok(None);
     };
     let root = solver.root(var);

@@ -9,8 +9,8 @@ use clap::error::ErrorKind;
 use cnf::Limits;
 use command_line::{Request, request_of};
 use commands::{
-    CheckRules, FAILED, Locks, NoLocks, Screen, check, explanation, print_fault, session, solve,
-    tidy,
+    CheckRules, FAILED, Locks, NoLocks, Screen, check, check_drat_file, explanation, list_models,
+    print_fault, session, solve, tidy,
 };
 use lrat::Variables;
 use messages::{say_no_memory, say_not_printed};
@@ -165,12 +165,28 @@ fn serve<
             );
             end.status(distinct_status)
         }
+        Request::CheckDrat {
+            formula,
+            proof,
+            limits,
+            is_extended,
+            distinct_status,
+            shown,
+        } => {
+            let rules = rules_of(limits, is_extended);
+            let verbose = shown.verbose;
+            let end = check_drat_file(
+                rt, alloc, formula, proof, rules, input, verbose, answer, faults, locks,
+            );
+            end.status(distinct_status)
+        }
         Request::Tidy { formula, limits } => {
             tidy(rt, alloc, formula, limits, input, answer, faults)
         }
         Request::Session { file, shows_models } => {
             session(rt, alloc, file, shows_models, input, answer, faults)
         }
+        Request::Models(asked) => list_models(rt, alloc, asked, input, answer, faults),
         Request::Explain { number, behind } => explain(number, behind, answer, faults),
         Request::Spread(_) => {
             let _ = writeln!(

@@ -70,7 +70,7 @@ const THREE: Limits = Limits {
 
 const FOUR_BYTES: Limits = Limits { room: 4, ..THREE };
 
-static ANSWERS: [Row; 14] = [
+static ANSWERS: [Row; 16] = [
     PROVED,
     Row {
         words: &["cubesat", "solve", "--stats", "--proof", "PROOF", "FORMULA"],
@@ -94,6 +94,16 @@ static ANSWERS: [Row; 14] = [
     },
     Row {
         words: &["cubesat", "solve", "--progress", "FORMULA"],
+        ..UNPROVED
+    },
+    Row {
+        words: &["cubesat", "models", "FORMULA"],
+        ..UNPROVED
+    },
+    Row {
+        words: &["cubesat", "models", "--count", "FORMULA"],
+        limits: Limits { room: 1, ..THREE },
+        faults: LINES,
         ..UNPROVED
     },
     CHECKED,

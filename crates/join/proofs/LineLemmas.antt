@@ -1,8 +1,9 @@
 -- The value lines as what each word adds.
 use Rattle.std.proofs.Common.{◌≡◌, ℕ, ◌+◌, Bool, true, false, List, [], ◌∷◌, ◌++◌, length, length-append, nat_le, refl, ap, sym, ◌∙◌, append_assoc, codes, Some, arith, if◌then◌else◌}
+use Rattle.theory.specs.Literals.{Clause}
 use Rattle.theory.specs.Truth.{Assignment}
 use Rattle.theory.specs.Texts.{lf, space, value_lines, clause_words, assigned_literals, answer_text}
-use Rattle.join.specs.Lines.{piece, pieces}
+use Rattle.join.specs.Lines.{pieces}
 
 pub value_lines-pieces : (line : List ℕ) (words : List (List ℕ)) → value_lines line words ≡ line ++ pieces (length line) words
 value_lines-pieces line [] = refl
@@ -20,10 +21,19 @@ value_lines-pieces line (word ∷ words) =
         let width : length (codes "v" ++ space ∷ word) ≡ 2 + length word = omega arith in
         ap (λ t. line ++ lf ∷ t) (next ∙ ap (λ n. (codes "v" ++ space ∷ word) ++ pieces n words) width)
 
+-- the value lines of words behind their beginning, as they are put together
+put-together : (line : List ℕ) (words : List (List ℕ)) (begun written text : List ℕ) (width : ℕ) → length line ≡ 1 → begun ≡ line
+    → written ++ pieces width (clause_words []) ≡ begun ++ pieces 1 words → text ≡ written ++ pieces width (clause_words []) → text ≡ value_lines line words
+put-together line words begun written text width one begins put ended =
+    ended ∙ (put ∙ (ap (λ t. t ++ pieces 1 words) begins ∙ (ap (λ n. line ++ pieces n words) (sym one) ∙ sym (value_lines-pieces line words))))
+
+pub literals-text : (lits : Clause) (begun written text : List ℕ) (width : ℕ) → begun ≡ codes "v"
+    → written ++ pieces width (clause_words []) ≡ begun ++ pieces 1 (clause_words lits) → text ≡ written ++ pieces width (clause_words []) → text ≡ value_lines (codes "v") (clause_words lits)
+literals-text lits begun written text width = put-together (codes "v") (clause_words lits) begun written text width refl
+
 -- the status line and the value lines, as they are put together
-pub satisfiable-text : (M : Assignment) (begun written ended text : List ℕ) (width : ℕ) → begun ≡ codes "s SATISFIABLE\nv"
-    → written ++ pieces width (clause_words []) ≡ begun ++ pieces 1 (clause_words (assigned_literals 1 M)) → ended ≡ written ++ piece width (codes "0") → text ≡ ended ++ lf ∷ []
-    → text ≡ answer_text (Some M)
-satisfiable-text M begun written ended text width begins values last line =
-    line ∙ (ap (λ t. t ++ lf ∷ []) last ∙ (append_assoc written (piece width (codes "0")) (lf ∷ []) ∙ (values ∙ (ap (λ t. t ++ pieces 1 (clause_words (assigned_literals 1 M))) begins
-    ∙ ap (λ t. codes "s SATISFIABLE\n" ++ t) (sym (value_lines-pieces (codes "v") (clause_words (assigned_literals 1 M))))))))
+pub satisfiable-text : (M : Assignment) (begun written text : List ℕ) (width : ℕ) → begun ≡ codes "s SATISFIABLE\nv"
+    → written ++ pieces width (clause_words []) ≡ begun ++ pieces 1 (clause_words (assigned_literals 1 M)) → text ≡ written ++ pieces width (clause_words []) → text ≡ answer_text (Some M)
+satisfiable-text M begun written text width begins values ended =
+    ended ∙ (values ∙ (ap (λ t. t ++ pieces 1 (clause_words (assigned_literals 1 M))) begins
+    ∙ ap (λ t. codes "s SATISFIABLE\n" ++ t) (sym (value_lines-pieces (codes "v") (clause_words (assigned_literals 1 M))))))

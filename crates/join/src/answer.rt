@@ -1,10 +1,10 @@
 //! The text of an answer: the status line, and the value lines of a satisfiable formula.
-ghost use Rattle.std.specs.Prelude.{◌≡◌, ◌≤◌, ◌+◌, ◌<◌, ◌^◌, ◌++◌, ◌∷◌, [], length, IfOk, OnOk, Some};
+ghost use Rattle.std.specs.Prelude.{◌≡◌, ◌≤◌, ◌+◌, ◌<◌, ◌^◌, ◌++◌, ◌∷◌, [], length, IfOk, OnOk, Some, codes};
 ghost use Rattle.std.specs.Option.{option_map, ForSome};
-ghost use Rattle.theory.specs.Texts.{lf, answer_text, clause_words, assigned_literals};
+ghost use Rattle.theory.specs.Texts.{lf, answer_text, value_lines, clause_words, assigned_literals};
 ghost use Rattle.join.specs.Lines.{piece, pieces, width_behind};
 
-use cnf::Formula;
+use cnf::{Formula, Lit};
 use itoa::Buffer;
 use std::alloc::{AllocError, Global};
 
@@ -51,6 +51,46 @@ impl ValueLines {
         }
         Ok(())
     }
+
+    /// Puts these literals.
+    fn put_literals(&mut self, lits: &[Lit]) -> Result<(), AllocError>
+        requires { self.old.width ≤ 78 }
+        ensures text { OnOk result (self.new.text.items ++ pieces self.new.width (clause_words [])
+            ≡ self.old.text.items ++ pieces self.old.width (clause_words lits.now)) }
+        ensures width { OnOk result (self.new.width ≤ 78) }
+    {
+        let mut buffer = Buffer::new();
+        for lit in lits {
+            let lit = *lit;
+            let sign: &[u8] = if lit.positive() { b"" } else { b"-" };
+            self.put(sign, buffer.format(lit.var()).as_bytes())?;
+        }
+        Ok(())
+    }
+
+    /// Puts the 0 that ends the values, and ends the line.
+    fn end(&mut self) -> Result<(), AllocError>
+        requires { self.old.width ≤ 78 }
+        ensures { OnOk result (self.new.text.items ≡ self.old.text.items ++ pieces self.old.width (clause_words [])) }
+    {
+        self.put(b"", b"0")?;
+        self.text.push(b'\n')?;
+        Ok(())
+    }
+}
+
+/// Literals as value lines of at most 78 bytes, of which the last one ends with 0. It fails only where
+/// a request for memory is refused.
+pub fn value_lines(alloc: Global, lits: &[Lit]) -> Result<Vec<u8>, AllocError>
+    ensures { IfOk result (λ v. v.items ≡ value_lines (codes "v") (clause_words lits.now)) }
+{
+    let mut lines = ValueLines {
+        text: Vec::from_slice(alloc, b"v")?,
+        width: 1,
+    };
+    lines.put_literals(lits)?;
+    lines.end()?;
+    Ok(lines.text)
 }
 
 /// The answer of a satisfiable formula.
@@ -63,8 +103,7 @@ fn satisfiable(alloc: Global, values: &[bool]) -> Result<Vec<u8>, AllocError>
         width: 1,
     };
     lines.put_values(values)?;
-    lines.put(b"", b"0")?;
-    lines.text.push(b'\n')?;
+    lines.end()?;
     Ok(lines.text)
 }
 

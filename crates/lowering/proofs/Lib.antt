@@ -1,5 +1,5 @@
 pub mod FirstBelow
 pub mod TrueTrails
-pub mod OpenCubes
 pub mod FalseVariables
 pub mod SettledPrefixes
+pub mod AskedSessions

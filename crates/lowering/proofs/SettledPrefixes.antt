@@ -5,7 +5,7 @@ use Rattle.std.proofs.lemmas.Bool.{cases_eq}
 use Rattle.std.proofs.lemmas.List.{get_or_default}
 use Rattle.std.proofs.lemmas.List.Elements.{All-nil, All-push, All-weaker, All-head, All-tail}
 use Rattle.theory.specs.Literals.{Literal, has_var, IsVariable, negative}
-use Rattle.theory.specs.Truth.{Formula, Assignment, IsOver, AreTrue, Satisfies, value, is_true}
+use Rattle.theory.specs.Truth.{Formula, Assignment, AreTrue, Satisfies, value, is_true}
 use Rattle.theory.specs.Trails.{Entry, Trail, literals, entry_of, current_level, decide}
 use Rattle.theory.specs.Propagation.{quiet, by_place, Propagates}
 use Rattle.theory.specs.FirstModel.{IsModelIn}
@@ -25,8 +25,7 @@ use Rattle.kernel.specs.declared.order.Order.TheVariants.{ByPlace}
 use Rattle.lowering.specs.declared.prefix.Prefix.{Prefix}
 use Rattle.lowering.specs.Lowering.{HasNoModelIn, IsPrefix, IsFirstBelow}
 use Rattle.lowering.proofs.FirstBelow.{AreTrue-agrees, IsFirstBelow-more, IsFirstBelow-true, IsFirstBelow-lower}
-use Rattle.lowering.proofs.OpenCubes.{AreTrue-front, AreTrue-back}
-use Rattle.lowering.proofs.TrueTrails.{agree-on, Propagates-true, no-conflict, has_var-front, has_var-back, Propagates-has_var}
+use Rattle.lowering.proofs.TrueTrails.{AreTrue-front, AreTrue-back, agree-on, Propagates-true, no-conflict, has_var-front, has_var-back, Propagates-has_var}
 
 -- a variable has a value if it is on the trail
 pub value-there : (T : Trail) (v : ℕ) → is_some (option_map (λ (e : Entry). e.lit.positive) (entry_of T v)) ≡ has_var (literals T) v
@@ -181,20 +180,6 @@ IsPrefix-model F x M K p R h t = record {
 pub value-at : (F : Formula) (M : Assignment) (x : ℕ) (b : Bool) → Satisfies F M → IsVariable F.vars x → b ≡ get_or M (x - 1) b → value M x ≡ b
 value-at F M x b s v is = let long = s.values in let low = v.0 in let high = v.1 in get_or_default M (x - 1) false b (omega arith) ∙ sym is
 
--- the cube of a question: what is settled, and the variable false
-module _ (F : Formula) (x : ℕ) (p : Prefix) (l : Literal) (q : List Literal) (of : l ≡ negative x) (longer : q ≡ p.cube ++ l ∷ []) where
-  is-question : q ≡ p.cube ++ negative x ∷ []
-  is-question = longer ∙ ap (λ k. p.cube ++ k ∷ []) of
-
-  pub over-question : IsOver F.vars p.cube → IsVariable F.vars x → IsOver F.vars q
-  over-question over v = subst (IsOver F.vars) (sym is-question) (All-push (λ k. IsVariable F.vars k.var) p.cube (negative x) over v)
-
-  pub model-question : (K : Assignment) → IsModelIn F q K → IsModelIn F (p.cube ++ negative x ∷ []) K
-  model-question K m = subst (λ c. IsModelIn F c K) is-question m
-
-  pub none-question : HasNoModelIn (searched F) q → HasNoModelIn (searched F) (p.cube ++ negative x ∷ [])
-  none-question none = subst (HasNoModelIn (searched F)) is-question none
-
--- in a model of it the variable is false
+-- in a model of the settled literals and the variable's negation, it is false
 pub false-question : (F : Formula) (x : ℕ) (p : Prefix) (l : Literal) → l ≡ negative x → (K : Assignment) → IsModelIn (searched F) (p.cube ++ negative x ∷ []) K → is_true (value K) l ≡ true
 false-question F x p l of K m = subst (λ k. is_true (value K) k ≡ true) (sym of) (AreTrue-back (value K) p.cube (negative x ∷ []) m.cube).0

@@ -11,6 +11,15 @@ use Rattle.theory.proofs.literals.TrueClauses.{AreTrue-append, unit-true, is_fal
 use Rattle.theory.proofs.trails.TrailLists.{literals-append}
 use Rattle.theory.proofs.searching.SearchSoundness.{Propagates-says}
 
+-- the first part of true literals is true
+pub AreTrue-front : (m : ℕ → Bool) (P R : List Literal) → AreTrue m (P ++ R) → AreTrue m P
+AreTrue-front m [] R t = tt
+AreTrue-front m (l ∷ P) R t = (t.0, AreTrue-front m P R t.1)
+
+pub AreTrue-back : (m : ℕ → Bool) (P R : List Literal) → AreTrue m (P ++ R) → AreTrue m R
+AreTrue-back m [] R t = t
+AreTrue-back m (l ∷ P) R t = AreTrue-back m P R t.1
+
 -- of one sign, both are true
 one-value : (s p q : Bool) → is_true (λ x. p) (record { var = 0; positive = s }) ≡ true → is_true (λ x. q) (record { var = 0; positive = s }) ≡ true → p ≡ q
 one-value true p q h k = h ∙ sym k

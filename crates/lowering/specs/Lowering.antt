@@ -1,16 +1,15 @@
 -- How far a lowering is: a model, and the literals that are settled. Source: the search for a
 -- lexicographically least model, one query a variable (Nadel and Ryvchin, SAT 2016, 'Bit-vector
 -- optimization'; the order is this project's, false before true).
-use Rattle.std.specs.Prelude.{◌≡◌, ℕ, ◌≤◌, ◌<◌, true, false, not, ◌&&◌, List, length, All, IsTrue, IfSome}
+use Rattle.std.specs.Prelude.{◌≡◌, ℕ, ◌≤◌, ◌<◌, true, false, not, ◌&&◌, List, ◌++◌, length, All, IsTrue, IfSome}
 use Rattle.theory.specs.Literals.{Literal, IsVariable, has, has_var, negative}
 use Rattle.theory.specs.Truth.{Formula, Assignment, IsOver, Satisfies, AreTrue, value}
 use Rattle.theory.specs.FirstModel.{comes_before}
 use Rattle.theory.specs.Trails.{literals}
 use Rattle.theory.specs.Propagation.{quiet, by_place, Propagates}
-use Rattle.theory.specs.Pure.{pure_literals, first_clauses, searched}
-use Rattle.theory.specs.Beginnings.{begun_by}
+use Rattle.theory.specs.Pure.{pure_literals, first_clauses, searched, unit_clauses}
 use Rattle.kernel.specs.declared.order.Order.TheVariants.{ByPlace}
-use Rattle.cdcl.specs.Solving.{Solving}
+use Rattle.session.specs.State.{State}
 use Rattle.lowering.specs.declared.prefix.Prefix.{Prefix}
 use Rattle.lowering.specs.declared.settling.Lowering.{Lowering}
 
@@ -46,13 +45,13 @@ pub record IsPrefix (F : Formula) (x : ℕ) (M : Assignment) (p : Prefix) : Type
 abbrev pub IsFalsified : List Literal → Assignment → Assignment → Type 0
 IsFalsified units M N = (v : ℕ) → IsVariable (length M) v → value N v ≡ (value M v && not (has units (negative v)))
 
--- the solver is one of the formula, by whichever plan
-abbrev pub IsAsked : Formula → Solving → Type 0
-IsAsked F s = s.formula ≡ begun_by s.plan.search F
+-- the session has the first clauses, and behind them each of these literals as a clause
+abbrev pub IsAsked : Formula → List Literal → State → Type 0
+IsAsked F P s = s.formula.clauses ≡ first_clauses F ++ unit_clauses P
 
 -- the variables below x are settled: the model at hand has the first model's values there
 pub record IsLowering (F : Formula) (x : ℕ) (l : Lowering) : Type 0 where
   pub first : IsFirstBelow (searched F) x l.model.items
   pub prefix : IsPrefix F x l.model.items l.prefix
-  pub units : l.units.items ≡ pure_literals F
-  pub solver : IfSome l.questions.solver (IsAsked F)
+  pub units : l.questions.units.items ≡ pure_literals F
+  pub session : IfSome l.questions.session (IsAsked F l.prefix.cube)

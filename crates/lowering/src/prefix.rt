@@ -1,5 +1,5 @@
 //! The cube of the literals that are settled, with all that follows from it by propagation.
-ghost use Rattle.std.specs.Prelude.{◌≡◌, ◌+◌, true, false, IfOk, OnOk};
+ghost use Rattle.std.specs.Prelude.{◌≡◌, ◌+◌, ◌++◌, ◌∷◌, [], true, false, IfOk, OnOk};
 ghost use Rattle.theory.specs.Literals.{IsVariable, has_var};
 ghost use Rattle.theory.specs.Truth.{Satisfies, is_true, value};
 ghost use Rattle.theory.specs.Trails.{literals};
@@ -68,7 +68,8 @@ impl Prefix {
         requires variable { IsVariable formula.now.vars lit.var }
         requires free { has_var (literals self.old.kernel.trail) lit.var ≡ false }
         requires is_true { is_true (value model.now) lit ≡ true }
-        ensures { OnOk result (IsPrefix formula.now (lit.var + 1) model.now self.new) }
+        ensures prefix { OnOk result (IsPrefix formula.now (lit.var + 1) model.now self.new) }
+        ensures cube { OnOk result (self.new.cube ≡ self.old.cube ++ lit ∷ []) }
     {
         let (_formula, _model) = (formula, model); // they are there for the contract alone
         self.cube.push(lit)?;

@@ -1,45 +1,158 @@
-//! Whether a formula has a model in a cube: the cube is searched, and where its budget is used up,
-//! its halves are.
-ghost use Rattle.std.specs.Prelude.{◌≡◌, IfOk, OnOk, MatchOption};
-ghost use Rattle.theory.specs.Truth.{IsOver};
+//! The questions of a lowering: one session is asked all of them, so that what one has taught is there
+//! for the next.
+ghost use Rattle.std.specs.Prelude.{◌≡◌, ◌++◌, ◌∷◌, ℕ, [], None, length, IfOk, IfSome, OnOk, MatchOption};
+ghost use Rattle.theory.specs.Literals.{IsVariable};
+ghost use Rattle.theory.specs.Truth.{IsOver, value};
 ghost use Rattle.theory.specs.FirstModel.{IsModelIn};
-ghost use Rattle.lowering.specs.Lowering.{HasNoModelIn};
+ghost use Rattle.theory.specs.Pure.{pure_literals, searched, unit_clauses};
+ghost use Rattle.lowering.specs.Lowering.{HasNoModelIn, IsAsked};
 
-use cdcl::{Outcome, Solver, Watcher, split};
-use cnf::Formula;
-use kernel::Cube;
+use crate::watcher::{LoweringCounts, LoweringWatcher, Stopper};
+use cnf::{Formula, Lit};
+use session::{Answer, Session};
 use std::alloc::{AllocError, Global};
 
-/// A model in the cube of the formula that the solver's search begins with, or none where there is
-/// none. The solver searches the cube, and the cubes below it from left to right, as far as a model.
-/// No line of a refuted cube is kept. It fails where a request for memory is refused or the watcher
-/// stops the solver.
-pub(crate) fn model_in<W: Watcher>(
+/// Who answers questions: a session, once one was asked; and how far the lowering is.
+pub(crate) struct Questions {
+    /// The pure literals.
+    pub(crate) units: Vec<Lit>,
+    /// It has the first clauses, and behind them the literals that are settled.
+    pub(crate) session: Option<Session>,
+    pub(crate) counts: LoweringCounts,
+}
+
+// written out, so that proofs of its owners stay short (docs/PROVING.md)
+impl Drop for Questions {
+    fn drop(self) {
+        let Questions {
+            units: _,
+            session: _,
+            counts: _,
+        } = self;
+    }
+}
+
+/// Adds the clauses of a formula to a session that has none.
+fn add_clauses(session: &mut Session, formula: &Formula) -> Result<(), AllocError>
+    requires { session.old.formula.clauses ≡ [] }
+    ensures { OnOk result (session.new.formula.clauses ≡ formula.now.clauses) }
+{
+    let _vars = formula.vars(); // it ensures what the proof needs of the formula
+    for place in 0..formula.clause_count() {
+        session.add_clause(formula.clause(place))?;
+    }
+    Ok(())
+}
+
+/// Adds a clause of one literal for each of these.
+fn add_units(session: &mut Session, lits: &[Lit]) -> Result<(), AllocError>
+    ensures { OnOk result (session.new.formula.clauses ≡ session.old.formula.clauses ++ unit_clauses lits.now) }
+{
+    for lit in lits {
+        session.add_clause(&[*lit])?;
+    }
+    Ok(())
+}
+
+/// A session of the formula's first clauses and of these literals, each a clause, whose first search
+/// begins with the values of this model: so it stays near one, and the questions take less time.
+fn open_session(
     alloc: Global,
     formula: &Formula,
-    solver: &mut Solver,
-    cube: Cube,
-    watcher: &W,
-) -> Result<Option<Vec<bool>>, AllocError>
-    requires over { IsOver solver.old.formula.vars cube }
-    requires solver { solver.old.formula.vars ≡ formula.now.vars }
-    ensures found { IfOk result (λ found. MatchOption found (HasNoModelIn solver.old.formula cube) (λ values. IsModelIn solver.old.formula cube values.items)) }
-    ensures solver { OnOk result ((solver.new.formula ≡ solver.old.formula) × (solver.new.plan ≡ solver.old.plan)) }
+    units: &[Lit],
+    settled: &[Lit],
+    model: &[bool],
+) -> Result<Session, AllocError>
+    requires { units.now ≡ pure_literals formula.now }
+    ensures { IfOk result (IsAsked formula.now settled.now) }
 {
-    let _vars = formula.vars(); // it ensures that there are fewer than 2^31
-    let mut open = Vec::new(alloc);
-    open.push(cube)?;
-    'cubes: while let Some(next) = open.pop() {
-        let _lits = next.lits(); // it ensures that their variables are distinct
-        match solver.solve_watched(&next, watcher)? {
-            Outcome::Model(values) => return Ok(Some(values)),
-            Outcome::Refuted(_) => {}
-            Outcome::Exhausted(var) => {
-                let (left, right) = split(&next, var)?;
-                open.push(right)?;
-                open.push(left)?;
-            }
+    let mut session = Session::open(alloc)?;
+    add_clauses(&mut session, formula)?;
+    add_units(&mut session, units)?;
+    add_units(&mut session, settled)?;
+    session.prefer(model)?;
+    Ok(session)
+}
+
+/// The values of the variables 1 to `vars`, where one without a value is false.
+fn values_up_to(alloc: Global, values: &[bool], vars: u32) -> Result<Vec<bool>, AllocError>
+    ensures { IfOk result (λ r. (length r.items ≡ vars) × ((v : ℕ) → IsVariable vars v → value r.items v ≡ value values.now v)) }
+{
+    let mut up_to = Vec::with_capacity(alloc, vars as usize)?;
+    for index in 0..vars {
+        up_to.push(values.get(index as usize).copied().unwrap_or(false))?;
+    }
+    Ok(up_to)
+}
+
+impl Questions {
+    /// None was asked. These are the pure literals.
+    pub(crate) fn none(units: Vec<Lit>) -> Questions
+        ensures units { result.units ≡ units }
+        ensures session { result.session ≡ None }
+    {
+        Questions {
+            units,
+            session: None,
+            counts: LoweringCounts::none(),
         }
     }
-    Ok(None)
+
+    /// Whether what satisfies the first clauses and makes the settled literals true may make this
+    /// one true: a model that does, or none. The first question opens the session, by the model at
+    /// hand.
+    pub(crate) fn ask<W: LoweringWatcher>(
+        &mut self,
+        formula: &Formula,
+        settled: &[Lit],
+        model: &[bool],
+        lit: Lit,
+        watcher: &W,
+    ) -> Result<Option<Vec<bool>>, AllocError>
+        requires units { self.old.units.items ≡ pure_literals formula.now }
+        requires over { IsOver formula.now.vars settled.now }
+        requires variable { IsVariable formula.now.vars lit.var }
+        requires session { IfSome self.old.session (IsAsked formula.now settled.now) }
+        ensures found { IfOk result (λ found. MatchOption found (HasNoModelIn (searched formula.now) (settled.now ++ lit ∷ [])) (λ values. IsModelIn (searched formula.now) (settled.now ++ lit ∷ []) values.items)) }
+        ensures session { OnOk result (IfSome self.new.session (IsAsked formula.now settled.now)) }
+        ensures units { self.new.units ≡ self.old.units }
+    {
+        let alloc = *self.units.allocator();
+        let mut session = match self.session.take() {
+            Some(session) => session,
+            None => open_session(alloc, formula, &self.units, settled, model)?,
+        };
+        watcher.lowering(self.counts);
+        if watcher.stops() {
+            return Err(AllocError);
+        }
+        let answer = session.solve(&[lit], &Stopper { watcher })?;
+        let found = match answer {
+            Answer::Model(values) => Some(values_up_to(alloc, &values, formula.vars())?),
+            Answer::Unsatisfiable(_) => None,
+            Answer::Unknown => return Err(AllocError),
+        };
+        self.counts = self.counts.after(found.is_some(), session.counts());
+        watcher.lowering(self.counts);
+        self.session = Some(session);
+        Ok(found)
+    }
+
+    /// A literal more is settled.
+    pub(crate) fn settle(
+        &mut self,
+        formula: &Formula,
+        settled: &[Lit],
+        lit: Lit,
+    ) -> Result<(), AllocError>
+        requires { IfSome self.old.session (IsAsked formula.now settled.now) }
+        ensures session { OnOk result (IfSome self.new.session (IsAsked formula.now (settled.now ++ lit ∷ []))) }
+        ensures units { self.new.units ≡ self.old.units }
+    {
+        let (_formula, _settled) = (formula, settled); // they are there for the contract alone
+        if let Some(session) = &mut self.session {
+            session.add_clause(&[lit])?;
+        }
+        Ok(())
+    }
 }

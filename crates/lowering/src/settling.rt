@@ -1,42 +1,22 @@
 //! The first model of a formula, from any of its models.
-ghost use Rattle.std.specs.Prelude.{◌≡◌, ◌+◌, true, length, IfOk, OnOk, IfSome, MatchOption};
+ghost use Rattle.std.specs.Prelude.{◌≡◌, ◌+◌, true, length, IfOk, OnOk, IfSome};
 ghost use Rattle.theory.specs.Literals.{IsVariable};
 ghost use Rattle.theory.specs.Truth.{IsOver, Satisfies, is_true, value};
-ghost use Rattle.theory.specs.FirstModel.{IsFirst, IsModelIn};
+ghost use Rattle.theory.specs.FirstModel.{IsFirst};
 ghost use Rattle.theory.specs.Pure.{searched};
-ghost use Rattle.lowering.specs.Lowering.{HasNoModelIn, IsFalsified, IsAsked, IsFirstBelow, IsPrefix, IsLowering};
+ghost use Rattle.lowering.specs.Lowering.{IsFalsified, IsAsked, IsFirstBelow, IsPrefix, IsLowering};
 
 use crate::prefix::Prefix;
-use crate::question::model_in;
-use crate::watcher::{LoweringCounts, LoweringWatcher, QuestionWatcher};
-use cdcl::{Plan, Solver};
+use crate::question::Questions;
+use crate::watcher::LoweringWatcher;
 use cnf::{Formula, Lit};
-use kernel::Cube;
 use std::alloc::{AllocError, Global};
-
-/// Who answers questions: the solver, once one was asked, and how far the lowering is.
-pub(crate) struct Questions {
-    pub(crate) solver: Option<Solver>,
-    pub(crate) counts: LoweringCounts,
-}
-
-// written out, so that proofs of its owners stay short (docs/PROVING.md)
-impl Drop for Questions {
-    fn drop(self) {
-        let Questions {
-            solver: _,
-            counts: _,
-        } = self;
-    }
-}
 
 /// A lowering under way.
 pub(crate) struct Lowering {
     pub(crate) prefix: Prefix,
     /// The model at hand.
     pub(crate) model: Vec<bool>,
-    /// The pure literals.
-    pub(crate) units: Vec<Lit>,
     pub(crate) questions: Questions,
 }
 
@@ -46,7 +26,6 @@ impl Drop for Lowering {
         let Lowering {
             prefix: _,
             model: _,
-            units: _,
             questions: _,
         } = self;
     }
@@ -64,39 +43,6 @@ fn make_false(model: &mut [bool], units: &[Lit])
     }
 }
 
-impl Questions {
-    /// A model in the cube, or none where there is none in which the pure variables are false. The
-    /// first question opens the solver.
-    fn ask<W: LoweringWatcher>(
-        &mut self,
-        alloc: Global,
-        formula: &Formula,
-        plan: Plan,
-        cube: Cube,
-        watcher: &W,
-    ) -> Result<Option<Vec<bool>>, AllocError>
-        requires over { IsOver formula.now.vars cube }
-        requires solver { IfSome self.old.solver (IsAsked formula.now) }
-        ensures found { IfOk result (λ found. MatchOption found (HasNoModelIn (searched formula.now) cube) (λ values. IsModelIn formula.now cube values.items)) }
-        ensures solver { OnOk result (IfSome self.new.solver (IsAsked formula.now)) }
-    {
-        let mut solver = match self.solver.take() {
-            Some(solver) => solver,
-            None => Solver::open(alloc, formula, plan)?,
-        };
-        watcher.lowering(self.counts);
-        let told = QuestionWatcher {
-            watcher,
-            before: self.counts,
-        };
-        let found = model_in(alloc, formula, &mut solver, cube, &told)?;
-        self.counts = self.counts.behind(found.is_some(), solver.counts());
-        watcher.lowering(self.counts);
-        self.solver = Some(solver);
-        Ok(found)
-    }
-}
-
 impl Lowering {
     /// Nothing is settled.
     fn begin(alloc: Global, formula: &Formula, mut model: Vec<bool>) -> Result<Lowering, AllocError>
@@ -107,14 +53,10 @@ impl Lowering {
         let units = formula.pure(alloc)?;
         make_false(&mut model, &units);
         let prefix = Prefix::open(alloc, formula, &units, &model)?;
-        let questions = Questions {
-            solver: None,
-            counts: LoweringCounts::none(),
-        };
+        let questions = Questions::none(units);
         Ok(Lowering {
             prefix,
             model,
-            units,
             questions,
         })
     }
@@ -123,9 +65,7 @@ impl Lowering {
     /// has it true, a model in which it is false is looked for, which becomes the one at hand.
     fn literal_of<W: LoweringWatcher>(
         &mut self,
-        alloc: Global,
         formula: &Formula,
-        plan: Plan,
         var: u32,
         watcher: &W,
     ) -> Result<Lit, AllocError>
@@ -136,8 +76,8 @@ impl Lowering {
         ensures first { OnOk result (IsFirstBelow (searched formula.now) (var + 1) self.new.model.items) }
         ensures prefix { OnOk result (IsPrefix formula.now var self.new.model.items self.new.prefix) }
         ensures kept { OnOk result (self.new.prefix ≡ self.old.prefix) }
-        ensures units { self.new.units ≡ self.old.units }
-        ensures solver { OnOk result (IfSome self.new.questions.solver (IsAsked formula.now)) }
+        ensures units { self.new.questions.units ≡ self.old.questions.units }
+        ensures session { OnOk result (IfSome self.new.questions.session (IsAsked formula.now self.new.prefix.cube)) }
     {
         let _vars = formula.vars(); // it ensures that there are fewer than 2^31
         let negative = Lit::of(var, false);
@@ -145,11 +85,11 @@ impl Lowering {
         if !is_true {
             return Ok(negative);
         }
-        let cube = self.prefix.cube.with(negative)?;
-        match self.questions.ask(alloc, formula, plan, cube, watcher)? {
+        let settled = self.prefix.cube.lits();
+        let questions = &mut self.questions;
+        match questions.ask(formula, settled, &self.model, negative, watcher)? {
             Some(values) => {
                 self.model = values;
-                make_false(&mut self.model, &self.units);
                 Ok(negative)
             }
             None => Ok(Lit::of(var, true)),
@@ -159,9 +99,7 @@ impl Lowering {
     /// Settles a variable, once all below it are.
     fn settle<W: LoweringWatcher>(
         &mut self,
-        alloc: Global,
         formula: &Formula,
-        plan: Plan,
         var: u32,
         watcher: &W,
     ) -> Result<(), AllocError>
@@ -173,8 +111,11 @@ impl Lowering {
             return Ok(());
         }
         self.questions.counts.variable = var;
-        let lit = self.literal_of(alloc, formula, plan, var, watcher)?;
-        self.prefix.join(formula, &self.model, lit)
+        let lit = self.literal_of(formula, var, watcher)?;
+        self.questions
+            .settle(formula, self.prefix.cube.lits(), lit)?;
+        self.prefix.join(formula, &self.model, lit)?;
+        Ok(())
     }
 
     /// The model at hand.
@@ -184,7 +125,6 @@ impl Lowering {
         let Lowering {
             prefix: _,
             model,
-            units: _,
             questions: _,
         } = self;
         model
@@ -193,14 +133,13 @@ impl Lowering {
 
 /// The formula's first model, from any model, in which the pure variables are made false at once.
 /// Least variable first, one that the model at hand has true, and that doesn't follow by propagation
-/// from what is settled before it, is a question: the cube of what is settled and this variable
-/// false is searched by the plan, from nothing, and the cubes below it. It takes the time of its
-/// questions and that of one propagation, and memory by the formula. It fails where a request for
-/// memory is refused or the watcher stops it.
+/// from what is settled before it, is a question of one session: whether it may be false. What a
+/// question has taught stays for the next ones. It takes the time of its questions and that of one
+/// propagation, and memory by the formula. It fails where a request for memory is refused or the
+/// watcher stops it.
 pub fn lowered<W: LoweringWatcher>(
     alloc: Global,
     formula: &Formula,
-    plan: Plan,
     model: Vec<bool>,
     watcher: &W,
 ) -> Result<Vec<bool>, AllocError>
@@ -211,7 +150,7 @@ pub fn lowered<W: LoweringWatcher>(
     watcher.lowering(lowering.questions.counts);
     let behind = formula.vars() + 1;
     for var in 1..behind {
-        lowering.settle(alloc, formula, plan, var, watcher)?;
+        lowering.settle(formula, var, watcher)?;
     }
     Ok(lowering.into_model())
 }

@@ -1,13 +1,16 @@
 //! How far a lowering is, and who is told of it.
 
-use cdcl::{Counts, Watcher};
+ghost use Rattle.std.specs.Prelude.{true};
+
+use cdcl::Counts;
+use session::Interrupt;
 
 /// How far a lowering is.
 #[derive(Clone, Copy, Debug, PartialEq, Eq)]
 pub struct LoweringCounts {
     /// The variable that it is at, from 1 on; all before it are settled.
     pub variable: u32,
-    /// The questions so far: the cubes that were searched, each with those below it as one.
+    /// The questions so far.
     pub questions: u64,
     /// How many of them had a model.
     pub models: u64,
@@ -29,15 +32,19 @@ impl LoweringCounts {
         }
     }
 
-    /// Behind one question more, which had a model or none; in all so much was searched.
-    pub(crate) fn behind(self, has_model: bool, search: Counts) -> LoweringCounts {
+    /// After one question more, which had a model or none; in all so much was searched.
+    pub(crate) fn after(self, has_model: bool, search: Counts) -> LoweringCounts {
         let (model, refuted) = if has_model { (1, 0) } else { (0, 1) };
         LoweringCounts {
             variable: self.variable,
             questions: self.questions.saturating_add(1),
             models: self.models.saturating_add(model),
             refuted: self.refuted.saturating_add(refuted),
-            search,
+            // each conflict teaches a clause; the kernel also counts those that were added
+            search: Counts {
+                learnt: search.conflicts,
+                ..search
+            },
         }
     }
 }
@@ -45,12 +52,11 @@ impl LoweringCounts {
 /// Who is told how far a lowering is. The model that it comes to doesn't depend on it, but a watcher
 /// may stop it.
 pub trait LoweringWatcher {
-    /// It is so far: told at its beginning, before and behind each question, and inside one about
-    /// each thousand conflicts or 100,000 entries of the trail.
+    /// It is so far: told at its beginning, and before and after each question.
     fn lowering(&self, _counts: LoweringCounts) {}
 
-    /// Whether it is to stop before it has the first model. It is asked as often as a watcher of
-    /// searches is.
+    /// Whether it is to stop before it has the first model. It is asked before each question, and now
+    /// and then inside one.
     fn stops(&self) -> bool {
         false
     }
@@ -62,23 +68,16 @@ pub struct Unwatched;
 
 impl LoweringWatcher for Unwatched {}
 
-/// Watches the search of a question.
+/// Interrupts a question where the watcher stops the lowering.
 #[derive(Drop)]
-pub(crate) struct QuestionWatcher<'a, W> {
+pub(crate) struct Stopper<'a, W> {
     pub(crate) watcher: &'a W,
-    /// How far the lowering was before the question.
-    pub(crate) before: LoweringCounts,
 }
 
-impl<W: LoweringWatcher> Watcher for QuestionWatcher<'_, W> {
-    fn counted(&self, counts: Counts) {
-        self.watcher.lowering(LoweringCounts {
-            search: counts,
-            ..self.before
-        });
-    }
+impl<W: LoweringWatcher> Interrupt for Stopper<'_, W> {
+    ghost may_interrupt = { λ s. true };
 
-    fn stops(&self) -> bool {
+    fn interrupts(&self) -> bool {
         self.watcher.stops()
     }
 }

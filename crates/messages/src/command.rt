@@ -6,6 +6,7 @@ pub enum Command {
     Solve,
     Check,
     Tidy,
+    Models,
 }
 
 impl Command {
@@ -15,6 +16,7 @@ impl Command {
             Command::Solve => "cubesat solve -",
             Command::Check => "cubesat check - PROOF",
             Command::Tidy => "cubesat tidy -",
+            Command::Models => "cubesat models -",
         }
     }
 }

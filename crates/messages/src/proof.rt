@@ -237,8 +237,8 @@ fn looks_foreign(refused: Refused, is_extended: bool) -> bool {
 }
 
 /// Says why a proof was refused within these limits, with the number of the clause at fault where the text at its line
-/// is known, and with that of the one that it names wrongly; where it looks like DRAT, also what
-/// makes LRAT of that. Of a compressed file it says what it is. A failed write changes nothing.
+/// is known, and with that of the one that it names wrongly; where it looks like DRAT, also how that
+/// is checked. Of a compressed file it says what it is. A failed write changes nothing.
 pub fn say_proof_refused<E: Write>(
     out: &mut E,
     file: &str,
@@ -255,7 +255,7 @@ pub fn say_proof_refused<E: Write>(
     if is_drat(source.beginning) {
         let _ = writeln!(
             out,
-            "c it begins as DRAT does, which has no hints; drat-trim FORMULA FILE -L NEW makes LRAT of that, and cadical --lrat FORMULA NEW writes LRAT"
+            "c it begins as DRAT does, which has no hints; check --drat finds them"
         );
     } else if looks_foreign(refused, source.is_extended) {
         let _ = writeln!(out, "c does the proof belong to this formula?");

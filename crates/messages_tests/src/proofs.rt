@@ -171,7 +171,7 @@ const BAD_WORD: &str =
     "c p.lrat: a word is no number in plain digits, or above its limit (line 1)\n";
 
 const DRAT: &str = "c p.lrat: a word is no number in plain digits, or above its limit (line 1)
-c it begins as DRAT does, which has no hints; drat-trim FORMULA FILE -L NEW makes LRAT of that, and cadical --lrat FORMULA NEW writes LRAT
+c it begins as DRAT does, which has no hints; check --drat finds them
 ";
 
 /// The first bytes of files, with what is said of them.

@@ -16,3 +16,4 @@ pub mod ProofLemmas
 pub mod OutputLemmas
 pub mod PartLemmas
 pub mod TidyRuns
+pub mod DratLemmas

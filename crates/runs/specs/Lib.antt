@@ -5,6 +5,7 @@ pub mod Run
 pub mod Answered
 pub mod Limited
 pub mod Check
+pub mod Drat
 pub mod Tidy
 pub mod Stored
 pub mod AtOnce

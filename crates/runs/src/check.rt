@@ -45,7 +45,7 @@ pub struct Told {
 }
 
 /// Why a proof is refused, whose step at fault names this clause wrongly, if it is that.
-fn why_refused(verdict: Result<(), Refusal>, named: Option<u64>) -> Option<Refused> {
+pub(crate) fn why_refused(verdict: Result<(), Refusal>, named: Option<u64>) -> Option<Refused> {
     match verdict {
         Ok(()) => None,
         Err(Refusal::Text(fault)) => Some(Refused {
@@ -64,14 +64,14 @@ fn why_refused(verdict: Result<(), Refusal>, named: Option<u64>) -> Option<Refus
 /// The checker's verdict on a proof, and the clause that its step at fault names wrongly, if it is
 /// that.
 #[derive(Clone, Copy)]
-struct Judged {
-    verdict: Result<(), Refusal>,
-    named: Option<u64>,
+pub(crate) struct Judged {
+    pub(crate) verdict: Result<(), Refusal>,
+    pub(crate) named: Option<u64>,
 }
 
 /// What the checker says of a reader's bytes as the proof of a formula. `RunFault` says when each
 /// fault comes.
-fn judge<P: Read>(
+pub(crate) fn judge<P: Read>(
     alloc: Global,
     formula: Formula,
     proof: &mut P,

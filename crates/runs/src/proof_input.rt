@@ -10,7 +10,7 @@ use crate::fault::RunFault;
 use cnf::Limits;
 use lrat::ProofStream;
 use std::alloc::Global;
-use std::io::Read;
+use std::io::{ErrorKind, Read};
 
 /// How many bytes a read is given room for. Larger pieces made the check no faster.
 const CHUNK: usize = 65_536;
@@ -45,13 +45,14 @@ fn feed_chunk<P: Read>(
             Ok(()) => Ok(count),
             Err(_) => Err(RunFault::NoMemory),
         },
+        Err(error) if error.kind() == ErrorKind::OutOfMemory => Err(RunFault::NoMemory),
         Err(_) => Err(RunFault::ProofReadFailed),
     }
 }
 
 /// Feeds the check with a reader's bytes, until a read gives none, until an error, or until there
-/// is one byte more than the limits allow. Any error of the reader is `ProofReadFailed`, and no
-/// read is tried again.
+/// is one byte more than the limits allow. An error of the reader is `ProofReadFailed`, or `NoMemory`
+/// where it is for want of memory, and no read is tried again.
 pub(crate) fn feed_all<P: Read>(
     alloc: Global,
     proof: &mut P,

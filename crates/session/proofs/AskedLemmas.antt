@@ -339,7 +339,7 @@ clause-agrees V m n [] over same = refl
 clause-agrees V m n (l ∷ c) over same =
     ap₂ (λ a b. same_sign l.positive a || b) (same l.var (All-head (λ (k : Literal). IsVariable V k.var) l c over)) (clause-agrees V m n c (All-tail (λ (k : Literal). IsVariable V k.var) l c over) same)
 
-clauses-agree : (V : ℕ) (m n : ℕ → Bool) (K : List Clause) → All (IsOver V) K → ((v : ℕ) → IsVariable V v → m v ≡ n v) → are_true m K ≡ are_true n K
+pub clauses-agree : (V : ℕ) (m n : ℕ → Bool) (K : List Clause) → All (IsOver V) K → ((v : ℕ) → IsVariable V v → m v ≡ n v) → are_true m K ≡ are_true n K
 clauses-agree V m n [] over same = refl
 clauses-agree V m n (c ∷ K) over same = ap₂ (λ a b. a && b) (clause-agrees V m n c (All-head (IsOver V) c K over) same) (clauses-agree V m n K (All-tail (IsOver V) c K over) same)
 

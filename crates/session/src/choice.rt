@@ -60,12 +60,12 @@ impl Choice {
         self.vars = self.vars.max(vars);
     }
 
-    /// Takes the values that were saved before there was room for so many variables.
-    pub(crate) fn take_saved(&mut self, room: u32, before: &Choice)
+    /// Takes values as saved ones, from number 0 on, as far as they go.
+    pub(crate) fn take_saved(&mut self, room: u32, values: &[bool])
         requires { HasChoice room self.old }
         ensures { HasChoice room self.new }
     {
-        for (saved, value) in self.saved.iter_mut().zip(before.saved.iter()) {
+        for (saved, value) in self.saved.iter_mut().zip(values.iter()) {
             *saved = *value;
         }
     }

@@ -166,6 +166,18 @@ impl Names {
         Ok(named)
     }
 
+    /// The values of the numbers 0, which none has, 1, 2 and so on, by those of the variables. A
+    /// variable without one is false.
+    pub(crate) fn by_number(&self, values: &[bool]) -> Result<Vec<bool>, AllocError> {
+        let mut by_number = Vec::new(*self.variables.allocator());
+        by_number.push(false)?;
+        for variable in &self.variables {
+            let place = (*variable as usize).saturating_sub(1);
+            by_number.push(values.get(place).copied().unwrap_or(false))?;
+        }
+        Ok(by_number)
+    }
+
     /// What an answer in numbers says of the variables. A variable that wasn't named is false.
     pub(crate) fn answer(&self, answer: Answer) -> Result<Answer, AllocError>
         requires { IsOverIfCore (length self.now.variables) answer }

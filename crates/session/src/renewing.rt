@@ -28,7 +28,8 @@ const GLUES: usize = 64;
 const KEPT_GLUE: u32 = 2;
 
 /// The number of variables that there is room for, where so many more are needed than there is room
-/// for now: twice as many, so that each variable is moved to new room only a few times.
+/// for now: at first just as many, since each model has values of all of them; then twice as many, so
+/// that each variable is moved to new room only a few times.
 fn room_for(room: u32, vars: u32) -> u32
     requires room { room ≤ max_vars large }
     requires vars { vars ≤ max_vars large }
@@ -38,6 +39,9 @@ fn room_for(room: u32, vars: u32) -> u32
 {
     if vars <= room {
         return room;
+    }
+    if room == 0 {
+        return vars;
     }
     (2 * vars).min(Limits::Large.vars())
 }
@@ -187,6 +191,24 @@ impl Search {
         Ok(())
     }
 
+    /// Lets the next search begin with these values, of the numbers from 0 on, once the kernel has all
+    /// clauses.
+    pub(crate) fn prefer(
+        &mut self,
+        formula: &GrowingFormula,
+        loaded: &mut usize,
+        values: &[bool],
+    ) -> Result<(), AllocError>
+        requires { IsLoaded formula.now.clauses (take loaded.old formula.now.clauses) self.old }
+        ensures loaded { OnOk result (IsLoaded formula.now.clauses (take loaded.new formula.now.clauses) self.new) }
+        ensures within { OnOk result (loaded.new ≤ length formula.now.clauses) }
+    {
+        self.load(formula, *loaded)?;
+        *loaded = formula.clause_count();
+        self.choice.take_saved(self.kernel.vars(), values);
+        Ok(())
+    }
+
     /// Whether the kernel has to be opened anew: for want of variables, or since it has too many
     /// clauses; or whether that takes less time than to put in what it lacks, one clause after the
     /// other: each takes a step for each clause of one literal, and opening one for each literal.
@@ -245,6 +267,7 @@ impl Search {
         let mut glues = vec![in alloc; 0; clauses.clause_count()]?;
         put_learnt(&self.kernel, &self.glues, most, &mut clauses, &mut glues)?;
         self.make_room(alloc, room)?;
+        self.before = self.counts();
         self.kernel = open_kernel(alloc, &clauses)?;
         self.glues = glues;
         let count = clauses.clause_count();
@@ -267,7 +290,7 @@ impl Search {
             return Ok(());
         }
         let mut choice = Choice::open(alloc, room)?;
-        choice.take_saved(room, &self.choice);
+        choice.take_saved(room, &self.choice.saved);
         let lessons = Lessons::open(alloc, room)?;
         let marked = vec![in alloc; false; room as usize + 1]?;
         self.lessons = lessons;

@@ -9,7 +9,7 @@ ghost use Rattle.session.specs.Asking.{IsAsked};
 use crate::choice::Choice;
 use crate::growing::GrowingFormula;
 use crate::restarts::Restarts;
-use cdcl::Lessons;
+use cdcl::{Counts, Lessons};
 use cnf::{Formula, Lit};
 use kernel::{Cube, Order, SearchKernel};
 use std::alloc::{AllocError, Global};
@@ -41,6 +41,8 @@ pub(crate) struct Search {
     pub(crate) assumed: usize,
     /// Up to this level all that is decided is an assumption.
     pub(crate) base: u32,
+    /// What kernels have done that were there before this one.
+    pub(crate) before: Counts,
 }
 
 // written out, so that proofs of its owners stay short (docs/PROVING.md)
@@ -59,6 +61,7 @@ impl Drop for Search {
             limit: _,
             assumed: _,
             base: _,
+            before: _,
         } = self;
     }
 }
@@ -130,6 +133,20 @@ impl Search {
             limit: 0,
             assumed: 0,
             base: 0,
+            before: Counts::none(),
+        })
+    }
+
+    /// How much was done in all questions.
+    pub(crate) fn counts(&self) -> Counts {
+        let kernel = self.kernel.counts();
+        self.before.with(Counts {
+            conflicts: kernel.conflicts,
+            decisions: kernel.decisions,
+            propagations: kernel.propagations,
+            learnt: kernel.learnt,
+            forgotten: kernel.forgotten,
+            ..Counts::none()
         })
     }
 

@@ -8,6 +8,7 @@ use crate::growing::GrowingFormula;
 use crate::interrupt::Interrupt;
 use crate::names::Names;
 use crate::search::Search;
+use cdcl::Counts;
 use cnf::Lit;
 use std::alloc::{AllocError, Global};
 use std::marker::Model;
@@ -101,6 +102,26 @@ impl Session {
         Ok(())
     }
 
+    /// Lets the search of the next question begin with these values of the variables 1, 2 and so on,
+    /// which may be those of a model: what answers say is the same. It takes time by the clauses that were
+    /// added since the last question. It fails where a request for memory is refused.
+    pub fn prefer(&mut self, values: &[bool]) -> Result<(), AllocError>
+        ensures formula { self.new.formula ≡ self.old.formula }
+        ensures steps { self.new.steps ≡ self.old.steps }
+        ensures refused { OnErr result (self.new.out_of_memory ≡ true) }
+        ensures stays { self.old.out_of_memory ≡ true → IsErr result }
+    {
+        if self.out_of_memory {
+            return Err(AllocError);
+        }
+        self.out_of_memory = true; // until nothing was refused
+        let values = self.names.by_number(values)?;
+        self.search
+            .prefer(&self.formula, &mut self.loaded, &values)?;
+        self.out_of_memory = false;
+        Ok(())
+    }
+
     /// Asks whether the clauses have a model that makes the assumptions true, and gives one, or a
     /// core. The assumptions may repeat or contradict one another, and their variables become
     /// variables of the formula. There is no answer only where the question is interrupted, or where
@@ -141,6 +162,11 @@ impl Session {
         ensures { result ≡ self.now.formula.vars }
     {
         self.names.vars()
+    }
+
+    /// How much the searches of all questions have done.
+    pub fn counts(&self) -> Counts {
+        self.search.counts()
     }
 
     /// How many clauses were added.

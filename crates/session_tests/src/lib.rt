@@ -6,6 +6,8 @@ mod asked;
 #[cfg(test)]
 mod interrupted;
 #[cfg(test)]
+mod preferred;
+#[cfg(test)]
 mod random;
 #[cfg(test)]
 mod sequences;

@@ -64,7 +64,7 @@ fn answer_of<G: Gate, O: Observer>(
     if !is_lowered(strategy, plan) {
         return Ok(model);
     }
-    first_model(alloc, formula, plan, model, gate, observer)
+    first_model(alloc, formula, model, gate, observer)
 }
 
 /// A plan's result for what its search begins with.
@@ -255,7 +255,7 @@ pub fn answered<G: Gate, O: Observer>(
             if !is_lowered(strategy, plan) {
                 return Ok(Tree::Model(model));
             }
-            let answer = first_model(alloc, formula, plan, model, gate, observer)?;
+            let answer = first_model(alloc, formula, model, gate, observer)?;
             Ok(Tree::Model(answer))
         }
         Tree::Refuted(nodes) => Ok(Tree::Refuted(nodes)),

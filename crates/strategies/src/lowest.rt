@@ -4,7 +4,6 @@ ghost use Rattle.theory.specs.Truth.{Satisfies};
 ghost use Rattle.theory.specs.FirstModel.{IsFirst};
 
 use crate::observer::Observer;
-use cdcl::Plan;
 use cnf::Formula;
 use cubes::Gate;
 use lowering::{LoweringCounts, LoweringWatcher, lowered};
@@ -27,12 +26,11 @@ impl<G: Gate, O: Observer> LoweringWatcher for Lowers<'_, G, O> {
     }
 }
 
-/// The formula's first model, from any model: questions are searched by the plan, undivided. It fails
-/// where a request for memory is refused or the gate stops it.
+/// The formula's first model, from any model. It fails where a request for memory is refused or the
+/// gate stops it.
 pub(crate) fn first_model<G: Gate, O: Observer>(
     alloc: Global,
     formula: &Formula,
-    plan: Plan,
     model: Vec<bool>,
     gate: &G,
     observer: &O,
@@ -40,7 +38,6 @@ pub(crate) fn first_model<G: Gate, O: Observer>(
     requires { Satisfies formula.now model.items }
     ensures { IfOk result (λ values. IsFirst formula.now values.items) }
 {
-    let plan = plan.divided(0);
     let watcher = Lowers { gate, observer };
-    lowered(alloc, formula, plan, model, &watcher)
+    lowered(alloc, formula, model, &watcher)
 }

@@ -19,8 +19,9 @@ const CUT_OFF_LOWERING: &str =
 pub(crate) const HIGHER: &str = "p cnf 3 4\n1 2 3 0\n1 2 -3 0\n-1 2 3 0\n-1 2 -3 0\n";
 
 /// The search that is made first decides -1 and -2, and 3 brings the conflict. The focused one decides
-/// 3, 2 and 1. In the cube -1 the search for another model decides 3, and 2 follows; in that of -1 and
-/// -2 the conflict comes with 3, which is learnt; in that of -1, 2 and -3 there is a model.
+/// 3, 2 and 1. The first question assumes -1 and decides 3, and 2 follows. The second begins with -1 at
+/// level 0 and assumes -2; the conflict comes with 3, and 2 is learnt and gone over. The third begins
+/// with -1 and 2, and assumes -3.
 const LOWERED: Row = Row {
     formula: HIGHER,
     words: &[
@@ -39,9 +40,9 @@ const LOWERED: Row = Row {
     lines: "c formula: 3 variables, 4 clauses, 12 literals
 c hands: 1
 c first search: ordered, 1 conflicts, undecided
-c search: 2 conflicts, 6 decisions, 15 propagations, 0 restarts
+c search: 2 conflicts, 9 decisions, 16 propagations, 0 restarts
 c clauses: 1 learnt, 0 forgotten
-c focused search: 0 rounds, 0 changes of mode, 0 literals removed, 1 units
+c focused search: 0 rounds, 0 changes of mode, 0 literals removed, 0 units
 c not divided: the focused search ended after 0 conflicts
 c cubes: 1 solved
 c solved by each hand: 1
@@ -121,7 +122,7 @@ c conflicts a second: 0
         lines: "c formula: 3 variables, 4 clauses, 12 literals
 c hands: 1
 c first search: ordered, 1 conflicts, undecided
-c search: 1 conflicts, 6 decisions, 9 propagations, 0 restarts
+c search: 1 conflicts, 7 decisions, 9 propagations, 0 restarts
 c clauses: 0 learnt, 0 forgotten
 c focused search: 0 rounds, 0 changes of mode, 0 literals removed, 0 units
 c not divided: the focused search ended after 0 conflicts

@@ -3,5 +3,5 @@ use Rattle.join.proofs.answer.satisfiable.Goals as goal
 
 pub returns : goal.returns
 returns c =
-    satisfiable-text c.args.values.now c.in_ok-from_slice.field-0.items c.put_values.new.self.text.items c.put.new.self.text.items c.push.new.self.items c.put_values.new.self.width
-    c.in_ok-from_slice.ensures.items c.in_ok-put_values.ensures.text c.in_ok-put.ensures.text c.in_ok-push.ensures.items
+    satisfiable-text c.args.values.now c.in_ok-from_slice.field-0.items c.put_values.new.self.text.items c.end.new.self.text.items c.put_values.new.self.width
+    c.in_ok-from_slice.ensures.items c.in_ok-put_values.ensures.text c.in_ok-end.ensures

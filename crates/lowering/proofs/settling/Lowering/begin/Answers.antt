@@ -1,6 +1,7 @@
-use Rattle.std.proofs.Common.{◌≡◌, ◌∙◌, length, sym, subst}
+use Rattle.std.proofs.Common.{◌≡◌, ◌∙◌, length, ap, sym, subst, Vec, Global}
 use Rattle.std.specs.Vec.{with_items}
 use Rattle.std.proofs.lemmas.List.{with_items_is}
+use Rattle.theory.specs.Literals.{Literal}
 use Rattle.theory.specs.Truth.{Assignment, Satisfies}
 use Rattle.theory.specs.Pure.{searched}
 use Rattle.lowering.specs.Lowering.{IsFalsified, IsPrefix}
@@ -33,6 +34,6 @@ returns c =
     record {
       first = IsFirstBelow-first (searched F) (with_items M N).items (subst (Satisfies (searched F)) (sym same) satisfies);
       prefix = subst (λ (m : Assignment). IsPrefix F 1 m c.in_ok-prefix.prefix) c.deref-3.ensures.value c.in_ok-prefix.ensures;
-      units = c.in_ok-units.ensures;
-      solver = tt;
+      units = ap (λ (v : Vec Literal Global). v.items) c.none-questions.ensures.units ∙ c.in_ok-units.ensures;
+      session = rw c.none-questions.ensures.session tt;
     }

@@ -1,0 +1,4 @@
+pub mod GivenLemmas
+pub mod TextLemmas
+pub mod NextLemmas
+pub mod RunLemmas
