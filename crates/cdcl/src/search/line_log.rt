@@ -1,5 +1,5 @@
 //! The lines that a search learns: as bytes where a proof is asked for, and else not at all, so that
-//! its memory doesn't grow with the conflicts.
+//! its memory doesn't grow by them.
 ghost use Rattle.std.specs.Prelude.{◌≡◌, [], ◌∷◌, ◌++◌, IfOk, OnOk, OnErr};
 
 use crate::search::past_lines::PastLines;
