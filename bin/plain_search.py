@@ -23,6 +23,8 @@ DEFAULT_DIVIDE = 64
 FIRST_CONFLICTS = 20_000
 # so many conflicts may decide a formula before it is simplified
 FIRST_TRIED = 1000
+# so many conflicts, divided by the literals and one, an automatic search's first search has at most
+FIRST_SHARE = 100_000_000
 # so many variables of a cube are looked at
 CANDIDATES = 32
 
@@ -597,6 +599,7 @@ class Automatic:
     decides, `lowering` that of its model, or None where there is no lowering."""
 
     def __init__(self, variables, clauses, first, divide, is_any_model, budget=FOCUSED_BUDGET, simplify=True):
+        first = max(1, min(first, FIRST_SHARE // (sum(map(len, clauses)) + 1)))
         self.first = Ordered(variables, first_clauses(variables, clauses, "ordered"), [], first)
         self.is_decided = self.first.outcome[0] != "exhausted"
         plan = (first, "ordered", 0) if self.is_decided else (budget, "focused", divide)

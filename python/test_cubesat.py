@@ -119,13 +119,13 @@ class Answers(InFolder):
                 self.assertEqual(cubesat.solve(FORCED, **options), [1, -2, -3, -4, 5])
                 self.assertIsNone(cubesat.solve(PIGEONS, **options))
 
-    def test_any_model(self):
+    def test_not_first(self):
         for options in ({}, {"budget": 1}, {"search": "automatic", "budget": 1}, {"search": "focused"}, {"search": "ordered"}):
             with self.subTest(options):
-                model = cubesat.solve(FORCED, any_model=True, **options)
+                model = cubesat.solve(FORCED, first=False, **options)
                 self.assertEqual([*map(abs, model)], [1, 2, 3, 4, 5])
                 self.assertTrue(all({*clause} & {*model} for clause in FORCED))
-                self.assertIsNone(cubesat.solve(PIGEONS, any_model=True, **options))
+                self.assertIsNone(cubesat.solve(PIGEONS, first=False, **options))
 
     def test_focused_search_finds_a_model_or_none(self):
         self.assertIn(cubesat.solve(ALTERNATING, search="focused"), ([-1, 2, -3], [1, -2, 3]))

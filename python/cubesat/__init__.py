@@ -42,7 +42,7 @@ def solve(
     budget: SupportsIndex | None = None,
     divide: SupportsIndex | None = None,
     simplify: bool = True,
-    any_model: bool = False,
+    first: bool = True,
     hands: SupportsIndex = 1,
     seconds: float | None = None,
     large: bool = False,
@@ -70,11 +70,11 @@ def solve(
     simplify:  whether the focused search simplifies a formula that its first 1000 conflicts don't
                decide, before it goes on; without it another proof and maybe another model. "ordered"
                never does
-    any_model: whether "automatic" may answer the model that the focused search finds, which spares the
-               time of lowering it
+    first:     whether "automatic" answers the first model; without it the one that the focused search
+               finds, which spares the time of lowering that
     hands:     threads, 1 to 16; they change neither the answer nor the proof
     seconds:   after how many the search is given up, with OutOfTime, rounded up to whole ones; without
-               it, never
+               it, never. Where a model is known by then it is answered, though it need not be the first
     large:     whether the formula may have up to 100,000,000 variables, 1,000,000,000 clauses and
                8,000,000,000 literals, and not 262,143, 1,000,000 and 8,000,000 alone
     check:     whether the proof is checked
@@ -88,7 +88,7 @@ def solve(
     options = [*search_options(search, budget, divide, simplify), "--hands", str(number_within("hands", hands, 1, 16))]
     limit = whole_seconds(seconds)
     options += [] if limit is None else ["--seconds", str(limit)]
-    options += ["--any-model"] if any_model else []
+    options += [] if first else ["--any-model"]
     options += ["--large"] if large else []
     text = dimacs(clauses, variables, large=large)
     path = find_program(program)

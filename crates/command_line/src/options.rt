@@ -89,7 +89,7 @@ pub(crate) const SECONDS: Row = Row {
     name: "seconds",
     form: Form::Option("N"),
     value: Value::Within(1, 1_000_000_000),
-    help: "Answer `s UNKNOWN`, status 0, unless the formula is solved in so many seconds, the time that lowers its model to the first one included",
+    help: "Answer `s UNKNOWN`, status 0, unless the formula is decided in so many seconds; a model that isn't made the first one by then is answered as it is",
     ..FLAG
 };
 

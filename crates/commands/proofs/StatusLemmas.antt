@@ -13,6 +13,8 @@ use Rattle.lrat.specs.declared.variables.Variables.{Variables}
 use Rattle.lrat.specs.Extended.{checked_formula}
 use Rattle.lrat_text.proofs.ProofTexts.{ProofReads-only}
 use Rattle.runs.specs.declared.fault.RunFault.{RunFault}
+use Rattle.runs.specs.declared.verdict.RunEnd.{RunEnd}
+use Rattle.runs.specs.declared.verdict.RunEnd.TheVariants.{Decided, NotFirst, Unknown}
 use Rattle.runs.specs.declared.verdict.Verdict.{Verdict}
 use Rattle.runs.specs.declared.verdict.Verdict.TheVariants.{Satisfiable, Unsatisfiable}
 use Rattle.runs.specs.declared.checked_line.Checked.{Checked}
@@ -21,6 +23,7 @@ use Rattle.theory.specs.Plans.{Search}
 use Rattle.runs.specs.Answer.{IsRight}
 use Rattle.runs.specs.Run.{WritesBoth}
 use Rattle.runs.specs.Answered.{WritesAnswer}
+use Rattle.runs.specs.AtLimit.{OfRead, WritesAtLimit}
 use Rattle.runs.specs.Limited.{LimitedSays}
 use Rattle.runs.specs.Tidy.{TidySays}
 use Rattle.runs.specs.Check.{checked_of, verdict_of, CheckSays, WritesLine}
@@ -59,20 +62,26 @@ alone-answers L known strategy a b verdict w = record {
 }
 
 verdict-answers : (L : Limits) (limited : Type 0) (known : Option (List ℕ)) (strategy : Strategy) (p : Option (Option (List ℕ))) (a b : Option (List ℕ)) (verdict : Verdict)
-    → LimitedSays L limited known strategy p a b (Ok (Some verdict)) → Answers L (search_by strategy) known a b verdict
+    → LimitedSays L limited known strategy p a b (Ok (Decided verdict)) → Answers L (search_by strategy) known a b verdict
 verdict-answers L limited known strategy None a b verdict says = alone-answers L known strategy a b verdict says
 verdict-answers L limited known strategy (Some p) a b verdict says = both-answers L known strategy p says.0 a b verdict says.1
 
+limit-status : (L : Limits) (limited : Type 0) (known : Option (List ℕ)) (strategy : Strategy) (p : Option (Option (List ℕ))) (a b : Option (List ℕ))
+    → LimitedSays L limited known strategy p a b (Ok NotFirst) → limited × OfRead L known (WritesAtLimit a b)
+limit-status L limited known strategy None a b says = (says.0, says.2)
+limit-status L limited known strategy (Some p) a b says = (says.1.0, says.1.3)
+
 unknown-status : (L : Limits) (limited : Type 0) (known : Option (List ℕ)) (strategy : Strategy) (p : Option (Option (List ℕ))) (a b : Option (List ℕ))
-    → LimitedSays L limited known strategy p a b (Ok None) → IsSolveStatus L limited (search_by strategy) known a b 0
+    → LimitedSays L limited known strategy p a b (Ok Unknown) → IsSolveStatus L limited (search_by strategy) known a b 0
 unknown-status L limited known strategy None a b says = inr (inr (inl (refl, says.0, says.1)))
 unknown-status L limited known strategy (Some p) a b says = inr (inr (inl (refl, says.1.0, says.1.2)))
 
-pub solve-status : (L : Limits) (limited : Type 0) (known : Option (List ℕ)) (strategy : Strategy) (p : Option (Option (List ℕ))) (a b : Option (List ℕ)) (r : Result (Option Verdict) RunFault)
+pub solve-status : (L : Limits) (limited : Type 0) (known : Option (List ℕ)) (strategy : Strategy) (p : Option (Option (List ℕ))) (a b : Option (List ℕ)) (r : Result RunEnd RunFault)
     → LimitedSays L limited known strategy p a b r → IsSolveStatus L limited (search_by strategy) known a b (solve_status r)
-solve-status L limited known strategy p a b (Ok (Some Satisfiable)) says = inl (refl, verdict-answers L limited known strategy p a b Satisfiable says)
-solve-status L limited known strategy p a b (Ok (Some Unsatisfiable)) says = inr (inl (refl, verdict-answers L limited known strategy p a b Unsatisfiable says))
-solve-status L limited known strategy p a b (Ok None) says = unknown-status L limited known strategy p a b says
+solve-status L limited known strategy p a b (Ok (Decided Satisfiable)) says = inl (refl, inl (verdict-answers L limited known strategy p a b Satisfiable says))
+solve-status L limited known strategy p a b (Ok (Decided Unsatisfiable)) says = inr (inl (refl, verdict-answers L limited known strategy p a b Unsatisfiable says))
+solve-status L limited known strategy p a b (Ok NotFirst) says = inl (refl, inr (limit-status L limited known strategy p a b says))
+solve-status L limited known strategy p a b (Ok Unknown) says = unknown-status L limited known strategy p a b says
 solve-status L limited known strategy p a b (Err fault) says = inr (inr (inr refl))
 
 -- what a writer holds that is lent, if there is one
@@ -84,7 +93,7 @@ pub held-lent : {T : Type 0} (f : T → Option (List ℕ)) (o : Option (MutBor T
 held-lent f o x p same held = lent f o ∙ ap (option_map f) same ∙ held
 
 -- what a run said that was passed a reader and writers with the bytes of others
-pub passed-on : (L : Limits) (limited : Type 0) (strategy : Strategy) (known' known : Option (List ℕ)) (p' p : Option (Option (List ℕ))) (a b : Option (List ℕ)) (r : Result (Option Verdict) RunFault)
+pub passed-on : (L : Limits) (limited : Type 0) (strategy : Strategy) (known' known : Option (List ℕ)) (p' p : Option (Option (List ℕ))) (a b : Option (List ℕ)) (r : Result RunEnd RunFault)
     → known' ≡ known → p' ≡ p → LimitedSays L limited known' strategy p' a b r → LimitedSays L limited known strategy p a b r
 passed-on L limited strategy known' known p' p a b r of_known of_p says = rw (← of_known, ← of_p) says
 

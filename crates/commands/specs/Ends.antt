@@ -6,7 +6,7 @@ use Rattle.strategies.specs.Strategies.{Strategy}
 use Rattle.runs.specs.Limited.{LimitedSays}
 use Rattle.runs.specs.Check.{CheckSays}
 use Rattle.runs.specs.declared.fault.RunFault.{RunFault}
-use Rattle.runs.specs.declared.verdict.Verdict.{Verdict}
+use Rattle.runs.specs.declared.verdict.RunEnd.{RunEnd}
 use Rattle.runs.specs.declared.checked_line.Checked.{Checked}
 use Rattle.runs.specs.declared.checked_line.Checked.TheVariants as checked
 use Rattle.commands.specs.Status.{solve_status}
@@ -15,7 +15,7 @@ use Rattle.commands.specs.declared.checking.CheckEnd.TheVariants.{Accepted, Refu
 
 -- what a run with a limit says, by the status
 abbrev pub SolveEnds : Limits → Type 0 → Option (List ℕ) → Strategy → Option (Option (List ℕ)) → Option (List ℕ) → Option (List ℕ) → ℕ → Type 0
-SolveEnds L reached known strategy p a b status = (r : Result (Option Verdict) RunFault) × LimitedSays L reached known strategy p a b r × (status ≡ solve_status r)
+SolveEnds L reached known strategy p a b status = (r : Result RunEnd RunFault) × LimitedSays L reached known strategy p a b r × (status ≡ solve_status r)
 
 abbrev pub end_of : Result Checked RunFault → CheckEnd
 end_of (Ok checked.Accepted) = Accepted

@@ -7,7 +7,10 @@ use Rattle.theory.specs.FirstModel.{IsFound}
 use Rattle.theory.specs.Texts.{answer_text}
 use Rattle.theory.specs.Reading.{Limits, ReadsWithin, formula, max_bytes}
 use Rattle.runs.specs.Answer.{unknown_text}
+use Rattle.runs.specs.AtLimit.{OfRead, WritesAtLimit}
 use Rattle.runs.specs.declared.fault.RunFault.{RunFault}
+use Rattle.runs.specs.declared.verdict.RunEnd.{RunEnd}
+use Rattle.runs.specs.declared.verdict.RunEnd.TheVariants.{Decided, NotFirst, Unknown}
 use Rattle.runs.specs.declared.verdict.Verdict.{Verdict}
 use Rattle.runs.specs.declared.verdict.Verdict.TheVariants as verdict
 
@@ -16,9 +19,10 @@ verdict_status verdict.Satisfiable = 10
 verdict_status verdict.Unsatisfiable = 20
 
 -- the status of what a run with a limit answers
-abbrev pub solve_status : Result (Option Verdict) RunFault → ℕ
-solve_status (Ok (Some verdict)) = verdict_status verdict
-solve_status (Ok None) = 0
+abbrev pub solve_status : Result RunEnd RunFault → ℕ
+solve_status (Ok (Decided verdict)) = verdict_status verdict
+solve_status (Ok NotFirst) = 10
+solve_status (Ok Unknown) = 0
 solve_status (Err fault) = 1
 
 -- the verdict on the formula, with the text of the answer
@@ -37,10 +41,12 @@ pub record Answers (L : Limits) (search : Search) (known answer_old answer_new :
   pub right : IsVerdict search value verdict answer
   pub written : Appends answer_old answer_new answer
 
--- 10 and 20 are a verdict, which is right (of its proof `Ends` says all); 0 is `s UNKNOWN`, where there is a limit; all else is 1
+-- 10 and 20 are a verdict, which is right (of its proof `Ends` says all), but that where there is a
+-- limit the model may be one that need not be the first, and says so; 0 is `s UNKNOWN`, where there
+-- is a limit; all else is 1
 abbrev pub IsSolveStatus : Limits → Type 0 → Search → Option (List ℕ) → Option (List ℕ) → Option (List ℕ) → ℕ → Type 0
 IsSolveStatus L limited search known a b status =
-    ((status ≡ 10) × Answers L search known a b verdict.Satisfiable)
+    ((status ≡ 10) × (Answers L search known a b verdict.Satisfiable ⊎ (limited × OfRead L known (WritesAtLimit a b))))
     ⊎ ((status ≡ 20) × Answers L search known a b verdict.Unsatisfiable)
     ⊎ ((status ≡ 0) × limited × Appends a b unknown_text)
     ⊎ (status ≡ 1)

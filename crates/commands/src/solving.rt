@@ -22,7 +22,7 @@ use command_line::{Effort, FormulaFile, Shown};
 use cubes::OpenGate;
 use files::{Locks, NoticedReader, NoticedWriter};
 use messages::{Command, say_repeats, say_same_file, say_unproved};
-use runs::{Options, RunFault, TimeLimit, Verdict, answer_with};
+use runs::{Options, RunEnd, RunFault, TimeLimit, Verdict, answer_with};
 use statistics::{Board, Manner, print_statistics, show_progress};
 use std::alloc::Global;
 use std::fs::Files;
@@ -80,28 +80,18 @@ fn run_beside<
     mut proof: Option<P>,
     faults: &mut E,
     manner: Manner,
-) -> Result<Option<Verdict>, RunFault>
+) -> Result<RunEnd, RunFault>
     ensures { LimitedSays (limits_of effort.limits) (IsSome effort.seconds) (I.remaining input) effort.strategy (option_map P.contents proof) (W.contents answer.old) (W.contents answer.new) result }
 {
     let (_, result) = thread::join_mut(
         rt,
         &mut || show_progress(rt, board, faults, manner),
-        &mut || -> Result<Option<Verdict>, RunFault>
+        &mut || -> Result<RunEnd, RunFault>
             requires { IsSync R.row }
             ensures { LimitedSays (limits_of effort.limits) (IsSome effort.seconds) (I.remaining input.entry) effort.strategy (option_map P.contents proof.entry) (W.contents answer.entry.now) (W.contents answer.exit.now) result }
         { run_counted(rt, alloc, board, effort, &mut input, answer, proof.take()) },
     );
     result
-}
-
-/// Says that the limit of time was reached while a model was lowered, where it was.
-fn print_cut_off<E: Write>(faults: &mut E, is_unknown: bool, is_lowering: bool) {
-    if is_unknown && is_lowering {
-        let _ = writeln!(
-            faults,
-            "c the time was over while a model was lowered to the first one; --any-model answers without that"
-        );
-    }
 }
 
 /// Says that lrat-check takes no proof of this formula, where one was written and that is known.
@@ -117,8 +107,7 @@ fn print_repeats<E: Write>(
     }
 }
 
-/// A run that is counted, with its progress in this manner, if in any. It says where it was cut off,
-/// and whether lrat-check may refuse the proof.
+/// A run that is counted, with its progress in this manner. It says whether lrat-check may refuse the proof.
 fn run_shown<
     R: Files + Threads + Wait + Clock + Sync,
     I: Read + Drop,
@@ -136,7 +125,7 @@ fn run_shown<
     stats: bool,
     faults: &mut E,
     manner: Option<Manner>,
-) -> Result<Option<Verdict>, RunFault>
+) -> Result<RunEnd, RunFault>
     ensures { LimitedSays (limits_of effort.limits) (IsSome effort.seconds) (I.remaining input) effort.strategy (option_map P.contents proof) (W.contents answer.old) (W.contents answer.new) result }
 {
     let (limits, hands) = (effort.limits, effort.hands.get());
@@ -151,8 +140,7 @@ fn run_shown<
     if stats {
         print_statistics(faults, &figures, hands);
     }
-    print_cut_off(faults, matches!(result, Ok(None)), figures.is_lowering());
-    let is_refuted = matches!(result, Ok(Some(Verdict::Unsatisfiable)));
+    let is_refuted = matches!(result, Ok(RunEnd::Decided(Verdict::Unsatisfiable)));
     print_repeats(faults, file, limits, is_refuted, figures.has_repeats);
     result
 }
@@ -164,7 +152,7 @@ fn run_plain<R: Files + Threads + Wait + Clock + Sync, I: Read + Drop, W: Write>
     effort: Effort,
     input: I,
     answer: &mut W,
-) -> Result<Option<Verdict>, RunFault>
+) -> Result<RunEnd, RunFault>
     ensures { LimitedSays (limits_of effort.limits) (IsSome effort.seconds) (I.remaining input) effort.strategy None (W.contents answer.old) (W.contents answer.new) result }
 {
     let options = Options {
@@ -176,11 +164,6 @@ fn run_plain<R: Files + Threads + Wait + Clock + Sync, I: Read + Drop, W: Write>
         observer: &Unobserved,
     };
     answer_with(rt, alloc, input, &options, answer)
-}
-
-/// Whether it is to be told if a limit of time was reached while a model was lowered.
-fn tells_cut_off(effort: &Effort) -> bool {
-    effort.seconds.is_some() && effort.strategy.lowers()
 }
 
 /// A run with what is to be shown of it. Its proof goes to this writer; without one, none is made.
@@ -201,7 +184,7 @@ fn run_opened<
     shown: Shown,
     faults: &mut E,
     screen: Screen,
-) -> Result<Option<Verdict>, RunFault>
+) -> Result<RunEnd, RunFault>
     ensures { LimitedSays (limits_of effort.limits) (IsSome effort.seconds) (I.remaining input) effort.strategy (option_map P.contents proof) (W.contents answer.old) (W.contents answer.new) result }
 {
     let manner = if shown.progress {
@@ -210,9 +193,8 @@ fn run_opened<
         None
     };
     let stats = shown.stats;
-    let is_counted = stats || manner.is_some() || tells_cut_off(&effort);
     match proof {
-        None if !is_counted => run_plain(rt, alloc, effort, input, answer),
+        None if !stats && manner.is_none() => run_plain(rt, alloc, effort, input, answer),
         proof => run_shown(
             rt, alloc, effort, input, answer, proof, file, stats, faults, manner,
         ),
@@ -242,7 +224,7 @@ fn print_unproved<E: Write>(faults: &mut E, fault: RunFault, known: &Known<'_>, 
 fn end_solve<R: Files, E: Write>(
     rt: &R,
     faults: &mut E,
-    answered: Result<Option<Verdict>, RunFault>,
+    answered: Result<RunEnd, RunFault>,
     known: &Known<'_>,
     is_begun: bool,
     is_explained: bool,
@@ -250,9 +232,9 @@ fn end_solve<R: Files, E: Write>(
     ensures { result ≡ solve_status answered }
 {
     match answered {
-        Ok(Some(Verdict::Satisfiable)) => SATISFIABLE,
-        Ok(Some(Verdict::Unsatisfiable)) => UNSATISFIABLE,
-        Ok(None) => UNKNOWN,
+        Ok(RunEnd::Decided(Verdict::Satisfiable) | RunEnd::NotFirst) => SATISFIABLE,
+        Ok(RunEnd::Decided(Verdict::Unsatisfiable)) => UNSATISFIABLE,
+        Ok(RunEnd::Unknown) => UNKNOWN,
         Err(fault) => {
             let status = print_fault_by(rt, faults, fault, known, Command::Solve, is_explained);
             print_unproved(faults, fault, known, is_begun);

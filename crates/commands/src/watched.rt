@@ -6,7 +6,7 @@ ghost use Rattle.runs.specs.Limited.{LimitedSays};
 
 use command_line::Effort;
 use runs::{
-    CheckRules, Limit, Options, RunFault, TimeLimit, Told, Verdict, answer_with, check_with,
+    CheckRules, Limit, Options, RunEnd, RunFault, TimeLimit, Told, answer_with, check_with,
     run_with,
 };
 use statistics::{Board, CountedReader, CountedWriter, NotedLimit, TextWatch, Watch};
@@ -32,7 +32,7 @@ fn run_watched<
     input: I,
     answer: &mut W,
     proof: Option<P>,
-) -> Result<Option<Verdict>, RunFault>
+) -> Result<RunEnd, RunFault>
     ensures { LimitedSays (limits_of effort.limits) (L.is_reached limit.now) (I.remaining input) effort.strategy (option_map P.contents proof) (W.contents answer.old) (W.contents answer.new) result }
 {
     let options = Options {
@@ -71,7 +71,7 @@ pub(crate) fn run_counted<
     input: I,
     answer: &mut W,
     proof: Option<P>,
-) -> Result<Option<Verdict>, RunFault>
+) -> Result<RunEnd, RunFault>
     ensures { LimitedSays (limits_of effort.limits) (IsSome effort.seconds) (I.remaining input) effort.strategy (option_map P.contents proof) (W.contents answer.old) (W.contents answer.new) result }
 {
     let watch = Watch { rt, alloc, board };

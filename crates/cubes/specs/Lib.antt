@@ -1,6 +1,5 @@
 -- The order of a tree's cubes, and what a result is.
 pub mod CubeWalks
-pub mod Decided
 pub mod Division
 pub mod Gathering
 pub mod Hands

@@ -26,7 +26,7 @@ use crate::hand_count::HandCount;
 use crate::hands::{Worked, work_in};
 use crate::results::{assemble_in, gather_in};
 use crate::solved::Solved;
-use crate::threads::solve_in;
+use crate::threads::solve_by_plan;
 use crate::tree::Tree;
 use cdcl::Plan;
 use cnf::Formula;
@@ -133,5 +133,5 @@ pub fn solve_with<R: Threads + Wait + Clock + Sync, G: Gate + Sync>(
     ensures says { IfOk result (λ t. Says ordered formula.now t) }
 {
     let hands = HandCount::of(hands);
-    solve_in(rt, alloc, formula, Plan::ordered(budget), hands, gate)
+    solve_by_plan(rt, alloc, formula, Plan::ordered(budget), hands, gate)
 }

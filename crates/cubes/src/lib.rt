@@ -5,7 +5,6 @@
 mod closing;
 mod compatible;
 mod cube_walk;
-mod decided;
 mod division;
 mod gate;
 mod gathering;
@@ -25,7 +24,6 @@ mod tree;
 mod tries;
 
 pub use compatible::{assemble, gather, harvest, solve_one, solve_with, work};
-pub use decided::decide_by_plan;
 pub use division::cube_solver::CubeSolver;
 pub use division::first_search::{DivisionWatcher, FirstAnswer, FirstSearch};
 pub use division::root::Root;

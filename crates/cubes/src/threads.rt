@@ -4,7 +4,7 @@ ghost use Rattle.theory.specs.Results.{IsWhole};
 ghost use Rattle.pool.specs.Pools.{AreNew};
 ghost use Rattle.theory.specs.Beginnings.{begun_by};
 ghost use Rattle.cubes.specs.Division.{IsRootOf};
-ghost use Rattle.cubes.specs.Result.{IsResultBy, IsResultOf, Says};
+ghost use Rattle.cubes.specs.Result.{IsResultBy, Says};
 ghost use Rattle.cubes.specs.Shares.{HasDone, HaveDone};
 ghost use Rattle.cubes.specs.Solved.{results_by};
 
@@ -20,7 +20,6 @@ use crate::tree::Tree;
 use cdcl::{KeepsLines, Plan};
 use cnf::Formula;
 use kernel::Cube;
-use lines::Row;
 use pool::{Hand, Pool};
 use std::alloc::{AllocError, Global};
 use std::sync::Wait;
@@ -146,8 +145,12 @@ fn solve_from<L: KeepsLines + Send, R: Threads + Wait + Clock + Sync, G: Gate + 
     }
 }
 
-/// What `solve_by_plan` does, whatever keeps the lines of refuted cubes.
-pub(crate) fn solve_in<L: KeepsLines + Send, R: Threads + Wait + Clock + Sync, G: Gate + Sync>(
+/// The result of the formula by the plan, by 1 to 16 hands, each in a thread of its own where one
+/// can be started. It is the same for any number of hands, any gate and any schedule, whatever keeps
+/// the lines of refuted cubes: where nothing does, its memory is that of the searches, and a few
+/// bytes a cube. It fails only where a request for memory is refused or the gate stops the hands,
+/// once all hands are home. If the pool isn't opened, all is solved here.
+pub fn solve_by_plan<L: KeepsLines + Send, R: Threads + Wait + Clock + Sync, G: Gate + Sync>(
     rt: &R,
     alloc: Global,
     formula: &Formula,
@@ -162,22 +165,4 @@ pub(crate) fn solve_in<L: KeepsLines + Send, R: Threads + Wait + Clock + Sync, G
         Beginning::Decided(tree) => Ok(tree),
         Beginning::Open(root) => solve_from(rt, alloc, formula, plan, root, hands, gate),
     }
-}
-
-/// The result of the formula by the plan, by 1 to 16 hands, each in a thread of its own where one
-/// can be started. It is the same for any number of hands, any gate and any schedule. It fails only
-/// where a request for memory is refused or the gate stops the hands, once all hands are home. If
-/// the pool isn't opened, all is solved here.
-pub fn solve_by_plan<R: Threads + Wait + Clock + Sync, G: Gate + Sync>(
-    rt: &R,
-    alloc: Global,
-    formula: &Formula,
-    plan: Plan,
-    hands: HandCount,
-    gate: &G,
-) -> Result<Tree<Row>, AllocError>
-    ensures result { IfOk result (λ t. IsResultOf (begun_by plan.search formula.now) plan t) }
-    ensures says { IfOk result (λ t. Says plan.search formula.now t) }
-{
-    solve_in(rt, alloc, formula, plan, hands, gate)
 }

@@ -3,7 +3,7 @@
 use crate::plans::plan_of;
 use cdcl::{Counts, Plan, Search};
 use cnf::{Formula, read_formula};
-use cubes::{Gate, HandCount, solve_by_plan};
+use cubes::{Gate, HandCount, Tree, solve_by_plan};
 use kernel::Cube;
 use std::alloc::Global;
 use std::sync::{Mutex, Wait};
@@ -144,7 +144,7 @@ fn done_by<R: Threads + Wait + Clock + Sync>(
         before: Mutex::new(Counts::none()),
         last: Mutex::new([Counts::none(); 4]),
     };
-    solve_by_plan(rt, alloc, formula, plan, hands, &gate)?;
+    let _tree: Tree = solve_by_plan(rt, alloc, formula, plan, hands, &gate)?;
     let before = *gate.before.lock(rt);
     Ok((numbers_of(before), numbers_of(gate.sum())))
 }

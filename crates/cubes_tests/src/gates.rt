@@ -3,7 +3,7 @@
 use crate::plans::plan_of;
 use cdcl::{Plan, Search};
 use cnf::{Formula, read_formula};
-use cubes::{Gate, HandCount, solve_by_plan};
+use cubes::{Gate, HandCount, Tree, solve_by_plan};
 use kernel::Cube;
 use std::alloc::Global;
 use std::sync::Wait;
@@ -109,7 +109,7 @@ fn is_solved_once<R: Threads + Wait + Clock + Sync>(
         before: Passed::none(cubes),
         after: Passed::none(cubes),
     };
-    solve_by_plan(rt, alloc, formula, plan, hands, &gate)?;
+    let _tree: Tree = solve_by_plan(rt, alloc, formula, plan, hands, &gate)?;
     Ok(gate.before.is_once_each() && gate.after.is_once_each())
 }
 

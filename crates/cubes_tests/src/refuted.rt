@@ -3,7 +3,7 @@
 use crate::plans::plan_of;
 use cdcl::{Plan, Search};
 use cnf::{Formula, read_formula};
-use cubes::{FirstAnswer, FirstSearch, Gate, HandCount, solve_by_plan};
+use cubes::{FirstAnswer, FirstSearch, Gate, HandCount, Tree, solve_by_plan};
 use kernel::Cube;
 use std::alloc::Global;
 use std::sync::{Mutex, Wait};
@@ -80,7 +80,7 @@ fn told_by<R: Threads + Wait + Clock + Sync>(
         first: Mutex::new(None),
         refuted: Mutex::new(0),
     };
-    solve_by_plan(rt, alloc, formula, plan, hands, &gate)?;
+    let _tree: Tree = solve_by_plan(rt, alloc, formula, plan, hands, &gate)?;
     let first = *gate.first.lock(rt);
     let refuted = *gate.refuted.lock(rt);
     Ok((first, refuted))

@@ -4,7 +4,7 @@
 use crate::results::{Given, OF_EIGHT, WantedTree, gathered, is_tree};
 use cdcl::Plan;
 use cnf::read_formula;
-use cubes::{HandCount, OpenGate, solve_by_plan};
+use cubes::{HandCount, OpenGate, Tree, solve_by_plan};
 use std::alloc::Global;
 use std::sync::Wait;
 use std::test::Fail;
@@ -120,7 +120,7 @@ fn is_solved_by<R: Threads + Wait + Clock + Sync>(
 ) -> Result<bool, Fail> {
     let formula = read_formula(alloc, text.as_bytes())?;
     for _ in 0..20 {
-        let tree = solve_by_plan(rt, alloc, &formula, Plan::ordered(1), hands, &OpenGate)?;
+        let tree: Tree = solve_by_plan(rt, alloc, &formula, Plan::ordered(1), hands, &OpenGate)?;
         if !is_tree(&tree, wanted)? {
             return Ok(false);
         }

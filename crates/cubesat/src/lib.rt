@@ -18,7 +18,7 @@ pub use commands::{Locks, NoLocks, Screen, SystemLocks, explanation};
 pub use cubes::{Gate, HandCount, OpenGate};
 pub use program::{Console, command, command_in_folders, command_on, command_with_input};
 pub use runs::{
-    CheckRules, Checked, Limit, Options, RunFault, TimeLimit, Told, Verdict, answer_with,
+    CheckRules, Checked, Limit, Options, RunEnd, RunFault, TimeLimit, Told, Verdict, answer_with,
     check_run, check_with, run, run_one, run_with, runs_write_the_same,
 };
 pub use statistics::{

@@ -2,8 +2,9 @@
 use Rattle.std.proofs.Common.{◌≡◌, ℕ, ◌+◌, Bool, true, false, List, [], ◌∷◌, ◌++◌, length, length-append, nat_le, refl, ap, sym, ◌∙◌, append_assoc, codes, Some, arith, if◌then◌else◌}
 use Rattle.theory.specs.Literals.{Clause}
 use Rattle.theory.specs.Truth.{Assignment}
-use Rattle.theory.specs.Texts.{lf, space, value_lines, clause_words, assigned_literals, answer_text}
+use Rattle.theory.specs.Texts.{lf, space, value_lines, clause_words, assigned_literals}
 use Rattle.join.specs.Lines.{pieces}
+use Rattle.join.specs.Values.{values_text}
 
 pub value_lines-pieces : (line : List ℕ) (words : List (List ℕ)) → value_lines line words ≡ line ++ pieces (length line) words
 value_lines-pieces line [] = refl
@@ -31,9 +32,9 @@ pub literals-text : (lits : Clause) (begun written text : List ℕ) (width : ℕ
     → written ++ pieces width (clause_words []) ≡ begun ++ pieces 1 (clause_words lits) → text ≡ written ++ pieces width (clause_words []) → text ≡ value_lines (codes "v") (clause_words lits)
 literals-text lits begun written text width = put-together (codes "v") (clause_words lits) begun written text width refl
 
--- the status line and the value lines, as they are put together
-pub satisfiable-text : (M : Assignment) (begun written text : List ℕ) (width : ℕ) → begun ≡ codes "s SATISFIABLE\nv"
-    → written ++ pieces width (clause_words []) ≡ begun ++ pieces 1 (clause_words (assigned_literals 1 M)) → text ≡ written ++ pieces width (clause_words []) → text ≡ answer_text (Some M)
-satisfiable-text M begun written text width begins values ended =
-    ended ∙ (values ∙ (ap (λ t. t ++ pieces 1 (clause_words (assigned_literals 1 M))) begins
-    ∙ ap (λ t. codes "s SATISFIABLE\n" ++ t) (sym (value_lines-pieces (codes "v") (clause_words (assigned_literals 1 M))))))
+-- the value lines behind a text, as they are put together
+pub values-behind : (M : Assignment) (before begun written text : List ℕ) (width : ℕ) → begun ≡ before ++ codes "v"
+    → written ++ pieces width (clause_words []) ≡ begun ++ pieces 1 (clause_words (assigned_literals 1 M)) → text ≡ written ++ pieces width (clause_words []) → text ≡ before ++ values_text M
+values-behind M before begun written text width begins values ended =
+    let words = clause_words (assigned_literals 1 M) in
+    ended ∙ (values ∙ (ap (λ t. t ++ pieces 1 words) begins ∙ (append_assoc before (codes "v") (pieces 1 words) ∙ ap (λ t. before ++ t) (sym (value_lines-pieces (codes "v") words)))))

@@ -6,4 +6,5 @@ pub mod Numbered
 pub mod Walking
 pub mod Before
 pub mod Lines
+pub mod Values
 pub mod Rooms

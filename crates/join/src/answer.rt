@@ -3,6 +3,7 @@ ghost use Rattle.std.specs.Prelude.{◌≡◌, ◌≤◌, ◌+◌, ◌<◌, ◌^
 ghost use Rattle.std.specs.Option.{option_map, ForSome};
 ghost use Rattle.theory.specs.Texts.{lf, answer_text, value_lines, clause_words, assigned_literals};
 ghost use Rattle.join.specs.Lines.{piece, pieces, width_behind};
+ghost use Rattle.join.specs.Values.{limit_text, values_text};
 
 use cnf::{Formula, Lit};
 use itoa::Buffer;
@@ -10,6 +11,10 @@ use std::alloc::{AllocError, Global};
 
 /// The most bytes that a value line has before its LF.
 const WIDTH: usize = 78;
+
+/// How the line begins that is said of a model where the time was up.
+const AT_LIMIT: &[u8] =
+    b"c this model satisfies the formula, and need not be the first: time was up (variable ";
 
 /// A text that ends inside a value line, of which `width` bytes are there.
 #[derive(Drop)]
@@ -93,18 +98,46 @@ pub fn value_lines(alloc: Global, lits: &[Lit]) -> Result<Vec<u8>, AllocError>
     Ok(lines.text)
 }
 
-/// The answer of a satisfiable formula.
-fn satisfiable(alloc: Global, values: &[bool]) -> Result<Vec<u8>, AllocError>
+/// The truth values of the variables 1, 2 and so on as value lines, behind a text.
+fn with_values(mut text: Vec<u8>, values: &[bool]) -> Result<Vec<u8>, AllocError>
     requires { length values.now < 2 ^ 32 }
-    ensures { IfOk result (λ v. v.items ≡ answer_text (Some values.now)) }
+    ensures { IfOk result (λ v. v.items ≡ text.items ++ values_text values.now) }
 {
-    let mut lines = ValueLines {
-        text: Vec::from_slice(alloc, b"s SATISFIABLE\nv")?,
-        width: 1,
-    };
+    text.push(b'v')?;
+    let mut lines = ValueLines { text, width: 1 };
     lines.put_values(values)?;
     lines.end()?;
     Ok(lines.text)
+}
+
+/// The value lines of a model. It fails only where a request for memory is refused.
+pub fn value_bytes(alloc: Global, formula: &Formula, values: &[bool]) -> Result<Vec<u8>, AllocError>
+    requires { length values.now ≡ formula.now.vars }
+    ensures { IfOk result (λ v. v.items ≡ values_text values.now) }
+{
+    let _vars = formula.vars(); // it ensures that there are few values
+    with_values(Vec::new(alloc), values)
+}
+
+/// What is said of a model whose first variables, so many, have the first model's values, where the
+/// time was up before all had; then its value lines. It fails only where a request for memory is
+/// refused.
+pub fn bytes_at_limit(
+    alloc: Global,
+    formula: &Formula,
+    values: &[bool],
+    settled: u32,
+) -> Result<Vec<u8>, AllocError>
+    requires { length values.now ≡ formula.now.vars }
+    ensures { IfOk result (λ v. v.items ≡ limit_text settled formula.now.vars ++ values_text values.now) }
+{
+    let mut buffer = Buffer::new();
+    let mut text = Vec::from_slice(alloc, AT_LIMIT)?;
+    text.extend_from_slice(buffer.format(settled).as_bytes())?;
+    text.extend_from_slice(b" of ")?;
+    text.extend_from_slice(buffer.format(formula.vars()).as_bytes())?;
+    text.extend_from_slice(b" is settled)\n")?;
+    with_values(text, values)
 }
 
 /// The text of the answer: `s SATISFIABLE` and the truth values of the variables 1, 2 and so on, in
@@ -123,7 +156,7 @@ pub fn answer_bytes(
         Some(values) => {
             // The call says that a formula has few variables, and so that there are few values.
             let _vars = formula.vars();
-            satisfiable(alloc, values)
+            with_values(Vec::from_slice(alloc, b"s SATISFIABLE\n")?, values)
         }
     }
 }

@@ -11,7 +11,7 @@ mod proof_text;
 mod room;
 mod steps;
 
-pub use answer::{answer_bytes, value_lines};
+pub use answer::{answer_bytes, bytes_at_limit, value_bytes, value_lines};
 pub use before::LinesBefore;
 pub use joiner::Joiner;
 pub use line::{Kind, ProofLine};

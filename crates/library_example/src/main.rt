@@ -3,8 +3,8 @@
 #![tactic(auto)]
 
 use cubesat::{
-    HandCount, Limits, Observer, OpenGate, Options, Plan, RunFault, Strategy, TimeLimit, Verdict,
-    check_run, run_with,
+    HandCount, Limits, Observer, OpenGate, Options, Plan, RunEnd, RunFault, Strategy, TimeLimit,
+    Verdict, check_run, run_with,
 };
 use std::alloc::Global;
 use std::io::Write;
@@ -53,7 +53,8 @@ fn solve<R: Threads + Wait + Clock + Sync, W: Write>(
         observer: proofs,
     };
     let mut proof = Vec::new(alloc);
-    if let Some(Verdict::Unsatisfiable) = run_with(rt, alloc, FORMULA, &options, out, &mut proof)? {
+    let end = run_with(rt, alloc, FORMULA, &options, out, &mut proof)?;
+    if let RunEnd::Decided(Verdict::Unsatisfiable) = end {
         let _checked = check_run(alloc, FORMULA, proof.as_slice(), out)?;
     }
     Ok(())

@@ -1,16 +1,19 @@
 -- What a run without a proof says: the answer is the one that goes with the formula's proof.
-use Rattle.std.proofs.Common.{◌≡◌, ℕ, List, Option, None, Result, Ok, Err, take, inl, inr, ◌⊎◌, refl}
+use Rattle.std.proofs.Common.{◌≡◌, ℕ, List, ◌++◌, Option, None, Result, Ok, Err, Vec, Global, take, inl, inr, ◌⊎◌, refl}
 use Rattle.theory.specs.Truth.{Formula}
-use Rattle.strategies.specs.Strategies.{Strategy}
-use Rattle.strategies.specs.Deciding.{IsRefuted}
-use Rattle.strategies.specs.Texts.{IsRefutationText}
+use Rattle.theory.specs.Plans.{Plan}
+use Rattle.theory.specs.Learning.{Line}
 use Rattle.theory.specs.Reading.{Limits, large, IsWithinLimits}
-use Rattle.theory.specs.Beginnings.{begun, proof}
+use Rattle.theory.specs.Beginnings.{beginning_by, proof}
 use Rattle.theory.specs.Texts.{proof_text, answer_text}
-use Rattle.theory.specs.Written.{IsUnsatisfiableText}
-use Rattle.theory.specs.Trees.{tree_of}
-use Rattle.theory.proofs.trees.BegunSearches.{IsFormula-begun, Begins-beginning}
-use Rattle.theory.proofs.trees.ResultLemmas.{IsCheckedResult-IsResult}
+use Rattle.cubes.specs.declared.tree.Node.{Node}
+use Rattle.cubes.specs.declared.tree.Tree.TheVariants.{Refuted}
+use Rattle.strategies.specs.declared.begun_formula.Begun.{Begun}
+use Rattle.strategies.specs.Begun.{formula_in, lines_in}
+use Rattle.strategies.specs.Strategies.{Strategy}
+use Rattle.strategies.specs.Choosing.{IsChosen}
+use Rattle.strategies.specs.Deciding.{IsFoundTree}
+use Rattle.strategies.proofs.DecidedTrees.{refuted-says}
 use Rattle.cnf.specs.declared.fault.ReadFault.{ReadFault}
 use Rattle.cnf.specs.declared.fault.ReadFault.TheVariants as reading
 use Rattle.cnf.specs.Faults.{IsReadOf}
@@ -22,21 +25,17 @@ use Rattle.runs.specs.declared.fault.RunFault.TheVariants.{AnswerWriteFailed}
 use Rattle.runs.specs.declared.verdict.Verdict.{Verdict}
 use Rattle.runs.specs.declared.verdict.Verdict.TheVariants.{Unsatisfiable}
 use Rattle.runs.proofs.RightAnswers.{texts-right}
-use Rattle.runs.proofs.BegunTexts.{tree-accepted}
 use Rattle.runs.proofs.RunLemmas.{IsRunOf-made}
+use Rattle.runs.proofs.TextLemmas.{refuted-texts}
 use Rattle.runs.proofs.WrittenLemmas.{Keeps-same}
 
-pub refuted-answer : (L : Limits) (F : Formula) (s : Strategy) (answer : List ℕ) → IsWithinLimits large F → IsRefuted F s → answer ≡ answer_text None → IsAnswerFor L F s Unsatisfiable answer
-refuted-answer L F s answer within is same =
-    let plan = is.0 in
-    let r = is.2 in
-    let b = r.beginning in
-    let t = r.tree in
-    let text : IsUnsatisfiableText F plan (proof_text (proof F b t)) answer = record { unsatisfiable = r.unsatisfiable; beginning = b; begins = r.begins; tree = t; is_tree = r.is_result.0; proof_is = refl; answer_is = same } in
-    let chosen : IsRefutationText F s (proof_text (proof F b t)) answer = record { plan = plan; chosen = is.1; text = text } in
-    let begins = Begins-beginning F plan b within.formula r.begins in
-    let checked = IsCheckedResult-IsResult (begun F b) plan (tree_of t) (IsFormula-begun plan.search F b within.formula begins) r.is_result in
-    (proof_text (proof F b t), (chosen, tree-accepted L F plan.search b t within begins checked.0 checked.1))
+-- the answer to a refuted formula: that of the run whose proof is its tree's
+pub refuted-answer : {K : Type 0} (lines : K → List Line) (L : Limits) (F : Formula) (s : Strategy) (p : Plan) (x : Begun) (nodes : Vec (Node K) Global) (answer : List ℕ) → IsWithinLimits large F → IsChosen F s p → IsFoundTree lines F p x (Refuted nodes) → answer ≡ answer_text None
+    → IsAnswerFor L F s Unsatisfiable answer
+refuted-answer lines L F s p x nodes answer within chosen h same =
+    let t = h.1.0 in
+    let steps = proof (formula_in x F) (beginning_by p.search) t in
+    (proof_text (lines_in x F ++ steps), refuted-texts L F s p x t steps answer within chosen h.0 (refuted-says lines F p x nodes within.formula h) h.1.1 same refl)
 
 -- the answer to a formula that was read
 pub IsAnswerOf-made : (L : Limits) (known : Option (List ℕ)) (s : Strategy) (F : Formula) (verdict : Verdict) (answer : List ℕ) → ◌≡◌ {A = Result Formula ReadFault} (Ok F) (Err reading.ReadFailed) ⊎ IsReadOf L known (Ok F) → IsAnswerFor L F s verdict answer

@@ -8,9 +8,9 @@ use Rattle.theory.specs.Texts.{proof_text, answer_text}
 use Rattle.cnf.specs.declared.fault.ReadFault.{ReadFault}
 use Rattle.cnf.specs.declared.fault.ReadFault.TheVariants as reading
 use Rattle.cnf.specs.Faults.{IsReadOf}
-use Rattle.beginnings.specs.declared.begun_formula.Begun.{Begun}
-use Rattle.beginnings.specs.Begun.{formula_in, lines_in, IsBegunBy}
-use Rattle.beginnings.proofs.SatisfiedFormulas.{refuted-back}
+use Rattle.strategies.specs.declared.begun_formula.Begun.{Begun}
+use Rattle.strategies.specs.Begun.{formula_in, lines_in, IsBegunBy}
+use Rattle.strategies.proofs.SatisfiedFormulas.{refuted-back}
 use Rattle.strategies.specs.Strategies.{by_plan}
 use Rattle.strategies.specs.Choosing.{alone}
 use Rattle.runs.specs.Answer.{IsRight}

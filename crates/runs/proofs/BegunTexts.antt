@@ -12,8 +12,8 @@ use Rattle.theory.specs.Beginnings.{Beginning, IsBeginning, begun, begun_by, beg
 use Rattle.theory.proofs.trees.BegunSearches.{Begins-beginning, checks-begun}
 use Rattle.lrat_text.proofs.WrittenTexts.{proof_text-ProofReads}
 use Rattle.join.proofs.StepLemmas.{begun-within}
-use Rattle.beginnings.specs.declared.begun_formula.Begun.{Begun}
-use Rattle.beginnings.specs.Begun.{formula_in, lines_in, IsBegunBy}
+use Rattle.strategies.specs.declared.begun_formula.Begun.{Begun}
+use Rattle.strategies.specs.Begun.{formula_in, lines_in, IsBegunBy}
 use Rattle.runs.specs.Answer.{IsAccepted}
 use Rattle.runs.proofs.LineTexts.{short-large}
 

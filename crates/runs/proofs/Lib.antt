@@ -5,6 +5,8 @@ pub mod TextLemmas
 pub mod RunLemmas
 pub mod OneRun
 pub mod RightAnswers
+pub mod LimitedLemmas
+pub mod LoweredAnswers
 pub mod AnsweredLemmas
 pub mod CheckLemmas
 pub mod SaidLines

@@ -22,11 +22,12 @@ use Rattle.gathering.specs.Stored.{AreTrueFacts}
 use Rattle.cubes.specs.declared.tree.Tree.{Tree}
 use Rattle.cubes.specs.declared.tree.Tree.TheVariants.{Model, Refuted}
 use Rattle.cubes.specs.Result.{LinesNode, LinesTree, node_of, Says}
-use Rattle.beginnings.specs.declared.begun_formula.Begun.{Begun}
-use Rattle.beginnings.specs.Begun.{formula_in, lines_in, IsBegunBy}
-use Rattle.beginnings.proofs.SatisfiedFormulas.{satisfiable-back}
+use Rattle.strategies.specs.declared.begun_formula.Begun.{Begun}
+use Rattle.strategies.specs.Begun.{formula_in, lines_in, IsBegunBy}
+use Rattle.strategies.proofs.SatisfiedFormulas.{satisfiable-back}
 use Rattle.strategies.specs.Strategies.{Strategy, search_by}
-use Rattle.strategies.specs.Choosing.{IsChosen, alone}
+use Rattle.strategies.specs.Choosing.{IsChosen}
+use Rattle.strategies.proofs.DecidedTrees.{alone-chosen}
 use Rattle.strategies.specs.Deciding.{IsDecidedAs}
 use Rattle.strategies.specs.Texts.{IsRefutationText}
 use Rattle.cubes.specs.Streaming.{IsCheckedNode}
@@ -245,7 +246,7 @@ pub stored-texts : (L : Limits) (F : Formula) (s : Strategy) (plan : Plan) (x : 
 stored-texts L F s plan x are_true (Model values) verdict before text answer within h e lone same are result says is of =
     rw is.0 (record { model = values.items; found = says; is_answer = result; proof_is = of; answer_is = is.1 })
 stored-texts L F s plan x are_true (Refuted nodes) verdict before text answer within h e lone same are result says is of =
-    rw (is.0, of.2) (refuted-texts L F plan x s are_true before of.0 answer within h e (subst (IsChosen F s) (sym same) (alone lone)) are says is.1 of.1)
+    rw (is.0, of.2) (refuted-texts L F plan x s are_true before of.0 answer within h e (subst (IsChosen F s) (sym same) (alone-chosen F s lone)) are says is.1 of.1)
 
 -- where the answer is a refuted tree, what is searched isn't satisfiable
 pub refuted-searched : {K : Type 0} (search : Search) (F : Formula) (plan : Plan) (x : Begun) (tree : Tree K) → IsFormula F → IsFormula (formula_in x F) → IsBegunBy F plan x → Says search F tree → IsRefutedTree tree → ¬ (Satisfiable (formula_in x F))

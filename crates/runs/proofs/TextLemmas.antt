@@ -1,5 +1,5 @@
 -- The texts that a formula's result gives.
-use Rattle.std.proofs.Common.{◌≡◌, ℕ, List, [], ◌++◌, None, refl, ap, ap₂, sym, subst, ◌∙◌}
+use Rattle.std.proofs.Common.{◌≡◌, ℕ, List, [], ◌++◌, None, refl, ap, ap₂, sym, subst, ◌∙◌, inl}
 use Rattle.theory.specs.Reading.{Limits, large, IsWithinLimits}
 use Rattle.theory.specs.Truth.{Formula, IsFormula, Satisfiable}
 use Rattle.theory.specs.Plans.{Search, ordered, focused, Plan}
@@ -10,14 +10,15 @@ use Rattle.theory.specs.Texts.{proof_text, answer_text}
 use Rattle.theory.specs.Written.{IsUnsatisfiableText}
 use Rattle.cdcl.specs.Plans.{search_of, search_from, constants_from, beginning_of}
 use Rattle.cdcl.specs.declared.api.plan.Search as declared
-use Rattle.beginnings.specs.declared.begun_formula.Begun.{Begun}
-use Rattle.beginnings.specs.Begun.{formula_in, lines_in, IsBegunBy}
+use Rattle.strategies.specs.declared.begun_formula.Begun.{Begun}
+use Rattle.strategies.specs.Begun.{formula_in, lines_in, IsBegunBy}
 use Rattle.cubes.specs.declared.tree.Tree.TheVariants.{Model, Refuted}
 use Rattle.cubes.specs.Result.{LinesTree, Says}
-use Rattle.strategies.specs.Strategies.{Strategy, search_by}
+use Rattle.strategies.specs.Strategies.{Strategy, by_plan, search_by}
 use Rattle.strategies.specs.Choosing.{IsChosen}
-use Rattle.strategies.specs.Deciding.{IsDecidedAs}
-use Rattle.strategies.proofs.FoundModels.{result-checked}
+use Rattle.strategies.specs.Deciding.{IsDecidedAs, IsFoundTree}
+use Rattle.strategies.proofs.DecidedTrees.{refuted-says}
+use Rattle.strategies.proofs.FoundModels.{result-checked, kept-answer}
 use Rattle.join.specs.Numbered.{AreChecked, AreStepsOf}
 use Rattle.join.proofs.JoinLemmas.{AreChecked-result}
 use Rattle.runs.specs.declared.verdict.Verdict.{Verdict}
@@ -43,7 +44,7 @@ decided-checked F s search x (Refuted nodes) formed result =
     AreChecked-result (formula_in x F) plan search (constants_from plan.search) (Refuted nodes) (ap (λ n. search_of n (constants_from plan.search)) result.2 ∙ named-search plan.search) formed result.3.1
 
 -- the texts of a refuted tree of what is searched, behind the lines before
-refuted-texts : (L : Limits) (F : Formula) (s : Strategy) (plan : Plan) (x : Begun) (t : Tree) (steps : List Step) (answer : List ℕ) → IsWithinLimits large F → IsChosen F s plan → IsBegunBy F plan x → ¬ (Satisfiable F)
+pub refuted-texts : (L : Limits) (F : Formula) (s : Strategy) (plan : Plan) (x : Begun) (t : Tree) (steps : List Step) (answer : List ℕ) → IsWithinLimits large F → IsChosen F s plan → IsBegunBy F plan x → ¬ (Satisfiable F)
     → IsResult (begun_by plan.search (formula_in x F)) plan (tree_of t) → answer ≡ answer_text None → steps ≡ proof (formula_in x F) (beginning_by plan.search) t → AreTexts L F s Unsatisfiable (proof_text (lines_in x F ++ steps)) answer
 refuted-texts L F s plan x t steps answer limits chosen h says result is same =
     let text : IsUnsatisfiableText F plan (proof_text (lines_in x F ++ steps)) answer = record {
@@ -70,3 +71,8 @@ result-texts L F s search x (Refuted nodes) verdict before steps answer limits r
     let same = are tree.0 tree.1.1 (sym tree.2) ∙ ap (λ b. proof (formula_in x F) b tree.0) begins in
     subst (λ (b : List Step). AreTexts L F s verdict (proof_text (b ++ steps)) answer) (sym (whole is.0))
     (rw is.0 (refuted-texts L F s plan x tree.0 steps answer limits result.1 h says tree.1 is.1 same))
+
+-- what a plan alone decides is its answer
+pub alone-decided : (F : Formula) (plan p : Plan) (x : Begun) (tree : LinesTree) → IsFormula F → IsChosen F (by_plan plan) p → IsFoundTree (λ lines. lines) F p x tree → IsDecidedAs F (by_plan plan) (search_from p.search) x tree × Says (search_by (by_plan plan)) F tree
+alone-decided F plan p x (Model values) formed chosen h = kept-answer F (by_plan plan) p values.items formed (inl refl) (chosen, h)
+alone-decided F plan p x (Refuted nodes) formed chosen h = ((p, chosen, refl, (h.0, h.1)), refuted-says (λ lines. lines) F p x nodes formed h)

@@ -10,6 +10,8 @@ use Rattle.theory.specs.Reading.{Limits, ReadsWithin, formula, max_bytes}
 use Rattle.theory.specs.Steps.{Step}
 use Rattle.theory.specs.ProofReading.{ProofReadsWithin, steps, max_proof_bytes}
 use Rattle.theory.specs.Checking.{checks, accepted}
+use Rattle.runs.specs.declared.verdict.RunEnd.{RunEnd}
+use Rattle.runs.specs.declared.verdict.RunEnd.TheVariants.{Decided, NotFirst, Unknown}
 use Rattle.runs.specs.declared.verdict.Verdict.{Verdict}
 use Rattle.runs.specs.declared.verdict.Verdict.TheVariants as verdict
 
@@ -41,3 +43,9 @@ pub record IsRightAnswer (L : Limits) (search : Search) (known proof_old proof_n
   pub right : IsRight L search value verdict proof answer
   pub proof_written : Appends proof_old proof_new proof
   pub answer_written : Appends answer_old answer_new answer
+
+-- where a run with a limit ends with a verdict, that is right, with the texts that were written
+abbrev pub IsRightEnd : Limits → Search → Option (List ℕ) → Option (List ℕ) → Option (List ℕ) → Option (List ℕ) → Option (List ℕ) → RunEnd → Type 0
+IsRightEnd L search known p q a b (Decided verdict) = IsRightAnswer L search known p q a b verdict
+IsRightEnd L search known p q a b NotFirst = Unit {0}
+IsRightEnd L search known p q a b Unknown = Unit {0}

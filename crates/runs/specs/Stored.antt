@@ -11,8 +11,8 @@ use Rattle.theory.specs.Beginnings.{begun_by, beginning_by, proof}
 use Rattle.theory.specs.Checked.{IsCheckedResult}
 use Rattle.packs.specs.declared.fact.Fact.{Fact}
 use Rattle.gathering.specs.Stored.{AreTrueFacts}
-use Rattle.beginnings.specs.declared.begun_formula.Begun.{Begun}
-use Rattle.beginnings.specs.Begun.{formula_in, IsBegunBy}
+use Rattle.strategies.specs.declared.begun_formula.Begun.{Begun}
+use Rattle.strategies.specs.Begun.{formula_in, IsBegunBy}
 use Rattle.cdcl.specs.Plans.{first_units}
 use Rattle.cdcl.specs.declared.api.plan.Search as declared
 use Rattle.cubes.specs.declared.tree.Tree.{Tree}

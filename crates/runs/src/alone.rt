@@ -4,13 +4,14 @@ ghost use Rattle.std.specs.Io.KnownBytes.{Appends};
 ghost use Rattle.theory.specs.Plans as plans;
 ghost use Rattle.theory.specs.Plans.{ordered, ordered_within};
 ghost use Rattle.strategies.specs.Strategies.{by_plan, search_by};
-ghost use Rattle.strategies.specs.Deciding.{IsDecidedBy};
+ghost use Rattle.strategies.specs.Deciding.{IsDecidedAs};
 ghost use Rattle.theory.specs.Reading.{standard};
 ghost use Rattle.theory.specs.Texts.{proof_text};
+ghost use Rattle.cdcl.specs.Plans.{search_from};
 ghost use Rattle.cnf.specs.Limits.{limits_of};
 ghost use Rattle.join.specs.Before.{before_left, IsBefore};
 ghost use Rattle.join.specs.Walking.{lines_left, IsBetweenNodes};
-ghost use Rattle.beginnings.specs.Begun.{formula_in, lines_in};
+ghost use Rattle.strategies.specs.Begun.{formula_in, lines_in};
 ghost use Rattle.runs.specs.declared.verdict.Verdict.TheVariants as Verdict;
 ghost use Rattle.cubes.specs.Result.{Says};
 ghost use Rattle.runs.specs.Answer.{IsRightAnswer};
@@ -21,7 +22,6 @@ use crate::fault::RunFault;
 use crate::output::write_text;
 use crate::proof_output::{lines_before, room, write_lines, write_proof};
 use crate::verdict::Verdict;
-use beginnings::Begun;
 use cdcl::Plan;
 use cnf::{Formula, Limits, read_from};
 use cubes::Tree;
@@ -29,7 +29,7 @@ use join::{Lines, LinesBefore, answer_bytes};
 use lines::Row;
 use std::alloc::{AllocError, Global};
 use std::io::{Read, Write};
-use strategies::{Decided, Strategy, solve_one};
+use strategies::{Begun, Decided, Strategy, solve_one};
 
 /// What a run is to write.
 pub(crate) struct Output {
@@ -111,9 +111,9 @@ pub(crate) fn output_of(
     formula: &Formula,
     limits: Limits,
     strategy: Strategy,
-    decided: Decided,
+    decided: Decided<Row>,
 ) -> Result<Output, AllocError>
-    requires result { IsDecidedBy formula.now strategy decided }
+    requires result { IsDecidedAs formula.now strategy (search_from decided.plan.search) decided.begun decided.tree }
     requires says { Says (search_by strategy) formula.now decided.tree }
     ensures texts { IfOk result (λ o. AreTexts (limits_of limits) formula.now strategy o.verdict (proof_text (before_left o.before ++ lines_left o.lines)) o.answer.items) }
     ensures before { IfOk result (λ o. IsBefore o.before) }
@@ -123,10 +123,11 @@ pub(crate) fn output_of(
     let (_limits, _strategy) = (limits, strategy); // they are there for the contract alone
     let _vars = formula.vars(); // it ensures what the proof needs of the formula
     let Decided {
-        search,
+        plan,
         mut begun,
         tree,
     } = decided;
+    let search = plan.search();
     let (verdict, answer) = answer_of(alloc, formula, &tree)?;
     let before = before_of(alloc, formula, &mut begun, verdict)?;
     let searched = begun.formula(formula);
@@ -172,6 +173,7 @@ fn run_alone<R: Read + Drop, W: Write, P: Write>(
         Ok(formula) => formula,
         Err(fault) => return Err(RunFault::of_read(fault)),
     };
+    let _vars = formula.vars(); // it ensures what the proof needs of the formula
     let Ok(decided) = solve_one(alloc, &formula, plan) else {
         return Err(RunFault::NoMemory);
     };

@@ -18,15 +18,15 @@ use crate::proof_output::{lines_before, write_lines};
 use crate::proof_stream::ProofStream;
 use crate::stored::{GatheredFrom, Gathering};
 use crate::verdict::Verdict;
-use beginnings::{Unwatched, begun};
 use cdcl::Plan;
 use cnf::{Formula, Limits, read_from_within};
-use cubes::{GivesOutcomes, Tree, go_through};
+use cubes::{GivesOutcomes, OpenGate, Tree, go_through};
 use gathering::{CountsOutcomes, KeepsFacts, ManyHands, OneHand, OpensOutcomes};
 use join::{LinesBefore, answer_bytes};
 use std::alloc::Global;
 use std::io::{Read, Write};
 use std::thread::Threads;
+use strategies::{Unobserved, begun};
 
 /// Goes through a formula's tree, and writes its proof through a stream that no node came to;
 /// whether the formula is refuted. If it isn't, some of a proof may be written that has no end.
@@ -103,7 +103,7 @@ fn gather_at_once_by<R: Read + Drop, S: KeepsFacts + Drop, H: OpensOutcomes<S>, 
         Err(fault) => return Err(RunFault::of_read(fault)),
     };
     let _vars = formula.vars(); // it ensures what the proof needs of the formula
-    let Ok(mut begun) = begun(alloc, &formula, plan, &Unwatched) else {
+    let Ok(mut begun) = begun(alloc, &formula, plan, &OpenGate, &Unobserved) else {
         return Err(RunFault::NoMemory);
     };
     let Ok(mut before) = lines_before(alloc, &formula, &mut begun) else {

@@ -11,9 +11,9 @@ ghost use Rattle.runs.specs.Run.{RunSays};
 use crate::check::{CheckRules, check_with};
 use crate::checked_line::Checked;
 use crate::fault::RunFault;
+use crate::limited::run_with;
 use crate::options::Options;
-use crate::threaded::run_to_end;
-use crate::verdict::Verdict;
+use crate::verdict::{RunEnd, Verdict};
 use cdcl::Plan;
 use cnf::Limits;
 use cubes::{Gate, HandCount, TimeLimit};
@@ -49,7 +49,12 @@ pub fn run<T: Threads + Wait + Clock + Sync, R: Read + Drop, W: Write, P: Write,
         limit: &TimeLimit::begin(rt, None),
         observer: &Unobserved,
     };
-    run_to_end(rt, alloc, input, &options, answer, proof)
+    let end = run_with(rt, alloc, input, &options, answer, proof)?;
+    match end {
+        RunEnd::Decided(verdict) => Ok(verdict),
+        RunEnd::NotFirst => unreachable!(),
+        RunEnd::Unknown => unreachable!(),
+    }
 }
 
 /// What `check_with` does, without the reasons: of the proof it reads 4,294,967,297 bytes at most.

@@ -3,7 +3,6 @@
 #![tactic(auto)]
 
 mod alone;
-mod answered;
 mod at_once;
 mod by_hands;
 mod check;
@@ -16,13 +15,13 @@ mod kept_text;
 mod laws;
 mod limit;
 mod limited;
+mod model_answer;
 mod options;
 mod output;
 mod proof_input;
 mod proof_output;
 mod proof_stream;
 mod stored;
-mod threaded;
 mod tidy;
 mod verdict;
 
@@ -39,4 +38,4 @@ pub use limited::{answer_with, run_with};
 pub use options::Options;
 pub use stored::{GatheredFrom, Gathering, gather_stored};
 pub use tidy::tidy_within;
-pub use verdict::Verdict;
+pub use verdict::{RunEnd, Verdict};

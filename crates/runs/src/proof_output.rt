@@ -4,19 +4,19 @@ ghost use Rattle.std.specs.Bool.{OnFalse};
 ghost use Rattle.std.specs.Io.KnownBytes.{Appends};
 ghost use Rattle.theory.specs.Steps.{Step};
 ghost use Rattle.theory.specs.Texts.{proof_text, step_text};
-ghost use Rattle.beginnings.specs.Begun.{formula_in, lines_in};
+ghost use Rattle.strategies.specs.Begun.{formula_in, lines_in};
 ghost use Rattle.join.specs.Before.{before_left, IsBefore};
 ghost use Rattle.join.specs.Walking.{line_of, lines_left, IsAtEnd, IsBetweenLines, OnMore};
 ghost use Rattle.runs.specs.Written.{Puts};
 
 use crate::fault::RunFault;
 use crate::output::write_bytes;
-use beginnings::Begun;
 use cnf::Formula;
 use join::{Kind, Lines, LinesBefore, ProofLine};
 use lrat::{write_clause, write_deletion};
 use std::alloc::{AllocError, Global};
 use std::io::Write;
+use strategies::Begun;
 
 /// How many bytes are written at once, or a few more: whole lines.
 pub(crate) const ENOUGH: usize = 65_536;

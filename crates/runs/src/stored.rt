@@ -18,7 +18,6 @@ use crate::output::write_text;
 use crate::proof_output::lines_before;
 use crate::proof_stream::ProofStream;
 use crate::verdict::Verdict;
-use beginnings::{Unwatched, begun};
 use cdcl::{Plan, Unkept};
 use cnf::{Formula, Limits, read_from_within};
 use cubes::{GivesOutcomes, HandCount, OpenGate, Tree, Untaken, go_through};
@@ -27,7 +26,7 @@ use join::LinesBefore;
 use std::alloc::Global;
 use std::io::{Read, Write};
 use std::thread::Threads;
-use strategies::{Strategy, Unobserved, answered};
+use strategies::{Strategy, Unobserved, answered, begun};
 
 /// What a run over stored facts comes to.
 #[derive(Clone, Copy, Debug, PartialEq, Eq)]
@@ -127,7 +126,7 @@ fn gather_stored_by<R: Read + Drop, S: KeepsFacts + Drop, H: OpensOutcomes<S>, W
     };
     let _vars = formula.vars(); // it ensures what the proof needs of the formula
     let plan = strategy.plan();
-    let Ok(mut begun) = begun(alloc, &formula, plan, &Unwatched) else {
+    let Ok(mut begun) = begun(alloc, &formula, plan, &OpenGate, &Unobserved) else {
         return Err(RunFault::NoMemory);
     };
     let searched = begun.formula(&formula);

@@ -4,7 +4,7 @@ ghost use Rattle.std.specs.Prelude.{◌≤◌};
 use crate::plainly::run_plainly;
 use cdcl::{Plan, Search};
 use cubes::HandCount;
-use runs::{Checked, RunFault, Verdict, check_run};
+use runs::{Checked, RunEnd, RunFault, Verdict, check_run};
 use std::alloc::{AllocError, Global};
 use std::fmt::Write;
 use std::process::Abort;
@@ -98,8 +98,8 @@ fn proof_of<R: Threads + Wait + Clock + Sync>(
     let mut proof = Vec::new(alloc);
     let mut answer = Vec::new(alloc);
     let hand = HandCount::of(1);
-    let verdict = run_plainly(rt, alloc, text, plan, hand, &mut answer, &mut proof)?;
-    if verdict != Some(Verdict::Unsatisfiable)
+    let end = run_plainly(rt, alloc, text, plan, hand, &mut answer, &mut proof)?;
+    if end != RunEnd::Decided(Verdict::Unsatisfiable)
         || answer.as_slice() != b"s UNSATISFIABLE\n".as_slice()
     {
         return Ok(None);

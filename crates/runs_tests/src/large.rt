@@ -4,8 +4,8 @@ use cdcl::Plan;
 use cnf::{Limits, Place, ReadFault};
 use cubes::{HandCount, OpenGate};
 use runs::{
-    CheckRules, Checked, Options, RunFault, TimeLimit, Verdict, answer_with, check_run, check_with,
-    run_with,
+    CheckRules, Checked, Options, RunEnd, RunFault, TimeLimit, Verdict, answer_with, check_run,
+    check_with, run_with,
 };
 use std::alloc::Global;
 use std::sync::Wait;
@@ -33,9 +33,9 @@ fn runs(rt: &(impl Threads + Wait + Clock + Sync), alloc: Global) -> Result<bool
         observer: &Unobserved,
     };
     let formula = FOUR.as_bytes();
-    let verdict = run_with(rt, alloc, formula, &options, &mut said, &mut lines)?;
+    let end = run_with(rt, alloc, formula, &options, &mut said, &mut lines)?;
     Ok(
-        verdict == Some(Verdict::Unsatisfiable)
+        end == RunEnd::Decided(Verdict::Unsatisfiable)
             && lines.as_slice() == FOUR_PROOF.as_bytes()
             && said.as_slice() == b"s UNSATISFIABLE\n".as_slice(),
     )
@@ -55,7 +55,7 @@ fn answer_of<R: Threads + Wait + Clock + Sync>(
     alloc: Global,
     limits: Limits,
     said: &mut Vec<u8>,
-) -> Result<Option<Verdict>, RunFault> {
+) -> Result<RunEnd, RunFault> {
     let options = Options {
         limits,
         strategy: Strategy::of(Plan::ordered(1000)),
@@ -75,10 +75,10 @@ fn answers(rt: &(impl Threads + Wait + Clock + Sync), alloc: Global) -> Result<b
         return Ok(false);
     };
     let is_refused = is_refusal(fault)? && said.is_empty();
-    let verdict = answer_of(rt, alloc, Limits::Large, &mut said)?;
+    let end = answer_of(rt, alloc, Limits::Large, &mut said)?;
     Ok(
         is_refused
-            && verdict == Some(Verdict::Unsatisfiable)
+            && end == RunEnd::Decided(Verdict::Unsatisfiable)
             && said.as_slice() == b"s UNSATISFIABLE\n".as_slice(),
     )
 }

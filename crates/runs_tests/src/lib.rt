@@ -34,6 +34,8 @@ mod limited_runs;
 #[cfg(test)]
 mod long_proofs;
 #[cfg(test)]
+mod lowered_runs;
+#[cfg(test)]
 mod many_parts;
 #[cfg(test)]
 mod one_byte;

@@ -5,7 +5,7 @@ ghost use Rattle.std.specs.Prelude.{⊤};
 use cdcl::Plan;
 use cnf::{Place, ReadFault};
 use cubes::{HandCount, OpenGate};
-use runs::{Limit, Options, RunFault, Verdict, run_with};
+use runs::{Limit, Options, RunEnd, RunFault, Verdict, run_with};
 use std::alloc::Global;
 use std::sync::Wait;
 use std::sync::atomic::{AtomicU64, Ordering};
@@ -17,13 +17,13 @@ use test_samples::{FOUR, FOUR_PROOF};
 
 /// A limit that is reached once it was asked so often.
 #[derive(Drop)]
-struct Asked {
+pub(crate) struct Asked {
     often: u64,
     asked: AtomicU64,
 }
 
 impl Asked {
-    fn new(often: u64) -> Asked {
+    pub(crate) fn new(often: u64) -> Asked {
         Asked {
             often,
             asked: AtomicU64::new(0),
@@ -39,7 +39,7 @@ impl Limit for Asked {
     }
 }
 
-type Outcome = Result<Option<Verdict>, RunFault>;
+type Outcome = Result<RunEnd, RunFault>;
 
 /// A formula, how often the limit is asked before it is reached, how many bytes of the answer are
 /// taken, what the run comes to, and what its writers have taken.
@@ -58,7 +58,7 @@ const ENDED: Row = Row {
     formula: FOUR,
     often: 0,
     room: 100,
-    result: Ok(None),
+    result: Ok(RunEnd::Unknown),
     answer: "s UNKNOWN\n",
     proof: "",
 };
@@ -66,7 +66,7 @@ const ENDED: Row = Row {
 /// It isn't asked again once the second half of the root is begun.
 const SOLVED: Row = Row {
     often: 3,
-    result: Ok(Some(Verdict::Unsatisfiable)),
+    result: Ok(RunEnd::Decided(Verdict::Unsatisfiable)),
     answer: "s UNSATISFIABLE\n",
     proof: FOUR_PROOF,
     ..ENDED

@@ -4,7 +4,7 @@ ghost use Rattle.std.specs.Prelude.{◌≡◌, None};
 use cdcl::Plan;
 use cnf::Limits;
 use cubes::{HandCount, OpenGate};
-use runs::{Gathering, Options, RunFault, TimeLimit, Verdict, run_with};
+use runs::{Gathering, Options, RunEnd, RunFault, TimeLimit, run_with};
 use std::alloc::Global;
 use std::io::Write;
 use std::sync::Wait;
@@ -21,7 +21,7 @@ pub(crate) fn run_plainly<R: Threads + Wait + Clock + Sync, W: Write, P: Write>(
     hands: HandCount,
     answer: &mut W,
     proof: &mut P,
-) -> Result<Option<Verdict>, RunFault> {
+) -> Result<RunEnd, RunFault> {
     let options = Options {
         limits: Limits::Standard,
         strategy: Strategy::of(plan),

@@ -8,7 +8,7 @@ use cnf::{Formula, read_formula};
 use cubes::HandCount;
 use gathering::fact_of;
 use packs::{Claim, read_pack, write_fact};
-use runs::{GatheredFrom, RunFault, Verdict, gather_at_once, gather_stored};
+use runs::{GatheredFrom, RunEnd, RunFault, Verdict, gather_at_once, gather_stored};
 use std::alloc::{AllocError, Global};
 use std::sync::Wait;
 use std::test::Fail;
@@ -125,7 +125,7 @@ fn is_written_by_run<R: Threads + Wait + Clock + Sync, T>(
     let hand = HandCount::of(1);
     let own = run_plainly(rt, alloc, text, plan, hand, &mut answer, &mut proof)?;
     Ok(
-        own == Some(verdict)
+        own == RunEnd::Decided(verdict)
             && proof.as_slice() == written.proof.as_slice()
             && answer.as_slice() == written.answer.as_slice(),
     )

@@ -1,8 +1,8 @@
 //! How far the beginning of a plan's search is: a short search of the formula, and where that doesn't
 //! decide it a simplification.
 
-use beginnings::SimplifiedCounts;
 use cdcl::Counts;
+use strategies::SimplifiedCounts;
 
 /// A formula that is simplified.
 #[derive(Clone, Copy)]

@@ -79,6 +79,16 @@ impl Board {
     /// stands there only where its thread runs.
     pub fn end_progress<R: Wait + Clock>(&self, rt: &R) {
         self.figures.lock(rt).end_progress();
+        self.wait_until_erased(rt);
+    }
+
+    /// Shows no progress until the lowering says how far it is, and waits as `end_progress` does.
+    pub(crate) fn hide_progress<R: Wait + Clock>(&self, rt: &R) {
+        self.figures.lock(rt).hide_progress();
+        self.wait_until_erased(rt);
+    }
+
+    fn wait_until_erased<R: Wait + Clock>(&self, rt: &R) {
         for _ in rt.forever() {
             let figures = self.look(rt);
             if !figures.is_drawn {

@@ -113,6 +113,8 @@ pub struct Figures {
     pub(crate) is_ended: bool,
     /// Whether a line of progress stands on the terminal.
     pub(crate) is_drawn: bool,
+    /// No line of it is to be drawn for now.
+    pub(crate) is_hidden: bool,
     /// The formula's size, once it is read.
     pub(crate) formula: Option<FormulaSize>,
     /// Whether a literal stands twice in a clause of it, where a proof is to be written.
@@ -163,6 +165,7 @@ impl Figures {
             is_out_of_time: false,
             is_ended: false,
             is_drawn: false,
+            is_hidden: false,
             formula: None,
             has_repeats: false,
             hands: 1,
@@ -230,14 +233,18 @@ impl Figures {
         self.beginning.get_or_insert(BeginningCounts::none())
     }
 
+    /// How many variables the formula has, once it is read.
+    pub(crate) fn vars(&self) -> u32 {
+        match self.formula {
+            Some(formula) => formula.vars,
+            None => 0,
+        }
+    }
+
     /// The lowering is so far.
     pub(crate) fn count_lowering(&mut self, counts: LoweringCounts) {
         self.lowering = Some(counts);
-    }
-
-    /// Whether a model is known, and one before it looked for.
-    pub fn is_lowering(&self) -> bool {
-        self.lowering.is_some()
+        self.is_hidden = false;
     }
 
     /// How many conflicts the search that is made first has had, if there is one and hands haven't
@@ -358,10 +365,9 @@ impl Figures {
         self.solved = Some(end);
     }
 
-    /// It is decided, and there is no proof to be written.
+    /// It is decided, and no proof is made of a tree.
     pub fn end_deciding(&mut self, end: StageEnd) {
         self.end_solving(None, end);
-        self.has_no_proof = true;
     }
 
     /// The answer is made, and all that the proof's lines are made of.
@@ -396,9 +402,18 @@ impl Figures {
         self.is_ended = true;
     }
 
+    pub(crate) fn hide_progress(&mut self) {
+        self.is_hidden = true;
+    }
+
+    /// Whether no line may stand on the terminal.
+    pub(crate) fn is_bare(&self) -> bool {
+        self.is_ended || self.is_hidden
+    }
+
     /// A line is about to be drawn; whether it still may be.
     pub(crate) fn draw(&mut self) -> bool {
-        self.is_drawn = !self.is_ended;
+        self.is_drawn = !self.is_bare();
         self.is_drawn
     }
 

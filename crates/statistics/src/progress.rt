@@ -134,6 +134,14 @@ fn show_line<R: Wait, E: Write>(
     }
 }
 
+/// Erases the line that stands on the terminal, if one does.
+fn erase_line<R: Wait, E: Write>(rt: &R, board: &Board, out: &mut E) {
+    if board.look(rt).is_drawn {
+        let _ = write!(out, "\r\x1b[K");
+        board.figures().lock(rt).erase();
+    }
+}
+
 /// Shows in this manner how far a run is, until it ends. On a terminal nothing is left of that. The
 /// first looks come one soon after another, so that a short run isn't held up.
 pub fn show_progress<R: Wait + Clock, E: Write>(
@@ -146,6 +154,9 @@ pub fn show_progress<R: Wait + Clock, E: Write>(
     let mut look = 1u64;
     for _ in rt.forever() {
         let figures = board.look(rt);
+        if figures.is_bare() {
+            erase_line(rt, board, out);
+        }
         if figures.is_ended {
             break;
         }
@@ -156,9 +167,5 @@ pub fn show_progress<R: Wait + Clock, E: Write>(
         }
         thread::sleep(rt, Duration::from_millis(look));
         look = look.saturating_mul(2).min(LOOK);
-    }
-    if board.look(rt).is_drawn {
-        let _ = write!(out, "\r\x1b[K");
-        board.figures().lock(rt).erase();
     }
 }

@@ -96,9 +96,10 @@ impl Display for HandsLine {
 /// How far a lowering is, of so many variables.
 #[derive(Clone, Copy)]
 pub(crate) struct LoweringLine {
-    variable: u32,
+    settled: u32,
     vars: u32,
     questions: u64,
+    refuted: u64,
 }
 
 /// What is shown while a formula is solved.
@@ -118,14 +119,11 @@ impl SearchLine {
     /// Of these figures, so many milliseconds after the run began.
     pub(crate) fn of(figures: &Figures, now: u64) -> SearchLine {
         if let Some(lowering) = figures.lowering {
-            let vars = match figures.formula {
-                Some(formula) => formula.vars,
-                None => 0,
-            };
             return SearchLine::Lowering(LoweringLine {
-                variable: lowering.variable,
-                vars,
+                settled: lowering.settled(),
+                vars: figures.vars(),
                 questions: lowering.questions,
+                refuted: lowering.refuted,
             });
         }
         if let Some(conflicts) = figures.first_conflicts() {
@@ -156,13 +154,14 @@ impl Display for SearchLine {
             SearchLine::Hands(line) => write!(f, "{line}"),
             SearchLine::Lowering(line) => {
                 let LoweringLine {
-                    variable,
+                    settled,
                     vars,
                     questions,
+                    refuted,
                 } = line;
                 write!(
                     f,
-                    "lowering, variable {variable} of {vars}, {questions} questions"
+                    "lowering, {settled} of {vars} variables settled, {questions} questions, {refuted} without a model"
                 )
             }
         }

@@ -3,9 +3,9 @@
 use crate::division_lines::print_division;
 use crate::figures::{Figures, StageEnd};
 use crate::search_counts::a_second;
-use beginnings::SimplifiedCounts;
 use cdcl::Search;
 use std::io::Write;
+use strategies::SimplifiedCounts;
 
 /// Prints the end of a stage, with its time from an earlier end on, and answers when it ended.
 fn print_stage<E: Write>(out: &mut E, name: &str, from: u64, end: Option<StageEnd>) -> u64 {
@@ -122,11 +122,12 @@ fn print_lowering<E: Write>(out: &mut E, figures: &Figures) {
     let Some(lowering) = figures.lowering else {
         return;
     };
+    let (settled, vars) = (lowering.settled(), figures.vars());
     let (questions, models) = (lowering.questions, lowering.models);
     let (refuted, conflicts) = (lowering.refuted, lowering.search.conflicts);
     let _ = writeln!(
         out,
-        "c lowering: {questions} questions, {models} with a model, {refuted} without, {conflicts} conflicts"
+        "c lowering: {settled} of {vars} variables settled, {questions} questions, {models} with a model, {refuted} without, {conflicts} conflicts"
     );
 }
 

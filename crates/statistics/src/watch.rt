@@ -5,7 +5,6 @@ use crate::board::Board;
 use crate::counted::Counter;
 use crate::figures::{FormulaSize, StageEnd, TextSize, TreeSize};
 use crate::peak::peak_memory;
-use beginnings::SimplifiedCounts;
 use cdcl::Counts;
 use cnf::Formula;
 use cubes::{FirstAnswer, FirstSearch, Gate, Tree};
@@ -15,7 +14,7 @@ use std::alloc::Global;
 use std::rt::Files;
 use std::sync::Wait;
 use std::time::Clock;
-use strategies::{LoweringCounts, Observer};
+use strategies::{LoweringCounts, Observer, SimplifiedCounts};
 use tidying::has_repeats;
 
 /// Counts a run on a board.
@@ -186,6 +185,10 @@ impl<R: Files + Wait + Clock> Observer for Watch<'_, R> {
     fn simplified(&self, counts: SimplifiedCounts) {
         let now = self.board.now(self.rt);
         self.board.figures().lock(self.rt).begun().end(counts, now);
+    }
+
+    fn has_model(&self) {
+        self.board.hide_progress(self.rt);
     }
 
     fn lowering(&self, counts: LoweringCounts) {

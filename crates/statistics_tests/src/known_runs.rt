@@ -179,7 +179,7 @@ c focused search: 36 rounds, 12 changes of mode, 400000 literals removed, 200 un
 c cubes: 4 solved, at least 3 split
 c solved by each hand: 3 1
 c hands waited: 0.500 s in all, 25.0 % of the hands' time
-c lowering: 3 questions, 1 with a model, 2 without, 500 conflicts
+c lowering: 1 of 2 variables settled, 3 questions, 1 with a model, 2 without, 500 conflicts
 c proof: 2 lines, 7 bytes
 c reading: 0.500 s
 c solving: 1.000 s

@@ -243,7 +243,7 @@ static ROWS: [Row; 30] = [
         Search::Focused,
         Beside::Lowered,
         12,
-        "c 12 s: lowering, variable 2 of 2, 3 questions",
+        "c 12 s: lowering, 1 of 2 variables settled, 3 questions, 2 without a model",
     ),
     // the stages have their own lines
     (

@@ -173,7 +173,7 @@ c clauses: 6 learnt, 0 forgotten
 c focused search: 0 rounds, 0 changes of mode, 0 literals removed, 0 units
 c cubes: 1 solved
 c solved by each hand: 1
-c lowering: 1 questions, 1 with a model, 0 without, 2 conflicts
+c lowering: 0 of 2 variables settled, 1 questions, 1 with a model, 0 without, 2 conflicts
 c reading: 0.500 s
 ";
 

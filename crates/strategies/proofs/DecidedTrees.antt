@@ -1,7 +1,8 @@
 -- The trees that a strategy comes to.
-use Rattle.std.proofs.Common.{◌⊎◌, inl, inr, refl, ◌≡◌, Bool, true, false, None, Vec, Global, sym, ap, subst}
+use Rattle.std.proofs.Common.{◌⊎◌, inl, inr, refl, ◌≡◌, ℕ, Bool, true, false, Option, None, List, Vec, Global, sym, ap, subst}
 use Rattle.theory.specs.Truth.{Formula, Assignment, IsFormula, Satisfiable}
 use Rattle.theory.specs.FirstModel.{IsFirst, IsFound}
+use Rattle.theory.specs.Learning.{Line}
 use Rattle.theory.specs.Plans.{Constants, Search, ordered, Plan}
 use Rattle.theory.specs.Beginnings.{begun_by}
 use Rattle.theory.specs.Checked.{IsCheckedResult}
@@ -9,34 +10,39 @@ use Rattle.theory.specs.Trees as trees
 use Rattle.cdcl.specs.Plans.{search_of, search_from}
 use Rattle.cdcl.specs.declared.api.plan.Search as code
 use Rattle.cdcl.specs.declared.api.plan.Search.TheVariants.{Ordered, Focused}
+use Rattle.cubes.specs.declared.tree.Node.{Node}
 use Rattle.cubes.specs.declared.tree.Tree.TheVariants.{Model, Refuted}
-use Rattle.cubes.specs.Result.{LinesNode, LinesTree, IsResultOf, IsCheckedResultOf, Says}
-use Rattle.beginnings.specs.declared.begun_formula.Begun.{Begun}
-use Rattle.beginnings.specs.Begun.{formula_in, model_in, IsBegunBy}
+use Rattle.cubes.specs.Result.{LinesNode, IsCheckedResultOf}
+use Rattle.strategies.specs.declared.begun_formula.Begun.{Begun}
+use Rattle.strategies.specs.Begun.{formula_in, model_in, IsBegunBy}
 use Rattle.strategies.specs.Strategies.{Strategy, by_plan, search_by}
-use Rattle.strategies.specs.Choosing.{IsChosen, alone, IsModelBy}
+use Rattle.strategies.specs.Choosing.{first_within, IsChosen, alone, IsModelBy}
 use Rattle.strategies.proofs.FoundModels.{model-begun, checked-found, checked-says, result-says, kept-kind, kept-answer}
-use Rattle.strategies.specs.Deciding.{IsResultFor, IsTreeBy, IsDecidedAs, IsFoundBy, IsModelOf}
+use Rattle.strategies.specs.declared.phases.Decided.{Decided}
+use Rattle.strategies.specs.Deciding.{IsFoundTree, IsPlannedBy, IsDecidedBy}
 
 -- which search it is, of one with its numbers
 pub search-is : (search : code.Search) (c : Constants) (s : Search) → search_of search c ≡ s → search ≡ search_from s
 search-is Ordered c s is = ap search_from is
 search-is Focused c s is = ap search_from is
 
--- what is searched has a model that the plan finds, which is made one of the formula
-pub found-begun : (F : Formula) (s : Strategy) (p : Plan) (x : Begun) (values : Vec Bool Global) → IsFormula F → IsTreeBy F s p x (Model values) → IsFoundBy F s p (model_in x values.items)
-found-begun F s p x values formed h = (h.0, model-begun F p x values.items formed h.1.0 h.1.1)
+-- with no search before it the strategy's plan is the chosen one
+pub alone-chosen : (F : Formula) (s : Strategy) → s.first ≡ None → IsChosen F s s.plan
+alone-chosen F s none = alone (ap (λ (first : Option ℕ). first_within F (record s { first = first })) none)
 
--- a refuted tree of the chosen plan is what the strategy comes to
-pub refuted-decided : (F : Formula) (s : Strategy) (p : Plan) (x : Begun) (search : code.Search) (c : Constants) (nodes : Vec LinesNode Global) → search_of search c ≡ p.search → IsTreeBy F s p x (Refuted nodes)
-    → IsDecidedAs F s search x (Refuted nodes)
-refuted-decided F s p x search c nodes it h = (p, h.0, search-is search c p.search it, h.1)
+-- what the chosen plan decides
+pub planned-decided : {L : Type 0} (lines : L → List Line) (F : Formula) (s : Strategy) (p : Plan) (d : Decided L) → IsChosen F s p → IsPlannedBy lines F p d → IsDecidedBy lines F s d
+planned-decided lines F s p d chosen h = record {
+  chosen = subst (IsChosen F s) (sym h.plan_is) chosen;
+  tree = subst (λ (q : Plan). IsFoundTree lines F q d.begun d.tree) (sym h.plan_is) h.tree;
+}
 
--- and leaves no model
-pub refuted-says : (F : Formula) (s : Strategy) (p : Plan) (x : Begun) (nodes : Vec LinesNode Global) → IsFormula F → IsTreeBy F s p x (Refuted nodes) → ¬ (Satisfiable F)
-refuted-says F s p x nodes formed h =
-    let begun = h.1.0 in
-    result-says F p begun.0 (trees.tree_of h.1.1.0) formed begun.1.begins (subst (λ (G : Formula). trees.IsResult G p (trees.tree_of h.1.1.0)) begun.1.formula h.1.1.1)
+-- a refuted tree leaves no model
+pub refuted-says : {L : Type 0} (lines : L → List Line) (F : Formula) (p : Plan) (x : Begun) (nodes : Vec (Node L) Global) → IsFormula F → IsFoundTree lines F p x (Refuted nodes) → ¬ (Satisfiable F)
+refuted-says lines F p x nodes formed h =
+    let begun = h.0 in
+    let tree = h.1 in
+    result-says F p begun.0 (trees.tree_of tree.0) formed begun.1.begins (subst (λ (G : Formula). trees.IsResult G p (trees.tree_of tree.0)) begun.1.formula tree.1)
 
 -- so it is of a checked one
 pub checked-refuted : (F : Formula) (p : Plan) (x : Begun) (nodes : Vec LinesNode Global) → IsFormula F → IsBegunBy F p x → IsCheckedResultOf p.search (begun_by p.search (formula_in x F)) (Refuted nodes) → ¬ (Satisfiable F)
@@ -51,4 +57,4 @@ kept-found F s x M formed kept h r = subst (λ search. IsFound search F (model_i
 -- and where the plan finds it, it is the answer
 pub kept-decided : (F : Formula) (s : Strategy) (x : Begun) (M : Assignment) → IsFormula F → s.first ≡ None → (s.lowers ≡ false) ⊎ (s.plan.search ≡ ordered) → IsBegunBy F s.plan x
     → trees.IsResult (begun_by s.plan.search (formula_in x F)) s.plan (trees.model_of M) → IsModelBy s.lowers F s (model_in x M)
-kept-decided F s x M formed lone kept h r = (kept-answer F s s.plan (model_in x M) formed kept (alone lone, model-begun F s.plan x M formed h r)).0
+kept-decided F s x M formed lone kept h r = (kept-answer F s s.plan (model_in x M) formed kept (alone-chosen F s lone, model-begun F s.plan x M formed h r)).0

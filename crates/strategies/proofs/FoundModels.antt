@@ -13,9 +13,9 @@ use Rattle.theory.proofs.trees.ResultLemmas.{IsCheckedResult-IsResult}
 use Rattle.theory.proofs.trees.OneResult.{IsFirstLeaf-unique}
 use Rattle.theory.proofs.trees.BegunSearches.{IsFormula-begun, IsResult-back, IsCheckedResult-back, Begins-beginning, Begins-unique}
 use Rattle.theory.proofs.trees.ResultLemmas.{IsCheckedResult-says}
-use Rattle.beginnings.specs.declared.begun_formula.Begun.{Begun}
-use Rattle.beginnings.specs.declared.begun_formula.Begun.TheVariants.{Given, Simplified}
-use Rattle.beginnings.specs.Begun.{formula_in, model_in, HasVariables, IsBegun, IsBegunBy}
+use Rattle.strategies.specs.declared.begun_formula.Begun.{Begun}
+use Rattle.strategies.specs.declared.begun_formula.Begun.TheVariants.{Given, Simplified}
+use Rattle.strategies.specs.Begun.{formula_in, model_in, HasVariables, IsBegun, IsBegunBy}
 use Rattle.strategies.specs.Strategies.{Strategy, search_by}
 use Rattle.strategies.specs.Choosing.{IsChosen, alone, decides, goes_on, IsModelByPlan, IsModelBy}
 use Rattle.strategies.specs.Deciding.{IsFoundBy, IsModelOf}

@@ -3,4 +3,11 @@ pub mod DecidedTrees
 pub mod OneStrategy
 pub mod StrategyTexts
 pub mod FirstSearches
-pub mod BegunResults
+pub mod BegunLemmas
+pub mod SatisfiedFormulas
+pub mod FirstBelow
+pub mod TrueTrails
+pub mod FalseVariables
+pub mod SettledPrefixes
+pub mod AskedSessions
+pub mod StoppedLowerings

@@ -18,7 +18,7 @@ use Rattle.theory.proofs.searching.PureModels.{Satisfiable-searched}
 use Rattle.theory.proofs.trees.FirstModelLemmas.{IsFirst-unique}
 use Rattle.theory.proofs.trees.OneText.{Same, Reads-one_formula}
 use Rattle.strategies.specs.Strategies.{Strategy, by_plan, search_by}
-use Rattle.strategies.specs.Choosing.{IsDecision, IsChosen, alone, decides, IsModelByPlan, IsModelBy}
+use Rattle.strategies.specs.Choosing.{first_within, IsDecision, IsChosen, alone, decides, IsModelByPlan, IsModelBy}
 use Rattle.strategies.specs.Texts.{IsModelText, IsRefutationText, IsWrittenBy}
 use Rattle.strategies.proofs.FoundModels.{model-found, ordered-model, chosen-found}
 use Rattle.strategies.proofs.OneStrategy.{IsChosen-unique, model-texts-same, refutation-texts-same}
@@ -109,18 +109,18 @@ decided-model F B (refuted lines) M formed r d first =
     absurd (Runs-refuted (searched F) (ordered_within B) [] lines refl r some.0 some.1 tt)
 decided-model F B (exhausted x) M formed r d first = absurd d
 
-decided-result : (b : Bool) (F : Formula) (s : Strategy) (B : ℕ) (o : Outcome) (M : Assignment) → IsFormula F → s.first ≡ Some B → Runs (searched F) (ordered_within B) [] o → IsDecision o → IsModelBy b F s M → IsModelByPlan F (ordered_within B) M
+decided-result : (b : Bool) (F : Formula) (s : Strategy) (B : ℕ) (o : Outcome) (M : Assignment) → IsFormula F → first_within F s ≡ Some B → Runs (searched F) (ordered_within B) [] o → IsDecision o → IsModelBy b F s M → IsModelByPlan F (ordered_within B) M
 decided-result true F s B o M formed f r d h = decided-model F B o M formed r d h
 decided-result false F s B o M formed f r d h = subst (λ (p : Plan). IsModelByPlan F p M) (IsChosen-unique F s h.0 (ordered_within B) h.1 (decides f r d)) h.2
 
-decided-texts : (F : Formula) (s : Strategy) (B : ℕ) (o : Outcome) (p a : List ℕ) → IsFormula F → s.first ≡ Some B → Runs (searched F) (ordered_within B) [] o → IsDecision o → AreFor F s p a
+decided-texts : (F : Formula) (s : Strategy) (B : ℕ) (o : Outcome) (p a : List ℕ) → IsFormula F → first_within F s ≡ Some B → Runs (searched F) (ordered_within B) [] o → IsDecision o → AreFor F s p a
     → IsSatisfiableText F (ordered_within B) p a ⊎ IsUnsatisfiableText F (ordered_within B) p a
 decided-texts F s B o p a formed f r d (inl t) =
     let result = decided-result s.lowers F s B o t.model formed f r d t.is_answer in
     inl (satisfiable-text F (ordered_within B) t.model p a (model-found F (ordered_within B) t.model formed result) result t.proof_is t.answer_is)
 decided-texts F s B o p a formed f r d (inr t) = inr (subst (λ q. IsUnsatisfiableText F q p a) (IsChosen-unique F s t.plan (ordered_within B) t.chosen (decides f r d)) t.text)
 
-pub decided-written : (L : Limits) (bytes : List ℕ) (s : Strategy) (B : ℕ) (F : Formula) (o : Outcome) (p a : List ℕ) → s.first ≡ Some B → ReadsWithin L bytes (formula F) → Runs (searched F) (ordered_within B) [] o → IsDecision o → IsWrittenBy L bytes s p a
+pub decided-written : (L : Limits) (bytes : List ℕ) (s : Strategy) (B : ℕ) (F : Formula) (o : Outcome) (p a : List ℕ) → first_within F s ≡ Some B → ReadsWithin L bytes (formula F) → Runs (searched F) (ordered_within B) [] o → IsDecision o → IsWrittenBy L bytes s p a
     → IsWrittenWithin L bytes (ordered_within B) p a
 decided-written L bytes s B F o p a f reads r d w =
     record { value = F; reads = reads; texts = decided-texts F s B o p a reads.1.within.formula f r d (for-this L bytes s F p a reads w) }

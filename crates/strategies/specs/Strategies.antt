@@ -6,7 +6,8 @@ use Rattle.std.specs.Prelude.{ℕ, Bool, false, Option, None, if◌then◌else�
 use Rattle.theory.specs.Plans.{Search, ordered, Plan}
 
 pub record Strategy : Type 0 where
-  -- how many conflicts the ordered search of the whole formula has, if there is one before the plan
+  -- how many conflicts the ordered search of the whole formula has at most, if there is one before the
+  -- plan
   pub first : Option ℕ
   pub plan : Plan
   -- whether the answer is the first model, and not the one that the plan finds

@@ -8,7 +8,7 @@ ghost use Rattle.theory.specs.Runs.{Runs};
 ghost use Rattle.theory.specs.Reading.{Limits, ReadsWithin, formula};
 ghost use Rattle.theory.specs.Written.{IsWrittenWithin};
 ghost use Rattle.strategies.specs.Strategies.{Strategy, by_plan};
-ghost use Rattle.strategies.specs.Choosing.{IsDecision, IsChosen};
+ghost use Rattle.strategies.specs.Choosing.{first_within, IsDecision, IsChosen};
 ghost use Rattle.strategies.specs.Texts.{IsWrittenBy};
 
 /// A formula has one chosen plan. The bytes and the strategy fix the proof and the answer; those of
@@ -26,7 +26,7 @@ pub fn strategies_write_the_same()
 pub fn answers_are_the_first()
     ensures answer { (L : Limits) (bytes : List ℕ) (s : Strategy) (plan : Plan) (p a q b : List ℕ) → s.lowers ≡ true → plan.search ≡ ordered →
         IsWrittenBy L bytes s p a → IsWrittenWithin L bytes plan q b → a ≡ b }
-    ensures texts { (L : Limits) (bytes : List ℕ) (s : Strategy) (B : ℕ) (F : Formula) (o : Outcome) (p a : List ℕ) → s.first ≡ Some B →
+    ensures texts { (L : Limits) (bytes : List ℕ) (s : Strategy) (B : ℕ) (F : Formula) (o : Outcome) (p a : List ℕ) → first_within F s ≡ Some B →
         ReadsWithin L bytes (formula F) → Runs (searched F) (ordered_within B) [] o → IsDecision o → IsWrittenBy L bytes s p a →
         IsWrittenWithin L bytes (ordered_within B) p a }
 {}

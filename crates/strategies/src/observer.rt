@@ -1,11 +1,11 @@
 //! Who is told how far a run is.
 
-use beginnings::SimplifiedCounts;
+use crate::lowering::counts::LoweringCounts;
+use crate::simplification::SimplifiedCounts;
 use cdcl::Counts;
 use cnf::Formula;
 use cubes::Tree;
 use lines::Row;
-use lowering::LoweringCounts;
 
 /// Told how far a strategy is, and of each stage of a run as it ends. What is answered and written
 /// doesn't depend on it.
@@ -31,13 +31,16 @@ pub trait Observer {
     /// The formula is simplified.
     fn simplified(&self, _counts: SimplifiedCounts) {}
 
+    /// A model is known, and is to be lowered: the status line is about to be written.
+    fn has_model(&self) {}
+
     /// The lowering is so far.
     fn lowering(&self, _counts: LoweringCounts) {}
 
-    /// The formula is solved.
+    /// The formula is refuted by this tree, of which a proof is to be made.
     fn solved(&self, _tree: &Tree<Row>) {}
 
-    /// It is decided, and no tree was kept.
+    /// It is decided, and no proof is made of a tree; a model is the answer's.
     fn decided(&self) {}
 
     /// The answer is made, and all that the proof's lines are made of as they are written.

@@ -1,15 +1,21 @@
 //! How a formula is decided.
 ghost use Rattle.std.specs.Prelude.{◌≡◌, ◌≤◌, true, false, Some, None, IfSome};
+ghost use Rattle.strategies.specs.Choosing.{first_within};
 ghost use Rattle.strategies.specs.Strategies.{by_plan};
 
 use cdcl::Plan;
+use cnf::Formula;
 use std::marker::Model;
+
+/// The first search has so many conflicts at most, divided by the formula's literals.
+const SHORT: u64 = 100_000_000;
 
 /// How a formula is decided, and which of its models is the answer. Formula and strategy fix the
 /// answer and the proof, byte for byte.
 #[derive(Clone, Copy, Debug)]
 pub struct Strategy {
-    // how many conflicts the ordered search of the whole formula has, if there is one before the plan
+    // how many conflicts the ordered search of the whole formula has at most, if there is one before
+    // the plan
     first: Option<u32>,
     // what decides it where that search doesn't
     plan: Plan,
@@ -86,12 +92,23 @@ impl Strategy {
         }
     }
 
-    /// How many conflicts the ordered search has that is made first, if there is one.
+    /// How many conflicts the ordered search has at most that is made first, if there is one.
     pub fn first(&self) -> Option<u32>
-        ensures same { result ≡ self.now.first }
-        ensures within { IfSome result (λ budget. (1 ≤ budget) × (budget ≤ 100000)) }
+        ensures { result ≡ self.now.first }
     {
         self.first
+    }
+
+    /// How many conflicts the ordered search of a formula has that is made first, if there is one. In a
+    /// large formula they are fewer, since each takes longer there.
+    pub fn first_within(&self, formula: &Formula) -> Option<u32>
+        ensures same { result ≡ first_within formula.now self.now }
+        ensures within { IfSome result (λ budget. (1 ≤ budget) × (budget ≤ 100000)) }
+    {
+        let budget = self.first?;
+        let few = SHORT / (formula.literal_count() as u64 + 1);
+        let conflicts = few.min(u64::from(budget)).max(1);
+        Some(conflicts as u32)
     }
 
     /// The plan.

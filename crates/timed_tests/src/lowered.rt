@@ -5,15 +5,13 @@ use test_console::Paths;
 use test_console::clocks::Readings;
 use test_console::fake::Fake;
 
-/// At a run's beginning, when its limit of ten seconds begins, at the end of reading, before the search
-/// that is made first, the focused one, the first question and the second.
-const LOWERED_SO_FAR: [u64; 7] = [5_000, 5_000, 6_234, 6_300, 6_400, 14_999, 15_000];
+/// When the limit of ten seconds begins, before the search that is made first, the focused one, the
+/// first question and the second.
+const LOWERED_SO_FAR: [u64; 5] = [5_000, 6_300, 6_400, 14_999, 15_000];
 
-/// The same, and when the search has ended that says whether the formula is simplified.
+/// The same, and before them at the run's beginning, behind the limit's at the end of reading, and when
+/// the search has ended that says whether the formula is simplified.
 const SHOWN_SO_FAR: [u64; 8] = [5_000, 5_000, 6_234, 6_300, 6_400, 6_500, 14_999, 15_000];
-
-const CUT_OFF_LOWERING: &str =
-    "c the time was over while a model was lowered to the first one; --any-model answers without that\n";
 
 /// The ordered search comes to -1 2 -3 after a conflict, and the focused one to 1 2 3.
 pub(crate) const HIGHER: &str = "p cnf 3 4\n1 2 3 0\n1 2 -3 0\n-1 2 3 0\n-1 2 -3 0\n";
@@ -46,7 +44,7 @@ c focused search: 0 rounds, 0 changes of mode, 0 literals removed, 0 units
 c not divided: the focused search ended after 0 conflicts
 c cubes: 1 solved
 c solved by each hand: 1
-c lowering: 3 questions, 2 with a model, 1 without, 1 conflicts
+c lowering: 3 of 3 variables settled, 3 questions, 2 with a model, 1 without, 1 conflicts
 c reading: 1.234 s
 c solving: 2.050 s
 c conflicts a second: 0
@@ -97,9 +95,8 @@ c conflicts a second: 0
             "FORMULA",
         ],
         times: &LOWERED_SO_FAR,
-        status: 0,
+        room: 200,
         lines: "",
-        fault: CUT_OFF_LOWERING,
         ..LOWERED
     },
     Row {
@@ -118,7 +115,7 @@ c conflicts a second: 0
             "FORMULA",
         ],
         times: &SHOWN_SO_FAR,
-        status: 0,
+        room: 200,
         lines: "c formula: 3 variables, 4 clauses, 12 literals
 c hands: 1
 c first search: ordered, 1 conflicts, undecided
@@ -128,11 +125,10 @@ c focused search: 0 rounds, 0 changes of mode, 0 literals removed, 0 units
 c not divided: the focused search ended after 0 conflicts
 c cubes: 1 solved
 c solved by each hand: 1
-c lowering: 1 questions, 1 with a model, 0 without, 0 conflicts
+c lowering: 1 of 3 variables settled, 1 questions, 1 with a model, 0 without, 0 conflicts
 c proof: 0 lines, 0 bytes
 c reading: 1.234 s
 ",
-        fault: CUT_OFF_LOWERING,
         ..LOWERED
     },
 ];

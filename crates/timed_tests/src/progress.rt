@@ -55,8 +55,10 @@ const LOWERED: SlowRun = SlowRun {
         "1",
         "FORMULA",
     ],
+    // a line of progress, the status line, and one more of progress
+    waits: &[1, 3],
     status: 10,
-    log: "c 1 s: reading\nc 2 s: lowering, variable 3 of 3, 3 questions\ns SATISFIABLE\nv -1 2 -3 0\n",
+    log: "c 1 s: reading\ns SATISFIABLE\nc 2 s: lowering, 3 of 3 variables settled, 3 questions, 1 without a model\nv -1 2 -3 0\n",
     ..UNPROVED
 };
 
@@ -220,8 +222,10 @@ static RUNS: [SlowRun; 24] = [
     LOWERED,
     // no line of it stands on a terminal when the answer comes
     SlowRun {
+        // that the first one is erased ends a line too
+        waits: &[1, 4],
         screen: Screen::Terminal,
-        log: "\rc 1 s: reading\x1b[K\rc 2 s: lowering, variable 3 of 3, 3 questions\x1b[K\r\x1b[Ks SATISFIABLE\nv -1 2 -3 0\n",
+        log: "\rc 1 s: reading\x1b[K\r\x1b[Ks SATISFIABLE\n\rc 2 s: lowering, 3 of 3 variables settled, 3 questions, 1 without a model\x1b[K\r\x1b[Kv -1 2 -3 0\n",
         ..LOWERED
     },
     SlowRun {
@@ -236,6 +240,7 @@ static RUNS: [SlowRun; 24] = [
             "--any-model",
             "FORMULA",
         ],
+        waits: &[1, 2],
         log: "c 1 s: reading\nc 2 s: 1 conflicts, 0 a second, 0 rounds, 0 learnt clauses, 0 variables fixed, 1 cubes solved\ns SATISFIABLE\nv 1 2 3 0\n",
         ..LOWERED
     },

@@ -108,10 +108,11 @@ const ONE_CUBE: Row = Row {
     ..ENDED
 };
 
-/// With the automatic search it is so without a proof too. The limit is reached before the search that
-/// is made first.
+/// By the automatic search, without a proof. The limit is reached before the search that is made
+/// first.
 const AUTOMATIC: Row = Row {
     words: &["cubesat", "solve", "FORMULA", "--seconds", "10"],
+    clock: &[5_000, 15_000],
     ..ENDED
 };
 
@@ -175,12 +176,12 @@ static ROWS: [Row; 26] = [
     },
     AUTOMATIC,
     Row {
-        clock: &[5_000, 5_000, 5_000, 14_999],
+        clock: &[5_000, 14_999],
         status: 20,
         answer: "s UNSATISFIABLE\n",
         ..AUTOMATIC
     },
-    // it isn't said of another model than the first one that it is cut off
+    // so it is where any model will do
     Row {
         words: &[
             "cubesat",

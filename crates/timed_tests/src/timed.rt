@@ -250,8 +250,6 @@ c solved by each hand: 1
 c proof: 0 lines, 0 bytes
 c reading: 1.234 s
 c solving: 2.050 s
-c joining: 0.007 s
-c writing: 61.000 s
 c conflicts a second: 0
 ",
         ..SPLIT

@@ -4,6 +4,7 @@ use Rattle.join.specs.Before.{before_left}
 use Rattle.join.specs.Walking.{lines_left}
 use Rattle.theory.specs.Reading.{standard}
 use Rattle.strategies.specs.Strategies.{by_plan}
+use Rattle.runs.proofs.TextLemmas.{alone-decided}
 use Rattle.runs.proofs.RightAnswers.{says-right}
 use Rattle.runs.proofs.RunLemmas.{IsRunOf-made, RunSays-unread, RunSays-stopped}
 use Rattle.runs.proofs.alone.run_alone.Goals as goal
@@ -44,4 +45,7 @@ returns-in_err-write_output-clause-says g c =
     c.in_err-write_output.ensures.written
 
 pub output_of-requires : goal.output_of-requires
-output_of-requires g c = rw c.of-strategy.ensures (record { result = c.in-Ok-solve_one.ensures.result; says = c.in-Ok-solve_one.ensures.says })
+output_of-requires g c =
+    let d = c.in-Ok-solve_one.decided in
+    let is = alone-decided c.in-Ok.formula c.args.plan d.plan d.begun d.tree c.vars-vars.ensures.within.formula c.in-Ok-solve_one.ensures.chosen c.in-Ok-solve_one.ensures.tree in
+    rw c.of-strategy.ensures (record { result = is.0; says = is.1 })

@@ -2,7 +2,7 @@ use Rattle.std.proofs.Common.{◌++◌, rules, refl, length, ap, sym, subst, ◌
 use Rattle.theory.specs.Truth.{Formula, IsFormula, Satisfiable}
 use Rattle.theory.specs.Texts.{proof_text}
 use Rattle.gathering.specs.Stored.{AreTrueFacts}
-use Rattle.beginnings.proofs.SatisfiedFormulas.{satisfiable-back}
+use Rattle.strategies.proofs.SatisfiedFormulas.{satisfiable-back}
 use Rattle.join.specs.Before.{before_left}
 use Rattle.cdcl.specs.Plans.{constants_from, first_units}
 use Rattle.join.specs.Joining.{before_nodes}

@@ -1,2 +1,0 @@
--- How a plan's search of a formula begins.
-pub mod Begun

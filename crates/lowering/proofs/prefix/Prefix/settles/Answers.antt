@@ -1,6 +1,0 @@
-use Rattle.std.proofs.Common.{◌∙◌, ap, is_some}
-use Rattle.lowering.proofs.SettledPrefixes.{value-there}
-use Rattle.lowering.proofs.prefix.Prefix.settles.Goals as goal
-
-pub returns : goal.returns
-returns c = c.is_some.ensures ∙ ap is_some c.value.ensures ∙ value-there c.args.self.now.kernel.trail c.args.var

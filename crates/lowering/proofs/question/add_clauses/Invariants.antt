@@ -1,6 +1,0 @@
-use Rattle.std.proofs.Common.{◌≡◌, take}
-use Rattle.lowering.proofs.question.add_clauses.Given as goal
-
--- the clauses so far
-abbrev pub invariant-loop-place : goal.invariant-loop-place
-invariant-loop-place l = l.session.formula.clauses ≡ take l.place l.formula.clauses

@@ -1,6 +1,0 @@
-use Rattle.lowering.specs.Lowering.{IsLowering}
-use Rattle.lowering.proofs.settling.lowered.Given as goal
-
--- the variables before this one are settled
-abbrev pub invariant-loop-var : goal.invariant-loop-var
-invariant-loop-var g l = IsLowering l.formula l.var l.lowering

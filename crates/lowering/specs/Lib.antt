@@ -1,2 +1,0 @@
--- How far a lowering is.
-pub mod Lowering

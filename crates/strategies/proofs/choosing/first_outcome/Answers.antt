@@ -1,9 +1,0 @@
-use Rattle.std.proofs.Common.{[]}
-use Rattle.cdcl.specs.Outcome.{outcome_of}
-use Rattle.cdcl.proofs.SearcherLemmas.{undivided-runs}
-use Rattle.strategies.proofs.choosing.first_outcome.Goals as goal
-
-pub returns : goal.returns
-returns g c =
-    undivided-runs c.args.formula.now c.args.budget [] c.ordered.result c.in_ok-solver.solver (outcome_of c.in_ok-outcome.outcome) c.ordered.ensures c.in_ok-solver.ensures
-    (rw c.root-root.ensures at c.in_ok-outcome.ensures.runs)
