@@ -11,7 +11,8 @@ pub enum RunFault {
     /// The formula wasn't read, for a cause other than memory. Nothing is written.
     #[error("the formula wasn't read: {0}")]
     Read(ReadFault),
-    /// A growth was refused. Nothing is written.
+    /// A growth was refused. Nothing is written, but that the status line of a satisfiable formula
+    /// stands where that was while its model was made the first one.
     #[error("out of memory")]
     NoMemory,
     /// A write or flush of the proof failed. A beginning of the proof is written, and no answer.
